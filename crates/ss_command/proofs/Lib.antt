@@ -5,6 +5,7 @@ pub mod GrammarLemmas
 pub mod NumberLemmas
 pub mod PutLemmas
 pub mod PrintLemmas
+mod SpacedLemmas
 pub mod SayLemmas
 pub mod WordLemmas
 mod Rows

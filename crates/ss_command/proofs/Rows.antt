@@ -275,3 +275,30 @@ printed-certificates :
     ≡ codes "certify a count hi 45 65" ∷ codes "certify a sum lo 0 4611686018427387904" ∷ []
 unfolding printed digits
 printed-certificates = refl
+
+means-newest :
+    map meaning (codes "last a" ∷ codes " last\tabcdefghijklmnopqrstuvwxyz012345 " ∷ codes "values a 0 100" ∷ codes " values\ta 00 4611686018427387904 "
+    ∷ codes "values a 5 4" ∷ [])
+    ≡ Ok (Some (commands.Last (codes "a")))
+    ∷ Ok (Some (commands.Last (codes "abcdefghijklmnopqrstuvwxyz012345")))
+    ∷ Ok (Some (commands.Values (codes "a") 0 100))
+    ∷ Ok (Some (commands.Values (codes "a") 0 4611686018427387904))
+    ∷ Ok (Some (commands.Values (codes "a") 5 4))
+    ∷ []
+unfolding meaning words is_number number_of number_up_to signed_of is_name
+means-newest = refl
+
+-- the order of the refusals
+means-newest_refused :
+    map meaning (codes "last" ∷ codes "last e 1" ∷ codes "last e! 1" ∷ codes "Last e" ∷ codes "last e!" ∷ codes "values" ∷ codes "values b" ∷ codes "values b 5"
+    ∷ codes "values x! y" ∷ codes "values x! 1 2 3" ∷ codes "values f! 5 x" ∷ codes "values f! x 5" ∷ codes "values a 1 4611686018427387905"
+    ∷ codes "values a 4611686018427387905 1" ∷ codes "values a -1 2" ∷ codes "values f! 5 4" ∷ [])
+    ≡ map refused (refusals.Syntax ∷ refusals.Syntax ∷ refusals.Syntax ∷ refusals.Syntax ∷ refusals.Name ∷ refusals.Syntax ∷ refusals.Syntax ∷ refusals.Syntax
+    ∷ refusals.Syntax ∷ refusals.Syntax ∷ refusals.Number ∷ refusals.Number ∷ refusals.Number ∷ refusals.Number ∷ refusals.Number ∷ refusals.Name ∷ [])
+unfolding meaning words is_number number_of number_up_to signed_of is_name
+means-newest_refused = refl
+
+printed-newest :
+    map printed (commands.Last (codes "a") ∷ commands.Values (codes "a") 7 4611686018427387904 ∷ []) ≡ codes "last a" ∷ codes "values a 7 4611686018427387904" ∷ []
+unfolding printed digits
+printed-newest = refl

@@ -17,7 +17,7 @@ use Rattle.ss_catalog.specs.declared.query.Kind.TheVariants as kinds
 use Rattle.ss_catalog.specs.declared.refusal.Refusal.{Refusal}
 use Rattle.ss_command.specs.declared.TheConstants.{LONGEST_LINE}
 use Rattle.ss_command.specs.Grammar.{◌>>=◌, added_of, append_of, certify_of, close_of, command_of, create_of, drop_of, end_of, exp_of, figure_of, has_of}
-use Rattle.ss_command.specs.Grammar.{is_comment, landmark_of, list_of, meaning}
+use Rattle.ss_command.specs.Grammar.{is_comment, landmark_of, last_of, list_of, meaning, values_of}
 use Rattle.ss_command.specs.Grammar.{meaning_of_words, kind_of, name_of, open_of, or_number, parameter_of, power_of, query_of, series_of, step_of, time_of}
 use Rattle.ss_command.specs.Grammar.{value_of}
 use Rattle.ss_command.specs.Grammar.{windows_of}
@@ -274,6 +274,26 @@ certify-sayable (name ∷ asked ∷ side ∷ first ∷ last ∷ []) c same =
     subst IsSayable is (name-is name stream.0 stream.1, (time-le first from.0 from.1, time-le last to.0 to.1), added-adds_up asked kind.0 kind.1)
 certify-sayable (name ∷ asked ∷ side ∷ first ∷ last ∷ more ∷ rest) c same = cc
 
+last-sayable : (ws : List (List ℕ)) (c : Command) → last_of ws ≡ Ok c → IsSayable c
+last-sayable [] c same = cc
+last-sayable (name ∷ []) c same =
+    let stream = bind-Ok (name_of name) _ c same in
+    let is : commands.Last stream.0 ≡ c = cc (stream.2) in
+    subst IsSayable is (name-is name stream.0 stream.1)
+last-sayable (name ∷ more ∷ rest) c same = cc
+
+values-sayable : (ws : List (List ℕ)) (c : Command) → values_of ws ≡ Ok c → IsSayable c
+values-sayable [] c same = cc
+values-sayable (name ∷ []) c same = cc
+values-sayable (name ∷ first ∷ []) c same = cc
+values-sayable (name ∷ first ∷ last ∷ []) c same =
+    let from = bind-Ok (time_of first) _ c same in
+    let to = bind-Ok (time_of last) _ c from.2 in
+    let stream = bind-Ok (name_of name) _ c to.2 in
+    let is : commands.Values stream.0 from.0 to.0 ≡ c = cc (stream.2) in
+    subst IsSayable is (name-is name stream.0 stream.1, time-le first from.0 from.1, time-le last to.0 to.1)
+values-sayable (name ∷ first ∷ last ∷ more ∷ rest) c same = cc
+
 command-sayable : (verb : List ℕ) (rest : List (List ℕ)) (c : Command) → command_of verb rest ≡ Ok c → IsSayable c
 command-sayable verb rest c same =
     choice (IsSayable c) (is_word verb (codes "create")) _ _ c (create-sayable rest c)
@@ -284,7 +304,9 @@ command-sayable verb rest c same =
     (choice (IsSayable c) (is_word verb (codes "series")) _ _ c (series-sayable rest c)
     (choice (IsSayable c) (is_word verb (codes "windows")) _ _ c (windows-sayable rest c)
     (choice (IsSayable c) (is_word verb (codes "list")) _ _ c (list-sayable rest c)
-    (choice (IsSayable c) (is_word verb (codes "certify")) _ _ c (certify-sayable rest c) (λ wrong. cc (wrong))))))))))
+    (choice (IsSayable c) (is_word verb (codes "certify")) _ _ c (certify-sayable rest c)
+    (choice (IsSayable c) (is_word verb (codes "last")) _ _ c (last-sayable rest c)
+    (choice (IsSayable c) (is_word verb (codes "values")) _ _ c (values-sayable rest c) (λ wrong. cc (wrong))))))))))))
     same
 
 words-sayable : (ws : List (List ℕ)) (c : Command) → meaning_of_words ws ≡ Ok (Some c) → IsSayable c

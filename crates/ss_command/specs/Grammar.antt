@@ -201,6 +201,22 @@ certify_of (name ∷ asked ∷ side ∷ first ∷ last ∷ []) = do
   Ok (commands.Certify (record { name = stream; kind = kind; from = from; to = to }) end)
 certify_of _ = Err refusals.Syntax
 
+-- `last NAME`, from its name on
+abbrev pub last_of : List (List ℕ) → Result Command Refusal
+last_of (name ∷ []) = do
+  stream ← name_of name
+  Ok (commands.Last stream)
+last_of _ = Err refusals.Syntax
+
+-- `values NAME T1 T2`, from its name on
+abbrev pub values_of : List (List ℕ) → Result Command Refusal
+values_of (name ∷ first ∷ last ∷ []) = do
+  from ← time_of first
+  to ← time_of last
+  stream ← name_of name
+  Ok (commands.Values stream from to)
+values_of _ = Err refusals.Syntax
+
 -- the forms of a command: its first word says which one the words after it are to have
 abbrev pub command_of : List ℕ → List (List ℕ) → Result Command Refusal
 command_of verb rest =
@@ -213,7 +229,9 @@ command_of verb rest =
     else (if is_word verb (codes "windows") then windows_of rest
     else (if is_word verb (codes "list") then list_of rest
     else (if is_word verb (codes "certify") then certify_of rest
-    else Err refusals.Syntax))))))))
+    else (if is_word verb (codes "last") then last_of rest
+    else (if is_word verb (codes "values") then values_of rest
+    else Err refusals.Syntax))))))))))
 
 -- what words mean: nothing, where there are none, or a command
 abbrev pub meaning_of_words : List (List ℕ) → Result (Option Command) Refusal

@@ -58,6 +58,8 @@ printed (commands.Windows name) = spaced (codes "windows") (name ∷ [])
 printed commands.List = codes "list"
 printed (commands.Certify query end) =
     spaced (codes "certify") (query.name ∷ kind_name query.kind ∷ end_name end ∷ decimal query.from ∷ decimal query.to ∷ [])
+printed (commands.Last name) = spaced (codes "last") (name ∷ [])
+printed (commands.Values name from to) = spaced (codes "values") (name ∷ decimal from ∷ decimal to ∷ [])
 
 -- the parameters fit 32 bits
 abbrev pub HasParameters : Params → Type 0
@@ -77,6 +79,8 @@ IsSayable (commands.Series series) = (is_name series.name ≡ true) × IsSeriesI
 IsSayable (commands.Windows name) = is_name name ≡ true
 IsSayable commands.List = Unit {0}
 IsSayable (commands.Certify query end) = (is_name query.name ≡ true) × IsQueryInTime query × (adds_up query.kind ≡ true)
+IsSayable (commands.Last name) = is_name name ≡ true
+IsSayable (commands.Values name from to) = (is_name name ≡ true) × (from ≤ LAST_TIME) × (to ≤ LAST_TIME)
 
 -- a command has no time above the greatest one, a series no more rows than one may have and no value, and what is certified adds up
 abbrev pub IsCommandInTime : Command → Type 0
@@ -86,3 +90,5 @@ IsCommandInTime (commands.Series series) = IsSeriesInRange series × (takes_valu
 IsCommandInTime (commands.Windows name) = Unit {0}
 IsCommandInTime commands.List = Unit {0}
 IsCommandInTime (commands.Certify query end) = IsQueryInTime query × (adds_up query.kind ≡ true)
+IsCommandInTime (commands.Last name) = Unit {0}
+IsCommandInTime (commands.Values name from to) = (from ≤ LAST_TIME) × (to ≤ LAST_TIME)

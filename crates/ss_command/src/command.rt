@@ -16,4 +16,8 @@ pub enum Command {
     List,
     /// Why an end of what a query answers is no narrower. What it asks for adds up.
     Certify { query: Query, end: End },
+    /// How far a stream has come, and its newest value.
+    Last(Name),
+    /// The values of landmarks of a stream with times in `from..=to`.
+    Values { name: Name, from: u64, to: u64 },
 }

@@ -2,8 +2,8 @@
 ghost use Rattle.std.specs.Prelude.{◌≡◌, ◌≤◌, length, codes, true, false, IfOk, IfSome};
 ghost use Rattle.ss_catalog.specs.Queries.{adds_up};
 ghost use Rattle.ss_command.specs.Grammar.{added_of, append_of, certify_of, close_of, command_of, create_of, drop_of, end_of, exp_of, figure_of};
-ghost use Rattle.ss_command.specs.Grammar.{has_of, is_comment, kind_of, landmark_of, list_of, meaning};
-ghost use Rattle.ss_command.specs.Grammar.{open_of, power_of, query_of, series_of, windows_of};
+ghost use Rattle.ss_command.specs.Grammar.{has_of, is_comment, kind_of, landmark_of, last_of, list_of, meaning};
+ghost use Rattle.ss_command.specs.Grammar.{open_of, power_of, query_of, series_of, values_of, windows_of};
 ghost use Rattle.ss_command.specs.Printed.{IsCommandInTime, IsSayable, takes_value};
 
 use crate::command::Command;
@@ -296,6 +296,31 @@ fn certify(mut words: Words) -> Result<Command, Refusal>
     Ok(Command::Certify { query, end })
 }
 
+// Reads `last NAME`, from its name on.
+fn last(mut words: Words) -> Result<Command, Refusal>
+    ensures { result ≡ last_of words.entry }
+{
+    let name = words.word()?;
+    words.end()?;
+    let name = read_name(name)?;
+    Ok(Command::Last(name))
+}
+
+// Reads `values NAME T1 T2`, from its name on.
+fn values(mut words: Words) -> Result<Command, Refusal>
+    ensures meaning { result ≡ values_of words.entry }
+    ensures time { IfOk result IsCommandInTime }
+{
+    let name = words.word()?;
+    let first = words.word()?;
+    let last = words.word()?;
+    words.end()?;
+    let from = read_time(first)?;
+    let to = read_time(last)?;
+    let name = read_name(name)?;
+    Ok(Command::Values { name, from, to })
+}
+
 // Reads a command from its first word and those after it.
 fn command(verb: &[u8], words: Words) -> Result<Command, Refusal>
     ensures meaning { result ≡ command_of verb.now words.entry }
@@ -319,6 +344,10 @@ fn command(verb: &[u8], words: Words) -> Result<Command, Refusal>
         list(words)
     } else if is_word(verb, "certify") {
         certify(words)
+    } else if is_word(verb, "last") {
+        last(words)
+    } else if is_word(verb, "values") {
+        values(words)
     } else {
         Err(Refusal::Syntax)
     }

@@ -1,8 +1,9 @@
 // How a command is printed.
-ghost use Rattle.std.specs.Prelude.{◌≡◌, [], true, false, Ok, Some};
+ghost use Rattle.std.specs.Prelude.{◌≡◌, ◌≤◌, [], true, false, Ok, Some};
 ghost use Rattle.ss_catalog.specs.Events.{IsInTime};
 ghost use Rattle.ss_catalog.specs.Queries.{IsQueryInTime, adds_up};
 ghost use Rattle.ss_catalog.specs.Series.{IsSeriesInRange};
+ghost use Rattle.ss_catalog.specs.declared.TheConstants.{LAST_TIME};
 ghost use Rattle.ss_command.specs.Grammar.{meaning};
 ghost use Rattle.ss_command.specs.Printed.{IsCommandInTime, IsSayable, printed, takes_value};
 ghost use Rattle.ss_command.specs.declared.command.Command.TheVariants as commands;
@@ -10,7 +11,7 @@ ghost use Rattle.ss_command.specs.declared.command.Command.TheVariants as comman
 use crate::command::Command;
 use crate::put::{put_asked, put_end, put_kind, put_name, put_number, put_target, put_value};
 use arrayvec::ArrayString;
-use ss_catalog::{End, Event, Query, Series};
+use ss_catalog::{End, Event, Name, Query, Series};
 
 // Writes an event into an empty text.
 fn print_event(event: &Event, out: &mut ArrayString<256>)
@@ -96,6 +97,19 @@ fn print_certify(query: &Query, end: End, out: &mut ArrayString<256>)
     put_number(query.to, out);
 }
 
+// Writes a question for values of landmarks into an empty text.
+fn print_values(name: &Name, from: u64, to: u64, out: &mut ArrayString<256>)
+    requires empty { out.old.bytes ≡ [] }
+    requires time { (from ≤ LAST_TIME) × (to ≤ LAST_TIME) }
+    ensures text { out.new.bytes ≡ printed (commands.Values name.now from to) }
+    ensures sayable { IsSayable (commands.Values name.now from to) }
+{
+    out.push_str("values");
+    put_name(name, out);
+    put_number(from, out);
+    put_number(to, out);
+}
+
 /// Writes a command into an empty text: its words with one space between them, numbers without leading zeros. `parse`
 /// reads it as the same command.
 pub fn print(command: &Command, out: &mut ArrayString<256>)
@@ -115,5 +129,10 @@ pub fn print(command: &Command, out: &mut ArrayString<256>)
         }
         Command::List => out.push_str("list"),
         Command::Certify { query, end } => print_certify(query, *end, out),
+        Command::Last(name) => {
+            out.push_str("last");
+            put_name(name, out);
+        }
+        Command::Values { name, from, to } => print_values(name, *from, *to, out),
     }
 }

@@ -43,3 +43,18 @@ pub returns-in-List-clause-reads_back : goal.returns-in-List-clause-reads_back
 returns-in-List-clause-reads_back c =
     let sayable : IsSayable c.args.command.now = rw c.in-List.is tt in
     ap meaning (returns-in-List-clause-text c) ∙ meaning-printed c.args.command.now sayable
+
+pub returns-in-Last-clause-text : goal.returns-in-Last-clause-text
+unfolding printed
+returns-in-Last-clause-text c = search rules
+
+pub returns-in-Last-clause-reads_back : goal.returns-in-Last-clause-reads_back
+returns-in-Last-clause-reads_back c =
+    let sayable : IsSayable c.args.command.now = rw c.in-Last.is c.put_name-in-Last.ensures.name in
+    ap meaning (returns-in-Last-clause-text c) ∙ meaning-printed c.args.command.now sayable
+
+pub returns-in-Values-clause-reads_back : goal.returns-in-Values-clause-reads_back
+returns-in-Values-clause-reads_back c =
+    ap meaning c.print_values.ensures.text ∙
+    meaning-printed (commands.Values c.in-Values.name c.in-Values.from c.in-Values.to) c.print_values.ensures.sayable ∙
+    ap (λ command. Ok (Some command)) (sym c.in-Values.is)
