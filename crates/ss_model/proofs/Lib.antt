@@ -32,3 +32,4 @@ pub mod PresenceLemmas
 pub mod RisingLemmas
 pub mod AnswerLemmas
 pub mod RowLemmas
+mod NewestRows

@@ -16,5 +16,6 @@ pub mod Outline
 pub mod Origins
 pub mod Truth
 pub mod Interval
+pub mod Newest
 pub mod Answers
 pub mod Series

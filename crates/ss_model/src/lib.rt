@@ -30,7 +30,7 @@ pub use laws::{
     incremental_is_from_scratch, joining_keeps_windows, windows_are_neighbours,
     windows_count_values, windows_end_last, windows_stand_in_place,
 };
-pub use newest::Newest;
+pub use newest::{Known, Newest};
 pub use outcome::{Outcome, Presence};
 pub use outline_laws::refusals_read_outlines;
 pub use query_laws::{
