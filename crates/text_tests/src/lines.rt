@@ -88,6 +88,12 @@ fn lines_without_a_command() -> Result<(), Fail> {
         certify a sum Lo 1 2=SYNTAX\n\
         certify a lo sum 1 2=SYNTAX\n\
         certify x! count low y 2=SYNTAX\n\
+        last=SYNTAX\n\
+        last e! 1=SYNTAX\n\
+        Last e=SYNTAX\n\
+        values b=SYNTAX\n\
+        values b! 5=SYNTAX\n\
+        values b! y 5 6=SYNTAX\n\
         append x! y 1=NUMBER\n\
         landmark x! open y=NUMBER\n\
         landmark a open 4611686018427387905=NUMBER\n\
@@ -114,6 +120,9 @@ fn lines_without_a_command() -> Result<(), Fail> {
         certify x! sum lo 1 y=NUMBER\n\
         certify a sum hi -1 2=NUMBER\n\
         certify a count hi 0 4611686018427387905=NUMBER\n\
+        values b! y 5=NUMBER\n\
+        values b! 5 x=NUMBER\n\
+        values b 0 4611686018427387905=NUMBER\n\
         append a 1 +1=NUMBER\n\
         append a -1 1=NUMBER\n\
         append a 1 --1=NUMBER\n\
@@ -133,6 +142,8 @@ fn lines_without_a_command() -> Result<(), Fail> {
         query abcdefghijklmnopqrstuvwxyz0123456 has 5 1 2=NAME\n\
         series x! sum 0 199999 2=NAME\n\
         certify x! count lo 1 2=NAME\n\
+        last e!=NAME\n\
+        values f! 5 4=NAME\n\
         windows a/b=NAME\n\
         windows a\0=NAME\n\
         windows abcdefghijklmnopqrstuvwxyz0123456=NAME\n\
@@ -187,6 +198,10 @@ fn commands_are_printed() -> Result<(), Fail> {
         certify a count lo 10 040=certify a count lo 10 40\n\
         \x20certify\ta sum hi 0 4611686018427387904=certify a sum hi 0 4611686018427387904\n\
         certify abcdefghijklmnopqrstuvwxyz012345 sum lo 5 4=certify abcdefghijklmnopqrstuvwxyz012345 sum lo 5 4\n\
+        \x20last\ta =last a\n\
+        values a 005 04=values a 5 4\n\
+        values abcdefghijklmnopqrstuvwxyz012345 0 4611686018427387904=\
+        values abcdefghijklmnopqrstuvwxyz012345 0 4611686018427387904\n\
         append a 007 -0=append a 7 0\n\
         append a 0000000000000000000000000000000000000000001 -0000000000000000000000000000009=append a 1 -9\n\
         append a 4611686018427387904 -9223372036854775808=append a 4611686018427387904 -9223372036854775808\n\

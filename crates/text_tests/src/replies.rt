@@ -3,8 +3,8 @@ use crate::tables::{Subject, Text, numbers_of, show, test};
 use arrayvec::ArrayString;
 use ss_bounds::Extreme;
 use ss_catalog::{LAST_TIME, Name, Params, Refusal, StreamId};
-use ss_model::{Ack, Outcome, Placed, Presence, Run, StreamRow};
-use ss_report::{Reply, Side, reply_text};
+use ss_model::{Ack, Newest, Outcome, Placed, Presence, Run, StreamRow};
+use ss_report::{Reply, Side, reply_text, said_text};
 use ss_summary::Summary;
 use std::test::Fail;
 
@@ -153,6 +153,45 @@ fn write_certificate(row: u64, out: &mut Text) {
     }
 }
 
+// What is told of the newest value of a stream, and values of landmarks.
+fn write_newest(row: u64, out: &mut Text) {
+    match row {
+        39 => write_reply(&Reply::Last(Newest::Nothing), out),
+        40 => write_reply(&Reply::Last(Newest::Time(LAST_TIME)), out),
+        41 => {
+            let newest = Newest::Value {
+                last: 20,
+                at: 15,
+                lo: i64::MIN,
+                hi: i64::MAX,
+            };
+            write_reply(&Reply::Last(newest), out);
+        }
+        42 => write_reply(&Reply::ValuesHead(1 << 20), out),
+        _ => {
+            let (at, value) = (LAST_TIME, i64::MIN);
+            write_reply(&Reply::Value { at, value }, out);
+        }
+    }
+}
+
+// A reply as it is said to the last session.
+fn write_said(reply: &Reply, out: &mut Text) {
+    let mut text = ArrayString::new();
+    said_text(Some(7), reply, &mut text);
+    show(text.as_str().as_bytes(), out);
+}
+
+// The replies of cursors, as they are said.
+fn write_cursor(row: u64, out: &mut Text) {
+    match row {
+        44 => write_said(&Reply::Cursor(1 << 20), out),
+        45 => write_said(&Reply::Rows(1000), out),
+        46 => write_said(&Reply::Closed, out),
+        _ => write_said(&Reply::Refused(Refusal::NoCursor), out),
+    }
+}
+
 fn write_row(row: u64, out: &mut Text) {
     match row {
         1 => write_reply(&Reply::Done(Ack { n: 7, k: 3 }), out),
@@ -166,6 +205,8 @@ fn write_row(row: u64, out: &mut Text) {
         19 => write_reply(&Reply::SeriesHead(100_000), out),
         20..=29 => write_series_row(row - 11, out),
         30..=35 => write_certificate(row, out),
+        39..=43 => write_newest(row, out),
+        44..=47 => write_cursor(row, out),
         _ => write_reply(&Reply::Answered(outcome_at(row)), out),
     }
 }
@@ -219,7 +260,16 @@ fn each_reply_has_its_line() -> Result<(), Fail> {
         -9223372036854775808*18446744073709551615/\n\
         36=has absent/\n\
         37=has present/\n\
-        38=has maybe/\n"
+        38=has maybe/\n\
+        39=last none/\n\
+        40=last 4611686018427387904/\n\
+        41=last 20 15 -9223372036854775808 9223372036854775807/\n\
+        42=values 1048576/\n\
+        43=4611686018427387904 -9223372036854775808/\n\
+        44=@7 cursor 1048576/\n\
+        45=@7 rows 1000/\n\
+        46=@7 closed/\n\
+        47=@7 refused NO_CURSOR/\n"
             .as_bytes(),
     )
 }
