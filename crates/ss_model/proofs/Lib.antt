@@ -33,3 +33,4 @@ pub mod RisingLemmas
 pub mod AnswerLemmas
 pub mod RowLemmas
 mod NewestRows
+pub mod NewestLemmas

@@ -17,5 +17,6 @@ pub mod Origins
 pub mod Truth
 pub mod Interval
 pub mod Newest
+pub mod NewestTruth
 pub mod Answers
 pub mod Series

@@ -7,6 +7,7 @@ mod decay_laws;
 mod history_laws;
 mod laws;
 mod newest;
+mod newest_laws;
 mod outcome;
 mod outline_laws;
 mod query_laws;
@@ -31,6 +32,7 @@ pub use laws::{
     windows_count_values, windows_end_last, windows_stand_in_place,
 };
 pub use newest::{Known, Newest};
+pub use newest_laws::{kept_values_are_of_the_history, newest_values_hold_the_truth};
 pub use outcome::{Outcome, Presence};
 pub use outline_laws::refusals_read_outlines;
 pub use query_laws::{
