@@ -46,9 +46,15 @@ pub mod Looking
 pub mod WindowsRead
 pub mod AskedStreams
 pub mod AnsweredQueries
+mod ChangedSlots
+mod LastWindows
+mod NewestWindows
+mod ToldNewest
+pub mod ReadRefusals
 mod Rows
 mod OldRows
 mod AskRows
+mod NewestRows
 mod CallRows
 mod DropRows
 mod ClearingRows

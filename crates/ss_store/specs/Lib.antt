@@ -17,3 +17,5 @@ pub mod Changing
 pub mod Indexed
 pub mod Dropping
 pub mod Applied
+pub mod Newest
+pub mod Values

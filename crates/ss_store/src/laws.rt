@@ -10,7 +10,8 @@ ghost use Rattle.ss_records.specs.Live.{live_count};
 ghost use Rattle.ss_model.specs.History.{Happened};
 ghost use Rattle.ss_model.specs.Answers.{refuses_query};
 ghost use Rattle.ss_model.specs.Decay.{cover};
-ghost use Rattle.ss_model.specs.Refusals.{refuses};
+ghost use Rattle.ss_model.specs.Newest.{refuses_values};
+ghost use Rattle.ss_model.specs.Refusals.{refuses, refuses_reading};
 ghost use Rattle.ss_model.specs.Standing.{IsState};
 ghost use Rattle.ss_model.specs.State.{Stream, live, state, stream_named, stream_numbered, values_in};
 ghost use Rattle.ss_recover.specs.Held.{Agrees, AllAgree, AreWhole, TileFrom, entries_of, slots_held, span_held};
@@ -20,6 +21,7 @@ ghost use Rattle.ss_store.specs.Asked.{refuses_query_held};
 ghost use Rattle.ss_store.specs.Held.{values_held};
 ghost use Rattle.ss_store.specs.Joining.{NoSpansAreDue};
 ghost use Rattle.ss_store.specs.Kept.{SomeAgree, StoreIsKept, StoreState, part_named, part_numbered, refuses_held};
+ghost use Rattle.ss_store.specs.Newest.{refuses_reading_held, refuses_values_held};
 ghost use Rattle.ss_store.specs.Recover.{Recovers, Stands};
 
 /// What a store holds agrees with the state that its records show, which are those of the content where nothing is staged.
@@ -70,6 +72,14 @@ pub fn refusals_of_what_is_held()
 pub fn query_refusals_of_what_is_held()
     ensures { (parts : List StreamParts) (streams : List Stream) (query : Query) → AllAgree parts streams →
         refuses_query_held parts query ≡ refuses_query streams query }
+{}
+
+/// Refusals of looks at the stream of a name, and at the values of its landmarks in a range, are those of the state too.
+pub fn reading_refusals_of_what_is_held()
+    ensures name { (parts : List StreamParts) (streams : List Stream) (name : List ℕ) → AllAgree parts streams →
+        refuses_reading_held parts name ≡ refuses_reading streams name }
+    ensures values { (parts : List StreamParts) (streams : List Stream) (name : List ℕ) (from to : ℕ) → AllAgree parts streams →
+        refuses_values_held parts name from to ≡ refuses_values streams name from to }
 {}
 
 /// A file that isn't formed stands for the empty history.

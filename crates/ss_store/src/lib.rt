@@ -17,9 +17,9 @@ mod writing;
 
 pub use error::{ApplyError, AskError, OpenError};
 pub use laws::{
-    few_windows_stand, query_refusals_of_what_is_held, refusals_of_what_is_held,
-    unformatted_files_stand_for_nothing, what_is_held_counts_alike, what_is_held_is_found_alike,
-    what_is_kept_is_the_state,
+    few_windows_stand, query_refusals_of_what_is_held, reading_refusals_of_what_is_held,
+    refusals_of_what_is_held, unformatted_files_stand_for_nothing, what_is_held_counts_alike,
+    what_is_held_is_found_alike, what_is_kept_is_the_state,
 };
-pub use store::Store;
+pub use store::{Store, ValueRange};
 pub use surveying::Survey;

@@ -7,10 +7,12 @@ mod drop;
 mod landmarks;
 mod list;
 mod mark;
+mod newest;
 mod open;
 mod read;
 mod see;
 mod times;
+mod values;
 
 use crate::index::Index;
 use crate::place::place_of;
@@ -18,6 +20,7 @@ use ss_catalog::{Catalog, StreamId};
 use ss_records::Records;
 use ss_recover::StreamParts;
 use std::marker::Model;
+pub use values::ValueRange;
 
 /// Named streams on a disk that the store doesn't hold: each call takes the disk, as the last such call left it. In memory it
 /// keeps of each stream what its record says, of each window the positions, the times and the slot, and of each two neighbouring
