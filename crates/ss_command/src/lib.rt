@@ -19,6 +19,7 @@ pub use laws::{
 pub use line_reader::{Ended, LineReader};
 pub use printing::print;
 pub use put::{put_name, put_number, put_sum, put_target, put_value};
+pub use words::{Words, cut_first, is_word};
 
 /// The byte that ends a line.
 pub const LINE_END: u8 = b'\n';

@@ -1,6 +1,6 @@
 // The words of a line.
-ghost use Rattle.std.specs.Prelude.{◌≡◌, ◌<◌, ◌∷◌, not, false, length, slice_index, position};
-ghost use Rattle.ss_command.specs.Words.{is_blank, is_word, words};
+ghost use Rattle.std.specs.Prelude.{◌≡◌, ◌<◌, ◌≤◌, [], ◌∷◌, not, false, length, slice_index, position};
+ghost use Rattle.ss_command.specs.Words.{first_word, from_word, is_blank, is_word, rest_of, words};
 
 use ss_catalog::Refusal;
 use std::marker::Model;
@@ -28,6 +28,7 @@ fn first_blank(line: &[u8]) -> Option<usize>
 
 // What stands from the first word of a line on.
 fn without_blanks(line: &[u8]) -> &[u8]
+    ensures value { result.now ≡ from_word line.now }
     ensures words { words line.now ≡ words result.now }
     ensures front { 0 < length result.now → is_blank (slice_index result.now 0) ≡ false }
 {
@@ -45,6 +46,21 @@ fn cut_word(line: &[u8]) -> (&[u8], &[u8])
 {
     match first_blank(line) {
         Some(end) => (&line[..end], &line[end..]),
+        None => (line, &line[line.len()..]),
+    }
+}
+
+/// The first word of a line, and what stands after it and the blanks behind it. Of a line without words both are empty.
+pub fn cut_first(line: &[u8]) -> (&[u8], &[u8])
+    ensures word { result.0.now ≡ first_word line.now }
+    ensures rest { result.1.now ≡ rest_of line.now }
+    ensures words { 0 < length result.0.now → words line.now ≡ result.0.now ∷ words result.1.now }
+    ensures none { length result.0.now ≡ 0 → words line.now ≡ [] }
+    ensures shorter { length result.1.now ≤ length line.now }
+{
+    let line = without_blanks(line);
+    match first_blank(line) {
+        Some(end) => (&line[..end], without_blanks(&line[end..])),
         None => (line, &line[line.len()..]),
     }
 }
