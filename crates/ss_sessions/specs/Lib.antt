@@ -1,0 +1,5 @@
+pub mod Errors
+pub mod Cursors
+pub mod Opened
+pub mod Grammar
+pub mod Said
