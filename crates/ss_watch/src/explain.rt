@@ -3,6 +3,7 @@ use crate::last_times::LastTimes;
 use crate::reasons::reason;
 use crate::replies::{Said, read_reply};
 use crate::waiting::{Heard, Waiting};
+use ss_arguments::Form;
 use ss_catalog::Refusal;
 use std::alloc::{AllocError, Global};
 
@@ -41,11 +42,11 @@ pub struct Explainer {
 }
 
 impl Explainer {
-    pub fn new(alloc: Global, most: u64) -> Explainer {
+    pub fn new(alloc: Global, most: u64, form: Form) -> Explainer {
         Explainer {
             alloc,
             most,
-            waiting: Waiting::new(alloc),
+            waiting: Waiting::new(alloc, form),
             times: LastTimes::new(alloc),
             rows: 0,
             accepted: 0,
@@ -80,12 +81,11 @@ impl Explainer {
         let command = heard.command.as_ref();
         let last = command.and_then(|command| self.times.last_for(command));
         let line = heard.line.as_ref().map(|line| line.as_slice());
-        reason(self.alloc, line, command, refusal, last)
+        reason(self.alloc, heard.speaker, line, command, refusal, last)
     }
 
-    // Takes that a line was refused, and explains it unless enough were.
-    fn refuse(&mut self, heard: &Heard, refusal: Refusal) -> Option<Explained> {
-        self.refused = self.refused.saturating_add(1);
+    // Explains why a line was refused, unless enough were.
+    fn explain(&self, heard: &Heard, refusal: Refusal) -> Option<Explained> {
         if self.refused > self.most {
             return None;
         }
@@ -99,22 +99,29 @@ impl Explainer {
         }
     }
 
-    // Takes that a line was accepted.
-    fn accept(&mut self, heard: &Heard) {
+    // Takes that a line was accepted, after whose reply's first line so many rows follow.
+    fn accept(&mut self, rows: u64) {
         self.accepted = self.accepted.saturating_add(1);
-        if let Some(command) = &heard.command {
+        self.rows = rows;
+        let heard = self.waiting.next();
+        if let Some(command) = heard.as_ref().and_then(|heard| heard.command.as_ref()) {
             self.times.accept(command);
         }
     }
 
+    // Takes that a line was refused. It counts also where it isn't known which line that was.
+    fn refuse(&mut self, refusal: Refusal) -> Option<Explained> {
+        self.refused = self.refused.saturating_add(1);
+        let heard = self.waiting.next()?;
+        self.explain(&heard, refusal)
+    }
+
     // Takes the first line of a reply.
     fn begin(&mut self, said: Said) -> Option<Explained> {
-        let heard = self.waiting.next()?;
         match said {
-            Said::Refused(refusal) => self.refuse(&heard, refusal),
+            Said::Refused(refusal) => self.refuse(refusal),
             Said::Rows(rows) => {
-                self.rows = rows;
-                self.accept(&heard);
+                self.accept(rows);
                 None
             }
         }

@@ -2,11 +2,13 @@
 #![tactic(auto)]
 
 mod explain;
+mod hints;
 mod last_times;
 mod numbers;
 mod progress;
 mod reasons;
 mod replies;
+mod speaker;
 mod syntax;
 mod terminals;
 mod waiting;
@@ -15,6 +17,7 @@ mod watched;
 mod words;
 
 pub use explain::{Explained, Explainer, MOST_EXPLAINED};
+pub use hints::is_verb;
 pub use terminals::Terminals;
 pub use watch::Watch;
 pub use watched::Watched;

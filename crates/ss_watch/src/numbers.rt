@@ -1,4 +1,5 @@
 // Which word of a line isn't a number in its range.
+use crate::hints::hint_on_number;
 use crate::words::{has_digits_alone, word_at};
 use ss_catalog::{LAST_TIME, MOST_ROWS};
 use ss_fields::{read_i64, read_u64};
@@ -11,7 +12,11 @@ enum Number {
     Step,
     Value,
     Parameter,
+    Count,
 }
+
+// A cursor gives at most so many rows at once.
+const MOST_AT_ONCE: u64 = 1000;
 
 // What the number at a place of a command stands for, where one stands there: of a query also by what it asks for. Places
 // are counted from 0.
@@ -22,7 +27,9 @@ fn number_at(verb: &str, asked: &str, place: usize) -> Option<Number> {
         Some(Number::Value)
     } else if verb == "series" && place == 5 {
         Some(Number::Step)
-    } else if verb == "append" && place == 2
+    } else if verb == "cursor" && place == 2 {
+        Some(Number::Count)
+    } else if (verb == "append" || verb == "values") && place >= 2
         || (verb == "landmark" || verb == "query" || verb == "series") && place >= 3
         || verb == "certify" && place >= 4
     {
@@ -47,6 +54,7 @@ fn is_number(word: &str, number: Number) -> bool {
         Number::Step => is_within(word, 1, LAST_TIME),
         Number::Value => read_i64(word.as_bytes()).is_ok(),
         Number::Parameter => is_within(word, 0, u64::from(u32::MAX)),
+        Number::Count => is_within(word, 1, MOST_AT_ONCE),
     }
 }
 
@@ -75,6 +83,9 @@ fn range(alloc: Global, number: Number) -> Result<String, AllocError> {
         Number::Step => format!(in alloc; "1 to {LAST_TIME}, as steps are"),
         Number::Value => format!(in alloc; "{} to {}, as values are", i64::MIN, i64::MAX),
         Number::Parameter => format!(in alloc; "0 to {}, as parameters are", u32::MAX),
+        Number::Count => format!(in alloc;
+            "1 to {MOST_AT_ONCE}, as many as a cursor gives at once"
+        ),
     }
 }
 
@@ -94,6 +105,13 @@ pub fn number_reason(alloc: Global, words: &[&str]) -> Result<String, AllocError
             let range = range(alloc, number)?;
             format!(in alloc; "{word} isn't within {range}")
         }
-        Some((word, _)) => format!(in alloc; "{word} isn't a whole number"),
+        Some((word, number)) => {
+            let is_time = match number {
+                Number::Time => true,
+                _ => false,
+            };
+            let hint = hint_on_number(alloc, word, is_time)?;
+            format!(in alloc; "{word} isn't a whole number{hint}")
+        }
     }
 }

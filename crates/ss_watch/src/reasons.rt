@@ -1,6 +1,7 @@
 // Why a line was refused, in words.
 use crate::numbers::number_reason;
-use crate::syntax::syntax;
+use crate::speaker::{Speaker, is_of_cursor};
+use crate::syntax::{syntax, syntax_of_cursor};
 use crate::words::{shown, word_at, words_of};
 use ss_catalog::{
     Event, GREATEST_BASE, GREATEST_POWER, GREATEST_SCALE, GREATEST_WIDENING, LONGEST_NAME,
@@ -21,6 +22,44 @@ fn of_words(alloc: Global, line: &[u8], refusal: Refusal) -> Result<String, Allo
         Refusal::Number => number_reason(alloc, words.as_slice()),
         _ => name(alloc, word_at(words.as_slice(), 1)),
     }
+}
+
+// A form of a cursor that was refused.
+fn of_cursor(
+    alloc: Global,
+    session: u8,
+    line: &[u8],
+    refusal: Refusal,
+) -> Result<String, AllocError> {
+    let text = shown(alloc, line)?;
+    let words = words_of(alloc, text.as_str())?;
+    let session = char::from(session);
+    let stream = word_at(words.as_slice(), 2);
+    match refusal {
+        Refusal::Syntax => syntax_of_cursor(alloc, words.as_slice()),
+        Refusal::Number => number_reason(alloc, words.as_slice()),
+        Refusal::Unknown => unknown(alloc, stream),
+        Refusal::Busy => format!(in alloc;
+            "session {session} has a cursor already: cursor close ends it"
+        ),
+        Refusal::NoCursor => format!(in alloc;
+            "session {session} has no cursor: cursor open NAME opens one"
+        ),
+        _ => name(alloc, stream),
+    }
+}
+
+// A line of sessions that is none of theirs.
+fn of_nobody(alloc: Global, line: &[u8]) -> Result<String, AllocError> {
+    let text = shown(alloc, line)?;
+    let words = words_of(alloc, text.as_str())?;
+    let first = word_at(words.as_slice(), 0);
+    format!(in alloc; "\"{first}\" is no session: a line begins with @0 to @7, as in @0 list")
+}
+
+// That no stream has a name.
+fn unknown(alloc: Global, stream: &str) -> Result<String, AllocError> {
+    format!(in alloc; "no stream is named {stream}")
 }
 
 // Whether a word has only letters that a name can have.
@@ -97,6 +136,8 @@ fn stream_of(command: &Command) -> &str {
         Command::Windows(name) => name.as_str(),
         Command::List => "",
         Command::Certify { query, .. } => query.name.as_str(),
+        Command::Last(name) => name.as_str(),
+        Command::Values { name, .. } => name.as_str(),
     }
 }
 
@@ -110,7 +151,9 @@ fn time(
 ) -> Result<String, AllocError> {
     match last {
         Some(last) => format!(in alloc; "{t} {rule} the last time of {stream}, {last}"),
-        None => format!(in alloc; "{t} {rule} the last time of {stream}"),
+        None => format!(in alloc;
+            "{t} {rule} the last time of {stream}, which last {stream} tells"
+        ),
     }
 }
 
@@ -140,11 +183,13 @@ fn of_command(
 ) -> Result<String, AllocError> {
     let stream = stream_of(command);
     match (refusal, command) {
-        (Refusal::Exists, _) => format!(in alloc; "a stream named {stream} stands already"),
+        (Refusal::Exists, _) => format!(in alloc;
+            "a stream named {stream} stands already, with the parameters that list shows"
+        ),
         (Refusal::Streams, _) => format!(in alloc;
             "the store takes no more than {MOST_STREAMS} streams"
         ),
-        (Refusal::Unknown, _) => format!(in alloc; "no stream is named {stream}"),
+        (Refusal::Unknown, _) => unknown(alloc, stream),
         (Refusal::Open, _) => format!(in alloc; "a landmark of {stream} is open already"),
         (Refusal::NotOpen, _) => format!(in alloc; "no landmark of {stream} is open"),
         (Refusal::StreamFull, _) => format!(in alloc;
@@ -155,6 +200,7 @@ fn of_command(
         (_, Command::Ask(query)) => range(alloc, query.from, query.to),
         (_, Command::Series(series)) => range(alloc, series.from, series.to),
         (_, Command::Certify { query, .. }) => range(alloc, query.from, query.to),
+        (_, Command::Values { from, to, .. }) => range(alloc, *from, *to),
         _ => String::from_str(alloc, OTHERWISE),
     }
 }
@@ -163,14 +209,19 @@ fn of_command(
 /// is known.
 pub fn reason(
     alloc: Global,
+    speaker: Speaker,
     line: Option<&[u8]>,
     command: Option<&Command>,
     refusal: Refusal,
     last: Option<u64>,
 ) -> Result<String, AllocError> {
-    match (line, command) {
-        (None, _) => format!(in alloc; "the line has more than {LONGEST_LINE} bytes"),
-        (Some(_), Some(command)) => of_command(alloc, command, refusal, last),
-        (Some(line), None) => of_words(alloc, line, refusal),
+    match (line, command, speaker) {
+        (None, _, _) => format!(in alloc; "the line has more than {LONGEST_LINE} bytes"),
+        (Some(_), Some(command), _) => of_command(alloc, command, refusal, last),
+        (Some(line), None, Speaker::Session(session)) if is_of_cursor(line) => {
+            of_cursor(alloc, session, line, refusal)
+        }
+        (Some(line), None, Speaker::Nobody) => of_nobody(alloc, line),
+        (Some(line), None, _) => of_words(alloc, line, refusal),
     }
 }

@@ -1,4 +1,5 @@
 // What a reply says, as far as it is needed to tell which line it is to.
+use crate::speaker::untagged;
 use ss_catalog::Refusal;
 use std::str;
 
@@ -42,7 +43,12 @@ fn rows_after(head: &str) -> u64 {
     let mut words = head.split(' ');
     let first = words.next().unwrap_or("");
     let count = words.last().unwrap_or("").parse::<u64>().unwrap_or(0);
-    if first == "windows" || first == "list" || first == "series" {
+    if first == "windows"
+        || first == "list"
+        || first == "series"
+        || first == "rows"
+        || first == "values"
+    {
         count
     } else if first == "certify" {
         count.saturating_mul(2)
@@ -53,7 +59,7 @@ fn rows_after(head: &str) -> u64 {
 
 /// What the first line of a reply says, given with its line end.
 pub fn read_reply(reply: &[u8]) -> Said {
-    let text = str::from_utf8(reply).unwrap_or("").trim_end();
+    let text = untagged(str::from_utf8(reply).unwrap_or("").trim_end());
     match text
         .strip_prefix("refused ")
         .and_then(|name| refusal_named(name))

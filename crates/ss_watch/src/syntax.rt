@@ -1,38 +1,13 @@
 // Why the words of a line fit no form.
+use crate::hints::{hint, hint_on_kind};
 use crate::words::word_at;
 use std::alloc::{AllocError, Global};
 
 const CREATE: &str = "create NAME exp B R S, or create NAME power P Q R S";
 
-// The first words of the commands.
-const VERBS: [&str; 9] = [
-    "create", "append", "landmark", "drop", "query", "series", "windows", "list", "certify",
-];
-
-// Whether a word is the first of a command, but for its capitals.
-fn is_verb_in_capitals(verb: &str) -> bool {
-    VERBS.iter().any(|known| verb.eq_ignore_ascii_case(known))
-}
-
-// What follows where no command begins with a word.
-fn hint(verb: &str) -> &'static str {
-    if verb.starts_with("\\xef\\xbb\\xbf") {
-        ": a byte order mark stands before it, and the file has to be saved without one"
-    } else if verb.starts_with("\\xff\\xfe") || verb.starts_with("\\xfe\\xff") {
-        ": the file is in UTF-16, and has to be saved as UTF-8 or ASCII"
-    } else if is_verb_in_capitals(verb) {
-        ": commands are in small letters"
-    } else if verb == "help" || verb == "?" {
-        ": summarystore --help lists the commands"
-    } else if verb == "quit" || verb == "exit" {
-        ": the run ends where its input ends, at a terminal by Ctrl-D"
-    } else {
-        ""
-    }
-}
-
-fn no_command(alloc: Global, verb: &str) -> Result<String, AllocError> {
-    let hint = hint(verb);
+fn no_command(alloc: Global, words: &[&str]) -> Result<String, AllocError> {
+    let verb = word_at(words, 0);
+    let hint = hint(words);
     format!(in alloc; "no command begins with \"{verb}\"{hint}")
 }
 
@@ -86,7 +61,8 @@ fn asked(
     words: &[&str],
 ) -> Result<String, AllocError> {
     let kind = word_at(words, 2);
-    let none = format!(in alloc; "\"{kind}\" is none of {kinds}")?;
+    let hint = hint_on_kind(words);
+    let none = format!(in alloc; "\"{kind}\" is none of {kinds}{hint}")?;
     unlike(alloc, form, wanted, words, none.as_str())
 }
 
@@ -119,6 +95,23 @@ fn certify(alloc: Global, words: &[&str]) -> Result<String, AllocError> {
     )
 }
 
+/// Why these words, which begin with `cursor`, fit no form of a line of a session.
+pub fn syntax_of_cursor(alloc: Global, words: &[&str]) -> Result<String, AllocError> {
+    let form = word_at(words, 1);
+    if form == "open" {
+        unlike(alloc, "cursor open NAME", 3, words, "")
+    } else if form == "next" {
+        unlike(alloc, "cursor next C", 3, words, "")
+    } else if form == "close" {
+        unlike(alloc, "cursor close", 2, words, "")
+    } else {
+        String::from_str(
+            alloc,
+            "a cursor form is cursor open NAME, cursor next C or cursor close",
+        )
+    }
+}
+
 /// Why these words fit no form.
 pub fn syntax(alloc: Global, words: &[&str]) -> Result<String, AllocError> {
     let verb = word_at(words, 0);
@@ -146,7 +139,11 @@ pub fn syntax(alloc: Global, words: &[&str]) -> Result<String, AllocError> {
         unlike(alloc, "list", 1, words, "")
     } else if verb == "certify" {
         certify(alloc, words)
+    } else if verb == "last" {
+        unlike(alloc, "last NAME", 2, words, "")
+    } else if verb == "values" {
+        unlike(alloc, "values NAME T1 T2", 4, words, "")
     } else {
-        no_command(alloc, verb)
+        no_command(alloc, words)
     }
 }

@@ -1,7 +1,9 @@
 // The lines of the input that wait for a reply.
-ghost use Rattle.std.specs.Prelude.{◌≡◌, ◌↔◌, ◌≤◌, true, length, IsSome};
+ghost use Rattle.std.specs.Prelude.{◌≡◌, ◌↔◌, true, IsSome};
 
+use crate::speaker::{Speaker, is_of_cursor, spoken};
 use arrayvec::ArrayVec;
+use ss_arguments::Form;
 use ss_command::{Command, Ended, LONGEST_LINE, LineReader, parse};
 use std::alloc::Global;
 use std::collections::VecDeque;
@@ -11,7 +13,8 @@ use std::collections::VecDeque;
 pub struct Heard {
     /// Its number in the input, from 1.
     pub number: u64,
-    /// Its bytes, where it isn't too long.
+    pub speaker: Speaker,
+    /// Its bytes, where it isn't too long: of a line of a session, those that follow who says it.
     pub line: Option<ArrayVec<u8, LONGEST_LINE>>,
     /// What it asks for, where it is a command.
     pub command: Option<Command>,
@@ -31,30 +34,45 @@ fn line_of(reader: &LineReader, ended: Ended) -> Option<&[u8]>
     }
 }
 
+// What a line asks for, where it is a command, and whether it gets a reply.
+fn command_of(speaker: Speaker, text: &[u8]) -> (Option<Command>, bool) {
+    if text.len() > LONGEST_LINE
+        || speaker == Speaker::Nobody
+        || speaker != Speaker::Alone && is_of_cursor(text)
+    {
+        return (None, true);
+    }
+    match parse(text) {
+        Ok(None) => (None, false),
+        Ok(Some(command)) => (Some(command), true),
+        Err(_) => (None, true),
+    }
+}
+
 // A line of at most so many bytes as a line may have, if it gets a reply.
-fn heard_whole(number: u64, line: &[u8]) -> Option<Heard>
-    requires { length line.now ≤ LONGEST_LINE }
-{
-    let command = match parse(line) {
-        Ok(None) => return None,
-        Ok(Some(command)) => Some(command),
-        Err(_) => None,
-    };
+fn heard_whole(form: Form, number: u64, line: &[u8]) -> Option<Heard> {
+    let (speaker, text) = spoken(form, line);
+    let (command, is_answered) = command_of(speaker, text);
+    if !is_answered {
+        return None;
+    }
     let mut kept = ArrayVec::new();
-    let _ = kept.try_extend_from_slice(line);
+    let _ = kept.try_extend_from_slice(text);
     Some(Heard {
         number,
+        speaker,
         line: Some(kept),
         command,
     })
 }
 
 // A line, if it gets a reply.
-fn heard_line(number: u64, line: Option<&[u8]>) -> Option<Heard> {
+fn heard_line(form: Form, number: u64, line: Option<&[u8]>) -> Option<Heard> {
     match line {
-        Some(line) if line.len() <= LONGEST_LINE => heard_whole(number, line),
+        Some(line) if line.len() <= LONGEST_LINE => heard_whole(form, number, line),
         _ => Some(Heard {
             number,
+            speaker: Speaker::Alone,
             line: None,
             command: None,
         }),
@@ -65,6 +83,7 @@ fn heard_line(number: u64, line: Option<&[u8]>) -> Option<Heard> {
 /// from there on.
 #[derive(Drop)]
 pub struct Waiting {
+    form: Form,
     reader: LineReader,
     lines: VecDeque<Heard>,
     count: u64,
@@ -72,8 +91,9 @@ pub struct Waiting {
 }
 
 impl Waiting {
-    pub fn new(alloc: Global) -> Waiting {
+    pub fn new(alloc: Global, form: Form) -> Waiting {
         Waiting {
+            form,
             reader: LineReader::new(),
             lines: VecDeque::new(alloc),
             count: 0,
@@ -105,7 +125,7 @@ impl Waiting {
         let (taken, ended) = self.reader.feed(piece);
         if let Some(ended) = ended {
             self.count = self.count.saturating_add(1);
-            let heard = heard_line(self.count, line_of(&self.reader, ended));
+            let heard = heard_line(self.form, self.count, line_of(&self.reader, ended));
             self.keep(heard);
         }
         taken
@@ -127,7 +147,7 @@ impl Waiting {
     pub fn finish(&mut self) {
         if let Some(ended) = self.reader.finish() {
             self.count = self.count.saturating_add(1);
-            let heard = heard_line(self.count, line_of(&self.reader, ended));
+            let heard = heard_line(self.form, self.count, line_of(&self.reader, ended));
             self.keep(heard);
         }
     }

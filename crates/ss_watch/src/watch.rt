@@ -2,6 +2,7 @@
 use crate::explain::{Counts, Explained, Explainer, MOST_EXPLAINED};
 use crate::progress::{Done, Progress, WIDTH, progress_text};
 use crate::terminals::Terminals;
+use ss_arguments::Form;
 use std::alloc::{AllocError, Global};
 use std::rt::Clock;
 
@@ -58,6 +59,7 @@ impl<'a, R: Eprint + Clock + AllocGlobal> Watch<'a, R> {
         store: &'a str,
         is_new: bool,
         explains: bool,
+        form: Form,
         terminals: Terminals,
     ) -> Watch<'a, R> {
         let most = if terminals.input {
@@ -73,7 +75,7 @@ impl<'a, R: Eprint + Clock + AllocGlobal> Watch<'a, R> {
             is_new,
             greets: terminals.input,
             is_inside: false,
-            explainer: Explainer::new(rt.alloc(), most),
+            explainer: Explainer::new(rt.alloc(), most, form),
             progress: Progress::new(),
             read: 0,
             syncs: 0,
@@ -213,14 +215,14 @@ impl<'a, R: Eprint + Clock + AllocGlobal> Watch<'a, R> {
         self.renew();
     }
 
-    /// Says at the end how many lines were refused.
-    pub fn finish(&mut self) {
+    /// Says at the end how many lines were refused, and answers it.
+    pub fn finish(&mut self) -> u64 {
         self.clear();
         let counts = self.explainer.counts();
-        if counts.refused == 0 || !self.explains {
-            return;
+        if counts.refused > 0 && self.explains {
+            let more = counts.refused.saturating_sub(self.explainer.most());
+            self.print(ending(self.rt.alloc(), counts, more));
         }
-        let more = counts.refused.saturating_sub(self.explainer.most());
-        self.print(ending(self.rt.alloc(), counts, more));
+        counts.refused
     }
 }

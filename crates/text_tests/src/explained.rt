@@ -1,6 +1,7 @@
 // Lines of an input with the replies to them, and why the refused ones were refused.
 use crate::tables::{Text, cut, pass, write, write_number};
 use arrayvec::ArrayVec;
+use ss_arguments::Form;
 use ss_watch::Explainer;
 use std::alloc::Global;
 use std::test::Fail;
@@ -51,25 +52,30 @@ fn reply_all(explainer: &mut Explainer, signs: &[u8], out: &mut Text) {
 }
 
 // A row has the lines of an input, '>', the replies to them, '=', and what is explained. At most two lines are.
-fn is_right(alloc: Global, row: &[u8]) -> bool {
+fn is_right(alloc: Global, form: Form, row: &[u8]) -> bool {
     let (session, want) = cut(row, b'=');
     let (input, replies) = cut(session, b'>');
-    let mut explainer = Explainer::new(alloc, 2);
+    let mut explainer = Explainer::new(alloc, 2, form);
     let mut out = ArrayVec::new();
     read(&mut explainer, input);
     reply_all(&mut explainer, replies, &mut out);
     out.as_slice() == want
 }
 
-// The first row that is wrong.
+// The first row that is wrong of a table of lines.
 fn first_wrong(alloc: Global, table: &[u8]) -> Option<u32> {
+    first_wrong_of(alloc, Form::Lines, table)
+}
+
+// The first row that is wrong.
+fn first_wrong_of(alloc: Global, form: Form, table: &[u8]) -> Option<u32> {
     let mut rest = table;
     for row in 0..1000 {
         if rest.is_empty() {
             return None;
         }
         let (line, later) = cut(rest, b'\n');
-        if !is_right(alloc, line) {
+        if !is_right(alloc, form, line) {
             return Some(row);
         }
         rest = later;
@@ -82,7 +88,7 @@ fn first_wrong(alloc: Global, table: &[u8]) -> Option<u32> {
 fn forms(rt: HostRuntime) -> Result<(), Fail> {
     pass(first_wrong(
         rt.alloc(),
-        b"2026-01-01,5/>refused SYNTAX/=1 SYNTAX: no command begins with \"2026-01-01,5\";\n\
+        b"2026-01-01,5/>refused SYNTAX/=1 SYNTAX: no command begins with \"2026-01-01,5\": words stand between blanks, as in append NAME T V;\n\
         List/>refused SYNTAX/=1 SYNTAX: no command begins with \"List\": commands are in small letters;\n\
         \xef\xbb\xbflist/>refused SYNTAX/=1 SYNTAX: no command begins with \"\\xef\\xbb\\xbflist\": \
         a byte order mark stands before it, and the file has to be saved without one;\n\
@@ -107,13 +113,14 @@ fn forms(rt: HostRuntime) -> Result<(), Fail> {
         Drop a/>refused SYNTAX/=1 SYNTAX: no command begins with \"Drop\": commands are in small letters;\n\
         query a sum 1/>refused SYNTAX/=1 SYNTAX: query NAME count T1 T2, or sum, min or max, has 5 words, \
         and this line has 4;\n\
-        query a mean 1 2/>refused SYNTAX/=1 SYNTAX: \"mean\" is none of count, sum, min, max and has;\n\
+        query a mean 1 2/>refused SYNTAX/=1 SYNTAX: \"mean\" is none of count, sum, min, max and has: \
+        a mean is a sum divided by a count;\n\
         query a has 1 2/>refused SYNTAX/=1 SYNTAX: query NAME has V T1 T2 has 6 words, and this line has 5;\n\
         query a count 5 1 2/>refused SYNTAX/=1 SYNTAX: query NAME count T1 T2, or sum, min or max, has 5 words, \
         and this line has 6;\n\
         series a sum 1 2/>refused SYNTAX/=1 SYNTAX: series NAME count T1 T2 STEP, or sum, min or max, has 6 words, \
         and this line has 5;\n\
-        series a mean 1 2 3/>refused SYNTAX/=1 SYNTAX: \"mean\" is none of count, sum, min and max;\n\
+        series a avg 1 2 3/>refused SYNTAX/=1 SYNTAX: \"avg\" is none of count, sum, min and max: a mean is a sum divided by a count;\n\
         series a has 1 2 3/>refused SYNTAX/=1 SYNTAX: \"has\" is none of count, sum, min and max;\n\
         certify a sum lo 1/>refused SYNTAX/=1 SYNTAX: certify NAME count lo T1 T2, or sum, or hi, has 6 words, \
         and this line has 5;\n\
@@ -121,7 +128,17 @@ fn forms(rt: HostRuntime) -> Result<(), Fail> {
         certify a has lo 1 2/>refused SYNTAX/=1 SYNTAX: \"has\" is neither count nor sum;\n\
         certify a sum low 1 2/>refused SYNTAX/=1 SYNTAX: \"low\" is neither lo nor hi;\n\
         Certify/>refused SYNTAX/=1 SYNTAX: no command begins with \"Certify\": commands are in small letters;\n\
-        Series/>refused SYNTAX/=1 SYNTAX: no command begins with \"Series\": commands are in small letters;\n",
+        Series/>refused SYNTAX/=1 SYNTAX: no command begins with \"Series\": commands are in small letters;\n\
+        Cursor/>refused SYNTAX/=1 SYNTAX: no command begins with \"Cursor\": commands are in small letters;\n\
+        a;1;5/>refused SYNTAX/=1 SYNTAX: no command begins with \"a;1;5\": words stand between blanks, as in append NAME T V;\n\
+        a append 1 5/>refused SYNTAX/=1 SYNTAX: no command begins with \"a\": the command stands first, as in append NAME T V;\n\
+        sum a 1 5/>refused SYNTAX/=1 SYNTAX: no command begins with \"sum\": \
+        that is asked for by a query, as in query NAME sum T1 T2;\n\
+        query sum a 1 5/>refused SYNTAX/=1 SYNTAX: \"a\" is none of count, sum, min, max and has: \
+        the name stands before what is asked for;\n\
+        @1 list/>refused SYNTAX/=1 SYNTAX: no command begins with \"@1\": lines of sessions are read where the mode is sessions;\n\
+        last/>refused SYNTAX/=1 SYNTAX: last NAME has 2 words, and this line has 1;\n\
+        values a 1/>refused SYNTAX/=1 SYNTAX: values NAME T1 T2 has 4 words, and this line has 3;\n",
     ))
 }
 
@@ -130,24 +147,36 @@ fn forms(rt: HostRuntime) -> Result<(), Fail> {
 fn words(rt: HostRuntime) -> Result<(), Fail> {
     pass(first_wrong(
         rt.alloc(),
-        b"append a 1 21.5/>refused NUMBER/=1 NUMBER: 21.5 isn't a whole number;\n\
+        b"append a 1 21.5/>refused NUMBER/=1 NUMBER: 21.5 isn't a whole number: write 215 for 21.5, in tenths;\n\
         append a -1 x/>refused NUMBER/=1 NUMBER: -1 isn't within 0 to 4611686018427387904, as times are;\n\
-        append a 1 +1/>refused NUMBER/=1 NUMBER: +1 isn't a whole number;\n\
+        append a 1 +1/>refused NUMBER/=1 NUMBER: +1 isn't a whole number: no sign stands before it but -;\n\
+        append a 1 -21.55/>refused NUMBER/=1 NUMBER: -21.55 isn't a whole number: write -2155 for -21.55, in hundredths;\n\
+        append a 1 0,125/>refused NUMBER/=1 NUMBER: 0,125 isn't a whole number: write 125 for 0,125, in thousandths;\n\
+        append a 1.2.3 1/>refused NUMBER/=1 NUMBER: 1.2.3 isn't a whole number;\n\
+        append a 2026-01-01T00:00 1/>refused NUMBER/=1 NUMBER: 2026-01-01T00:00 isn't a whole number: \
+        times are whole numbers, as the seconds that date +%s prints;\n\
+        append a 1 now/>refused NUMBER/=1 NUMBER: now isn't a whole number;\n\
+        values a 1 now/>refused NUMBER/=1 NUMBER: now isn't a whole number: \
+        times are whole numbers, as the seconds that date +%s prints;\n\
+        last x!/>refused NAME/=1 NAME: the name x! has more in it than letters, digits, _, - and .;\n\
         append a 1 9223372036854775808/>refused NUMBER/=1 NUMBER: 9223372036854775808 isn't within \
         -9223372036854775808 to 9223372036854775807, as values are;\n\
         landmark a open 4611686018427387905/>refused NUMBER/=1 NUMBER: 4611686018427387905 isn't within \
         0 to 4611686018427387904, as times are;\n\
-        query a sum 1 now/>refused NUMBER/=1 NUMBER: now isn't a whole number;\n\
-        query x! has 21.5 now 1/>refused NUMBER/=1 NUMBER: 21.5 isn't a whole number;\n\
+        query a sum 1 now/>refused NUMBER/=1 NUMBER: now isn't a whole number: \
+        times are whole numbers, as the seconds that date +%s prints;\n\
+        query x! has 21.5 now 1/>refused NUMBER/=1 NUMBER: 21.5 isn't a whole number: write 215 for 21.5, in tenths;\n\
         query a has 9223372036854775808 1 2/>refused NUMBER/=1 NUMBER: 9223372036854775808 isn't within \
         -9223372036854775808 to 9223372036854775807, as values are;\n\
         query a has -5 1 -2/>refused NUMBER/=1 NUMBER: -2 isn't within 0 to 4611686018427387904, as times are;\n\
         query x! has -5 1 2/>refused NAME/=1 NAME: the name x! has more in it than letters, digits, _, - and .;\n\
-        series a sum 1 now 2/>refused NUMBER/=1 NUMBER: now isn't a whole number;\n\
+        series a sum 1 now 2/>refused NUMBER/=1 NUMBER: now isn't a whole number: \
+        times are whole numbers, as the seconds that date +%s prints;\n\
         series a sum 1 2 0/>refused NUMBER/=1 NUMBER: 0 isn't within 1 to 4611686018427387904, as steps are;\n\
         series a sum 0 100000 1/>refused NUMBER/=1 NUMBER: \
         from 0 to 100000 there are more than 100000 rows of the step 1;\n\
-        certify a sum lo 1 now/>refused NUMBER/=1 NUMBER: now isn't a whole number;\n\
+        certify a sum lo 1 now/>refused NUMBER/=1 NUMBER: now isn't a whole number: \
+        times are whole numbers, as the seconds that date +%s prints;\n\
         certify a count hi -1 now/>refused NUMBER/=1 NUMBER: -1 isn't within 0 to 4611686018427387904, as times are;\n\
         certify x! sum lo 1 2/>refused NAME/=1 NAME: the name x! has more in it than letters, digits, _, - and .;\n\
         create a exp 2 1 4294967296/>refused NUMBER/=1 NUMBER: 4294967296 isn't within \
@@ -169,7 +198,7 @@ fn words(rt: HostRuntime) -> Result<(), Fail> {
 fn states(rt: HostRuntime) -> Result<(), Fail> {
     pass(first_wrong(
         rt.alloc(),
-        b"create a exp 2 1 1/>refused EXISTS/=1 EXISTS: a stream named a stands already;\n\
+        b"create a exp 2 1 1/>refused EXISTS/=1 EXISTS: a stream named a stands already, with the parameters that list shows;\n\
         create a exp 2 1 1/>refused STREAMS/=1 STREAMS: the store takes no more than 4096 streams;\n\
         windows rom/>refused UNKNOWN/=1 UNKNOWN: no stream is named rom;\n\
         drop rom/>refused UNKNOWN/=1 UNKNOWN: no stream is named rom;\n\
@@ -184,16 +213,50 @@ fn states(rt: HostRuntime) -> Result<(), Fail> {
         certify rom sum lo 4 5/>refused UNKNOWN/=1 UNKNOWN: no stream is named rom;\n\
         append a 1 1/>refused STREAM_FULL/=1 STREAM_FULL: a takes no more values outside landmarks;\n\
         append a 1 1/>refused STORE_FULL/=1 STORE_FULL: the store takes no more records;\n\
-        append a 50 1/>refused TIME/=1 TIME: 50 isn't later than the last time of a;\n\
+        append a 50 1/>refused TIME/=1 TIME: 50 isn't later than the last time of a, which last a tells;\n\
         append a 70 1/append a 50 1/>ok 1 1/refused TIME/=2 TIME: 50 isn't later than the last time of a, 70;\n\
         append a 70 1/append b 9 1/append a 70 1/>ok 1 1/ok 1 1/refused TIME/=\
         3 TIME: 70 isn't later than the last time of a, 70;\n\
         append a 70 1/drop a/append a 50 1/>ok 1 1/ok 0 0/refused TIME/=\
-        3 TIME: 50 isn't later than the last time of a;\n\
+        3 TIME: 50 isn't later than the last time of a, which last a tells;\n\
         append a 70 1/drop b/append a 50 1/>ok 1 1/ok 0 0/refused TIME/=\
         3 TIME: 50 isn't later than the last time of a, 70;\n\
         landmark a open 8/landmark a close 7/>ok 0 0/refused TIME/=2 TIME: 7 is before the last time of a, 8;\n\
         landmark a close 8/landmark a open 8/>ok 0 0/refused TIME/=2 TIME: 8 isn't later than the last time of a, 8;\n",
+    ))
+}
+
+// Lines of sessions. The empty ones and those with # first have no reply, and each session's replies are told from those of others.
+#[test]
+fn sessions(rt: HostRuntime) -> Result<(), Fail> {
+    pass(first_wrong_of(
+        rt.alloc(),
+        Form::Sessions,
+        b"list/>refused SYNTAX/=1 SYNTAX: \"list\" is no session: a line begins with @0 to @7, as in @0 list;\n\
+        @8 list/>refused SYNTAX/=1 SYNTAX: \"@8\" is no session: a line begins with @0 to @7, as in @0 list;\n\
+        @12 list/>refused SYNTAX/=1 SYNTAX: \"@12\" is no session: a line begins with @0 to @7, as in @0 list;\n\
+        #/ /@1/@1 /@1 # x/@1 List/>@1 refused SYNTAX/=\
+        6 SYNTAX: no command begins with \"List\": commands are in small letters;\n\
+        \t@1\tappend a 1/>@1 refused SYNTAX/=1 SYNTAX: append NAME T V has 4 words, and this line has 3;\n\
+        @1 cursor/>@1 refused SYNTAX/=1 SYNTAX: a cursor form is cursor open NAME, cursor next C or cursor close;\n\
+        @1 cursor open/>@1 refused SYNTAX/=1 SYNTAX: cursor open NAME has 3 words, and this line has 2;\n\
+        @1 cursor next 1 2/>@1 refused SYNTAX/=1 SYNTAX: cursor next C has 3 words, and this line has 4;\n\
+        @1 cursor close a/>@1 refused SYNTAX/=1 SYNTAX: cursor close has 2 words, and this line has 3;\n\
+        @1 cursor next 0/>@1 refused NUMBER/=1 NUMBER: 0 isn't within 1 to 1000, as many as a cursor gives at once;\n\
+        @1 cursor next 1001/>@1 refused NUMBER/=1 NUMBER: 1001 isn't within 1 to 1000, as many as a cursor gives at once;\n\
+        @1 cursor next all/>@1 refused NUMBER/=1 NUMBER: all isn't a whole number;\n\
+        @1 cursor open x!/>@1 refused NAME/=1 NAME: the name x! has more in it than letters, digits, _, - and .;\n\
+        @1 cursor open rom/>@1 refused UNKNOWN/=1 UNKNOWN: no stream is named rom;\n\
+        @1 cursor open a/@1 cursor open a/>@1 cursor 3/@1 refused BUSY/=2 BUSY: session 1 has a cursor already: cursor close ends it;\n\
+        @3 cursor next 1/>@3 refused NO_CURSOR/=1 NO_CURSOR: session 3 has no cursor: cursor open NAME opens one;\n\
+        @0 cursor close/>@0 refused NO_CURSOR/=1 NO_CURSOR: session 0 has no cursor: cursor open NAME opens one;\n\
+        @1 cursor next 2/@2 windows rom/>@1 rows 2/@1 1 1 1 1 1 1 1 1/@1 2 2 1 7 7 7 2 2/@2 refused UNKNOWN/=\
+        2 UNKNOWN: no stream is named rom;\n\
+        @1 cursor close/@2 windows rom/>@1 closed/@2 refused UNKNOWN/=2 UNKNOWN: no stream is named rom;\n\
+        @1 append a 70 1/@2 append a 50 1/>@1 ok 1 1/@2 refused TIME/=\
+        2 TIME: 50 isn't later than the last time of a, 70;\n\
+        @1 windows a/list/>@1 windows 1/@1 1 1 1 1 1 1 1 1/refused SYNTAX/=\
+        2 SYNTAX: \"list\" is no session: a line begins with @0 to @7, as in @0 list;\n",
     ))
 }
 
