@@ -1,3 +1,5 @@
 pub mod BlankLemmas
 pub mod BufferLemmas
+pub mod PlanLemmas
+mod PlanRows
 mod Rows

@@ -9,7 +9,7 @@ use Rattle.std.specs.declared.io.ErrorKind.TheVariants.{InvalidInput, Other, Rea
 use Rattle.ss_journal.specs.Format.{is_unborn}
 use Rattle.summarystore.specs.FileDisk.{EndsAfterFault, KeepsFile, LooksAtFile, untold}
 use Rattle.summarystore.specs.Opening.{IsBlank, IsHeldAs, IsLockedAs, IsNative, IsSettledAs, MayHold, StaysHeld, StaysUnmade, is_writable}
-use Rattle.summarystore.specs.Opening.{missing_for}
+use Rattle.summarystore.specs.Opening.{makes, missing_for}
 use Rattle.summarystore.specs.System.{Apart, Durable, Fact, IsUnsyncable, Keeps, KeepsAll, LockedBy, OpenFor, RegularFile, Synced, Unmade, Unsyncable}
 use Rattle.summarystore.specs.System.{Unwritten}
 use Rattle.summarystore.specs.System.{lasts_lock, lasts_open, lasts_write}
@@ -17,7 +17,7 @@ use Rattle.summarystore.specs.declared.opening.Missing.{Missing}
 use Rattle.summarystore.specs.declared.opening.Missing.TheVariants as missing
 use Rattle.summarystore.specs.declared.opening.Opened.{Opened}
 use Rattle.summarystore.specs.declared.opening.Opened.TheVariants.{Made, Nothing, ReadOnly, Writable}
-use Rattle.summarystore.specs.declared.system.Access.TheVariants.{Make, Read}
+use Rattle.summarystore.specs.declared.system.Access.TheVariants.{Make, Read, Write}
 use Rattle.summarystore.specs.declared.system.Lock.TheVariants.{Exclusive, Shared}
 
 facts : List Fact
@@ -57,12 +57,26 @@ IsUnsyncable-other : (error : Error) → error_kind error ≡ Other → IsUnsync
 IsUnsyncable-other error other (inl is) = let same = sym other ∙ is in cc
 IsUnsyncable-other error other (inr is) = let same = sym other ∙ is in cc
 
+lasts_open-Write : map (lasts_open Write) facts ≡ true ∷ true ∷ false ∷ false ∷ false ∷ false ∷ false ∷ false ∷ false ∷ []
+unfolding facts
+lasts_open-Write = refl
+
 -- which words make no file
-missing_for-check : missing_for (codes "a" ∷ codes "b" ∷ codes "check" ∷ []) ≡ missing.ReadEmpty
+missing_for-check : missing_for false (codes "a" ∷ codes "b" ∷ codes "check" ∷ []) ≡ missing.ReadEmpty
 missing_for-check = refl
 
+missing_for-check_of_one_that_exists : missing_for true (codes "a" ∷ codes "b" ∷ codes "check" ∷ []) ≡ missing.ReadFail
+missing_for-check_of_one_that_exists = refl
+
+missing_for-one_that_exists :
+    map (missing_for true) ((codes "a" ∷ codes "b" ∷ []) ∷ (codes "a" ∷ codes "b" ∷ codes "run" ∷ []) ∷ []) ≡ missing.Fail ∷ missing.Fail ∷ []
+missing_for-one_that_exists = refl
+
+makes-each : map makes (missing.Make ∷ missing.Fail ∷ missing.ReadEmpty ∷ missing.ReadFail ∷ []) ≡ true ∷ false ∷ false ∷ false ∷ []
+makes-each = refl
+
 missing_for-others :
-    map missing_for
+    map (missing_for false)
     ([] ∷ (codes "a" ∷ codes "check" ∷ []) ∷ (codes "a" ∷ codes "b" ∷ codes "run" ∷ [])
     ∷ (codes "a" ∷ codes "b" ∷ codes "check" ∷ [] ∷ []) ∷ [])
     ≡ missing.Make ∷ missing.Make ∷ missing.Make ∷ missing.Make ∷ []
@@ -75,7 +89,21 @@ held-ReadOnly holds (locked, regular, apart) = (locked.opened, locked.locked, re
 
 held-Writable : (holds : Fact → Type 0) → IsHeldAs missing.Make Writable holds →
     holds (OpenFor Make) × holds (LockedBy Exclusive) × holds RegularFile × holds Apart
-held-Writable holds ((made, locked), regular, apart) = (locked.opened, locked.locked, regular, apart)
+held-Writable holds (locked, regular, apart) = (locked.opened, locked.locked, regular, apart)
+
+held-Fail : (holds : Fact → Type 0) → IsHeldAs missing.Fail Writable holds →
+    holds (OpenFor Write) × holds (LockedBy Exclusive) × holds RegularFile × holds Apart
+held-Fail holds (locked, regular, apart) = (locked.opened, locked.locked, regular, apart)
+
+held-Fail-made : (holds : Fact → Type 0) → IsHeldAs missing.Fail Made holds ⊎ IsHeldAs missing.Fail Nothing holds → ⊥
+held-Fail-made holds (inl ((made, locked), regular, apart)) = cc
+held-Fail-made holds (inr is) = cc
+
+held-ReadFail : (holds : Fact → Type 0) →
+    IsHeldAs missing.ReadFail Writable holds ⊎ IsHeldAs missing.ReadFail Made holds ⊎ IsHeldAs missing.ReadFail Nothing holds → ⊥
+held-ReadFail holds (inl (locked, regular, apart)) = locked
+held-ReadFail holds (inr (inl ((made, locked), regular, apart))) = cc
+held-ReadFail holds (inr (inr is)) = cc
 
 held-Made : (holds : Fact → Type 0) → IsHeldAs missing.Make Made holds →
     holds (OpenFor Make) × holds (LockedBy Exclusive) × holds RegularFile × holds Apart
@@ -83,7 +111,7 @@ held-Made holds ((made, locked), regular, apart) = (locked.opened, locked.locked
 
 -- where no file is made none is written
 held-ReadEmpty : (holds : Fact → Type 0) → IsHeldAs missing.ReadEmpty Writable holds ⊎ IsHeldAs missing.ReadEmpty Made holds → ⊥
-held-ReadEmpty holds (inl ((made, locked), regular, apart)) = cc
+held-ReadEmpty holds (inl (locked, regular, apart)) = locked
 held-ReadEmpty holds (inr ((made, locked), regular, apart)) = cc
 
 held-Nothing : (holds : Fact → Type 0) → IsHeldAs missing.Make Nothing holds → ⊥
@@ -108,6 +136,12 @@ settled-Made holds is = is
 -- where no file is to be made
 unmade-ReadEmpty : (old new : Fact → Type 0) → StaysUnmade missing.ReadEmpty old new → old Unmade → new Unmade
 unmade-ReadEmpty old new stays was = stays refl was
+
+unmade-Fail : (old new : Fact → Type 0) → StaysUnmade missing.Fail old new → old Unmade → new Unmade
+unmade-Fail old new stays was = stays refl was
+
+unmade-ReadFail : (old new : Fact → Type 0) → StaysUnmade missing.ReadFail old new → old Unmade → new Unmade
+unmade-ReadFail old new stays was = stays refl was
 
 -- what each call leaves of the file
 keeps-missing : (was is : Missing) (opened opened_now : Option Opened) (holds holds_now : Fact → Type 0) →

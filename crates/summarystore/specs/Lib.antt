@@ -1,3 +1,4 @@
 pub mod FileDisk
 pub mod Opening
+pub mod Plan
 pub mod System

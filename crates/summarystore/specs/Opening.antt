@@ -6,7 +6,7 @@ use Rattle.ss_journal.specs.Format.{is_unborn}
 use Rattle.ss_journal.specs.declared.format.TheConstants.{FIRST_SLOT}
 use Rattle.summarystore.specs.System.{Fact, Unmade, OpenFor, Apart, LockedBy, RegularFile, Synced, Unsyncable, Durable}
 use Rattle.summarystore.specs.declared.opening.Missing.{Missing}
-use Rattle.summarystore.specs.declared.opening.Missing.TheVariants.{Make, ReadEmpty}
+use Rattle.summarystore.specs.declared.opening.Missing.TheVariants.{Make, Fail, ReadEmpty, ReadFail}
 use Rattle.summarystore.specs.declared.opening.Opened.{Opened}
 use Rattle.summarystore.specs.declared.opening.Opened.TheVariants.{Nothing, ReadOnly, Writable, Made}
 use Rattle.summarystore.specs.declared.system.Access.{Access}
@@ -15,25 +15,44 @@ use Rattle.summarystore.specs.declared.system.Access.TheVariants as access
 use Rattle.summarystore.specs.declared.system.Lock.{Lock}
 use Rattle.summarystore.specs.declared.system.Lock.TheVariants.{Exclusive, Shared}
 
--- what is done where there is no file: a check, the third word after the program's name and the path, makes none
-abbrev pub missing_for : List (List ℕ) → Missing
-missing_for (program ∷ path ∷ mode ∷ []) = if bytes_eq mode (codes "check") then ReadEmpty else Make
-missing_for _ = Make
+-- whether words ask for a check: it is the third word, after the program's name and the path, and the last one
+abbrev pub is_check : List (List ℕ) → Bool
+is_check (program ∷ path ∷ mode ∷ []) = bytes_eq mode (codes "check")
+is_check _ = false
+
+-- What is done where there is no file: a check makes none, and no run does whose store has to be there. A check reads the file
+-- alone.
+abbrev pub missing_for : Bool → List (List ℕ) → Missing
+missing_for has_to_exist words =
+    if is_check words then (if has_to_exist then ReadFail else ReadEmpty) else (if has_to_exist then Fail else Make)
+
+-- whether a file is made where there is none
+abbrev pub makes : Missing → Bool
+makes Make = true
+makes Fail = false
+makes ReadEmpty = false
+makes ReadFail = false
 
 -- the file is open for this, and locked so
 pub record IsLocked (access : Access) (how : Lock) (holds : Fact → Type 0) : Type 0 where
   pub opened : holds (OpenFor access)
   pub locked : holds (LockedBy how)
 
--- a file that is only read is locked against those that write, any other against every other opening; where no file is made it is
--- only read
+-- how a file is held that is written: it is locked against every other opening, and opened so that none is made where none is to be
+abbrev pub IsLockedToWrite : Missing → (Fact → Type 0) → Type 0
+IsLockedToWrite Make holds = IsLocked access.Make Exclusive holds
+IsLockedToWrite Fail holds = IsLocked access.Write Exclusive holds
+IsLockedToWrite ReadEmpty holds = ⊥
+IsLockedToWrite ReadFail holds = ⊥
+
+-- a file that is only read is locked against those that write
 abbrev pub IsLockedAs : Missing → Opened → (Fact → Type 0) → Type 0
 IsLockedAs missing Nothing holds = ⊥
 IsLockedAs missing ReadOnly holds = IsLocked Read Shared holds
-IsLockedAs missing Writable holds = (missing ≡ Make) × IsLocked access.Make Exclusive holds
+IsLockedAs missing Writable holds = IsLockedToWrite missing holds
 IsLockedAs missing Made holds = (missing ≡ Make) × IsLocked access.Make Exclusive holds
 
--- what stands open is a regular file, locked, and no standard stream goes into it; nothing does only where no file is made
+-- what stands open is a regular file, locked, and no standard stream goes into it; nothing does only where it is read as empty
 abbrev pub IsHeldAs : Missing → Opened → (Fact → Type 0) → Type 0
 IsHeldAs missing Nothing holds = missing ≡ ReadEmpty
 IsHeldAs missing ReadOnly holds = IsLockedAs missing ReadOnly holds × holds RegularFile × holds Apart
@@ -54,7 +73,7 @@ IsSettledAs Made holds = holds Durable
 
 -- where no file is to be made, none is
 abbrev pub StaysUnmade : Missing → (Fact → Type 0) → (Fact → Type 0) → Type 0
-StaysUnmade missing old new = missing ≡ ReadEmpty → old Unmade → new Unmade
+StaysUnmade missing old new = makes missing ≡ false → old Unmade → new Unmade
 
 -- whether something can be written
 abbrev pub is_writable : Option Opened → Bool

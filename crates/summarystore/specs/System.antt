@@ -4,7 +4,7 @@ use Rattle.std.specs.IoError.{error_kind}
 use Rattle.std.specs.declared.io.Error.{Error}
 use Rattle.std.specs.declared.io.ErrorKind.TheVariants.{InvalidInput, ReadOnlyFilesystem}
 use Rattle.summarystore.specs.declared.system.Access.{Access}
-use Rattle.summarystore.specs.declared.system.Access.TheVariants.{Make, Read}
+use Rattle.summarystore.specs.declared.system.Access.TheVariants.{Make, Read, Write}
 use Rattle.summarystore.specs.declared.system.Lock.{Lock}
 
 -- What is known of the system and of the file that is open: nothing was made, nothing was written, what it was opened for, that
@@ -33,6 +33,7 @@ Keeps lasts old new = (fact : Fact) → IsTrue (lasts fact) → old fact → new
 abbrev pub lasts_open : Access → Fact → Bool
 lasts_open _ Unwritten = true
 lasts_open Make Unmade = false
+lasts_open Write Unmade = true
 lasts_open Read Unmade = true
 lasts_open _ _ = false
 

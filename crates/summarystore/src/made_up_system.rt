@@ -30,6 +30,7 @@ pub struct MadeUpSystem {
 
 fn name_of(access: Access) -> &'static str {
     match access {
+        Access::Write => "write_there",
         Access::Make => "make",
         Access::Read => "open",
     }

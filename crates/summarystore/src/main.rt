@@ -4,6 +4,7 @@
 #[cfg(test)]
 mod adapter_tests;
 mod adapters;
+mod advice;
 mod file_disk;
 mod foreign;
 mod host_system;
@@ -15,6 +16,7 @@ mod notice;
 mod notice_tests;
 mod opening;
 mod options;
+mod plan;
 mod reading;
 mod reason;
 mod system;
@@ -24,31 +26,20 @@ mod writing;
 use adapters::{StdSink, StdSource};
 use file_disk::FileDisk;
 use host_system::HostSystem;
-use notice::notice;
-use opening::missing_for;
-use options::{name_batch, take_options};
+use plan::{Plan, Run, plan_of, status_with};
 use ss_program::{Status, exit_code, run_store};
 use ss_watch::{Terminals, Watch, Watched};
-use std::alloc::{AllocError, Global};
 use std::cell::RefCell;
 use std::fs::{self, File};
 use std::io::{ErrorKind, IsTerminal};
 use std::process::ExitCode;
 use std::rt::{Clock, Env, Files};
 use std::{env, io};
-use telling::{print_notice, tell, tell_run};
+use telling::{print_notice, tell, tell_run, tell_usage};
 
 // The arguments of the command line, the program's name first.
 fn read_words<R: Env + AllocGlobal>(rt: &R) -> io::Result<Vec<String>> {
     env::args(rt)?.collect(rt.alloc()).map_err(io::Error::from)
-}
-
-// The store's path: the second argument, or the empty path where there is none.
-fn path_of(alloc: Global, words: &[String]) -> Result<String, AllocError> {
-    match words {
-        [_, path, ..] => String::from_str(alloc, path.as_str()),
-        _ => Ok(String::new(alloc)),
-    }
 }
 
 // Whether nothing has this path yet.
@@ -60,36 +51,65 @@ fn is_free<R: Files>(rt: &R, path: &str) -> bool {
 }
 
 // The exit status of a run over the store's file, standard input and standard output, which is told.
-fn run_over<R: AllocGlobal + Input + Print + Eprint + Files<File = File>>(
-    rt: &R,
-    words: &[String],
-    path: String,
-) -> u8 {
-    let mut disk = FileDisk::new(HostSystem::new(rt), path, missing_for(words));
+fn run_over<R: AllocGlobal + Input + Print + Eprint + Files<File = File>>(rt: &R, run: Run) -> u8 {
+    let mut disk = FileDisk::new(HostSystem::new(rt), run.path, run.missing);
     let mut source = StdSource::new(rt);
     let mut sink = StdSink::new(rt);
-    let number = run_store(rt.alloc(), words, &mut disk, &mut source, &mut sink);
+    let number = run_store(rt.alloc(), &run.words, &mut disk, &mut source, &mut sink);
     tell_run(rt, number, &disk, source.why().or(sink.why()))
 }
 
 // The same, watched.
 fn run_watched<R: AllocGlobal + Input + Print + Eprint + Clock + Files<File = File>>(
     rt: &R,
-    words: &[String],
-    path: String,
+    run: Run,
     watch: Watch<'_, R>,
 ) -> u8 {
     let watch = RefCell::new(watch);
-    let disk = FileDisk::new(HostSystem::new(rt), path, missing_for(words));
+    let disk = FileDisk::new(HostSystem::new(rt), run.path, run.missing);
     let mut disk = Watched::new(disk, &watch);
     let mut source = Watched::new(StdSource::new(rt), &watch);
     let mut sink = Watched::new(StdSink::new(rt), &watch);
-    let number = run_store(rt.alloc(), words, &mut disk, &mut source, &mut sink);
-    if let Ok(mut watch) = watch.try_borrow_mut() {
-        watch.finish();
-    }
+    let number = run_store(rt.alloc(), &run.words, &mut disk, &mut source, &mut sink);
+    let has_refused = match watch.try_borrow_mut() {
+        Ok(mut watch) => watch.finish() > 0,
+        Err(_) => false,
+    };
     let why = source.device().why().or(sink.device().why());
-    tell_run(rt, number, disk.device(), why)
+    let number = tell_run(rt, number, disk.device(), why);
+    status_with(run.is_strict, has_refused, number)
+}
+
+// The exit status of a run over a store. Where the arguments aren't known, they are read again, to say what is wrong with them.
+fn run_asked<R: Env + AllocGlobal + Input + Print + Eprint + Clock + Files<File = File>>(
+    rt: &R,
+    run: Run,
+    terminals: Terminals,
+) -> u8 {
+    let Ok(shown) = String::from_str(rt.alloc(), run.path.as_str()) else {
+        return tell(rt, Status::OutOfMemory.number(), None);
+    };
+    let is_new = (terminals.input || terminals.error) && is_free(rt, shown.as_str());
+    let watch = Watch::new(
+        rt,
+        shown.as_str(),
+        is_new,
+        run.explains,
+        run.form,
+        terminals,
+    );
+    let number = if watch.hears() {
+        run_watched(rt, run, watch)
+    } else {
+        run_over(rt, run)
+    };
+    if number != Status::Usage.number() {
+        return number;
+    }
+    match read_words(rt) {
+        Ok(words) => tell_usage(rt, terminals.output, &words, number),
+        Err(_) => number,
+    }
 }
 
 // The exit status of a run, or of a notice. Arguments that can't be read as text count as none.
@@ -97,7 +117,7 @@ fn run_program<R: Env + AllocGlobal + Input + Print + Eprint + Clock + Files<Fil
     rt: &R,
     terminals: Terminals,
 ) -> u8 {
-    let mut words = match read_words(rt) {
+    let words = match read_words(rt) {
         Ok(words) => words,
         Err(error) if error.kind() == ErrorKind::OutOfMemory => return tell(
             rt,
@@ -106,24 +126,14 @@ fn run_program<R: Env + AllocGlobal + Input + Print + Eprint + Clock + Files<Fil
         ),
         Err(_) => Vec::new(rt.alloc()),
     };
-    if let Some(text) = notice(&words) {
-        let mut sink = StdSink::new(rt);
-        let number = print_notice(&mut sink, text);
-        return tell(rt, number, sink.why());
-    }
-    let options = take_options(&mut words);
-    if options.batches && name_batch(rt.alloc(), &mut words).is_err() {
-        return tell(rt, Status::OutOfMemory.number(), None);
-    }
-    let (Ok(path), Ok(shown)) = (path_of(rt.alloc(), &words), path_of(rt.alloc(), &words)) else {
-        return tell(rt, Status::OutOfMemory.number(), None);
-    };
-    let is_new = (terminals.input || terminals.error) && is_free(rt, path.as_str());
-    let watch = Watch::new(rt, shown.as_str(), is_new, options.explains, terminals);
-    if watch.hears() {
-        run_watched(rt, &words, path, watch)
-    } else {
-        run_over(rt, &words, path)
+    match plan_of(rt.alloc(), words) {
+        Ok(Plan::Notice(notice)) => {
+            let mut sink = StdSink::new(rt);
+            let number = print_notice(&mut sink, notice.text());
+            tell(rt, number, sink.why())
+        }
+        Ok(Plan::Run(run)) => run_asked(rt, run, terminals),
+        Err(_) => tell(rt, Status::OutOfMemory.number(), None),
     }
 }
 

@@ -1,5 +1,7 @@
 // What is printed where it is the only argument that asks for it.
-ghost use Rattle.std.specs.Prelude.{◌≡◌, ◌⊎◌, ◌↔◌, IsSome, codes};
+ghost use Rattle.std.specs.Prelude.{◌≡◌};
+ghost use Rattle.ss_arguments.specs.Modes.{words_of};
+ghost use Rattle.summarystore.specs.Plan.{notice_named, notice_of};
 
 /// The help text.
 pub const HELP: &str = "\
@@ -14,6 +16,12 @@ is on the disk before it is printed. One program at a time can use a store.
   gen    runs commands of its own in place of the input: they give a stream g
          COUNT values, 1 to 100000, made from SEED, 0 to 2^64-1. It prints how
          many were ok and how many refused, and what six queries at the end say
+  sessions
+         reads the lines of eight sessions: @0 to @7 stands before a command, and
+         before each line of the reply to it. A session can also read windows in
+         pieces, as they are now, whatever comes after: @1 cursor open NAME says
+         how many there are, @1 cursor next C shows the next C of them, at most
+         1000, and @1 cursor close ends it
 
   create NAME exp B R S  a new stream: R windows of each of the lengths S, S*B,
                          S*B*B and so on, the longer ones for older values
@@ -37,6 +45,8 @@ is on the disk before it is printed. One program at a time can use a store.
   certify NAME count|sum lo|hi T1 T2
                          values that the windows may have had, by which the
                          answer is just the lo, or the hi, that query prints
+  last NAME              its last time, and what is known of its newest value
+  values NAME T1 T2      the values of its landmarks from the time T1 to T2
   windows NAME           the windows of a stream, oldest first
   list                   all streams, in order of creation
 
@@ -47,11 +57,13 @@ line gets refused and a word that says why.
 
 Exit statuses:
   0  done                              5  a read of standard input failed
-  2  unknown arguments                 6  a write of standard output failed
-  3  STORE isn't a store or is         7  out of memory
-     damaged; it is left as it was     8  the input has more than 2^36 bytes
-  4  STORE can't be used, a call       9  a record in STORE isn't what it was
-     of it failed, or another             when it was written
+  1  done, and a line was refused:     6  a write of standard output failed
+     only with --strict                7  out of memory
+  2  unknown arguments                 8  the input has more than 2^36 bytes
+  3  STORE isn't a store or is         9  a record in STORE isn't what it was
+     damaged; it is left as it was        when it was written
+  4  STORE can't be used, a call
+     of it failed, or another
      program uses it
 
   summarystore --help, -h     prints this text
@@ -60,33 +72,48 @@ With --batch before STORE, commands that arrive together come to the disk
 together, and their replies after that. That is faster where many arrive at once.
 Each ok is on the disk all the same.
 With --explain before STORE, or at a terminal, standard error says why lines are
-refused, for the first 20 of them.
+refused, for the first 20 of them. With --strict before STORE it does so too, and
+the status is 1 where a line was refused and 0 otherwise would be.
+With --existing before STORE, STORE isn't made where there is none: status 4.
 A store whose name begins with - is ./-NAME.
 Documents: README.md, docs/GUIDE.md.
 ";
 
 const VERSION: &str = "summarystore 0.1.0\n";
 
-// What this asks for as the only argument.
-fn asked_for(word: &str) -> Option<&'static str>
-    ensures { IsSome result
-        ↔ (word.now ≡ codes "--help") ⊎ (word.now ≡ codes "-h")
-        ⊎ (word.now ≡ codes "--version") ⊎ (word.now ≡ codes "-V") }
-{
-    if word == "--help" || word == "-h" {
-        return Some(HELP);
-    }
-    if word == "--version" || word == "-V" {
-        return Some(VERSION);
-    }
-    None
+/// What is printed in the place of a run.
+#[derive(Clone, Copy, Debug, PartialEq, Eq)]
+pub enum Notice {
+    Help,
+    Version,
 }
 
-/// What is printed in the place of a run, where the arguments of the command line are the program's name and one that asks
-/// for it.
-pub fn notice(words: &[String]) -> Option<&'static str> {
+impl Notice {
+    pub fn text(self) -> &'static str {
+        match self {
+            Notice::Help => HELP,
+            Notice::Version => VERSION,
+        }
+    }
+}
+
+/// The notice that a word asks for.
+pub fn notice_named(word: &str) -> Option<Notice>
+    ensures { result ≡ notice_named word.now }
+{
+    match word {
+        "--help" | "-h" => Some(Notice::Help),
+        "--version" | "-V" => Some(Notice::Version),
+        _ => None,
+    }
+}
+
+/// The notice that the words of the command line ask for: it is the only one after the program's name.
+pub fn notice_of(words: &[String]) -> Option<Notice>
+    ensures { result ≡ notice_of (words_of words.now) }
+{
     match words {
-        [_, word] => asked_for(word.as_str()),
+        [_, word] => notice_named(word.as_str()),
         _ => None,
     }
 }

@@ -1,5 +1,5 @@
 // Which arguments ask for a notice.
-use crate::notice::{HELP, notice};
+use crate::notice::{HELP, notice_of};
 use ss_catalog::{
     GREATEST_BASE, GREATEST_POWER, GREATEST_SCALE, GREATEST_WIDENING, LAST_TIME, LONGEST_NAME,
 };
@@ -25,8 +25,8 @@ fn words_of(alloc: Global, words: &[&str]) -> Result<Vec<String>, AllocError> {
 // Whether these arguments get a notice that begins so. The empty front stands for none.
 fn is_noticed(alloc: Global, words: &[&str], front: &str) -> Result<bool, AllocError> {
     let words = words_of(alloc, words)?;
-    match notice(&words) {
-        Some(text) => Ok(front != "" && text.starts_with(front)),
+    match notice_of(&words) {
+        Some(notice) => Ok(front != "" && notice.text().starts_with(front)),
         None => Ok(front == ""),
     }
 }

@@ -1,6 +1,7 @@
 // How the file of a store is opened.
-ghost use Rattle.std.specs.Prelude.{◌≡◌, ◌⊎◌, ◌↔◌, ℕ, List, Ok, Some, map, string_bytes, IsTrue, IfOk, OnOk};
-ghost use Rattle.summarystore.specs.Opening.{IsHeldAs, IsLocked, IsLockedAs, IsNative, IsSettledAs, MayHold, StaysUnmade, missing_for};
+ghost use Rattle.std.specs.Prelude.{◌≡◌, ◌⊎◌, ◌↔◌, ℕ, List, Ok, Some, true, false, IsTrue, IfOk, OnOk};
+ghost use Rattle.ss_arguments.specs.Modes.{words_of};
+ghost use Rattle.summarystore.specs.Opening.{IsHeldAs, IsLocked, IsLockedAs, IsNative, IsSettledAs, MayHold, StaysUnmade, is_check, missing_for};
 ghost use Rattle.summarystore.specs.System.{Apart, Durable, IsUnsyncable, Keeps, KeepsAll, LockedBy, Synced, Unmade, Unsyncable, Unwritten};
 ghost use Rattle.summarystore.specs.System.{lasts_lock, lasts_open};
 
@@ -10,20 +11,36 @@ use crate::system::{Access, Kind, Lock, System};
 use std::io::{self, ErrorKind};
 use std::path::Path;
 
-/// What is done where there is no file: one is made, or it reads as an empty one and none is made.
+/// What is done where there is no file. `Make` makes one, and none of the others does. `Fail` opens none. `ReadEmpty` reads it as
+/// an empty one. `ReadFail` opens none either, and reads one that is there alone, as `ReadEmpty` does.
 #[derive(Clone, Copy, Debug, PartialEq, Eq)]
 pub enum Missing {
     Make,
+    Fail,
     ReadEmpty,
+    ReadFail,
 }
 
-/// What is done where there is no file, by the words of the command line, the program's name first: a check makes none.
-pub fn missing_for(words: &[String]) -> Missing
-    ensures { result ≡ missing_for (map (λ word. string_bytes word) words.now) }
+// Whether the words of the command line ask for a check, the program's name first.
+fn is_check(words: &[String]) -> bool
+    ensures { result ≡ is_check (words_of words.now) }
 {
     match words {
-        [_, _, mode] if mode.as_str() == "check" => Missing::ReadEmpty,
-        _ => Missing::Make,
+        [_, _, mode] => mode.as_str() == "check",
+        _ => false,
+    }
+}
+
+/// What is done where there is no file, by whether the store has to be there and by the words of the command line, the program's
+/// name first.
+pub fn missing_for(has_to_exist: bool, words: &[String]) -> Missing
+    ensures { result ≡ missing_for has_to_exist (words_of words.now) }
+{
+    match (is_check(words), has_to_exist) {
+        (true, true) => Missing::ReadFail,
+        (true, false) => Missing::ReadEmpty,
+        (false, true) => Missing::Fail,
+        (false, false) => Missing::Make,
     }
 }
 
@@ -154,7 +171,29 @@ fn open_to_write<S: System>(system: &mut S, path: &str, is_there: bool) -> Resul
     })
 }
 
-// Opens the file and locks it. Where none is to be made, it is only read.
+// Opens the file that is there to be written, and locks it against every other opening. One that may only be read is opened so.
+fn open_there<S: System>(system: &mut S, path: &str) -> Result<Opened, Reason>
+    ensures locked { IfOk result (λ opened. IsLockedAs Missing.Fail opened (S.holds system.new)) }
+    ensures apart { OnOk result (S.holds system.new Apart) }
+    ensures unmade { S.holds system.old Unmade → S.holds system.new Unmade }
+    ensures unwritten { S.holds system.old Unwritten → S.holds system.new Unwritten }
+{
+    match system.open(path, Access::Write) {
+        Ok(()) => {}
+        Err(error) if error.kind() == ErrorKind::NotFound => return Err(Reason::own(
+            Trouble::NoFile,
+        )),
+        Err(error) if is_read_only(&error) => {
+            return open_to_read(system, path, Reason::own(Trouble::NoFile));
+        }
+        Err(error) => return Err(Reason::of(error, refusal(&error))),
+    }
+    require_apart(system)?;
+    lock(system, Lock::Exclusive)?;
+    Ok(Opened::Writable)
+}
+
+// Opens the file and locks it. A check only reads it.
 fn open_locked<S: System>(
     system: &mut S,
     path: &str,
@@ -166,9 +205,11 @@ fn open_locked<S: System>(
     ensures unmade { StaysUnmade missing (S.holds system.old) (S.holds system.new) }
     ensures unwritten { S.holds system.old Unwritten → S.holds system.new Unwritten }
 {
+    let none = Reason::own(Trouble::NoFile);
     match missing {
         Missing::Make => open_to_write(system, path, is_there),
-        Missing::ReadEmpty => open_to_read(system, path, Reason::own(Trouble::NoFile)),
+        Missing::Fail => open_there(system, path),
+        Missing::ReadEmpty | Missing::ReadFail => open_to_read(system, path, none),
     }
 }
 
@@ -237,7 +278,7 @@ fn refuse_foreign<S: System>(system: &mut S) -> Result<(), Reason>
 }
 
 /// Opens the file of a store. Nothing is read before its bytes and its name are durable, and nothing is written. It fails
-/// where something else has the path, where a standard stream goes into the file, where another opening keeps it away,
+/// where there is no file and one has to be there, where something else has the path, where a standard stream goes into the file, where another opening keeps it away,
 /// and where the file isn't formatted, but holds something.
 pub fn open<S: System>(system: &mut S, path: &str, missing: Missing) -> Result<Opened, Reason>
     ensures held { IfOk result (λ opened. IsHeldAs missing opened (S.holds system.new)) }
@@ -252,9 +293,13 @@ pub fn open<S: System>(system: &mut S, path: &str, missing: Missing) -> Result<O
         return Err(Reason::own(Trouble::NoName));
     }
     let is_there = is_there(system, path)?;
-    if !is_there && missing == Missing::ReadEmpty {
+    if !is_there && missing != Missing::Make {
         require_folder(system, path)?;
-        return Ok(Opened::Nothing);
+        return if missing == Missing::ReadEmpty {
+            Ok(Opened::Nothing)
+        } else {
+            Err(Reason::own(Trouble::NoFile))
+        };
     }
     let opened = open_locked(system, path, missing, is_there)?;
     require_regular(system.kind())?;

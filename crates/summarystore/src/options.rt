@@ -1,79 +1,156 @@
 // The options that stand before the store's path.
-ghost use Rattle.std.specs.Prelude.{◌≡◌, ◌↔◌, codes, IsTrue};
+ghost use Rattle.std.specs.Prelude.{◌≡◌, ◌≤◌, drop, length, IsSome, OnOk};
+ghost use Rattle.std.specs.Str.Parse.{starts_with_minus};
+ghost use Rattle.ss_arguments.specs.Modes.{words_of};
+ghost use Rattle.summarystore.specs.Plan.{first_switch, has_hyphen, in_batches, names_run, no_options, options_of, switch_of};
+ghost use Rattle.summarystore.specs.Plan.{with_switch, without_options, without_run, without_unknown};
 
 use std::alloc::{AllocError, Global};
 
+/// An option.
+#[derive(Clone, Copy, Debug, PartialEq, Eq)]
+pub enum Switch {
+    Explain,
+    Batch,
+    Strict,
+    Existing,
+}
+
 /// What the options ask for.
-#[derive(Clone, Copy)]
+#[derive(Clone, Copy, Debug, PartialEq, Eq)]
 pub struct Options {
     /// Whether standard error says why a line is refused, also where it is no terminal.
     pub explains: bool,
     /// Whether events whose lines come together come to the disk together.
     pub batches: bool,
+    /// Whether a run that is done ends with status 1 where a line was refused.
+    pub is_strict: bool,
+    /// Whether the store has to be there.
+    pub has_to_exist: bool,
 }
 
-// The word in the place of the store's path, or the empty text where there is none.
-fn store_word(words: &[String]) -> &str {
-    match words {
-        [_, word, ..] => word.as_str(),
-        _ => "",
+// No option.
+fn no_options() -> Options
+    ensures { result ≡ no_options }
+{
+    Options {
+        explains: false,
+        batches: false,
+        is_strict: false,
+        has_to_exist: false,
     }
 }
 
-// Whether a word asks for explanations.
-fn is_explain(word: &str) -> bool
-    ensures { IsTrue result ↔ (word.now ≡ codes "--explain") }
+/// The option that a word is.
+pub fn switch_of(word: &str) -> Option<Switch>
+    ensures { result ≡ switch_of word.now }
 {
-    word == "--explain"
+    match word {
+        "--explain" => Some(Switch::Explain),
+        "--batch" => Some(Switch::Batch),
+        "--strict" => Some(Switch::Strict),
+        "--existing" => Some(Switch::Existing),
+        _ => None,
+    }
 }
 
-// Whether a word asks for batches.
-fn is_batch(word: &str) -> bool
-    ensures { IsTrue result ↔ (word.now ≡ codes "--batch") }
+// The option in the place of the store's path.
+fn first_switch(words: &[String]) -> Option<Switch>
+    ensures is { result ≡ first_switch (words_of words.now) }
+    ensures stands { IsSome result → 2 ≤ length words.now }
 {
-    word == "--batch"
+    match words {
+        [_, word, ..] => switch_of(word.as_str()),
+        _ => None,
+    }
+}
+
+impl Options {
+    // The same with one more.
+    fn with(self, switch: Switch) -> Options
+        ensures { result ≡ with_switch self switch }
+    {
+        let mut options = self;
+        match switch {
+            Switch::Explain => options.explains = true,
+            Switch::Batch => options.batches = true,
+            Switch::Strict => options.is_strict = true,
+            Switch::Existing => options.has_to_exist = true,
+        }
+        options
+    }
+}
+
+// Whether a word begins with `-`.
+fn is_hyphened(word: &str) -> bool
+    ensures { result ≡ starts_with_minus word.now }
+{
+    let bytes = word.as_bytes();
+    !bytes.is_empty() && bytes[0] == b'-'
+}
+
+// Whether the word in the place of the store's path begins with `-`.
+fn has_hyphen(words: &[String]) -> bool
+    ensures { result ≡ has_hyphen (words_of words.now) }
+{
+    match words {
+        [_, word, ..] => is_hyphened(word.as_str()),
+        _ => false,
+    }
+}
+
+// Takes away all words but the program's name, where another that begins with `-` stands in the place of the store's path.
+fn drop_unknown(words: &mut Vec<String>)
+    ensures { words_of words.new.items ≡ without_unknown (words_of words.old.items) }
+{
+    if has_hyphen(words) {
+        words.truncate(1);
+    }
 }
 
 /// Takes the options off the words of the command line, which begin with the program's name. Where another word that
 /// begins with `-` stands in the place of the store's path, all words but the program's name go: these are no arguments.
-pub fn take_options(words: &mut Vec<String>) -> Options {
-    let mut options = Options {
-        explains: false,
-        batches: false,
-    };
-    for _ in 0..words.len() {
-        let explains = is_explain(store_word(words));
-        let batches = is_batch(store_word(words));
-        if words.len() < 2 || !(explains || batches) {
-            break;
-        }
-        options.explains = options.explains || explains;
-        options.batches = options.batches || batches;
+pub fn take_options(words: &mut Vec<String>) -> Options
+    ensures options { result ≡ options_of (words_of words.old.items) }
+    ensures words { words_of words.new.items ≡ without_options (words_of words.old.items) }
+{
+    let mut options = no_options();
+    while let Some(switch) = first_switch(words) {
+        options = options.with(switch);
         words.remove(1);
     }
-    if store_word(words).starts_with('-') {
-        words.truncate(1);
-    }
+    drop_unknown(words);
     options
 }
 
 // Whether a plain run is asked for by its word.
-fn names_run(words: &[String]) -> bool {
+fn names_run(words: &[String]) -> bool
+    ensures { result ≡ names_run (words_of words.now) }
+{
     match words {
         [_, _, mode] => mode.as_str() == "run",
         _ => false,
     }
 }
 
-/// Puts the mode that `--batch` stands for after the words, where a store's path is among them, in place of `run`. After another
-/// mode it is a word too many.
-pub fn name_batch(alloc: Global, words: &mut Vec<String>) -> Result<(), AllocError> {
-    if words.len() < 2 {
-        return Ok(());
-    }
+// Takes the word `run` off the words, where it stands alone after the store's path.
+fn drop_run(words: &mut Vec<String>)
+    ensures { words_of words.new.items ≡ without_run (words_of words.old.items) }
+{
     if names_run(words) {
         words.truncate(2);
     }
+}
+
+/// Puts the mode that `--batch` stands for after the words, where a store's path is among them, in place of `run`. After
+/// `sessions` it asks for these in batches, and after another mode it is a word too many.
+pub fn name_batch(alloc: Global, words: &mut Vec<String>) -> Result<(), AllocError>
+    ensures { OnOk result (words_of words.new.items ≡ in_batches (words_of words.old.items)) }
+{
+    if words.len() < 2 {
+        return Ok(());
+    }
+    drop_run(words);
     let mode = String::from_str(alloc, "batch")?;
     Ok(words.push(mode)?)
 }

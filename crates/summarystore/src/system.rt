@@ -16,9 +16,10 @@ pub enum Kind {
     Socket,
 }
 
-/// What a file is opened for. `Make` makes it where there is none.
+/// What a file is opened for: to be read and written, to be made before that where there is none, or to be read alone.
 #[derive(Clone, Copy, Debug, PartialEq, Eq)]
 pub enum Access {
+    Write,
     Make,
     Read,
 }

@@ -3,7 +3,9 @@ ghost use Rattle.std.specs.Prelude.{◌≡◌, ◌⊎◌};
 ghost use Rattle.ss_outside.specs.Verdict.{Rose};
 ghost use Rattle.ss_program.specs.Sent.{appended};
 
+use crate::advice::advice;
 use crate::file_disk::FileDisk;
+use crate::notice::HELP;
 use crate::opening::Opened;
 use crate::reason::{Reason, Trouble};
 use crate::system::{Stream, System};
@@ -53,7 +55,30 @@ pub fn tell<R: Eprint>(rt: &R, number: u8, why: Option<io::Error>) -> u8
     number
 }
 
-/// The same after a run over a store, with what is wrong with its file. Where there is none, and none was to be made, this
+// Says how the program is used, where standard output doesn't show it, and what is wrong with its arguments.
+fn tell_advice<R: Eprint>(rt: &R, is_shown: bool, advice: &str) -> io::Result<()> {
+    if !is_shown && let Some(usage) = HELP.lines().next() {
+        eprintln!(rt; "{usage}")?;
+    }
+    eprintln!(rt; "summarystore: {advice}")
+}
+
+/// Says on standard error what is wrong with these words of the command line, which aren't known. Answers the status.
+pub fn tell_usage<R: Eprint + AllocGlobal>(
+    rt: &R,
+    is_shown: bool,
+    words: &[String],
+    number: u8,
+) -> u8
+    ensures { result ≡ number }
+{
+    if let Ok(advice) = advice(rt.alloc(), words) {
+        let _ = tell_advice(rt, is_shown, advice.as_str());
+    }
+    number
+}
+
+/// Says the same as `tell` after a run over a store, with what is wrong with its file. Where there is none, and none was to be made, this
 /// is said too.
 pub fn tell_run<R: Eprint, S: System>(
     rt: &R,

@@ -152,6 +152,27 @@ output,,,kind_of open streams ,standard output goes into it
 file,share,WouldBlock,kind_of open streams share ,another process uses it
 ";
 
+// The same where it has to be there: none is made.
+const EXISTING: &str = "\
+none,,,kind_of folder ,no such file
+none,folder,NotFound,kind_of folder ,no such folder
+file,,,kind_of write_there streams lock kind sync_all sync_folder len read len ,
+read-only,,,kind_of write_there open streams share kind sync_all len read len ,
+folder,,,kind_of ,is a folder
+file,write_there,NotFound,kind_of write_there ,no such file
+file,write_there,Other,kind_of write_there ,can't be opened
+file,lock,WouldBlock,kind_of write_there streams lock ,another process uses it
+output,,,kind_of write_there streams ,standard output goes into it
+";
+
+// The same of one that is only read.
+const EXISTING_LOOKS: &str = "\
+none,,,kind_of folder ,no such file
+none,folder,NotFound,kind_of folder ,no such folder
+file,,,kind_of open streams share kind sync_all len read len ,
+file,share,WouldBlock,kind_of open streams share ,another process uses it
+";
+
 fn opens_as(alloc: Global, line: &'static str, missing: Missing) -> Result<bool, AllocError> {
     let row = row_of(line);
     let mut disk = disk_over(alloc, row.found, row.failing, row.error, missing)?;
@@ -177,6 +198,13 @@ fn a_file_is_durable_before_it_is_read(rt: HostRuntime) -> Result<(), Fail> {
 #[test]
 fn a_look_makes_no_file(rt: HostRuntime) -> Result<(), Fail> {
     assert!(rt; all_open(rt.alloc(), LOOKS, Missing::ReadEmpty)?);
+    Ok(())
+}
+
+#[test]
+fn a_store_that_has_to_be_there_is_not_made(rt: HostRuntime) -> Result<(), Fail> {
+    assert!(rt; all_open(rt.alloc(), EXISTING, Missing::Fail)?);
+    assert!(rt; all_open(rt.alloc(), EXISTING_LOOKS, Missing::ReadFail)?);
     Ok(())
 }
 

@@ -1,0 +1,149 @@
+-- Worked rows of what the program does, by the words of the command line.
+use Rattle.std.proofs.Common.{◌≡◌, ℕ, Bool, true, false, List, [], ◌∷◌, Some, None, map, refl}
+use Rattle.std.specs.Prelude.{codes}
+use Rattle.ss_arguments.specs.declared.mode.Form.{Form}
+use Rattle.ss_arguments.specs.declared.mode.Form.TheVariants.{Lines, Sessions}
+use Rattle.summarystore.specs.Plan.{Asked, Planned, Prints, Runs, notice_of, path_of, planned, status_with}
+use Rattle.summarystore.specs.declared.notice.Notice.TheVariants.{Help, Version}
+use Rattle.summarystore.specs.declared.opening.Missing.{Missing}
+use Rattle.summarystore.specs.declared.opening.Missing.TheVariants.{Make, Fail, ReadEmpty, ReadFail}
+
+-- the words `p s`, and some behind them
+abbrev over_s : List (List ℕ) → List (List ℕ)
+over_s arguments = codes "p" ∷ codes "s" ∷ arguments
+
+-- a run over `s` that gets these words after it: nothing is asked for beside, or some of it
+abbrev runs : List (List ℕ) → Missing → Bool → Bool → Form → Planned
+runs arguments missing explains is_strict form = Runs (record {
+  words = over_s arguments;
+  path = codes "s";
+  missing = missing;
+  explains = explains;
+  is_strict = is_strict;
+  form = form;
+})
+
+-- a run over nothing, after the program's name
+abbrev runs_nothing : Missing → Bool → Bool → Planned
+runs_nothing missing explains is_strict = Runs (record {
+  words = codes "p" ∷ [];
+  path = [];
+  missing = missing;
+  explains = explains;
+  is_strict = is_strict;
+  form = Lines;
+})
+
+-- notices
+notice-each :
+    map notice_of
+    ((codes "p" ∷ codes "--help" ∷ []) ∷ (codes "p" ∷ codes "-h" ∷ []) ∷ (codes "p" ∷ codes "--version" ∷ []) ∷ (codes "p" ∷ codes "-V" ∷ []) ∷ [])
+    ≡ Some Help ∷ Some Help ∷ Some Version ∷ Some Version ∷ []
+notice-each = refl
+
+notice-none :
+    map notice_of
+    ([] ∷ (codes "--help" ∷ []) ∷ (codes "p" ∷ codes "--Help" ∷ []) ∷ (codes "p" ∷ codes "-v" ∷ [])
+    ∷ (codes "p" ∷ codes "--help" ∷ codes "run" ∷ []) ∷ [])
+    ≡ None ∷ None ∷ None ∷ None ∷ None ∷ []
+notice-none = refl
+
+planned-help : planned (codes "p" ∷ codes "--help" ∷ []) ≡ Prints Help
+planned-help = refl
+
+-- no option
+planned-path : planned (over_s []) ≡ runs [] Make false false Lines
+planned-path = refl
+
+planned-run : planned (over_s (codes "run" ∷ [])) ≡ runs (codes "run" ∷ []) Make false false Lines
+planned-run = refl
+
+planned-check : planned (over_s (codes "check" ∷ [])) ≡ runs (codes "check" ∷ []) ReadEmpty false false Lines
+planned-check = refl
+
+planned-sessions : planned (over_s (codes "sessions" ∷ [])) ≡ runs (codes "sessions" ∷ []) Make false false Sessions
+planned-sessions = refl
+
+planned-no_words : planned [] ≡ Runs (record { words = []; path = []; missing = Make; explains = false; is_strict = false; form = Lines })
+planned-no_words = refl
+
+planned-no_path : planned (codes "p" ∷ []) ≡ runs_nothing Make false false
+planned-no_path = refl
+
+-- one option, before the path
+planned-explain : planned (codes "p" ∷ codes "--explain" ∷ codes "s" ∷ []) ≡ runs [] Make true false Lines
+planned-explain = refl
+
+planned-batch : planned (codes "p" ∷ codes "--batch" ∷ codes "s" ∷ []) ≡ runs (codes "batch" ∷ []) Make false false Lines
+planned-batch = refl
+
+planned-strict : planned (codes "p" ∷ codes "--strict" ∷ codes "s" ∷ []) ≡ runs [] Make true true Lines
+planned-strict = refl
+
+planned-existing : planned (codes "p" ∷ codes "--existing" ∷ codes "s" ∷ []) ≡ runs [] Fail false false Lines
+planned-existing = refl
+
+planned-existing_check : planned (codes "p" ∷ codes "--existing" ∷ codes "s" ∷ codes "check" ∷ []) ≡ runs (codes "check" ∷ []) ReadFail false false Lines
+planned-existing_check = refl
+
+-- all of them, in two orders, and one twice
+planned-all :
+    planned (codes "p" ∷ codes "--explain" ∷ codes "--batch" ∷ codes "--strict" ∷ codes "--existing" ∷ codes "s" ∷ [])
+    ≡ runs (codes "batch" ∷ []) Fail true true Lines
+planned-all = refl
+
+planned-all_but_one :
+    planned (codes "p" ∷ codes "--existing" ∷ codes "--batch" ∷ codes "--batch" ∷ codes "--explain" ∷ codes "s" ∷ codes "run" ∷ [])
+    ≡ runs (codes "batch" ∷ []) Fail true false Lines
+planned-all_but_one = refl
+
+-- `--batch` stands for the mode in place of `run`, and after `sessions`; after others it is a word too many
+planned-batch_run : planned (codes "p" ∷ codes "--batch" ∷ codes "s" ∷ codes "run" ∷ []) ≡ runs (codes "batch" ∷ []) Make false false Lines
+planned-batch_run = refl
+
+planned-batch_sessions :
+    planned (codes "p" ∷ codes "--batch" ∷ codes "s" ∷ codes "sessions" ∷ [])
+    ≡ runs (codes "sessions" ∷ codes "batch" ∷ []) Make false false Sessions
+planned-batch_sessions = refl
+
+planned-batch_check :
+    planned (codes "p" ∷ codes "--batch" ∷ codes "s" ∷ codes "check" ∷ []) ≡ runs (codes "check" ∷ codes "batch" ∷ []) Make false false Lines
+planned-batch_check = refl
+
+planned-batch_run_and_more :
+    planned (codes "p" ∷ codes "--batch" ∷ codes "s" ∷ codes "run" ∷ codes "x" ∷ [])
+    ≡ runs (codes "run" ∷ codes "x" ∷ codes "batch" ∷ []) Make false false Lines
+planned-batch_run_and_more = refl
+
+planned-batch_without_path : planned (codes "p" ∷ codes "--batch" ∷ []) ≡ runs_nothing Make false false
+planned-batch_without_path = refl
+
+-- an option after the path is a word like others, and so is one that isn't known; before it such a word takes all away
+planned-option_after : planned (over_s (codes "--batch" ∷ [])) ≡ runs (codes "--batch" ∷ []) Make false false Lines
+planned-option_after = refl
+
+planned-unknown : planned (codes "p" ∷ codes "-x" ∷ codes "s" ∷ []) ≡ runs_nothing Make false false
+planned-unknown = refl
+
+planned-unknown_after_options :
+    planned (codes "p" ∷ codes "--strict" ∷ codes "--existing" ∷ codes "--help" ∷ codes "s" ∷ []) ≡ runs_nothing Fail true true
+planned-unknown_after_options = refl
+
+planned-capitals : planned (codes "p" ∷ codes "--Batch" ∷ codes "s" ∷ []) ≡ runs_nothing Make false false
+planned-capitals = refl
+
+path_of-none : path_of (codes "p" ∷ []) ≡ []
+path_of-none = refl
+
+-- a refused line shows in the status of a run that is done, where that is asked for
+status-refused : status_with true true 0 ≡ 1
+status-refused = refl
+
+status-none_refused : status_with true false 0 ≡ 0
+status-none_refused = refl
+
+status-not_asked : status_with false true 0 ≡ 0
+status-not_asked = refl
+
+status-others : map (status_with true true) (1 ∷ 2 ∷ 3 ∷ 9 ∷ []) ≡ 1 ∷ 2 ∷ 3 ∷ 9 ∷ []
+status-others = refl
