@@ -1,0 +1,211 @@
+"""What each call sends, and what it makes of the replies. Both faces of a store are built on this."""
+
+from __future__ import annotations
+
+from collections.abc import Callable, Sequence
+from dataclasses import dataclass
+from typing import Generic, TypeVar
+
+from . import certificate, wire
+from .certificate import Certificate
+from .codec import Codec, Translator, streams_of
+from .errors import refusal_of
+from .interval import Interval, Presence, mean_of
+from .records import Last, Reading, Row, Stored, Stream, Window
+from .series import Series
+from .wire import Reply
+
+T = TypeVar("T")
+KINDS = ("count", "sum", "min", "max")
+
+
+@dataclass(frozen=True)
+class Call(Generic[T]):
+    """Lines, and what their replies mean."""
+
+    lines: Sequence[str]
+    result: Callable[[Sequence[Reply]], T]
+
+    def answer(self, replies: Sequence[Reply]) -> T:
+        """What the replies mean. Raises the first refusal among them."""
+        for line, reply in zip(self.lines, replies):
+            if reply.head.startswith("refused "):
+                raise refusal_of(reply.head[8:], line)
+        return self.result(replies)
+
+
+def _stored(replies: Sequence[Reply]) -> Stored:
+    return wire.stored_of(replies[0])
+
+
+def create(codec: Codec, target: str | Sequence[object], within: int | None) -> Call[Stored]:
+    """Makes a stream."""
+    return Call([wire.create(codec.short, target, within)], _stored)
+
+
+def append(codec: Codec, time: object, value: object) -> Call[Stored]:
+    """Takes a value."""
+    return Call([wire.append(codec.short, codec.time(time), codec.value(value))], _stored)
+
+
+def landmark_open(codec: Codec, time: int) -> Call[Stored]:
+    """Opens a landmark."""
+    return Call([wire.landmark_open(codec.short, time)], _stored)
+
+
+def landmark_close(codec: Codec, time: int) -> Call[Stored]:
+    """Closes a landmark."""
+    return Call([wire.landmark_close(codec.short, time)], _stored)
+
+
+def drop(codec: Codec) -> Call[Stored]:
+    """Removes a stream."""
+    return Call([wire.drop(codec.short)], _stored)
+
+
+def last_numbers(codec: Codec) -> Call[tuple[int, ...]]:
+    """The last time, and of the newest value the time and its ends, as whole numbers as far as there
+    are some."""
+    def result(replies: Sequence[Reply]) -> tuple[int, ...]:
+        rest = wire.after(replies[0].head, "last")
+        if rest == "none":
+            return ()
+        return tuple(wire.numbers(rest, 4 if " " in rest else 1))
+    return Call([wire.last(codec.short)], result)
+
+
+def last(codec: Codec) -> Call[Last | None]:
+    """The last time and the newest value."""
+    inner = last_numbers(codec)
+
+    def result(replies: Sequence[Reply]) -> Last | None:
+        found = inner.result(replies)
+        if not found:
+            return None
+        if len(found) == 1:
+            return Last(codec.time_back(found[0]), None, None)
+        value = codec.interval_back("max", Interval(found[2], found[3]))
+        return Last(codec.time_back(found[0]), codec.time_back(found[1]), value)
+    return Call(inner.lines, result)
+
+
+def query(codec: Codec, kind: str, first: object, last_time: object) -> Call[Interval]:
+    """The interval of one kind, or of the mean."""
+    if kind == "mean":
+        return mean(codec, first, last_time)
+    line = wire.query(codec.short, wire.name_word(kind), codec.begin(first), codec.end(last_time))
+    return Call([line], lambda replies: _interval(codec, kind, replies[0]))
+
+
+def _interval(codec: Codec, kind: str, reply: Reply) -> Interval:
+    return codec.interval_back(kind, wire.interval_of(wire.after(reply.head, kind)))
+
+
+def mean(codec: Codec, first: object, last_time: object) -> Call[Interval]:
+    """The mean, from the count, the sum, the least and the greatest."""
+    here = codec.begin(first), codec.end(last_time)
+    lines = [wire.query(codec.short, kind, *here) for kind in KINDS]
+
+    def result(replies: Sequence[Reply]) -> Interval:
+        count, total, least, greatest = (_interval(codec, kind, reply)
+                                         for kind, reply in zip(KINDS, replies))
+        return mean_of(total, count, least, greatest)
+    return Call(lines, result)
+
+
+def has(codec: Codec, value: object, first: object, last_time: object) -> Call[Presence]:
+    """Whether a value is there."""
+    line = wire.has(codec.short, codec.value(value), codec.begin(first), codec.end(last_time))
+    return Call([line], lambda replies: wire.presence_of(replies[0]))
+
+
+def series(name: str, codec: Codec, kind: str, first: object, last_time: object, step: object
+           ) -> Call[Series]:
+    """The rows of one kind, or of the mean."""
+    kinds = KINDS if kind == "mean" else (wire.name_word(kind),)
+    here = codec.begin(first), codec.end(last_time), codec.step(step)
+    lines = [wire.series(codec.short, each, *here) for each in kinds]
+
+    def result(replies: Sequence[Reply]) -> Series:
+        columns = [[_row(codec, each, row) for row in wire.rows_of(reply, "series")]
+                   for each, reply in zip(kinds, replies)]
+        if kind == "mean":
+            rows = [(c[0], mean_of(s[1], c[1], least[1], greatest[1]))
+                    for c, s, least, greatest in zip(*columns)]
+        else:
+            rows = columns[0]
+        shown = [Row(codec.time_back(start), interval) for start, interval in rows]
+        unit = codec.description.unit if codec.description and kind != "count" else None
+        return Series(name, kind, unit, shown)
+    return Call(lines, result)
+
+
+def _row(codec: Codec, kind: str, row: str) -> tuple[int, Interval]:
+    start, _, text = row.partition(" ")
+    return wire.numbers(start, 1)[0], codec.interval_back(kind, wire.interval_of(text))
+
+
+def values(codec: Codec, first: object, last_time: object) -> Call[Sequence[Reading]]:
+    """The values of landmarks."""
+    def result(replies: Sequence[Reply]) -> Sequence[Reading]:
+        rows = [wire.numbers(row, 2) for row in wire.rows_of(replies[0], "values")]
+        return [Reading(codec.time_back(time), codec.value_back(value)) for time, value in rows]
+    return Call([wire.values(codec.short, codec.begin(first), codec.end(last_time))], result)
+
+
+def listed(translator: Translator) -> Call[Sequence[Stream]]:
+    """All streams."""
+    def result(replies: Sequence[Reply]) -> Sequence[Stream]:
+        rows = streams_of(wire.rows_of(replies[0], "list"))
+        return [Stream(translator.name_of(row), *row[1:], row.name) for row in rows]
+    return Call([wire.LIST], result)
+
+
+def cursor_open(codec: Codec) -> Call[int]:
+    """Opens the cursor of a session."""
+    return Call([wire.cursor_open(codec.short)],
+                lambda replies: wire.numbers(wire.after(replies[0].head, "cursor"), 1)[0])
+
+
+def cursor_next(codec: Codec, count: int) -> Call[Sequence[Window]]:
+    """The next windows of a cursor."""
+    def result(replies: Sequence[Reply]) -> Sequence[Window]:
+        rows = [wire.numbers(row, 8) for row in wire.rows_of(replies[0], "rows")]
+        return [_window(codec, row) for row in rows]
+    return Call([wire.cursor_next(count)], result)
+
+
+def _window(codec: Codec, row: Sequence[int]) -> Window:
+    return Window(row[0], row[1], row[2], codec.value_back(row[3]), codec.value_back(row[4]),
+                  codec.value_back(row[5]), codec.time_back(row[6]), codec.time_back(row[7]))
+
+
+def cursor_close() -> Call[None]:
+    """Ends the cursor of a session."""
+    return Call([wire.CURSOR_CLOSE], lambda replies: None)
+
+
+def certify(codec: Codec, kind: str, end: str, first: object, last_time: object,
+            landmarks: Sequence[tuple[object, object]]) -> Call[Certificate]:
+    """A certificate, with all that its check needs."""
+    begin, finish = codec.begin(first), codec.end(last_time)
+    marks = [(codec.time(start), wire.LAST_TIME if stop is None else codec.time(stop))
+             for start, stop in landmarks]
+    parts = certificate.parts_within(marks, begin, finish)
+    lines = [wire.certify(codec.short, wire.name_word(kind), wire.name_word(end), begin, finish),
+             wire.LIST, wire.windows(codec.short), wire.query(codec.short, kind, begin, finish),
+             *(wire.query(codec.short, kind, *part) for part in parts)]
+
+    def result(replies: Sequence[Reply]) -> Certificate:
+        answer, base, cuts = certificate.cuts_of(replies[0])
+        stream = next(row for row in streams_of(wire.rows_of(replies[1], "list"))
+                      if row.name == codec.short)
+        windows = tuple(map(certificate.window_of, wire.rows_of(replies[2], "windows")))
+        answered = wire.numbers(wire.after(replies[3].head, kind), 2)[end == "hi"]
+        known = [wire.numbers(wire.after(reply.head, kind), 2) for reply in replies[4:]]
+        if any(lo != hi for lo, hi in known):
+            raise certificate.CertificateError("the values of a landmark aren't known exactly")
+        return Certificate(kind, end, begin, finish, answer, base, cuts, answered, windows,
+                           tuple(marks), sum(lo for lo, _ in known), stream.landmarks)
+    return Call(lines, result)
+

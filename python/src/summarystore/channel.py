@@ -1,0 +1,201 @@
+"""The process of a store, shared by threads: who waits moves the bytes for all who wait."""
+
+from __future__ import annotations
+
+import os
+import threading
+import warnings
+from collections.abc import Iterator, Sequence
+from contextlib import contextmanager
+from typing import TypeVar
+
+from . import calls
+from . import program as programs
+from .calls import Call
+from .codec import Codec, Plain, Translator
+from .connection import RENEW_AT, Connection, connect
+from .errors import CursorBusyError, ReopenedWarning, StoreClosedError
+from .pipeline import Commands, Request
+from .records import Window
+from .sessions import Sessions
+from .wire import MOST_ROWS
+
+T = TypeVar("T")
+
+
+class Channel:
+    """A store's process, its sessions, and its cursors."""
+
+    def __init__(self, path: str | os.PathLike[str], *, program: str | os.PathLike[str] | None = None,
+                 translator: Translator | None = None, renew_at: int = RENEW_AT) -> None:
+        self.path = os.fspath(path)
+        self._program = programs.find_program(program)
+        self._translator: Translator = Plain() if translator is None else translator
+        self._renew_at = renew_at
+        self._sessions = Sessions()
+        self._changed = threading.Condition()
+        self._pumping = False
+        self._closed = False
+        self._owner = os.getpid()
+        self._connection: Connection | None = self._connect()
+
+    def _connect(self) -> Connection:
+        lists = self._translator.lists
+        connection, rows = connect(self._program, programs.store_word(self.path), lists)
+        if lists:
+            self._translator.learn(rows)
+        return connection
+
+    def _up(self) -> Connection:
+        """The process that is up. One that has ended is started again, once, and that is said."""
+        if self._closed or self._owner != os.getpid():
+            raise StoreClosedError(f"{self.path} is closed, or was opened by another process")
+        if self._connection is None:
+            self._sessions.forget_cursors()
+            self._connection = self._connect()
+            warnings.warn(ReopenedWarning(f"{self.path}: the program had ended; opened again"),
+                          stacklevel=6)
+        elif self._connection.pipeline.sent > self._renew_at and self._connection.pipeline.idle \
+                and not self._sessions.cursors:
+            self._connection.close()
+            self._connection = self._connect()
+        return self._connection
+
+    @contextmanager
+    def _session(self) -> Iterator[int]:
+        """A session for a call. Where all are taken it waits."""
+        with self._changed:
+            while (session := self._sessions.take()) is None:
+                self._changed.wait()
+        try:
+            yield session
+        finally:
+            with self._changed:
+                self._sessions.give(session)
+                self._changed.notify_all()
+
+    def _submit(self, request: Request, only: Connection | None = None) -> Connection:
+        """Sends a request: where a process is named, to that one or to none."""
+        with self._changed:
+            if only is not None and only is not self._connection:
+                request.finish(request.interrupted(only.failure()))
+                return only
+            connection = self._up()
+            try:
+                connection.add(request)
+            except BaseException:
+                self._abandon(connection)
+                raise
+            return connection
+
+    def _wait(self, request: Request) -> None:
+        """Waits for the replies. One of those who wait moves the bytes for all."""
+        with self._changed:
+            while not request.done:
+                if self._pumping:
+                    self._changed.wait()
+                    continue
+                self._pumping = True
+                try:
+                    self._step()
+                finally:
+                    self._pumping = False
+                    self._changed.notify_all()
+
+    def _step(self) -> None:
+        """Writes and reads what can be, after waiting for that. The lock is free meanwhile."""
+        connection = self._connection
+        assert connection is not None
+        self._changed.release()
+        try:
+            connection.poll()
+        finally:
+            self._changed.acquire()
+        try:
+            connection.flush()
+            more = connection.fill()
+        except BaseException:
+            self._abandon(connection)
+            raise
+        if not more:
+            self._connection = None
+            connection.end()
+
+    def _abandon(self, connection: Connection) -> None:
+        """Gives a process up: what it has been told, or what it says, isn't known any more."""
+        self._connection = None
+        connection.abandon()
+
+    def send(self, lines: Sequence[str]) -> Commands:
+        """Sends commands of the program as they are, and waits for their replies."""
+        with self._session() as session:
+            request = Commands(session, lines)
+            self._submit(request)
+            self._wait(request)
+            return request
+
+    def _do(self, call: Call[T]) -> T:
+        request = self.send(call.lines)
+        if request.error is not None:
+            raise request.error
+        return call.answer(request.replies)
+
+    def _do_in(self, call: Call[T], session: int, only: Connection) -> T:
+        """A call of a cursor, in its session and with its process."""
+        request = Commands(session, call.lines)
+        self._submit(request, only)
+        self._wait(request)
+        if request.error is not None:
+            raise request.error
+        return call.answer(request.replies)
+
+    def close(self) -> None:
+        """Lets the program end in order, after all that is under way. Twice does no harm."""
+        with self._changed:
+            if self._closed or self._owner != os.getpid():
+                return
+            while self._connection is not None and not self._connection.pipeline.idle:
+                if self._pumping:
+                    self._changed.wait()
+                else:
+                    self._step()
+            self._closed = True
+            connection, self._connection = self._connection, None
+            if connection is not None:
+                connection.close()
+
+    # ---- cursors ------------------------------------------------------------------------
+
+    def open_cursor(self, codec: Codec) -> tuple[int, Connection]:
+        """A session with a cursor of a stream, and the process that it belongs to."""
+        owner = threading.get_ident()
+        with self._changed:
+            while (session := self._sessions.take_cursor(owner)) is None:
+                if self._sessions.holds_all(owner):
+                    raise CursorBusyError("BUSY", "windows", "this thread has eight iterators open")
+                self._changed.wait()
+            connection = self._up()
+        try:
+            self._do_in(calls.cursor_open(codec), session, connection)
+        except BaseException:
+            self._give_cursor(session, connection)
+            raise
+        return session, connection
+
+    def read_cursor(self, codec: Codec, session: int, connection: Connection) -> Sequence[Window]:
+        """The next windows of a cursor."""
+        return self._do_in(calls.cursor_next(codec, MOST_ROWS), session, connection)
+
+    def close_cursor(self, session: int, connection: Connection) -> None:
+        """Ends a cursor, if its process is up."""
+        if self._connection is connection and self._owner == os.getpid():
+            try:
+                self._do_in(calls.cursor_close(), session, connection)
+            finally:
+                self._give_cursor(session, connection)
+
+    def _give_cursor(self, session: int, connection: Connection) -> None:
+        with self._changed:
+            if self._connection is connection:
+                self._sessions.give_cursor(session)
+            self._changed.notify_all()

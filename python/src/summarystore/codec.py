@@ -1,0 +1,170 @@
+"""How what a person gives becomes the whole numbers of a stream, and back: the interface, and the
+plain form of it, which gives and takes whole numbers as they are."""
+
+from __future__ import annotations
+
+from collections.abc import Iterable, Sequence
+from typing import Protocol, cast
+
+from .decimals import Number
+from .description import Description
+from .errors import DescriptionError
+from .interval import Interval
+from .records import Time
+from .wire import LAST_TIME, StreamRow, stream_of, whole
+
+
+class Codec(Protocol):
+    """How one stream's times and values are read and shown."""
+
+    short: str
+    description: Description | None
+
+    def time(self, given: object) -> int:
+        """A time of the stream."""
+
+    def begin(self, given: object) -> int:
+        """The first time of a range. None is the first of all."""
+
+    def end(self, given: object) -> int:
+        """The last time of a range. None is the last of all."""
+
+    def step(self, given: object) -> int:
+        """A span of time."""
+
+    def value(self, given: object) -> int:
+        """A value."""
+
+    def rows(self, given: Sequence[tuple[object, object]]) -> Sequence[tuple[int, int]]:
+        """Times and values together."""
+
+    def now(self) -> int:
+        """The present time."""
+
+    def time_back(self, number: int) -> Time:
+        """A time as it is shown."""
+
+    def value_back(self, number: int) -> Number:
+        """A value, or a sum of values, as it is shown."""
+
+    def interval_back(self, kind: str, interval: Interval) -> Interval:
+        """An answer as it is shown."""
+
+
+class Translator(Protocol):
+    """The streams of a store by the names that people use."""
+
+    lists: bool
+    """Whether it has to be told which streams stand when a store is opened."""
+
+    def learn(self, rows: Sequence[str]) -> None:
+        """Takes the rows of `list`."""
+
+    def codec(self, name: str) -> Codec:
+        """That of the stream with this name, as far as it is known."""
+
+    def declare(self, name: str, description: Description | None) -> Codec:
+        """Keeps how a stream is to be read, before it is made."""
+
+    def made(self, name: str, codec: Codec) -> None:
+        """The stream was made."""
+
+    def removed(self, name: str) -> None:
+        """The stream was dropped, or it wasn't made."""
+
+    def name_of(self, row: StreamRow) -> str:
+        """The name that people use for a stream of `list`."""
+
+
+class PlainCodec:
+    """Whole numbers, as the program has them."""
+
+    description: Description | None = None
+
+    def __init__(self, short: str) -> None:
+        self.short = short
+
+    def time(self, given: object) -> int:
+        """A whole number."""
+        return whole(given)
+
+    def begin(self, given: object) -> int:
+        """A whole number, or 0."""
+        return 0 if given is None else whole(given)
+
+    def end(self, given: object) -> int:
+        """A whole number, or 2^62."""
+        return LAST_TIME if given is None else whole(given)
+
+    def step(self, given: object) -> int:
+        """A whole number."""
+        return whole(given)
+
+    def value(self, given: object) -> int:
+        """A whole number."""
+        return whole(given)
+
+    def rows(self, given: Sequence[tuple[object, object]]) -> Sequence[tuple[int, int]]:
+        """Whole numbers."""
+        if {type(number) for row in given for number in row} - {int}:
+            return [(whole(time), whole(value)) for time, value in given]
+        return cast("Sequence[tuple[int, int]]", given)
+
+    def now(self) -> int:
+        """Not known: what the times count isn't told."""
+        raise DescriptionError(f"{self.short} has no description, so `now` isn't a time of it")
+
+    def time_back(self, number: int) -> Time:
+        """The number."""
+        return number
+
+    def value_back(self, number: int) -> Number:
+        """The number."""
+        return number
+
+    def interval_back(self, kind: str, interval: Interval) -> Interval:
+        """The interval."""
+        return interval
+
+
+class Plain:
+    """Names as the program has them."""
+
+    lists = False
+
+    def learn(self, rows: Sequence[str]) -> None:
+        """Needs nothing."""
+
+    def codec(self, name: str) -> Codec:
+        """Whole numbers."""
+        return PlainCodec(name)
+
+    def declare(self, name: str, description: Description | None) -> Codec:
+        """Takes no description."""
+        if description is not None:
+            raise DescriptionError("a store of whole numbers keeps no descriptions: summarystore.open does")
+        return PlainCodec(name)
+
+    def made(self, name: str, codec: Codec) -> None:
+        """Needs nothing."""
+
+    def removed(self, name: str) -> None:
+        """Needs nothing."""
+
+    def name_of(self, row: StreamRow) -> str:
+        """The name."""
+        return row.name
+
+
+def pairs(rows: object) -> Iterable[tuple[object, object]]:
+    """Rows of times and values: pairs, or what has `items`, as a dict or a pandas Series."""
+    items = getattr(rows, "items", None)
+    found = items() if callable(items) else rows
+    if not isinstance(found, Iterable):
+        raise TypeError(f"{rows!r} isn't rows of a time and a value")
+    return found
+
+
+def streams_of(rows: Sequence[str]) -> list[StreamRow]:
+    """The rows of `list`."""
+    return [stream_of(row) for row in rows]

@@ -1,0 +1,106 @@
+"""One process and its pipeline: what both faces of a store do with them."""
+
+from __future__ import annotations
+
+import select
+from collections.abc import Sequence
+
+from .errors import ProcessEndedError, ProtocolError, ending_of
+from .pipeline import Commands, Pipeline, Request
+from .program import Process
+from .wire import CURSOR_CLOSE, LIST
+
+# A process takes at most 2^36 bytes of input. Long before that it is replaced, where nothing is open.
+RENEW_AT = 1 << 35
+
+
+class Connection:
+    """A process that is up, and the requests that are open with it."""
+
+    def __init__(self, program: str, path: str) -> None:
+        self.process = Process(program, path)
+        self.pipeline = Pipeline()
+        self._status = 0
+        self._text = ""
+        self._poll = select.poll()
+        self._poll.register(self.process.output, select.POLLIN)
+        self._poll.register(self.process.input, 0)
+
+    def add(self, request: Request) -> None:
+        """Queues a request, and writes what the pipe takes."""
+        self.pipeline.add(request)
+        self.flush()
+
+    def flush(self) -> None:
+        """Writes what the pipe takes."""
+        pipeline = self.pipeline
+        while pipeline.unwritten and self.process.write(pipeline.next_write()):
+            pipeline.wrote()
+
+    def poll(self) -> None:
+        """Waits until the program has said something, or takes more."""
+        self._poll.modify(self.process.input, select.POLLOUT if self.pipeline.unwritten else 0)
+        self._poll.poll()
+
+    def fill(self) -> bool:
+        """Takes what has come. False where the program has ended, or what came is no reply."""
+        while True:
+            data = self.process.read()
+            if data is None:
+                return True
+            if data == b"":
+                return False
+            self.pipeline.received(data)
+            if len(data) < 4096:
+                return True
+
+    def end(self) -> int:
+        """The process has ended, or is to end now: tells the open requests, and gives the status."""
+        self._status, self._text = self.process.ended(self.pipeline.said.decode("utf-8", "replace"))
+        self.pipeline.ended(self.failure)
+        return self._status
+
+    def failure(self) -> ProcessEndedError:
+        """The exception for how the process ended."""
+        return ending_of(self._status, self._text)
+
+    def abandon(self) -> None:
+        """Ends the process at once, since it can't be told any more what it says."""
+        self.process.kill()
+        self.end()
+
+    def close(self) -> None:
+        """Lets the process end in order. Nothing may be open. Raises where it doesn't end with 0."""
+        self._poll.unregister(self.process.input)
+        self.process.end_input()
+        more = True
+        while more:
+            self._poll.poll()
+            more = self.fill()
+        if self.end() != 0:
+            raise self.failure()
+
+
+def connect(program: str, path: str, lists: bool) -> tuple[Connection, Sequence[str]]:
+    """Starts a process and waits until the store is open. Gives the rows of `list`, if asked for."""
+    connection = Connection(program, path)
+    request = Commands(0, [LIST if lists else CURSOR_CLOSE])
+    try:
+        connection.add(request)
+        while not request.done:
+            connection.poll()
+            connection.flush()
+            if not connection.fill():
+                connection.end()
+    except BaseException:
+        connection.abandon()
+        raise
+    if request.error is not None:
+        if isinstance(request.error, ProcessEndedError):
+            request.error.unknown = request.error.not_stored = ()    # nothing of anybody's
+        raise request.error
+    head, rows = request.replies[0]
+    if head.partition(" ")[0] != "list" if lists else head != "refused NO_CURSOR":
+        connection.abandon()
+        raise ProtocolError(f"not the program's mode `sessions`: {head[:200]}")
+    return connection, rows

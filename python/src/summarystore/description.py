@@ -1,0 +1,61 @@
+"""How the whole numbers of a stream are read: its scale, its times, and what belongs to it."""
+
+from __future__ import annotations
+
+import datetime
+from collections.abc import Mapping
+from decimal import ROUND_CEILING, ROUND_FLOOR, ROUND_HALF_EVEN, ROUND_HALF_UP
+from typing import NamedTuple
+
+from .decimals import Number, exact
+from .errors import DescriptionError
+
+NANOSECONDS = {"ns": 1, "us": 10**3, "ms": 10**6, "s": 10**9, "minute": 60 * 10**9,
+               "hour": 3600 * 10**9, "day": 86400 * 10**9}
+"""How long one step of each resolution is."""
+
+ROUNDINGS = {"half-even": ROUND_HALF_EVEN, "half-up": ROUND_HALF_UP, "floor": ROUND_FLOOR,
+             "ceiling": ROUND_CEILING}
+EPOCH = datetime.date(1970, 1, 1)
+
+
+class Description(NamedTuple):
+    """How a stream is read. A value is a whole number times `scale`; a time counts from `since`."""
+
+    scale: Number = 1
+    time: str = "s"
+    since: datetime.date = EPOCH
+    unit: str | None = None
+    labels: Mapping[str, str] = {}
+    rounding: str | None = None
+
+
+def description_of(*, scale: object | None = None, time: str | None = None,
+                   since: datetime.date | str | None = None, unit: str | None = None,
+                   labels: Mapping[str, str] | None = None, rounding: str | None = None
+                   ) -> Description | None:
+    """A description of what was given, or None where nothing was."""
+    given = (scale, time, since, unit, labels, rounding)
+    if all(word is None for word in given):
+        return None
+    found = 1 if scale is None else exact(scale)
+    if found <= 0:
+        raise DescriptionError(f"a scale is more than 0: {scale}")
+    if time is not None and time not in NANOSECONDS:
+        raise DescriptionError(f"no resolution of times: {time}; there are {', '.join(NANOSECONDS)}")
+    if rounding is not None and rounding not in ROUNDINGS:
+        raise DescriptionError(f"no rounding: {rounding}; there are {', '.join(ROUNDINGS)}")
+    return Description(found, time or "s", _day(since), unit, dict(labels or {}), rounding)
+
+
+def _day(since: datetime.date | str | None) -> datetime.date:
+    if since is None:
+        return EPOCH
+    if isinstance(since, str):
+        try:
+            since = datetime.date.fromisoformat(since)
+        except ValueError:
+            raise DescriptionError(f"a day is written as 1958-01-01: {since}") from None
+    if isinstance(since, datetime.datetime):
+        raise DescriptionError(f"times count from a day, and not from {since}")
+    return since

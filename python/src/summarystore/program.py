@@ -1,0 +1,108 @@
+"""The program as a process: where it is, how it is started, and how it ended."""
+
+from __future__ import annotations
+
+import os
+import shutil
+import subprocess
+from pathlib import Path
+
+from .errors import ProgramMissingError, ProtocolError, ending_of
+from .records import Soundness
+from .wire import soundness_of
+
+VARIABLE = "SUMMARYSTORE"
+CHUNK = 1 << 16
+
+
+def find_program(program: str | os.PathLike[str] | None = None) -> str:
+    """The path of the program: the one given, that of the variable SUMMARYSTORE, the one that this
+    checkout has built, or the one on PATH."""
+    given = os.fspath(program) if program is not None else os.environ.get(VARIABLE)
+    if given:
+        found = shutil.which(given)
+        if found is None:
+            raise ProgramMissingError(f"no program at {given}")
+        return found
+    here = Path(__file__).resolve()
+    for above in here.parents[2:4]:
+        built = above / "crates/summarystore/out/summarystore"
+        if os.access(built, os.X_OK):
+            return str(built)
+    found = shutil.which("summarystore")
+    if found is None:
+        raise ProgramMissingError(f"no program `summarystore` on PATH: set {VARIABLE} to its path")
+    return found
+
+
+def store_word(path: str | os.PathLike[str]) -> str:
+    """The path of a store as an argument: one that begins with `-` stands in this folder."""
+    word = os.fspath(path)
+    return f"./{word}" if word.startswith("-") else word
+
+
+class Process:
+    """One run of the program in the mode `sessions`. Its pipes don't block."""
+
+    def __init__(self, program: str, path: str) -> None:
+        # A process group of its own: Ctrl-C at a terminal is for Python, which then ends it in order.
+        self._child = subprocess.Popen([program, "--batch", path, "sessions"], stdin=subprocess.PIPE,
+                                       stdout=subprocess.PIPE, stderr=subprocess.PIPE, bufsize=0,
+                                       start_new_session=True)
+        assert self._child.stdin and self._child.stdout and self._child.stderr
+        self._stdin, self._stdout, self._stderr = (self._child.stdin, self._child.stdout,
+                                                   self._child.stderr)
+        self.input, self.output = self._stdin.fileno(), self._stdout.fileno()
+        os.set_blocking(self.input, False)
+        os.set_blocking(self.output, False)
+
+    @property
+    def pid(self) -> int:
+        """The number of the process."""
+        return self._child.pid
+
+    def write(self, data: bytes) -> bool:
+        """Writes all of a piece, or nothing where the pipe has no room or no reader."""
+        try:
+            written = os.write(self.input, data)
+        except (BlockingIOError, BrokenPipeError):
+            return False
+        if written != len(data):
+            raise ProtocolError(f"a pipe took {written} of {len(data)} bytes")
+        return True
+
+    def read(self) -> bytes | None:
+        """What has come, None where nothing has, and b"" at the end."""
+        try:
+            return os.read(self.output, CHUNK)
+        except BlockingIOError:
+            return None
+
+    def end_input(self) -> None:
+        """Lets the program end when it has done all lines."""
+        self._stdin.close()
+
+    def kill(self) -> None:
+        """Ends the program at once."""
+        self._child.kill()
+
+    def ended(self, said: str) -> tuple[int, str]:
+        """Waits for the end: the status, and what was said on standard error, or else before."""
+        self._stdin.close()
+        told = self._stderr.read().decode("utf-8", "replace").strip()
+        status = self._child.wait()
+        self._stdout.close()
+        self._stderr.close()
+        return status, told or said.strip()
+
+
+def check(path: str | os.PathLike[str], program: str | os.PathLike[str] | None = None) -> Soundness:
+    """Looks a store over, as `summarystore STORE check` does. It must not be open elsewhere.
+
+    Raises DamagedStoreError where it isn't sound, and StoreFileError where it can't be read.
+    """
+    done = subprocess.run([find_program(program), store_word(path), "check"], stdin=subprocess.DEVNULL,
+                          capture_output=True, text=True, check=False)
+    if done.returncode != 0:
+        raise ending_of(done.returncode, (done.stderr.strip() or done.stdout.strip()))
+    return soundness_of(done.stdout)

@@ -1,0 +1,79 @@
+"""What calls answer: small records of plain fields."""
+
+from __future__ import annotations
+
+import datetime
+from typing import NamedTuple, Union
+
+from .decimals import Number
+from .interval import Interval
+
+Time = Union[int, datetime.datetime]
+"""A time: of a described stream a datetime where one can say it, and otherwise a whole number."""
+
+
+class Stored(NamedTuple):
+    """What stands in a stream after an event was stored."""
+
+    values: int
+    windows: int
+
+
+class Window(NamedTuple):
+    """One window: values that the store keeps together, by what it knows of them."""
+
+    first: int
+    last: int
+    count: int
+    sum: Number
+    least: Number
+    greatest: Number
+    start: Time
+    end: Time
+
+
+class Stream(NamedTuple):
+    """One stream of a store."""
+
+    name: str
+    target: str
+    within: int | None
+    values: int
+    windows: int
+    landmarks: int
+    landmark_values: int
+    short_name: str
+
+
+class Last(NamedTuple):
+    """The last time that a stream took, and the time and value of its newest value.
+
+    `newest` and `value` are None where it took no value: then a landmark made the last time.
+    """
+
+    time: Time
+    newest: Time | None
+    value: Interval | None
+
+
+class Reading(NamedTuple):
+    """A value that is kept exactly, in a landmark."""
+
+    time: Time
+    value: Number
+
+
+class Row(NamedTuple):
+    """One row of a series: where it begins, and the answer of its times."""
+
+    start: Time
+    interval: Interval
+
+
+class Soundness(NamedTuple):
+    """What a check found in a sound store."""
+
+    streams: int
+    windows: int
+    landmarks: int
+    values: int

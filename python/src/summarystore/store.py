@@ -1,0 +1,236 @@
+"""A store behind its process, for threads: calls wait for their replies."""
+
+from __future__ import annotations
+
+import threading
+from collections import deque
+from collections.abc import Iterator, Mapping, Sequence
+from contextlib import contextmanager
+from datetime import date
+from itertools import islice
+from types import TracebackType
+from typing import TYPE_CHECKING, Self
+
+from . import calls
+from . import program as programs
+from .certificate import Certificate
+from .channel import Channel
+from .codec import Codec
+from .cursor import Windows
+from .description import description_of
+from .errors import CursorBusyError, LateError, RefusedError
+from .interval import Interval, Presence
+from .late import MOST_HELD
+from .pipeline import Appends
+from .records import Last, Reading, Soundness, Stored, Stream, Window
+from .sending import OPEN, OnRefused, Sending
+from .series import Series
+
+if TYPE_CHECKING:
+    from matplotlib.axes import Axes
+
+    from .reordered import Reordered
+
+
+
+class Store(Channel):
+    """A store. Threads may share it. `summarystore.open` makes one that knows names and scales.
+
+    Alone, this class takes and gives whole numbers and the program's own names.
+    """
+
+    def __enter__(self) -> Self:
+        return self
+
+    def __exit__(self, kind: type[BaseException] | None, error: BaseException | None,
+                 trace: TracebackType | None) -> None:
+        self.close()
+
+    def __repr__(self) -> str:
+        state = "closed" if self._closed else "open"
+        return f"<summarystore.Store {self.path}, {state}>"
+
+    # ---- events -------------------------------------------------------------------------
+
+    def create(self, name: str, target: str | Sequence[object], within: int | None = None, *,
+               scale: object | None = None, time: str | None = None, since: date | str | None = None,
+               unit: str | None = None, labels: Mapping[str, str] | None = None,
+               rounding: str | None = None) -> Stored:
+        """Makes a stream with a target such as `power 1 1 4 1` or ("exp", 2, 60, 1)."""
+        description = description_of(scale=scale, time=time, since=since, unit=unit, labels=labels,
+                                     rounding=rounding)
+        codec = self._translator.declare(name, description)
+        try:
+            made = self._do(calls.create(codec, target, within))
+        except RefusedError:
+            self._translator.removed(name)
+            raise
+        self._translator.made(name, codec)
+        return made
+
+    def append(self, name: str, time: object, value: object) -> Stored:
+        """Takes a value at a time later than all before. It is on the disk when this returns.
+
+        Raises LateError, with the newest time, where the time isn't later.
+        """
+        codec = self._translator.codec(name)
+        try:
+            return self._do(calls.append(codec, time, value))
+        except LateError as error:
+            self._tell_newest(codec, [error])
+            raise
+
+    def _tell_newest(self, codec: Codec, late: Sequence[LateError]) -> None:
+        """Puts the newest time of a stream into refusals."""
+        if late:
+            found = self._do(calls.last_numbers(codec))
+            for error in late:
+                error.newest = codec.time_back(found[0]) if found else None
+
+    def append_many(self, name: str, rows: object, *, refused: OnRefused | None = None,
+                    lateness: object | None = None) -> int:
+        """Takes rows of a time and a value, without waiting for each. Gives how many were stored.
+
+        Rows are pairs, or a dict, or a pandas Series. All are on the disk when this returns. With
+        `refused` it is called with each row that is refused, and its exception. Without it no more rows
+        are sent then, and RowsRefusedError is raised. With `lateness` rows that are late by at most so
+        much are sorted.
+        """
+        codec = self._translator.codec(name)
+        with self._session() as session:
+            sending = Sending(codec, session, rows, refused, lateness)
+            under_way: deque[Appends[tuple[object, object]]] = deque()
+            connection = None
+            try:
+                for request in sending.requests():
+                    connection = self._submit(request, connection)
+                    under_way.append(request)
+                    if len(under_way) == OPEN:
+                        self._wait(under_way[0])
+                        sending.answered(under_way.popleft())
+            finally:
+                for request in under_way:
+                    self._wait(request)
+                    sending.answered(request)
+        self._tell_newest(codec, sending.late())
+        return sending.end()
+
+    @contextmanager
+    def landmark(self, name: str, start: object | None = None, end: object | None = None
+                 ) -> Iterator[None]:
+        """Keeps the values that are appended meanwhile one by one.
+
+        It opens at `start`, or now. It closes at `end`, or else at the stream's last time, and where
+        `start` wasn't given either, now, if that is later.
+        """
+        codec = self._translator.codec(name)
+        begun = codec.now() if start is None else codec.time(start)
+        self._do(calls.landmark_open(codec, begun))
+        try:
+            yield
+        finally:
+            self._do(calls.landmark_close(codec, self._end_of_landmark(codec, start, end)))
+
+    def _end_of_landmark(self, codec: Codec, start: object | None, end: object | None) -> int:
+        if end is not None:
+            return codec.time(end)
+        newest = self._do(calls.last_numbers(codec))[0]
+        return max(newest, codec.now()) if start is None else newest
+
+    def drop(self, name: str) -> None:
+        """Removes a stream with all that it holds. It can't be undone."""
+        self._do(calls.drop(self._translator.codec(name)))
+        self._translator.removed(name)
+
+    def reordered(self, name: str, lateness: object, most: int = MOST_HELD) -> Reordered:
+        """A bounded buffer that holds readings back and sorts them: a context manager."""
+        from .reordered import Reordered
+        return Reordered(self, self._translator.codec(name), lateness, most)
+
+    # ---- questions ----------------------------------------------------------------------
+
+    def query(self, name: str, kind: str, t1: object | None = None, t2: object | None = None
+              ) -> Interval:
+        """`count`, `sum`, `min`, `max` or `mean` of the values from t1 to t2, both included."""
+        return self._do(calls.query(self._translator.codec(name), kind, t1, t2))
+
+    def mean(self, name: str, t1: object | None = None, t2: object | None = None) -> Interval:
+        """The mean of the values from t1 to t2."""
+        return self._do(calls.mean(self._translator.codec(name), t1, t2))
+
+    def has(self, name: str, value: object, t1: object | None = None, t2: object | None = None
+            ) -> Presence:
+        """Whether one of the values from t1 to t2 is this one."""
+        return self._do(calls.has(self._translator.codec(name), value, t1, t2))
+
+    def series(self, name: str, kind: str, t1: object | None, t2: object | None, step: object
+               ) -> Series:
+        """The answers to `query` for each step from t1 to t2: at most 100,000 rows."""
+        return self._do(calls.series(name, self._translator.codec(name), kind, t1, t2, step))
+
+    def last(self, name: str) -> Last | None:
+        """The last time and the newest value. None where the stream took nothing yet."""
+        return self._do(calls.last(self._translator.codec(name)))
+
+    def values(self, name: str, t1: object | None = None, t2: object | None = None
+               ) -> Sequence[Reading]:
+        """The values of landmarks from t1 to t2, which are kept one by one."""
+        return self._do(calls.values(self._translator.codec(name), t1, t2))
+
+    def certify(self, name: str, kind: str, end: str, t1: object | None = None,
+                t2: object | None = None,
+                landmarks: Sequence[tuple[object, object]] = ()) -> Certificate:
+        """Why the end `lo` or `hi` of a count or a sum can't be narrower: `.check()` checks it.
+
+        The check has to be told when the landmarks of the stream began and ended, the oldest first; the
+        end of one that is open is None.
+        """
+        return self._do(calls.certify(self._translator.codec(name), kind, end, t1, t2, landmarks))
+
+    def windows(self, name: str) -> Iterator[Window]:
+        """The windows of a stream as they are now, the oldest first, read in pieces.
+
+        The iterator holds one of the eight cursors until its end, or until it is closed.
+        """
+        return Windows(self, self._translator.codec(name))
+
+    def list(self) -> Sequence[Stream]:
+        """All streams, in the order in which they were made."""
+        return self._do(calls.listed(self._translator))
+
+    def check(self) -> Soundness:
+        """Looks the store over. The process is ended for that, and started again."""
+        with self._changed:
+            while self._busy():
+                if self._sessions.holds_any(threading.get_ident()):
+                    raise CursorBusyError("BUSY", "check", "an iterator over windows is open")
+                self._changed.wait()
+            self._up().close()
+            self._connection = None
+            found = programs.check(self.path, self._program)
+            self._connection = self._connect()
+            return found
+
+    def _busy(self) -> bool:
+        idle = self._connection is None or self._connection.pipeline.idle
+        return self._pumping or self._sessions.cursors or not idle
+
+    def plot(self, name: str, kind: str = "mean", t1: object | None = None, t2: object | None = None,
+             step: object | None = None, ax: Axes | None = None) -> Axes:
+        """Draws a series as a band, with its middle line and its exact parts, by matplotlib.
+
+        Without a range it is that of the stream, and without a step there are about 200 rows.
+        """
+        from .plotting import plot_store
+        return plot_store(self, name, kind, t1, t2, step, ax)
+
+    def span(self, name: str) -> tuple[int, int] | None:
+        """The first time that a stream shows and its last one, as whole numbers."""
+        codec = self._translator.codec(name)
+        found = self._do(calls.last_numbers(codec))
+        if not found:
+            return None
+        with Windows(self, codec) as windows:
+            starts = [codec.time(window.start) for window in islice(windows, 1)]
+        starts += [codec.time(reading.time) for reading in self.values(name)[:1]]
+        return min(starts, default=found[0]), found[0]

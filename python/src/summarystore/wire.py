@@ -1,0 +1,243 @@
+"""Lines and replies of the program's mode `sessions`, without any input or output.
+
+A command is a text without its session; `tagged` puts the session before it. Replies are heads with
+their rows, without the session. All numbers are whole ones.
+"""
+
+from __future__ import annotations
+
+import re
+from collections.abc import Iterable, Sequence
+from typing import NamedTuple
+
+from .errors import NumberError, ProtocolError, StreamNameError, refusal_of
+from .interval import Interval, Presence
+from .records import Soundness, Stored
+
+SESSIONS = 8
+LONGEST_LINE = 256
+LAST_TIME = 2**62
+LEAST_VALUE, GREATEST_VALUE = -2**63, 2**63 - 1
+MOST_ROWS = 1000
+"""The most rows that one `cursor next` gives."""
+
+WORD = re.compile(r"[!-~]+")
+NAME = re.compile(r"[a-zA-Z0-9_.-]{1,32}")
+INTEGER = re.compile(r"-?[0-9]+")
+SOUND = re.compile("sound streams ([0-9]+) windows ([0-9]+) landmarks ([0-9]+) values ([0-9]+)")
+# Heads whose last word says how many rows follow, and how many for each.
+_ROWS = {"series": 1, "values": 1, "windows": 1, "list": 1, "rows": 1, "estimates": 1, "certify": 2}
+
+
+# ---- commands ---------------------------------------------------------------------------
+
+
+def name_word(name: str) -> str:
+    """A name as one word of a line. What would be several words, or end the line, is refused here."""
+    if not WORD.fullmatch(name):
+        raise StreamNameError("NAME", repr(name))
+    return name
+
+
+def whole(value: object) -> int:
+    """A whole number as Python has them, also numpy's. No text, no float and no truth value."""
+    if type(value) is int:
+        return value
+    index = getattr(value, "__index__", None)
+    if index is None or isinstance(value, bool):
+        raise NumberError("NUMBER", repr(value), "a whole number is needed")
+    return int(index())
+
+
+def create(name: str, target: str | Sequence[object], within: int | None = None) -> str:
+    """`create NAME TARGET`, with TARGET such as `exp 2 60 1` or ("power", 1, 1, 4, 1)."""
+    words = target.split() if isinstance(target, str) else [str(word) for word in target]
+    if not words or not all(WORD.fullmatch(word) for word in words):
+        raise refusal_of("SYNTAX", f"create {name} {target}")
+    end = "" if within is None else f" within {whole(within)}"
+    return f"create {name_word(name)} {' '.join(words)}{end}"
+
+
+def append(name: str, time: int, value: int) -> str:
+    """`append NAME T V`."""
+    return f"append {name_word(name)} {whole(time)} {whole(value)}"
+
+
+def appends(session: int, name: str, rows: Sequence[tuple[int, int]]) -> bytes:
+    """The tagged lines of many appends, each with its line end."""
+    if {type(number) for row in rows for number in row} - {int}:
+        rows = [(whole(time), whole(value)) for time, value in rows]
+    head = f"@{session} append {name_word(name)}"
+    return "".join([f"{head} {time} {value}\n" for time, value in rows]).encode("ascii")
+
+
+def landmark_open(name: str, time: int) -> str:
+    """`landmark NAME open T`."""
+    return f"landmark {name_word(name)} open {whole(time)}"
+
+
+def landmark_close(name: str, time: int) -> str:
+    """`landmark NAME close T`."""
+    return f"landmark {name_word(name)} close {whole(time)}"
+
+
+def drop(name: str) -> str:
+    """`drop NAME`."""
+    return f"drop {name_word(name)}"
+
+
+def query(name: str, kind: str, first: int, last: int) -> str:
+    """`query NAME KIND T1 T2`."""
+    return f"query {name_word(name)} {kind} {whole(first)} {whole(last)}"
+
+
+def has(name: str, value: int, first: int, last: int) -> str:
+    """`query NAME has V T1 T2`."""
+    return f"query {name_word(name)} has {whole(value)} {whole(first)} {whole(last)}"
+
+
+def series(name: str, kind: str, first: int, last: int, step: int) -> str:
+    """`series NAME KIND T1 T2 STEP`."""
+    return f"series {name_word(name)} {kind} {whole(first)} {whole(last)} {whole(step)}"
+
+
+def certify(name: str, kind: str, end: str, first: int, last: int) -> str:
+    """`certify NAME KIND END T1 T2`."""
+    return f"certify {name_word(name)} {kind} {end} {whole(first)} {whole(last)}"
+
+
+def windows(name: str) -> str:
+    """`windows NAME`."""
+    return f"windows {name_word(name)}"
+
+
+def last(name: str) -> str:
+    """`last NAME`."""
+    return f"last {name_word(name)}"
+
+
+def values(name: str, first: int, last_time: int) -> str:
+    """`values NAME T1 T2`."""
+    return f"values {name_word(name)} {whole(first)} {whole(last_time)}"
+
+
+def cursor_open(name: str) -> str:
+    """`cursor open NAME`."""
+    return f"cursor open {name_word(name)}"
+
+
+def cursor_next(count: int) -> str:
+    """`cursor next C`."""
+    return f"cursor next {whole(count)}"
+
+
+LIST = "list"
+CURSOR_CLOSE = "cursor close"
+
+
+def tagged(session: int, lines: Iterable[str]) -> bytes:
+    """Commands as the lines of a session, each with its line end."""
+    return "".join([f"@{session} {line}\n" for line in lines]).encode("utf-8")
+
+
+# ---- replies ----------------------------------------------------------------------------
+
+
+class Reply(NamedTuple):
+    """The reply to one line: its head, and its rows where it has some."""
+
+    head: str
+    rows: Sequence[str] = ()
+
+
+def rows_after(head: str) -> int:
+    """How many rows follow the head of a reply."""
+    first, _, rest = head.partition(" ")
+    each = _ROWS.get(first, 0)
+    return each * _integer(rest.rpartition(" ")[2], head) if each else 0
+
+
+def _integer(word: str, line: str) -> int:
+    if not INTEGER.fullmatch(word):
+        raise ProtocolError(f"not a reply of the program: {line[:200]}")
+    return int(word)
+
+
+def numbers(text: str, count: int) -> list[int]:
+    """So many whole numbers with a blank between two."""
+    words = text.split(" ")
+    if len(words) != count:
+        raise ProtocolError(f"{count} numbers were to come: {text[:200]}")
+    return [_integer(word, text) for word in words]
+
+
+def after(head: str, first: str) -> str:
+    """The head of a reply behind its first word."""
+    word, _, rest = head.partition(" ")
+    if word != first:
+        raise ProtocolError(f"a reply `{first}` was to come: {head[:200]}")
+    return rest
+
+
+def stored_of(reply: Reply) -> Stored:
+    """`ok N K`."""
+    return Stored(*numbers(after(reply.head, "ok"), 2))
+
+
+def interval_of(text: str) -> Interval:
+    """`LO HI`, `LO HI maybe-none` or `none`."""
+    if text == "none":
+        return Interval.nothing()
+    words = text.split(" ")
+    maybe_none = words[2:] == ["maybe-none"]
+    if len(words) != 2 + maybe_none:
+        raise ProtocolError(f"an interval was to come: {text[:200]}")
+    return Interval(_integer(words[0], text), _integer(words[1], text), maybe_none=maybe_none)
+
+
+def presence_of(reply: Reply) -> Presence:
+    """`has absent`, `has present` or `has maybe`."""
+    word = after(reply.head, "has")
+    if word not in ("absent", "present", "maybe"):
+        raise ProtocolError(f"a reply `has` was to come: {reply.head[:200]}")
+    return Presence(word)
+
+
+def rows_of(reply: Reply, first: str) -> Sequence[str]:
+    """The rows of a reply that begins with this word."""
+    if rows_after(reply.head) != len(reply.rows):
+        raise ProtocolError(f"rows are missing: {reply.head[:200]}")
+    after(reply.head, first)
+    return reply.rows
+
+
+class StreamRow(NamedTuple):
+    """A row of `list`, in whole numbers."""
+
+    name: str
+    target: str
+    within: int | None
+    values: int
+    windows: int
+    landmarks: int
+    landmark_values: int
+
+
+def stream_of(row: str) -> StreamRow:
+    """`NAME TARGET N K L M`, where `within E` may end TARGET."""
+    words = row.split(" ")
+    if len(words) < 7:
+        raise ProtocolError(f"a row of `list` was to come: {row[:200]}")
+    target, within = words[1:-4], None
+    if target[-2:-1] == ["within"]:
+        within = _integer(target[-1], row)
+        target = target[:-2]
+    return StreamRow(words[0], " ".join(target), within, *(_integer(word, row) for word in words[-4:]))
+
+
+def soundness_of(text: str) -> Soundness:
+    """`sound streams S windows W landmarks L values V`."""
+    found = SOUND.fullmatch(text.rstrip("\n"))
+    if not found:
+        raise ProtocolError(f"the line of a check was to come: {text[:200]}")
+    return Soundness(*(int(word) for word in found.groups()))
