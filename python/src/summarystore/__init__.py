@@ -1,4 +1,52 @@
 """Timestamped readings in a store that is proved, and answers as intervals that hold the truth."""
 
+from __future__ import annotations
+
+import datetime
+import os
+
+from .certificate import Certificate
+from .description import Description
+from .errors import (CertificateError, CommandError, CursorBusyError, DamagedStoreError,
+                     DescriptionError, DiskFullError, InputFaultError, InputTooLongError, KilledError,
+                     LandmarkNotOpenError, LandmarkOpenError, LateError, LineTooLongError, LockedError,
+                     NamesFileError, NoCursorError, NotANumberError, NoValueError, NumberError,
+                     OutOfMemoryError, OutputFaultError, ProcessEndedError, ProgramMissingError,
+                     ProtocolError, RangeError, RecordChangedError, RefusedError, ReopenedWarning,
+                     RowsRefusedError, ScaleError, StoreClosedError, StoreFileError, StoreFullError,
+                     StreamExistsError, StreamFullError, StreamNameError, SummaryStoreError,
+                     TargetError, TimeError, TooManyStreamsError, UnexpectedEndError,
+                     UnknownStreamError, UsageError)
+from .interval import Interval, Presence, mean_of
+from .names import Names
+from .program import check
+from .records import Last, Reading, Row, Soundness, Stored, Stream, Window
+from .series import Series
 from .store import Store
-__all__ = ["Store"]
+
+__version__ = "0.1.0"
+
+
+def open(path: str | os.PathLike[str], *, zone: str | datetime.tzinfo | None = None,
+         program: str | os.PathLike[str] | None = None) -> Store:
+    """Opens a store, and makes it where there is none.
+
+    Its streams may have long names, scales and clock times. Times without a zone are those of `zone`,
+    where it is given, such as Europe/Berlin.
+    """
+    return Store(path, program=program, translator=Names(path, zone))
+
+
+__all__ = [
+    "Certificate", "CertificateError", "CommandError", "CursorBusyError", "DamagedStoreError",
+    "Description", "DescriptionError", "DiskFullError", "InputFaultError", "InputTooLongError",
+    "Interval", "KilledError", "LandmarkNotOpenError", "LandmarkOpenError", "Last", "LateError",
+    "LineTooLongError", "LockedError", "NamesFileError", "NoCursorError", "NoValueError",
+    "NotANumberError", "NumberError", "OutOfMemoryError", "OutputFaultError", "Presence",
+    "ProcessEndedError", "ProgramMissingError", "ProtocolError", "RangeError", "Reading",
+    "RecordChangedError", "RefusedError", "ReopenedWarning", "Row", "RowsRefusedError", "ScaleError",
+    "Series", "Soundness", "Store", "StoreClosedError", "StoreFileError", "StoreFullError", "Stored",
+    "Stream", "StreamExistsError", "StreamFullError", "StreamNameError", "SummaryStoreError",
+    "TargetError", "TimeError", "TooManyStreamsError", "UnexpectedEndError", "UnknownStreamError",
+    "UsageError", "Window", "check", "mean_of", "open",
+]

@@ -9,7 +9,7 @@ from typing import Generic, TypeVar
 from . import certificate, wire
 from .certificate import Certificate
 from .codec import Codec, Translator, streams_of
-from .errors import refusal_of
+from .errors import CertificateError, refusal_of
 from .interval import Interval, Presence, mean_of
 from .records import Last, Reading, Row, Stored, Stream, Window
 from .series import Series
@@ -204,8 +204,7 @@ def certify(codec: Codec, kind: str, end: str, first: object, last_time: object,
         answered = wire.numbers(wire.after(replies[3].head, kind), 2)[end == "hi"]
         known = [wire.numbers(wire.after(reply.head, kind), 2) for reply in replies[4:]]
         if any(lo != hi for lo, hi in known):
-            raise certificate.CertificateError("the values of a landmark aren't known exactly")
+            raise CertificateError("the values of a landmark aren't known exactly")
         return Certificate(kind, end, begin, finish, answer, base, cuts, answered, windows,
                            tuple(marks), sum(lo for lo, _ in known), stream.landmarks)
     return Call(lines, result)
-

@@ -7,7 +7,7 @@ what was answered of the values of landmarks. It is no part of the program.
 from __future__ import annotations
 
 from collections.abc import Sequence
-from typing import NamedTuple
+from dataclasses import dataclass
 
 from .errors import CertificateError, ProtocolError
 from .wire import INTEGER, LAST_TIME, Reply, after, numbers, rows_of
@@ -15,7 +15,8 @@ from .wire import INTEGER, LAST_TIME, Reply, after, numbers, rows_of
 Span = tuple[int, int]
 
 
-class Bounds(NamedTuple):
+@dataclass(frozen=True)
+class Bounds:
     """A window in whole numbers."""
 
     first: int
@@ -28,7 +29,8 @@ class Bounds(NamedTuple):
     end: int
 
 
-class Side(NamedTuple):
+@dataclass(frozen=True)
+class Side:
     """How many values of a window lie on one side of the range, and which these may be."""
 
     count: int
@@ -40,7 +42,8 @@ class Side(NamedTuple):
         return sum(value * times for value, times in self.runs)
 
 
-class Cut(NamedTuple):
+@dataclass(frozen=True)
+class Cut:
     """What a certificate says of a window that the range cuts."""
 
     first: int
@@ -78,7 +81,8 @@ def cuts_of(reply: Reply) -> tuple[int, int, tuple[Cut, ...]]:
     return answer, base, tuple(cuts)
 
 
-class Certificate(NamedTuple):
+@dataclass(frozen=True)
+class Certificate:
     """Values that a stream may have had, for all that the store knows, with which this end is right.
 
     All numbers are the stream's whole numbers. `answer` is `base` and what lies inside.

@@ -69,8 +69,14 @@ class Translator(Protocol):
     def made(self, name: str, codec: Codec) -> None:
         """The stream was made."""
 
+    def unmade(self, name: str, codec: Codec) -> None:
+        """The stream wasn't made."""
+
     def removed(self, name: str) -> None:
-        """The stream was dropped, or it wasn't made."""
+        """The stream was dropped."""
+
+    def describe(self, name: str, description: Description) -> None:
+        """Changes what isn't the meaning of a stream's numbers."""
 
     def name_of(self, row: StreamRow) -> str:
         """The name that people use for a stream of `list`."""
@@ -148,8 +154,15 @@ class Plain:
     def made(self, name: str, codec: Codec) -> None:
         """Needs nothing."""
 
+    def unmade(self, name: str, codec: Codec) -> None:
+        """Needs nothing."""
+
     def removed(self, name: str) -> None:
         """Needs nothing."""
+
+    def describe(self, name: str, description: Description) -> None:
+        """Takes no description."""
+        self.declare(name, description)
 
     def name_of(self, row: StreamRow) -> str:
         """The name."""

@@ -48,6 +48,15 @@ def description_of(*, scale: object | None = None, time: str | None = None,
     return Description(found, time or "s", _day(since), unit, dict(labels or {}), rounding)
 
 
+def changed(known: Description, unit: str | None, labels: Mapping[str, str] | None,
+            rounding: str | None) -> Description:
+    """A description with what is given changed."""
+    found = description_of(unit=unit, labels=labels, rounding=rounding) or known
+    return known._replace(unit=known.unit if unit is None else unit,
+                          labels=known.labels if labels is None else found.labels,
+                          rounding=known.rounding if rounding is None else rounding)
+
+
 def _day(since: datetime.date | str | None) -> datetime.date:
     if since is None:
         return EPOCH

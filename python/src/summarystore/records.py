@@ -3,6 +3,7 @@
 from __future__ import annotations
 
 import datetime
+from dataclasses import dataclass
 from typing import NamedTuple, Union
 
 from .decimals import Number
@@ -19,7 +20,8 @@ class Stored(NamedTuple):
     windows: int
 
 
-class Window(NamedTuple):
+@dataclass(frozen=True, slots=True)
+class Window:
     """One window: values that the store keeps together, by what it knows of them."""
 
     first: int

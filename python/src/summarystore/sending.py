@@ -60,7 +60,8 @@ class Sending:
             return chunk, self._codec.rows(chunk)
         except (SummaryStoreError, ValueError):
             pass    # one of them isn't: they are gone through one by one
-        rows, numbers = [], []
+        rows: list[Row] = []
+        numbers: list[tuple[int, int]] = []
         for row in chunk:
             try:
                 numbers += self._codec.rows([row])

@@ -17,12 +17,12 @@ from .certificate import Certificate
 from .channel import Channel
 from .codec import Codec
 from .cursor import Windows
-from .description import description_of
+from .description import Description, changed, description_of
 from .errors import CursorBusyError, LateError, RefusedError
 from .interval import Interval, Presence
 from .late import MOST_HELD
 from .pipeline import Appends
-from .records import Last, Reading, Soundness, Stored, Stream, Window
+from .records import Last, Reading, Soundness, Stored, Stream, Time, Window
 from .sending import OPEN, OnRefused, Sending
 from .series import Series
 
@@ -30,7 +30,6 @@ if TYPE_CHECKING:
     from matplotlib.axes import Axes
 
     from .reordered import Reordered
-
 
 
 class Store(Channel):
@@ -63,10 +62,25 @@ class Store(Channel):
         try:
             made = self._do(calls.create(codec, target, within))
         except RefusedError:
-            self._translator.removed(name)
+            self._translator.unmade(name, codec)
             raise
         self._translator.made(name, codec)
         return made
+
+    def description(self, name: str) -> Description | None:
+        """How a stream is read. None where it takes and gives whole numbers."""
+        return self._translator.codec(name).description
+
+    def describe(self, name: str, *, unit: str | None = None, labels: Mapping[str, str] | None = None,
+                 rounding: str | None = None) -> None:
+        """Changes what is given of a described stream. Its scale and its times can't be changed."""
+        known = self.description(name) or Description()
+        self._translator.describe(name, changed(known, unit, labels, rounding))
+
+    def now(self, name: str) -> Time:
+        """The present time of a described stream."""
+        codec = self._translator.codec(name)
+        return codec.time_back(codec.now())
 
     def append(self, name: str, time: object, value: object) -> Stored:
         """Takes a value at a time later than all before. It is on the disk when this returns.
@@ -223,6 +237,16 @@ class Store(Channel):
         """
         from .plotting import plot_store
         return plot_store(self, name, kind, t1, t2, step, ax)
+
+    def steps(self, name: str, t1: object, t2: object, rows: int) -> int:
+        """A step with which a range has about so many rows, as a whole number."""
+        codec = self._translator.codec(name)
+        return max(1, (codec.end(t2) - codec.begin(t1)) // rows + 1)
+
+    def ends(self, name: str, series: Series, t2: object) -> Time:
+        """Where the last row of a series up to t2 ends."""
+        codec = self._translator.codec(name)
+        return codec.time_back(codec.end(t2))
 
     def span(self, name: str) -> tuple[int, int] | None:
         """The first time that a stream shows and its last one, as whole numbers."""

@@ -1,0 +1,230 @@
+"""Times as people have them, as whole numbers of a resolution, and back. All of it is exact."""
+
+from __future__ import annotations
+
+import datetime
+import re
+import zoneinfo
+
+from .description import NANOSECONDS
+from .errors import TimeError
+from .records import Time
+from .wire import LAST_TIME
+
+UTC = datetime.timezone.utc
+START = datetime.datetime(1970, 1, 1, tzinfo=UTC)
+DAY = re.compile(r"[0-9]{4}-[0-9]{2}-[0-9]{2}")
+COUNT = re.compile(r"[0-9]+")
+SPAN = re.compile(r"([0-9]+) ?(ns|us|ms|s|min|minutes?|h|hours?|d|days?|w|weeks?)")
+_SPANS = {"ns": 1, "us": 10**3, "ms": 10**6, "s": 10**9, "m": 60 * 10**9, "h": 3600 * 10**9,
+          "d": 86400 * 10**9, "w": 7 * 86400 * 10**9}
+# Fractions of a second beyond what a datetime holds.
+FINE = re.compile(r"(.*[:T ][0-9]{2}(?::?[0-9]{2}){1,2})[.,]([0-9]{1,9})(.*)")
+
+
+def nanoseconds(moment: datetime.datetime, zone: datetime.tzinfo | None) -> int:
+    """Nanoseconds since 1970 of a datetime, in this zone where it has none of its own.
+
+    An hour that a clock shows twice, or never, is refused.
+    """
+    fine = getattr(moment, "nanosecond", 0)
+    plain = getattr(moment, "to_pydatetime", None)      # of a pandas Timestamp
+    if plain is not None:
+        moment = plain(warn=False)
+    if moment.tzinfo is None or moment.utcoffset() is None:
+        if zone is None:
+            raise TimeError(f"{moment.isoformat(' ')} has no zone: give it one, or open with zone=")
+        moment = _in_zone(moment.replace(tzinfo=None), zone)
+    since = moment - START
+    return (since.days * 86400 + since.seconds) * 10**9 + since.microseconds * 1000 + int(fine)
+
+
+def _in_zone(moment: datetime.datetime, zone: datetime.tzinfo) -> datetime.datetime:
+    one, other = (moment.replace(tzinfo=zone, fold=fold) for fold in (0, 1))
+    if one.utcoffset() != other.utcoffset():
+        there = any(each.astimezone(UTC).astimezone(zone).replace(tzinfo=None) == moment.replace(fold=0)
+                    for each in (one, other))
+        shows = "twice" if there else "never"
+        raise TimeError(f"{moment.isoformat(' ')} in {zone}: the clock shows it {shows}; give its offset")
+    return one
+
+
+def moment_of(text: str, zone: datetime.tzinfo | None) -> int:
+    """Nanoseconds since 1970 of an ISO 8601 text."""
+    fine = FINE.fullmatch(text)
+    extra = 0
+    if fine and len(fine[2]) > 6:
+        extra = int(fine[2].ljust(9, "0"))
+        text = fine[1] + fine[3]
+    try:
+        return nanoseconds(datetime.datetime.fromisoformat(text), zone) + extra
+    except TimeError:
+        raise
+    except ValueError:
+        raise TimeError(f"not a time: {text[:60]!r}") from None
+
+
+def day_of(given: object) -> datetime.date | None:
+    """A day, where it is one: a date, or the text of one."""
+    if isinstance(given, datetime.date) and not isinstance(given, datetime.datetime):
+        return given
+    if isinstance(given, str) and DAY.fullmatch(given):
+        try:
+            return datetime.date.fromisoformat(given)
+        except ValueError:
+            raise TimeError(f"no such day: {given}") from None
+    return None
+
+
+def span_of(given: object) -> int:
+    """Nanoseconds of a span: a timedelta, or text such as `15 min`, `1h`, `365d`."""
+    if isinstance(given, datetime.timedelta):
+        fine = getattr(given, "nanoseconds", 0)     # of a pandas Timedelta
+        return (given.days * 86400 + given.seconds) * 10**9 + given.microseconds * 1000 + int(fine)
+    if isinstance(given, str) and (found := SPAN.fullmatch(given.strip())):
+        unit = found[2]
+        return int(found[1]) * (_SPANS[unit] if unit in _SPANS else _SPANS[unit[0]])
+    kind = getattr(getattr(given, "dtype", None), "kind", "")
+    if kind == "m":     # numpy.timedelta64
+        return _numpy_count(given, "timedelta64[ns]")
+    raise TimeError(f"not a span of time: {given!r}; write 15min, 1h or 365d, or give a timedelta")
+
+
+def _numpy_count(given: object, kind: str) -> int:
+    """Nanoseconds of a numpy time. One that doesn't fit is told, since numpy wraps."""
+    fine = getattr(given, "astype")(kind)
+    if str(fine) == "NaT":
+        raise TimeError("not a time: NaT")
+    if fine != given:
+        raise TimeError(f"out of range: {given}")
+    return int(fine.astype("int64"))
+
+
+class Clock:
+    """The times of one stream: its resolution, the day from which it counts, and a zone."""
+
+    def __init__(self, resolution: str, since: datetime.date, zone: datetime.tzinfo | None) -> None:
+        self.resolution = resolution
+        self._step = NANOSECONDS[resolution]
+        self._zone = zone
+        midnight = datetime.datetime(since.year, since.month, since.day, tzinfo=UTC)
+        self._origin = nanoseconds(midnight, None)
+
+    def time(self, given: object) -> int:
+        """The count of a time. One between two counts, or before the first, is refused."""
+        if isinstance(given, str) and COUNT.fullmatch(given):
+            return int(given)
+        count = self._count(given)
+        if count is not None:
+            return count
+        whole, rest = divmod(self._nanoseconds(given) - self._origin, self._step)
+        if rest:
+            raise TimeError(f"{given} lies between two times of the stream, which counts in "
+                            f"{self.resolution}")
+        return _checked(whole, given)
+
+    def begin(self, given: object) -> int:
+        """The first count at a time or after it."""
+        count = self._end_of_range(given, 0, False)
+        if count > LAST_TIME:
+            raise TimeError(f"{given} is after the last time that the stream can have")
+        return max(0, count)
+
+    def end(self, given: object) -> int:
+        """The last count at a time or before it. A day ends with its last count."""
+        count = self._end_of_range(given, LAST_TIME, True)
+        if count < 0:
+            raise TimeError(f"{given} is before the first time that the stream can have")
+        return min(count, LAST_TIME)
+
+    def _end_of_range(self, given: object, otherwise: int, is_end: bool) -> int:
+        if given is None:
+            return otherwise
+        if isinstance(given, str) and COUNT.fullmatch(given):
+            return int(given)
+        count = self._count(given)
+        if count is not None:
+            return count
+        day = day_of(given)
+        if day is not None and is_end:
+            return -((self._origin - self._midnight(day, 1)) // self._step) - 1
+        since = (self._nanoseconds(given) if day is None else self._midnight(day)) - self._origin
+        return since // self._step if is_end else -(-since // self._step)
+
+    def step(self, given: object) -> int:
+        """How many counts a span has. A number is one of counts."""
+        count = self._count(given)
+        if count is not None:
+            return count
+        whole, rest = divmod(span_of(given), self._step)
+        if rest:
+            raise TimeError(f"{given} isn't a whole number of steps of {self.resolution}")
+        return whole
+
+    def now(self) -> int:
+        """The present count."""
+        present = datetime.datetime.now(UTC)
+        return _checked((nanoseconds(present, None) - self._origin) // self._step, present)
+
+    def back(self, count: int) -> Time:
+        """A count as a datetime, or as it is where no datetime says it."""
+        passed = self._origin + count * self._step
+        if self.resolution == "ns":
+            return count
+        try:
+            return (START + datetime.timedelta(microseconds=passed // 1000)).astimezone(self._zone or UTC)
+        except OverflowError:
+            return count
+
+    def _count(self, given: object) -> int | None:
+        if isinstance(given, bool):
+            raise TimeError(f"not a time: {given}")
+        if isinstance(given, int):
+            return given
+        if getattr(getattr(given, "dtype", None), "kind", "") in ("i", "u"):
+            index = getattr(given, "__index__")
+            return int(index())
+        return None
+
+    def _nanoseconds(self, given: object) -> int:
+        if isinstance(given, datetime.datetime):
+            if given != given:      # pandas NaT
+                raise TimeError("not a time: NaT")
+            return nanoseconds(given, self._zone)
+        day = day_of(given)
+        if day is not None:
+            if self.resolution != "day":
+                raise TimeError(f"{given} is a day, and the stream counts in {self.resolution}")
+            return self._midnight(day)
+        if isinstance(given, str):
+            return moment_of(given, self._zone)
+        if getattr(getattr(given, "dtype", None), "kind", "") == "M":
+            return _numpy_count(given, "datetime64[ns]")
+        raise TimeError(f"not a time: {given!r}")
+
+    def _midnight(self, day: datetime.date, days: int = 0) -> int:
+        """The first moment of a day, or of one so many days later."""
+        zone = UTC if self.resolution == "day" else self._zone
+        if zone is None:
+            raise TimeError(f"{day} has no zone: give a time with one, or open with zone=")
+        try:
+            later = day + datetime.timedelta(days=days)
+        except OverflowError:
+            raise TimeError(f"{day} is the last day there is") from None
+        return nanoseconds(datetime.datetime(later.year, later.month, later.day, tzinfo=zone), None)
+
+
+def _checked(count: int, given: object) -> int:
+    if not 0 <= count <= LAST_TIME:
+        raise TimeError(f"{given} is before the first time of the stream, or after the last")
+    return count
+
+
+def zone_of(zone: str | datetime.tzinfo | None) -> datetime.tzinfo | None:
+    """A zone by its name, such as Europe/Berlin."""
+    if not isinstance(zone, str):
+        return zone
+    try:
+        return zoneinfo.ZoneInfo(zone)
+    except (zoneinfo.ZoneInfoNotFoundError, ValueError):
+        raise TimeError(f"no such zone: {zone}") from None

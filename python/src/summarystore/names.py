@@ -1,0 +1,216 @@
+"""Streams by the names that people use, and what their numbers mean.
+
+Descriptions lie in STORE.names.json, replaced atomically. What gives the numbers their meaning also
+stands in the stream's short name, so it isn't lost with that file: `slug.HASH.1e-1s` is a stream in
+steps of 0.1, with times in seconds since 1970, and HASH is that of its long name.
+"""
+
+from __future__ import annotations
+
+import base64
+import datetime
+import hashlib
+import os
+import re
+import threading
+import unicodedata
+from collections.abc import Sequence
+from decimal import Decimal
+
+from .clock import Clock, zone_of
+from .codec import Codec, PlainCodec, streams_of
+from .decimals import EXACT, Number
+from .description import EPOCH, Description
+from .errors import DescriptionError, UnknownStreamError
+from .interval import Interval
+from .namesfile import read_names, write_names
+from .scale import Scale
+from .wire import NAME, StreamRow
+
+LONGEST = 32
+UNITS = {"ns": "ns", "us": "us", "ms": "ms", "s": "s", "minute": "m", "hour": "h", "day": "d"}
+RESOLUTIONS = {short: long for long, short in UNITS.items()}
+SHORT = re.compile(r"(.*)\.([a-z2-7]{8})\.([1-9][0-9]*)e(-?[0-9]+)(ns|us|ms|s|m|h|d)([0-9]{8})?")
+
+
+class DescribedCodec:
+    """Clock times and decimals of one stream."""
+
+    def __init__(self, short: str, description: Description, zone: datetime.tzinfo | None) -> None:
+        self.short = short
+        self.description: Description | None = description
+        self._clock = Clock(description.time, description.since, zone)
+        self._scale = Scale(description.scale, description.rounding)
+        self.time, self.begin, self.end = self._clock.time, self._clock.begin, self._clock.end
+        self.step, self.now, self.time_back = self._clock.step, self._clock.now, self._clock.back
+        self.value, self.value_back = self._scale.number, self._scale.value
+
+    def rows(self, given: Sequence[tuple[object, object]]) -> Sequence[tuple[int, int]]:
+        """Times and values together."""
+        time, value = self._clock.time, self._scale.number
+        return [(time(t), value(v)) for t, v in given]
+
+    def interval_back(self, kind: str, interval: Interval) -> Interval:
+        """A count as it is, and what is made of values in their unit."""
+        return interval if kind == "count" else self._scale.interval(interval)
+
+
+def hash_of(name: str) -> str:
+    """Forty bits of a name, as eight characters that stand in a short name."""
+    digest = hashlib.sha256(name.encode("utf-8")).digest()
+    return base64.b32encode(digest[:5]).decode("ascii").lower()
+
+
+def short_name(name: str, description: Description) -> str:
+    """The name of a described stream in the program."""
+    sign, digits, exponent = Decimal(description.scale).normalize(EXACT).as_tuple()
+    assert not sign and isinstance(exponent, int)
+    since = "" if description.since == EPOCH else f"{description.since:%Y%m%d}"
+    step = f"{''.join(map(str, digits))}e{exponent}"
+    rest = f".{hash_of(name)}.{step}{UNITS[description.time]}{since}"
+    room = LONGEST - len(rest)
+    if room < 1:
+        raise DescriptionError(f"the scale {description.scale} has too many digits")
+    plain = unicodedata.normalize("NFKD", name.rpartition("/")[2]).encode("ascii", "ignore").decode()
+    slug = re.sub(r"[^a-zA-Z0-9_-]+", "-", plain).strip("-")
+    return (slug[:room] or "x") + rest
+
+
+def description_in(short: str) -> tuple[str, Description] | None:
+    """The hash and the description that stand in a short name, if it is one of a described stream."""
+    found = SHORT.fullmatch(short)
+    if not found:
+        return None
+    scale: Number = EXACT.scaleb(Decimal(found[3]), Decimal(found[4]))
+    if found[4] == "0":
+        scale = int(found[3])
+    try:
+        since = datetime.datetime.strptime(found[6], "%Y%m%d").date() if found[6] else EPOCH
+    except ValueError:
+        return None
+    return found[2], Description(scale, RESOLUTIONS[found[5]], since)
+
+
+class Names:
+    """The streams of one store: the translator that `summarystore.open` uses."""
+
+    lists = True
+
+    def __init__(self, path: str | os.PathLike[str],
+                 zone: str | datetime.tzinfo | None = None) -> None:
+        self._file = f"{os.fspath(path)}.names.json"
+        self._zone = zone_of(zone)
+        self._lock = threading.RLock()
+        self._read = False
+        self._described: dict[str, tuple[str, Description]] = {}
+        self._standing: dict[str, str] = {}
+        self._lost: dict[str, str] = {}
+        self._codecs: dict[str, Codec] = {}
+
+    def learn(self, rows: Sequence[str]) -> None:
+        """Takes the streams that stand. Those of whom the file knows nothing are known by their short
+        names."""
+        with self._lock:
+            self._described = read_names(self._file)
+            by_short = {short: name for name, (short, _) in self._described.items()}
+            self._standing, self._lost, self._codecs = {}, {}, {}
+            for row in streams_of(rows):
+                name = self._standing[row.name] = by_short.get(row.name, row.name)
+                found = description_in(row.name)
+                if found and name == row.name:      # its long name isn't known
+                    self._lost[found[0]] = name
+                    self._described.setdefault(name, (name, found[1]))
+
+    def codec(self, name: str) -> Codec:
+        """That of a stream. One that isn't described takes and gives whole numbers."""
+        with self._lock:
+            found = self._codecs.get(name) or self._known(name)
+            if found is None:
+                raise UnknownStreamError("UNKNOWN", name)
+            self._codecs[name] = found
+            return found
+
+    def _known(self, name: str) -> Codec | None:
+        """None where a name that the program doesn't take isn't described."""
+        if name not in self._described:
+            short = self._lost.get(hash_of(name))
+            if short is None:
+                return PlainCodec(name) if NAME.fullmatch(name) else None
+            self._found_again(name, short)
+        short, description = self._described[name]
+        return DescribedCodec(short, description, self._zone)
+
+    def _found_again(self, name: str, short: str) -> None:
+        """The long name of a stream whose description was lost is used again."""
+        _, description = self._described.pop(short)
+        del self._lost[hash_of(name)]
+        self._described[name] = (short, description)
+        self._standing[short] = name
+        self._codecs.pop(short, None)
+        write_names(self._file, self._described)
+
+    def declare(self, name: str, description: Description | None) -> Codec:
+        """Keeps a description before the stream is made. That of one that stands stays."""
+        with self._lock:
+            known = self._known(name)
+            if known is not None and known.short in self._standing:
+                return known
+            if description is None and NAME.fullmatch(name) and description_in(name) is None:
+                self._forget(name)
+                return PlainCodec(name)
+            described = description or Description()
+            codec = DescribedCodec(short_name(name, described), described, self._zone)
+            if codec.short in self._standing:
+                raise DescriptionError(f"the short name of {name} is that of {self._standing[codec.short]}")
+            kept = dict(self._described)
+            kept[name] = (codec.short, described)
+            write_names(self._file, kept)
+            self._described = kept
+            self._codecs[name] = codec
+            return codec
+
+    def made(self, name: str, codec: Codec) -> None:
+        """The stream was made."""
+        with self._lock:
+            self._standing[codec.short] = name
+
+    def unmade(self, name: str, codec: Codec) -> None:
+        """The stream couldn't be made. One of that name may stand, and stays described then."""
+        with self._lock:
+            if codec.short not in self._standing:
+                self._forget(name)
+
+    def removed(self, name: str) -> None:
+        """The stream was dropped."""
+        with self._lock:
+            self._forget(name)
+
+    def _forget(self, name: str) -> None:
+        codec = self._codecs.pop(name, None)
+        if codec is not None:
+            self._standing.pop(codec.short, None)
+        if name in self._described:
+            kept = dict(self._described)
+            del kept[name]
+            write_names(self._file, kept)
+            self._described = kept
+
+    def name_of(self, row: StreamRow) -> str:
+        """The name that people use."""
+        with self._lock:
+            return self._standing.get(row.name, row.name)
+
+    def describe(self, name: str, description: Description) -> None:
+        """Changes the unit, the labels or the rounding of a stream. Its numbers keep their meaning."""
+        with self._lock:
+            known = self.codec(name).description
+            if known is None:
+                raise DescriptionError(f"{name} isn't described")
+            if description[:3] != known[:3]:
+                raise DescriptionError(f"the scale and the times of {name} can't be changed")
+            short, _ = self._described[name]
+            kept = dict(self._described)
+            kept[name] = (short, description)
+            write_names(self._file, kept)
+            self._described = kept
+            self._codecs.pop(name, None)

@@ -1,0 +1,87 @@
+"""The file STORE.names.json: read whole, and replaced whole or not at all."""
+
+from __future__ import annotations
+
+import json
+import os
+import tempfile
+from collections.abc import Mapping
+
+from .description import Description, description_of
+from .errors import NamesFileError, SummaryStoreError
+
+FORMAT = 1
+Described = dict[str, tuple[str, Description]]
+
+
+def read_names(file: str) -> Described:
+    """The descriptions by the long names, each with its short name. None where there is no file."""
+    try:
+        with open(file, encoding="utf-8") as text:
+            found = json.load(text)
+    except FileNotFoundError:
+        return {}
+    except ValueError as error:
+        raise NamesFileError(f"{file}: {error}; put it aside, or go back to a copy") from None
+    try:
+        if found["summarystore"] != FORMAT:
+            raise NamesFileError(f"{file} is of a later version: {found['summarystore']}")
+        return {name: _entry(entry) for name, entry in found["streams"].items()}
+    except (KeyError, TypeError, AttributeError, SummaryStoreError) as error:
+        if isinstance(error, NamesFileError):
+            raise
+        raise NamesFileError(f"{file} doesn't hold descriptions: {error!r}") from None
+
+
+def _entry(entry: Mapping[str, object]) -> tuple[str, Description]:
+    short, unit, labels = entry["name"], entry.get("unit"), entry.get("labels", {})
+    scale, time, since = entry["scale"], entry["time"], entry.get("since")
+    rounding = entry.get("rounding")
+    for text in (short, scale, time, unit, since, rounding):
+        if text is not None and not isinstance(text, str):
+            raise TypeError(f"{text!r} isn't text")
+    assert isinstance(short, str) and isinstance(labels, Mapping)
+    found = description_of(scale=scale, time=_text(time), since=_text(since), unit=_text(unit),
+                           labels=labels, rounding=_text(rounding))
+    assert found is not None
+    return short, found
+
+
+def _text(value: object) -> str | None:
+    return value if isinstance(value, str) else None
+
+
+def write_names(file: str, described: Described) -> None:
+    """Replaces the file. After a crash it is the old one or the new one, whole."""
+    streams = {name: _shown(short, description) for name, (short, description) in described.items()}
+    text = json.dumps({"summarystore": FORMAT, "streams": streams}, ensure_ascii=False, indent=1)
+    folder = os.path.dirname(file) or "."
+    handle, beside = tempfile.mkstemp(dir=folder, prefix=".names-")
+    try:
+        with open(handle, "w", encoding="utf-8") as out:
+            out.write(text + "\n")
+            out.flush()
+            os.fsync(out.fileno())
+        os.chmod(beside, 0o666 & ~_mask())
+        os.replace(beside, file)
+    except BaseException:
+        os.unlink(beside)
+        raise
+    there = os.open(folder, os.O_RDONLY | os.O_DIRECTORY)
+    try:
+        os.fsync(there)
+    finally:
+        os.close(there)
+
+
+def _shown(short: str, description: Description) -> dict[str, object]:
+    return {"name": short, "scale": f"{description.scale:f}" if not isinstance(description.scale, int)
+            else str(description.scale), "time": description.time, "since": str(description.since),
+            "unit": description.unit, "labels": dict(description.labels),
+            "rounding": description.rounding}
+
+
+def _mask() -> int:
+    mask = os.umask(0)
+    os.umask(mask)
+    return mask

@@ -1,0 +1,85 @@
+"""Series as pictures, by matplotlib: a band from lo to hi, its middle, and its exact parts."""
+
+from __future__ import annotations
+
+import datetime
+from collections.abc import Sequence
+from typing import TYPE_CHECKING
+
+from .errors import NoValueError
+from .records import Row
+from .series import Series
+
+if TYPE_CHECKING:
+    from matplotlib.axes import Axes
+
+    from .store import Store
+
+ROWS = 200
+BAND, LINE = "#9ecae1", "#08519c"
+
+
+def plot_store(store: Store, name: str, kind: str, t1: object | None, t2: object | None,
+               step: object | None, ax: Axes | None) -> Axes:
+    """Draws a series of a stream. What isn't given is that of the whole stream, in about 200 rows."""
+    if t1 is None or t2 is None or step is None:
+        span = store.span(name)
+        if span is None:
+            raise NoValueError(f"{name} has no values to draw")
+        t1 = span[0] if t1 is None else t1
+        t2 = span[1] if t2 is None else t2
+        if step is None:
+            step = store.steps(name, t1, t2, ROWS)
+    series = store.series(name, kind, t1, t2, step)
+    return draw(series, store.ends(name, series, t2), ax)
+
+
+def draw(series: Series, end: object, ax: Axes | None = None) -> Axes:
+    """Draws a series whose last row ends here. Rows without a value are left out."""
+    import matplotlib.pyplot as pyplot
+    if ax is None:
+        _, ax = pyplot.subplots(figsize=(9.6, 4.0), layout="constrained")
+    starts: list[object] = [row.start for row in series]
+    edges = list(zip(starts, [*starts[1:], end]))
+    for run in _runs(series):
+        times = [time for at in run for time in edges[at]]
+        rows = [series[at] for at in run for _ in range(2)]
+        lows, highs = ([float(end) for end in ends] for ends in
+                       ([row.interval.lo for row in rows], [row.interval.hi for row in rows]))
+        ax.fill_between(times, lows, highs, color=BAND, linewidth=0)
+        ax.plot(times, [float(row.interval.mid) for row in rows], color=LINE, linewidth=0.7,
+                linestyle=":")
+        for at in run:
+            if series[at].interval.exact:
+                level = float(series[at].interval.mid)
+                ax.plot(edges[at], [level, level], color=LINE, linewidth=1.6, solid_capstyle="butt")
+    return _labelled(ax, series)
+
+
+def _runs(series: Sequence[Row]) -> list[list[int]]:
+    """The places of rows with a value, those beside each other together."""
+    runs: list[list[int]] = []
+    for at, row in enumerate(series):
+        if row.interval.none:
+            continue
+        if runs and runs[-1][-1] == at - 1:
+            runs[-1].append(at)
+        else:
+            runs.append([at])
+    return runs
+
+
+def _labelled(ax: Axes, series: Series) -> Axes:
+    from matplotlib.lines import Line2D
+    from matplotlib.patches import Patch
+    ax.set_title(series.name)
+    ax.set_ylabel(f"{series.kind}, {series.unit}" if series.unit else series.kind)
+    if series and isinstance(series[0].start, datetime.datetime):
+        ax.figure.autofmt_xdate()
+    ax.margins(x=0.01)
+    ax.grid(alpha=0.3)
+    ax.legend(handles=[Patch(color=BAND, label="the truth lies within"),
+                       Line2D([], [], color=LINE, linewidth=0.7, linestyle=":", label="the middle"),
+                       Line2D([], [], color=LINE, linewidth=1.6, label="known exactly")],
+              loc="best", frameon=False)
+    return ax
