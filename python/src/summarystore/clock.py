@@ -107,8 +107,7 @@ class Clock:
         self.resolution = resolution
         self._step = NANOSECONDS[resolution]
         self._zone = zone
-        midnight = datetime.datetime(since.year, since.month, since.day, tzinfo=UTC)
-        self._origin = nanoseconds(midnight, None)
+        self._origin = self.day(since)
 
     def time(self, given: object) -> int:
         """The count of a time. One between two counts, or before the first, is refused."""
@@ -117,11 +116,19 @@ class Clock:
         count = self._count(given)
         if count is not None:
             return count
-        whole, rest = divmod(self._nanoseconds(given) - self._origin, self._step)
+        return self.of(self._nanoseconds(given), given)
+
+    def of(self, passed: int, given: object) -> int:
+        """The count of nanoseconds since 1970."""
+        whole, rest = divmod(passed - self._origin, self._step)
         if rest:
             raise TimeError(f"{given} lies between two times of the stream, which counts in "
                             f"{self.resolution}")
         return _checked(whole, given)
+
+    def day(self, day: datetime.date) -> int:
+        """Nanoseconds from 1970 to a day in UTC."""
+        return nanoseconds(datetime.datetime(day.year, day.month, day.day, tzinfo=UTC), None)
 
     def begin(self, given: object) -> int:
         """The first count at a time or after it."""

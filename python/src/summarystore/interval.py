@@ -129,28 +129,47 @@ class Interval:
         that = _interval(other)
         if that is None:
             return NotImplemented
-        return self._with(that, _add(self.lo, that.lo), _add(self.hi, that.hi))
+        return self._plus(that)
 
-    __radd__ = __add__
+    def __radd__(self, other: object) -> Interval:
+        that = _interval(other)
+        if that is None:
+            return NotImplemented
+        return self._plus(that)
 
     def __neg__(self) -> Interval:
         return self._with(self, _times(self.hi, -1), _times(self.lo, -1))
 
     def __sub__(self, other: object) -> Interval:
         that = _interval(other)
-        return NotImplemented if that is None else self + -that
+        if that is None:
+            return NotImplemented
+        return self._plus(that.__neg__())
 
     def __rsub__(self, other: object) -> Interval:
-        return -self + other
+        that = _interval(other)
+        if that is None:
+            return NotImplemented
+        return that._plus(self.__neg__())
 
     def __mul__(self, other: object) -> Interval:
         that = _interval(other)
         if that is None:
             return NotImplemented
+        return self._by(that)
+
+    def __rmul__(self, other: object) -> Interval:
+        that = _interval(other)
+        if that is None:
+            return NotImplemented
+        return self._by(that)
+
+    def _plus(self, that: Interval) -> Interval:
+        return self._with(that, _add(self.lo, that.lo), _add(self.hi, that.hi))
+
+    def _by(self, that: Interval) -> Interval:
         ends = [_times(a, b) for a in (self.lo, self.hi) for b in (that.lo, that.hi)]
         return self._with(that, min(ends), max(ends))
-
-    __rmul__ = __mul__
 
     def __truediv__(self, other: object) -> Interval:
         that = _interval(other)

@@ -39,15 +39,15 @@ class DescribedCodec:
     def __init__(self, short: str, description: Description, zone: datetime.tzinfo | None) -> None:
         self.short = short
         self.description: Description | None = description
-        self._clock = Clock(description.time, description.since, zone)
+        clock = self.clock = Clock(description.time, description.since, zone)
         self._scale = Scale(description.scale, description.rounding)
-        self.time, self.begin, self.end = self._clock.time, self._clock.begin, self._clock.end
-        self.step, self.now, self.time_back = self._clock.step, self._clock.now, self._clock.back
+        self.time, self.begin, self.end = clock.time, clock.begin, clock.end
+        self.step, self.now, self.time_back = clock.step, clock.now, clock.back
         self.value, self.value_back = self._scale.number, self._scale.value
 
     def rows(self, given: Sequence[tuple[object, object]]) -> Sequence[tuple[int, int]]:
         """Times and values together."""
-        time, value = self._clock.time, self._scale.number
+        time, value = self.time, self.value
         return [(time(t), value(v)) for t, v in given]
 
     def interval_back(self, kind: str, interval: Interval) -> Interval:

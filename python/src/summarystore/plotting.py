@@ -2,11 +2,9 @@
 
 from __future__ import annotations
 
-import datetime
 from collections.abc import Sequence
 from typing import TYPE_CHECKING
 
-from .errors import NoValueError
 from .records import Row
 from .series import Series
 
@@ -15,23 +13,14 @@ if TYPE_CHECKING:
 
     from .store import Store
 
-ROWS = 200
 BAND, LINE = "#9ecae1", "#08519c"
 
 
 def plot_store(store: Store, name: str, kind: str, t1: object | None, t2: object | None,
                step: object | None, ax: Axes | None) -> Axes:
     """Draws a series of a stream. What isn't given is that of the whole stream, in about 200 rows."""
-    if t1 is None or t2 is None or step is None:
-        span = store.span(name)
-        if span is None:
-            raise NoValueError(f"{name} has no values to draw")
-        t1 = span[0] if t1 is None else t1
-        t2 = span[1] if t2 is None else t2
-        if step is None:
-            step = store.steps(name, t1, t2, ROWS)
-    series = store.series(name, kind, t1, t2, step)
-    return draw(series, store.ends(name, series, t2), ax)
+    series, last = store.whole_series(name, kind, t1, t2, step)
+    return draw(series, store.ends(name, last), ax)
 
 
 def draw(series: Series, end: object, ax: Axes | None = None) -> Axes:
@@ -74,8 +63,6 @@ def _labelled(ax: Axes, series: Series) -> Axes:
     from matplotlib.patches import Patch
     ax.set_title(series.name)
     ax.set_ylabel(f"{series.kind}, {series.unit}" if series.unit else series.kind)
-    if series and isinstance(series[0].start, datetime.datetime):
-        ax.figure.autofmt_xdate()
     ax.margins(x=0.01)
     ax.grid(alpha=0.3)
     ax.legend(handles=[Patch(color=BAND, label="the truth lies within"),

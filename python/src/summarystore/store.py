@@ -18,7 +18,7 @@ from .channel import Channel
 from .codec import Codec
 from .cursor import Windows
 from .description import Description, changed, description_of
-from .errors import CursorBusyError, LateError, RefusedError
+from .errors import CursorBusyError, LateError, NoValueError, RefusedError
 from .interval import Interval, Presence
 from .late import MOST_HELD
 from .pipeline import Appends
@@ -30,6 +30,8 @@ if TYPE_CHECKING:
     from matplotlib.axes import Axes
 
     from .reordered import Reordered
+
+ROWS = 200
 
 
 class Store(Channel):
@@ -110,7 +112,11 @@ class Store(Channel):
         are sent then, and RowsRefusedError is raised. With `lateness` rows that are late by at most so
         much are sorted.
         """
-        codec = self._translator.codec(name)
+        return self.append_rows(self._translator.codec(name), rows, refused, lateness)
+
+    def append_rows(self, codec: Codec, rows: object, refused: OnRefused | None = None,
+                    lateness: object | None = None) -> int:
+        """`append_many` for whoever has made the codec of the stream."""
         with self._session() as session:
             sending = Sending(codec, session, rows, refused, lateness)
             under_way: deque[Appends[tuple[object, object]]] = deque()
@@ -238,15 +244,32 @@ class Store(Channel):
         from .plotting import plot_store
         return plot_store(self, name, kind, t1, t2, step, ax)
 
-    def steps(self, name: str, t1: object, t2: object, rows: int) -> int:
-        """A step with which a range has about so many rows, as a whole number."""
-        codec = self._translator.codec(name)
-        return max(1, (codec.end(t2) - codec.begin(t1)) // rows + 1)
+    def codec(self, name: str) -> Codec:
+        """How a stream's times and values become whole numbers, and back."""
+        return self._translator.codec(name)
 
-    def ends(self, name: str, series: Series, t2: object) -> Time:
-        """Where the last row of a series up to t2 ends."""
+    def last_count(self, name: str) -> int | None:
+        """The last time of a stream as a whole number."""
+        found = self._do(calls.last_numbers(self._translator.codec(name)))
+        return found[0] if found else None
+
+    def whole_series(self, name: str, kind: str, t1: object | None = None, t2: object | None = None,
+                     step: object | None = None) -> tuple[Series, object]:
+        """A series, and its last time. What isn't given is that of the stream, in about 200 rows."""
         codec = self._translator.codec(name)
-        return codec.time_back(codec.end(t2))
+        if t1 is None or t2 is None:
+            span = self.span(name)
+            if span is None:
+                raise NoValueError(f"{name} has no values yet")
+            t1, t2 = (span[0] if t1 is None else t1), (span[1] if t2 is None else t2)
+        if step is None:
+            step = (codec.end(t2) - codec.begin(t1)) // ROWS + 1
+        return self.series(name, kind, t1, t2, step), t2
+
+    def ends(self, name: str, last: object) -> Time:
+        """A last time, as it is shown."""
+        codec = self._translator.codec(name)
+        return codec.time_back(codec.end(last))
 
     def span(self, name: str) -> tuple[int, int] | None:
         """The first time that a stream shows and its last one, as whole numbers."""

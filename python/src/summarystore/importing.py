@@ -1,0 +1,315 @@
+"""The command `summarystore-import`: tables of readings into streams, to be run again after a kill."""
+
+from __future__ import annotations
+
+import argparse
+import os
+import sys
+from collections.abc import Callable, Sequence
+from dataclasses import dataclass, field
+from pathlib import Path
+
+from . import clock, tables, timeforms
+from .codec import Codec, PlainCodec
+from .description import NANOSECONDS, ROUNDINGS, description_of
+from .errors import NotANumberError, SummaryStoreError
+from .late import ReorderBuffer
+from .names import DescribedCodec, Names, short_name
+from .progress import Progress
+from .scale import decimal_places
+from .store import Store
+from .tables import Record, Table
+from .timeforms import TimeForm
+
+BATCH = 5000
+SHOWN = 20
+DEFAULT_TARGET = "power 1 1 4 1"
+NO_VALUE = ""
+
+
+@dataclass
+class Into:
+    """A stream that is being filled: how it is read, and what was made of its rows."""
+
+    name: str
+    codec: Codec
+    exists: bool
+    time_of: Callable[[str], int]
+    newest: int = -1
+    buffer: ReorderBuffer[tuple[int, int, int]] | None = None
+    waiting: list[tuple[int, str, str]] = field(default_factory=list)
+    stored: int = 0
+    before: int = 0
+    refused: int = 0
+    empty: int = 0
+
+    def said(self, dry: bool) -> str:
+        """What became of the rows."""
+        stored = f"{self.stored} rows {'to store' if dry else 'stored'}"
+        empty = f", {self.empty} without a value" if self.empty else ""
+        return f"{self.name}: {stored}, {self.before} there before, {self.refused} refused{empty}"
+
+
+class Import:
+    """One run: a table, a store or none, and the streams that were met."""
+
+    def __init__(self, words: argparse.Namespace, table: Table) -> None:
+        self._words = words
+        self._table = table
+        self._zone = clock.zone_of(words.zone)
+        self._store: Store | None = None
+        self._streams: dict[str, Into] = {}
+        self._standing: set[str] = set()
+        self._shown = 0
+        self._time_column = _column(table, words.time, 0)
+        self._name_column = None if words.stream is None else _column(table, words.stream, None)
+        self._values = self._value_columns()
+        self._form = self._time_form()
+        self._lateness = words.lateness
+
+    # ---- what is guessed ------------------------------------------------------------------
+
+    def _value_columns(self) -> Sequence[int]:
+        table, words = self._table, self._words
+        if words.value:
+            return [_column(table, value, None) for value in words.value]
+        width = max((len(record.cells) for record in table.sample), default=0)
+        found = [at for at in range(width) if at not in (self._time_column, self._name_column)
+                 and any(tables.is_number(_cell(record, at), table.decimal_comma)
+                         for record in table.sample)]
+        if not found:
+            raise tables.SourceError("no column holds numbers: give --value")
+        return found
+
+    def _time_form(self) -> TimeForm:
+        texts = [_cell(record, self._time_column) for record in self._table.sample]
+        if self._words.time_unit:
+            described = description_of(time=self._words.time_unit, since=self._words.since)
+            assert described is not None
+            return TimeForm(timeforms.WHOLE, described.time, described.since)
+        if self._words.time_format:
+            return timeforms.of_form(self._words.time_format, texts, self._zone)
+        return timeforms.guess(texts, self._zone)
+
+    def _scale(self, column: int) -> str:
+        if self._words.scale:
+            return str(self._words.scale)
+        cells = (_number(_cell(record, column), self._table.decimal_comma) for record in self._table.sample)
+        places = max((decimal_places(cell) for cell in cells if tables.is_number(cell)), default=0)
+        return "0." + "0" * (places - 1) + "1" if places else "1"
+
+    def guessed(self) -> list[str]:
+        """The lines that show what is guessed."""
+        lines = [f"{self._words.source}: {self._table.shown}, times as {self._form}"]
+        for column in self._values if self._name_column is None else ():
+            lines.append(f"{self._name(column, '')}: from column {column + 1}, scale {self._scale(column)}, "
+                         f"time {self._resolution()}, target {self._words.target}")
+        return lines
+
+    def _resolution(self) -> str:
+        return str(self._words.resolution or self._form.resolution)
+
+    def _name(self, column: int, cell: str) -> str:
+        """The name of a stream: that of its column, or of the cell that names it."""
+        heads = self._table.heads
+        own = cell or (heads[column] if column < len(heads) else "")
+        given = str(self._words.name or "")
+        if not cell and len(self._values) == 1:
+            return given or own or Path(self._words.source).stem
+        own = own or f"column-{column + 1}"
+        if cell and len(self._values) > 1 and column < len(heads):
+            own = f"{cell}/{heads[column]}"
+        return f"{given}/{own}" if given else own
+
+    # ---- the rows -------------------------------------------------------------------------
+
+    def run(self, store: Store | None) -> bool:
+        """Takes all rows. Without a store they are only looked at. Whether none was refused."""
+        self._store = store
+        if store is not None:
+            self._standing = {stream.name for stream in store.list()}
+        with Progress(self._table.size, self._table.read, self._words.quiet) as progress:
+            for record in self._table.records:
+                self._take(record)
+                progress.row()
+            for into in self._streams.values():
+                self._send(into)
+                self._flush(into)
+        for into in self._streams.values():
+            print(into.said(self._words.dry_run))
+        return not any(into.refused for into in self._streams.values())
+
+    def _take(self, record: Record) -> None:
+        cells = record.cells
+        names = "" if self._name_column is None else _cell(record, self._name_column)
+        for column in self._values:
+            into = self._streams.get(f"{column} {names}") or self._opened(column, names)
+            text = cells[column].strip() if column < len(cells) else ""
+            if text == NO_VALUE:
+                into.empty += 1
+                continue
+            into.waiting.append((record.line, _cell(record, self._time_column), text))
+            if len(into.waiting) >= BATCH:
+                self._send(into)
+
+    def _opened(self, column: int, names: str) -> Into:
+        """The stream of a column or of a cell. One that doesn't stand is made."""
+        name = self._name(column, names)
+        codec = self._codec(name, column)
+        into = Into(name, codec, name in self._standing, self._form.reader(codec))
+        if self._store is not None and into.exists:
+            found = self._store.last_count(name)
+            into.newest = -1 if found is None else found
+        if self._lateness is not None:
+            into.buffer = ReorderBuffer(codec.step(self._lateness))
+        self._streams[f"{column} {names}"] = into
+        return into
+
+    def _codec(self, name: str, column: int) -> Codec:
+        words = self._words
+        if self._store is not None and name in self._standing:
+            return self._store.codec(name)
+        since = words.since or self._form.since
+        description = description_of(scale=self._scale(column), time=self._resolution(), since=since,
+                                     unit=words.unit, rounding=words.rounding)
+        assert description is not None
+        if self._store is None or words.dry_run:
+            return DescribedCodec(short_name(name, description), description, self._zone)
+        self._store.create(name, words.target, words.within, scale=description.scale,
+                           time=description.time, since=description.since, unit=description.unit,
+                           rounding=description.rounding)
+        self._standing.add(name)
+        return self._store.codec(name)
+
+    def _send(self, into: Into) -> None:
+        """Makes numbers of the rows that wait, and sends those that aren't there."""
+        waiting, into.waiting = into.waiting, []
+        comma, time_of, value_of = self._table.decimal_comma, into.time_of, into.codec.value
+        rows: list[tuple[int, int, int]] = []
+        for line, time, text in waiting:
+            try:
+                row = time_of(time), _value(value_of, _number(text, comma)), line
+            except SummaryStoreError as error:
+                self._refuse(into, line, error)
+                continue
+            if into.buffer is None:
+                rows.append(row)
+            else:
+                rows += into.buffer.put(row[0], row)
+        self._store_rows(into, rows)
+
+    def _flush(self, into: Into) -> None:
+        if into.buffer is not None:
+            self._store_rows(into, into.buffer.flush())
+
+    def _store_rows(self, into: Into, rows: Sequence[tuple[int, int, int]]) -> None:
+        new = [(time, value) for time, value, _ in rows if time > into.newest]
+        into.before += len(rows) - len(new)
+        if not new:
+            return
+        lines: dict[object, int] = {}
+
+        def refused(row: tuple[object, object], error: Exception) -> None:
+            if not lines:
+                lines.update({(time, value): line for time, value, line in reversed(rows)})
+            self._refuse(into, lines.get(row, 0), error)
+
+        if self._store is None or self._words.dry_run:
+            into.stored += len(new)
+        else:
+            into.stored += self._store.append_rows(PlainCodec(into.codec.short), new, refused)
+
+    def _refuse(self, into: Into, line: int, error: Exception) -> None:
+        into.refused += 1
+        self._shown += 1
+        if self._shown <= SHOWN:
+            print(f"line {line}: {into.name}: {error}", file=sys.stderr)
+        elif self._shown == SHOWN + 1:
+            print("further rows that are refused are only counted", file=sys.stderr)
+
+
+def _value(value_of: Callable[[object], int], text: str) -> int:
+    try:
+        return value_of(text)
+    except NotANumberError:
+        raise NotANumberError(f"not a number: {text[:40]}") from None
+
+
+def _number(text: str, comma: bool) -> str:
+    """A number with a point. With a decimal comma a point is no part of a number."""
+    if not comma:
+        return text
+    return text.replace(",", ".", 1) if "." not in text else text + " "
+
+
+def _cell(record: Record, column: int) -> str:
+    return record.cells[column].strip() if column < len(record.cells) else ""
+
+
+def _column(table: Table, word: str | None, otherwise: int | None) -> int:
+    """A column by its head, or by its number from 1 on."""
+    if word is None:
+        assert otherwise is not None
+        return otherwise
+    if word in table.heads:
+        return list(table.heads).index(word)
+    if word.isdecimal() and int(word) >= 1:
+        return int(word) - 1
+    raise tables.SourceError(f"no column {word}; there are {', '.join(table.heads) or 'no heads'}")
+
+
+def arguments() -> argparse.ArgumentParser:
+    """The arguments of the command."""
+    parser = argparse.ArgumentParser(
+        prog="summarystore-import", description="Stores the readings of a CSV, SQLite, RRD or Whisper file. "
+        "What isn't given is guessed and shown. After a kill, run it again: what is stored isn't sent again.")
+    add = parser.add_argument
+    add("store", metavar="STORE")
+    add("source", metavar="FILE", help="a file, or - for CSV on standard input")
+    add("--name", help="the stream, or what stands before the names of several")
+    add("--target", default=DEFAULT_TARGET, help=f"of new streams (default: {DEFAULT_TARGET})")
+    add("--within", type=int, help="of new streams, where the program knows it")
+    add("--time", metavar="COLUMN", help="the column of times, by its head or number (default: the first)")
+    add("--value", metavar="COLUMN", action="append", help="a column of values (default: all with numbers)")
+    add("--stream", metavar="COLUMN", help="the column that names the stream of a row")
+    add("--scale", help="what one step of a value is worth (default: by the decimals of the first rows)")
+    add("--rounding", choices=list(ROUNDINGS), help="how values that don't fit the scale are rounded")
+    add("--unit", help="of the values")
+    add("--resolution", choices=list(NANOSECONDS), help="of the times that are stored")
+    add("--since", metavar="DAY", help="the day from which times count (default: 1970-01-01)")
+    add("--zone", help="of times without one, as Europe/Berlin")
+    add("--time-format", metavar="FORMAT", help="as of strptime, or 'ISO 8601'")
+    add("--time-unit", choices=list(NANOSECONDS), help="what times that are whole numbers count")
+    add("--delimiter", help="of CSV")
+    add("--decimal", choices=[".", ","], help="of CSV")
+    add("--query", metavar="SQL", help="of an SQLite file: time, value, and perhaps a name")
+    add("--function", default="AVERAGE", help="of an RRD file (default: AVERAGE)")
+    add("--start", help="of an RRD file")
+    add("--end", help="of an RRD file")
+    add("--lateness", help="sorts rows that are late by at most so much, as 15min")
+    add("--dry-run", action="store_true", help="shows what is guessed, and stores nothing")
+    add("--quiet", action="store_true", help="shows no progress")
+    add("--program", help="the path of the program summarystore")
+    return parser
+
+
+def main(given: Sequence[str] | None = None) -> int:
+    """Runs the command. 0 where all rows were stored, 1 where some were refused, 3 otherwise."""
+    words = arguments().parse_args(given)
+    try:
+        table = tables.table_of(words.source, words.query, words.delimiter, words.decimal, words.function,
+                                words.start, words.end)
+        work = Import(words, table)
+        if words.dry_run or not words.quiet:
+            print("\n".join(work.guessed()))
+        if words.dry_run and not os.path.exists(words.store):
+            return 0 if work.run(None) else 1
+        with Store(words.store, program=words.program, translator=Names(words.store, words.zone)) as store:
+            return 0 if work.run(store) else 1
+    except (SummaryStoreError, OSError) as error:
+        print(f"summarystore-import: {error}", file=sys.stderr)
+        return 3
+
+
+if __name__ == "__main__":
+    sys.exit(main())

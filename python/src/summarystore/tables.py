@@ -1,0 +1,194 @@
+"""Tables of text with a time and values: CSV files, SQLite queries, RRD and Whisper files."""
+
+from __future__ import annotations
+
+import csv
+import io
+import sqlite3
+import subprocess
+import sys
+from collections.abc import Callable, Iterable, Iterator, Sequence
+from dataclasses import dataclass
+from itertools import chain, islice
+from pathlib import Path
+from typing import BinaryIO, NamedTuple
+
+from .decimals import NUMBER
+from .errors import SummaryStoreError
+
+SAMPLE = 1000
+DELIMITERS = (",", ";", "\t", "|", " ")
+
+
+class SourceError(SummaryStoreError):
+    """What is to be read can't be."""
+
+
+class Record(NamedTuple):
+    """A line of a table: where it stands, and its cells."""
+
+    line: int
+    cells: Sequence[str]
+
+
+@dataclass
+class Table:
+    """A table: its heads, where there are some, its first records, and all of them."""
+
+    heads: Sequence[str]
+    sample: Sequence[Record]
+    records: Iterator[Record]
+    shown: str
+    decimal_comma: bool = False
+    size: int | None = None
+    read: Callable[[], int] | None = None
+
+
+def is_number(text: str, comma: bool = False) -> bool:
+    """Whether a text is a number."""
+    return bool(NUMBER.fullmatch(text.replace(",", ".", 1) if comma else text))
+
+
+def _table(heads: Sequence[str], records: Iterable[Record], shown: str) -> Table:
+    every = iter(records)
+    sample = list(islice(every, SAMPLE))
+    return Table(heads, sample, chain(sample, every), shown)
+
+
+# ---- CSV --------------------------------------------------------------------------------
+
+
+def csv_table(path: str, delimiter: str | None, decimal: str | None) -> Table:
+    """A CSV file, or standard input where the path is `-`. What isn't given is guessed."""
+    if path == "-":
+        raw: BinaryIO = sys.stdin.buffer
+        size = None
+    else:
+        raw = open(path, "rb")
+        size = Path(path).stat().st_size
+    text = io.TextIOWrapper(raw, encoding="utf-8-sig", newline="")
+    try:
+        head = list(islice(text, SAMPLE))
+    except UnicodeDecodeError as error:
+        raise SourceError(f"{path} isn't UTF-8 text: {error}") from None
+    delimiter = delimiter or guess_delimiter(head)
+    records = _records(csv.reader(chain(head, text), delimiter=delimiter))
+    table = _table((), records, "")
+    comma = decimal == "," if decimal else delimiter != "," and _has_commas(table.sample)
+    heads: Sequence[str] = ()
+    if table.sample and not any(is_number(cell, comma) for cell in table.sample[0].cells):
+        heads = [cell.strip() for cell in next(table.records).cells]
+        table.sample = table.sample[1:]
+    shown = f"delimiter {delimiter!r}, decimal {'comma' if comma else 'point'}"
+    tell = raw.tell if size is not None else None
+    return Table(heads, table.sample, table.records, shown, comma, size, tell)
+
+
+def _records(reader: Iterator[list[str]]) -> Iterator[Record]:
+    for cells in reader:
+        if cells:
+            yield Record(getattr(reader, "line_num"), cells)
+
+
+def guess_delimiter(lines: Sequence[str]) -> str:
+    """The delimiter that gives the same number of cells on most lines, at least two."""
+    best, most = ",", 0
+    for delimiter in DELIMITERS:
+        counts = [len(cells) for cells in csv.reader(lines[:100], delimiter=delimiter) if cells]
+        width = max(set(counts), key=counts.count, default=0)
+        if width > 1 and counts.count(width) > most:
+            best, most = delimiter, counts.count(width)
+    return best
+
+
+def _has_commas(sample: Sequence[Record]) -> bool:
+    """Whether numbers with a decimal comma stand there, and none with a point."""
+    cells = [cell.strip() for record in sample for cell in record.cells]
+    with_comma = any("," in cell and is_number(cell, True) for cell in cells)
+    return with_comma and not any("." in cell and is_number(cell) for cell in cells)
+
+
+# ---- others -----------------------------------------------------------------------------
+
+
+def sqlite_table(path: str, query: str) -> Table:
+    """The rows of a query over an SQLite file, which is opened to be read."""
+    try:
+        connection = sqlite3.connect(f"{Path(path).absolute().as_uri()}?mode=ro", uri=True)
+        cursor = connection.execute(query)
+        heads = [column[0] for column in cursor.description or ()]
+        rows = (Record(at, [_text(cell) for cell in row]) for at, row in enumerate(cursor, 1))
+        return _table(heads, rows, "SQLite")
+    except sqlite3.Error as error:
+        raise SourceError(f"{path}: {error}") from None
+
+
+def _text(cell: object) -> str:
+    return "" if cell is None else str(cell)
+
+
+def rrd_table(path: str, function: str, start: str | None, end: str | None) -> Table:
+    """An RRD file, by `rrdtool fetch`. A value that isn't known is an empty cell."""
+    start = start or _run("rrdtool", "first", path).strip()
+    end = end or _run("rrdtool", "last", path).strip()
+    lines = _run("rrdtool", "fetch", path, function, "--start", start, "--end", end).splitlines()
+    heads = ["time", *lines[0].split()] if lines else []
+    rows = []
+    for at, line in enumerate(lines[1:], 2):
+        time, colon, values = line.partition(":")
+        if colon:
+            cells = ["" if "nan" in cell.lower() else cell for cell in values.split()]
+            rows.append(Record(at, [time.strip(), *cells]))
+    return _table(heads, rows, f"rrdtool fetch {function}")
+
+
+def _run(*words: str) -> str:
+    try:
+        done = subprocess.run(words, capture_output=True, text=True, check=False)
+    except FileNotFoundError:
+        raise SourceError(f"{words[0]} isn't installed") from None
+    if done.returncode != 0:
+        raise SourceError(f"{' '.join(words)}: {done.stderr.strip()}")
+    return done.stdout
+
+
+def whisper_table(path: str) -> Table:
+    """A Whisper file: what its archives hold, the finest first, in the order of their times."""
+    try:
+        import whisper
+    except ImportError:
+        raise SourceError("python3-whisper isn't installed") from None
+    info = whisper.info(path)
+    if info is None:
+        raise SourceError(f"{path} isn't a Whisper file")
+    found: dict[int, object] = {}
+    now = None
+    for archive in info["archives"]:
+        span, values = whisper.fetch(path, 0, now, archiveToSelect=archive["secondsPerPoint"])
+        first, last, step = span
+        oldest = min(found, default=last)
+        points = {time: value for time, value in zip(range(first, last, step), values)
+                  if value is not None and time < oldest}
+        found.update(points)
+    rows = [Record(at, [str(time), _text(found[time])]) for at, time in enumerate(sorted(found), 1)]
+    return _table(["time", Path(path).stem], rows, "Whisper")
+
+
+def table_of(path: str, query: str | None, delimiter: str | None, decimal: str | None,
+             function: str, start: str | None, end: str | None) -> Table:
+    """The table of a file, by what the file is."""
+    if path != "-":
+        try:
+            with open(path, "rb") as file:
+                magic = file.read(16)
+        except OSError as error:
+            raise SourceError(f"{path}: {error.strerror}") from None
+        if magic.startswith(b"SQLite format 3\0"):
+            if query is None:
+                raise SourceError("an SQLite file needs --query 'select time, value from .. order by time'")
+            return sqlite_table(path, query)
+        if magic.startswith(b"RRD\0"):
+            return rrd_table(path, function, start, end)
+        if path.endswith(".wsp"):
+            return whisper_table(path)
+    return csv_table(path, delimiter, decimal)

@@ -1,0 +1,143 @@
+"""How times are written in a table: guessed from the first of them, and read from all."""
+
+from __future__ import annotations
+
+import datetime
+import re
+from collections.abc import Callable, Sequence
+from dataclasses import dataclass
+
+from .clock import COUNT, DAY, moment_of, nanoseconds
+from .codec import Codec
+from .description import EPOCH, NANOSECONDS
+from .errors import TimeError
+from .names import DescribedCodec
+
+ISO, WHOLE = "ISO 8601", "whole numbers"
+DATES = ("%d.%m.%Y", "%d/%m/%Y", "%m/%d/%Y", "%Y/%m/%d", "%d-%m-%Y", "%d.%m.%y")
+CLOCKS = (" %H:%M:%S", " %H:%M", " %H:%M:%S.%f", "")
+FRACTION = re.compile(r":[0-9]{2}[.,]([0-9]+)")
+# Counts since 1970 by how many digits they have: seconds until 5138, and so on.
+DIGITS = ((8, 11, "s"), (12, 14, "ms"), (15, 17, "us"), (18, 20, "ns"))
+
+
+@dataclass(frozen=True)
+class TimeForm:
+    """How times are written, and which resolution and first day that asks for."""
+
+    form: str
+    resolution: str
+    since: datetime.date = EPOCH
+    zone: datetime.tzinfo | None = None
+
+    def __str__(self) -> str:
+        zone = f" in {self.zone}" if self.zone is not None and self.form != WHOLE else ""
+        return f"{self.form}{f' of {self.resolution}' if self.form == WHOLE else zone}"
+
+    def reader(self, codec: Codec) -> Callable[[str], int]:
+        """What gives the count of a text, for a stream."""
+        if self.form == WHOLE:
+            return self._whole(codec)
+        if not isinstance(codec, DescribedCodec):
+            raise TimeError(f"{codec.short} takes whole numbers as times, and the table has {self.form}")
+        time, at, form, zone = codec.time, codec.clock.of, self.form, self.zone
+        days = codec.description is not None and codec.description.time == "day"
+
+        def moment(text: str) -> int:
+            if days and len(text) <= 10:
+                return time(_date(text, form))
+            return at(moment_in(text, form, zone), text)
+        return moment
+
+    def _whole(self, codec: Codec) -> Callable[[str], int]:
+        each = NANOSECONDS[self.resolution]
+        description = codec.description
+        same = description is None or (description.time, description.since) == (self.resolution, self.since)
+
+        def count(text: str) -> int:
+            if not COUNT.fullmatch(text):
+                raise TimeError(f"not a whole number: {text[:40]!r}")
+            number = int(text)
+            if same:
+                return number
+            assert isinstance(codec, DescribedCodec)
+            return codec.clock.of(number * each + codec.clock.day(self.since), text)
+        return count
+
+
+def moment_in(text: str, form: str, zone: datetime.tzinfo | None) -> int:
+    """Nanoseconds since 1970 of a text of this form."""
+    if form == ISO:
+        if len(text) > 26:
+            return moment_of(text, zone)
+        try:
+            return nanoseconds(datetime.datetime.fromisoformat(text), zone)
+        except TimeError:
+            raise
+        except ValueError:
+            raise TimeError(f"not a time: {text[:60]!r}") from None
+    try:
+        return nanoseconds(datetime.datetime.strptime(text, form), zone)
+    except TimeError:
+        raise
+    except ValueError:
+        raise TimeError(f"not a time as {form}: {text[:60]!r}") from None
+
+
+def _date(text: str, form: str) -> datetime.date:
+    try:
+        if form == ISO:
+            return datetime.date.fromisoformat(text)
+        return datetime.datetime.strptime(text, form).date()
+    except ValueError:
+        raise TimeError(f"not a day as {form}: {text[:40]!r}") from None
+
+
+def guess(texts: Sequence[str], zone: datetime.tzinfo | None) -> TimeForm:
+    """The form of these times. Where two forms fit, or none, it has to be told."""
+    texts = [text for text in texts if text]
+    if texts and all(COUNT.fullmatch(text) for text in texts):
+        return TimeForm(WHOLE, _unit(texts))
+    best = [form for form in (ISO, *(date + clock for date in DATES for clock in CLOCKS))
+            if _fits(texts, form) * 2 > len(texts)]
+    most = max((_fits(texts, form) for form in best), default=0)
+    best = [form for form in best if _fits(texts, form) == most]
+    if len(best) != 1:
+        told = f"both {best[0]} and {best[1]} fit" if best else "no form is known that fits"
+        example = next(iter(texts), "nothing")
+        raise TimeError(f"times such as {example!r}: {told}; give --time-format")
+    return of_form(best[0], texts, zone)
+
+
+def of_form(form: str, texts: Sequence[str], zone: datetime.tzinfo | None) -> TimeForm:
+    """The form that was told, with the resolution and the first day that these times ask for."""
+    days = [day for day in map(lambda text: _day(text, form), texts) if day is not None]
+    first = min(days, default=EPOCH)
+    since = datetime.date(first.year, 1, 1) if first < EPOCH else EPOCH
+    fitting = [text for text in texts if _day(text, form) is not None]
+    if fitting and all(DAY.fullmatch(text) if form == ISO else "%H" not in form for text in fitting):
+        return TimeForm(form, "day", since, zone)
+    places = max((len(found[1]) for text in texts if (found := FRACTION.search(text))), default=0)
+    resolution = "s" if not places else "ms" if places <= 3 else "us" if places <= 6 else "ns"
+    return TimeForm(form, resolution, since, zone)
+
+
+def _unit(texts: Sequence[str]) -> str:
+    digits = max(len(text.lstrip("0")) for text in texts)
+    for least, most, unit in DIGITS:
+        if least <= digits <= most:
+            return unit
+    raise TimeError(f"times such as {texts[0]!r} may count anything: give --time-unit and --since")
+
+
+def _fits(texts: Sequence[str], form: str) -> int:
+    return sum(_day(text, form) is not None for text in texts)
+
+
+def _day(text: str, form: str) -> datetime.date | None:
+    try:
+        if form == ISO:
+            return datetime.datetime.fromisoformat(text[:19] if len(text) > 26 else text).date()
+        return datetime.datetime.strptime(text, form).date()
+    except ValueError:
+        return None
