@@ -39,7 +39,7 @@ def draw(series: Series, end: object, ax: Axes | None = None) -> Axes:
         ax.plot(times, [float(row.interval.mid) for row in rows], color=LINE, linewidth=0.7,
                 linestyle=":")
         for at in run:
-            if series[at].interval.exact:
+            if _is_known(series[at]):
                 level = float(series[at].interval.mid)
                 ax.plot(edges[at], [level, level], color=LINE, linewidth=1.6, solid_capstyle="butt")
     return _labelled(ax, series)
@@ -56,6 +56,12 @@ def _runs(series: Sequence[Row]) -> list[list[int]]:
         else:
             runs.append([at])
     return runs
+
+
+def _is_known(row: Row) -> bool:
+    """Whether both ends are one, as far as a picture shows. A mean may have no last digit."""
+    interval = row.interval
+    return not interval.maybe_none and float(interval.lo) == float(interval.hi)
 
 
 def _labelled(ax: Axes, series: Series) -> Axes:

@@ -1,0 +1,70 @@
+"""What tests share: the program, a folder in memory for each test, and stores in it."""
+
+from __future__ import annotations
+
+import os
+import shutil
+import tempfile
+from collections.abc import Callable, Iterator
+from pathlib import Path
+
+import pytest
+
+import summarystore
+from summarystore.errors import ProgramMissingError
+from summarystore.program import find_program
+from summarystore.store import Store
+
+ROWS = int(os.environ.get("SUMMARYSTORE_TEST_ROWS", "20000"))
+"""How many rows the large tests send. The gate takes a million."""
+
+HOME = Path(__file__).resolve().parents[1]
+
+
+@pytest.fixture(scope="session")
+def program() -> str:
+    """The path of the program."""
+    try:
+        return find_program()
+    except ProgramMissingError as error:
+        pytest.fail(str(error))
+
+
+@pytest.fixture
+def folder() -> Iterator[Path]:
+    """An empty folder, in memory where there is some."""
+    memory = "/dev/shm" if os.access("/dev/shm", os.W_OK) else None
+    made = tempfile.mkdtemp(prefix="summarystore-", dir=memory)
+    yield Path(made)
+    shutil.rmtree(made)
+
+
+@pytest.fixture
+def path(folder: Path, program: str) -> Path:
+    """The path of a store that isn't there yet."""
+    return folder / "any.store"
+
+
+@pytest.fixture
+def store(path: Path) -> Iterator[Store]:
+    """A store with names and scales."""
+    with summarystore.open(path) as opened:
+        yield opened
+
+
+@pytest.fixture
+def plain(path: Path) -> Iterator[Store]:
+    """A store of whole numbers."""
+    with Store(path) as opened:
+        yield opened
+
+
+@pytest.fixture
+def fake(folder: Path) -> Callable[[str], str]:
+    """Makes a program of these lines of shell, for what the true one does rarely."""
+    def made(lines: str) -> str:
+        script = folder / "fake"
+        script.write_text(f"#!/bin/sh\n{lines}\n")
+        script.chmod(0o755)
+        return str(script)
+    return made

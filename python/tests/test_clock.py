@@ -1,0 +1,139 @@
+"""Times: zones, daylight saving, resolutions, and what doesn't say one time."""
+
+from __future__ import annotations
+
+import datetime
+import zoneinfo
+
+import numpy
+import pandas
+import pytest
+from hypothesis import given
+from hypothesis import strategies as st
+
+from summarystore import TimeError
+from summarystore.clock import Clock, span_of, zone_of
+from summarystore.description import EPOCH, NANOSECONDS
+
+BERLIN = zoneinfo.ZoneInfo("Europe/Berlin")
+HAVANA = zoneinfo.ZoneInfo("America/Havana")
+UTC = datetime.timezone.utc
+TEN = 1764406800    # 2026-11-29 is not it: 2025-11-29 09:00 UTC
+SECONDS = Clock("s", EPOCH, None)
+LOCAL = Clock("s", EPOCH, BERLIN)
+
+
+@pytest.mark.parametrize("given_time", [
+    "2025-11-29T10:00+01:00", "2025-11-29 09:00Z", "20251129T090000Z", "2025-11-29T09:00:00.000000+00:00",
+    datetime.datetime(2025, 11, 29, 9, tzinfo=UTC), datetime.datetime(2025, 11, 29, 10, tzinfo=BERLIN),
+    numpy.datetime64("2025-11-29T09:00"), pandas.Timestamp("2025-11-29T10:00", tz="Europe/Berlin"),
+    TEN, str(TEN), numpy.int64(TEN), "2025-11-29T09:00:00.000000000Z",
+])
+def test_one_time_in_many_forms(given_time: object) -> None:
+    assert SECONDS.time(given_time) == TEN
+    assert LOCAL.time(given_time) == TEN
+
+
+@pytest.mark.parametrize("given_time", [
+    "2025-11-29 10:00", "2025-11-29", datetime.datetime(2025, 11, 29, 9), datetime.date(2025, 11, 29),
+    pandas.Timestamp("2025-11-29 10:00"), pandas.NaT, numpy.datetime64("NaT"), "now", "", "yesterday",
+    "2025-13-01T00:00Z", 1.5, True, None, "2025-11-29T09:00:00.5Z", "1969-12-31T23:59:59Z", b"5", "-5",
+    "٣", numpy.float64(5.0), "2025-11-29T09:00:00.000000001Z",
+])
+def test_what_does_not_say_one_time(given_time: object) -> None:
+    with pytest.raises(TimeError):
+        SECONDS.time(given_time)
+
+
+@pytest.mark.parametrize("zone,moment,shown", [
+    (BERLIN, "2026-03-29 02:30", None), (BERLIN, "2026-10-25 02:30", None),
+    (BERLIN, "2026-03-29 01:59:59", "2026-03-29T00:59:59Z"), (BERLIN, "2026-03-29 03:00", "2026-03-29T01:00Z"),
+    (BERLIN, "2026-10-25 01:59:59", "2026-10-24T23:59:59Z"), (BERLIN, "2026-10-25 03:00", "2026-10-25T02:00Z"),
+    (BERLIN, "2026-10-25 02:30+02:00", "2026-10-25T00:30Z"),
+    (BERLIN, "2026-10-25 02:30+01:00", "2026-10-25T01:30Z"),
+    (HAVANA, "2026-03-08 00:30", None), (HAVANA, "2026-11-01 00:30", None),
+])
+def test_daylight_saving(zone: zoneinfo.ZoneInfo, moment: str, shown: str | None) -> None:
+    clock = Clock("s", EPOCH, zone)
+    if shown is None:
+        with pytest.raises(TimeError, match="twice|never"):
+            clock.time(moment)
+        with pytest.raises(TimeError, match="twice|never"):
+            clock.time(pandas.Timestamp(moment))
+    else:
+        assert clock.time(moment) == SECONDS.time(shown)
+        assert clock.time(pandas.Timestamp(moment)) == SECONDS.time(shown)
+
+
+@pytest.mark.parametrize("zone,day,hours", [
+    (BERLIN, "2026-03-29", 23), (BERLIN, "2026-10-25", 25), (BERLIN, "2026-07-01", 24),
+    (HAVANA, "2026-03-08", 23), (HAVANA, "2026-11-01", 25), (UTC, "2026-03-29", 24),
+])
+def test_a_day_is_all_of_it(zone: datetime.tzinfo, day: str, hours: int) -> None:
+    for resolution in ("ms", "s", "minute"):
+        clock = Clock(resolution, EPOCH, zone)
+        steps = hours * 3600 * 10**9 // NANOSECONDS[resolution]
+        assert clock.end(day) - clock.begin(day) + 1 == steps
+        assert clock.begin(datetime.date.fromisoformat(day)) == clock.begin(day)
+
+
+def test_ranges_of_times_between_two_counts() -> None:
+    clock = Clock("minute", EPOCH, UTC)
+    assert clock.begin("1970-01-01T00:00:30Z") == 1 and clock.end("1970-01-01T00:01:59Z") == 1
+    assert clock.begin("1960-01-01T00:00Z") == 0
+    assert (clock.begin(None), clock.end(None)) == (0, 2**62)
+    with pytest.raises(TimeError):
+        clock.end("1960-01-01T00:00Z")
+    with pytest.raises(TimeError):
+        Clock("ns", EPOCH, UTC).begin("2200-01-01T00:00Z")
+
+
+def test_days_before_1970() -> None:
+    clock = Clock("day", datetime.date(1958, 1, 1), BERLIN)
+    assert clock.time("1958-03-29") == 87
+    assert clock.back(87) == datetime.datetime(1958, 3, 29, 1, tzinfo=BERLIN)
+    assert (clock.begin("1958-03-29"), clock.end("1958-03-29")) == (87, 87)
+    with pytest.raises(TimeError):
+        clock.time("1957-12-31")
+
+
+@given(st.datetimes(datetime.datetime(1970, 1, 1), datetime.datetime(9999, 12, 31),
+                    timezones=st.just(UTC)))
+def test_there_and_back(moment: datetime.datetime) -> None:
+    clock = Clock("us", EPOCH, BERLIN)
+    assert clock.back(clock.time(moment)) == moment
+    assert Clock("ns", EPOCH, None).back(5) == 5
+
+
+@given(st.integers(0, 2**62))
+def test_each_count_has_a_form(count: int) -> None:
+    for resolution in NANOSECONDS:
+        clock = Clock(resolution, EPOCH, None)
+        shown = clock.back(count)
+        assert clock.time(shown) == count
+
+
+def test_nanoseconds_are_kept() -> None:
+    clock = Clock("ns", EPOCH, None)
+    for text in ("2026-11-29T10:00:00.123456789Z", "2026-11-29T10:00:00.123456789+00:00"):
+        assert clock.time(text) % 10**9 == 123456789
+    assert clock.time(pandas.Timestamp("2026-11-29T10:00:00.123456789Z")) % 10**9 == 123456789
+    assert clock.time(numpy.datetime64("2026-11-29T10:00:00.123456789")) % 10**9 == 123456789
+    with pytest.raises(TimeError):
+        clock.time(numpy.datetime64("9999-01-01"))
+
+
+def test_spans() -> None:
+    assert SECONDS.step("15 min") == 900 and SECONDS.step("1h") == 3600 and SECONDS.step("365d") == 31536000
+    assert SECONDS.step(datetime.timedelta(hours=1)) == SECONDS.step(pandas.Timedelta("1h")) == 3600
+    assert SECONDS.step(numpy.timedelta64(1, "h")) == 3600 and SECONDS.step(7) == 7
+    assert span_of("2w") == 14 * 86400 * 10**9
+    for wrong in ("1.5h", "hour", "500ms", 1.5, None, "-1h"):
+        with pytest.raises(TimeError):
+            SECONDS.step(wrong)
+
+
+def test_zones() -> None:
+    assert zone_of("Europe/Berlin") is not None and zone_of(None) is None
+    with pytest.raises(TimeError):
+        zone_of("Europe/Nowhere")

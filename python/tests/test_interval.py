@@ -1,0 +1,119 @@
+"""Arithmetic with intervals holds the truth."""
+
+from __future__ import annotations
+
+import pickle
+from decimal import Decimal
+from fractions import Fraction
+
+import pytest
+from hypothesis import given
+from hypothesis import strategies as st
+
+from summarystore import Interval, NoValueError, Presence, mean_of
+from summarystore.interval import outward
+
+WHOLE = st.integers(-2**130, 2**130)
+NUMBERS = st.one_of(WHOLE, st.decimals(allow_nan=False, allow_infinity=False, places=6,
+                                       min_value=-10**30, max_value=10**30))
+
+
+@st.composite
+def held(draw: st.DrawFn) -> tuple[Interval, Fraction]:
+    """An interval and a truth that lies within."""
+    ends = sorted([draw(NUMBERS), draw(NUMBERS)])
+    low, high = map(Fraction, ends)
+    return Interval(ends[0], ends[1]), low + (high - low) * Fraction(draw(st.integers(0, 1000)), 1000)
+
+
+def holds(interval: Interval, truth: Fraction) -> bool:
+    return Fraction(interval.lo) <= truth <= Fraction(interval.hi)
+
+
+@given(held(), held())
+def test_arithmetic_holds_the_truth(one: tuple[Interval, Fraction], other: tuple[Interval, Fraction]
+                                    ) -> None:
+    (a, x), (b, y) = one, other
+    assert holds(a + b, x + y)
+    assert holds(a - b, x - y)
+    assert holds(a * b, x * y)
+    assert holds(-a, -x)
+    if not b.lo <= 0 <= b.hi:
+        assert holds(a / b, x / y)
+
+
+@given(held(), NUMBERS)
+def test_numbers_as_operands(one: tuple[Interval, Fraction], number: int | Decimal) -> None:
+    (a, x), n = one, Fraction(number)
+    assert holds(a + number, x + n) and holds(number + a, x + n)
+    assert holds(a - number, x - n) and holds(number - a, n - x)
+    assert holds(a * number, x * n) and holds(number * a, x * n)
+    if number:
+        assert holds(a / number, x / n)
+
+
+@given(st.lists(st.integers(-10**20, 10**20), min_size=1, max_size=20), st.integers(0, 5),
+       st.integers(0, 10**6))
+def test_means(values: list[int], loose: int, wide: int) -> None:
+    total, count = sum(values), len(values)
+    mean = mean_of(Interval(total - wide, total + wide), Interval(max(0, count - loose), count + loose),
+                   Interval(min(values)), Interval(max(values)))
+    assert holds(mean, Fraction(total, count))
+    assert mean.maybe_none == (count <= loose)
+
+
+@given(NUMBERS)
+def test_floats_are_rounded_outwards(number: int | Decimal) -> None:
+    assert Fraction(outward(number, False)) <= Fraction(number) <= Fraction(outward(number, True))
+
+
+def test_what_a_person_reads() -> None:
+    assert repr(Interval("21.4", "21.7")) == "21.4 .. 21.7"
+    assert repr(Interval(5)) == "5"
+    assert repr(Interval(1, 2, maybe_none=True)) == "1 .. 2, or none"
+    assert repr(Interval.nothing()) == "none"
+    assert repr(Interval(Decimal("1E+3"))) == "1000"
+
+
+def test_properties() -> None:
+    wide = Interval(1, 4)
+    assert (wide.lo, wide.hi, wide.mid, wide.width, wide.exact) == (1, 4, Decimal("2.5"), 3, False)
+    assert Interval(7).exact and Interval.nothing().exact
+    assert not Interval(7, maybe_none=True).exact
+    assert 1 in wide and 4 in wide and Decimal("2.5") in wide and 5 not in wide
+    assert Interval(1, 2).surely_below(Interval(3, 4)) and Interval(3, 4).surely_above(2 * Interval(1))
+    assert not Interval(1, 3).surely_below(Interval(3, 4))
+    assert Interval(1, 5) & Interval(3, 9) == Interval(3, 5)
+    assert sum([wide, wide, wide]) == Interval(3, 12)
+    assert hash(Interval(1, 2)) == hash(Interval(1, 2)) and Interval(3) == 3
+    assert pickle.loads(pickle.dumps(wide)) == wide
+    assert pickle.loads(pickle.dumps(Interval.nothing())) == Interval.nothing()
+
+
+def test_what_has_no_value_has_no_ends() -> None:
+    none = Interval.nothing()
+    for use in (lambda: none.lo, lambda: none.hi, lambda: none + 1, lambda: none.mid):
+        with pytest.raises(NoValueError):
+            use()
+    assert 5 not in none
+    assert (Interval(1, maybe_none=True) + 1).maybe_none
+
+
+def test_what_is_not_exact_is_refused() -> None:
+    for wrong in (0.1, True, "x", None, float("nan"), Decimal("nan"), "inf"):
+        with pytest.raises((TypeError, ValueError)):
+            Interval(wrong)
+    with pytest.raises(TypeError):
+        Interval(1) + 0.5
+    with pytest.raises(ZeroDivisionError):
+        Interval(1) / Interval(-1, 1)
+    with pytest.raises(ValueError):
+        Interval(2, 1)
+    with pytest.raises(ValueError):
+        Interval(1) & Interval(2)
+
+
+def test_a_maybe_is_no_truth() -> None:
+    assert Presence.PRESENT and not Presence.ABSENT
+    with pytest.raises(TypeError):
+        bool(Presence.MAYBE)
