@@ -75,12 +75,9 @@ class Store:
         return pipeline.sent > self._renew_at and pipeline.idle and not self._sessions.cursors
 
     async def _connect(self) -> Connection:
-        lists = self._translator.lists
         self._sessions.forget_cursors()
-        connection, rows = await asyncio.to_thread(connect, self._program,
-                                                   programs.store_word(self.path), lists)
-        if lists:
-            self._translator.learn(rows)
+        connection = await asyncio.to_thread(connect, self._program, programs.store_word(self.path),
+                                             self._translator)
         asyncio.get_running_loop().add_reader(connection.process.output, self._readable, connection)
         return connection
 

@@ -40,11 +40,7 @@ class Channel:
         self._connection: Connection | None = self._connect()
 
     def _connect(self) -> Connection:
-        lists = self._translator.lists
-        connection, rows = connect(self._program, programs.store_word(self.path), lists)
-        if lists:
-            self._translator.learn(rows)
-        return connection
+        return connect(self._program, programs.store_word(self.path), self._translator)
 
     def _up(self) -> Connection:
         """The process that is up. One that has ended is started again, once, and that is said."""
@@ -125,6 +121,12 @@ class Channel:
         """Gives a process up: what it has been told, or what it says, isn't known any more."""
         self._connection = None
         connection.abandon()
+
+    @property
+    def pid(self) -> int | None:
+        """The number of the process, if one is up."""
+        connection = self._connection
+        return None if connection is None else connection.process.pid
 
     def send(self, lines: Sequence[str]) -> Commands:
         """Sends commands of the program as they are, and waits for their replies."""

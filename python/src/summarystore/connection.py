@@ -3,8 +3,8 @@
 from __future__ import annotations
 
 import select
-from collections.abc import Sequence
 
+from .codec import Translator
 from .errors import ProcessEndedError, ProtocolError, ending_of
 from .pipeline import Commands, Pipeline, Request
 from .program import Process
@@ -20,6 +20,7 @@ class Connection:
     def __init__(self, program: str, path: str) -> None:
         self.process = Process(program, path)
         self.pipeline = Pipeline()
+        self._ended = False
         self._status = 0
         self._text = ""
         self._poll = select.poll()
@@ -56,6 +57,9 @@ class Connection:
 
     def end(self) -> int:
         """The process has ended, or is to end now: tells the open requests, and gives the status."""
+        if self._ended:
+            return self._status
+        self._ended = True
         self._status, self._text = self.process.ended(self.pipeline.said.decode("utf-8", "replace"))
         self.pipeline.ended(self.failure)
         return self._status
@@ -81,10 +85,10 @@ class Connection:
             raise self.failure()
 
 
-def connect(program: str, path: str, lists: bool) -> tuple[Connection, Sequence[str]]:
-    """Starts a process and waits until the store is open. Gives the rows of `list`, if asked for."""
+def connect(program: str, path: str, translator: Translator) -> Connection:
+    """Starts a process and waits until the store is open. Tells the streams, where they are asked for."""
     connection = Connection(program, path)
-    request = Commands(0, [LIST if lists else CURSOR_CLOSE])
+    request = Commands(0, [LIST if translator.lists else CURSOR_CLOSE])
     try:
         connection.add(request)
         while not request.done:
@@ -92,15 +96,16 @@ def connect(program: str, path: str, lists: bool) -> tuple[Connection, Sequence[
             connection.flush()
             if not connection.fill():
                 connection.end()
+        if request.error is not None:
+            if isinstance(request.error, ProcessEndedError):
+                request.error.unknown = request.error.not_stored = ()    # nothing of anybody's
+            raise request.error
+        head, rows = request.replies[0]
+        if head.partition(" ")[0] != "list" if translator.lists else head != "refused NO_CURSOR":
+            raise ProtocolError(f"not the program's mode `sessions`: {head[:200]}")
+        if translator.lists:
+            translator.learn(rows)
     except BaseException:
         connection.abandon()
         raise
-    if request.error is not None:
-        if isinstance(request.error, ProcessEndedError):
-            request.error.unknown = request.error.not_stored = ()    # nothing of anybody's
-        raise request.error
-    head, rows = request.replies[0]
-    if head.partition(" ")[0] != "list" if lists else head != "refused NO_CURSOR":
-        connection.abandon()
-        raise ProtocolError(f"not the program's mode `sessions`: {head[:200]}")
-    return connection, rows
+    return connection

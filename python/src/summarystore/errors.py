@@ -300,7 +300,7 @@ def ending_of(status: int | None, text: str) -> ProcessEndedError:
 
 
 class ProtocolError(SummaryStoreError):
-    """A reply isn't one that the program gives. The process is ended then."""
+    """A reply isn't one that the program gives."""
 
 
 class ProgramMissingError(SummaryStoreError):

@@ -13,9 +13,10 @@ from collections.abc import Callable, Sequence
 from typing import Generic, TypeVar
 
 from .errors import ProcessEndedError, ProtocolError, SummaryStoreError, refusal_of
-from .wire import Reply, rows_after, tagged
+from .wire import COMMAND, Reply, rows_after, tagged
 
 ATOMIC = select.PIPE_BUF
+LINE_REFUSED = b"refused LINE\n"
 T = TypeVar("T")
 
 
@@ -50,6 +51,8 @@ class Request:
     def line_of(self, block: bytes, at: int) -> tuple[str, int]:
         """The line at a place, without its session, and the place after it."""
         end = block.index(b"\n", at)
+        if block.startswith(LINE_REFUSED, at):      # what is too long has no session
+            return block[at:end].decode("ascii"), end + 1
         if not block.startswith(self.tag, at):
             raise ProtocolError(f"a line of session {self.tag.decode()}was to come: {block[at:end][:200]!r}")
         return block[at + len(self.tag):end].decode("utf-8", "replace"), end + 1
@@ -59,6 +62,9 @@ class Commands(Request):
     """Some commands, whose replies are kept whole, with their rows."""
 
     def __init__(self, session: int, lines: Sequence[str]) -> None:
+        for line in lines:
+            if not COMMAND.fullmatch(line):
+                raise refusal_of("SYNTAX", repr(line))
         super().__init__(session, tagged(session, lines), len(lines))
         self.lines = lines
         self.replies: list[Reply] = []

@@ -22,6 +22,8 @@ MOST_ROWS = 1000
 """The most rows that one `cursor next` gives."""
 
 WORD = re.compile(r"[!-~]+")
+COMMAND = re.compile(r"[ \t]*[^\s#][^\r\n]*")
+"""A line that has a reply: words, and no comment."""
 NAME = re.compile(r"[a-zA-Z0-9_.-]{1,32}")
 INTEGER = re.compile(r"-?[0-9]+")
 SOUND = re.compile("sound streams ([0-9]+) windows ([0-9]+) landmarks ([0-9]+) values ([0-9]+)")

@@ -1,0 +1,206 @@
+"""Long names, descriptions, and what is left where their file is lost."""
+
+from __future__ import annotations
+
+import datetime
+import json
+from decimal import Decimal
+from pathlib import Path
+
+import pytest
+from hypothesis import given
+from hypothesis import strategies as st
+
+import summarystore
+from summarystore import Description, errors
+from summarystore.description import NANOSECONDS, description_of
+from summarystore.names import description_in, hash_of, short_name
+from summarystore.store import Store
+from summarystore.wire import NAME
+
+ROOM = "home/living room/temperature"
+
+
+def described(path: Path) -> None:
+    """A store with three streams: described, long without a description, and plain."""
+    with summarystore.open(path, zone="Europe/Berlin") as store:
+        store.create(ROOM, "power 1 1 4 1", scale="0.1", unit="°C", labels={"floor": "1"})
+        store.append(ROOM, "2026-11-29T10:00+01:00", "21.5")
+        store.create("Straße/Zähler", "exp 2 1 1")
+        store.append("Straße/Zähler", "2026-11-29 10:00", 7)
+        store.create("plain", "exp 2 1 1")
+        store.append("plain", 10, 5)
+
+
+def test_readings_as_people_have_them(path: Path) -> None:
+    described(path)
+    with summarystore.open(path, zone="Europe/Berlin") as store:
+        assert store.query(ROOM, "max", "2026-11-29", "2026-11-29") == summarystore.Interval("21.5")
+        assert store.query(ROOM, "sum").lo == Decimal("21.5") and store.query(ROOM, "count") == 1
+        last = store.last(ROOM)
+        assert last is not None and str(last.time) == "2026-11-29 10:00:00+01:00"
+        assert [stream.name for stream in store.list()] == [ROOM, "Straße/Zähler", "plain"]
+        found = store.description(ROOM)
+        assert found is not None and (found.unit, found.labels) == ("°C", {"floor": "1"})
+        assert store.description("plain") is None and store.query("plain", "sum", 10, 10) == 5
+        window = next(iter(store.windows(ROOM)))
+        assert window.sum == Decimal("21.5") and isinstance(window.start, datetime.datetime)
+        assert store.query("Straße/Zähler", "sum") == 7
+
+
+def test_the_program_sees_whole_numbers(path: Path) -> None:
+    described(path)
+    with Store(path) as plain:
+        names = [stream.name for stream in plain.list()]
+        assert all(NAME.fullmatch(name) for name in names) and names[2] == "plain"
+        assert names[0].startswith("temperatu") and names[0].endswith(".1e-1s")
+        assert plain.query(names[0], "sum") == 215
+
+
+def test_what_is_refused(store: Store) -> None:
+    store.create(ROOM, "exp 2 1 1", scale="0.1")
+    for value, kind in (("21.55", errors.ScaleError), ("n/a", errors.NotANumberError),
+                        (2**63, errors.NumberError), ("922337203685477580.8", errors.NumberError)):
+        with pytest.raises(kind):
+            store.append(ROOM, "2026-11-29T10:00Z", value)
+    for time in ("2026-11-29 10:00", "2026-11-29T10:00:00.5Z", "now", "2026-11-29"):
+        with pytest.raises(errors.TimeError):
+            store.append(ROOM, time, 1)
+    assert store.last(ROOM) is None
+    store.append(ROOM, "2026-11-29T10:00Z", "922337203685477580.7")
+    store.append(ROOM, "2026-11-29T10:01Z", "-922337203685477580.8")
+    assert str(store.query(ROOM, "sum")) == "-0.1"
+    assert str(store.query(ROOM, "max")) == "922337203685477580.7"
+    with pytest.raises(errors.LateError) as late:
+        store.append(ROOM, "2026-11-29T10:01Z", 1)
+    assert str(late.value.newest) == "2026-11-29 10:01:00+00:00"
+    with pytest.raises(errors.UnknownStreamError):
+        store.query("home/cellar", "sum")
+    with pytest.raises(errors.DescriptionError):
+        store.now("plain")
+
+
+def test_a_refused_row_is_told(store: Store) -> None:
+    store.create(ROOM, "exp 2 1 1", scale="0.1")
+    rows = [("2026-11-29T10:00Z", "1.5"), ("2026-11-29T10:01Z", "NaN"), ("2026-11-29T10:02Z", "2.5")]
+    with pytest.raises(errors.RowsRefusedError) as many:
+        store.append_many(ROOM, rows)
+    assert many.value.stored == 1 and many.value.refused[0][0] == rows[1]
+    met: list[object] = []
+    assert store.append_many(ROOM, rows[1:], refused=lambda row, error: met.append(row)) == 1
+    assert met == [rows[1]] and str(store.query(ROOM, "sum")) == "4.0"
+
+
+def test_a_lost_file(path: Path) -> None:
+    described(path)
+    Path(f"{path}.names.json").unlink()
+    with summarystore.open(path, zone="Europe/Berlin") as store:
+        assert ROOM not in [stream.name for stream in store.list()]
+        store.append(ROOM, "2026-11-29T10:05+01:00", "21.7")
+        assert str(store.query(ROOM, "sum")) == "43.2"
+        assert ROOM in [stream.name for stream in store.list()]
+        found = store.description(ROOM)
+        assert found is not None and found.unit is None
+        store.describe(ROOM, unit="°C")
+        with pytest.raises(errors.StreamExistsError):
+            store.create(ROOM, "exp 2 1 1", scale="0.01")
+        assert str(store.query(ROOM, "max")) == "21.7"
+    with summarystore.open(path) as store:
+        assert store.query("Straße/Zähler", "sum") == 7
+        found = store.description(ROOM)
+        assert found is not None and found.unit == "°C"
+        short = store.codec("Straße/Zähler").short
+    Path(f"{path}.names.json").unlink()
+    with summarystore.open(path) as store:
+        assert store.query(short, "count") == 1     # by its short name, too
+
+
+@pytest.mark.parametrize("text", ["", "{", "[]", '{"summarystore": 2, "streams": {}}', '{"summarystore": 1}',
+                                  '{"summarystore": 1, "streams": {"a": {}}}',
+                                  '{"summarystore": 1, "streams": {"a": {"name": "a", "scale": 0.1, "time": "s"}}}'])
+def test_a_damaged_file_is_left(path: Path, text: str) -> None:
+    described(path)
+    names = Path(f"{path}.names.json")
+    names.write_text(text)
+    with pytest.raises(errors.NamesFileError):
+        summarystore.open(path)
+    assert names.read_text() == text
+    summarystore.check(path)
+
+
+def test_a_description_without_its_stream(path: Path) -> None:
+    """As a crash leaves it between the two: the stream can be made, also otherwise."""
+    described(path)
+    names = Path(f"{path}.names.json")
+    found = json.loads(names.read_text())
+    found["streams"]["new"] = dict(found["streams"][ROOM], name="new.aaaaaaaa.1e-1s")
+    names.write_text(json.dumps(found))
+    with summarystore.open(path) as store:
+        with pytest.raises(errors.UnknownStreamError):
+            store.append("new", 1, 1)
+        store.create("new", "exp 2 1 1", scale="0.01")
+        store.append("new", 1, "0.01")
+        assert str(store.query("new", "sum")) == "0.01"
+
+
+def test_drop_and_create_otherwise(store: Store) -> None:
+    store.create(ROOM, "exp 2 1 1", scale="0.1")
+    store.append(ROOM, 10, "1.5")
+    store.drop(ROOM)
+    with pytest.raises(errors.UnknownStreamError):
+        store.query(ROOM, "sum")
+    store.create(ROOM, "exp 2 1 1", scale="0.01", time="ms")
+    store.append(ROOM, 10, "0.05")
+    assert str(store.query(ROOM, "sum")) == "0.05"
+    with pytest.raises(errors.TargetError):
+        store.create("bad/one", "exp 1 1 1", unit="x")
+    with pytest.raises(errors.UnknownStreamError):
+        store.query("bad/one", "sum")
+
+
+def test_changes_of_a_description(store: Store) -> None:
+    store.create(ROOM, "exp 2 1 1", scale="0.1")
+    store.describe(ROOM, unit="°C", labels={"a": "b"}, rounding="half-even")
+    store.append(ROOM, 10, "1.25")
+    assert str(store.query(ROOM, "sum")) == "1.2"
+    store.create("plain", "exp 2 1 1")
+    with pytest.raises(errors.DescriptionError):
+        store.describe("plain", unit="W")
+    for wrong in ({"scale": "0"}, {"scale": "-1"}, {"time": "week"}, {"rounding": "up"}, {"since": "1958"},
+                  {"scale": "x"}):
+        with pytest.raises(ValueError):
+            store.create("other", "exp 2 1 1", **wrong)     # type: ignore[arg-type]
+
+
+def test_now_is_now(store: Store) -> None:
+    store.create(ROOM, "exp 2 1 1", time="ms")
+    before = datetime.datetime.now(datetime.timezone.utc)
+    with store.landmark(ROOM):
+        pass
+    now = store.now(ROOM)
+    assert isinstance(now, datetime.datetime)
+    assert before - datetime.timedelta(milliseconds=1) <= now
+    last = store.last(ROOM)
+    assert last is not None and isinstance(last.time, datetime.datetime)
+    assert before - datetime.timedelta(milliseconds=1) <= last.time <= now
+
+
+@given(st.text(min_size=1, max_size=80).filter(lambda text: text.isprintable()),
+       st.integers(1, 999), st.integers(-18, 9), st.sampled_from(sorted(NANOSECONDS)),
+       st.one_of(st.none(), st.dates(datetime.date(1000, 1, 1))))
+def test_short_names_say_what_numbers_mean(name: str, digits: int, exponent: int, time: str,
+                                           since: datetime.date | None) -> None:
+    scale = Decimal(digits).scaleb(exponent)
+    description = description_of(scale=scale, time=time, since=since)
+    assert description is not None
+    short = short_name(name, description)
+    assert NAME.fullmatch(short)
+    found = description_in(short)
+    assert found is not None
+    assert found[0] == hash_of(name) and found[1][:3] == (description.scale, time, description.since)
+
+
+def test_what_is_no_short_name() -> None:
+    for name in ("temperature", "a.b.c", "x.abcdefgh.1e-1q", "x.abcdefgh.0e1s", "x.abcdefgh.1e0s20261399"):
+        assert description_in(name) is None
+    assert description_in("x.abcdefgh.1e0s") == ("abcdefgh", Description())
