@@ -143,9 +143,8 @@ def test_rows_are_told_apart(path: Path, at: int) -> None:
     with pytest.raises(errors.KilledError) as ended:
         store.append_many("a", rows())
     told = ended.value
-    everything = [*range(1, told.acknowledged + 1), *(row[0] for row in told.unknown),      # type: ignore
-                  *(row[0] for row in told.not_stored)]     # type: ignore
-    assert everything == list(range(1, taken + 1))
+    first = [(time, 7) for time in range(1, told.acknowledged + 1)]
+    assert [*first, *told.unknown, *told.not_stored] == [(time, 7) for time in range(1, taken + 1)]
     with pytest.warns(errors.ReopenedWarning):
         count = store.query("a", "count").lo
     assert told.acknowledged <= count <= told.acknowledged + len(told.unknown)

@@ -90,11 +90,13 @@ def test_properties() -> None:
     assert pickle.loads(pickle.dumps(Interval.nothing())) == Interval.nothing()
 
 
-def test_what_has_no_value_has_no_ends() -> None:
+@pytest.mark.parametrize("use", ["lo", "hi", "mid", "width"])
+def test_what_has_no_value_has_no_ends(use: str) -> None:
     none = Interval.nothing()
-    for use in (lambda: none.lo, lambda: none.hi, lambda: none + 1, lambda: none.mid):
-        with pytest.raises(NoValueError):
-            use()
+    with pytest.raises(NoValueError):
+        getattr(none, use)
+    with pytest.raises(NoValueError):
+        none + 1
     assert 5 not in none
     assert (Interval(1, maybe_none=True) + 1).maybe_none
 

@@ -14,7 +14,7 @@ from pathlib import Path
 import pytest
 from hypothesis import HealthCheck, settings
 from hypothesis import strategies as st
-from hypothesis.stateful import RuleBasedStateMachine, invariant, precondition, rule, run_state_machine_as_test
+from hypothesis.stateful import RuleBasedStateMachine, invariant, precondition, rule
 
 from summarystore import Presence, errors
 from summarystore.store import Store
@@ -110,7 +110,8 @@ class Machine(RuleBasedStateMachine):
             found.append((time, value))
         return found
 
-    @rule(name=NAMES, rows=st.lists(st.tuples(GAPS, VALUES), min_size=1, max_size=3000), at=st.integers(0, 3000))
+    @rule(name=NAMES, rows=st.lists(st.tuples(GAPS, VALUES), min_size=1, max_size=3000),
+          at=st.integers(0, 3000))
     def append_many_killed(self, name: str, rows: list[tuple[int, int]], at: int) -> None:
         """The process is killed among them. What is acknowledged is stored, and the rest as is told."""
         stream = self.streams.get(name)
@@ -127,10 +128,10 @@ class Machine(RuleBasedStateMachine):
         try:
             stored = self.store.append_many(name, killing())
         except errors.ProcessEndedError as ended:
-            unknown = list(ended.unknown)
-            told = [*sent[:ended.acknowledged], *unknown, *ended.not_stored]
+            told = [*sent[:ended.acknowledged], *ended.unknown, *ended.not_stored]
             assert told == sent[:len(told)]
-            stored = ended.acknowledged + self.stored_of_unknown(name, [row[0] for row in unknown])  # type: ignore
+            unknown = sent[ended.acknowledged:ended.acknowledged + len(ended.unknown)]
+            stored = ended.acknowledged + self.stored_of_unknown(name, [time for time, _ in unknown])
         for time, value in sent[:stored]:
             stream.take(time, value)
 
@@ -192,7 +193,7 @@ class Machine(RuleBasedStateMachine):
             assert reply.startswith("ok ")
             stream.opened, stream.last = None, time
 
-    @precondition(lambda self: self.streams)
+    @precondition(lambda self: bool(self.streams))
     @rule(data=st.data())
     def query(self, data: st.DataObject) -> None:
         """Each interval holds the truth."""
@@ -218,18 +219,17 @@ class Machine(RuleBasedStateMachine):
         rows = self.store.series(name, "sum", first, last, step)
         for row in rows:
             assert isinstance(row.start, int)
-            end = min(last, row.start + step - 1)
-            assert sum(stream.within(row.start, end)) in row.interval
-        for end in ("lo", "hi"):
-            if not stream.marked and stream.opened is None and not self.has_landmarks(name):
-                certificate = self.store.certify(name, "sum", end, first, last)
-                assert certificate.check() == getattr(self.store.query(name, "sum", first, last), end)
+            assert sum(stream.within(row.start, min(last, row.start + step - 1))) in row.interval
+        if not self.has_landmarks(name):
+            found = self.store.query(name, "sum", first, last)
+            assert self.store.certify(name, "sum", "lo", first, last).check() == found.lo
+            assert self.store.certify(name, "sum", "hi", first, last).check() == found.hi
 
     def has_landmarks(self, name: str) -> bool:
         """Whether the stream has any landmark."""
         return next(stream.landmarks for stream in self.store.list() if stream.name == name) > 0
 
-    @precondition(lambda self: self.streams)
+    @precondition(lambda self: bool(self.streams))
     @rule(data=st.data())
     def look(self, data: st.DataObject) -> None:
         """What is kept exactly, the windows, and the newest value."""
@@ -273,6 +273,6 @@ class Machine(RuleBasedStateMachine):
                 assert stream.landmark_values == len(self.streams[stream.name].marked)
 
 
-def test_against_the_model() -> None:
-    run_state_machine_as_test(Machine, settings=settings(
-        max_examples=RUNS, stateful_step_count=STEPS, deadline=None, suppress_health_check=list(HealthCheck)))
+TestAgainstTheModel = Machine.TestCase
+TestAgainstTheModel.settings = settings(
+    max_examples=RUNS, stateful_step_count=STEPS, deadline=None, suppress_health_check=list(HealthCheck))

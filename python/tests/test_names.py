@@ -115,9 +115,10 @@ def test_a_lost_file(path: Path) -> None:
         assert store.query(short, "count") == 1     # by its short name, too
 
 
-@pytest.mark.parametrize("text", ["", "{", "[]", '{"summarystore": 2, "streams": {}}', '{"summarystore": 1}',
-                                  '{"summarystore": 1, "streams": {"a": {}}}',
-                                  '{"summarystore": 1, "streams": {"a": {"name": "a", "scale": 0.1, "time": "s"}}}'])
+@pytest.mark.parametrize("text", [
+    "", "{", "[]", '{"summarystore": 2, "streams": {}}', '{"summarystore": 1}',
+    '{"summarystore": 1, "streams": {"a": {}}}', '{"summarystore": 1, "streams": []}',
+    '{"summarystore": 1, "streams": {"a": {"name": "a", "scale": 0.1, "time": "s"}}}'])
 def test_a_damaged_file_is_left(path: Path, text: str) -> None:
     described(path)
     names = Path(f"{path}.names.json")
@@ -166,10 +167,15 @@ def test_changes_of_a_description(store: Store) -> None:
     store.create("plain", "exp 2 1 1")
     with pytest.raises(errors.DescriptionError):
         store.describe("plain", unit="W")
-    for wrong in ({"scale": "0"}, {"scale": "-1"}, {"time": "week"}, {"rounding": "up"}, {"since": "1958"},
-                  {"scale": "x"}):
+    for scale in ("0", "-1", "x"):
         with pytest.raises(ValueError):
-            store.create("other", "exp 2 1 1", **wrong)     # type: ignore[arg-type]
+            store.create("other", "exp 2 1 1", scale=scale)
+    with pytest.raises(errors.DescriptionError):
+        store.create("other", "exp 2 1 1", time="week")
+    with pytest.raises(errors.DescriptionError):
+        store.create("other", "exp 2 1 1", rounding="up")
+    with pytest.raises(errors.DescriptionError):
+        store.create("other", "exp 2 1 1", since="1958")
 
 
 def test_now_is_now(store: Store) -> None:

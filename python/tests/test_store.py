@@ -181,8 +181,8 @@ def test_refused_rows(seven: Store) -> None:
     stored = seven.append_many("a", [(82, 1), (5, 5), (83, "x"), (83, 1.5), (84, 2)],
                                refused=lambda row, error: met.append((row, type(error))))
     assert stored == 2
-    assert sorted(map(str, met)) == sorted(map(str, [((5, 5), errors.LateError), ((83, "x"), errors.NumberError),
-                                                     ((83, 1.5), errors.NumberError)]))
+    expected = [((5, 5), errors.LateError), ((83, "x"), errors.NumberError), ((83, 1.5), errors.NumberError)]
+    assert sorted(map(str, met)) == sorted(map(str, expected))
 
 
 def test_sending_stops_at_a_refusal(plain: Store) -> None:

@@ -2,6 +2,8 @@
 
 from __future__ import annotations
 
+from typing import cast
+
 import pytest
 
 from summarystore import wire
@@ -30,7 +32,7 @@ def test_a_number_is_whole(value: object) -> None:
     with pytest.raises(NumberError):
         wire.whole(value)
     with pytest.raises(NumberError):
-        wire.appends(0, "a", [(1, value)])   # type: ignore[list-item]
+        wire.appends(0, "a", cast("list[tuple[int, int]]", [(1, value)]))
 
 
 @pytest.mark.parametrize("text,interval", [

@@ -81,6 +81,11 @@ class Store:
         asyncio.get_running_loop().add_reader(connection.process.output, self._readable, connection)
         return connection
 
+    @property
+    def pid(self) -> int | None:
+        """The number of the process, if one is up."""
+        return None if self._connection is None else self._connection.process.pid
+
     async def _put_down(self) -> None:
         """Lets the process end in order. Nothing may be under way."""
         connection, self._connection = self._connection, None

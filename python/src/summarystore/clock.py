@@ -27,10 +27,12 @@ def nanoseconds(moment: datetime.datetime, zone: datetime.tzinfo | None) -> int:
 
     An hour that a clock shows twice, or never, is refused.
     """
-    fine = getattr(moment, "nanosecond", 0)
-    plain = getattr(moment, "to_pydatetime", None)      # of a pandas Timestamp
-    if plain is not None:
-        moment = plain(warn=False)
+    fine = 0
+    if type(moment) is not datetime.datetime:
+        fine = getattr(moment, "nanosecond", 0)
+        plain = getattr(moment, "to_pydatetime", None)      # of a pandas Timestamp
+        if plain is not None:
+            moment = plain(warn=False)
     if moment.tzinfo is None or moment.utcoffset() is None:
         if zone is None:
             raise TimeError(f"{moment.isoformat(' ')} has no zone: give it one, or open with zone=")
@@ -51,7 +53,8 @@ def _in_zone(moment: datetime.datetime, zone: datetime.tzinfo) -> datetime.datet
 
 def moment_of(text: str, zone: datetime.tzinfo | None) -> int:
     """Nanoseconds since 1970 of an ISO 8601 text."""
-    fine = FINE.fullmatch(text)
+    # What is finer than a microsecond would be dropped in silence by fromisoformat.
+    fine = FINE.fullmatch(text) if "." in text or "," in text else None
     extra = 0
     if fine and len(fine[2]) > 6:
         extra = int(fine[2].ljust(9, "0"))
@@ -111,8 +114,11 @@ class Clock:
 
     def time(self, given: object) -> int:
         """The count of a time. One between two counts, or before the first, is refused."""
-        if isinstance(given, str) and COUNT.fullmatch(given):
-            return int(given)
+        if isinstance(given, str):
+            if COUNT.fullmatch(given):
+                return int(given)
+            if len(given) > 10:
+                return self.of(moment_of(given, self._zone), given)
         count = self._count(given)
         if count is not None:
             return count

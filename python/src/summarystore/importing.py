@@ -16,7 +16,7 @@ from .errors import NotANumberError, SummaryStoreError
 from .late import ReorderBuffer
 from .names import DescribedCodec, Names, short_name
 from .progress import Progress
-from .scale import decimal_places
+from .scale import Scale, decimal_places
 from .store import Store
 from .tables import Record, Table
 from .timeforms import TimeForm
@@ -35,6 +35,7 @@ class Into:
     codec: Codec
     exists: bool
     time_of: Callable[[str], int]
+    value_of: Callable[[object], int]
     newest: int = -1
     buffer: ReorderBuffer[tuple[int, int, int]] | None = None
     waiting: list[tuple[int, str, str]] = field(default_factory=list)
@@ -156,7 +157,8 @@ class Import:
         """The stream of a column or of a cell. One that doesn't stand is made."""
         name = self._name(column, names)
         codec = self._codec(name, column)
-        into = Into(name, codec, name in self._standing, self._form.reader(codec))
+        value_of = codec.value if codec.description else Scale(1, self._words.rounding).number
+        into = Into(name, codec, name in self._standing, self._form.reader(codec), value_of)
         if self._store is not None and into.exists:
             found = self._store.last_count(name)
             into.newest = -1 if found is None else found
@@ -184,7 +186,7 @@ class Import:
     def _send(self, into: Into) -> None:
         """Makes numbers of the rows that wait, and sends those that aren't there."""
         waiting, into.waiting = into.waiting, []
-        comma, time_of, value_of = self._table.decimal_comma, into.time_of, into.codec.value
+        comma, time_of, value_of = self._table.decimal_comma, into.time_of, into.value_of
         rows: list[tuple[int, int, int]] = []
         for line, time, text in waiting:
             try:
@@ -203,16 +205,18 @@ class Import:
             self._store_rows(into, into.buffer.flush())
 
     def _store_rows(self, into: Into, rows: Sequence[tuple[int, int, int]]) -> None:
-        new = [(time, value) for time, value, _ in rows if time > into.newest]
+        kept = [row for row in rows if row[0] > into.newest]
+        new = [(time, value) for time, value, _ in kept]
         into.before += len(rows) - len(new)
         if not new:
             return
-        lines: dict[object, int] = {}
+
+        lines: dict[int, int] = {}
 
         def refused(row: tuple[object, object], error: Exception) -> None:
-            if not lines:
-                lines.update({(time, value): line for time, value, line in reversed(rows)})
-            self._refuse(into, lines.get(row, 0), error)
+            if not lines:   # by the rows themselves, since two of them may be equal
+                lines.update(zip(map(id, new), (line for _, _, line in kept)))
+            self._refuse(into, lines[id(row)], error)
 
         if self._store is None or self._words.dry_run:
             into.stored += len(new)

@@ -7,6 +7,7 @@ import io
 import sqlite3
 import subprocess
 import sys
+import time
 from collections.abc import Callable, Iterable, Iterator, Sequence
 from dataclasses import dataclass
 from itertools import chain, islice
@@ -158,19 +159,20 @@ def whisper_table(path: str) -> Table:
         import whisper
     except ImportError:
         raise SourceError("python3-whisper isn't installed") from None
-    info = whisper.info(path)
-    if info is None:
-        raise SourceError(f"{path} isn't a Whisper file")
     found: dict[int, object] = {}
-    now = None
-    for archive in info["archives"]:
-        span, values = whisper.fetch(path, 0, now, archiveToSelect=archive["secondsPerPoint"])
-        first, last, step = span
-        oldest = min(found, default=last)
-        points = {time: value for time, value in zip(range(first, last, step), values)
-                  if value is not None and time < oldest}
-        found.update(points)
-    rows = [Record(at, [str(time), _text(found[time])]) for at, time in enumerate(sorted(found), 1)]
+    try:
+        info = whisper.info(path)
+        now = int(time.time())
+        for archive in info["archives"] if info else ():
+            span, values = whisper.fetch(path, now - archive["retention"], now, now,
+                                         archive["secondsPerPoint"])
+            oldest = min(found, default=span[1])
+            found.update({at: value for at, value in zip(range(*span), values)
+                          if value is not None and at < oldest})
+    except (whisper.WhisperException, OSError) as error:
+        raise SourceError(f"{path}: {error}") from None
+    rows = [Record(at, [str(moment), _text(found[moment])])
+            for at, moment in enumerate(sorted(found), 1)]
     return _table(["time", Path(path).stem], rows, "Whisper")
 
 

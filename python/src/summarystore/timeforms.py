@@ -68,14 +68,7 @@ class TimeForm:
 def moment_in(text: str, form: str, zone: datetime.tzinfo | None) -> int:
     """Nanoseconds since 1970 of a text of this form."""
     if form == ISO:
-        if len(text) > 26:
-            return moment_of(text, zone)
-        try:
-            return nanoseconds(datetime.datetime.fromisoformat(text), zone)
-        except TimeError:
-            raise
-        except ValueError:
-            raise TimeError(f"not a time: {text[:60]!r}") from None
+        return moment_of(text, zone)
     try:
         return nanoseconds(datetime.datetime.strptime(text, form), zone)
     except TimeError:
