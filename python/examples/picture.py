@@ -2,8 +2,8 @@
 
 Usage: python/examples/picture.py [OUT.svg]
 
-The weekly means of `co2.csv` go into a store in memory. The picture has the mean of each half year
-with its band, and over it the readings themselves.
+The weekly means of `co2.csv` go into a store in memory. The picture has the mean of each quarter
+of a year with its band, and over it the readings themselves.
 """
 
 # %% The readings go into a store.
@@ -34,19 +34,19 @@ def readings() -> list[tuple[datetime.date, Decimal]]:
 
 
 def main(out: Path) -> None:
-    """Stores the readings, asks for half years, and draws."""
+    """Stores the readings, asks for quarters, and draws."""
     rows = readings()
     with tempfile.TemporaryDirectory() as folder, summarystore.open(f"{folder}/air.store") as store:
-        store.create(NAME, "power 1 1 4 1", scale="0.1", time="day", since="1958-01-01", unit="ppm")
+        store.create(NAME, "exp 2 60 1", scale="0.1", time="day", since="1958-01-01", unit="ppm")
         store.append_many(NAME, rows)
 
         # %% What is asked, and drawn.
-        axes = store.plot(NAME, "mean", step="182d")
+        axes = store.plot(NAME, "mean", step="91d")
         windows = sum(1 for _ in store.windows(NAME))
     axes.plot([day for day, _ in rows], [float(value) for _, value in rows], color="#e6550d",
               linewidth=0.5, zorder=1.5)
     axes.set_title(f"CO2 of the air at Mauna Loa: {len(rows):,} weekly means, kept in {windows} windows")
-    axes.set_ylabel("mean of 182 days, ppm")
+    axes.set_ylabel("mean of 91 days, ppm")
     matplotlib.rcParams.update({"svg.hashsalt": "summarystore", "svg.fonttype": "none"})
     axes.figure.savefig(out, metadata={"Date": None})
 

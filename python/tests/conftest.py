@@ -16,7 +16,9 @@ from summarystore.program import find_program
 from summarystore.store import Store
 
 ROWS = int(os.environ.get("SUMMARYSTORE_TEST_ROWS", "20000"))
-"""How many rows the large tests send. The gate takes a million."""
+"""How many rows the large tests send. The gate takes more."""
+IMPORTED = int(os.environ.get("SUMMARYSTORE_TEST_IMPORT_ROWS", "20000"))
+"""How many rows the import has that is killed. The gate takes a million."""
 
 HOME = Path(__file__).resolve().parents[1]
 

@@ -17,7 +17,7 @@ from summarystore import errors, tables, timeforms
 from summarystore.importing import main
 from summarystore.store import Store
 
-from .conftest import HOME, ROWS
+from .conftest import HOME, IMPORTED
 
 UTC = "2026-11-29T10:0{}:00Z"
 
@@ -34,8 +34,8 @@ def test_a_csv_file_of_a_spreadsheet(folder: Path, program: str,
     assert "delimiter ';', decimal comma, times as %d.%m.%Y %H:%M in Europe/Berlin" in shown.out
     assert "temp: from column 2, scale 0.1, time s, target power 1 1 4 1" in shown.out
     assert "temp: 2 rows to store, 0 there before, 2 refused, 1 without a value" in shown.out
-    assert "line 3: temp: not a number: n/a" in shown.err
-    assert "line 4: temp: not a number: 1.234,5" in shown.err
+    assert "line 3: temp: not a number: 'n/a'" in shown.err
+    assert "line 4: temp: not a number: '1.234,5'" in shown.err
     assert not (folder / "a.store").exists() and not (folder / "a.store.names.json").exists()
     assert main(words) == 1
     assert "temp: 2 rows stored, 0 there before" in capsys.readouterr().out
@@ -194,7 +194,7 @@ def test_killed_ten_times(folder: Path, program: str) -> None:
     """The import is killed at ten places, and the store is that of one that wasn't."""
     with open(folder / "big.csv", "w", encoding="ascii") as out:
         out.write("time,power\n")
-        out.writelines(f"{1764406800 + at},{at * 7919 % 100003}.{at % 10}\n" for at in range(ROWS))
+        out.writelines(f"{1764406800 + at},{at * 7919 % 100003}.{at % 10}\n" for at in range(IMPORTED))
     words = [sys.executable, "-m", "summarystore.importing", str(folder / "s"), "-", "--quiet",
              "--name", "power"]
     here = {**os.environ, "PYTHONPATH": str(HOME / "src")}
@@ -218,8 +218,8 @@ def test_killed_ten_times(folder: Path, program: str) -> None:
         os.sched_yield()
     assert done.returncode == 0, done.stderr
     with summarystore.open(folder / "s") as store:
-        assert store.query("power", "count") == ROWS
-        total = sum(at * 7919 % 100003 * 10 + at % 10 for at in range(ROWS))
+        assert store.query("power", "count") == IMPORTED
+        total = sum(at * 7919 % 100003 * 10 + at % 10 for at in range(IMPORTED))
         assert store.query("power", "sum").lo * 10 == total
         shown = [window for window in store.windows("power")]
     assert main([str(folder / "whole"), str(folder / "big.csv"), "--quiet", "--name", "power"]) == 0

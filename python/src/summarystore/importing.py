@@ -7,6 +7,7 @@ import os
 import sys
 from collections.abc import Callable, Sequence
 from dataclasses import dataclass, field
+from itertools import islice
 from pathlib import Path
 
 from . import clock, tables, timeforms
@@ -24,7 +25,6 @@ from .timeforms import TimeForm
 BATCH = 5000
 SHOWN = 20
 DEFAULT_TARGET = "power 1 1 4 1"
-NO_VALUE = ""
 
 
 @dataclass
@@ -59,7 +59,7 @@ class Import:
         self._table = table
         self._zone = clock.zone_of(words.zone)
         self._store: Store | None = None
-        self._streams: dict[str, Into] = {}
+        self._streams: dict[tuple[int, str], Into] = {}
         self._standing: set[str] = set()
         self._shown = 0
         self._time_column = _column(table, words.time, 0)
@@ -74,7 +74,7 @@ class Import:
         table, words = self._table, self._words
         if words.value:
             return [_column(table, value, None) for value in words.value]
-        width = max((len(record.cells) for record in table.sample), default=0)
+        width = max((len(cells) for _, cells in table.sample), default=0)
         found = [at for at in range(width) if at not in (self._time_column, self._name_column)
                  and any(tables.is_number(_cell(record, at), table.decimal_comma)
                          for record in table.sample)]
@@ -95,7 +95,9 @@ class Import:
     def _scale(self, column: int) -> str:
         if self._words.scale:
             return str(self._words.scale)
-        cells = (_number(_cell(record, column), self._table.decimal_comma) for record in self._table.sample)
+        cells = [_cell(record, column) for record in self._table.sample]
+        if self._table.decimal_comma:
+            cells = [_number(cell) for cell in cells if "." not in cell]
         places = max((decimal_places(cell) for cell in cells if tables.is_number(cell)), default=0)
         return "0." + "0" * (places - 1) + "1" if places else "1"
 
@@ -130,9 +132,9 @@ class Import:
         if store is not None:
             self._standing = {stream.name for stream in store.list()}
         with Progress(self._table.size, self._table.read, self._words.quiet) as progress:
-            for record in self._table.records:
-                self._take(record)
-                progress.row()
+            while chunk := list(islice(self._table.records, BATCH)):
+                self._take(chunk)
+                progress.rows(len(chunk))
             for into in self._streams.values():
                 self._send(into)
                 self._flush(into)
@@ -140,18 +142,31 @@ class Import:
             print(into.said(self._words.dry_run))
         return not any(into.refused for into in self._streams.values())
 
-    def _take(self, record: Record) -> None:
-        cells = record.cells
-        names = "" if self._name_column is None else _cell(record, self._name_column)
-        for column in self._values:
-            into = self._streams.get(f"{column} {names}") or self._opened(column, names)
-            text = cells[column].strip() if column < len(cells) else ""
-            if text == NO_VALUE:
-                into.empty += 1
-                continue
-            into.waiting.append((record.line, _cell(record, self._time_column), text))
-            if len(into.waiting) >= BATCH:
-                self._send(into)
+    def _take(self, chunk: Sequence[Record]) -> None:
+        """Takes some lines: of each column, or of each stream that a cell names, the rows."""
+        if self._name_column is None:
+            for column in self._values:
+                self._take_column(self._stream(column, ""), chunk, column)
+            return
+        for record in chunk:
+            for column in self._values:
+                self._take_column(self._stream(column, _cell(record, self._name_column)), [record], column)
+
+    def _take_column(self, into: Into, chunk: Sequence[Record], column: int) -> None:
+        """Takes the rows of one stream. Empty cells are no readings."""
+        time, most = self._time_column, max(self._time_column, column)
+        if min(len(cells) for _, cells in chunk) > most:
+            rows = [(line, cells[time].strip(), cells[column].strip()) for line, cells in chunk]
+        else:
+            rows = [(record[0], _cell(record, time), _cell(record, column)) for record in chunk]
+        kept = [row for row in rows if row[2]]
+        into.empty += len(rows) - len(kept)
+        into.waiting += kept
+        if len(into.waiting) >= BATCH:
+            self._send(into)
+
+    def _stream(self, column: int, names: str) -> Into:
+        return self._streams.get((column, names)) or self._opened(column, names)
 
     def _opened(self, column: int, names: str) -> Into:
         """The stream of a column or of a cell. One that doesn't stand is made."""
@@ -164,7 +179,7 @@ class Import:
             into.newest = -1 if found is None else found
         if self._lateness is not None:
             into.buffer = ReorderBuffer(codec.step(self._lateness))
-        self._streams[f"{column} {names}"] = into
+        self._streams[column, names] = into
         return into
 
     def _codec(self, name: str, column: int) -> Codec:
@@ -190,7 +205,7 @@ class Import:
         rows: list[tuple[int, int, int]] = []
         for line, time, text in waiting:
             try:
-                row = time_of(time), _value(value_of, _number(text, comma)), line
+                row = time_of(time), value_of(_number(text) if comma else text), line
             except SummaryStoreError as error:
                 self._refuse(into, line, error)
                 continue
@@ -232,22 +247,15 @@ class Import:
             print("further rows that are refused are only counted", file=sys.stderr)
 
 
-def _value(value_of: Callable[[object], int], text: str) -> int:
-    try:
-        return value_of(text)
-    except NotANumberError:
-        raise NotANumberError(f"not a number: {text[:40]}") from None
-
-
-def _number(text: str, comma: bool) -> str:
-    """A number with a point. With a decimal comma a point is no part of a number."""
-    if not comma:
-        return text
-    return text.replace(",", ".", 1) if "." not in text else text + " "
+def _number(text: str) -> str:
+    """A number with a decimal comma, with a point. A point is no part of one then."""
+    if "." in text:
+        raise NotANumberError(f"not a number: {text[:40]!r}")
+    return text.replace(",", ".", 1)
 
 
 def _cell(record: Record, column: int) -> str:
-    return record.cells[column].strip() if column < len(record.cells) else ""
+    return record[1][column].strip() if column < len(record[1]) else ""
 
 
 def _column(table: Table, word: str | None, otherwise: int | None) -> int:

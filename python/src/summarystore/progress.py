@@ -7,8 +7,6 @@ from collections.abc import Callable
 from types import TracebackType
 from typing import Protocol, Self
 
-EACH = 1000
-
 
 class Bar(Protocol):
     """What is used of a progress bar of tqdm."""
@@ -30,10 +28,10 @@ class Progress:
         self._rows = 0
         self._bar = None if quiet or not sys.stderr.isatty() else _bar(size if read else None)
 
-    def row(self) -> None:
-        """One more row was taken."""
-        self._rows += 1
-        if self._bar is not None and self._rows % EACH == 0:
+    def rows(self, count: int) -> None:
+        """So many more rows were taken."""
+        self._rows += count
+        if self._bar is not None:
             self._bar.n = self._rows if self._read is None else self._read()
             self._bar.refresh()
 

@@ -2,14 +2,13 @@
 
 from __future__ import annotations
 
+import re
 from decimal import Context, Decimal
 
 from .decimals import EXACT, Number, exact
 from .description import ROUNDINGS
 from .errors import NotANumberError, ScaleError
 from .interval import Interval
-
-_PLAIN = frozenset("0123456789")
 
 
 class Scale:
@@ -24,6 +23,10 @@ class Scale:
         assert isinstance(exponent, int)
         # Where the scale is 0.1, 0.01, .., so many digits stand behind the point.
         self._places = -exponent if digits == (1,) and exponent <= 0 else None
+        places = self._places or 0
+        self._units = 10**places
+        part = rf"(?:\.([0-9]{{1,{places}}}))?" if places else "(){0}"
+        self._plain = re.compile(rf"(-?[0-9]{{1,40}}){part}")
 
     def number(self, given: object) -> int:
         """The whole number of a value."""
@@ -43,14 +46,12 @@ class Scale:
 
     def _of_text(self, text: str) -> int | None:
         """The number of plain text: digits, with at most the places of the scale behind a point."""
-        assert self._places is not None
-        whole, _, part = text.partition(".")
-        digits = whole.removeprefix("-")
-        if not digits or len(text) > 40 or len(part) > self._places or not _PLAIN.issuperset(digits + part):
+        found = self._plain.fullmatch(text)
+        if not found:
             return None
-        if text.endswith("."):
-            return None
-        return int(whole + part.ljust(self._places, "0"))
+        whole, part = found.groups()
+        places = self._places or 0
+        return int(whole + part.ljust(places, "0")) if part else int(whole) * self._units
 
     def _counted(self, value: Decimal) -> Decimal:
         """How many steps a value is. One that lies between two is told by more digits than it has."""

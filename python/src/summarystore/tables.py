@@ -12,7 +12,7 @@ from collections.abc import Callable, Iterable, Iterator, Sequence
 from dataclasses import dataclass
 from itertools import chain, islice
 from pathlib import Path
-from typing import BinaryIO, NamedTuple
+from typing import BinaryIO
 
 from .decimals import NUMBER
 from .errors import SummaryStoreError
@@ -25,11 +25,8 @@ class SourceError(SummaryStoreError):
     """What is to be read can't be."""
 
 
-class Record(NamedTuple):
-    """A line of a table: where it stands, and its cells."""
-
-    line: int
-    cells: Sequence[str]
+Record = tuple[int, Sequence[str]]
+"""A line of a table: where it stands, and its cells."""
 
 
 @dataclass
@@ -73,22 +70,17 @@ def csv_table(path: str, delimiter: str | None, decimal: str | None) -> Table:
     except UnicodeDecodeError as error:
         raise SourceError(f"{path} isn't UTF-8 text: {error}") from None
     delimiter = delimiter or guess_delimiter(head)
-    records = _records(csv.reader(chain(head, text), delimiter=delimiter))
+    reader = csv.reader(chain(head, text), delimiter=delimiter)
+    records = ((reader.line_num, cells) for cells in reader if cells)
     table = _table((), records, "")
     comma = decimal == "," if decimal else delimiter != "," and _has_commas(table.sample)
     heads: Sequence[str] = ()
-    if table.sample and not any(is_number(cell, comma) for cell in table.sample[0].cells):
-        heads = [cell.strip() for cell in next(table.records).cells]
+    if table.sample and not any(is_number(cell, comma) for cell in table.sample[0][1]):
+        heads = [cell.strip() for cell in next(table.records)[1]]
         table.sample = table.sample[1:]
     shown = f"delimiter {delimiter!r}, decimal {'comma' if comma else 'point'}"
     tell = raw.tell if size is not None else None
     return Table(heads, table.sample, table.records, shown, comma, size, tell)
-
-
-def _records(reader: Iterator[list[str]]) -> Iterator[Record]:
-    for cells in reader:
-        if cells:
-            yield Record(getattr(reader, "line_num"), cells)
 
 
 def guess_delimiter(lines: Sequence[str]) -> str:
@@ -104,7 +96,7 @@ def guess_delimiter(lines: Sequence[str]) -> str:
 
 def _has_commas(sample: Sequence[Record]) -> bool:
     """Whether numbers with a decimal comma stand there, and none with a point."""
-    cells = [cell.strip() for record in sample for cell in record.cells]
+    cells = [cell.strip() for _, cells in sample for cell in cells]
     with_comma = any("," in cell and is_number(cell, True) for cell in cells)
     return with_comma and not any("." in cell and is_number(cell) for cell in cells)
 
@@ -118,7 +110,7 @@ def sqlite_table(path: str, query: str) -> Table:
         connection = sqlite3.connect(f"{Path(path).absolute().as_uri()}?mode=ro", uri=True)
         cursor = connection.execute(query)
         heads = [column[0] for column in cursor.description or ()]
-        rows = (Record(at, [_text(cell) for cell in row]) for at, row in enumerate(cursor, 1))
+        rows = ((at, [_text(cell) for cell in row]) for at, row in enumerate(cursor, 1))
         return _table(heads, rows, "SQLite")
     except sqlite3.Error as error:
         raise SourceError(f"{path}: {error}") from None
@@ -136,10 +128,10 @@ def rrd_table(path: str, function: str, start: str | None, end: str | None) -> T
     heads = ["time", *lines[0].split()] if lines else []
     rows = []
     for at, line in enumerate(lines[1:], 2):
-        time, colon, values = line.partition(":")
+        moment, colon, values = line.partition(":")
         if colon:
             cells = ["" if "nan" in cell.lower() else cell for cell in values.split()]
-            rows.append(Record(at, [time.strip(), *cells]))
+            rows.append((at, [moment.strip(), *cells]))
     return _table(heads, rows, f"rrdtool fetch {function}")
 
 
@@ -171,7 +163,7 @@ def whisper_table(path: str) -> Table:
                           if value is not None and at < oldest})
     except (whisper.WhisperException, OSError) as error:
         raise SourceError(f"{path}: {error}") from None
-    rows = [Record(at, [str(moment), _text(found[moment])])
+    rows = [(at, [str(moment), _text(found[moment])])
             for at, moment in enumerate(sorted(found), 1)]
     return _table(["time", Path(path).stem], rows, "Whisper")
 

@@ -16,6 +16,7 @@ from .names import DescribedCodec
 ISO, WHOLE = "ISO 8601", "whole numbers"
 DATES = ("%d.%m.%Y", "%d/%m/%Y", "%m/%d/%Y", "%Y/%m/%d", "%d-%m-%Y", "%d.%m.%y")
 CLOCKS = (" %H:%M:%S", " %H:%M", " %H:%M:%S.%f", "")
+FEW = 20
 FRACTION = re.compile(r":[0-9]{2}[.,]([0-9]+)")
 # Counts since 1970 by how many digits they have: seconds until 5138, and so on.
 DIGITS = ((8, 11, "s"), (12, 14, "ms"), (15, 17, "us"), (18, 20, "ns"))
@@ -91,10 +92,11 @@ def guess(texts: Sequence[str], zone: datetime.tzinfo | None) -> TimeForm:
     texts = [text for text in texts if text]
     if texts and all(COUNT.fullmatch(text) for text in texts):
         return TimeForm(WHOLE, _unit(texts))
-    best = [form for form in (ISO, *(date + clock for date in DATES for clock in CLOCKS))
-            if _fits(texts, form) * 2 > len(texts)]
-    most = max((_fits(texts, form) for form in best), default=0)
-    best = [form for form in best if _fits(texts, form) == most]
+    few = texts[:FEW]
+    forms = [form for form in (ISO, *(date + clock for date in DATES for clock in CLOCKS))
+             if _fits(few, form) * 2 > len(few)]
+    fits = {form: _fits(texts, form) for form in forms} if len(forms) > 1 else dict.fromkeys(forms, 1)
+    best = [form for form in forms if fits[form] == max(fits.values())]
     if len(best) != 1:
         told = f"both {best[0]} and {best[1]} fit" if best else "no form is known that fits"
         example = next(iter(texts), "nothing")
