@@ -9,11 +9,16 @@ from collections.abc import Callable, Iterator
 from pathlib import Path
 
 import pytest
+from hypothesis import settings
 
 import summarystore
 from summarystore.errors import ProgramMissingError
 from summarystore.program import find_program
 from summarystore.store import Store
+
+# A busy machine is no failure, and nothing is written beside the sources.
+settings.register_profile("summarystore", deadline=None, database=None)
+settings.load_profile("summarystore")
 
 ROWS = int(os.environ.get("SUMMARYSTORE_TEST_ROWS", "20000"))
 """How many rows the large tests send. The gate takes more."""

@@ -19,7 +19,7 @@ SPAN = re.compile(r"([0-9]+) ?(ns|us|ms|s|min|minutes?|h|hours?|d|days?|w|weeks?
 _SPANS = {"ns": 1, "us": 10**3, "ms": 10**6, "s": 10**9, "m": 60 * 10**9, "h": 3600 * 10**9,
           "d": 86400 * 10**9, "w": 7 * 86400 * 10**9}
 # Fractions of a second beyond what a datetime holds.
-FINE = re.compile(r"(.*[:T ][0-9]{2}(?::?[0-9]{2}){1,2})[.,]([0-9]{1,9})(.*)")
+FINE = re.compile(r"(.*[:T ][0-9]{2}(?::?[0-9]{2}){1,2})[.,]([0-9]+)(.*)")
 
 
 def nanoseconds(moment: datetime.datetime, zone: datetime.tzinfo | None) -> int:
@@ -56,6 +56,8 @@ def moment_of(text: str, zone: datetime.tzinfo | None) -> int:
     # What is finer than a microsecond would be dropped in silence by fromisoformat.
     fine = FINE.fullmatch(text) if "." in text or "," in text else None
     extra = 0
+    if fine and len(fine[2]) > 9:
+        raise TimeError(f"finer than a nanosecond: {text[:60]!r}")
     if fine and len(fine[2]) > 6:
         extra = int(fine[2].ljust(9, "0"))
         text = fine[1] + fine[3]
