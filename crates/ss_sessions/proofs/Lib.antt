@@ -1,3 +1,4 @@
 pub mod FoundLemmas
 pub mod CopyLemmas
 pub mod CursorLemmas
+pub mod Rows

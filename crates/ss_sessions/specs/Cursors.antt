@@ -1,7 +1,6 @@
 -- The cursors of the sessions: the rows that each has left.
-use Rattle.std.specs.Prelude.{ℕ, Bool, not, is_some, List, [], ◌∷◌, map, slice_get, slice_set, Option, Some, None}
+use Rattle.std.specs.Prelude.{ℕ, Bool, not, is_some, List, [], ◌∷◌, map, slice_get, slice_set, replicate, Option, Some, None}
 use Rattle.std.specs.Option.{option_map}
-use Rattle.std.proofs.Math.ListN.{replicate}
 use Rattle.ss_catalog.specs.declared.refusal.Refusal.{Refusal}
 use Rattle.ss_catalog.specs.declared.refusal.Refusal.TheVariants.{Unknown, Busy}
 use Rattle.ss_model.specs.Refusals.{first_that_applies, stands}

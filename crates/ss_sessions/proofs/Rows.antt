@@ -1,0 +1,149 @@
+-- Worked rows, computed: what lines of sessions say, and the cursors after a few calls.
+use Rattle.std.proofs.Common.{◌≡◌, ℕ, List, [], ◌∷◌, Option, Some, None, Result, Ok, Err, refl}
+use Rattle.std.specs.Prelude.{codes}
+use Rattle.ss_catalog.specs.declared.refusal.Refusal.TheVariants as refusals
+use Rattle.ss_catalog.specs.Names.{is_name}
+use Rattle.ss_command.specs.Grammar.{meaning}
+use Rattle.ss_command.specs.Words.{words}
+use Rattle.ss_fields.specs.Words.{is_number, number_of, number_up_to}
+use Rattle.ss_command.specs.declared.command.Command.TheVariants as commands
+use Rattle.ss_outside.specs.Verdict as verdicts
+use Rattle.ss_outside.specs.Verdict.{Verdict}
+use Rattle.ss_sessions.specs.Cursors.{Cursors, cursor_of, no_cursors, with_cursor}
+use Rattle.ss_sessions.specs.Errors.{verdict_of_cursor}
+use Rattle.ss_sessions.specs.Grammar.{asked_of, said_of, session_of, spoken_of}
+use Rattle.ss_sessions.specs.declared.error.CursorError.{CursorError}
+use Rattle.ss_sessions.specs.declared.error.CursorError.TheVariants as errors
+use Rattle.ss_sessions.specs.declared.error.CursorRefusal.TheVariants.{Unknown}
+use Rattle.ss_sessions.specs.declared.order.Order.TheVariants as orders
+use Rattle.ss_sessions.specs.declared.order.Spoken.TheVariants.{Nothing, Unaddressed, To}
+
+-- eight sessions, by one digit
+first_session : session_of (codes "@0") ≡ Some 0
+first_session = refl
+
+last_session : session_of (codes "@7") ≡ Some 7
+last_session = refl
+
+no_eighth : session_of (codes "@8") ≡ None
+no_eighth = refl
+
+below_digits : session_of (codes "@/") ≡ None
+below_digits = refl
+
+two_digits : session_of (codes "@07") ≡ None
+two_digits = refl
+
+no_digit : session_of (codes "@") ≡ None
+no_digit = refl
+
+other_mark : session_of (codes "#1") ≡ None
+other_mark = refl
+
+-- from 1 to 1000 rows
+none_asked : asked_of (codes "0") ≡ Err refusals.Number
+unfolding is_number number_of number_up_to
+none_asked = refl
+
+one_asked : asked_of (codes "1") ≡ Ok 1
+unfolding is_number number_of number_up_to
+one_asked = refl
+
+most_asked : asked_of (codes "1000") ≡ Ok 1000
+unfolding is_number number_of number_up_to
+most_asked = refl
+
+leading_zeros : asked_of (codes "0005") ≡ Ok 5
+unfolding is_number number_of number_up_to
+leading_zeros = refl
+
+too_many_asked : asked_of (codes "1001") ≡ Err refusals.Number
+unfolding is_number number_of number_up_to
+too_many_asked = refl
+
+no_sign : asked_of (codes "+5") ≡ Err refusals.Number
+unfolding is_number number_of number_up_to
+no_sign = refl
+
+-- the verdict of each answer
+opening_fine : verdict_of_cursor {T = ℕ} (Ok 3) ≡ verdicts.fine
+opening_fine = refl
+
+opening_refused : verdict_of_cursor {T = ℕ} (Err (errors.Refused Unknown)) ≡ verdicts.refused
+opening_refused = refl
+
+opening_failed : verdict_of_cursor {T = ℕ} (Err errors.Disk) ≡ verdicts.failed
+opening_failed = refl
+
+opening_changed : verdict_of_cursor {T = ℕ} (Err (errors.Changed 5)) ≡ verdicts.changed 5
+opening_changed = refl
+
+opening_starved : verdict_of_cursor {T = ℕ} (Err errors.OutOfMemory) ≡ verdicts.no_memory
+opening_starved = refl
+
+-- a session's cursor, and that of another
+its_own : cursor_of (with_cursor no_cursors 7 (Some [])) 7 ≡ Some []
+its_own = refl
+
+of_another : cursor_of (with_cursor no_cursors 7 (Some [])) 6 ≡ None
+of_another = refl
+
+past_the_last : with_cursor no_cursors 8 (Some []) ≡ no_cursors
+past_the_last = refl
+
+-- lines
+unaddressed : spoken_of (codes "list") ≡ Unaddressed
+unfolding words meaning is_number number_of number_up_to is_name
+unaddressed = refl
+
+no_words : spoken_of (codes "  ") ≡ Nothing
+unfolding words meaning is_number number_of number_up_to is_name
+no_words = refl
+
+comment : spoken_of (codes "# @1 list") ≡ Nothing
+unfolding words meaning is_number number_of number_up_to is_name
+comment = refl
+
+blank_before_mark : spoken_of (codes " # list") ≡ Unaddressed
+unfolding words meaning is_number number_of number_up_to is_name
+blank_before_mark = refl
+
+empty_rest : spoken_of (codes "@3") ≡ To 3 (Ok None)
+unfolding words meaning is_number number_of number_up_to is_name
+empty_rest = refl
+
+comment_rest : spoken_of (codes "@3  # list") ≡ To 3 (Ok None)
+unfolding words meaning is_number number_of number_up_to is_name
+comment_rest = refl
+
+plain : spoken_of (codes " @3  list ") ≡ To 3 (Ok (Some (orders.Command commands.List)))
+unfolding words meaning is_number number_of number_up_to is_name
+plain = refl
+
+open_a : spoken_of (codes "@1 cursor open a") ≡ To 1 (Ok (Some (orders.Open (codes "a"))))
+unfolding words meaning is_number number_of number_up_to is_name
+open_a = refl
+
+open_no_name : spoken_of (codes "@1 cursor open a*") ≡ To 1 (Err refusals.Name)
+unfolding words meaning is_number number_of number_up_to is_name
+open_no_name = refl
+
+next_two : spoken_of (codes "@1 cursor next 2") ≡ To 1 (Ok (Some (orders.Next 2)))
+unfolding words meaning is_number number_of number_up_to is_name
+next_two = refl
+
+next_none : spoken_of (codes "@1 cursor next 0") ≡ To 1 (Err refusals.Number)
+unfolding words meaning is_number number_of number_up_to is_name
+next_none = refl
+
+close_it : spoken_of (codes "@1 cursor close") ≡ To 1 (Ok (Some orders.Close))
+unfolding words meaning is_number number_of number_up_to is_name
+close_it = refl
+
+close_more : spoken_of (codes "@1 cursor close a") ≡ To 1 (Err refusals.Syntax)
+unfolding words meaning is_number number_of number_up_to is_name
+close_more = refl
+
+bare_cursor : spoken_of (codes "@1 cursor") ≡ To 1 (Err refusals.Syntax)
+unfolding words meaning is_number number_of number_up_to is_name
+bare_cursor = refl
