@@ -1,20 +1,22 @@
 -- Worked rows, computed: what lines of sessions say, and the cursors after a few calls.
-use Rattle.std.proofs.Common.{◌≡◌, ℕ, List, [], ◌∷◌, Option, Some, None, Result, Ok, Err, refl}
+use Rattle.std.proofs.Common.{◌≡◌, ℕ, List, [], ◌∷◌, map, Option, Some, None, Result, Ok, Err, refl}
 use Rattle.std.specs.Prelude.{codes}
+use Rattle.ss_catalog.specs.declared.params.Params.TheVariants.{Exp}
 use Rattle.ss_catalog.specs.declared.refusal.Refusal.TheVariants as refusals
 use Rattle.ss_catalog.specs.Names.{is_name}
 use Rattle.ss_command.specs.Grammar.{meaning}
 use Rattle.ss_command.specs.Words.{words}
 use Rattle.ss_fields.specs.Words.{is_number, number_of, number_up_to}
 use Rattle.ss_command.specs.declared.command.Command.TheVariants as commands
+use Rattle.ss_model.specs.State.{Stream}
 use Rattle.ss_outside.specs.Verdict as verdicts
 use Rattle.ss_outside.specs.Verdict.{Verdict}
-use Rattle.ss_sessions.specs.Cursors.{Cursors, cursor_of, no_cursors, with_cursor}
-use Rattle.ss_sessions.specs.Errors.{verdict_of_cursor}
+use Rattle.ss_sessions.specs.Cursors.{Cursors, cursor_of, no_cursors, refuses_cursor, with_cursor}
+use Rattle.ss_sessions.specs.Errors.{refusal_of, verdict_of_cursor}
 use Rattle.ss_sessions.specs.Grammar.{asked_of, said_of, session_of, spoken_of}
 use Rattle.ss_sessions.specs.declared.error.CursorError.{CursorError}
 use Rattle.ss_sessions.specs.declared.error.CursorError.TheVariants as errors
-use Rattle.ss_sessions.specs.declared.error.CursorRefusal.TheVariants.{Unknown}
+use Rattle.ss_sessions.specs.declared.error.CursorRefusal.TheVariants.{Unknown, Busy}
 use Rattle.ss_sessions.specs.declared.order.Order.TheVariants as orders
 use Rattle.ss_sessions.specs.declared.order.Spoken.TheVariants.{Nothing, Unaddressed, To}
 
@@ -72,6 +74,9 @@ opening_fine = refl
 opening_refused : verdict_of_cursor {T = ℕ} (Err (errors.Refused Unknown)) ≡ verdicts.refused
 opening_refused = refl
 
+opening_busy : verdict_of_cursor {T = ℕ} (Err (errors.Refused Busy)) ≡ verdicts.refused
+opening_busy = refl
+
 opening_failed : verdict_of_cursor {T = ℕ} (Err errors.Disk) ≡ verdicts.failed
 opening_failed = refl
 
@@ -80,6 +85,22 @@ opening_changed = refl
 
 opening_starved : verdict_of_cursor {T = ℕ} (Err errors.OutOfMemory) ≡ verdicts.no_memory
 opening_starved = refl
+
+-- each refusal as that of a line
+as_refusals : map refusal_of (Unknown ∷ Busy ∷ []) ≡ refusals.Unknown ∷ refusals.Busy ∷ []
+as_refusals = refl
+
+-- whether the session has a cursor matters where the stream stands alone
+bare : List Stream
+bare = record { number = 0; name = codes "a"; params = Exp 2 1 1; windows = []; landmarks = [] } ∷ []
+
+standing : map (refuses_cursor bare (codes "a")) (None ∷ Some [] ∷ []) ≡ None ∷ Some refusals.Busy ∷ []
+unfolding refuses_cursor bare
+standing = refl
+
+not_standing : map (refuses_cursor bare (codes "b")) (None ∷ Some [] ∷ []) ≡ Some refusals.Unknown ∷ Some refusals.Unknown ∷ []
+unfolding refuses_cursor bare
+not_standing = refl
 
 -- a session's cursor, and that of another
 its_own : cursor_of (with_cursor no_cursors 7 (Some [])) 7 ≡ Some []
