@@ -21,6 +21,8 @@ mod laws;
 #[cfg(test)]
 mod limits;
 #[cfg(test)]
+mod newest;
+#[cfg(test)]
 mod opening;
 #[cfg(test)]
 mod passing;

@@ -4,7 +4,7 @@ ghost use Rattle.ss_catalog.specs.Events.{IsInTime};
 
 use crate::silent::Silent;
 use ss_catalog::{Event, Kind, LAST_TIME, Name, Params, Query, Refusal};
-use ss_model::Outcome;
+use ss_model::{Newest, Outcome};
 use ss_outside::{Failed, MemDisk};
 use ss_store::{ApplyError, AskError, OpenError, Store, Survey};
 use std::alloc::{AllocError, Global};
@@ -162,6 +162,33 @@ pub fn told(running: &mut Running, question: Question) -> Option<Result<Outcome,
     match answer {
         Err(AskError::Refused(_) | AskError::Stopped) if running.disk.calls() != before => None,
         _ => Some(answer),
+    }
+}
+
+/// What is told of the newest value of the stream whose name is a letter. `None` is for what is no name, and for a call of the disk
+/// where it is refused or the store has stopped.
+pub fn newest(running: &mut Running, letter: u8) -> Option<Result<Newest, AskError>> {
+    let name = Name::of(&[letter])?;
+    let before = running.disk.calls();
+    let answer = running.store.newest(&mut running.disk, &name);
+    match answer {
+        Err(AskError::Refused(_) | AskError::Stopped) if running.disk.calls() != before => None,
+        _ => Some(answer),
+    }
+}
+
+/// How many values of landmarks a stream has in a range, and the first of them, or why that isn't told.
+pub type Marked = Result<(u32, Option<(u64, i64)>), Refusal>;
+
+/// The same of the stream whose name is a letter. `None` is for what is no name.
+pub fn marked(store: &Store, letter: u8, from: u64, to: u64) -> Option<Marked> {
+    let name = Name::of(&[letter])?;
+    match store.values(&name, from, to) {
+        Ok(range) if range.count > 0 => {
+            Some(Ok((range.count, Some(store.value(range.id, range.first)))))
+        }
+        Ok(_) => Some(Ok((0, None))),
+        Err(refusal) => Some(Err(refusal)),
     }
 }
 

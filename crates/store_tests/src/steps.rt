@@ -2,14 +2,15 @@
 use crate::changed::{Taken, take};
 use crate::images::{FORMATTED, Slot, image};
 use crate::running::{
-    Answer, Asked, Question, Row, Running, Said, answered, crowd, fresh, held, only, opened, play,
-    reopen, surveyed, told, window_read,
+    Answer, Asked, Marked, Question, Row, Running, Said, answered, crowd, fresh, held, marked,
+    newest, only, opened, play, reopen, surveyed, told, window_read,
 };
 use crate::silent::Silent;
 use ss_catalog::{Kind, LAST_TIME};
+use ss_model::Newest;
 use ss_model::Outcome::{self, Count};
 use ss_outside::Choice;
-use ss_store::{AskError, OpenError, Survey};
+use ss_store::{AskError, OpenError, Store, Survey};
 use std::alloc::Global;
 
 /// A step of a run over one store, with what must come of it.
@@ -34,6 +35,10 @@ pub enum Step {
     Within(&'static [(Question, Outcome, u64)]),
     /// These queries are not answered, and why.
     Untold(&'static [(Question, AskError)]),
+    /// This is told of the newest values of these streams.
+    Latest(&'static [(u8, Result<Newest, AskError>)]),
+    /// These streams have so many values of landmarks from one time to another.
+    Keeps(&'static [(u8, u64, u64, Marked)]),
     /// `a` has so many values, or why they are not counted.
     Counts(Result<u64, AskError>),
     /// The first window of `a`, or the second, has this first and last position, or why it is not read.
@@ -59,8 +64,8 @@ pub enum Step {
 }
 
 use Step::{
-    Apply, Clear, Counts, Crash, Crowd, EndAt, Fresh, Holds, Lists, Made, MoveTo, Play, Reads,
-    Reopen, Settled, Stop, Surveys, Tell, Untold, Within,
+    Apply, Clear, Counts, Crash, Crowd, EndAt, Fresh, Holds, Keeps, Latest, Lists, Made, MoveTo,
+    Play, Reads, Reopen, Settled, Stop, Surveys, Tell, Untold, Within,
 };
 
 fn are_told(running: &mut Running, rows: &[(Question, Outcome)]) -> bool {
@@ -89,6 +94,24 @@ fn are_told_within(running: &mut Running, rows: &[(Question, Outcome, u64)]) -> 
 fn are_untold(running: &mut Running, rows: &[(Question, AskError)]) -> bool {
     for (question, error) in rows {
         if told(running, *question) != Some(Err(*error)) {
+            return false;
+        }
+    }
+    true
+}
+
+fn are_newest(running: &mut Running, rows: &[(u8, Result<Newest, AskError>)]) -> bool {
+    for (letter, want) in rows {
+        if newest(running, *letter) != Some(*want) {
+            return false;
+        }
+    }
+    true
+}
+
+fn are_kept(store: &Store, rows: &[(u8, u64, u64, Marked)]) -> bool {
+    for (letter, from, to, want) in rows {
+        if marked(store, *letter, *from, *to) != Some(*want) {
             return false;
         }
     }
@@ -158,6 +181,8 @@ fn comes(alloc: Global, running: &mut Running, step: Step) -> Result<bool, OpenE
         Tell(rows) => Ok(are_told(running, rows)),
         Within(rows) => Ok(are_told_within(running, rows)),
         Untold(rows) => Ok(are_untold(running, rows)),
+        Latest(rows) => Ok(are_newest(running, rows)),
+        Keeps(rows) => Ok(are_kept(&running.store, rows)),
         Counts(want) => Ok(is_counted(running, want)),
         Reads(is_second, want) => Ok(window_read(running, is_second) == Some(want)),
         Lists(said) => Ok(only(&running.store) == Some(said)),
