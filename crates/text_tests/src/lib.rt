@@ -17,4 +17,6 @@ mod numbers;
 #[cfg(test)]
 mod replies;
 #[cfg(test)]
+mod sessions;
+#[cfg(test)]
 mod tables;

@@ -1,5 +1,5 @@
 // Tables of worked rows as text: a row is an input, '=', what it gives, and a line end.
-use crate::{catalog, generator, lines, numbers, replies};
+use crate::{catalog, generator, lines, numbers, replies, sessions};
 use arrayvec::{ArrayString, ArrayVec};
 use ss_fields::{print_u64, read_u64};
 use std::test::Fail;
@@ -26,6 +26,7 @@ pub enum Subject {
     CommandAfter,
     CommandCount,
     Reply,
+    Spoken,
 }
 
 fn give(subject: Subject, input: &[u8], out: &mut Text) {
@@ -46,6 +47,7 @@ fn give(subject: Subject, input: &[u8], out: &mut Text) {
         Subject::CommandAfter => generator::command_after(input, out),
         Subject::CommandCount => generator::command_count(input, out),
         Subject::Reply => replies::reply(input, out),
+        Subject::Spoken => sessions::spoken(input, out),
     }
 }
 
