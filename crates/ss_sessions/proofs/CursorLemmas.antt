@@ -1,5 +1,5 @@
 -- The cursors of sessions, and why one is refused.
-use Rattle.std.proofs.Common.{◌≡◌, ◌<◌, ◌∙◌, Bool, true, false, ℕ, zero, suc, List, [], ◌∷◌, length, get_or, Option, Some, None, Result, Ok, Err}
+use Rattle.std.proofs.Common.{◌≡◌, ◌<◌, ◌∙◌, true, false, ℕ, zero, suc, List, [], ◌∷◌, length, get_or, Option, Some, None, Result, Err}
 use Rattle.std.proofs.Common.{refl, sym, ap, arith, subst}
 use Rattle.std.specs.Prelude.{◌↔◌, is_some, option_map, slice_set}
 use Rattle.ss_catalog.specs.declared.refusal.Refusal.{Refusal}

@@ -1,5 +1,5 @@
 -- Worked rows, computed: what lines of sessions say, and the cursors after a few calls.
-use Rattle.std.proofs.Common.{◌≡◌, ℕ, List, [], ◌∷◌, map, Option, Some, None, Result, Ok, Err, refl}
+use Rattle.std.proofs.Common.{◌≡◌, ℕ, List, [], ◌∷◌, map, Some, None, Ok, Err, refl}
 use Rattle.std.specs.Prelude.{codes}
 use Rattle.ss_catalog.specs.declared.params.Params.TheVariants.{Exp}
 use Rattle.ss_catalog.specs.declared.refusal.Refusal.TheVariants as refusals
@@ -11,10 +11,9 @@ use Rattle.ss_command.specs.declared.command.Command.TheVariants as commands
 use Rattle.ss_model.specs.State.{Stream}
 use Rattle.ss_outside.specs.Verdict as verdicts
 use Rattle.ss_outside.specs.Verdict.{Verdict}
-use Rattle.ss_sessions.specs.Cursors.{Cursors, cursor_of, no_cursors, refuses_cursor, with_cursor}
+use Rattle.ss_sessions.specs.Cursors.{cursor_of, no_cursors, refuses_cursor, with_cursor}
 use Rattle.ss_sessions.specs.Errors.{refusal_of, verdict_of_cursor}
-use Rattle.ss_sessions.specs.Grammar.{asked_of, said_of, session_of, spoken_of}
-use Rattle.ss_sessions.specs.declared.error.CursorError.{CursorError}
+use Rattle.ss_sessions.specs.Grammar.{asked_of, session_of, spoken_of}
 use Rattle.ss_sessions.specs.declared.error.CursorError.TheVariants as errors
 use Rattle.ss_sessions.specs.declared.error.CursorRefusal.TheVariants.{Unknown, Busy}
 use Rattle.ss_sessions.specs.declared.order.Order.TheVariants as orders

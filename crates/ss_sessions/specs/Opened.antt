@@ -1,5 +1,5 @@
 -- What opening a cursor does.
-use Rattle.std.specs.Prelude.{◌≡◌, ◌↔◌, ℕ, List, length, slice_get, Option, Some, is_some, IfSome, IfOk, OnOk, Result, Ok, Err}
+use Rattle.std.specs.Prelude.{◌≡◌, ◌↔◌, ℕ, List, length, slice_get, Option, Some, is_some, IfSome, IfOk, OnOk, Result, Err}
 use Rattle.std.specs.Option.{option_map}
 use Rattle.ss_catalog.specs.declared.refusal.Refusal.{Refusal}
 use Rattle.ss_line.specs.Line.{index_of}

@@ -1,5 +1,5 @@
 -- What is true of all that is read.
-use Rattle.std.specs.Prelude.{ℕ, ◌<◌, ◌≤◌, Option, Result, IfOk, IfSome, ⊤}
+use Rattle.std.specs.Prelude.{◌<◌, ◌≤◌, IfOk, IfSome, ⊤}
 use Rattle.ss_command.specs.Printed.{IsCommandInTime}
 use Rattle.ss_sessions.specs.declared.TheConstants.{MOST_ASKED, SESSIONS}
 use Rattle.ss_sessions.specs.declared.order.Order.{Order}

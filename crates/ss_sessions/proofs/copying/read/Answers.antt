@@ -1,4 +1,3 @@
-use Rattle.std.proofs.Common.{ap, sym}
 use Rattle.ss_sessions.proofs.CopyLemmas.{Contains-read}
 use Rattle.ss_store.specs.Kept.{part_numbered}
 use Rattle.ss_sessions.proofs.copying.read.Goals as goal

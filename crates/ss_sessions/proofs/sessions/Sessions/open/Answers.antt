@@ -1,17 +1,14 @@
-use Rattle.std.proofs.Common.{◌≡◌, ◌∙◌, ◌<◌, true, false, Err, Ok, Some, None, length, arith, refl, sym, ap, subst, rules}
-use Rattle.std.specs.Prelude.{◌↔◌, is_some, slice_set}
+use Rattle.std.proofs.Common.{◌≡◌, ◌∙◌, ◌<◌, true, false, Err, Ok, Some, length, arith, refl, sym, ap, subst, rules}
+use Rattle.std.specs.Prelude.{is_some, slice_set}
 use Rattle.ss_outside.proofs.CrashLemmas.{reads-none}
 use Rattle.ss_outside.specs.Step.{Step}
 use Rattle.ss_records.specs.Kept.{shown_by}
 use Rattle.ss_store.specs.Kept.{part_named}
 use Rattle.ss_store.proofs.KeptStates.{AllAgree-recovered}
 use Rattle.ss_sessions.specs.Cursors.{cursor_of, refuses_cursor}
-use Rattle.ss_sessions.specs.Errors.{refusal_of, verdict_of_cursor}
+use Rattle.ss_sessions.specs.Errors.{verdict_of_cursor}
 use Rattle.ss_sessions.specs.Opened.{OpensCursor, refuses_cursor_held}
-use Rattle.ss_sessions.specs.declared.error.CursorError.TheVariants.{Refused}
-use Rattle.ss_sessions.specs.declared.error.CursorRefusal.{CursorRefusal}
 use Rattle.ss_sessions.specs.declared.error.CursorRefusal.TheVariants.{Unknown, Busy}
-use Rattle.ss_sessions.specs.declared.TheConstants.{SESSIONS}
 use Rattle.ss_sessions.proofs.CursorLemmas.{cursor_of-with_cursor, err-alike, exactly-refused, exactly-unrefused, is_some-cursor_of, opened-alike, refused-busy}
 use Rattle.ss_sessions.proofs.CursorLemmas.{refused-unknown, refuses_cursor-held, unrefused}
 use Rattle.ss_sessions.proofs.FoundLemmas.{found_alike}
