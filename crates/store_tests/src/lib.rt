@@ -33,6 +33,8 @@ mod running;
 #[cfg(test)]
 mod seeing;
 #[cfg(test)]
+mod sessions;
+#[cfg(test)]
 mod silent;
 #[cfg(test)]
 mod steps;

@@ -169,8 +169,8 @@ fn stop(disk: &mut Silent, calls: u64) -> bool {
     true
 }
 
-// Whether this comes of a step.
-fn comes(alloc: Global, running: &mut Running, step: Step) -> Result<bool, OpenError> {
+/// Whether this comes of a step.
+pub fn comes(alloc: Global, running: &mut Running, step: Step) -> Result<bool, OpenError> {
     match step {
         Fresh => renew(alloc, running),
         Made(slots) => make(alloc, running, slots),
