@@ -274,3 +274,30 @@ def test_a_full_disk_keeps_the_names(small_disk: Path, program: str) -> None:
             store.create("two", "exp 2 1 1", labels={"long": "x" * 10000})
         assert (small_disk / "a.store.names.json").read_text() == before
         assert [stream.name for stream in store.list()] == ["one"]
+
+
+def test_another_folder_and_a_store_that_is_gone(folder: Path, program: str,
+                                                 monkeypatch: pytest.MonkeyPatch) -> None:
+    """A store is opened again where it was opened, and one that is gone isn't made anew."""
+    monkeypatch.chdir(folder)
+    (folder / "other").mkdir()
+    store = summarystore.open("a.store")
+    store.create("a", "exp 2 1 1", unit="W")
+    monkeypatch.chdir(folder / "other")
+    for _ in range(2):
+        assert store.pid is not None
+        os.kill(store.pid, signal.SIGKILL)
+        with pytest.raises(errors.KilledError):
+            store.list()
+        with pytest.warns(errors.ReopenedWarning):
+            assert len(store.list()) == 1
+    store.create("b", "exp 2 1 1", unit="W")
+    assert not list((folder / "other").iterdir())
+    os.kill(store.pid or 0, signal.SIGKILL)
+    with pytest.raises(errors.KilledError):
+        store.list()
+    (folder / "a.store").rename(folder / "b.store")
+    with pytest.raises(errors.StoreClosedError, match="is gone"):
+        store.list()
+    assert not (folder / "a.store").exists()
+    store.close()

@@ -3,7 +3,7 @@
 from __future__ import annotations
 
 import threading
-from collections.abc import Callable
+from collections.abc import Callable, Iterator
 from pathlib import Path
 
 import pytest
@@ -134,3 +134,29 @@ def test_closing_waits_for_what_is_under_way(path: Path) -> None:
     store.close()
     with Store(path) as again:
         assert again.query("a", "count") == stored[0] == 3000
+
+
+def test_calls_within_calls(plain: Store) -> None:
+    """Sixteen threads, each of which asks while it sends: no session waits for itself."""
+    for number in range(16):
+        plain.create(f"s{number}", "exp 2 8 1")
+
+    def work(number: int) -> None:
+        def rows() -> Iterator[tuple[int, int]]:
+            for time in range(1, 3001):
+                if time % 500 == 0:
+                    assert plain.query(f"s{number}", "count").lo < time
+                yield time, 1
+        assert plain.append_many(f"s{number}", rows()) == 3000
+
+    together(16, work)
+
+
+def test_iterators_that_are_let_go(plain: Store) -> None:
+    plain.create("a", "exp 2 4096 1")
+    plain.append_many("a", [(time, 0) for time in range(1, 2001)])
+    for _ in range(50):
+        assert next(plain.windows("a")).first == 1
+    with plain.windows("a") as windows:
+        assert next(windows).first == 1
+    assert plain.check().streams == 1

@@ -41,7 +41,7 @@ class Store:
 
     def __init__(self, path: str | os.PathLike[str], *, program: str | os.PathLike[str] | None = None,
                  translator: Translator | None = None, renew_at: int = RENEW_AT) -> None:
-        self.path = os.fspath(path)
+        self.path = os.path.abspath(path)
         self._program = programs.find_program(program)
         self._translator: Translator = Plain() if translator is None else translator
         self._renew_at = renew_at
@@ -76,8 +76,9 @@ class Store:
 
     async def _connect(self) -> Connection:
         self._sessions.forget_cursors()
-        connection = await asyncio.to_thread(connect, self._program, programs.store_word(self.path),
-                                             self._translator)
+        if self._opened and not os.path.exists(self.path):
+            raise StoreClosedError(f"{self.path} is gone")
+        connection = await asyncio.to_thread(connect, self._program, self.path, self._translator)
         asyncio.get_running_loop().add_reader(connection.process.output, self._readable, connection)
         return connection
 
@@ -102,14 +103,18 @@ class Store:
         try:
             more = connection.fill()
         except BaseException:
-            self._unwatch(connection)
-            self._connection = None
-            connection.abandon()
+            self._give_up(connection)
             raise
         if not more:
             self._unwatch(connection)
             self._connection = None
             connection.end()
+
+    def _give_up(self, connection: Connection) -> None:
+        """Gives a process up: what it has been told, or what it says, isn't known any more."""
+        self._unwatch(connection)
+        self._connection = None
+        connection.abandon()
 
     def _flush(self) -> None:
         """Writes what the pipe takes. Where it is full the loop tells when it takes more."""
@@ -117,7 +122,11 @@ class Store:
         connection = self._connection
         if connection is None:
             return
-        connection.flush()
+        try:
+            connection.flush()
+        except BaseException:
+            self._give_up(connection)
+            raise
         loop = asyncio.get_running_loop()
         if connection.pipeline.unwritten:
             loop.add_writer(connection.process.input, self._flush)

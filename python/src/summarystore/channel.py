@@ -5,8 +5,9 @@ from __future__ import annotations
 import os
 import threading
 import warnings
+from collections import deque
 from collections.abc import Iterator, Sequence
-from contextlib import contextmanager
+from contextlib import contextmanager, suppress
 from typing import TypeVar
 
 from . import calls
@@ -14,13 +15,14 @@ from . import program as programs
 from .calls import Call
 from .codec import Codec, Plain, Translator
 from .connection import RENEW_AT, Connection, connect
-from .errors import CursorBusyError, ReopenedWarning, StoreClosedError
+from .errors import CursorBusyError, ProcessEndedError, ReopenedWarning, StoreClosedError
 from .pipeline import Commands, Request
 from .records import Window
 from .sessions import Sessions
 from .wire import MOST_ROWS
 
 T = TypeVar("T")
+LOOK_AGAIN = 0.1
 
 
 class Channel:
@@ -28,44 +30,64 @@ class Channel:
 
     def __init__(self, path: str | os.PathLike[str], *, program: str | os.PathLike[str] | None = None,
                  translator: Translator | None = None, renew_at: int = RENEW_AT) -> None:
-        self.path = os.fspath(path)
+        self.path = os.path.abspath(path)
         self._program = programs.find_program(program)
         self._translator: Translator = Plain() if translator is None else translator
         self._renew_at = renew_at
         self._sessions = Sessions()
         self._changed = threading.Condition()
+        self._mine = threading.local()
+        self._let_go: deque[tuple[int, Connection]] = deque()
         self._pumping = False
         self._closed = False
         self._owner = os.getpid()
         self._connection: Connection | None = self._connect()
 
     def _connect(self) -> Connection:
-        return connect(self._program, programs.store_word(self.path), self._translator)
+        return connect(self._program, self.path, self._translator)
+
+    def _connect_again(self) -> Connection:
+        """A new process for the same store. One that is gone isn't made anew."""
+        if not os.path.exists(self.path):
+            raise StoreClosedError(f"{self.path} is gone")
+        self._sessions.forget_cursors()
+        self._let_go.clear()
+        return self._connect()
 
     def _up(self) -> Connection:
         """The process that is up. One that has ended is started again, once, and that is said."""
         if self._closed or self._owner != os.getpid():
             raise StoreClosedError(f"{self.path} is closed, or was opened by another process")
         if self._connection is None:
-            self._sessions.forget_cursors()
-            self._connection = self._connect()
+            self._connection = self._connect_again()
             warnings.warn(ReopenedWarning(f"{self.path}: the program had ended; opened again"),
                           stacklevel=6)
         elif self._connection.pipeline.sent > self._renew_at and self._connection.pipeline.idle \
                 and not self._sessions.cursors:
-            self._connection.close()
-            self._connection = self._connect()
+            self._put_down(self._connection)
+            self._connection = self._connect_again()
         return self._connection
+
+    def _put_down(self, connection: Connection) -> None:
+        """Lets a process end in order."""
+        self._connection = None
+        connection.close()
 
     @contextmanager
     def _session(self) -> Iterator[int]:
-        """A session for a call. Where all are taken it waits."""
+        """A session for a call. Where all are taken it waits. A call within a call has the same."""
+        held: int | None = getattr(self._mine, "session", None)
+        if held is not None:
+            yield held
+            return
         with self._changed:
             while (session := self._sessions.take()) is None:
                 self._changed.wait()
+        self._mine.session = session
         try:
             yield session
         finally:
+            self._mine.session = None
             with self._changed:
                 self._sessions.give(session)
                 self._changed.notify_all()
@@ -88,15 +110,19 @@ class Channel:
         """Waits for the replies. One of those who wait moves the bytes for all."""
         with self._changed:
             while not request.done:
-                if self._pumping:
-                    self._changed.wait()
-                    continue
-                self._pumping = True
-                try:
-                    self._step()
-                finally:
-                    self._pumping = False
-                    self._changed.notify_all()
+                self._pump()
+
+    def _pump(self) -> None:
+        """Moves bytes, or waits while another thread does."""
+        if self._pumping:
+            self._changed.wait()
+            return
+        self._pumping = True
+        try:
+            self._step()
+        finally:
+            self._pumping = False
+            self._changed.notify_all()
 
     def _step(self) -> None:
         """Writes and reads what can be, after waiting for that. The lock is free meanwhile."""
@@ -107,6 +133,8 @@ class Channel:
             connection.poll()
         finally:
             self._changed.acquire()
+        if connection is not self._connection:
+            return      # another thread has given it up
         try:
             connection.flush()
             more = connection.fill()
@@ -130,6 +158,7 @@ class Channel:
 
     def send(self, lines: Sequence[str]) -> Commands:
         """Sends commands of the program as they are, and waits for their replies."""
+        self._close_let_go()
         with self._session() as session:
             request = Commands(session, lines)
             self._submit(request)
@@ -157,14 +186,10 @@ class Channel:
             if self._closed or self._owner != os.getpid():
                 return
             while self._connection is not None and not self._connection.pipeline.idle:
-                if self._pumping:
-                    self._changed.wait()
-                else:
-                    self._step()
+                self._pump()
             self._closed = True
-            connection, self._connection = self._connection, None
-            if connection is not None:
-                connection.close()
+            if self._connection is not None:
+                self._put_down(self._connection)
 
     # ---- cursors ------------------------------------------------------------------------
 
@@ -172,11 +197,13 @@ class Channel:
         """A session with a cursor of a stream, and the process that it belongs to."""
         owner = threading.get_ident()
         with self._changed:
+            self._close_let_go()
+            connection = self._up()
             while (session := self._sessions.take_cursor(owner)) is None:
                 if self._sessions.holds_all(owner):
                     raise CursorBusyError("BUSY", "windows", "this thread has eight iterators open")
-                self._changed.wait()
-            connection = self._up()
+                self._changed.wait(LOOK_AGAIN)      # an iterator that is let go tells nobody
+                self._close_let_go()
         try:
             self._do_in(calls.cursor_open(codec), session, connection)
         except BaseException:
@@ -195,6 +222,15 @@ class Channel:
                 self._do_in(calls.cursor_close(), session, connection)
             finally:
                 self._give_cursor(session, connection)
+
+    def let_go(self, session: int, connection: Connection) -> None:
+        """An iterator is gone that wasn't closed. It may be gone at any place, so the next call does it."""
+        self._let_go.append((session, connection))
+
+    def _close_let_go(self) -> None:
+        while self._let_go:
+            with suppress(ProcessEndedError):    # then the cursor has ended too, and the call is told
+                self.close_cursor(*self._let_go.popleft())
 
     def _give_cursor(self, session: int, connection: Connection) -> None:
         with self._changed:

@@ -55,4 +55,4 @@ class Windows(Iterator[Window]):
 
     def __del__(self) -> None:
         if getattr(self, "_open", False):
-            self.close()
+            self._store.let_go(self._session, self._connection)

@@ -98,7 +98,7 @@ class Names:
 
     def __init__(self, path: str | os.PathLike[str],
                  zone: str | datetime.tzinfo | None = None) -> None:
-        self._file = f"{os.fspath(path)}.names.json"
+        self._file = f"{os.path.abspath(path)}.names.json"
         self._zone = zone_of(zone)
         self._lock = threading.RLock()
         self._read = False

@@ -4,7 +4,6 @@ from __future__ import annotations
 
 import json
 import os
-import tempfile
 from collections.abc import Mapping
 
 from .description import Description, description_of
@@ -55,18 +54,18 @@ def write_names(file: str, described: Described) -> None:
     """Replaces the file. After a crash it is the old one or the new one, whole."""
     streams = {name: _shown(short, description) for name, (short, description) in described.items()}
     text = json.dumps({"summarystore": FORMAT, "streams": streams}, ensure_ascii=False, indent=1)
-    folder = os.path.dirname(file) or "."
-    handle, beside = tempfile.mkstemp(dir=folder, prefix=".names-")
+    beside = f"{file}.new"
     try:
-        with open(handle, "w", encoding="utf-8") as out:
+        with open(beside, "w", encoding="utf-8") as out:
             out.write(text + "\n")
             out.flush()
             os.fsync(out.fileno())
-        os.chmod(beside, 0o666 & ~_mask())
         os.replace(beside, file)
     except BaseException:
-        os.unlink(beside)
+        if os.path.exists(beside):
+            os.unlink(beside)
         raise
+    folder = os.path.dirname(file) or "."
     there = os.open(folder, os.O_RDONLY | os.O_DIRECTORY)
     try:
         os.fsync(there)
@@ -79,9 +78,3 @@ def _shown(short: str, description: Description) -> dict[str, object]:
             else str(description.scale), "time": description.time, "since": str(description.since),
             "unit": description.unit, "labels": dict(description.labels),
             "rounding": description.rounding}
-
-
-def _mask() -> int:
-    mask = os.umask(0)
-    os.umask(mask)
-    return mask

@@ -14,7 +14,7 @@ from typing import TYPE_CHECKING, Self
 from . import calls
 from . import program as programs
 from .certificate import Certificate
-from .channel import Channel
+from .channel import LOOK_AGAIN, Channel
 from .codec import Codec
 from .cursor import Windows
 from .description import Description, changed, description_of
@@ -22,7 +22,7 @@ from .errors import CursorBusyError, LateError, NoValueError, RefusedError
 from .interval import Interval, Presence
 from .late import MOST_HELD
 from .pipeline import Appends
-from .records import Last, Reading, Soundness, Stored, Stream, Time, Window
+from .records import Last, Reading, Soundness, Stored, Stream, Time
 from .sending import OPEN, OnRefused, Sending
 from .series import Series
 
@@ -207,7 +207,7 @@ class Store(Channel):
         """
         return self._do(calls.certify(self._translator.codec(name), kind, end, t1, t2, landmarks))
 
-    def windows(self, name: str) -> Iterator[Window]:
+    def windows(self, name: str) -> Windows:
         """The windows of a stream as they are now, the oldest first, read in pieces.
 
         The iterator holds one of the eight cursors until its end, or until it is closed.
@@ -221,14 +221,15 @@ class Store(Channel):
     def check(self) -> Soundness:
         """Looks the store over. The process is ended for that, and started again."""
         with self._changed:
+            self._close_let_go()
             while self._busy():
                 if self._sessions.holds_any(threading.get_ident()):
                     raise CursorBusyError("BUSY", "check", "an iterator over windows is open")
-                self._changed.wait()
-            self._up().close()
-            self._connection = None
+                self._changed.wait(LOOK_AGAIN)
+                self._close_let_go()
+            self._put_down(self._up())
             found = programs.check(self.path, self._program)
-            self._connection = self._connect()
+            self._connection = self._connect_again()
             return found
 
     def _busy(self) -> bool:
