@@ -172,6 +172,9 @@ def test_files_that_cannot_be_read(folder: Path, program: str) -> None:
     assert main([str(folder / "s"), str(folder / "missing.csv")]) == 3
     (folder / "latin.csv").write_bytes(b"t,v\n2026-11-29T10:00Z,1\n\xe9\xff,2\n")
     assert main([str(folder / "s"), str(folder / "latin.csv")]) == 3
+    late = b"".join(b"%d,1\n" % (1764406800 + at) for at in range(2000)) + b"1764409000,\xff\n"
+    (folder / "late.csv").write_bytes(late)
+    assert main([str(folder / "s"), str(folder / "late.csv")]) == 3
     with pytest.raises(tables.SourceError):
         tables.whisper_table(str(folder / "latin.csv"))
     with pytest.raises(errors.TimeError):

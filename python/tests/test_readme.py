@@ -43,6 +43,13 @@ def test_shell(folder: Path, program: str) -> None:
             assert sorted(done.stdout.splitlines()) == sorted(shown.splitlines()), command
 
 
+def test_the_picture(folder: Path, program: str) -> None:
+    here = {**os.environ, "PYTHONPATH": str(HOME / "src")}
+    subprocess.run([sys.executable, str(HOME / "examples/picture.py"), str(folder / "out.svg")], env=here,
+                   check=True)
+    assert "2,225 weekly means, kept in 314 windows" in (folder / "out.svg").read_text(encoding="utf-8")
+
+
 def test_all_that_is_raised_is_named() -> None:
     from summarystore import errors
     for name, kind in vars(errors).items():

@@ -160,3 +160,26 @@ def test_iterators_that_are_let_go(plain: Store) -> None:
     with plain.windows("a") as windows:
         assert next(windows).first == 1
     assert plain.check().streams == 1
+
+
+def test_a_check_waits_for_calls(plain: Store) -> None:
+    """A check, which ends the process for a while, comes between calls and not within one."""
+    plain.create("a", "exp 2 8 1")
+    begun = threading.Event()
+
+    def work(number: int) -> None:
+        if number == 0:
+            def rows() -> Iterator[tuple[int, int]]:
+                for time in range(1, 6001):
+                    if time == 1500:
+                        with pytest.raises(errors.CursorBusyError):
+                            plain.check()
+                        begun.set()
+                    yield time, 1
+            assert plain.append_many("a", rows()) == 6000
+        else:
+            begun.wait()
+            assert plain.check().streams == 1
+
+    together(4, work)
+    assert plain.query("a", "count") == 6000

@@ -51,6 +51,7 @@ class Store:
         self._connection: Connection | None = None
         self._opened = self._closed = self._flushing = False
         self._waiting: set[asyncio.Future[None]] = set()
+        self._sending = 0
 
     # ---- the process --------------------------------------------------------------------
 
@@ -72,7 +73,8 @@ class Store:
 
     def _is_old(self, connection: Connection) -> bool:
         pipeline = connection.pipeline
-        return pipeline.sent > self._renew_at and pipeline.idle and not self._sessions.cursors
+        idle = pipeline.idle and not self._sessions.cursors and not self._sending
+        return pipeline.sent > self._renew_at and idle
 
     async def _connect(self) -> Connection:
         self._sessions.forget_cursors()
@@ -237,6 +239,17 @@ class Store:
         """Takes rows of a time and a value, as `Store.append_many` does."""
         codec = self._translator.codec(name)
         sending = Sending(codec, 0, rows, refused, lateness)
+        self._sending += 1
+        try:
+            await self._send_all(sending)
+        finally:
+            self._sending -= 1
+            async with self._changed:
+                self._changed.notify_all()
+        await self._tell_newest(codec, sending.late())
+        return sending.end()
+
+    async def _send_all(self, sending: Sending) -> None:
         under_way: deque[Appends[tuple[object, object]]] = deque()
         connection = None
         try:
@@ -250,8 +263,6 @@ class Store:
             for request in under_way:
                 await self._wait(request)
                 sending.answered(request)
-        await self._tell_newest(codec, sending.late())
-        return sending.end()
 
     @asynccontextmanager
     async def landmark(self, name: str, start: object | None = None, end: object | None = None
@@ -358,6 +369,8 @@ class Store:
         """Looks the store over. The process is ended for that, and started again."""
         if self._sessions.cursors:
             raise CursorBusyError("BUSY", "check", "an iterator over windows is open")
+        async with self._changed:
+            await self._changed.wait_for(lambda: not self._sending)
         await self._idle()
         async with self._opening:
             await self._put_down()

@@ -62,11 +62,14 @@ class Channel:
             self._connection = self._connect_again()
             warnings.warn(ReopenedWarning(f"{self.path}: the program had ended; opened again"),
                           stacklevel=6)
-        elif self._connection.pipeline.sent > self._renew_at and self._connection.pipeline.idle \
-                and not self._sessions.cursors:
-            self._put_down(self._connection)
-            self._connection = self._connect_again()
         return self._connection
+
+    def _renew(self) -> None:
+        """Replaces a process that has taken much, where nothing is under way."""
+        connection = self._connection
+        if connection is not None and connection.pipeline.sent > self._renew_at and self._sessions.idle:
+            self._put_down(connection)
+            self._connection = self._connect_again()
 
     def _put_down(self, connection: Connection) -> None:
         """Lets a process end in order."""
@@ -81,6 +84,7 @@ class Channel:
             yield held
             return
         with self._changed:
+            self._renew()
             while (session := self._sessions.take()) is None:
                 self._changed.wait()
         self._mine.session = session
@@ -91,6 +95,10 @@ class Channel:
             with self._changed:
                 self._sessions.give(session)
                 self._changed.notify_all()
+
+    def _is_mine(self) -> bool:
+        """Whether this thread is in a call."""
+        return getattr(self._mine, "session", None) is not None
 
     def _submit(self, request: Request, only: Connection | None = None) -> Connection:
         """Sends a request: where a process is named, to that one or to none."""

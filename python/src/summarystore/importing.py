@@ -3,7 +3,9 @@
 from __future__ import annotations
 
 import argparse
+import csv
 import os
+import sqlite3
 import sys
 from collections.abc import Callable, Sequence
 from dataclasses import dataclass, field
@@ -318,7 +320,7 @@ def main(given: Sequence[str] | None = None) -> int:
             return 0 if work.run(None) else 1
         with Store(words.store, program=words.program, translator=Names(words.store, words.zone)) as store:
             return 0 if work.run(store) else 1
-    except (SummaryStoreError, OSError) as error:
+    except (SummaryStoreError, OSError, UnicodeError, csv.Error, sqlite3.Error) as error:
         print(f"summarystore-import: {error}", file=sys.stderr)
         return 3
 

@@ -14,6 +14,11 @@ class Sessions:
         self._calls = list(range(SESSIONS))
         self._cursors: dict[int, Hashable] = {}
 
+    @property
+    def idle(self) -> bool:
+        """Whether no call is under way and no cursor is open."""
+        return len(self._calls) == SESSIONS and not self._cursors
+
     def take(self) -> int | None:
         """A session for a call. None where all are taken."""
         return self._calls.pop() if self._calls else None

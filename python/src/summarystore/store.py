@@ -222,19 +222,15 @@ class Store(Channel):
         """Looks the store over. The process is ended for that, and started again."""
         with self._changed:
             self._close_let_go()
-            while self._busy():
-                if self._sessions.holds_any(threading.get_ident()):
-                    raise CursorBusyError("BUSY", "check", "an iterator over windows is open")
+            while not self._sessions.idle:
+                if self._sessions.holds_any(threading.get_ident()) or self._is_mine():
+                    raise CursorBusyError("BUSY", "check", "this thread has an iterator or a call open")
                 self._changed.wait(LOOK_AGAIN)
                 self._close_let_go()
             self._put_down(self._up())
             found = programs.check(self.path, self._program)
             self._connection = self._connect_again()
             return found
-
-    def _busy(self) -> bool:
-        idle = self._connection is None or self._connection.pipeline.idle
-        return self._pumping or self._sessions.cursors or not idle
 
     def plot(self, name: str, kind: str = "mean", t1: object | None = None, t2: object | None = None,
              step: object | None = None, ax: Axes | None = None) -> Axes:
