@@ -11,6 +11,7 @@ from pathlib import Path
 import pytest
 
 from summarystore import Interval, Presence, aio, errors
+from summarystore.program import Process
 
 
 def run(work: Coroutine[object, object, None]) -> None:
@@ -66,6 +67,24 @@ def test_a_hundred_tasks(path: Path) -> None:
                                         return_exceptions=True)
             assert all(isinstance(error, errors.LateError) and error.newest == 1000 for error in late)
             assert await store.query("a", "sum") == 500500
+    run(work())
+
+
+def test_tasks_share_their_writes(path: Path, monkeypatch: pytest.MonkeyPatch) -> None:
+    """What is ready in one turn of the loop goes to the program together, and so to the disk."""
+    writes: list[int] = []
+    plain = Process.write
+
+    def counted(process: Process, data: bytes) -> bool:
+        writes.append(len(data))
+        return plain(process, data)
+
+    async def work() -> None:
+        async with await aio.open(path) as store:
+            await store.create("a", "exp 2 4 1")
+            monkeypatch.setattr(Process, "write", counted)
+            await asyncio.gather(*(store.append("a", time, 1) for time in range(1, 101)))
+            assert len(writes) == 1 and sum(writes) < 4096
     run(work())
 
 

@@ -11,6 +11,7 @@ import pytest
 from hypothesis import given
 from hypothesis import strategies as st
 
+import summarystore
 from summarystore import TimeError
 from summarystore.clock import Clock, span_of, zone_of
 from summarystore.description import EPOCH, NANOSECONDS
@@ -140,3 +141,13 @@ def test_zones() -> None:
     assert zone_of("Europe/Berlin") is not None and zone_of(None) is None
     with pytest.raises(TimeError):
         zone_of("Europe/Nowhere")
+
+
+def test_now() -> None:
+    for resolution in ("us", "ms", "s", "minute", "day"):
+        before = datetime.datetime.now(UTC)
+        now = summarystore.now(resolution)
+        assert before - datetime.timedelta(microseconds=NANOSECONDS[resolution] // 1000) < now
+        assert Clock(resolution, EPOCH, None).time(now) >= 0
+    with pytest.raises(TimeError):
+        summarystore.now("ns")

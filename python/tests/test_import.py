@@ -121,7 +121,10 @@ def test_late_rows(folder: Path, program: str, capsys: pytest.CaptureFixture[str
     assert main([str(folder / "s"), str(folder / "a.csv"), "--name", "a", "--lateness", "2min"]) == 1
     shown = capsys.readouterr()
     assert "a: 6 rows stored, 0 there before, 1 refused" in shown.out and "line 5" in shown.err
-    assert main([str(folder / "t"), str(folder / "a.csv"), "--name", "a"]) == 1
+    words = [str(folder / "t"), str(folder / "a.csv"), "--name", "a"]
+    assert main([*words, "--dry-run"]) == 1
+    assert "a: 4 rows to store, 0 there before, 3 refused" in capsys.readouterr().out
+    assert main(words) == 1
     assert "a: 4 rows stored, 0 there before, 3 refused" in capsys.readouterr().out
 
 

@@ -144,6 +144,21 @@ def test_a_description_without_its_stream(path: Path) -> None:
         assert str(store.query("new", "sum")) == "0.01"
 
 
+def test_a_file_that_is_older_than_its_store(path: Path) -> None:
+    described(path)
+    names = Path(f"{path}.names.json")
+    before = names.read_text()
+    with summarystore.open(path) as store:
+        store.drop(ROOM)
+        store.create(ROOM, "exp 2 1 1", scale="0.01")
+        store.append(ROOM, 10, "0.25")
+    names.write_text(before)
+    with summarystore.open(path) as store:
+        assert str(store.query(ROOM, "sum")) == "0.25"
+        store.append(ROOM, 11, "0.01")
+        assert str(store.query(ROOM, "sum")) == "0.26"
+
+
 def test_drop_and_create_otherwise(store: Store) -> None:
     store.create(ROOM, "exp 2 1 1", scale="0.1")
     store.append(ROOM, 10, "1.5")

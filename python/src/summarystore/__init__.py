@@ -6,7 +6,8 @@ import datetime
 import os
 
 from .certificate import Certificate
-from .description import Description
+from .clock import Clock
+from .description import EPOCH, Description
 from .errors import (CertificateError, CommandError, CursorBusyError, DamagedStoreError,
                      DescriptionError, DiskFullError, InputFaultError, InputTooLongError, KilledError,
                      LandmarkNotOpenError, LandmarkOpenError, LateError, LineTooLongError, LockedError,
@@ -37,6 +38,15 @@ def open(path: str | os.PathLike[str], *, zone: str | datetime.tzinfo | None = N
     return Store(path, program=program, translator=Names(path, zone))
 
 
+def now(resolution: str = "s") -> datetime.datetime:
+    """The present time in UTC, as the last whole step of a resolution: `us`, `ms`, `s`, `minute`, .."""
+    clock = Clock(resolution, EPOCH, None)
+    shown = clock.back(clock.now())
+    if not isinstance(shown, datetime.datetime):
+        raise TimeError(f"no datetime has steps of {resolution}")
+    return shown
+
+
 __all__ = [
     "Certificate", "CertificateError", "CommandError", "CursorBusyError", "DamagedStoreError",
     "Description", "DescriptionError", "DiskFullError", "InputFaultError", "InputTooLongError",
@@ -48,5 +58,5 @@ __all__ = [
     "Series", "Soundness", "Store", "StoreClosedError", "StoreFileError", "StoreFullError", "Stored",
     "Stream", "StreamExistsError", "StreamFullError", "StreamNameError", "SummaryStoreError",
     "TargetError", "TimeError", "TooManyStreamsError", "UnexpectedEndError", "UnknownStreamError",
-    "UsageError", "Window", "check", "mean_of", "open",
+    "UsageError", "Window", "check", "mean_of", "now", "open",
 ]

@@ -12,10 +12,10 @@ from dataclasses import dataclass, field
 from itertools import islice
 from pathlib import Path
 
-from . import clock, tables, timeforms
+from . import clock, tables, timeforms, wire
 from .codec import Codec, PlainCodec
 from .description import NANOSECONDS, ROUNDINGS, description_of
-from .errors import NotANumberError, SummaryStoreError
+from .errors import LateError, NotANumberError, SummaryStoreError
 from .late import ReorderBuffer
 from .names import DescribedCodec, Names, short_name
 from .progress import Progress
@@ -31,13 +31,17 @@ DEFAULT_TARGET = "power 1 1 4 1"
 
 @dataclass
 class Into:
-    """A stream that is being filled: how it is read, and what was made of its rows."""
+    """A stream that is being filled: how it is read, and what was made of its rows.
+
+    What is as old as `before_that`, its last time at the begin, is there. `newest` is that of a dry run.
+    """
 
     name: str
     codec: Codec
     exists: bool
     time_of: Callable[[str], int]
     value_of: Callable[[object], int]
+    before_that: int = -1
     newest: int = -1
     buffer: ReorderBuffer[tuple[int, int, int]] | None = None
     waiting: list[tuple[int, str, str]] = field(default_factory=list)
@@ -178,7 +182,7 @@ class Import:
         into = Into(name, codec, name in self._standing, self._form.reader(codec), value_of)
         if self._store is not None and into.exists:
             found = self._store.last_count(name)
-            into.newest = -1 if found is None else found
+            into.newest = into.before_that = -1 if found is None else found
         if self._lateness is not None:
             into.buffer = ReorderBuffer(codec.step(self._lateness))
         self._streams[column, names] = into
@@ -222,7 +226,7 @@ class Import:
             self._store_rows(into, into.buffer.flush())
 
     def _store_rows(self, into: Into, rows: Sequence[tuple[int, int, int]]) -> None:
-        kept = [row for row in rows if row[0] > into.newest]
+        kept = [row for row in rows if row[0] > into.before_that]
         new = [(time, value) for time, value, _ in kept]
         into.before += len(rows) - len(new)
         if not new:
@@ -236,9 +240,18 @@ class Import:
             self._refuse(into, lines[id(row)], error)
 
         if self._store is None or self._words.dry_run:
-            into.stored += len(new)
+            self._only_look(into, kept)
         else:
             into.stored += self._store.append_rows(PlainCodec(into.codec.short), new, refused)
+
+    def _only_look(self, into: Into, rows: Sequence[tuple[int, int, int]]) -> None:
+        """Counts what would be stored, and shows what would be refused as late."""
+        for time, value, line in rows:
+            if time > into.newest:
+                into.newest = time
+                into.stored += 1
+            else:
+                self._refuse(into, line, LateError("TIME", wire.append(into.codec.short, time, value)))
 
     def _refuse(self, into: Into, line: int, error: Exception) -> None:
         into.refused += 1

@@ -120,6 +120,10 @@ class Names:
                 if found and name == row.name:      # its long name isn't known
                     self._lost[found[0]] = name
                     self._described.setdefault(name, (name, found[1]))
+            # A file that is older than its store: what stands is right.
+            for name in [name for name, (short, _) in self._described.items()
+                         if short not in self._standing and hash_of(name) in self._lost]:
+                del self._described[name]
 
     def codec(self, name: str) -> Codec:
         """That of a stream. One that isn't described takes and gives whole numbers."""
