@@ -210,7 +210,8 @@ def test_killed_ten_times(folder: Path, program: str) -> None:
         child = subprocess.Popen(words, env=here, stdin=subprocess.PIPE, stdout=subprocess.DEVNULL,
                                  stderr=subprocess.PIPE, start_new_session=True)
         assert child.stdin is not None and child.stderr is not None
-        child.stdin.write(lines[:part * len(lines) // 11])
+        with contextlib.suppress(BrokenPipeError):      # the one before may hold the lock still
+            child.stdin.write(lines[:part * len(lines) // 11])
         child.kill()
         child.wait()
         with contextlib.suppress(BrokenPipeError):
