@@ -6,6 +6,7 @@ import os
 import re
 import subprocess
 import sys
+import textwrap
 from pathlib import Path
 
 import pytest
@@ -41,6 +42,18 @@ def test_shell(folder: Path, program: str) -> None:
             done = subprocess.run(["sh", "-c", command], cwd=folder, env=here, stdout=subprocess.PIPE,
                                   stderr=subprocess.STDOUT, text=True, check=False)
             assert sorted(done.stdout.splitlines()) == sorted(shown.splitlines()), command
+
+
+def test_the_page_of_the_guide(folder: Path, program: str, monkeypatch: pytest.MonkeyPatch,
+                               capsys: pytest.CaptureFixture[str]) -> None:
+    guide = (HOME.parent / "docs/GUIDE.md").read_text(encoding="utf-8")
+    page = guide.partition("## From Python\n")[2].partition("\n## ")[0]
+    start = page.index("    import summarystore\n")
+    block = re.match(r"(?:(?:    .*)?\n)+", page[start:])
+    assert block
+    monkeypatch.chdir(folder)
+    exec(compile(textwrap.dedent(block[0]), "GUIDE.md", "exec"), {})
+    assert capsys.readouterr().out == "21.5\n"
 
 
 def test_the_picture(folder: Path, program: str) -> None:
