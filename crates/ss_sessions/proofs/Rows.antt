@@ -6,7 +6,7 @@ use Rattle.ss_catalog.specs.declared.refusal.Refusal.TheVariants as refusals
 use Rattle.ss_catalog.specs.Names.{is_name}
 use Rattle.ss_command.specs.Grammar.{meaning}
 use Rattle.ss_command.specs.Words.{words}
-use Rattle.ss_fields.specs.Words.{is_number, number_of, number_up_to}
+use Rattle.ss_fields.specs.Words.{is_number, number_of, number_up_to, signed_of}
 use Rattle.ss_command.specs.declared.command.Command.TheVariants as commands
 use Rattle.ss_model.specs.State.{Stream}
 use Rattle.ss_outside.specs.Verdict as verdicts
@@ -167,3 +167,69 @@ close_more = refl
 bare_cursor : spoken_of (codes "@1 cursor") ≡ To 1 (Err refusals.Syntax)
 unfolding words meaning is_number number_of number_up_to is_name
 bare_cursor = refl
+
+-- what is wrong with the words of a form comes before what is wrong with a number or a name
+open_nothing : spoken_of (codes "@1 cursor open") ≡ To 1 (Err refusals.Syntax)
+unfolding words meaning is_number number_of number_up_to is_name
+open_nothing = refl
+
+open_two : spoken_of (codes "@1 cursor open a* b") ≡ To 1 (Err refusals.Syntax)
+unfolding words meaning is_number number_of number_up_to is_name
+open_two = refl
+
+next_nothing : spoken_of (codes "@1 cursor next") ≡ To 1 (Err refusals.Syntax)
+unfolding words meaning is_number number_of number_up_to is_name
+next_nothing = refl
+
+next_two_words : spoken_of (codes "@1 cursor next x 1") ≡ To 1 (Err refusals.Syntax)
+unfolding words meaning is_number number_of number_up_to is_name
+next_two_words = refl
+
+next_misspelt : spoken_of (codes "@1 cursor next x") ≡ To 1 (Err refusals.Number)
+unfolding words meaning is_number number_of number_up_to is_name
+next_misspelt = refl
+
+other_form : spoken_of (codes "@1 cursor rewind") ≡ To 1 (Err refusals.Syntax)
+unfolding words meaning is_number number_of number_up_to is_name
+other_form = refl
+
+-- the first word of the rest is `cursor`, byte for byte
+in_capitals : spoken_of (codes "@1 Cursor close") ≡ To 1 (Err refusals.Syntax)
+unfolding words meaning is_number number_of number_up_to is_name
+in_capitals = refl
+
+with_a_letter : spoken_of (codes "@1 cursors close") ≡ To 1 (Err refusals.Syntax)
+unfolding words meaning is_number number_of number_up_to is_name
+with_a_letter = refl
+
+-- tabs are blanks, before the first word and behind it
+between_tabs : spoken_of (codes "\t@1\tcursor\tnext\t1000\t") ≡ To 1 (Ok (Some (orders.Next 1000)))
+unfolding words meaning is_number number_of number_up_to is_name
+between_tabs = refl
+
+-- the first word is `@` and a digit 0 to 7, and nothing else
+no_blank : spoken_of (codes "@1list") ≡ Unaddressed
+unfolding words meaning is_number number_of number_up_to is_name
+no_blank = refl
+
+to_the_eighth : spoken_of (codes "@8 # a note") ≡ Unaddressed
+unfolding words meaning is_number number_of number_up_to is_name
+to_the_eighth = refl
+
+to_two : spoken_of (codes "@1 @2 list") ≡ To 1 (Err refusals.Syntax)
+unfolding words meaning is_number number_of number_up_to is_name
+to_two = refl
+
+-- a rest is refused as a line by itself
+refused_number : spoken_of (codes "@2 append x! y 1") ≡ To 2 (Err refusals.Number)
+unfolding words meaning is_number number_of number_up_to is_name
+refused_number = refl
+
+refused_name : spoken_of (codes "@2 append x! 1 1") ≡ To 2 (Err refusals.Name)
+unfolding words meaning is_number number_of number_up_to signed_of is_name
+refused_name = refl
+
+-- no number of 64 bits
+past_all : asked_of (codes "18446744073709551616") ≡ Err refusals.Number
+unfolding is_number number_of number_up_to
+past_all = refl
