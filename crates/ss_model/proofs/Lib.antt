@@ -33,4 +33,5 @@ pub mod RisingLemmas
 pub mod AnswerLemmas
 pub mod RowLemmas
 mod NewestRows
+mod NewestTruthRows
 pub mod NewestLemmas
