@@ -25,11 +25,11 @@ pub mod HeldLemmas
 pub mod ValidRecords
 pub mod CarriedStates
 pub mod Latest
-pub mod RunLaws
 pub mod RunSound
 pub mod RunStanding
 pub mod RunMarks
-pub mod RunSteps
+pub mod WindowLaws
+pub mod MarkLaws
 pub mod RunOrder
 pub mod RunWalk
 pub mod RunStream

@@ -16,9 +16,9 @@ use Rattle.ss_landmarks.proofs.OrderLemmas.{cases-finish}
 use Rattle.ss_landmarks.proofs.TimeLemmas.{CanClose-after, CanOpen-after}
 use Rattle.ss_model.specs.Marks.{latest_of}
 use Rattle.ss_recover.specs.Marked.{Marked, has_all_values, has_said, is_closed_before, is_next_landmark, is_next_value, landmarks_in}
-use Rattle.ss_recover.specs.Shown.{IsLast, MayClose, ShowsMarks, can_add, can_open, closes_before, finish_of}
+use Rattle.ss_recover.specs.Shown.{IsLast, MayClose, ShowsLast, can_add, can_open, closes_before, finish_of}
 use Rattle.ss_recover.specs.Shown.{has_said_last, latest_at_end, still_open, with_closing}
-use Rattle.ss_recover.specs.declared.run.Last.{Last}
+use Rattle.ss_recover.specs.declared.marking.Last.{Last}
 use Rattle.ss_recover.proofs.Latest.{AllEndBy-latest, latest_of-closed}
 use Rattle.ss_recover.proofs.Lists.{all_weaker, each-list_all}
 
@@ -63,7 +63,7 @@ long-held c ls latest m is =
 
 module _ (ls : List Landmark) (latest : Option ℕ) (m : Marked) where
   -- it may close when it is to
-  pub MayClose-shown : (last : Option Last) → ShowsMarks last ls latest m → AreLandmarks ls → latest ≡ latest_of ls → MayClose (finish_of last) ls
+  pub MayClose-shown : (last : Option Last) → ShowsLast last ls latest m → AreLandmarks ls → latest ≡ latest_of ls → MayClose (finish_of last) ls
   MayClose-shown None shows order is = tt
   MayClose-shown (Some c) shows order is =
       elim c.finish as (λ o. IfSome o (λ t. (shows.time ≤ t) × (t ≤ LATEST_TIME)) → MayClose o ls) [
@@ -76,7 +76,7 @@ module _ (ls : List Landmark) (latest : Option ℕ) (m : Marked) where
       ] shows.closes
 
   -- then the landmarks are those that the records make
-  pub closed-shown : (last : Option Last) → ShowsMarks last ls latest m → with_closing (finish_of last) ls ≡ landmarks_in m
+  pub closed-shown : (last : Option Last) → ShowsLast last ls latest m → with_closing (finish_of last) ls ≡ landmarks_in m
   closed-shown None shows = shows.1 ∙ sym (ap landmarks_in shows.0)
   closed-shown (Some c) shows =
       let l = shows.landmark in
@@ -93,7 +93,7 @@ module _ (ls : List Landmark) (latest : Option ℕ) (m : Marked) where
       ∙ sym (in-held c ls latest m shows)
 
   -- and their latest time is the one that is held
-  pub latest-shown : (last : Option Last) → ShowsMarks last ls latest m → latest ≡ latest_of ls →
+  pub latest-shown : (last : Option Last) → ShowsLast last ls latest m → latest ≡ latest_of ls →
       latest_at_end (finish_of last) latest ≡ latest_of (with_closing (finish_of last) ls)
   latest-shown None shows is = is
   latest-shown (Some c) shows is =
@@ -103,12 +103,12 @@ module _ (ls : List Landmark) (latest : Option ℕ) (m : Marked) where
       ] shows.closes
 
   -- the tests of the code are those of the definition
-  pub said-shown : (last : Option Last) → ShowsMarks last ls latest m → has_said_last last ≡ has_all_values m
+  pub said-shown : (last : Option Last) → ShowsLast last ls latest m → has_said_last last ≡ has_all_values m
   said-shown None shows = sym (ap has_all_values shows.0)
   said-shown (Some c) shows =
       (λ i. is_none (shows.finish i) || shows.values i == shows.said i) ∙ sym (ap (λ o. option_map_or (has_said m.said) o true) shows.last)
 
-  pub open-shown : (last : Option Last) (number start : ℕ) → ShowsMarks last ls latest m →
+  pub open-shown : (last : Option Last) (number start : ℕ) → ShowsLast last ls latest m →
       can_open (length ls) last number start ≡ is_next_landmark m number start
   open-shown None number start shows =
       ap (λ (us : List Landmark). number == length us + 1 && true) shows.1 ∙ sym (ap (λ k. is_next_landmark k number start) shows.0)
@@ -130,7 +130,7 @@ module _ (ls : List Landmark) (latest : Option ℕ) (m : Marked) where
       apart false b c d = refl
 
   -- a landmark may open after those that have closed, and the last one may take a value
-  pub CanOpen-shown : (last : Option Last) (us : List Landmark) (number start : ℕ) → ShowsMarks last ls latest m → latest ≡ latest_of ls → AreLandmarks ls →
+  pub CanOpen-shown : (last : Option Last) (us : List Landmark) (number start : ℕ) → ShowsLast last ls latest m → latest ≡ latest_of ls → AreLandmarks ls →
       can_open (length ls) last number start ≡ true → us ≡ with_closing (finish_of last) ls →
       CanOpen us start × IfSome (latest_of us) (λ time. time < start)
   CanOpen-shown None us number start shows is order can closed =

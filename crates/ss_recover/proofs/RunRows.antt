@@ -5,7 +5,7 @@ use Rattle.ss_catalog.specs.declared.params.Params.TheVariants.{Exp}
 use Rattle.ss_codec.specs.declared.record.Record.{Record}
 use Rattle.ss_codec.specs.declared.record.Record.TheVariants as records
 use Rattle.ss_model.specs.Marks as Marks
-use Rattle.ss_recover.specs.Runs.{begins_dropped, doomed_found, is_drop, is_run, is_sound_in_order}
+use Rattle.ss_recover.specs.Runs.{doomed_found, is_run, is_sound_in_order}
 use Rattle.ss_recover.specs.Usable.{slots_found}
 use Rattle.ss_recover.specs.declared.found.Found.{Found}
 
@@ -50,25 +50,6 @@ dropped-named = refl
 
 dropped-other : is_run (a ∷ []) (own 1 b true ∷ []) ≡ true
 dropped-other = refl
-
--- which record says that its stream was dropped
-says-dropped : is_drop (own 3 a true) ≡ true
-says-dropped = refl
-
-says-standing : is_drop (own 3 a false) ≡ false
-says-standing = refl
-
-says-nothing : is_drop (window 3 1) ≡ false
-says-nothing = refl
-
-begins-with_nothing : begins_dropped [] ≡ false
-begins-with_nothing = refl
-
-begins-standing : begins_dropped (own 0 a false ∷ own 0 a true ∷ []) ≡ false
-begins-standing = refl
-
-begins-with_drop : begins_dropped (own 0 a true ∷ window 0 1 ∷ []) ≡ true
-begins-with_drop = refl
 
 -- of a dropped number no more is asked than that it has one record of its own, with a place and a name that is new
 abbrev some : Bool → List ℕ → List Record

@@ -25,22 +25,17 @@ use Rattle.ss_recover.specs.Doomed.{is_own}
 use Rattle.ss_recover.specs.Held.{window_record}
 use Rattle.ss_recover.specs.Marked.{are_marks, landmarks_made, nothing_marked}
 use Rattle.ss_recover.specs.Order.{Rises, place_of, stream_of}
-use Rattle.ss_recover.specs.Runs.{Run, is_run, is_sound_in_order, marking, run_of, run_on}
+use Rattle.ss_recover.specs.Runs.{has_sound_values_in_order, is_run, is_sound_in_order, marks_in, windows_in}
 use Rattle.ss_recover.specs.Usable.{IsUsable}
 use Rattle.ss_recover.proofs.Lists.{all_weaker}
 use Rattle.ss_recover.proofs.SoundStreams.{count-at, count-below, new-name}
-use Rattle.ss_recover.proofs.RunLaws.{ends, fold-none, fold-run, marks, no-marks, rise-times, windows}
 
--- more than one stream record ends no run
-twice : (rs : List Record) (run : Option Run) (c : Created) (cs : List Created) → filter_map created_by rs ≡ c ∷ cs → fold run_on run rs ≡ None
-twice [] run c cs is = cc
-twice (r ∷ rs) None c cs is = fold-none rs
-twice (records.Free ∷ rs) (Some run) c cs is = twice rs (run_on (Some run) records.Free) c cs is
-twice (records.Stream id name params dropped ∷ rs) (Some run) c cs is = fold-none rs
-twice (records.Window id first summary ∷ rs) (Some run) c cs is = twice rs (run_on (Some run) (records.Window id first summary)) c cs is
-twice (records.Landmark id number values start finish ∷ rs) (Some run) c cs is =
-    twice rs (run_on (Some run) (records.Landmark id number values start finish)) c cs is
-twice (records.Value id number index t v ∷ rs) (Some run) c cs is = twice rs (run_on (Some run) (records.Value id number index t v)) c cs is
+-- the windows and the records of landmarks of a number
+abbrev windows : ℕ → List Record → List Window
+windows n rs = windows_in n rs
+
+abbrev marks : ℕ → List Record → List Record
+marks n rs = marks_in n rs
 
 -- what the records of some numbers create
 created-of : (P : ℕ → Type 0) (rs : List Record) → AllByRecursion (λ r. P (stream_of r)) rs → AllByRecursion (λ c. P c.number) (filter_map created_by rs)
@@ -75,37 +70,6 @@ marks-apart n (records.Stream id name params dropped ∷ rs) apart = marks-apart
 marks-apart n (records.Window id first summary ∷ rs) apart = marks-apart n rs apart.1
 marks-apart n (records.Landmark id number values start finish ∷ rs) apart = rw (ne_eqb id n apart.0) (marks-apart n rs apart.1)
 marks-apart n (records.Value id number index t v ∷ rs) apart = rw (ne_eqb id n apart.0) (marks-apart n rs apart.1)
-
--- windows that tile hold no more than a stream can take, since they are usable
-tile-windows : (n first : ℕ) (rs : List Record) → AllByRecursion IsUsable rs → first ≤ GREATEST_COUNT + 1 → tile_from first (windows n rs) ≡ true →
-    first + taken (windows n rs) ≤ GREATEST_COUNT + 1
-tile-windows n first [] usable low tiles = omega (arith, low)
-tile-windows n first (records.Free ∷ rs) usable low tiles = tile-windows n first rs usable.1 low tiles
-tile-windows n first (records.Stream id name params dropped ∷ rs) usable low tiles = tile-windows n first rs usable.1 low tiles
-tile-windows n first (records.Landmark id number values start finish ∷ rs) usable low tiles = tile-windows n first rs usable.1 low tiles
-tile-windows n first (records.Value id number index t v ∷ rs) usable low tiles = tile-windows n first rs usable.1 low tiles
-tile-windows n first (records.Window id place summary ∷ rs) usable low tiles =
-    elim (id == n) as (λ b. tile_from first (cons_option (cond b (Some (record { first = place; summary = summary })) None) (windows n rs)) ≡ true →
-    first + taken (cons_option (cond b (Some (record { first = place; summary = summary })) None) (windows n rs)) ≤ GREATEST_COUNT + 1) [
-      | true ↦ λ tiles.
-          let w : Window = record { first = place; summary = summary } in
-          let parts = and_parts (place == first) (tile_from (first + summary.count) (windows n rs)) tiles in
-          let same = eqb-true place first parts.0 in
-          let high = usable.0.1 in
-          let rest = tile-windows n (first + summary.count) rs usable.1 (omega (arith, same, high)) parts.1 in
-          omega (arith, rest, sum_by-cons (λ (v : Window). v.summary.count) w (windows n rs))
-      | false ↦ λ tiles. tile-windows n first rs usable.1 low tiles
-    ] tiles
-
-tile-run : (n : ℕ) (rs : List Record) → AllByRecursion IsUsable rs → tile_from 1 (windows n rs) ≡ tile (windows n rs)
-tile-run n rs usable =
-    elim (cases_Bool (tile_from 1 (windows n rs))) [
-      | inl tiles ↦
-          let few = tile-windows n 1 rs usable (omega arith) tiles in
-          tiles ∙ sym (and_from (tile_from 1 (windows n rs)) (nat_le (taken (windows n rs)) MOST_VALUES) tiles
-          (le-leb (taken (windows n rs)) MOST_VALUES (omega (arith, few))))
-      | inr fails ↦ fails ∙ sym (and_left (tile_from 1 (windows n rs)) (nat_le (taken (windows n rs)) MOST_VALUES) fails)
-    ]
 
 -- what says that its stream was dropped is of its number
 pub drops-apart : (n : ℕ) (rs : List Record) → AllByRecursion (λ r. stream_of r ≡ n → ⊥) rs → is_dropped n rs ≡ false
@@ -175,17 +139,14 @@ value-parts true false t d v w x y none is = absurd (cc)
 value-parts false b t d v w x y none is = absurd (cc)
 
 -- what is asked of a run whose first record alone is a stream's own
-asked : (dropped same drops own values ended : Bool) → same ≡ true → drops ≡ false → own ≡ false → ended ≡ values →
-    (((dropped && same) || drops) || values) ≡ cond dropped (not own) ended
-asked true true drops false values ended a b c is = refl
-asked true true drops true values ended a b c is = cc
-asked true false drops own values ended a b c is = cc
-asked false same false own values ended a b c is = sym is
-asked false same true own values ended a b c is = cc
-
-refused : (dropped own ended : Bool) → own ≡ true → ended ≡ false → cond dropped (not own) ended ≡ false
-refused true own ended some fails = ap not some
-refused false own ended some fails = fails
+asked : (dropped same drops own values : Bool) → same ≡ true → drops ≡ false → own ≡ false →
+    (((dropped && same) || drops) || values) ≡ (not own && (dropped || values))
+asked true true drops false values a b c = refl
+asked true true drops true values a b c = cc
+asked true false drops own values a b c = cc
+asked false same false false values a b c = refl
+asked false same false true values a b c = cc
+asked false same true own values a b c = cc
 
 -- Records of lower numbers, those of a number, and those of greater ones.
 module _ (front run back : List Record) (n : ℕ) (lower : AllByRecursion (λ r. stream_of r < n) front) (own : AllByRecursion (λ r. stream_of r ≡ n) run)
@@ -284,7 +245,6 @@ is_run-sound front (records.Stream id name params dropped ∷ rest) back n lower
     let c : Created = record { number = id; name = name; params = params } in
     let names = map (λ (o : Created). o.name) (streams_created front) in
     let may = nat_lt (length names) MOST_STREAMS && not (list_any (same_name name) names) in
-    let ws = windows n rest in
     elim (streams_created rest) as (λ us. streams_created rest ≡ us → is_sound_in_order (front ++ ((r ∷ rest) ++ back)) n ≡ is_run names (r ∷ rest)) [
       | [] ↦ λ none.
           let few : length names ≡ length (streams_created front) = length-map (streams_created front) (λ (o : Created). o.name) in
@@ -292,24 +252,18 @@ is_run-sound front (records.Stream id name params dropped ∷ rest) back n lower
           ap (λ us. has_new_name n (streams_created front ++ ((c ∷ us) ++ streams_created back))) none
           ∙ new-name (streams_created front) (c ∷ []) (streams_created back) n (cs-below front (r ∷ rest) back n lower own above) (own.0, tt)
           (later-above front (r ∷ rest) back n lower own above) c own.0 in
-          let tiles = tile-run n rest usable.1 in
-          let times = rise-times ws in
-          let values = tile ws && times_rise ws && are_marks (marks n rest) && list_all (lies_free (landmarks_made (marks n rest))) ws in
-          let whole : ends (run_of rest) ≡ values =
-          fold-run n rest own.1 usable.1 rises.1 none nothing_marked
-          ∙ (λ i. tiles i && times i && are_marks (marks n rest) && list_all (lies_free (landmarks_made (marks n rest))) ws) in
-          let last = asked dropped (id == n) (is_dropped n rest) (list_any is_own rest) values (ends (run_of rest)) (eq-eqb id n own.0)
-          (alone-drops n rest none) (alone-own rest none) whole in
+          let values = has_sound_values_in_order rest n in
+          let last = asked dropped (id == n) (is_dropped n rest) (list_any is_own rest) values (eq-eqb id n own.0) (alone-drops n rest none)
+          (alone-own rest none) in
           sound-parts front (r ∷ rest) back n lower own above
           ∙ sym (joined (length (c ∷ streams_created rest) == 1) (nat_lt (length (streams_created front)) MOST_STREAMS)
           (has_new_name n (streams_created front ++ ((c ∷ streams_created rest) ++ streams_created back))) (is_dropped n (r ∷ rest) || values)
           (ap (λ (l : List Created). length (c ∷ l) == 1) none))
-          ∙ (λ i. (nat_lt (sym few i) MOST_STREAMS && new i) && last i)
+          ∙ (λ i. (nat_lt (sym few i) MOST_STREAMS && new i) && last i) ∙ ap (λ k. may && (not (list_any is_own rest) && (dropped || has_sound_values_in_order rest k))) (sym own.0)
       | u ∷ us ↦ λ is.
           sound-never front (r ∷ rest) back n lower own above (λ one. absurd (omega (arith, one, ap (λ (l : List Created). length l) is)))
-          ∙ sym (and_right may (cond dropped (not (list_any is_own rest)) (ends (run_of rest)))
-          (refused dropped (list_any is_own rest) (ends (run_of rest)) (own-created rest u us is)
-          (ap ends (twice rest (Some (marking nothing_marked)) u us is))))
+          ∙ sym (and_right may (not (list_any is_own rest) && (dropped || has_sound_values_in_order rest id))
+          (ap (λ b. not b && (dropped || has_sound_values_in_order rest id)) (own-created rest u us is)))
     ] refl
 
 -- what the records of a run meet
@@ -340,6 +294,17 @@ run-meets front rest head lower own usable rises run =
     nothing : (us : List Created) → length us ≡ 0 → us ≡ []
     nothing [] none = refl
     nothing (u ∷ us) none = absurd (omega (arith, none))
+
+-- what comes at or after a window is no record of a landmark or of a value
+no-marks : (n : ℕ) (rs : List Record) → AllByRecursion IsUsable rs → AllByRecursion (λ r. 2 ^ 64 ≤ place_of r) rs → marks n rs ≡ []
+no-marks n [] usable behind = refl
+no-marks n (records.Free ∷ rs) usable behind = no-marks n rs usable.1 behind.1
+no-marks n (records.Stream id name params dropped ∷ rs) usable behind = no-marks n rs usable.1 behind.1
+no-marks n (records.Window id first summary ∷ rs) usable behind = no-marks n rs usable.1 behind.1
+no-marks n (records.Landmark id number values start finish ∷ rs) usable behind =
+    absurd (let few = usable.0.1 in let late = behind.0 in omega (arith, few, late))
+no-marks n (records.Value id number index t v ∷ rs) usable behind =
+    absurd (let few = usable.0.1 in let short = usable.0.2 in let late = behind.0 in omega (arith, few, short, late))
 
 -- the records of a run are those of landmarks and their values, and then those of windows
 pub run-order : (n : ℕ) (rs : List Record) → AllByRecursion (λ r. stream_of r ≡ n) rs → AllByRecursion IsUsable rs → Rises place_of rs →

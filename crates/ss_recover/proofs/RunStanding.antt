@@ -1,7 +1,6 @@
 -- Records of streams of which some were dropped: what is made of them by one run more, and the names that they have.
 use Rattle.std.proofs.Common.{◌≡◌, ◌∙◌, ℕ, ◌<◌, ◌≤◌, Bool, true, false, not, ◌&&◌, cond, List, [], ◌∷◌, ◌++◌, map, filter, length, refl, sym, ap, subst}
 use Rattle.std.proofs.Common.{arith, append_assoc, IsPermutation}
-use Rattle.std.specs.Option.{option_map_or}
 use Rattle.std.specs.Prelude.{◌||◌, if◌then◌else◌, nat_lt}
 use Rattle.std.specs.List.{AllByRecursion, filter_map, list_any}
 use Rattle.std.proofs.lemmas.Bool.{and_from, and_parts, and_right, lt-ltb, ltb-true, not-true, or_from, or_parts}
@@ -18,7 +17,7 @@ use Rattle.ss_model.specs.State.{Created}
 use Rattle.ss_recover.specs.Carried.{created_by, is_drop_of, is_dropped, streams_created}
 use Rattle.ss_recover.specs.Doomed.{is_doomed, is_own}
 use Rattle.ss_recover.specs.Order.{stream_of}
-use Rattle.ss_recover.specs.Runs.{is_ended, is_run, may_stand, run_of}
+use Rattle.ss_recover.specs.Runs.{has_sound_values_in_order, is_run, may_stand}
 use Rattle.ss_recover.specs.Usable.{IsUsable}
 use Rattle.ss_recover.proofs.Lists.{all_weaker, filter-all, filter-none}
 use Rattle.ss_recover.proofs.RunSound.{drops-apart}
@@ -73,7 +72,7 @@ module _ (fewer names : List (List ℕ)) (few : AreFewer fewer names) where
   is_run-fewer [] run = cc
   is_run-fewer (records.Free ∷ rest) run = cc
   is_run-fewer (records.Stream id name params dropped ∷ rest) run =
-      let asked : Bool = if dropped then not (list_any is_own rest) else option_map_or is_ended (run_of rest) false in
+      let asked : Bool = not (list_any is_own rest) && (dropped || has_sound_values_in_order rest id) in
       let parts = and_parts (may_stand names name) asked run in
       and_from (may_stand fewer name) asked (may-fewer name parts.0) parts.1
   is_run-fewer (records.Window id first summary ∷ rest) run = cc

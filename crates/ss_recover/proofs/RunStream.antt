@@ -1,8 +1,7 @@
 -- Streams that records in order are of, one run after another.
 use Rattle.std.proofs.Common.{◌≡◌, ◌∙◌, ℕ, suc, zero, ◌<◌, ◌≤◌, true, false, List, [], ◌∷◌, ◌++◌, filter, map, length, refl, sym, ap, subst, arith}
 use Rattle.std.proofs.Common.{append_assoc, append-nil, inl, inr}
-use Rattle.std.specs.Prelude.{◌==◌, nat_lt, not}
-use Rattle.std.specs.Option.{option_map_or}
+use Rattle.std.specs.Prelude.{◌==◌, ◌&&◌, ◌||◌, nat_lt, not}
 use Rattle.std.specs.List.{AllByRecursion, IsDistinct, filter_map, list_any}
 use Rattle.std.proofs.lemmas.Bool.{and_parts, cases_eq, eq-eqb, ltb-true, not-true, or_left, or_parts}
 use Rattle.std.proofs.lemmas.List.{length-append, length-map, map-append}
@@ -26,7 +25,7 @@ use Rattle.ss_recover.specs.Doomed.{is_own}
 use Rattle.ss_recover.specs.Held.{window_record}
 use Rattle.ss_recover.specs.Marked.{landmarks_made}
 use Rattle.ss_recover.specs.Order.{Rises, key_of, place_of, stream_of}
-use Rattle.ss_recover.specs.Runs.{is_ended, is_run, is_sound_in_order, may_stand, run_of}
+use Rattle.ss_recover.specs.Runs.{has_sound_values_in_order, is_run, is_sound_in_order, may_stand}
 use Rattle.ss_recover.specs.Usable.{IsUsable}
 use Rattle.ss_recover.proofs.HeldRecords.{all_walked, created, created-all_walked, each-all_walked, walked}
 use Rattle.ss_recover.proofs.InOrder.{Rise, increasing-Rise}
@@ -157,7 +156,7 @@ module _ (front : List Record) (streams : List Stream) (done : AreWalked front s
 
   pub AreWalked-run : AreWalked (front ++ first ∷ rest) (streams ++ stream_made ∷ [])
   AreWalked-run =
-      let both = and_parts (may_stand (names_of streams) head.name) (option_map_or is_ended (run_of rest) false) run in
+      let both = and_parts (may_stand (names_of streams) head.name) (not (list_any is_own rest) && (false || has_sound_values_in_order rest head.number)) run in
       let may = and_parts (nat_lt (length (names_of streams)) MOST_STREAMS) (not (list_any (same_name head.name) (names_of streams))) both.0 in
       let below = each-all_walked (λ k. k < head.number) streams (subst (AllByRecursion (λ r. stream_of r < head.number)) done.order lower) in
       let least = ltb-true (length (names_of streams)) MOST_STREAMS may.0 in
@@ -238,7 +237,9 @@ module _ (front : List Record) (streams : List Stream) (done : AreStanding front
       AreStanding (front ++ records.Stream id name params true ∷ own) streams
   step-dropped run =
       let r = records.Stream id name params true in
-      let none = not-true (list_any is_own own) (and_parts (may_stand (names_created front) name) (not (list_any is_own own)) run).1 in
+      let none = not-true (list_any is_own own)
+      (and_parts (not (list_any is_own own)) (true || has_sound_values_in_order own id)
+      (and_parts (may_stand (names_created front) name) (not (list_any is_own own) && (true || has_sound_values_in_order own id)) run).1).0 in
       let alone = own-alone own none in
       let more : filter (stands_in (front ++ r ∷ own)) (front ++ r ∷ own) ≡ filter (stands_in front) front ++ [] =
       standing-more (λ q. q) front (r ∷ own) id lower (refl, same) front (r ∷ own) lower (refl, same) true

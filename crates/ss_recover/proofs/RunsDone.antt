@@ -171,7 +171,8 @@ module _ (old : Walk) (front : List Found) (done : AreDone old front) (n : ℕ) 
       let asked = subst (λ l. is_run (names_in old.names) (without_slots l) ≡ true) took.split took.runs in
       let none : list_any is_own (without_slots took.rest) ≡ false =
       not-true (list_any is_own (without_slots took.rest))
-      (and_parts (may_stand (names_in old.names) took.head.name) (not (list_any is_own (without_slots took.rest))) asked).1 in
+      (and_parts (not (list_any is_own (without_slots took.rest))) true
+      (and_parts (may_stand (names_in old.names) took.head.name) (not (list_any is_own (without_slots took.rest)) && true) asked).1).0 in
       let alone = own-alone (without_slots took.rest) none in
       let at = (subst (AllByRecursion (λ (f : Found). stream_of f.holds ≡ n)) took.split own-found).0 in
       let dropped : is_dropped n rs ≡ true =

@@ -1,4 +1,4 @@
--- The records of one stream after another, in order: what a record more makes of them, and which of them meet all conditions.
+-- The records of one stream after another, in order: which of them meet all conditions, and what is built of them.
 use Rattle.std.specs.Prelude.{◌≡◌, ℕ, ◌+◌, ◌<◌, Bool, true, false, not, ◌==◌, ◌&&◌, ◌||◌, nat_lt, if◌then◌else◌, List, [], ◌∷◌, length, filter, flat_map, zip}
 use Rattle.std.specs.Prelude.{◌++◌}
 use Rattle.std.specs.Prelude.{fold, is_some, map, option_and_then, Option, Some, None, Result, Ok, Err, ⊤}
@@ -27,92 +27,35 @@ use Rattle.ss_recover.specs.declared.parts.Parts.{Parts}
 use Rattle.ss_recover.specs.declared.recover_error.RecoverError.{RecoverError}
 use Rattle.ss_recover.specs.declared.recover_error.RecoverError.TheVariants.{BadSlot, BadStream, Disk, OutOfMemory}
 
--- The records of a stream so far, after its own: landmarks and their values come first. Then windows do, among these landmarks, the
--- next one at this position and after this time.
-pub data Run : Type 0 where
-  marking : Marked → Run
-  tiling : List Landmark → ℕ → Option ℕ → Run
+-- the windows and the records of landmarks of the stream of a number, in the order of the records
+abbrev pub windows_in : ℕ → List Record → List Window
+windows_in number records = filter_map (window_of number) records
 
--- a time is after the last one, if there is one
-abbrev pub is_after : Option ℕ → ℕ → Bool
-is_after None t = true
-is_after (Some last) t = nat_lt last t
+abbrev pub marks_in : ℕ → List Record → List Record
+marks_in number records = filter (is_mark_of number) records
 
--- a window begins at the next position, comes after the newest time and lies free among the landmarks
-abbrev pub is_next_window : List Landmark → ℕ → Option ℕ → Window → Bool
-is_next_window landmarks next newest w = w.first == next && is_after newest w.summary.t_first && lies_free landmarks w
-
--- where windows may come from here on: the last landmark has the values that its record says
-abbrev pub windows_from : Run → Option Run
-windows_from (marking m) = if has_all_values m then Some (tiling (landmarks_in m) 1 None) else None
-windows_from (tiling landmarks next newest) = Some (tiling landmarks next newest)
-
--- one more window, and one more record of a landmark or of a value, if it may come
-abbrev pub tiled_with : Run → Window → Option Run
-tiled_with (marking m) w = None
-tiled_with (tiling landmarks next newest) w =
-    if is_next_window landmarks next newest w then Some (tiling landmarks (next + w.summary.count) (Some w.summary.t_last)) else None
-
-abbrev pub marking_with : Run → Record → Option Run
-marking_with (marking m) r = option_and_then (λ k. Some (marking k)) (marked_with m r)
-marking_with (tiling landmarks next newest) r = None
-
--- one more record, if it may come after those so far
-abbrev pub run_with : Run → Record → Option Run
-run_with run Free = None
-run_with run (Stream id name params dropped) = None
-run_with run (records.Window id first summary) =
-    option_and_then (λ q. tiled_with q (record { first = first; summary = summary })) (windows_from run)
-run_with run (records.Landmark id number values start finish) = marking_with run (records.Landmark id number values start finish)
-run_with run (records.Value id number index t v) = marking_with run (records.Value id number index t v)
-
--- the same, unless one before it may not come
-abbrev pub run_on : Option Run → Record → Option Run
-run_on run r = option_and_then (λ q. run_with q r) run
-
--- all of them
-abbrev pub run_of : List Record → Option Run
-run_of records = fold run_on (Some (marking nothing_marked)) records
-
--- no record has to come any more
-abbrev pub is_ended : Run → Bool
-is_ended run = is_some (windows_from run)
-
--- whether a record is a stream's own and says that it was dropped
-abbrev pub is_drop : Record → Bool
-is_drop Free = false
-is_drop (Stream id name params dropped) = dropped
-is_drop (records.Window id first summary) = false
-is_drop (records.Landmark id number values start finish) = false
-is_drop (records.Value id number index t v) = false
-
--- whether the first of some records is that
-abbrev pub begins_dropped : List Record → Bool
-begins_dropped [] = false
-begins_dropped (r ∷ rs) = is_drop r
+-- they meet their conditions, where those of each stream come in order
+abbrev pub has_sound_values_in_order : List Record → ℕ → Bool
+has_sound_values_in_order records number =
+    tile (windows_in number records)
+    && times_rise (windows_in number records)
+    && are_marks (marks_in number records)
+    && list_all (lies_free (landmarks_made (marks_in number records))) (windows_in number records)
 
 -- a stream may stand beside those with these names: its name is new, and they aren't as many as can be
 abbrev pub may_stand : List (List ℕ) → List ℕ → Bool
 may_stand names name = nat_lt (length names) MOST_STREAMS && not (list_any (same_name name) names)
 
--- The records of one number after the streams with these names: the first one creates a stream, which may stand with a name that is
--- new, and the others may come after it, one by one. Where it says that the stream was dropped, they may be any but a stream's own.
+-- The records of one number after the streams with these names: the first one alone creates a stream, which may stand with a name
+-- that is new. Of the others nothing more is asked where it says that the stream was dropped.
 abbrev pub is_run : List (List ℕ) → List Record → Bool
 is_run names [] = false
 is_run names (Free ∷ rest) = false
 is_run names (Stream id name params dropped ∷ rest) =
-    may_stand names name && (if dropped then not (list_any is_own rest) else option_map_or is_ended (run_of rest) false)
+    may_stand names name && (not (list_any is_own rest) && (dropped || has_sound_values_in_order rest id))
 is_run names (records.Window id first summary ∷ rest) = false
 is_run names (records.Landmark id number values start finish ∷ rest) = false
 is_run names (records.Value id number index t v ∷ rest) = false
-
--- the windows and the landmarks of the number meet their conditions, where those of each stream come in order
-abbrev pub has_sound_values_in_order : List Record → ℕ → Bool
-has_sound_values_in_order records number =
-    tile (filter_map (window_of number) records)
-    && times_rise (filter_map (window_of number) records)
-    && are_marks (filter (is_mark_of number) records)
-    && list_all (lies_free (landmarks_made (filter (is_mark_of number) records))) (filter_map (window_of number) records)
 
 -- the records of the number meet all conditions, where those of each stream come in order
 abbrev pub is_sound_in_order : List Record → ℕ → Bool

@@ -1,4 +1,4 @@
--- What is held of the stream whose records come shows what they are, and what a walk over the records of one stream answers.
+-- What is held of a stream whose records come shows what they are, and what a walk over the records of one stream after another answers.
 use Rattle.std.specs.Prelude.{◌≡◌, ◌⊎◌, ℕ, ℤ, ◌+◌, ◌-◌, ◌<◌, ◌≤◌, Bool, true, false, ◌==◌, ◌&&◌, ◌||◌, nat_le, nat_lt, is_none, List, [], ◌∷◌, ◌++◌}
 use Rattle.std.specs.Prelude.{length, map, filter}
 use Rattle.std.specs.Prelude.{All, drop}
@@ -18,26 +18,25 @@ use Rattle.ss_landmarks.specs.declared.landmarks.TheConstants.{LATEST_TIME}
 use Rattle.ss_line.specs.Line.{LineState}
 use Rattle.ss_line.specs.declared.entry.At.{At}
 use Rattle.ss_line.specs.declared.entry.Entry.{Entry}
-use Rattle.ss_summary.specs.Figures.{Figures}
+use Rattle.ss_summary.specs.Figures.{IsPossible}
+use Rattle.ss_summary.specs.declared.summary.TheConstants.{GREATEST_COUNT}
 use Rattle.ss_target.specs.Targets.{params_of}
 use Rattle.ss_model.specs.Marks.{later, latest_of}
 use Rattle.ss_model.specs.State.{Created}
 use Rattle.ss_model.specs.Windows.{newest_time}
 use Rattle.ss_model.specs.declared.types.TheConstants.{MOST_RECORDS}
-use Rattle.ss_recover.specs.Carried.{is_mark_of, window_of}
+use Rattle.ss_model.specs.declared.types.Window.{Window}
 use Rattle.ss_recover.specs.Held.{span_held, span_of, times_held, times_of}
-use Rattle.ss_recover.specs.Marked.{Marked, landmarks_made, marked_by, nothing_marked}
+use Rattle.ss_recover.specs.Marked.{Marked, are_marks, landmarks_made, marked_by, nothing_marked}
 use Rattle.ss_recover.specs.Order.{Rises, stream_of}
-use Rattle.ss_recover.specs.Runs.{Run, is_ended, is_run, marking, may_stand, tiling}
+use Rattle.ss_recover.specs.Runs.{has_sound_values_in_order, is_run, marks_in, may_stand, windows_in}
 use Rattle.ss_recover.specs.Usable.{IsUsable, slots_found, without_slots}
 use Rattle.ss_recover.specs.declared.found.Found.{Found}
 use Rattle.ss_recover.specs.declared.parts.Parts.{Parts}
 use Rattle.ss_recover.specs.declared.parts.StreamParts.{StreamParts}
-use Rattle.ss_recover.specs.declared.run.Last.{Last}
-use Rattle.ss_recover.specs.declared.run.Marks.{Marks}
-use Rattle.ss_recover.specs.declared.run.Open.{Open}
-use Rattle.ss_recover.specs.declared.run.Stage.{Stage}
-use Rattle.ss_recover.specs.declared.run.Stage.TheVariants as stages
+use Rattle.ss_recover.specs.declared.marking.Last.{Last}
+use Rattle.ss_recover.specs.declared.marking.Marks.{Marks}
+use Rattle.ss_recover.specs.declared.windows.Windows.{Windows}
 use Rattle.ss_recover.specs.declared.walking.Walk.{Walk}
 use Rattle.ss_recover.specs.declared.recover_error.RecoverError.{RecoverError}
 use Rattle.ss_recover.specs.declared.recover_error.RecoverError.TheVariants.{BadSlot, BadStream, Disk, OutOfMemory}
@@ -108,22 +107,9 @@ pub record IsLast (c : Last) (landmarks : List Landmark) (at : Option ℕ) (m : 
   pub closes : IfSome c.finish (λ t. (time ≤ t) × (t ≤ LATEST_TIME))
 
 -- the landmarks so far are held
-abbrev pub ShowsMarks : Option Last → List Landmark → Option ℕ → Marked → Type 0
-ShowsMarks None landmarks latest m = (m ≡ nothing_marked) × (landmarks ≡ []) × (latest ≡ None)
-ShowsMarks (Some c) landmarks latest m = IsLast c landmarks latest m
-
--- so are the landmarks, the position and the time that windows come after
-abbrev pub ShowsRun : Stage → List Landmark → Option ℕ → Run → Type 0
-ShowsRun (stages.Marks last) landmarks latest (marking m) = ShowsMarks last landmarks latest m
-ShowsRun (stages.Marks last) landmarks latest (tiling among next newest) = ⊥
-ShowsRun (stages.Windows at after) landmarks latest (marking m) = ⊥
-ShowsRun (stages.Windows at after) landmarks latest (tiling among next newest) = (among ≡ landmarks) × (next ≡ at) × (newest ≡ after)
-
--- what a run makes of the records so far
-abbrev pub IsRunOf : ℕ → Run → List Record → Type 0
-IsRunOf number (marking m) rs = (marked_by (filter (is_mark_of number) rs) ≡ Some m) × (filter_map (window_of number) rs ≡ [])
-IsRunOf number (tiling landmarks next newest) rs =
-    (landmarks_made (filter (is_mark_of number) rs) ≡ landmarks) × (newest_time (filter_map (window_of number) rs) ≡ newest)
+abbrev pub ShowsLast : Option Last → List Landmark → Option ℕ → Marked → Type 0
+ShowsLast None landmarks latest m = (m ≡ nothing_marked) × (landmarks ≡ []) × (latest ≡ None)
+ShowsLast (Some c) landmarks latest m = IsLast c landmarks latest m
 
 -- which record was found
 abbrev pub is_landmark : Record → Bool
@@ -156,58 +142,74 @@ found_by p all = filter (λ (f : Found). p f.holds) all
 
 -- Windows and landmarks are held in the slots of their records.
 pub record AreInSlots (line : LineState) (landmarks values : List ℕ) (number : ℕ) (own : List Found) : Type 0 where
-  pub positions : map span_held (map (λ (e : At × Entry). e.1) line.entries) ≡ map span_of (filter_map (window_of number) (without_slots own))
-  pub times : map times_held (map (λ (e : At × Entry). e.1) line.entries) ≡ map times_of (filter_map (window_of number) (without_slots own))
+  pub positions : map span_held (map (λ (e : At × Entry). e.1) line.entries) ≡ map span_of (windows_in number (without_slots own))
+  pub times : map times_held (map (λ (e : At × Entry). e.1) line.entries) ≡ map times_of (windows_in number (without_slots own))
   pub entries : map (λ (e : Entry). e.slot) (map (λ (e : At × Entry). e.1) line.entries) ≡ slots_found (found_by is_window own)
   pub slots : landmarks ≡ slots_found (found_by is_landmark own)
   pub value_slots : values ≡ slots_found (found_by is_value own)
 
--- What is held of the stream whose records come, after its own, shows the run that they are.
-pub record ShowsStream (stream : Open) (q : Run) (own : List Found) : Type 0 where
-  pub run : ShowsRun stream.stage stream.marks.landmarks.landmarks stream.marks.latest q
-  pub latest : stream.marks.latest ≡ latest_of stream.marks.landmarks.landmarks
-  pub of : IsRunOf stream.id.0 q (without_slots own)
-  pub kept : AreInSlots stream.line stream.marks.landmarks.slots stream.marks.landmarks.value_slots stream.id.0 own
+-- What is held of the landmarks of a number shows what its records make so far.
+pub record ShowsMarks (marks : Marks) (number : ℕ) (m : Marked) (own : List Found) : Type 0 where
+  pub last : ShowsLast marks.last marks.landmarks.landmarks marks.latest m
+  pub latest : marks.latest ≡ latest_of marks.landmarks.landmarks
+  pub by : marked_by (marks_in number (without_slots own)) ≡ Some m
+  pub slots : marks.landmarks.slots ≡ slots_found (found_by is_landmark own)
+  pub value_slots : marks.landmarks.value_slots ≡ slots_found (found_by is_value own)
 
--- It shows some run, and there is room for one more record.
-pub record IsReady (stream : Open) : Type 0 where
-  pub run : Run
+-- It shows some records, and there is room for one more.
+pub record IsReady (marks : Marks) : Type 0 where
+  pub number : ℕ
+  pub m : Marked
   pub own : List Found
-  pub shows : ShowsStream stream run own
+  pub shows : ShowsMarks marks number m own
   pub room : length own < MOST_RECORDS
 
--- a stream of which no other record came
-pub record HasBegun (stream : Open) (slot id : ℕ) (name : List ℕ) (params : Params) : Type 0 where
-  pub has_id : stream.id.0 ≡ id
-  pub has_name : stream.name ≡ name
-  pub has_params : params_of stream.target ≡ params
-  pub in_slot : stream.slot ≡ slot
-  pub stage : stream.stage ≡ stages.Marks None
-  pub latest : stream.marks.latest ≡ None
-  pub landmarks : stream.marks.landmarks.landmarks ≡ []
-  pub slots : stream.marks.landmarks.slots ≡ []
-  pub value_slots : stream.marks.landmarks.value_slots ≡ []
-  pub entries : stream.line.entries ≡ []
+-- no record came yet
+pub record HasNoMarks (marks : Marks) : Type 0 where
+  pub last : marks.last ≡ None
+  pub latest : marks.latest ≡ None
+  pub landmarks : marks.landmarks.landmarks ≡ []
+  pub slots : marks.landmarks.slots ≡ []
+  pub value_slots : marks.landmarks.value_slots ≡ []
 
--- what no other record changes of a stream
-pub record IsSame (old new : Open) : Type 0 where
-  pub id : new.id ≡ old.id
-  pub name : new.name ≡ old.name
-  pub target : new.target ≡ old.target
-  pub slot : new.slot ≡ old.slot
+-- all records came: these are the landmarks that they make
+pub record AreMade (number : ℕ) (own : List Found) (marks : Marks) : Type 0 where
+  pub are : are_marks (marks_in number (without_slots own)) ≡ true
+  pub landmarks : marks.landmarks.landmarks ≡ landmarks_made (marks_in number (without_slots own))
+  pub known : AreKnown marks.landmarks
+  pub latest : marks.latest ≡ latest_of marks.landmarks.landmarks
+  pub slots : marks.landmarks.slots ≡ slots_found (found_by is_landmark own)
+  pub value_slots : marks.landmarks.value_slots ≡ slots_found (found_by is_value own)
+
+-- a time is after the last one, if there is one
+abbrev pub is_after : Option ℕ → ℕ → Bool
+is_after None t = true
+is_after (Some last) t = nat_lt last t
+
+-- a window has possible figures and positions that a stream can have
+abbrev pub IsInside : Window → Type 0
+IsInside w = (1 ≤ w.first) × (w.first + w.summary.count ≤ GREATEST_COUNT + 1) × IsPossible w.summary
+
+-- The windows of a number are held in the slots of their records.
+pub record AreWindowsOf (number : ℕ) (own : List Found) (windows : Windows) : Type 0 where
+  pub positions : map span_held (map (λ (e : At × Entry). e.1) windows.line.entries) ≡ map span_of (windows_in number (without_slots own))
+  pub times : map times_held (map (λ (e : At × Entry). e.1) windows.line.entries) ≡ map times_of (windows_in number (without_slots own))
+  pub entries : map (λ (e : Entry). e.slot) (map (λ (e : At × Entry). e.1) windows.line.entries) ≡ slots_found (found_by is_window own)
+  pub newest : windows.newest ≡ newest_time (windows_in number (without_slots own))
 
 -- ---- what is answered
 
 -- a record is taken, or it may not come, or memory ran out
-abbrev pub StepsAs : Result Bool RecoverError → Option Run → (Run → Type 0) → Type 0
-StepsAs (Ok true) run P = MatchOption run ⊥ P
-StepsAs (Ok false) run P = run ≡ None
-StepsAs (Err error) run P = error ≡ OutOfMemory
+abbrev pub StepsAs : Result Bool RecoverError → Option Marked → (Marked → Type 0) → Type 0
+StepsAs (Ok true) marked P = MatchOption marked ⊥ P
+StepsAs (Ok false) marked P = marked ≡ None
+StepsAs (Err error) marked P = error ≡ OutOfMemory
 
--- windows may come from here on, or they may not
-abbrev pub EndsMarks : Bool → Option Run → (Run → Type 0) → Type 0
-EndsMarks true run P = MatchOption run ⊥ P
-EndsMarks false run P = run ≡ None
+-- the landmarks of a number are made, or its records aren't those of landmarks
+abbrev pub MakesMarks : ℕ → List Found → Result (Option Marks) RecoverError → Type 0
+MakesMarks number own (Ok (Some marks)) = AreMade number own marks
+MakesMarks number own (Ok None) = are_marks (marks_in number (without_slots own)) ≡ false
+MakesMarks number own (Err error) = error ≡ OutOfMemory
 
 -- a landmark opens, the last one takes a value, and a line has one more window
 pub record OpensLandmark (old new : Marks) (slot start : ℕ) : Type 0 where
@@ -222,31 +224,14 @@ pub record AddsToLandmark (old new : Marks) (slot t : ℕ) (v : ℤ) : Type 0 wh
   pub value_slots : new.landmarks.value_slots ≡ old.landmarks.value_slots ++ slot ∷ []
   pub latest : new.latest ≡ Some t
 
-pub record Grows (old new : LineState) (slot first : ℕ) (summary : Figures) : Type 0 where
+pub record Grows (old new : Windows) (slot : ℕ) (w : Window) : Type 0 where
   pub at : At
   pub entry : Entry
-  pub entries : new.entries ≡ old.entries ++ (at, entry) ∷ []
-  pub from : entry.first ≡ first
-  pub to : entry.last ≡ first + summary.count - 1
-  pub times : times_held entry ≡ (summary.t_first, summary.t_last)
+  pub entries : new.line.entries ≡ old.line.entries ++ (at, entry) ∷ []
+  pub span : span_held entry ≡ span_of w
+  pub times : times_held entry ≡ times_of w
   pub in_slot : entry.slot ≡ slot
-
--- What is held of a stream, once all its records came.
-pub record IsAll (stream : Open) (own : List Found) (part : StreamParts) : Type 0 where
-  pub id : part.id ≡ stream.id
-  pub name : part.name ≡ stream.name
-  pub target : part.target ≡ stream.target
-  pub slot : part.slot ≡ stream.slot
-  pub last_time : part.last_time
-      ≡ later (newest_time (filter_map (window_of stream.id.0) (without_slots own))) (latest_of part.landmarks.landmarks)
-  pub landmarks : part.landmarks.landmarks ≡ landmarks_made (filter (is_mark_of stream.id.0) (without_slots own))
-  pub known : AreKnown part.landmarks
-  pub kept : AreInSlots part.line part.landmarks.slots part.landmarks.value_slots stream.id.0 own
-
--- a stream ends where no record has to come any more
-abbrev pub EndsStream : Option StreamParts → Run → (StreamParts → Type 0) → Type 0
-EndsStream (Some part) run P = (is_ended run ≡ true) × P part
-EndsStream None run P = is_ended run ≡ false
+  pub newest : new.newest ≡ Some w.summary.t_last
 
 -- What is held of a stream whose records these are, the first its own: the other ones are held, and end as they may.
 pub record IsHeldOf (part : StreamParts) (all : List Found) : Type 0 where
@@ -258,10 +243,17 @@ pub record IsHeldOf (part : StreamParts) (all : List Found) : Type 0 where
   pub name : part.name ≡ head.name
   pub params : params_of part.target ≡ head.params
   pub in_slot : part.slot ≡ slot
-  pub last_time : part.last_time ≡ later (newest_time (filter_map (window_of head.number) (without_slots rest))) (latest_of part.landmarks.landmarks)
-  pub landmarks : part.landmarks.landmarks ≡ landmarks_made (filter (is_mark_of head.number) (without_slots rest))
+  pub last_time : part.last_time ≡ later (newest_time (windows_in head.number (without_slots rest))) (latest_of part.landmarks.landmarks)
+  pub landmarks : part.landmarks.landmarks ≡ landmarks_made (marks_in head.number (without_slots rest))
   pub known : AreKnown part.landmarks
   pub kept : AreInSlots part.line part.landmarks.slots part.landmarks.value_slots head.number rest
+
+-- it is built, or its windows or its landmarks break a condition
+abbrev pub BuildsAs : Created → ℕ → List Found → Result (Option StreamParts) RecoverError → Type 0
+BuildsAs head slot rest (Ok (Some part)) =
+    (has_sound_values_in_order (without_slots rest) head.number ≡ true) × (part.name ≡ head.name) × IsHeldOf part (head_found slot head ∷ rest)
+BuildsAs head slot rest (Ok None) = has_sound_values_in_order (without_slots rest) head.number ≡ false
+BuildsAs head slot rest (Err error) = error ≡ OutOfMemory
 
 -- the names of streams
 abbrev pub names_in : List (List ℕ × StreamId) → List (List ℕ)
@@ -272,28 +264,6 @@ abbrev pub AddsName : List (List ℕ × StreamId) → List (List ℕ × StreamId
 AddsName old new name (Ok true) = (may_stand (names_in old) name ≡ true) × (names_in new ≡ names_in old ++ name ∷ [])
 AddsName old new name (Ok false) = may_stand (names_in old) name ≡ false
 AddsName old new name (Err error) = error ≡ OutOfMemory
-
--- The first record of a stream is taken: its own, with a name that is new.
-pub record HasTakenFirst (old new : List (List ℕ × StreamId)) (found : Found) (stream : Open) : Type 0 where
-  pub head : Created
-  pub holds : found.holds ≡ records.Stream head.number head.name head.params false
-  pub begun : HasBegun stream found.slot head.number head.name head.params
-  pub names : names_in new ≡ names_in old ++ head.name ∷ []
-  pub stands : may_stand (names_in old) head.name ≡ true
-
--- the first record of a stream is taken, or no stream begins by it
-abbrev pub BeginsAs : List (List ℕ × StreamId) → List (List ℕ × StreamId) → Found → Result (Option Open) RecoverError → Type 0
-BeginsAs old new found (Ok (Some stream)) = HasTakenFirst old new found stream
-BeginsAs old new found (Ok None) = (rest : List Record) → is_run (names_in old) (found.holds ∷ rest) ≡ false
-BeginsAs old new found (Err error) = error ≡ OutOfMemory
-
--- what the records of one stream answer
-abbrev pub RunsAs : List (List ℕ × StreamId) → List (List ℕ × StreamId) → ℕ → List Found → Result StreamParts RecoverError → Type 0
-RunsAs old new id all (Ok part) = (is_run (names_in old) (without_slots all) ≡ true) × (names_in new ≡ names_in old ++ part.name ∷ []) × IsHeldOf part all
-RunsAs old new id all (Err (BadStream n)) = (n ≡ id) × (is_run (names_in old) (without_slots all) ≡ false)
-RunsAs old new id all (Err OutOfMemory) = ⊤
-RunsAs old new id all (Err (BadSlot n)) = ⊥
-RunsAs old new id all (Err Disk) = ⊥
 
 -- ---- a walk
 
@@ -322,6 +292,19 @@ pub record HasTakenDropped (old new : Walk) (run : List Found) : Type 0 where
   pub split : run ≡ record { slot = slot; holds = records.Stream head.number head.name head.params true } ∷ rest
   pub runs : is_run (names_in old.names) (without_slots run) ≡ true
   pub names : names_in new.names ≡ names_in old.names ++ head.name ∷ []
+  pub done : new.done.items ≡ old.done.items
+  pub others : new.others.items ≡ old.others.items ++ slots_found rest
+  pub heads : new.heads.items ≡ old.heads.items ++ slot ∷ []
+
+-- a stream that stands is put behind the others, and so are the slots of a dropped one's records
+pub record PutsStanding (old new : Walk) (part : StreamParts) : Type 0 where
+  pub names : new.names ≡ old.names
+  pub done : new.done.items ≡ old.done.items ++ part ∷ []
+  pub others : new.others.items ≡ old.others.items
+  pub heads : new.heads.items ≡ old.heads.items
+
+pub record PutsDropped (old new : Walk) (slot : ℕ) (rest : List Found) : Type 0 where
+  pub names : new.names ≡ old.names
   pub done : new.done.items ≡ old.done.items
   pub others : new.others.items ≡ old.others.items ++ slots_found rest
   pub heads : new.heads.items ≡ old.heads.items ++ slot ∷ []

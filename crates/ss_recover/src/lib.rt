@@ -1,16 +1,18 @@
 //! The streams that the records of a map carry, with the slot of each record.
 #![tactic(auto)]
 
+mod building;
 mod found;
 mod free;
 mod gathering;
 mod laws;
+mod marking;
 mod parts;
 mod rebuilding;
 mod recover_error;
-mod run;
 mod sorting;
 mod walking;
+mod windows;
 
 pub use free::lies_free;
 pub use laws::{

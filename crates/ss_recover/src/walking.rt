@@ -1,17 +1,17 @@
 // One walk over records in the order of their streams.
-ghost use Rattle.std.specs.Prelude.{◌≡◌, ◌≤◌, ◌<◌, ◌++◌, [], length, false, true, All, OnOk, IfOk, IfErr};
+ghost use Rattle.std.specs.Prelude.{◌≡◌, ◌≤◌, ◌<◌, ◌++◌, length, All, OnOk, IfOk, IfErr};
 ghost use Rattle.std.specs.List.{list_any};
 ghost use Rattle.ss_steps.specs.Steps.{IsFresh};
 ghost use Rattle.ss_model.specs.declared.types.TheConstants.{MOST_RECORDS};
 ghost use Rattle.ss_recover.specs.Doomed.{is_own};
 ghost use Rattle.ss_recover.specs.Order.{Rises, found_key, stream_of};
-ghost use Rattle.ss_recover.specs.Runs.{WalksAs, begins_dropped, is_drop, may_stand};
-ghost use Rattle.ss_recover.specs.Shown.{AddsName, BeginsAs, EndsWalk, HasNothing, IsNextRun, RunsAs, TakesAs, names_in};
+ghost use Rattle.ss_recover.specs.Runs.{WalksAs, may_stand};
+ghost use Rattle.ss_recover.specs.Shown.{AddsName, EndsWalk, HasNothing, IsNextRun, PutsDropped, PutsStanding, TakesAs, names_in};
 ghost use Rattle.ss_recover.specs.Usable.{IsUsable, slots_found, without_slots};
 ghost use Rattle.ss_recover.specs.declared.recover_error.RecoverError.TheVariants.{OutOfMemory};
 
+use crate::building::build;
 use crate::found::Found;
-use crate::run::Open;
 use crate::{Parts, RecoverError, StreamParts};
 use ss_catalog::{Catalog, MOST_STREAMS, Name, StreamId};
 use ss_codec::Record;
@@ -49,13 +49,6 @@ fn is_own(holds: &Record) -> bool
     matches!(holds, Record::Stream { .. })
 }
 
-// Whether a record is a stream's own and says that it was dropped.
-fn is_drop(holds: &Record) -> bool
-    ensures { result ≡ is_drop holds.now }
-{
-    matches!(holds, Record::Stream { dropped: true, .. })
-}
-
 // Whether one of some records is a stream's own.
 fn has_own(found: &[Found]) -> bool
     ensures { result ≡ list_any is_own (without_slots found.now) }
@@ -66,16 +59,6 @@ fn has_own(found: &[Found]) -> bool
         }
     }
     false
-}
-
-// Whether the first of some records is a dropped stream's own.
-fn begins_dropped(run: &[Found]) -> bool
-    ensures { result ≡ begins_dropped (without_slots run.now) }
-{
-    match run.first() {
-        Some(first) => is_drop(&first.holds),
-        None => false,
-    }
 }
 
 // Puts the slots of records behind others.
@@ -114,58 +97,6 @@ fn add_name(names: &mut Catalog, name: Name, id: u32) -> Result<bool, RecoverErr
     }
 }
 
-// The first record of a stream. None says that it isn't the stream's own, or that no stream of its name may be added.
-fn begin(alloc: Global, names: &mut Catalog, found: &Found) -> Result<Option<Open>, RecoverError>
-    requires usable { IsUsable found.now.holds }
-    requires standing { is_drop found.now.holds ≡ false }
-    ensures { BeginsAs names.old names.new found.now result }
-{
-    let Record::Stream {
-        id,
-        name,
-        params,
-        ..
-    } = found.holds
-    else {
-        return Ok(None);
-    };
-    if !add_name(names, name, id)? {
-        return Ok(None);
-    }
-    Ok(Some(Open::new(alloc, found.slot, id, name, params)?))
-}
-
-// The records of one stream, each after the other.
-fn stream_of_run<L: Ledger>(
-    alloc: Global,
-    names: &mut Catalog,
-    id: u32,
-    run: &[Found],
-    steps: &mut Steps<L>,
-) -> Result<StreamParts, RecoverError>
-    requires usable { All (λ f. IsUsable f.holds) run.now }
-    requires own { All (λ f. stream_of f.holds ≡ id) run.now }
-    requires few { length run.now ≤ MOST_RECORDS }
-    requires standing { begins_dropped (without_slots run.now) ≡ false }
-    ensures { RunsAs names.old names.new id run.now result }
-{
-    let Some((first, rest)) = run.split_first() else {
-        return Err(RecoverError::BadStream { id });
-    };
-    let Some(mut stream) = begin(alloc, names, first)? else {
-        return Err(RecoverError::BadStream { id });
-    };
-    for found in rest {
-        if !stream.take(found, steps)? {
-            return Err(RecoverError::BadStream { id });
-        }
-    }
-    match stream.end() {
-        Some(part) => Ok(part),
-        None => Err(RecoverError::BadStream { id }),
-    }
-}
-
 impl Walk {
     // Before any record.
     fn new(alloc: Global) -> Walk
@@ -179,42 +110,22 @@ impl Walk {
         }
     }
 
-    // The records of a dropped stream: its name, and the slot of each.
-    fn take_dropped(&mut self, id: u32, run: &[Found]) -> Result<(), RecoverError>
-        requires dropped { begins_dropped (without_slots run.now) ≡ true }
-        ensures { TakesAs self.old self.new id run.now result }
+    // The slots of a dropped stream's records, its own and the others.
+    fn put_dropped(&mut self, slot: u32, rest: &[Found]) -> Result<(), RecoverError>
+        ensures ok { OnOk result (PutsDropped self.old self.new slot rest.now) }
+        ensures err { IfErr result (λ error. error ≡ OutOfMemory) }
     {
-        let Some((first, rest)) = run.split_first() else {
-            return Err(RecoverError::BadStream { id });
-        };
-        let Record::Stream { name, .. } = first.holds else {
-            return Err(RecoverError::BadStream { id });
-        };
-        if has_own(rest) || !add_name(&mut self.names, name, id)? {
-            return Err(RecoverError::BadStream { id });
-        }
-        if self.heads.push(first.slot).is_err() {
+        if self.heads.push(slot).is_err() {
             return Err(RecoverError::OutOfMemory);
         }
-        push_slots(&mut self.others, rest)?;
-        Ok(())
+        push_slots(&mut self.others, rest)
     }
 
-    // Those of a stream that stands.
-    fn take_standing<L: Ledger>(
-        &mut self,
-        alloc: Global,
-        id: u32,
-        run: &[Found],
-        steps: &mut Steps<L>,
-    ) -> Result<(), RecoverError>
-        requires usable { All (λ f. IsUsable f.holds) run.now }
-        requires own { All (λ f. stream_of f.holds ≡ id) run.now }
-        requires few { length run.now ≤ MOST_RECORDS }
-        requires standing { begins_dropped (without_slots run.now) ≡ false }
-        ensures { TakesAs self.old self.new id run.now result }
+    // A stream that stands.
+    fn put_standing(&mut self, part: StreamParts) -> Result<(), RecoverError>
+        ensures ok { OnOk result (PutsStanding self.old self.new part) }
+        ensures err { IfErr result (λ error. error ≡ OutOfMemory) }
     {
-        let part = stream_of_run(alloc, &mut self.names, id, run, steps)?;
         if self.done.push(part).is_err() {
             return Err(RecoverError::OutOfMemory);
         }
@@ -234,10 +145,27 @@ impl Walk {
         requires few { length run.now ≤ MOST_RECORDS }
         ensures { TakesAs self.old self.new id run.now result }
     {
-        if begins_dropped(run) {
-            self.take_dropped(id, run)
-        } else {
-            self.take_standing(alloc, id, run, steps)
+        let Some((first, rest)) = run.split_first() else {
+            return Err(RecoverError::BadStream { id });
+        };
+        let Record::Stream {
+            name,
+            params,
+            dropped,
+            ..
+        } = first.holds
+        else {
+            return Err(RecoverError::BadStream { id });
+        };
+        if has_own(rest) || !add_name(&mut self.names, name, id)? {
+            return Err(RecoverError::BadStream { id });
+        }
+        if dropped {
+            return self.put_dropped(first.slot, rest);
+        }
+        match build(alloc, first.slot, id, name, params, rest, steps)? {
+            Some(part) => self.put_standing(part),
+            None => Err(RecoverError::BadStream { id }),
         }
     }
 

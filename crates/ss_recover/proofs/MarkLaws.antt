@@ -1,0 +1,259 @@
+-- What is held of landmarks shows what their records make, one record after another.
+use Rattle.std.proofs.Common.{◌≡◌, ◌∙◌, ℕ, ℤ, ◌+◌, ◌<◌, ◌≤◌, Bool, true, false, List, [], ◌∷◌, ◌++◌, length, filter, Option, Some, None, IfSome}
+use Rattle.std.proofs.Common.{MatchOption, refl, sym, ap, subst, arith, append-nil, length-append}
+use Rattle.std.specs.Prelude.{◌==◌, ◌&&◌, fold, nat_le, nat_lt, option_and_then}
+use Rattle.std.specs.Option.{option_map_or}
+use Rattle.std.specs.List.{list_all}
+use Rattle.std.proofs.lemmas.Bool.{and_parts, and_right, cond-true, cond-false, eq-eqb, eqb-true, leb-true}
+use Rattle.std.proofs.lemmas.Bool.Decides.{nat_tests}
+use Rattle.std.proofs.lemmas.List.{map-append}
+use Rattle.std.proofs.lemmas.List.Elements.{filter-append}
+use Rattle.std.proofs.lemmas.List.Folds.{list_all-append}
+use Rattle.std.proofs.lemmas.List.Sums.{fold-append}
+use Rattle.ss_codec.specs.declared.record.Record.{Record}
+use Rattle.ss_codec.specs.declared.record.Record.TheVariants as records
+use Rattle.ss_landmarks.specs.Free.{is_up_to}
+use Rattle.ss_landmarks.specs.Landmark.{Landmark, LandmarkValue, change_last, opened_at, with_value}
+use Rattle.ss_landmarks.specs.Landmarks.{AreKnown}
+use Rattle.ss_landmarks.specs.Order.{AreLandmarks, CanOpen, CanTake}
+use Rattle.ss_landmarks.specs.declared.landmarks.TheConstants.{LATEST_TIME, MOST_LANDMARK_SLOTS}
+use Rattle.ss_model.specs.Marks.{latest_of}
+use Rattle.ss_model.specs.declared.types.TheConstants.{MOST_RECORDS}
+use Rattle.ss_recover.specs.Carried.{is_mark_of}
+use Rattle.ss_recover.specs.Marked.{Marked, are_marks, has_all_values, is_next_landmark, is_next_value, landmarks_in, landmarks_made, marked_by, marked_on}
+use Rattle.ss_recover.specs.Marked.{marked_with, nothing_marked}
+use Rattle.ss_recover.specs.Order.{stream_of}
+use Rattle.ss_recover.specs.Runs.{marks_in}
+use Rattle.ss_recover.specs.Shown.{AddsToLandmark, AreMade, HasClosed, HasNoMarks, IsReady, MayClose, OpensLandmark, ShowsLast, ShowsMarks}
+use Rattle.ss_recover.specs.Shown.{can_add, can_open, finish_of, found_by, has_said_last, is_landmark, is_value, still_open}
+use Rattle.ss_recover.specs.Usable.{HasValidTimes, slots_found, without_slots}
+use Rattle.ss_recover.specs.declared.found.Found.{Found}
+use Rattle.ss_recover.specs.declared.marking.Last.{Last}
+use Rattle.ss_recover.specs.declared.marking.Marks.{Marks}
+use Rattle.ss_recover.proofs.Latest.{latest_of-opened, latest_of-value}
+use Rattle.ss_recover.proofs.MarksSoFar.{marked-more, marked_on-none}
+use Rattle.ss_recover.proofs.RunMarks.{CanOpen-shown, CanTake-shown, MayClose-shown, add-shown, change_last-front, closed-shown, latest-shown}
+use Rattle.ss_recover.proofs.RunMarks.{open-shown, said-shown}
+use Rattle.ss_recover.proofs.WindowLaws.{few-found, found-more, records-more}
+
+marks-more : (n : ℕ) (own : List Found) (x : Found) → marks_in n (without_slots (own ++ x ∷ [])) ≡ marks_in n (without_slots own) ++ marks_in n (x.holds ∷ [])
+marks-more n own x = ap (marks_in n) (records-more own x) ∙ filter-append (is_mark_of n) (without_slots own) (x.holds ∷ [])
+
+-- a record of a landmark or of a value that may come
+by-more : (n : ℕ) (own : List Found) (x : Found) (m next : Marked) → marked_by (marks_in n (without_slots own)) ≡ Some m → is_mark_of n x.holds ≡ true →
+    marked_with m x.holds ≡ Some next → marked_by (marks_in n (without_slots (own ++ x ∷ []))) ≡ Some next
+by-more n own x m next by mark with_r =
+    ap marked_by (marks-more n own x ∙ ap (λ l. marks_in n (without_slots own) ++ l) (cond-true (is_mark_of n x.holds) (x.holds ∷ []) [] mark))
+    ∙ marked-more (marks_in n (without_slots own)) x.holds m next by with_r
+
+-- the landmarks so far with those that they are now, and what is known of the last one
+abbrev pub with_last : Marks → Option Last → Marks
+with_last marks last = record { landmarks = marks.landmarks; latest = marks.latest; last = last }
+
+-- there is room for one more of each
+pub room-marks : (marks : Marks) → IsReady marks →
+    (length marks.landmarks.slots < MOST_LANDMARK_SLOTS) × (length marks.landmarks.value_slots < MOST_LANDMARK_SLOTS)
+room-marks marks ready =
+    let room = ready.room in (
+      omega (arith, room, few-found is_landmark ready.own, ap (λ (l : List ℕ). length l) ready.shows.slots),
+      omega (arith, room, few-found is_value ready.own, ap (λ (l : List ℕ). length l) ready.shows.value_slots),
+    )
+
+-- what is held of no landmark
+pub ShowsMarks-none : (n : ℕ) (marks : Marks) → HasNoMarks marks → ShowsMarks marks n nothing_marked []
+ShowsMarks-none n marks none = record {
+  last = subst (λ last. ShowsLast last marks.landmarks.landmarks marks.latest nothing_marked) (sym none.last) (refl, none.landmarks, none.latest);
+  latest = none.latest ∙ sym (ap latest_of none.landmarks);
+  by = refl;
+  slots = none.slots;
+  value_slots = none.value_slots;
+}
+
+module _ (s : Marks) (n : ℕ) (m : Marked) (own : List Found) (shows : ShowsMarks s n m own) where
+  abbrev ls : List Landmark
+  ls = s.landmarks.landmarks
+
+  pub close-ready : AreLandmarks ls → MayClose (finish_of s.last) ls
+  close-ready order = MayClose-shown ls s.latest m s.last shows.last order shows.latest
+
+  pub open-ready : (closed : Marks) (number start : ℕ) → AreLandmarks ls → can_open (length ls) s.last number start ≡ true →
+      HasClosed (finish_of s.last) s closed → CanOpen closed.landmarks.landmarks start
+  open-ready closed number start order can closes =
+      (CanOpen-shown ls s.latest m s.last closed.landmarks.landmarks number start shows.last shows.latest order can closes.landmarks).0
+
+  last-shown : (c : Last) → s.last ≡ Some c → ShowsLast (Some c) ls s.latest m
+  last-shown c is = subst (λ last. ShowsLast last ls s.latest m) is shows.last
+
+  pub take-ready : (c : Last) (number index t : ℕ) → s.last ≡ Some c → AreLandmarks ls → can_add (length ls) c number index t ≡ true → CanTake ls t
+  take-ready c number index t is order can = CanTake-shown ls s.latest m c number index t (last-shown c is) order can
+
+  -- a landmark's record
+  pub not-began : (id number said start : ℕ) (finish : Option ℕ) → can_open (length ls) s.last number start ≡ false →
+      marked_with m (records.Landmark id number said start finish) ≡ None
+  not-began id number said start finish can =
+      cond-false (is_next_landmark m number start) _ None (sym (open-shown ls s.latest m s.last number start shows.last) ∙ can)
+
+  pub began : (closed opened : Marks) (slot number said start : ℕ) (finish : Option ℕ) → can_open (length ls) s.last number start ≡ true → AreLandmarks ls →
+      HasClosed (finish_of s.last) s closed → OpensLandmark closed opened slot start → HasValidTimes said start finish →
+      MatchOption (marked_with m (records.Landmark n number said start finish)) ⊥
+      (λ next. ShowsMarks (with_last opened (Some (record { finish = finish; said = said; values = 0; from = start }))) n next
+      (own ++ record { slot = slot; holds = records.Landmark n number said start finish } ∷ []))
+  began closed opened slot number said start finish can order closes opens timed =
+      let x : Found = record { slot = slot; holds = records.Landmark n number said start finish } in
+      let last : Last = record { finish = finish; said = said; values = 0; from = start } in
+      let l : Landmark = record { start = start; finish = finish; values = [] } in
+      let next : Marked = record { before = landmarks_in m; last = Some l; said = said } in
+      let test = sym (open-shown ls s.latest m s.last number start shows.last) ∙ can in
+      let with_r : marked_with m x.holds ≡ Some next = cond-true (is_next_landmark m number start) (Some next) None test in
+      let new : ShowsMarks (with_last opened (Some last)) n next (own ++ x ∷ []) = record {
+        last = record {
+          landmark = l;
+          last = refl;
+          held = opens.landmarks ∙ ap (λ us. us ++ opened_at start ∷ []) (closes.landmarks ∙ closed-shown ls s.latest m s.last shows.last);
+          finish = refl;
+          said = refl;
+          values = refl;
+          from = λ t. and-true (nat_le start t);
+          time = start;
+          latest = opens.latest;
+          early = omega arith;
+          closes = may-close finish timed;
+        };
+        latest =
+            opens.latest
+            ∙ sym (ap latest_of opens.landmarks ∙ latest_of-opened start closed.landmarks.landmarks
+            (CanOpen-shown ls s.latest m s.last closed.landmarks.landmarks number start shows.last shows.latest order can closes.landmarks).1);
+        by = by-more n own x m next shows.by (eq-eqb n n refl) with_r;
+        slots = opens.slots ∙ ap (λ k. k ++ slot ∷ []) (closes.slots ∙ shows.slots) ∙ sym (found-more is_landmark own x true refl);
+        value_slots = opens.value_slots ∙ closes.value_slots ∙ shows.value_slots ∙ sym (found-more is_value own x false refl ∙ append-nil _);
+      } in
+      subst (λ o. MatchOption o ⊥ (λ k. ShowsMarks (with_last opened (Some last)) n k (own ++ x ∷ []))) (sym with_r) new
+    where
+      and-true : (b : Bool) → (b && true) ≡ b
+      and-true true = refl
+      and-true false = refl
+
+      may-close : (o : Option ℕ) → HasValidTimes said start o → IfSome o (λ t. (start ≤ t) × (t ≤ LATEST_TIME))
+      may-close None _ = tt
+      may-close (Some t) timed = timed
+
+  -- a value's record
+  pub not-added : (id number index t : ℕ) (v : ℤ) (c : Last) → s.last ≡ Some c → can_add (length ls) c number index t ≡ false →
+      marked_with m (records.Value id number index t v) ≡ None
+  not-added id number index t v c is can =
+      cond-false (is_next_value m number index t) _ None (sym (add-shown ls s.latest m c number index t (last-shown c is)) ∙ can)
+
+  pub none-added : (id number index t : ℕ) (v : ℤ) → s.last ≡ None → marked_with m (records.Value id number index t v) ≡ None
+  none-added id number index t v none =
+      let nothing = subst (λ last. ShowsLast last ls s.latest m) none shows.last in
+      cond-false (is_next_value m number index t) _ None
+      (ap (λ k. is_next_value k number index t) nothing.0 ∙ and_right (number == 0) false refl)
+
+  pub added : (c : Last) (new : Marks) (slot number index t : ℕ) (v : ℤ) → s.last ≡ Some c → can_add (length ls) c number index t ≡ true →
+      AddsToLandmark s new slot t v →
+      MatchOption (marked_with m (records.Value n number index t v)) ⊥
+      (λ next. ShowsMarks (with_last new (Some (record { finish = c.finish; said = c.said; values = index; from = t + 1 }))) n next
+      (own ++ record { slot = slot; holds = records.Value n number index t v } ∷ []))
+  added c new slot number index t v is can adds =
+      let x : Found = record { slot = slot; holds = records.Value n number index t v } in
+      let last : Last = record { finish = c.finish; said = c.said; values = index; from = t + 1 } in
+      let value : LandmarkValue = record { t = t; v = v } in
+      let was = last-shown c is in
+      let l = was.landmark in
+      let tests = (and_parts (number == length ls) (index == c.values + 1 && nat_le c.from t && is_up_to t c.finish) can).1 in
+      let both = and_parts (index == c.values + 1 && nat_le c.from t) (is_up_to t c.finish) tests in
+      let first = and_parts (index == c.values + 1) (nat_le c.from t) both.0 in
+      let turn = eqb-true index (c.values + 1) first.0 in
+      let late = leb-true c.from t first.1 in
+      let early = was.early in
+      let next : Marked = record { before = m.before; last = option_and_then (λ k. Some (with_value value k)) m.last; said = m.said } in
+      let test = sym (add-shown ls s.latest m c number index t was) ∙ can in
+      let with_r : marked_with m x.holds ≡ Some next = cond-true (is_next_value m number index t) (Some next) None test in
+      let result : ShowsMarks (with_last new (Some last)) n next (own ++ x ∷ []) = record {
+        last = record {
+          landmark = with_value value l;
+          last = ap (λ o. option_and_then (λ k. Some (with_value value k)) o) was.last;
+          held = adds.landmarks ∙ ap (change_last (with_value value)) was.held ∙ change_last-front (with_value value) m.before (still_open l);
+          finish = was.finish;
+          said = was.said;
+          values = omega (arith, turn, was.values, length-append l.values (value ∷ []));
+          from = λ u.
+              ap (λ b. nat_le l.start u && b) (list_all-append (λ (y : LandmarkValue). nat_lt y.t u) l.values (value ∷ []))
+              ∙ grouped (nat_le l.start u) (list_all (λ (y : LandmarkValue). nat_lt y.t u) l.values) (nat_lt t u && true)
+              ∙ after-from c.from t _ u late (was.from u);
+          time = t;
+          latest = adds.latest;
+          early = omega arith;
+          closes = closes-by t c.finish was.time both.1 was.closes;
+        };
+        latest =
+            adds.latest
+            ∙ sym (ap latest_of adds.landmarks ∙ latest_of-value value was.time ls (sym shows.latest ∙ was.latest) (omega (arith, early, late)));
+        by = by-more n own x m next shows.by (eq-eqb n n refl) with_r;
+        slots = adds.slots ∙ shows.slots ∙ sym (found-more is_landmark own x false refl ∙ append-nil _);
+        value_slots = adds.value_slots ∙ ap (λ k. k ++ slot ∷ []) shows.value_slots ∙ sym (found-more is_value own x true refl);
+      } in
+      subst (λ o. MatchOption o ⊥ (λ k. ShowsMarks (with_last new (Some last)) n k (own ++ x ∷ []))) (sym with_r) result
+    where
+      grouped : (a b d : Bool) → (a && (b && d)) ≡ ((a && b) && d)
+      grouped true b d = refl
+      grouped false b d = refl
+
+      after-from : (from t : ℕ) (a : Bool) (u : ℕ) → from ≤ t → a ≡ nat_le from u → (a && (nat_lt t u && true)) ≡ nat_le (t + 1) u
+      after-from from t a u le a_is = rw a_is (grind (arith, nat_tests))
+
+      closes-by : (t : ℕ) (o : Option ℕ) (time : ℕ) → is_up_to t o ≡ true → IfSome o (λ f. (time ≤ f) × (f ≤ LATEST_TIME)) →
+          IfSome o (λ f. (t ≤ f) × (f ≤ LATEST_TIME))
+      closes-by t None time up closes = tt
+      closes-by t (Some f) time up closes = (leb-true t f up, closes.1)
+
+  -- another record
+  pub other : (x : Found) → is_mark_of n x.holds ≡ false → is_landmark x.holds ≡ false → is_value x.holds ≡ false → ShowsMarks s n m (own ++ x ∷ [])
+  other x none mark value = record {
+    last = shows.last;
+    latest = shows.latest;
+    by = ap marked_by (marks-more n own x ∙ ap (λ l. marks_in n (without_slots own) ++ l) (cond-false (is_mark_of n x.holds) (x.holds ∷ []) [] none)
+        ∙ append-nil (marks_in n (without_slots own))) ∙ shows.by;
+    slots = shows.slots ∙ sym (found-more is_landmark own x false mark ∙ append-nil _);
+    value_slots = shows.value_slots ∙ sym (found-more is_value own x false value ∙ append-nil _);
+  }
+
+  -- all records came
+  pub are-made : (closed : Marks) → has_said_last s.last ≡ true → HasClosed (finish_of s.last) s closed → AreKnown closed.landmarks → AreMade n own closed
+  are-made closed said closes known = record {
+    are = ap (λ o. option_map_or has_all_values o false) shows.by ∙ sym (said-shown ls s.latest m s.last shows.last) ∙ said;
+    landmarks = closes.landmarks ∙ closed-shown ls s.latest m s.last shows.last ∙ sym (ap (λ o. option_map_or landmarks_in o []) shows.by);
+    known = known;
+    latest = closes.latest ∙ latest-shown ls s.latest m s.last shows.last shows.latest ∙ sym (ap latest_of closes.landmarks);
+    slots = closes.slots ∙ shows.slots;
+    value_slots = closes.value_slots ∙ shows.value_slots;
+  }
+
+  pub not-made : has_said_last s.last ≡ false → are_marks (marks_in n (without_slots own)) ≡ false
+  not-made said = ap (λ o. option_map_or has_all_values o false) shows.by ∙ sym (said-shown ls s.latest m s.last shows.last) ∙ said
+
+  -- where a record may not come, all with it aren't those of landmarks
+  pub stops : (x : Found) (rest : List Found) → stream_of x.holds ≡ n → marked_with m x.holds ≡ None → are_marks (marks_in n (without_slots (own ++ x ∷ rest))) ≡ false
+  stops x rest same none = ap (λ l. are_marks (marks_in n l)) (map-append (λ (f : Found). f.holds) own (x ∷ rest)) ∙ go x.holds same none
+    where
+      with_first : (r : Record) → is_mark_of n r ≡ true → marked_with m r ≡ None → are_marks (marks_in n (without_slots own ++ r ∷ without_slots rest)) ≡ false
+      with_first r mark none =
+          ap (λ o. option_map_or has_all_values o false)
+          (ap marked_by (filter-append (is_mark_of n) (without_slots own) (r ∷ without_slots rest)
+          ∙ ap (λ l. marks_in n (without_slots own) ++ l) (cond-true (is_mark_of n r) (r ∷ marks_in n (without_slots rest)) (marks_in n (without_slots rest)) mark))
+          ∙ fold-append marked_on (Some nothing_marked) (marks_in n (without_slots own)) (r ∷ marks_in n (without_slots rest))
+          ∙ ap (λ o. fold marked_on (marked_on o r) (marks_in n (without_slots rest))) shows.by
+          ∙ ap (λ o. fold marked_on o (marks_in n (without_slots rest))) none ∙ marked_on-none (marks_in n (without_slots rest)))
+
+      go : (r : Record) → stream_of r ≡ n → marked_with m r ≡ None → are_marks (marks_in n (without_slots own ++ r ∷ without_slots rest)) ≡ false
+      go records.Free same none = absurd (cc)
+      go (records.Stream id name params dropped) same none = absurd (cc)
+      go (records.Window id first summary) same none = absurd (cc)
+      go (records.Landmark id number values start finish) same none =
+          with_first (records.Landmark id number values start finish) (eq-eqb id n same) none
+      go (records.Value id number index t v) same none = with_first (records.Value id number index t v) (eq-eqb id n same) none
+
+-- what comes next, where something may
+pub marked-next : (P : Marked → Type 0) (o : Option Marked) → MatchOption o ⊥ P → (m : Marked) × P m
+marked-next P None none = absurd none
+marked-next P (Some m) shows = (m, shows)

@@ -1,0 +1,214 @@
+-- The windows among records, one after another: what is asked of those that are left, and where they are held.
+use Rattle.std.proofs.Common.{◌≡◌, ◌∙◌, ℕ, ◌+◌, ◌<◌, ◌≤◌, Bool, true, false, ◌&&◌, cond, List, [], ◌∷◌, ◌++◌, map, length, take, drop, get_or, refl, sym, ap}
+use Rattle.std.proofs.Common.{All, Option, Some, None, add-one, arith, append-nil, subst}
+use Rattle.std.specs.Prelude.{◌==◌, nat_le, nat_lt}
+use Rattle.std.specs.List.{cons_option, filter_map, list_all}
+use Rattle.std.proofs.Math.Seq.{drop-cons}
+use Rattle.std.proofs.lemmas.Bool.{and_from, and_left, cond-true, eq-eqb, le-leb, ne_eqb}
+use Rattle.std.proofs.lemmas.List.{length-map, map-append, take_more}
+use Rattle.std.proofs.lemmas.List.Elements.{filter-append, filter_map-append}
+use Rattle.std.proofs.lemmas.List.Sums.{count_by-le-length, length-filter, sum_by-append}
+use Rattle.ss_codec.specs.declared.record.Record.{Record}
+use Rattle.ss_codec.specs.declared.record.Record.TheVariants as records
+use Rattle.ss_line.specs.declared.entry.At.{At}
+use Rattle.ss_line.specs.declared.entry.Entry.{Entry}
+use Rattle.ss_line.specs.declared.line.TheConstants.{MOST_PLACES}
+use Rattle.ss_summary.specs.declared.summary.TheConstants.{GREATEST_COUNT}
+use Rattle.ss_windowing.specs.declared.decay.TheConstants.{MOST_VALUES}
+use Rattle.ss_model.specs.Windows.{newest_time, taken}
+use Rattle.ss_model.specs.declared.types.TheConstants.{MOST_RECORDS}
+use Rattle.ss_model.specs.declared.types.Window.{Window}
+use Rattle.ss_recover.specs.Carried.{window_of}
+use Rattle.ss_recover.specs.Conditions.{tile, tile_from, times_rise}
+use Rattle.ss_recover.specs.Held.{span_held, span_of, times_held, times_of}
+use Rattle.ss_recover.specs.Order.{stream_of}
+use Rattle.ss_recover.specs.Runs.{windows_in}
+use Rattle.ss_recover.specs.Shown.{AreWindowsOf, Grows, IsInside, found_by, is_after, is_window}
+use Rattle.ss_recover.specs.Usable.{slots_found, without_slots}
+use Rattle.ss_recover.specs.declared.found.Found.{Found}
+use Rattle.ss_recover.specs.declared.windows.Windows.{Windows}
+
+-- the windows of a number among records that were found
+abbrev pub windows_at : ℕ → List Found → List Window
+windows_at n all = windows_in n (without_slots all)
+
+-- what holds of each, at an index, and the records from there on
+pub each-at : (P : Found → Type 0) (all : List Found) (i : ℕ) (x : Found) → All P all → i < length all → x ≡ get_or all i x → P x
+each-at P all i x each within is = subst P (sym is) (each i x within)
+
+drop-next : (all : List Found) (i : ℕ) (x : Found) → i < length all → x ≡ get_or all i x → drop i all ≡ x ∷ drop (i + 1) all
+drop-next all i x within is = drop-cons all i x within ∙ (λ j. sym is j ∷ drop (sym (add-one i) j) all)
+
+-- those from an index on, and those up to it
+pub windows-left : (n : ℕ) (all : List Found) (i : ℕ) (x : Found) → i < length all → x ≡ get_or all i x →
+    windows_at n (drop i all) ≡ cons_option (window_of n x.holds) (windows_at n (drop (i + 1) all))
+windows-left n all i x within is = ap (windows_at n) (drop-next all i x within is)
+
+pub records-more : (all : List Found) (x : Found) → without_slots (all ++ x ∷ []) ≡ without_slots all ++ x.holds ∷ []
+records-more all x = map-append (λ (f : Found). f.holds) all (x ∷ [])
+
+windows-more : (n : ℕ) (all : List Found) (x : Found) → windows_at n (all ++ x ∷ []) ≡ windows_at n all ++ cons_option (window_of n x.holds) []
+windows-more n all x = ap (windows_in n) (records-more all x) ∙ filter_map-append (window_of n) (without_slots all) (x.holds ∷ [])
+
+-- windows whose times rise, after a time
+abbrev pub rise_from : Option ℕ → List Window → Bool
+rise_from newest [] = true
+rise_from newest (w ∷ ws) = is_after newest w.summary.t_first && rise_from (Some w.summary.t_last) ws
+
+pub rise-times : (ws : List Window) → times_rise ws ≡ rise_from None ws
+rise-times [] = refl
+rise-times (w ∷ ws) = go w ws
+  where
+    go : (v : Window) (us : List Window) → times_rise (v ∷ us) ≡ rise_from (Some v.summary.t_last) us
+    go v [] = refl
+    go v (u ∷ us) = ap (λ b. nat_lt v.summary.t_last u.summary.t_first && b) (go u us)
+
+-- Windows so far hold each position up to this one.
+pub record TileTo (n : ℕ) (all : List Found) (i next : ℕ) : Type 0 where
+  pub left : tile_from 1 (windows_at n all) ≡ tile_from next (windows_at n (drop i all))
+  pub so_far : next ≡ 1 + taken (windows_at n (take i all))
+  pub few : next ≤ GREATEST_COUNT + 1
+
+module _ (n : ℕ) (all : List Found) (i : ℕ) (x : Found) (within : i < length all) (is : x ≡ get_or all i x) where
+  front : windows_at n (take (i + 1) all) ≡ windows_at n (take i all) ++ cons_option (window_of n x.holds) []
+  front = ap (windows_at n) (take_more all i x within ∙ ap (λ y. take i all ++ y ∷ []) (sym is)) ∙ windows-more n (take i all) x
+
+  -- a record that is no window of it changes nothing
+  pub left-other : window_of n x.holds ≡ None → windows_at n (drop i all) ≡ windows_at n (drop (i + 1) all)
+  left-other none = windows-left n all i x within is ∙ ap (λ o. cons_option o (windows_at n (drop (i + 1) all))) none
+
+  pub left-window : (w : Window) → window_of n x.holds ≡ Some w → windows_at n (drop i all) ≡ w ∷ windows_at n (drop (i + 1) all)
+  left-window w some = windows-left n all i x within is ∙ ap (λ o. cons_option o (windows_at n (drop (i + 1) all))) some
+
+  pub TileTo-other : (next : ℕ) → TileTo n all i next → window_of n x.holds ≡ None → TileTo n all (i + 1) next
+  TileTo-other next to none = record {
+    left = to.left ∙ ap (tile_from next) (left-other none);
+    so_far = to.so_far ∙ ap (λ (ws : List Window). 1 + taken ws) (sym (front ∙ ap (λ o. windows_at n (take i all) ++ cons_option o []) none
+        ∙ append-nil (windows_at n (take i all))));
+    few = to.few;
+  }
+
+  pub TileTo-window : (next : ℕ) → TileTo n all i next → (w : Window) → window_of n x.holds ≡ Some w → IsInside w → w.first ≡ next →
+      TileTo n all (i + 1) (w.first + w.summary.count)
+  TileTo-window next to w some inside at = record {
+    left = to.left ∙ ap (tile_from next) (left-window w some) ∙ (rw (sym at) (ap (λ b. b && tile_from (w.first + w.summary.count) (windows_at n (drop (i + 1) all))) (same w.first)));
+    so_far =
+        let so_far = to.so_far in
+        omega (
+          arith,
+          at,
+          so_far,
+          ap (λ (ws : List Window). taken ws) (front ∙ ap (λ o. windows_at n (take i all) ++ cons_option o []) some),
+          sum_by-append (λ (v : Window). v.summary.count) (windows_at n (take i all)) (w ∷ []),
+        );
+    few = inside.1;
+  }
+    where
+      same : (k : ℕ) → (k == k) ≡ true
+      same k = grind arith
+
+  pub tile-fails : (next : ℕ) → TileTo n all i next → (w : Window) → window_of n x.holds ≡ Some w → (w.first ≡ next → ⊥) → tile (windows_at n all) ≡ false
+  tile-fails next to w some apart =
+      and_left (tile_from 1 (windows_at n all)) (nat_le (taken (windows_at n all)) MOST_VALUES)
+      (to.left ∙ ap (tile_from next) (left-window w some)
+      ∙ ap (λ b. b && tile_from (next + w.summary.count) (windows_at n (drop (i + 1) all))) (ne_eqb w.first next apart))
+
+-- at the end
+pub tile-holds : (n : ℕ) (all : List Found) (i next : ℕ) → TileTo n all i next → drop i all ≡ [] → take i all ≡ all → tile (windows_at n all) ≡ true
+tile-holds n all i next to none whole =
+    let few = to.few in
+    let so_far = to.so_far in
+    and_from (tile_from 1 (windows_at n all)) (nat_le (taken (windows_at n all)) MOST_VALUES) (to.left ∙ ap (λ l. tile_from next (windows_at n l)) none)
+    (le-leb (taken (windows_at n all)) MOST_VALUES (omega (arith, few, so_far, ap (λ l. taken (windows_at n l)) whole)))
+
+-- ---- where they are held
+
+own-window : (n : ℕ) (r : Record) (w : Window) → window_of n r ≡ Some w → is_window r ≡ true
+own-window n records.Free w is = cc
+own-window n (records.Stream id name params dropped) w is = cc
+own-window n (records.Window id first summary) w is = refl
+own-window n (records.Landmark id number values start finish) w is = cc
+own-window n (records.Value id number index t v) w is = cc
+
+no-window : (n : ℕ) (r : Record) → stream_of r ≡ n → window_of n r ≡ None → is_window r ≡ false
+no-window n records.Free own is = refl
+no-window n (records.Stream id name params dropped) own is = refl
+no-window n (records.Window id first summary) own is = absurd (
+    let w : Window = record { first = first; summary = summary } in
+    let wrong : Some w ≡ None = sym (cond-true (id == n) (Some w) None (eq-eqb id n own)) ∙ is in cc)
+no-window n (records.Landmark id number values start finish) own is = refl
+no-window n (records.Value id number index t v) own is = refl
+
+pub found-more : (p : Record → Bool) (all : List Found) (x : Found) (b : Bool) → p x.holds ≡ b →
+    slots_found (found_by p (all ++ x ∷ [])) ≡ slots_found (found_by p all) ++ slots_found (cond b (x ∷ []) [])
+found-more p all x b is =
+    ap slots_found (filter-append (λ (f : Found). p f.holds) all (x ∷ []) ∙ ap (λ c. found_by p all ++ cond c (x ∷ []) []) is)
+    ∙ map-append (λ (f : Found). f.slot) (found_by p all) (cond b (x ∷ []) [])
+
+newest_time-push : (ws : List Window) (w : Window) → newest_time (ws ++ w ∷ []) ≡ Some w.summary.t_last
+newest_time-push [] w = refl
+newest_time-push (v ∷ []) w = refl
+newest_time-push (v ∷ u ∷ us) w = newest_time-push (u ∷ us) w
+
+module _ (n : ℕ) (all : List Found) (x : Found) (windows : Windows) (are : AreWindowsOf n all windows) where
+  pub AreWindowsOf-other : stream_of x.holds ≡ n → window_of n x.holds ≡ None → AreWindowsOf n (all ++ x ∷ []) windows
+  AreWindowsOf-other own none =
+      let same : windows_at n (all ++ x ∷ []) ≡ windows_at n all =
+      windows-more n all x ∙ ap (λ o. windows_at n all ++ cons_option o []) none ∙ append-nil (windows_at n all) in
+      record {
+        positions = are.positions ∙ ap (map span_of) (sym same);
+        times = are.times ∙ ap (map times_of) (sym same);
+        entries =
+            are.entries ∙ sym (found-more is_window all x false (no-window n x.holds own none) ∙ append-nil (slots_found (found_by is_window all)));
+        newest = are.newest ∙ ap newest_time (sym same);
+      }
+
+  pub AreWindowsOf-more : (w : Window) → window_of n x.holds ≡ Some w → (new : Windows) → Grows windows new x.slot w → AreWindowsOf n (all ++ x ∷ []) new
+  AreWindowsOf-more w some new grows =
+      let second : At × Entry → Entry = λ e. e.1 in
+      let more : map second new.line.entries ≡ map second windows.line.entries ++ grows.entry ∷ [] =
+      ap (map second) grows.entries ∙ map-append second windows.line.entries ((grows.at, grows.entry) ∷ []) in
+      let one : windows_at n (all ++ x ∷ []) ≡ windows_at n all ++ w ∷ [] =
+      windows-more n all x ∙ ap (λ o. windows_at n all ++ cons_option o []) some in
+      record {
+        positions =
+            ap (map span_held) more ∙ map-append span_held (map second windows.line.entries) (grows.entry ∷ [])
+            ∙ (λ i. are.positions i ++ grows.span i ∷ []) ∙ sym (ap (map span_of) one ∙ map-append span_of (windows_at n all) (w ∷ []));
+        times =
+            ap (map times_held) more ∙ map-append times_held (map second windows.line.entries) (grows.entry ∷ [])
+            ∙ (λ i. are.times i ++ grows.times i ∷ []) ∙ sym (ap (map times_of) one ∙ map-append times_of (windows_at n all) (w ∷ []));
+        entries =
+            ap (map (λ (e : Entry). e.slot)) more ∙ map-append (λ (e : Entry). e.slot) (map second windows.line.entries) (grows.entry ∷ [])
+            ∙ (λ i. are.entries i ++ grows.in_slot i ∷ []) ∙ sym (found-more is_window all x true (own-window n x.holds w some));
+        newest = grows.newest ∙ sym (ap newest_time one ∙ newest_time-push (windows_at n all) w);
+      }
+
+pub AreWindowsOf-none : (n : ℕ) (windows : Windows) → windows.line.entries ≡ [] → windows.newest ≡ None → AreWindowsOf n [] windows
+AreWindowsOf-none n windows none newest = record {
+  positions = ap (λ (es : List (At × Entry)). map span_held (map (λ e. e.1) es)) none;
+  times = ap (λ (es : List (At × Entry)). map times_held (map (λ e. e.1) es)) none;
+  entries = ap (λ (es : List (At × Entry)). map (λ (e : Entry). e.slot) (map (λ e. e.1) es)) none;
+  newest = newest;
+}
+
+-- how many of some records pass a test
+pub few-found : (p : Record → Bool) (all : List Found) → length (slots_found (found_by p all)) ≤ length all
+few-found p all =
+    omega (
+      arith,
+      length-map (found_by p all) (λ (f : Found). f.slot),
+      length-filter (λ (f : Found). p f.holds) all,
+      count_by-le-length (λ (f : Found). p f.holds) all,
+    )
+
+pub room-windows : (n : ℕ) (all : List Found) (windows : Windows) → AreWindowsOf n all windows → length all < MOST_RECORDS →
+    length windows.line.entries + 1 ≤ MOST_PLACES
+room-windows n all windows are room =
+    omega (
+      arith,
+      room,
+      few-found is_window all,
+      ap (λ (l : List ℕ). length l) are.entries,
+      length-map (map (λ (e : At × Entry). e.1) windows.line.entries) (λ (e : Entry). e.slot),
+      length-map windows.line.entries (λ (e : At × Entry). e.1),
+    )

@@ -1,0 +1,10 @@
+use Rattle.std.proofs.Common.{◌≡◌, drop}
+use Rattle.std.specs.List.{list_all}
+use Rattle.ss_model.specs.Marks.{lies_free}
+use Rattle.ss_recover.proofs.WindowLaws.{windows_at}
+use Rattle.ss_recover.proofs.windows.lie_free.Given as goal
+
+abbrev pub invariant-loop-one : goal.invariant-loop-one
+invariant-loop-one l =
+    list_all (lies_free l.landmarks.landmarks) (windows_at l.id l.found)
+    ≡ list_all (lies_free l.landmarks.landmarks) (windows_at l.id (drop l.one-index l.found))

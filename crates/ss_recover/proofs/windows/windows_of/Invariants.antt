@@ -1,0 +1,6 @@
+use Rattle.std.proofs.Common.{take}
+use Rattle.ss_recover.specs.Shown.{AreWindowsOf}
+use Rattle.ss_recover.proofs.windows.windows_of.Given as goal
+
+abbrev pub invariant-loop-one : goal.invariant-loop-one
+invariant-loop-one g l = AreWindowsOf l.id (take l.one-index l.found) l.windows

@@ -1,0 +1,73 @@
+// A stream, made of its own record and the others.
+ghost use Rattle.std.specs.Prelude.{◌≡◌, ◌<◌, All, length, IsTrue};
+ghost use Rattle.ss_target.specs.Lengths.{has_target};
+ghost use Rattle.ss_model.specs.Marks.{later};
+ghost use Rattle.ss_model.specs.declared.types.TheConstants.{MOST_RECORDS};
+ghost use Rattle.ss_recover.specs.Order.{stream_of};
+ghost use Rattle.ss_recover.specs.Shown.{BuildsAs};
+ghost use Rattle.ss_recover.specs.Usable.{IsUsable};
+
+use crate::found::Found;
+use crate::marking::marks_of;
+use crate::windows::{lie_free, tile, times_rise, windows_of};
+use crate::{RecoverError, StreamParts};
+use ss_catalog::{Name, Params, StreamId};
+use ss_steps::Steps;
+use ss_target::Target;
+use std::alloc::Global;
+use std::sync::ledger::Ledger;
+
+// The later of two times, where there are any.
+fn later(time: Option<u64>, other: Option<u64>) -> Option<u64>
+    ensures { result ≡ later time other }
+{
+    match (time, other) {
+        (Some(time), Some(other)) => Some(time.max(other)),
+        (None, other) => other,
+        (time, None) => time,
+    }
+}
+
+// The stream whose own record says this, with the windows and the landmarks of its other records. None says that these break
+// a condition.
+pub fn build<L: Ledger>(
+    alloc: Global,
+    slot: u32,
+    id: u32,
+    name: Name,
+    params: Params,
+    rest: &[Found],
+    steps: &mut Steps<L>,
+) -> Result<Option<StreamParts>, RecoverError>
+    requires target { IsTrue (has_target params) }
+    requires usable { All (λ f. IsUsable f.holds) rest.now }
+    requires own { All (λ f. stream_of f.holds ≡ id) rest.now }
+    requires few { length rest.now < MOST_RECORDS }
+    ensures { BuildsAs (record { number = id; name = name; params = params }) slot rest.now result }
+{
+    if !tile(id, rest) {
+        return Ok(None);
+    }
+    if !times_rise(id, rest) {
+        return Ok(None);
+    }
+    let Some(marks) = marks_of(alloc, id, rest)? else {
+        return Ok(None);
+    };
+    if !lie_free(&marks.landmarks, id, rest) {
+        return Ok(None);
+    }
+    let windows = windows_of(alloc, id, rest, steps)?;
+    match Target::of(params) {
+        Ok(target) => Ok(Some(StreamParts {
+            id: StreamId(id),
+            name,
+            target,
+            slot,
+            last_time: later(windows.newest, marks.latest),
+            line: windows.line,
+            landmarks: marks.landmarks,
+        })),
+        Err(_) => Err(RecoverError::OutOfMemory),
+    }
+}
