@@ -19,8 +19,8 @@ use std::marker::Brand;
 use std::sync::ledger::Blank;
 
 /// The streams that the records carry, each record with its slot, in the order of the streams' numbers, and the slots of the
-/// records of dropped streams. It reads each live slot once, and writes nothing. At an error other than `Disk` the records
-/// are as they were.
+/// records of dropped streams. It reads each live slot once, and writes nothing. At an error other than `Disk` the journal
+/// is as it was, and so is which slots are live; pages that were read may be cached.
 pub fn rebuild<D: Disk>(
     alloc: Global,
     records: &mut Records,
