@@ -3,7 +3,7 @@ use Rattle.std.proofs.Common.{◌≡◌, ◌∙◌, ℕ, ◌+◌, ◌^◌, ◌<�
 use Rattle.std.proofs.Common.{ap₂, inl, inr, arith, append-nil, Option, Some, None}
 use Rattle.std.specs.Prelude.{◌==◌, ◌||◌, nat_le, nat_lt, fold}
 use Rattle.std.specs.List.{AllByRecursion, cons_option, filter_map, list_all, list_any}
-use Rattle.std.proofs.lemmas.Bool.{and_from, and_left, and_parts, and_right, cases_Bool, eq-eqb, eqb-true, ne_eqb, or_from}
+use Rattle.std.proofs.lemmas.Bool.{and_from, and_left, and_parts, and_right, cases_Bool, eq-eqb, eqb-true, ne_eqb, or_from, not-true}
 use Rattle.std.proofs.lemmas.Bool.{le-leb}
 use Rattle.std.proofs.lemmas.List.{length-map}
 use Rattle.std.proofs.lemmas.List.Elements.{filter-append, filter_map-append}
@@ -25,7 +25,7 @@ use Rattle.ss_recover.specs.Doomed.{is_own}
 use Rattle.ss_recover.specs.Held.{window_record}
 use Rattle.ss_recover.specs.Marked.{are_marks, landmarks_made, nothing_marked}
 use Rattle.ss_recover.specs.Order.{Rises, place_of, stream_of}
-use Rattle.ss_recover.specs.Runs.{has_sound_values_in_order, is_run, is_sound_in_order, marks_in, windows_in}
+use Rattle.ss_recover.specs.Runs.{has_sound_values_in_order, is_run, is_sound_in_order, marks_in, may_stand, windows_in}
 use Rattle.ss_recover.specs.Usable.{IsUsable}
 use Rattle.ss_recover.proofs.Lists.{all_weaker}
 use Rattle.ss_recover.proofs.SoundStreams.{count-at, count-below, new-name}
@@ -122,21 +122,6 @@ joined false b t w is = cc
 never : (a b t w : Bool) → a ≡ false → (a && b && t && w) ≡ false
 never false b t w is = refl
 never true b t w is = cc
-
-first-part : (a b t w : Bool) → (a && b && t && w) ≡ true → a ≡ true
-first-part true b t w is = refl
-first-part false b t w is = cc
-
-value-parts : (a b t d v w x y : Bool) → d ≡ false → (a && b && t && (d || (v && w && x && y))) ≡ true →
-    (v ≡ true) × (w ≡ true) × (x ≡ true) × (y ≡ true)
-value-parts true true true false true true true y none is = (refl, refl, refl, is)
-value-parts true true true false true true false y none is = absurd (cc)
-value-parts true true true false true false x y none is = absurd (cc)
-value-parts true true true false false w x y none is = absurd (cc)
-value-parts true true true true v w x y none is = absurd (cc)
-value-parts true true false d v w x y none is = absurd (cc)
-value-parts true false t d v w x y none is = absurd (cc)
-value-parts false b t d v w x y none is = absurd (cc)
 
 -- what is asked of a run whose first record alone is a stream's own
 asked : (dropped same drops own values : Bool) → same ≡ true → drops ≡ false → own ≡ false →
@@ -266,34 +251,33 @@ is_run-sound front (records.Stream id name params dropped ∷ rest) back n lower
           (ap (λ b. not b && (dropped || has_sound_values_in_order rest id)) (own-created rest u us is)))
     ] refl
 
--- what the records of a run meet
-pub record MeetsRun (front rest : List Record) (head : Created) : Type 0 where
+-- what the records of a run meet after a stream's own
+pub record MeetsRun (rest : List Record) (head : Created) : Type 0 where
   pub alone : filter_map created_by rest ≡ []
   pub tiles : tile (windows head.number rest) ≡ true
   pub rising : times_rise (windows head.number rest) ≡ true
   pub landmarks : are_marks (marks head.number rest) ≡ true
   pub free : list_all (lies_free (landmarks_made (marks head.number rest))) (windows head.number rest) ≡ true
 
-pub run-meets : (front rest : List Record) (head : Created) → AllByRecursion (λ r. stream_of r < head.number) front →
-    AllByRecursion (λ r. stream_of r ≡ head.number) rest → AllByRecursion IsUsable (records.Stream head.number head.name head.params false ∷ rest) →
-    Rises place_of (records.Stream head.number head.name head.params false ∷ rest) →
-    is_run (map (λ (c : Created). c.name) (streams_created front)) (records.Stream head.number head.name head.params false ∷ rest) ≡ true →
-    MeetsRun front rest head
-run-meets front rest head lower own usable rises run =
-    let r = records.Stream head.number head.name head.params false in
-    let n = head.number in
-    let all = sym (sound-parts front (r ∷ rest) [] n lower (refl, own) tt)
-    ∙ is_run-sound front (r ∷ rest) [] n lower (refl, own) tt usable rises (omega arith) ∙ run in
-    let one = eqb-true (length (head ∷ streams_created rest)) 1 (first-part _ _ _ _ all) in
-    let alone : filter_map created_by rest ≡ [] = nothing (streams_created rest) (omega (arith, one)) in
-    let stays : is_dropped n (r ∷ rest) ≡ false = alone-drops n rest alone in
-    let values = value-parts (length (streams_created (r ∷ rest)) == 1) (nat_lt (length (streams_created front)) MOST_STREAMS)
-    (has_new_name n (streams_created front ++ (streams_created (r ∷ rest) ++ streams_created []))) _ _ _ _ _ stays all in
-    record { alone = alone; tiles = values.0; rising = values.1; landmarks = values.2; free = values.3 }
-  where
-    nothing : (us : List Created) → length us ≡ 0 → us ≡ []
-    nothing [] none = refl
-    nothing (u ∷ us) none = absurd (omega (arith, none))
+pub run-meets : (names : List (List ℕ)) (rest : List Record) (head : Created) →
+    is_run names (records.Stream head.number head.name head.params false ∷ rest) ≡ true → MeetsRun rest head
+run-meets names rest head run =
+    let ws = windows head.number rest in
+    let ms = marks head.number rest in
+    let free = list_all (lies_free (landmarks_made ms)) ws in
+    let sound = tile ws && times_rise ws && are_marks ms && free in
+    let may = and_parts (may_stand names head.name) (not (list_any is_own rest) && (false || sound)) run in
+    let both = and_parts (not (list_any is_own rest)) (false || sound) may.1 in
+    let values = and_parts (tile ws && times_rise ws && are_marks ms) free both.1 in
+    let first = and_parts (tile ws && times_rise ws) (are_marks ms) values.0 in
+    let windows_meet = and_parts (tile ws) (times_rise ws) first.0 in
+    record {
+      alone = own-alone rest (not-true (list_any is_own rest) both.0);
+      tiles = windows_meet.0;
+      rising = windows_meet.1;
+      landmarks = first.1;
+      free = values.1;
+    }
 
 -- what comes at or after a window is no record of a landmark or of a value
 no-marks : (n : ℕ) (rs : List Record) → AllByRecursion IsUsable rs → AllByRecursion (λ r. 2 ^ 64 ≤ place_of r) rs → marks n rs ≡ []

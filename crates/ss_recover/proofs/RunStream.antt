@@ -108,13 +108,6 @@ AreBefore-run front run back n lower own above =
     (all_weaker (λ r. stream_of r < n) (λ r. stream_of r < stream_of q) (λ r lt. omega (arith, lt, more)) front lower)
     (all_weaker (λ r. stream_of r ≡ n) (λ r. stream_of r < stream_of q) (λ r is. omega (arith, is, more)) run own)) back above
 
--- the names of the streams that records create
-pub names-front : (front : List Record) (streams : List Stream) → AreWalked front streams →
-    map (λ (c : Created). c.name) (streams_created front) ≡ names_of streams
-names-front front streams done =
-    ap (λ us. map (λ (c : Created). c.name) (streams_created us)) done.order ∙ ap (map (λ (c : Created). c.name)) (created-all_walked streams)
-    ∙ map-map (λ (c : Created). c.name) created streams
-
 -- A run after the records of streams.
 module _ (front : List Record) (streams : List Stream) (done : AreWalked front streams) (head : Created) (rest : List Record)
     (lower : AllByRecursion (λ r. stream_of r < head.number) front) (own : AllByRecursion (λ r. stream_of r ≡ head.number) rest)
@@ -124,8 +117,8 @@ module _ (front : List Record) (streams : List Stream) (done : AreWalked front s
   abbrev first : Record
   first = records.Stream head.number head.name head.params false
 
-  pub meets : MeetsRun front rest head
-  meets = run-meets front rest head lower own usable rises (ap (λ ns. is_run ns (first ∷ rest)) (names-front front streams done) ∙ run)
+  pub meets : MeetsRun rest head
+  meets = run-meets (names_of streams) rest head run
 
   abbrev ms : List Record
   ms = filter (is_mark_of head.number) rest
