@@ -28,6 +28,11 @@ def decimal_of(text: str) -> Decimal:
     return _bounded(Decimal(text))
 
 
+def is_truth_value(value: object) -> bool:
+    """Whether this is True or False, also numpy's, which has an index and so looks like a number."""
+    return isinstance(value, bool) or getattr(getattr(value, "dtype", None), "kind", "") == "b"
+
+
 def exact(value: object) -> Number:
     """What a person gives as a value, as an exact number.
 
@@ -37,7 +42,7 @@ def exact(value: object) -> Number:
         return decimal_of(value)
     if isinstance(value, Decimal):
         return _bounded(value)
-    if isinstance(value, bool):
+    if is_truth_value(value) or getattr(value, "ndim", False):
         raise NotANumberError(f"not a number: {value}")
     if isinstance(value, int):
         return value

@@ -13,7 +13,7 @@ from collections.abc import Callable, Sequence
 from typing import Generic, TypeVar
 
 from .errors import ProcessEndedError, ProtocolError, SummaryStoreError, refusal_of
-from .wire import COMMAND, Reply, rows_after, tagged
+from .wire import COMMAND, LONGEST_LINE, LONGEST_SENT, Reply, rows_after, tagged
 
 ATOMIC = select.PIPE_BUF
 LINE_REFUSED = b"refused LINE\n"
@@ -63,6 +63,8 @@ class Commands(Request):
 
     def __init__(self, session: int, lines: Sequence[str]) -> None:
         for line in lines:
+            if len(line) > LONGEST_SENT:
+                raise refusal_of("LINE", f"{line[:LONGEST_LINE]}..")
             if not COMMAND.fullmatch(line):
                 raise refusal_of("SYNTAX", repr(line))
         super().__init__(session, tagged(session, lines), len(lines))

@@ -49,28 +49,32 @@ class Sending:
             chunk = list(islice(self._rows, CHUNK))
             if not chunk:
                 return
-            rows, numbers = self._coded(chunk)
+            rows, data = self._coded(chunk)
             if rows:
-                data = wire.appends(self._session, self._codec.short, numbers)
                 yield Appends(self._session, data, rows)
 
-    def _coded(self, chunk: list[Row]) -> tuple[Sequence[Row], Sequence[tuple[int, int]]]:
-        """The rows of a chunk that are readings of the stream, and their numbers."""
+    def _coded(self, chunk: list[Row]) -> tuple[Sequence[Row], bytes]:
+        """The rows of a chunk that are readings of the stream, and their lines."""
         try:
-            return chunk, self._codec.rows(chunk)
-        except (SummaryStoreError, ValueError):
+            return chunk, self._lines(chunk)
+        except (SummaryStoreError, ValueError, TypeError):
             pass    # one of them isn't: they are gone through one by one
         rows: list[Row] = []
-        numbers: list[tuple[int, int]] = []
+        lines: list[bytes] = []
         for row in chunk:
             try:
-                numbers += self._codec.rows([row])
+                lines.append(self._lines([row]))
                 rows.append(row)
-            except (SummaryStoreError, ValueError) as error:
+            except (SummaryStoreError, ValueError, TypeError) as error:
                 self._refuse(row, error)
                 if self.stopped:
                     break
-        return rows, numbers
+        return rows, b"".join(lines)
+
+    def _lines(self, rows: Sequence[Row]) -> bytes:
+        if str in set(map(type, rows)):     # two characters would be taken for a time and a value
+            raise TypeError("a row is a time and a value, and not a text")
+        return wire.appends(self._session, self._codec.short, self._codec.rows(rows))
 
     def _refuse(self, row: Row, error: Exception) -> None:
         if self._on_refused is None:

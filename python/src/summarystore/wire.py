@@ -10,13 +10,18 @@ import re
 from collections.abc import Iterable, Sequence
 from typing import NamedTuple
 
+from .decimals import is_truth_value
 from .errors import NumberError, ProtocolError, StreamNameError, refusal_of
 from .interval import Interval, Presence
 from .records import Soundness, Stored
 
 SESSIONS = 8
 LONGEST_LINE = 256
+LONGEST_SENT = 1000
+"""The most characters of a line that is sent to be refused: a pipe takes each line at once."""
 LAST_TIME = 2**62
+SHOWN = 100
+"""How much of what was given is shown in an error."""
 LEAST_VALUE, GREATEST_VALUE = -2**63, 2**63 - 1
 MOST_ROWS = 1000
 """The most rows that one `cursor next` gives."""
@@ -42,13 +47,19 @@ def name_word(name: str) -> str:
 
 
 def whole(value: object) -> int:
-    """A whole number as Python has them, also numpy's. No text, no float and no truth value."""
-    if type(value) is int:
-        return value
-    index = getattr(value, "__index__", None)
-    if index is None or isinstance(value, bool):
-        raise NumberError("NUMBER", repr(value), "a whole number is needed")
-    return int(index())
+    """A whole number as Python has them, also numpy's. No text, no float and no truth value.
+
+    One of more than 64 bits, which the program would refuse, is refused here: it may be longer than a
+    line, and than what Python writes out.
+    """
+    if type(value) is not int:
+        index = getattr(value, "__index__", None)
+        if index is None or is_truth_value(value) or getattr(value, "ndim", False):
+            raise NumberError("NUMBER", repr(value)[:SHOWN], "a whole number is needed")
+        value = int(index())
+    if value.bit_length() > 64:
+        raise NumberError("NUMBER", f"a number of {value.bit_length()} bits")
+    return value
 
 
 def create(name: str, target: str | Sequence[object], within: int | None = None) -> str:
@@ -70,7 +81,13 @@ def appends(session: int, name: str, rows: Sequence[tuple[int, int]]) -> bytes:
     if {type(number) for row in rows for number in row} - {int}:
         rows = [(whole(time), whole(value)) for time, value in rows]
     head = f"@{session} append {name_word(name)}"
-    return "".join([f"{head} {time} {value}\n" for time, value in rows]).encode("ascii")
+    if len(head) > LONGEST_SENT:
+        raise refusal_of("LINE", f"{head[:LONGEST_LINE]}..")
+    lines = [f"{head} {time} {value}\n" for time, value in rows]
+    if max(map(len, lines), default=0) > LONGEST_LINE:
+        # A number or the name is too long: which one, and of which row, is told.
+        lines = [f"{head} {whole(time)} {whole(value)}\n" for time, value in rows]
+    return "".join(lines).encode("ascii")
 
 
 def landmark_open(name: str, time: int) -> str:
