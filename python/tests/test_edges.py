@@ -2,9 +2,14 @@
 
 from __future__ import annotations
 
+import os
+import signal
+import time
+from pathlib import Path
+
 import pytest
 
-from summarystore import LineTooLongError, NumberError, RowsRefusedError
+from summarystore import LineTooLongError, NumberError, RowsRefusedError, StoreClosedError
 from summarystore.store import Store
 
 HUGE = 10**4200
@@ -34,3 +39,29 @@ def test_rows_that_are_no_pairs(store: Store) -> None:
         with pytest.raises(RowsRefusedError):
             store.append_many("a", rows)
     assert store.query("a", "count") == 1
+
+
+def test_a_fork_holds_no_pipe_open(path: Path) -> None:
+    store = Store(path)
+    store.create("a", "exp 2 1 1")
+    told, tell = os.pipe()
+    child = os.fork()
+    if child == 0:
+        try:
+            store.append("a", 1, 1)
+        except StoreClosedError:
+            os.write(tell, b"closed")
+            store.close()
+        time.sleep(60)
+        os._exit(0)
+    try:
+        assert os.read(told, 10) == b"closed"
+        began = time.monotonic()
+        store.append("a", 1, 1)
+        store.close()
+        assert time.monotonic() - began < 20
+    finally:
+        os.kill(child, signal.SIGKILL)
+        os.waitpid(child, 0)
+        os.close(told)
+        os.close(tell)

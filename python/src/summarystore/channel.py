@@ -56,13 +56,16 @@ class Channel:
 
     def _up(self) -> Connection:
         """The process that is up. One that has ended is started again, once, and that is said."""
-        if self._closed or self._owner != os.getpid():
-            raise StoreClosedError(f"{self.path} is closed, or was opened by another process")
+        self._must_be_mine()
         if self._connection is None:
             self._connection = self._connect_again()
             warnings.warn(ReopenedWarning(f"{self.path}: the program had ended; opened again"),
                           stacklevel=6)
         return self._connection
+
+    def _must_be_mine(self) -> None:
+        if self._closed or self._owner != os.getpid():
+            raise StoreClosedError(f"{self.path} is closed, or was opened by another process")
 
     def _renew(self) -> None:
         """Replaces a process that has taken much, where nothing is under way."""
@@ -83,6 +86,7 @@ class Channel:
         if held is not None:
             yield held
             return
+        self._must_be_mine()    # before the lock, which another thread may have held at a fork
         with self._changed:
             self._renew()
             while (session := self._sessions.take()) is None:
@@ -190,8 +194,10 @@ class Channel:
 
     def close(self) -> None:
         """Lets the program end in order, after all that is under way. Twice does no harm."""
+        if self._owner != os.getpid():
+            return
         with self._changed:
-            if self._closed or self._owner != os.getpid():
+            if self._closed:
                 return
             while self._connection is not None and not self._connection.pipeline.idle:
                 self._pump()

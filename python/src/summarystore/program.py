@@ -5,6 +5,7 @@ from __future__ import annotations
 import os
 import shutil
 import subprocess
+import weakref
 from pathlib import Path
 
 from .errors import ProgramMissingError, ProtocolError, ending_of
@@ -55,6 +56,12 @@ class Process:
         self.input, self.output = self._stdin.fileno(), self._stdout.fileno()
         os.set_blocking(self.input, False)
         os.set_blocking(self.output, False)
+        _LIVE.add(self)
+
+    def close_pipes(self) -> None:
+        """Closes this side of the pipes. In a process that was forked, so that it holds none open."""
+        for pipe in (self._stdin, self._stdout, self._stderr):
+            pipe.close()
 
     @property
     def pid(self) -> int:
@@ -94,6 +101,18 @@ class Process:
         self._stdout.close()
         self._stderr.close()
         return status, told or said.strip()
+
+
+_LIVE: weakref.WeakSet[Process] = weakref.WeakSet()
+
+
+def _after_fork() -> None:
+    """A copy of the pipes in a child would keep the program from seeing the end of its input."""
+    for process in list(_LIVE):
+        process.close_pipes()
+
+
+os.register_at_fork(after_in_child=_after_fork)
 
 
 def check(path: str | os.PathLike[str], program: str | os.PathLike[str] | None = None) -> Soundness:
