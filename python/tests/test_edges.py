@@ -2,15 +2,22 @@
 
 from __future__ import annotations
 
+import datetime
 import os
 import signal
 import time
+import zoneinfo
 from pathlib import Path
 
 import pytest
 
-from summarystore import LineTooLongError, NumberError, RowsRefusedError, StoreClosedError
+from summarystore import (LineTooLongError, NotANumberError, NumberError, RowsRefusedError, StoreClosedError,
+                          TimeError)
+from summarystore.clock import Clock, span_of, zone_of
+from summarystore.decimals import exact
+from summarystore.description import EPOCH
 from summarystore.store import Store
+from summarystore.wire import whole
 
 HUGE = 10**4200
 """A number whose text is longer than what a pipe takes at once."""
@@ -65,3 +72,57 @@ def test_a_fork_holds_no_pipe_open(path: Path) -> None:
         os.waitpid(child, 0)
         os.close(told)
         os.close(tell)
+
+
+def test_numpy_times_beyond_64_bits_of_nanoseconds() -> None:
+    numpy = pytest.importorskip("numpy")
+    seconds, nanoseconds = (Clock(unit, EPOCH, None) for unit in ("s", "ns"))
+    assert seconds.time(numpy.datetime64("3000-01-01")) == 32503680000
+    assert seconds.time(numpy.datetime64(5, "10s")) == 50
+    with pytest.raises(TimeError):
+        nanoseconds.time(numpy.datetime64("2600-01-01"))
+    assert span_of(numpy.timedelta64(400 * 365, "D")) == 400 * 365 * 86400 * 10**9
+    for odd in (numpy.timedelta64(1, "M"), numpy.timedelta64("NaT"), numpy.timedelta64(5)):
+        with pytest.raises(TimeError):
+            span_of(odd)
+    for odd in (numpy.datetime64("NaT"), numpy.datetime64("NaT", "s")):
+        with pytest.raises(TimeError):
+            seconds.time(odd)
+
+
+def test_truth_values_of_numpy_are_no_numbers() -> None:
+    numpy = pytest.importorskip("numpy")
+    for value in (numpy.True_, numpy.array([5])):
+        with pytest.raises(NumberError):
+            whole(value)
+        with pytest.raises(NotANumberError):
+            exact(value)
+
+
+def test_a_zone_of_pytz_is_the_zone_and_not_its_local_mean_time() -> None:
+    pytz = pytest.importorskip("pytz")
+    clock = Clock("s", EPOCH, zone_of(pytz.timezone("Europe/Berlin")))
+    assert clock.time("2026-11-29T10:00") == Clock("s", EPOCH, None).time("2026-11-29T10:00+01:00")
+    assert Clock("s", EPOCH, zone_of(pytz.utc)).time("1970-01-01T00:01") == 60
+
+
+def test_moments_that_no_clock_shows() -> None:
+    clock = Clock("s", EPOCH, None)
+    berlin = zoneinfo.ZoneInfo("Europe/Berlin")
+    with pytest.raises(TimeError):
+        clock.time(datetime.datetime(2026, 3, 29, 2, 30, tzinfo=berlin))
+    twice = [clock.time(datetime.datetime(2026, 10, 25, 2, 30, tzinfo=berlin, fold=fold)) for fold in (0, 1)]
+    assert twice[1] - twice[0] == 3600
+    # In some places the clock goes forward at midnight: then the day begins at one.
+    brazil = Clock("s", EPOCH, zoneinfo.ZoneInfo("America/Sao_Paulo"))
+    assert brazil.begin("2018-11-04") == clock.time("2018-11-04T01:00-02:00")
+    assert brazil.end("2018-11-03") == brazil.begin("2018-11-04") - 1
+
+
+def test_fractions_are_of_seconds_and_whole() -> None:
+    clock = Clock("us", EPOCH, datetime.timezone.utc)
+    assert clock.time("1970-01-01T00:00:00,5") == clock.time("19700101T000000.500000") == 500000
+    for text in ("2026-11-29T10:00.5", "2026-11-29_100000.1234567", "2026-11-29T10:00:00+01:00:00.1234567",
+                 "2026-11-29T10:00:00.1234567"):
+        with pytest.raises(TimeError):
+            clock.time(text)

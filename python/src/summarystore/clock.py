@@ -17,9 +17,11 @@ DAY = re.compile(r"[0-9]{4}-[0-9]{2}-[0-9]{2}")
 COUNT = re.compile(r"[0-9]+")
 SPAN = re.compile(r"([0-9]+) ?(ns|us|ms|s|min|minutes?|h|hours?|d|days?|w|weeks?)")
 _SPANS = {"ns": 1, "us": 10**3, "ms": 10**6, "s": 10**9, "m": 60 * 10**9, "h": 3600 * 10**9,
-          "d": 86400 * 10**9, "w": 7 * 86400 * 10**9}
+          "d": 86400 * 10**9, "w": 7 * 86400 * 10**9, "D": 86400 * 10**9, "W": 7 * 86400 * 10**9}
+_NUMPY = re.compile(r"(?:datetime|timedelta)64\[([0-9]*)(ns|us|ms|s|m|h|D|W)\]")
+_NAT = -2**63
 # Fractions of a second beyond what a datetime holds.
-FINE = re.compile(r"(.*[:T ][0-9]{2}(?::?[0-9]{2}){1,2})[.,]([0-9]+)(.*)")
+FINE = re.compile(r"([^.,]*[:T ](?:[0-9]{2}:[0-9]{2}:[0-9]{2}|[0-9]{6}))[.,]([0-9]+)([^.,]*)")
 
 
 def nanoseconds(moment: datetime.datetime, zone: datetime.tzinfo | None) -> int:
@@ -37,8 +39,19 @@ def nanoseconds(moment: datetime.datetime, zone: datetime.tzinfo | None) -> int:
         if zone is None:
             raise TimeError(f"{moment.isoformat(' ')} has no zone: give it one, or open with zone=")
         moment = _in_zone(moment.replace(tzinfo=None), zone)
+    elif not isinstance(moment.tzinfo, datetime.timezone) and not _is_shown(moment):
+        raise TimeError(f"{moment.isoformat(' ')}: the clock never shows it there")
     since = moment - START
     return (since.days * 86400 + since.seconds) * 10**9 + since.microseconds * 1000 + int(fine)
+
+
+def _is_shown(moment: datetime.datetime) -> bool:
+    """Whether a clock of its zone ever shows a moment. One that it shows twice has its `fold`."""
+    try:
+        shown = moment.astimezone(UTC).astimezone(moment.tzinfo)
+    except OverflowError:
+        return True
+    return shown.replace(tzinfo=None, fold=0) == moment.replace(tzinfo=None, fold=0)
 
 
 def _in_zone(moment: datetime.datetime, zone: datetime.tzinfo) -> datetime.datetime:
@@ -56,6 +69,8 @@ def moment_of(text: str, zone: datetime.tzinfo | None) -> int:
     # What is finer than a microsecond would be dropped in silence by fromisoformat.
     fine = FINE.fullmatch(text) if "." in text or "," in text else None
     extra = 0
+    if ("." in text or "," in text) and not fine:
+        raise TimeError(f"a fraction of something else than a second: {text[:60]!r}")
     if fine and len(fine[2]) > 9:
         raise TimeError(f"finer than a nanosecond: {text[:60]!r}")
     if fine and len(fine[2]) > 6:
@@ -91,18 +106,20 @@ def span_of(given: object) -> int:
         return int(found[1]) * (_SPANS[unit] if unit in _SPANS else _SPANS[unit[0]])
     kind = getattr(getattr(given, "dtype", None), "kind", "")
     if kind == "m":     # numpy.timedelta64
-        return _numpy_count(given, "timedelta64[ns]")
+        return _numpy_count(given)
     raise TimeError(f"not a span of time: {given!r}; write 15min, 1h or 365d, or give a timedelta")
 
 
-def _numpy_count(given: object, kind: str) -> int:
-    """Nanoseconds of a numpy time. One that doesn't fit is told, since numpy wraps."""
-    fine = getattr(given, "astype")(kind)
-    if str(fine) == "NaT":
+def _numpy_count(given: object) -> int:
+    """Nanoseconds of a numpy time. They are reckoned here, since numpy wraps at 64 bits."""
+    dtype = str(getattr(given, "dtype"))
+    unit = _NUMPY.fullmatch(dtype)
+    if not unit:
+        raise TimeError(f"{given} counts {dtype}, and not days, hours, .. or nanoseconds")
+    count = getattr(given, "astype")("int64").item()
+    if count == _NAT:
         raise TimeError("not a time: NaT")
-    if fine != given:
-        raise TimeError(f"out of range: {given}")
-    return int(fine.astype("int64"))
+    return int(count * int(unit[1] or 1) * _SPANS[unit[2]])
 
 
 class Clock:
@@ -214,7 +231,7 @@ class Clock:
         if isinstance(given, str):
             return moment_of(given, self._zone)
         if getattr(getattr(given, "dtype", None), "kind", "") == "M":
-            return _numpy_count(given, "datetime64[ns]")
+            return _numpy_count(given)
         raise TimeError(f"not a time: {given!r}")
 
     def _midnight(self, day: datetime.date, days: int = 0) -> int:
@@ -226,7 +243,9 @@ class Clock:
             later = day + datetime.timedelta(days=days)
         except OverflowError:
             raise TimeError(f"{day} is the last day there is") from None
-        return nanoseconds(datetime.datetime(later.year, later.month, later.day, tzinfo=zone), None)
+        # Where no clock shows midnight, this is when the clock goes forward: the first moment of the day.
+        offset = datetime.datetime(later.year, later.month, later.day, tzinfo=zone).utcoffset()
+        return self.day(later) - (span_of(offset) if offset else 0)
 
 
 def _checked(count: int, given: object) -> int:
@@ -237,6 +256,9 @@ def _checked(count: int, given: object) -> int:
 
 def zone_of(zone: str | datetime.tzinfo | None) -> datetime.tzinfo | None:
     """A zone by its name, such as Europe/Berlin."""
+    if zone is not None and hasattr(zone, "localize"):
+        # A zone of pytz, also of pandas: by itself it has the local mean time of long ago.
+        zone = str(zone)
     if not isinstance(zone, str):
         return zone
     try:
