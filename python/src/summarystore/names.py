@@ -21,7 +21,7 @@ from .clock import Clock, zone_of
 from .codec import Codec, PlainCodec, streams_of
 from .decimals import EXACT, Number
 from .description import EPOCH, Description
-from .errors import DescriptionError, UnknownStreamError
+from .errors import DescriptionError, NamesFileError, UnknownStreamError
 from .interval import Interval
 from .namesfile import read_names, write_names
 from .scale import Scale
@@ -98,7 +98,7 @@ class Names:
 
     def __init__(self, path: str | os.PathLike[str],
                  zone: str | datetime.tzinfo | None = None) -> None:
-        self._file = f"{os.path.abspath(path)}.names.json"
+        self._file = f"{os.path.abspath(os.fsdecode(path))}.names.json"
         self._zone = zone_of(zone)
         self._lock = threading.RLock()
         self._read = False
@@ -112,6 +112,11 @@ class Names:
         names."""
         with self._lock:
             self._described = read_names(self._file)
+            for name, (short, description) in self._described.items():
+                meaning = description_in(short)
+                if meaning is None or meaning[1] != Description(*description[:3]):
+                    raise NamesFileError(f"{self._file}: the numbers of {name} mean what {short} says, and "
+                                         "not what stands beside it")
             by_short = {short: name for name, (short, _) in self._described.items()}
             self._standing, self._lost, self._codecs = {}, {}, {}
             for row in streams_of(rows):

@@ -39,7 +39,8 @@ def _entry(entry: Mapping[str, object]) -> tuple[str, Description]:
     for text in (short, scale, time, unit, since, rounding):
         if text is not None and not isinstance(text, str):
             raise TypeError(f"{text!r} isn't text")
-    assert isinstance(short, str) and isinstance(labels, Mapping)
+    if not isinstance(short, str) or not isinstance(scale, str) or not isinstance(labels, Mapping):
+        raise TypeError(f"the entry {dict(entry)!r} lacks a name, a scale or labels")
     found = description_of(scale=scale, time=_text(time), since=_text(since), unit=_text(unit),
                            labels=labels, rounding=_text(rounding))
     assert found is not None
