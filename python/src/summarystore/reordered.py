@@ -35,7 +35,7 @@ class Reordered:
     def __init__(self, store: Channel, codec: Codec, lateness: object, most: int) -> None:
         self._store = store
         self._codec = codec
-        self._lock = threading.Lock()
+        self._lock = threading.RLock()      # what a Future calls when it is done may append
         self._buffer: ReorderBuffer[Held] = ReorderBuffer(codec.step(lateness), most)
 
     def __len__(self) -> int:
@@ -45,6 +45,7 @@ class Reordered:
         """Takes a reading, and stores those that are old enough by now."""
         line = calls.append(self._codec, time, value).lines[0]
         held = Held(line, Future())
+        held.future.set_running_or_notify_cancel()      # a reading that is held can't be taken back
         with self._lock:
             self._send(self._buffer.put(self._codec.time(time), held))
         return held.future
