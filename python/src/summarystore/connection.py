@@ -35,7 +35,10 @@ class Connection:
     def flush(self) -> None:
         """Writes what the pipe takes."""
         pipeline = self.pipeline
-        while pipeline.unwritten and self.process.write(pipeline.next_write()):
+        while pipeline.unwritten:
+            if not self.process.write(pipeline.next_write()):
+                pipeline.not_written()
+                return
             pipeline.wrote()
 
     def poll(self) -> None:

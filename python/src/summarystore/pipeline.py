@@ -207,13 +207,17 @@ class Pipeline:
             self._offered.append(piece)
         return parts[0] if len(parts) == 1 else b"".join(parts)
 
+    def not_written(self) -> None:
+        """What `next_write` gave was surely not written."""
+        self._offered = []
+
     def wrote(self) -> None:
         """What `next_write` gave was written."""
-        for data, lines, request in self._offered:
+        offered, self._offered = self._offered, []
+        for data, lines, request in offered:
             self._pieces.popleft()
             request.written += lines
             self.sent += len(data)
-        self._offered = []
 
     def received(self, data: bytes) -> None:
         """Takes what came from the program, and finishes the requests whose replies are there."""
@@ -239,6 +243,9 @@ class Pipeline:
     def ended(self, error: Callable[[], ProcessEndedError]) -> None:
         """The process ended. Each open request is told what became of its lines."""
         self._pieces.clear()
+        for _, lines, request in self._offered:     # interrupted there: it may be written
+            request.written += lines
+        self._offered = []
         requests, self._open = self._open, deque()
         for request in requests:
             request.finish(request.interrupted(error()))
