@@ -2,20 +2,29 @@
 
 from __future__ import annotations
 
+import asyncio
+import contextlib
 import datetime
+import json
 import os
 import signal
+import threading
 import time
+import warnings
 import zoneinfo
+from collections.abc import Callable
 from pathlib import Path
 
 import pytest
 
-from summarystore import (LineTooLongError, NotANumberError, NumberError, RowsRefusedError, StoreClosedError,
-                          TimeError)
+import summarystore
+from summarystore import (LineTooLongError, NamesFileError, NotANumberError, NumberError, ProcessEndedError,
+                          RowsRefusedError, StoreClosedError, TimeError)
+from summarystore import aio
 from summarystore.clock import Clock, span_of, zone_of
 from summarystore.decimals import exact
 from summarystore.description import EPOCH
+from summarystore.pipeline import Commands, Pipeline
 from summarystore.store import Store
 from summarystore.wire import whole
 
@@ -25,9 +34,9 @@ HUGE = 10**4200
 
 def test_numbers_and_words_that_are_longer_than_a_line(plain: Store) -> None:
     plain.create("a", "exp 2 1 1")
-    for time, value in ((1, HUGE), (HUGE, 1), (1, -HUGE), (1, 10**6000)):
+    for moment, value in ((1, HUGE), (HUGE, 1), (1, -HUGE), (1, 10**6000)):
         with pytest.raises(NumberError):
-            plain.append("a", time, value)
+            plain.append("a", moment, value)
     with pytest.raises(LineTooLongError):
         plain.query("a", "c" * 5000)
     with pytest.raises(LineTooLongError):
@@ -126,3 +135,112 @@ def test_fractions_are_of_seconds_and_whole() -> None:
                  "2026-11-29T10:00:00.1234567"):
         with pytest.raises(TimeError):
             clock.time(text)
+
+
+def test_names_are_written_while_the_store_is_open_alone(path: Path) -> None:
+    store = summarystore.open(path)
+    store.create("room/a", "exp 2 1 1", scale="0.1")
+    store.close()
+    with pytest.raises(StoreClosedError):
+        store.create("room/b", "exp 2 1 1", scale="0.1")
+    with pytest.raises(StoreClosedError):
+        store.describe("room/a", unit="K")
+    text = Path(f"{path}.names.json").read_text()
+    assert "room/b" not in text and '"K"' not in text
+
+
+@pytest.mark.parametrize("change", [{"scale": "1"}, {"time": "ms"}, {"since": "1970-01-02"}, {"labels": []},
+                                    {"scale": None, "time": None}, {"name": None}])
+def test_names_whose_numbers_mean_something_else(path: Path, change: dict[str, object]) -> None:
+    with summarystore.open(path) as store:
+        store.create("room/a", "exp 2 1 1", scale="0.1")
+        store.append("room/a", 1, "1.5")
+    file = Path(f"{path}.names.json")
+    found = json.loads(file.read_text())
+    found["streams"]["room/a"].update(change)
+    file.write_text(json.dumps(found))
+    with pytest.raises(NamesFileError):
+        summarystore.open(path)
+
+
+def test_paths_of_bytes(path: Path) -> None:
+    with summarystore.open(os.fsencode(path)) as store:     # type: ignore[arg-type]
+        store.create("room/a", "exp 2 1 1", scale="0.1")
+    assert Path(f"{path}.names.json").exists()
+
+
+def test_a_write_that_is_interrupted_may_have_been_made() -> None:
+    pipeline = Pipeline()
+    request = Commands(0, ["append a 1 1"])
+    pipeline.add(request)
+    assert pipeline.next_write() and request.written == 0
+    pipeline.ended(lambda: ProcessEndedError(None, ""))     # between the write and its note
+    assert isinstance(request.error, ProcessEndedError)
+    assert request.error.unknown == ["append a 1 1"] and not request.error.not_stored
+
+
+def test_late_rows_and_an_end_of_the_program(fake: Callable[[str], str], folder: Path) -> None:
+    program = fake("read x; echo '@0 refused NO_CURSOR'; read x; k=${x%% *}; read x; echo \"$k ok 1 1\"; "
+                   "echo \"$k refused TIME\"; rm -f \"$2\"; exit 7")
+    (folder / "b").write_text("")
+    store = Store(folder / "b", program=program)
+    with pytest.raises(ProcessEndedError) as caught:
+        store.append_many("a", [(1, 1), (1, 2), (3, 3)])
+    assert (caught.value.status, caught.value.acknowledged, list(caught.value.unknown)) == (7, 1, [(3, 3)])
+
+
+def test_who_waits_for_a_cursor_when_the_program_ends(plain: Store) -> None:
+    plain.create("a", "exp 2 1 1")
+    plain.append("a", 1, 1)
+    held = [plain.windows("a") for _ in range(8)]
+    found: list[object] = []
+
+    def ninth() -> None:
+        with warnings.catch_warnings():
+            warnings.simplefilter("ignore")
+            found.extend(plain.windows("a"))
+    waiting = threading.Thread(target=ninth, daemon=True)
+    waiting.start()
+    time.sleep(0.3)
+    assert plain.pid is not None
+    os.kill(plain.pid, signal.SIGKILL)
+    with pytest.raises(ProcessEndedError):
+        next(held[0])
+    waiting.join(20)
+    assert len(found) == 1
+
+
+def test_a_task_that_waits_for_a_cursor_when_the_program_ends(path: Path) -> None:
+    async def all_of_it() -> None:
+        async with await aio.open(path) as store:
+            await store.create("a", "exp 2 1 1")
+            await store.append("a", 1, 1)
+            held = [store.windows("a") for _ in range(8)]
+            for windows in held:
+                await windows.__anext__()
+            ninth = asyncio.create_task(_first(store))
+            await asyncio.sleep(0.1)
+            assert store.pid is not None
+            os.kill(store.pid, signal.SIGKILL)
+            for windows in held:
+                with contextlib.suppress(ProcessEndedError, StopAsyncIteration):
+                    await windows.__anext__()
+            assert await asyncio.wait_for(ninth, 20) == 1
+
+    async def _first(store: aio.Store) -> int:
+        return len([window async for window in store.windows("a")])
+    with warnings.catch_warnings():
+        warnings.simplefilter("ignore")
+        asyncio.run(all_of_it())
+
+
+def test_a_held_reading_that_is_called_off_or_asks_for_another(store: Store) -> None:
+    store.create("a", "exp 2 1 1")
+    with store.reordered("a", 10) as buffer:
+        first, second = buffer.append(1, 1), buffer.append(2, 2)
+        assert not first.cancel()
+        second.add_done_callback(lambda done: found.append(buffer.append(60, 6)))
+        found: list[object] = []
+        buffer.append(50, 5)
+        assert first.result(0) and second.result(0) and len(found) == 1
+    assert store.query("a", "count") == 4

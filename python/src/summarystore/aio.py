@@ -23,7 +23,8 @@ from .certificate import Certificate
 from .codec import Codec, Plain, Translator
 from .connection import RENEW_AT, Connection, connect
 from .description import Description, changed, description_of
-from .errors import CursorBusyError, LateError, RefusedError, ReopenedWarning, StoreClosedError
+from .errors import (CursorBusyError, LateError, RefusedError, ReopenedWarning, StoreClosedError,
+                     SummaryStoreError)
 from .interval import Interval, Presence
 from .names import Names
 from .pipeline import Appends, Commands, Request
@@ -41,7 +42,7 @@ class Store:
 
     def __init__(self, path: str | os.PathLike[str], *, program: str | os.PathLike[str] | None = None,
                  translator: Translator | None = None, renew_at: int = RENEW_AT) -> None:
-        self.path = os.path.abspath(path)
+        self.path = os.path.abspath(os.fsdecode(path))
         self._program = programs.find_program(program)
         self._translator: Translator = Plain() if translator is None else translator
         self._renew_at = renew_at
@@ -211,6 +212,8 @@ class Store:
     def describe(self, name: str, *, unit: str | None = None, labels: Mapping[str, str] | None = None,
                  rounding: str | None = None) -> None:
         """Changes what is given of a described stream. Its scale and its times can't be changed."""
+        if self._connection is None:
+            raise StoreClosedError(f"{self.path} is closed, or its program has ended")
         known = self.description(name) or Description()
         self._translator.describe(name, changed(known, unit, labels, rounding))
 
@@ -230,7 +233,10 @@ class Store:
 
     async def _tell_newest(self, codec: Codec, late: Sequence[LateError]) -> None:
         if late:
-            found = await self._do(calls.last_numbers(codec))
+            try:
+                found = await self._do(calls.last_numbers(codec))
+            except SummaryStoreError:
+                return      # what became of the rows is told, and the newest time isn't
             for error in late:
                 error.newest = codec.time_back(found[0]) if found else None
 
@@ -332,8 +338,7 @@ class Store:
         Eight iterators may be open. The task that has all eight gets CursorBusyError, and others wait.
         """
         codec = self._translator.codec(name)
-        connection = await self._up()
-        session = await self._take_cursor()
+        session, connection = await self._take_cursor()
         try:
             await self._do(calls.cursor_open(codec), session, connection)
             rows: Sequence[Window] = ()
@@ -346,24 +351,32 @@ class Store:
         finally:
             await self._give_cursor(session, connection)
 
-    async def _take_cursor(self) -> int:
+    async def _take_cursor(self) -> tuple[int, Connection]:
+        """A session for a cursor, and the process that is up: one that has ended has no cursors."""
         owner = asyncio.current_task()
-        async with self._changed:
-            while (session := self._sessions.take_cursor(owner)) is None:
+        while True:
+            connection = await self._up()
+            async with self._changed:
+                if connection is not self._connection:
+                    continue
+                session = self._sessions.take_cursor(owner)
+                if session is not None:
+                    return session, connection
                 if self._sessions.holds_all(owner):
                     raise CursorBusyError("BUSY", "windows", "this task has eight iterators open")
                 await self._changed.wait()
-            return session
 
     async def _give_cursor(self, session: int, connection: Connection) -> None:
         async with self._changed:
-            if connection is self._connection:
-                try:
+            try:
+                if connection is self._connection:
                     await self._do(calls.cursor_close(), session, connection)
-                except RefusedError:
-                    pass    # it was never opened
-                self._sessions.give_cursor(session)
-            self._changed.notify_all()
+            except RefusedError:
+                pass    # it was never opened
+            finally:    # also where the task is cancelled: the line is on its way
+                if connection is self._connection:
+                    self._sessions.give_cursor(session)
+                self._changed.notify_all()
 
     async def check(self) -> Soundness:
         """Looks the store over. The process is ended for that, and started again."""

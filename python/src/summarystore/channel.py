@@ -30,7 +30,7 @@ class Channel:
 
     def __init__(self, path: str | os.PathLike[str], *, program: str | os.PathLike[str] | None = None,
                  translator: Translator | None = None, renew_at: int = RENEW_AT) -> None:
-        self.path = os.path.abspath(path)
+        self.path = os.path.abspath(os.fsdecode(path))
         self._program = programs.find_program(program)
         self._translator: Translator = Plain() if translator is None else translator
         self._renew_at = renew_at
@@ -62,6 +62,12 @@ class Channel:
             warnings.warn(ReopenedWarning(f"{self.path}: the program had ended; opened again"),
                           stacklevel=6)
         return self._connection
+
+    def _ready(self) -> None:
+        """Before the names are written: the process is up, so the store is locked and they are known."""
+        self._must_be_mine()
+        with self._changed:
+            self._up()
 
     def _must_be_mine(self) -> None:
         if self._closed or self._owner != os.getpid():
@@ -218,6 +224,7 @@ class Channel:
                     raise CursorBusyError("BUSY", "windows", "this thread has eight iterators open")
                 self._changed.wait(LOOK_AGAIN)      # an iterator that is let go tells nobody
                 self._close_let_go()
+                connection = self._up()     # the cursors of one that has ended are gone
         try:
             self._do_in(calls.cursor_open(codec), session, connection)
         except BaseException:
@@ -242,9 +249,13 @@ class Channel:
         self._let_go.append((session, connection))
 
     def _close_let_go(self) -> None:
-        while self._let_go:
+        while True:
+            try:
+                gone = self._let_go.popleft()
+            except IndexError:      # none is left, or another thread has taken it
+                return
             with suppress(ProcessEndedError):    # then the cursor has ended too, and the call is told
-                self.close_cursor(*self._let_go.popleft())
+                self.close_cursor(*gone)
 
     def _give_cursor(self, session: int, connection: Connection) -> None:
         with self._changed:

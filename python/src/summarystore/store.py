@@ -18,7 +18,7 @@ from .channel import LOOK_AGAIN, Channel
 from .codec import Codec
 from .cursor import Windows
 from .description import Description, changed, description_of
-from .errors import CursorBusyError, LateError, NoValueError, RefusedError
+from .errors import CursorBusyError, LateError, NoValueError, RefusedError, SummaryStoreError
 from .interval import Interval, Presence
 from .late import MOST_HELD
 from .pipeline import Appends
@@ -60,6 +60,7 @@ class Store(Channel):
         """Makes a stream with a target such as `power 1 1 4 1` or ("exp", 2, 60, 1)."""
         description = description_of(scale=scale, time=time, since=since, unit=unit, labels=labels,
                                      rounding=rounding)
+        self._ready()
         codec = self._translator.declare(name, description)
         try:
             made = self._do(calls.create(codec, target, within))
@@ -76,6 +77,7 @@ class Store(Channel):
     def describe(self, name: str, *, unit: str | None = None, labels: Mapping[str, str] | None = None,
                  rounding: str | None = None) -> None:
         """Changes what is given of a described stream. Its scale and its times can't be changed."""
+        self._ready()
         known = self.description(name) or Description()
         self._translator.describe(name, changed(known, unit, labels, rounding))
 
@@ -99,7 +101,10 @@ class Store(Channel):
     def _tell_newest(self, codec: Codec, late: Sequence[LateError]) -> None:
         """Puts the newest time of a stream into refusals."""
         if late:
-            found = self._do(calls.last_numbers(codec))
+            try:
+                found = self._do(calls.last_numbers(codec))
+            except SummaryStoreError:
+                return      # what became of the rows is told, and the newest time isn't
             for error in late:
                 error.newest = codec.time_back(found[0]) if found else None
 
