@@ -6,6 +6,7 @@ import argparse
 import csv
 import datetime
 import json
+import os
 import sys
 from collections.abc import Iterable, Iterator, Sequence
 from decimal import Decimal
@@ -68,10 +69,16 @@ def write_json_lines(out: TextIO, heads: Sequence[str], rows: Iterable[Cells]) -
 def write_parquet(path: str, heads: Sequence[str], rows: Iterable[Cells]) -> int:
     """Parquet, by pandas. Numbers are text where 64 bits don't hold them."""
     import pandas
-    frame = pandas.DataFrame(list(rows), columns=list(heads))
+    # As they are: pandas would make floats of whole numbers where some are missing.
+    frame = pandas.DataFrame(list(rows), columns=list(heads), dtype=object)
     for head in heads:
-        if frame[head].dtype == object and head not in ("start", "end"):
-            frame[head] = frame[head].map(text_of)
+        found = [cell for cell in frame[head] if cell is not None]
+        if head in ("start", "end") or all(isinstance(cell, bool) for cell in found):
+            frame[head] = frame[head].infer_objects()
+        elif all(isinstance(cell, int) and abs(cell) < 2**63 for cell in found):
+            frame[head] = frame[head].astype("Int64")
+        else:
+            frame[head] = [None if cell is None else text_of(cell) for cell in frame[head]]
     try:
         frame.to_parquet(path)
     except ImportError as error:
@@ -109,6 +116,8 @@ def main(given: Sequence[str] | None = None) -> int:
     if words.format == "parquet" and not words.output:
         parser.error("Parquet goes to a file: --output")
     try:
+        if not os.path.exists(words.store):
+            raise SummaryStoreError(f"no store {words.store}")
         with Store(words.store, program=words.program, translator=Names(words.store, words.zone)) as store:
             return export(store, words)
     except BrokenPipeError:
