@@ -25,6 +25,7 @@ from .tables import Record, Table
 from .timeforms import TimeForm
 
 BATCH = 5000
+MOST_WAITING = 100_000
 SHOWN = 20
 DEFAULT_TARGET = "power 1 1 4 1"
 
@@ -43,6 +44,7 @@ class Into:
     value_of: Callable[[object], int]
     before_that: int = -1
     newest: int = -1
+    span: tuple[int, int] = (wire.LAST_TIME, 0)
     buffer: ReorderBuffer[tuple[int, int, int]] | None = None
     waiting: list[tuple[int, str, str]] = field(default_factory=list)
     stored: int = 0
@@ -68,11 +70,17 @@ class Import:
         self._streams: dict[tuple[int, str], Into] = {}
         self._standing: set[str] = set()
         self._shown = 0
+        self._waiting = 0
         self._time_column = _column(table, words.time, 0)
         self._name_column = None if words.stream is None else _column(table, words.stream, None)
         self._values = self._value_columns()
         self._form = self._time_form()
         self._lateness = words.lateness
+        columns = self._values if self._name_column is None else ()
+        names = [self._name(column, "") for column in columns]
+        if len(names) != len(set(names)):
+            both = max(names, key=names.count)
+            raise tables.SourceError(f"two columns are the stream {both}: give --value")
 
     # ---- what is guessed ------------------------------------------------------------------
 
@@ -81,6 +89,7 @@ class Import:
         if words.value:
             return [_column(table, value, None) for value in words.value]
         width = max((len(cells) for _, cells in table.sample), default=0)
+        width = width if table.width is None else table.width
         found = [at for at in range(width) if at not in (self._time_column, self._name_column)
                  and any(tables.is_number(_cell(record, at), table.decimal_comma)
                          for record in table.sample)]
@@ -113,6 +122,10 @@ class Import:
         for column in self._values if self._name_column is None else ():
             lines.append(f"{self._name(column, '')}: from column {column + 1}, scale {self._scale(column)}, "
                          f"time {self._resolution()}, target {self._words.target}")
+        used = {self._time_column, self._name_column, *self._values}
+        others = [head or f"column {at + 1}" for at, head in enumerate(self._table.heads) if at not in used]
+        if others:
+            lines.append(f"not read: {', '.join(others)}; --stream takes a column that names streams")
         return lines
 
     def _resolution(self) -> str:
@@ -146,7 +159,18 @@ class Import:
                 self._flush(into)
         for into in self._streams.values():
             print(into.said(self._words.dry_run))
-        return not any(into.refused for into in self._streams.values())
+        missing = [into for into in self._streams.values() if into.before and not self._is_there(into)]
+        return not missing and not any(into.refused for into in self._streams.values())
+
+    def _is_there(self, into: Into) -> bool:
+        """Whether what is taken to be there can be: the stream may have newer readings of elsewhere."""
+        if self._store is None:
+            return True
+        most = self._store.codec_query(into.codec, "count", *into.span).hi
+        if most < into.before:
+            print(f"{into.name}: {into.before} rows aren't later than its last time, and at most {most} of "
+                  "them are there: the others came too late", file=sys.stderr)
+        return most >= into.before
 
     def _take(self, chunk: Sequence[Record]) -> None:
         """Takes some lines: of each column, or of each stream that a cell names, the rows."""
@@ -160,6 +184,9 @@ class Import:
 
     def _take_column(self, into: Into, chunk: Sequence[Record], column: int) -> None:
         """Takes the rows of one stream. Empty cells are no readings."""
+        chunk = self._not_wider(into, chunk)
+        if not chunk:
+            return
         time, most = self._time_column, max(self._time_column, column)
         if min(len(cells) for _, cells in chunk) > most:
             rows = [(line, cells[time].strip(), cells[column].strip()) for line, cells in chunk]
@@ -168,8 +195,25 @@ class Import:
         kept = [row for row in rows if row[2]]
         into.empty += len(rows) - len(kept)
         into.waiting += kept
+        self._waiting += len(kept)
         if len(into.waiting) >= BATCH:
             self._send(into)
+        elif self._waiting >= MOST_WAITING:     # of many streams, each of which has few
+            for each in self._streams.values():
+                self._send(each)
+
+    def _not_wider(self, into: Into, chunk: Sequence[Record]) -> Sequence[Record]:
+        """Lines without those that have more cells than there are heads: of 21,5 the 21 is no reading."""
+        width = self._table.width
+        if width is None or max(len(cells) for _, cells in chunk) <= width:
+            return chunk
+        kept = []
+        for line, cells in chunk:
+            if any(cell.strip() for cell in cells[width:]):
+                self._refuse(into, line, tables.SourceError(f"{len(cells)} cells, and {width} heads"))
+            else:
+                kept.append((line, cells))
+        return kept
 
     def _stream(self, column: int, names: str) -> Into:
         return self._streams.get((column, names)) or self._opened(column, names)
@@ -207,6 +251,7 @@ class Import:
     def _send(self, into: Into) -> None:
         """Makes numbers of the rows that wait, and sends those that aren't there."""
         waiting, into.waiting = into.waiting, []
+        self._waiting -= len(waiting)
         comma, time_of, value_of = self._table.decimal_comma, into.time_of, into.value_of
         rows: list[tuple[int, int, int]] = []
         for line, time, text in waiting:
@@ -227,6 +272,9 @@ class Import:
 
     def _store_rows(self, into: Into, rows: Sequence[tuple[int, int, int]]) -> None:
         kept = [row for row in rows if row[0] > into.before_that]
+        if len(kept) < len(rows):
+            times = [row[0] for row in rows if row[0] <= into.before_that]
+            into.span = min(into.span[0], *times), max(into.span[1], *times)
         new = [(time, value) for time, value, _ in kept]
         into.before += len(rows) - len(new)
         if not new:

@@ -179,6 +179,10 @@ class Store(Channel):
         """`count`, `sum`, `min`, `max` or `mean` of the values from t1 to t2, both included."""
         return self._do(calls.query(self._translator.codec(name), kind, t1, t2))
 
+    def codec_query(self, codec: Codec, kind: str, first: int, last: int) -> Interval:
+        """`query` for whoever has made the codec of the stream, by whole numbers."""
+        return self._do(calls.query(codec, kind, first, last))
+
     def mean(self, name: str, t1: object | None = None, t2: object | None = None) -> Interval:
         """The mean of the values from t1 to t2."""
         return self._do(calls.mean(self._translator.codec(name), t1, t2))

@@ -4,6 +4,7 @@ from __future__ import annotations
 
 import csv
 import io
+import re
 import sqlite3
 import subprocess
 import sys
@@ -18,6 +19,7 @@ from .decimals import NUMBER
 from .errors import SummaryStoreError
 
 SAMPLE = 1000
+THOUSANDS = re.compile(r"[+-]?[1-9][0-9]{0,2},[0-9]{3}")
 DELIMITERS = (",", ";", "\t", "|", " ")
 
 
@@ -40,6 +42,8 @@ class Table:
     decimal_comma: bool = False
     size: int | None = None
     read: Callable[[], int] | None = None
+    width: int | None = None
+    """The most cells of a line, where it is known. What stands behind them isn't cut off in silence."""
 
 
 def is_number(text: str, comma: bool = False) -> bool:
@@ -70,9 +74,15 @@ def csv_table(path: str, delimiter: str | None, decimal: str | None) -> Table:
     except UnicodeDecodeError as error:
         raise SourceError(f"{path} isn't UTF-8 text: {error}") from None
     delimiter = delimiter or guess_delimiter(head)
-    reader = csv.reader(chain(head, text), delimiter=delimiter)
-    records = ((reader.line_num, cells) for cells in reader if cells)
-    table = _table((), records, "")
+    # Strict, so that a quote without its second one is told, and doesn't take in the rest of the file.
+    reader = csv.reader(chain(head, text), delimiter=delimiter, strict=True)
+
+    def lines() -> Iterator[Record]:
+        try:
+            yield from ((reader.line_num, cells) for cells in reader if cells)
+        except csv.Error as error:
+            raise SourceError(f"{path}, line {reader.line_num}: {error}; quotes come in pairs") from None
+    table = _table((), lines(), "")
     comma = decimal == "," if decimal else delimiter != "," and _has_commas(table.sample)
     heads: Sequence[str] = ()
     if table.sample and not any(is_number(cell, comma) for cell in table.sample[0][1]):
@@ -80,7 +90,7 @@ def csv_table(path: str, delimiter: str | None, decimal: str | None) -> Table:
         table.sample = table.sample[1:]
     shown = f"delimiter {delimiter!r}, decimal {'comma' if comma else 'point'}"
     tell = raw.tell if size is not None else None
-    return Table(heads, table.sample, table.records, shown, comma, size, tell)
+    return Table(heads, table.sample, table.records, shown, comma, size, tell, len(heads) or None)
 
 
 def guess_delimiter(lines: Sequence[str]) -> str:
@@ -97,8 +107,13 @@ def guess_delimiter(lines: Sequence[str]) -> str:
 def _has_commas(sample: Sequence[Record]) -> bool:
     """Whether numbers with a decimal comma stand there, and none with a point."""
     cells = [cell.strip() for _, cells in sample for cell in cells]
-    with_comma = any("," in cell and is_number(cell, True) for cell in cells)
-    return with_comma and not any("." in cell and is_number(cell) for cell in cells)
+    with_comma = [cell for cell in cells if "," in cell and is_number(cell, True)]
+    if any("." in cell and is_number(cell) for cell in cells):
+        return False
+    if with_comma and all(THOUSANDS.fullmatch(cell) for cell in with_comma):
+        raise SourceError(f"numbers such as {with_comma[0]!r}: the comma may be one of decimals or of "
+                          "thousands; give --decimal")
+    return bool(with_comma)
 
 
 # ---- others -----------------------------------------------------------------------------

@@ -14,8 +14,9 @@ from .errors import TimeError
 from .names import DescribedCodec
 
 ISO, WHOLE = "ISO 8601", "whole numbers"
-DATES = ("%d.%m.%Y", "%d/%m/%Y", "%m/%d/%Y", "%Y/%m/%d", "%d-%m-%Y", "%d.%m.%y")
+DATES = ("%d.%m.%Y", "%d/%m/%Y", "%m/%d/%Y", "%Y/%m/%d", "%d-%m-%Y", "%m-%d-%Y", "%d.%m.%y")
 CLOCKS = (" %H:%M:%S", " %H:%M", " %H:%M:%S.%f", "")
+COMPACT = {8: "%Y%m%d", 12: "%Y%m%d%H%M", 14: "%Y%m%d%H%M%S"}
 FEW = 20
 FRACTION = re.compile(r":[0-9]{2}[.,]([0-9]+)")
 # Counts since 1970 by how many digits they have: seconds until 5138, and so on.
@@ -91,6 +92,9 @@ def guess(texts: Sequence[str], zone: datetime.tzinfo | None) -> TimeForm:
     """The form of these times. Where two forms fit, or none, it has to be told."""
     texts = [text for text in texts if text]
     if texts and all(COUNT.fullmatch(text) for text in texts):
+        if all(_is_compact(text) for text in texts):
+            raise TimeError(f"times such as {texts[0]!r}: digits of a date and a count both fit; give "
+                            "--time-format, as %Y%m%d, or --time-unit")
         return TimeForm(WHOLE, _unit(texts))
     few = texts[:FEW]
     forms = [form for form in (ISO, *(date + clock for date in DATES for clock in CLOCKS))
@@ -115,6 +119,17 @@ def of_form(form: str, texts: Sequence[str], zone: datetime.tzinfo | None) -> Ti
     places = max((len(found[1]) for text in texts if (found := FRACTION.search(text))), default=0)
     resolution = "s" if not places else "ms" if places <= 3 else "us" if places <= 6 else "ns"
     return TimeForm(form, resolution, since, zone)
+
+
+def _is_compact(text: str) -> bool:
+    """Whether digits may be those of a date, or of a date and a clock, one after the other."""
+    form = COMPACT.get(len(text))
+    if form is None:
+        return False
+    try:
+        return 1850 <= datetime.datetime.strptime(text, form).year <= 2150
+    except ValueError:
+        return False
 
 
 def _unit(texts: Sequence[str]) -> str:
