@@ -18,13 +18,15 @@ from pathlib import Path
 import pytest
 
 import summarystore
-from summarystore import (LineTooLongError, NamesFileError, NotANumberError, NumberError, ProcessEndedError,
-                          RowsRefusedError, StoreClosedError, TimeError)
+from summarystore import (CertificateError, Interval, LineTooLongError, NamesFileError, NotANumberError,
+                          NumberError, ProcessEndedError, RowsRefusedError, StoreClosedError, TimeError)
 from summarystore import aio
+from summarystore.certificate import Bounds, Certificate, Cut, Side
 from summarystore.clock import Clock, span_of, zone_of
 from summarystore.decimals import exact
 from summarystore.description import EPOCH
 from summarystore.pipeline import Commands, Pipeline
+from summarystore.program import Process
 from summarystore.store import Store
 from summarystore.wire import whole
 
@@ -244,3 +246,40 @@ def test_a_held_reading_that_is_called_off_or_asks_for_another(store: Store) -> 
         buffer.append(50, 5)
         assert first.result(0) and second.result(0) and len(found) == 1
     assert store.query("a", "count") == 4
+
+
+def test_intervals_as_keys_and_what_two_of_them_hold() -> None:
+    assert {Interval(5), Interval(5, 6)} >= {5} and hash(Interval("0.5")) == hash(Interval("0.50"))
+    maybe = Interval(1, 2, maybe_none=True), Interval(5, 6, maybe_none=True)
+    assert (maybe[0] & maybe[1]).none
+    with pytest.raises(ValueError):
+        _ = maybe[0] & Interval(5, 6)
+    numpy = pytest.importorskip("numpy")
+    with pytest.raises(TypeError):
+        Interval(numpy.float32(0.1))
+
+
+def test_an_end_whose_wait_is_interrupted(plain: Store, monkeypatch: pytest.MonkeyPatch) -> None:
+    plain.create("a", "exp 2 1 1")
+
+    def interrupted(process: Process, said: str) -> tuple[int, str]:
+        raise KeyboardInterrupt
+    assert plain.pid is not None
+    os.kill(plain.pid, signal.SIGKILL)
+    with monkeypatch.context() as patch, pytest.raises(KeyboardInterrupt):
+        patch.setattr(Process, "ended", interrupted)
+        plain.append("a", 1, 1)
+    with pytest.warns(summarystore.ReopenedWarning):
+        plain.append("a", 2, 2)
+
+
+def test_a_certificate_whose_landmarks_are_told_backwards() -> None:
+    window = Bounds(1, 10, 10, 100, 10, 10, 10, 100)
+    cuts = (Cut(1, 10, Side(9, ((10, 9),)), Side(1, ((10, 1),))),)
+
+    def told(*landmarks: tuple[int, int]) -> Certificate:
+        return Certificate("count", "hi", 10, 50, 9, 0, cuts, 9, (window,), landmarks, 0, len(landmarks))
+    assert told((60, 70)).check() == 9
+    for wrong in ([(99, 11)], [(80, 90), (60, 70)]):
+        with pytest.raises(CertificateError):
+            told(*wrong).check()

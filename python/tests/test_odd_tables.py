@@ -36,7 +36,7 @@ def test_commas_that_are_surely_decimal(program: str, folder: Path) -> None:
 
 
 def test_lines_with_more_cells_than_heads(program: str, folder: Path,
-                                           capsys: pytest.CaptureFixture[str]) -> None:
+                                          capsys: pytest.CaptureFixture[str]) -> None:
     text = "t,v\n2026-01-01T00:00Z,1\n2026-01-02T00:00Z,21,5\n2026-01-03T00:00Z,3,\n"
     assert run(folder, text) == 1
     assert "line 3: v: 3 cells, and 2 heads" in capsys.readouterr().err
@@ -45,7 +45,7 @@ def test_lines_with_more_cells_than_heads(program: str, folder: Path,
 
 
 def test_a_quote_without_its_second_one(program: str, folder: Path,
-                                         capsys: pytest.CaptureFixture[str]) -> None:
+                                        capsys: pytest.CaptureFixture[str]) -> None:
     text = "t,v\n2026-01-01T00:00Z,1\n2026-01-02T00:00Z,\"21\n" + "2026-01-03T00:00Z,3\n" * 20
     assert run(folder, text) == 3
     assert "quotes come in pairs" in capsys.readouterr().err

@@ -106,6 +106,8 @@ class Certificate:
         if len(self.landmarks) != self.landmarks_listed:
             raise CertificateError(f"the stream has {self.landmarks_listed} landmarks, and the times of "
                                    f"{len(self.landmarks)} were given: `certify(.., landmarks=..)`")
+        times = [time for span in self.landmarks for time in span]
+        _need(times == sorted(times), "the landmarks are told out of order, or one ends before it begins")
         known = self.marked
         known += sum(window.count if self.kind == "count" else window.sum
                      for window in self.windows if self._whole(window))

@@ -63,8 +63,10 @@ class Connection:
         if self._ended:
             return self._status
         self._ended = True
-        self._status, self._text = self.process.ended(self.pipeline.said.decode("utf-8", "replace"))
-        self.pipeline.ended(self.failure)
+        try:
+            self._status, self._text = self.process.ended(self.pipeline.said.decode("utf-8", "replace"))
+        finally:    # also where the wait for it is interrupted: who waits is told
+            self.pipeline.ended(self.failure)
         return self._status
 
     def failure(self) -> ProcessEndedError:

@@ -18,7 +18,7 @@ _UP = Context(prec=DIGITS, rounding=ROUND_CEILING, Emin=MIN_EMIN, Emax=MAX_EMAX)
 
 def number(value: object) -> Number:
     """An exact number: an int, a Decimal, or the text of a decimal. A float is refused."""
-    if isinstance(value, float):
+    if isinstance(value, float) or getattr(getattr(value, "dtype", None), "kind", "") == "f":
         raise TypeError(f"{value!r} isn't exact: give an int, a Decimal or the text of one")
     return exact(value)
 
@@ -120,8 +120,10 @@ class Interval:
             if (self.none or self._maybe_none) and (other.none or other._maybe_none):
                 return Interval.nothing()
             raise ValueError(f"{self!r} and {other!r} can't hold the same")
-        return Interval(max(self.lo, other.lo), min(self.hi, other.hi),
-                        maybe_none=self._maybe_none and other._maybe_none)
+        lo, hi = max(self.lo, other.lo), min(self.hi, other.hi)
+        if lo > hi and self._maybe_none and other._maybe_none:
+            return Interval.nothing()
+        return Interval(lo, hi, maybe_none=self._maybe_none and other._maybe_none)
 
     # -- arithmetic: the result holds what comes of any truths that the operands hold
 
@@ -197,6 +199,8 @@ class Interval:
         return (self._lo, self._hi, self._maybe_none) == (that._lo, that._hi, that._maybe_none)
 
     def __hash__(self) -> int:
+        if self.exact:      # equal to its number, so found by it
+            return hash(self._lo)
         return hash((self._lo, self._hi, self._maybe_none))
 
     def __reduce__(self) -> tuple[object, ...]:
