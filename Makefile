@@ -3,7 +3,7 @@ PROGRAM = crates/summarystore/out/summarystore
 BENCH = crates/calls_bench/out/calls_bench
 PREFIX = /usr/local
 
-.PHONY: build demo test faults install bench help
+.PHONY: build demo test faults python install bench help
 
 build: ## proves and builds the program
 	@tools/build summarystore --version
@@ -26,6 +26,10 @@ faults: ## tries the program that was built last on files while something goes w
 	@faults/damage $(PROGRAM) 10000
 	@faults/memory $(PROGRAM)
 
+python: ## tries the Python package over the program that was built last: python/README.md
+	@test -x $(PROGRAM) || $(MAKE) build
+	@.ci/python $(PROGRAM)
+
 install: ## installs the program that was built last, and its man page: make install PREFIX=/usr/local
 	@test -x $(PROGRAM) || $(MAKE) build
 	install -D -m 755 $(PROGRAM) $(DESTDIR)$(PREFIX)/bin/summarystore
@@ -39,6 +43,7 @@ bench: ## times the programs that were built last: bench/README.md
 	@bench/drops $(PROGRAM)
 	@bench/queries $(PROGRAM)
 	@bench/presence $(PROGRAM)
+	@bench/python $(PROGRAM)
 	@bench/commits $(BENCH)
 	@bench/records $(BENCH)
 	@bench/targets $(BENCH)
