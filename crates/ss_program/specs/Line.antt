@@ -11,19 +11,24 @@ use Rattle.ss_certify.specs.Told.{told}
 use Rattle.ss_certify.specs.declared.evidence.Evidence.{Evidence}
 use Rattle.ss_command.specs.Grammar.{meaning}
 use Rattle.ss_command.specs.declared.command.Command.{Command}
-use Rattle.ss_command.specs.declared.command.Command.TheVariants.{Do, Ask, Certify, Series as AskRows, Windows, List as ListAll}
+use Rattle.ss_command.specs.declared.command.Command.TheVariants.{Do, Ask, Certify, Series as AskRows, Last, Values, Windows, List as ListAll}
+use Rattle.ss_landmarks.specs.Landmark.{LandmarkValue}
+use Rattle.ss_landmarks.specs.ValuesIn.{values_between}
 use Rattle.ss_model.specs.History.{Happened, added}
 use Rattle.ss_model.specs.Answers.{outcome_of, refuses_query}
+use Rattle.ss_model.specs.Newest.{newest_in, refuses_values}
 use Rattle.ss_model.specs.Refusals.{refuses, refuses_reading}
 use Rattle.ss_model.specs.Series.{refuses_series}
 use Rattle.ss_model.specs.Shown.{placed_of, row_of}
 use Rattle.ss_model.specs.State.{Stream, state, stream_named}
 use Rattle.ss_model.specs.Steps.{ack_of}
+use Rattle.ss_model.specs.declared.newest.Newest.{Newest}
 use Rattle.ss_model.specs.declared.outcome.Outcome.{Outcome}
 use Rattle.ss_report.specs.Text.{reply_line}
 use Rattle.ss_program.specs.Said.{said_line}
 use Rattle.ss_report.specs.declared.reply.Reply.{Reply}
 use Rattle.ss_report.specs.declared.reply.Reply.TheVariants.{Done, Answered, Refused, SeriesHead, Row, WindowsHead, Window, ListHead, Stream as StreamRow}
+use Rattle.ss_report.specs.declared.reply.Reply.TheVariants.{Last as LastLine, ValuesHead, Value as ValueRow}
 
 -- a history: the events that were accepted, oldest first
 abbrev pub History : Type 0
@@ -86,6 +91,21 @@ abbrev pub windows_shown : Option Stream → List Reply
 windows_shown None = []
 windows_shown (Some s) = WindowsHead (length s.windows) ∷ window_rows s
 
+-- what is told of the newest value; nothing of a stream that doesn't stand
+abbrev pub newest_replies : Option Newest → List Reply
+newest_replies None = []
+newest_replies (Some told) = LastLine told ∷ []
+
+-- the rows of values of landmarks, oldest first
+abbrev pub value_rows : List LandmarkValue → List Reply
+value_rows values = map (λ (value : LandmarkValue). ValueRow value.t value.v) values
+
+-- a stream's values of landmarks with times in from..=to, with their head; nothing of one that doesn't stand
+abbrev pub values_shown : ℕ → ℕ → Option Stream → List Reply
+values_shown from to None = []
+values_shown from to (Some s) =
+    let values = values_between s.landmarks from to in ValuesHead (length values) ∷ value_rows values
+
 -- the rows of all streams, in order of creation
 abbrev pub stream_rows : List Stream → List Reply
 stream_rows streams = map (λ s. StreamRow (row_of s)) streams
@@ -101,6 +121,11 @@ command_brings history (AskRows series) =
     unless_refused (refuses_series (state history) series) (only_replies (SeriesHead (row_count series) ∷ series_rows (state history) series))
 command_brings history (Windows name) =
     unless_refused (refuses_reading (state history) name) (only_replies (windows_shown (stream_named name (state history))))
+command_brings history (Last name) =
+    unless_refused (refuses_reading (state history) name) (only_replies (newest_replies (newest_in (state history) name)))
+command_brings history (Values name from to) =
+    unless_refused (refuses_values (state history) name from to)
+    (only_replies (values_shown from to (stream_named name (state history))))
 command_brings history ListAll = only_replies (ListHead (length (state history)) ∷ stream_rows (state history))
 
 -- what a line brings that means this

@@ -20,6 +20,8 @@ IsSingle (commands.Do event) = ⊤
 IsSingle (commands.Ask query) = ⊤
 IsSingle (commands.Certify query end) = ⊥
 IsSingle (commands.Series series) = ⊥
+IsSingle (commands.Last name) = ⊥
+IsSingle (commands.Values name from to) = ⊥
 IsSingle (commands.Windows name) = ⊥
 IsSingle commands.List = ⊥
 

@@ -1,7 +1,8 @@
 // One line: what it says is done, and what it brings is replied.
-ghost use Rattle.std.specs.Prelude.{◌≡◌, ◌≤◌, [], ◌∷◌, ℕ, List, flat_map, length, Some, IsSome, IfErr, IfSome, OnOk};
+ghost use Rattle.std.specs.Prelude.{◌≡◌, ◌+◌, ◌≤◌, [], ◌∷◌, ℕ, List, drop, flat_map, length, take, Some, IsSome, IfErr, IfSome, OnOk};
 ghost use Rattle.ss_catalog.specs.Events.{IsInTime};
 ghost use Rattle.ss_command.specs.Printed.{IsCommandInTime};
+ghost use Rattle.ss_landmarks.specs.Landmark.{all_values};
 ghost use Rattle.ss_line.specs.Line.{StandsIn};
 ghost use Rattle.ss_model.specs.State.{Stream, state, stream_numbered};
 ghost use Rattle.ss_outside.specs.Step.{Step};
@@ -12,11 +13,11 @@ ghost use Rattle.ss_store.specs.Recover.{Stands};
 ghost use Rattle.ss_program.specs.Answer.{AppliesEvent, AsksQuery, IsOpen, IsRowsText, IsServing, IsTextBrought, ReadsRow, SendsRows, Shows, TakesLine};
 ghost use Rattle.ss_program.specs.Answer.{at_sink};
 ghost use Rattle.ss_program.specs.Devices.{over};
-ghost use Rattle.ss_program.specs.Line.{History, command_brings, stream_rows, text_said, window_rows, IsSpeaker};
+ghost use Rattle.ss_program.specs.Line.{History, command_brings, stream_rows, text_said, value_rows, window_rows, IsSpeaker};
 ghost use Rattle.ss_program.specs.Sent.{Puts, Sends};
 ghost use Rattle.ss_program.specs.declared.status.Status.{Status};
 ghost use Rattle.ss_program.specs.Status.{disk_verdict, ended, IsApplyStop, IsDiskStop};
-ghost use Rattle.ss_command.specs.declared.command.Command.TheVariants.{Do, Ask, Windows, List as ListAll};
+ghost use Rattle.ss_command.specs.declared.command.Command.TheVariants.{Do, Ask, Last, Values, Windows, List as ListAll};
 
 use crate::certifying::show_certificate;
 use crate::said::said_text;
@@ -30,7 +31,7 @@ use ss_line::At;
 use ss_model::Placed;
 use ss_outside::{Disk, Failed, Sink};
 use ss_report::Reply;
-use ss_store::{ApplyError, AskError, Store};
+use ss_store::{ApplyError, AskError, Store, ValueRange};
 
 /// The status where a sink failed.
 pub fn at_sink(sent: Result<(), Failed>) -> Result<(), Status>
@@ -177,6 +178,86 @@ pub fn ask<D: Disk>(store: &mut Store, query: &Query, disk: &mut D) -> Result<Re
     }
 }
 
+/// Asks the store how far a stream has come, and answers the reply to it, by what the store shows.
+pub fn newest<D: Disk>(store: &mut Store, name: &Name, disk: &mut D) -> Result<Reply, Status>
+    requires serves { IsServing (D.seen disk.old) store.old }
+    ensures asks { Step (disk_verdict (ended result)) (D.seen disk.old) (D.seen disk.new)
+        (AsksQuery store.old.records (λ history. command_brings history (Last name.now)) result) }
+    ensures serves { OnOk result (IsServing (D.seen disk.new) store.new) }
+    ensures journal { OnOk result (store.new.records.journal ≡ store.old.records.journal) }
+    ensures status { IfErr result (IsDiskStop (D.seen disk.old).tells) }
+{
+    match store.newest(disk, name) {
+        Ok(newest) => Ok(Reply::Last(newest)),
+        Err(AskError::Refused(refusal)) => Ok(Reply::Refused(refusal)),
+        Err(AskError::Disk) => Err(Status::DiskFault),
+        Err(AskError::Changed { .. }) => Err(Status::RecordChanged),
+        Err(AskError::Stopped) => unreachable!(),
+    }
+}
+
+// Asks the store how far a stream has come, and replies what it answers.
+fn show_newest<D: Disk, K: Sink>(
+    speaker: Option<u8>,
+    store: &mut Store,
+    name: &Name,
+    disk: &mut D,
+    sink: &mut K,
+) -> Result<(), Status>
+    requires speaker { IsSpeaker speaker }
+    requires open { IsOpen (D.seen disk.old) store.old }
+    ensures { Shows (IsTextBrought speaker (Last name.now)) (over (D.seen disk.old) (K.held sink.old) (K.faults sink.old))
+        (over (D.seen disk.new) (K.held sink.new) (K.faults sink.new)) store.new result }
+{
+    let reply = newest(store, name, disk)?;
+    at_sink(send_reply(speaker, &reply, sink))
+}
+
+// Sends a row for each of some values of landmarks, oldest first.
+fn send_values<K: Sink>(
+    speaker: Option<u8>,
+    store: &Store,
+    range: ValueRange,
+    sink: &mut K,
+) -> Result<(), Failed>
+    requires speaker { IsSpeaker speaker }
+    requires stands { IsSome (part_numbered range.id.0 store.now.streams) }
+    requires within { IfSome (part_numbered range.id.0 store.now.streams) (λ part.
+        range.first + range.count ≤ length (all_values part.landmarks.landmarks)) }
+    ensures sends { IfSome (part_numbered range.id.0 store.now.streams) (λ part. SendsRows speaker (K.held sink.old) (K.held sink.new)
+        (value_rows (take range.count (drop range.first (all_values part.landmarks.landmarks)))) result) }
+    ensures counted { Counted (verdict result) (K.faults sink.old) (K.faults sink.new) }
+{
+    for place in 0..range.count {
+        let (at, value) = store.value(range.id, range.first + place);
+        send_reply(speaker, &Reply::Value { at, value }, sink)?;
+    }
+    Ok(())
+}
+
+// Shows the values of landmarks of a stream that have times in `from..=to`, if it stands.
+fn show_values<K: Sink>(
+    speaker: Option<u8>,
+    store: &Store,
+    name: &Name,
+    from: u64,
+    to: u64,
+    sink: &mut K,
+) -> Result<(), Failed>
+    requires speaker { IsSpeaker speaker }
+    ensures sends { (history : History) (content : List ℕ) → StoreIsIn store.now content → Stands history content →
+        Sends (K.held sink.old) (K.held sink.new) (text_said speaker (command_brings history (Values name.now from to))) result }
+    ensures counted { Counted (verdict result) (K.faults sink.old) (K.faults sink.new) }
+{
+    match store.values(name, from, to) {
+        Err(refusal) => send_reply(speaker, &Reply::Refused(refusal), sink),
+        Ok(range) => {
+            send_reply(speaker, &Reply::ValuesHead(range.count), sink)?;
+            send_values(speaker, store, range, sink)
+        }
+    }
+}
+
 // Asks the store, and replies what it answers.
 fn show_answer<D: Disk, K: Sink>(
     speaker: Option<u8>,
@@ -253,6 +334,10 @@ pub fn obey<D: Disk, K: Sink>(
             speaker, store, query, *end, disk, sink,
         ),
         Command::Series(series) => show_series(speaker, store, series, disk, sink),
+        Command::Last(name) => show_newest(speaker, store, name, disk, sink),
+        Command::Values { name, from, to } => at_sink(show_values(
+            speaker, store, name, *from, *to, sink,
+        )),
         Command::Windows(name) => show_windows(speaker, store, name, disk, sink),
         Command::List => at_sink(list(speaker, store, sink)),
     }

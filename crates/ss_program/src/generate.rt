@@ -96,9 +96,12 @@ fn reply_to<D: Disk>(store: &mut Store, command: &Command, disk: &mut D) -> Resu
     match command {
         Command::Do(event) => apply(store, event, disk),
         Command::Ask(query) => ask(store, query, disk),
-        Command::Certify { .. } | Command::Series(_) | Command::Windows(_) | Command::List => {
-            unreachable!()
-        }
+        Command::Certify { .. }
+        | Command::Series(_)
+        | Command::Last(_)
+        | Command::Values { .. }
+        | Command::Windows(_)
+        | Command::List => unreachable!(),
     }
 }
 

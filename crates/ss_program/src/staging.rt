@@ -4,7 +4,7 @@ ghost use Rattle.std.specs.Prelude.{◌≡◌, ◌≤◌, [], length, None, Some
 ghost use Rattle.std.specs.Option.{option_copied};
 ghost use Rattle.ss_catalog.specs.Events.{IsInTime};
 ghost use Rattle.ss_command.specs.Printed.{IsCommandInTime};
-ghost use Rattle.ss_command.specs.declared.command.Command.TheVariants.{Do, Ask};
+ghost use Rattle.ss_command.specs.declared.command.Command.TheVariants.{Do, Ask, Last};
 ghost use Rattle.ss_outside.specs.Step.{Step};
 ghost use Rattle.ss_outside.specs.Verdict.{Counted};
 ghost use Rattle.ss_report.specs.Text.{reply_line};
@@ -15,12 +15,12 @@ ghost use Rattle.ss_program.specs.Progress.{NoneWait};
 ghost use Rattle.ss_program.specs.Status.{disk_verdict, ended, sink_verdict, IsApplyStop, IsShowStop, IsStop};
 ghost use Rattle.ss_program.specs.Talk.{kept_turn};
 
-use crate::answer::{ask, at_sink, obey, send_reply};
+use crate::answer::{ask, at_sink, newest, obey, send_reply};
 use crate::replies::Replies;
 use crate::sending::send;
 use crate::status::Status;
 use ss_arguments::Form;
-use ss_catalog::{Event, Query, Refusal};
+use ss_catalog::{Event, Name, Query, Refusal};
 use ss_command::{Command, LONGEST_LINE, parse};
 use ss_outside::{Disk, Sink};
 use ss_report::Reply;
@@ -228,6 +228,27 @@ fn take_query<D: Disk, K: Sink>(
     say(store, waiting, &reply, disk, sink)
 }
 
+// Says how far a stream has come, and what is known of its newest value, by what the store shows.
+fn take_newest<D: Disk, K: Sink>(
+    store: &mut Store,
+    waiting: &mut Option<Replies>,
+    name: &Name,
+    disk: &mut D,
+    sink: &mut K,
+) -> Result<(), Status>
+    requires ready { IsReady (D.seen disk.old) store.old waiting.old }
+    requires room { HasRoom waiting.old }
+    ensures takes { Step (disk_verdict (ended result)) (D.seen disk.old) (D.seen disk.new)
+        (TakesBrought (λ history. command_brings history (Last name.now)) (amid store.old.records (owed_by waiting.old) (K.held sink.old))
+        (amid store.new.records (owed_by waiting.new) (K.held sink.new)) result) }
+    ensures ready { OnOk result (IsReady (D.seen disk.new) store.new waiting.new) }
+    ensures status { IfErr result (IsStop (D.seen disk.old).tells) }
+    ensures counted { Counted (sink_verdict (ended result)) (K.faults sink.old) (K.faults sink.new) }
+{
+    let reply = newest(store, name, disk)?;
+    say(store, waiting, &reply, disk, sink)
+}
+
 // Shows rows, which don't wait: before them all is brought to the disk and sent.
 fn show_rows<D: Disk, K: Sink>(
     store: &mut Store,
@@ -271,9 +292,12 @@ fn take_command<D: Disk, K: Sink>(
     match command {
         Command::Do(event) => take_event(store, waiting, event, disk, sink),
         Command::Ask(query) => take_query(store, waiting, query, disk, sink),
-        Command::Certify { .. } | Command::Series(_) | Command::Windows(_) | Command::List => {
-            show_rows(store, waiting, command, disk, sink)
-        }
+        Command::Last(name) => take_newest(store, waiting, name, disk, sink),
+        Command::Certify { .. }
+        | Command::Series(_)
+        | Command::Values { .. }
+        | Command::Windows(_)
+        | Command::List => show_rows(store, waiting, command, disk, sink),
     }
 }
 
