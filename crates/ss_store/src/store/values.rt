@@ -12,8 +12,9 @@ pub struct ValueRange {
 }
 
 impl Store {
-    ghost use Rattle.std.specs.Prelude.{◌≡◌, ◌<◌, length, slice_get, None, Some, IsSome, IfSome, IfOk, IfErr, OnOk};
+    ghost use Rattle.std.specs.Prelude.{◌≡◌, ◌+◌, ◌<◌, ◌≤◌, length, slice_get, None, Some, IsSome, IfSome, IfOk, IfErr, OnOk};
     ghost use Rattle.ss_landmarks.specs.Landmark.{all_values};
+    ghost use Rattle.ss_landmarks.specs.declared.landmarks.TheConstants.{MOST_LANDMARK_SLOTS};
     ghost use Rattle.ss_store.specs.Kept.{part_named, part_numbered};
     ghost use Rattle.ss_store.specs.Newest.{refuses_values_held};
     ghost use Rattle.ss_store.specs.Values.{AreValuesIn};
@@ -27,6 +28,7 @@ impl Store {
             AreValuesIn part.landmarks.landmarks from to range)) }
         ensures same { IfOk result (λ range. part_numbered range.id.0 self.now.streams ≡ part_named name.now self.now.streams) }
         ensures stands { IfOk result (λ range. IsSome (part_numbered range.id.0 self.now.streams)) }
+        ensures few { IfOk result (λ range. range.first + range.count ≤ MOST_LANDMARK_SLOTS) }
     {
         let Some(id) = self.find(name) else {
             return Err(Refusal::Unknown);
@@ -34,7 +36,9 @@ impl Store {
         if to < from {
             return Err(Refusal::Range);
         }
-        let (first, count) = self.part(id).landmarks.places_in(from, to);
+        let landmarks = &self.part(id).landmarks;
+        let _values = landmarks.values();
+        let (first, count) = landmarks.places_in(from, to);
         Ok(ValueRange { id, first, count })
     }
 
