@@ -43,11 +43,12 @@ use Rattle.ss_command.specs.Grammar.{meaning}
 use Rattle.ss_command.specs.LineState.{unless_long}
 use Rattle.ss_command.specs.declared.TheConstants.{LONGEST_LINE}
 use Rattle.ss_command.specs.declared.command.Command.{Command}
-use Rattle.ss_command.specs.declared.command.Command.TheVariants.{Do, Ask, Certify, Series as AskRows, Windows, List as ListAll}
+use Rattle.ss_command.specs.declared.command.Command.TheVariants.{Do, Ask, Certify, Series as AskRows, Last, Values, Windows, List as ListAll}
 use Rattle.ss_catalog.specs.Events.{event_name}
 use Rattle.ss_model.specs.History.{added}
 use Rattle.ss_model.proofs.AnswerLemmas.{answer-known}
 use Rattle.ss_model.specs.Answers.{outcome_of, refuses_query}
+use Rattle.ss_model.specs.Newest.{refuses_values}
 use Rattle.ss_model.specs.Steps.{ack_of}
 use Rattle.ss_model.specs.Refusals.{refuses, refuses_reading}
 use Rattle.ss_model.specs.Series.{refuses_series}
@@ -55,26 +56,9 @@ use Rattle.ss_model.specs.State.{Stream, state, stream_named}
 use Rattle.ss_model.specs.declared.outcome.Outcome.{Outcome}
 use Rattle.ss_model.specs.declared.types.Ack.{Ack}
 use Rattle.ss_outside.specs.declared.source.Failed.{Failed}
-use Rattle.std.specs.Fmt.{decimal, signed_decimal}
-use Rattle.ss_catalog.specs.Refusal.{refusal_name}
-use Rattle.ss_command.specs.Printed.{spaced, target_words}
-use Rattle.ss_command.specs.declared.TheConstants.{LINE_END}
-use Rattle.ss_report.specs.Text.{answer_kind, answer_words, spaced_line, reply_line, run_words}
-use Rattle.ss_program.specs.Said.{said_line}
+use Rattle.ss_report.specs.Text.{said_line}
 use Rattle.ss_report.specs.declared.reply.Reply.{Reply}
-use Rattle.ss_report.specs.declared.reply.Reply.TheVariants.{
-  Done as AckLine,
-  Answered,
-  Refused,
-  SeriesHead,
-  Row,
-  WindowsHead,
-  Window,
-  ListHead,
-  Stream as StreamRow,
-  CertifyHead,
-  Side,
-}
+use Rattle.ss_report.specs.declared.reply.Reply.TheVariants.{Done as AckLine, Answered, Refused, WindowsHead}
 use Rattle.ss_outside.proofs.CrashLemmas.{reads-none}
 use Rattle.ss_outside.specs.Crash.{KnowsNow, OnlyReads}
 use Rattle.ss_outside.specs.Disk.{DiskView, Told}
@@ -127,6 +111,7 @@ use Rattle.ss_program.specs.declared.status.Status.TheVariants.{
   RecordChanged,
 }
 use Rattle.ss_program.proofs.SendLemmas.{AppendsLess-none}
+use Rattle.ss_program.proofs.TextLemmas.{said_line-some}
 
 -- a line to which no event comes: the history after it is the one before
 pub history-still : (history : History) (brought : Brought) → brought.event ≡ None → history_after history brought ≡ history
@@ -160,6 +145,12 @@ unless_refused-event (Some r) rows = refl
 
 pub windows-event : (history : History) (name : List ℕ) → (command_brings history (Windows name)).event ≡ None
 windows-event history name = unless_refused-event (refuses_reading (state history) name) _
+
+pub last-event : (history : History) (name : List ℕ) → (command_brings history (Last name)).event ≡ None
+last-event history name = unless_refused-event (refuses_reading (state history) name) _
+
+pub values-event : (history : History) (name : List ℕ) (from to : ℕ) → (command_brings history (Values name from to)).event ≡ None
+values-event history name from to = unless_refused-event (refuses_values (state history) name from to) _
 
 pub ask-event : (history : History) (query : Query) → (command_brings history (Ask query)).event ≡ None
 ask-event history query = unless_refused-event (refuses_query (state history) query) _
@@ -199,7 +190,7 @@ pub StoreIsIn-open : (disk : DiskView) (store : StoreState) → IsOpen disk stor
 StoreIsIn-open disk store opens told = StoreIsIn-sealed store disk.told.content opens.sealed (opens.serves.kept told)
 
 -- which of the two it is, by what the store answers
-pub not_unanswered : (result : Result Outcome AskError) (refusal : Option Refusal) →
+pub not_unanswered : {A : Type 0} (result : Result A AskError) (refusal : Option Refusal) →
     ((r : Refusal) → (result ≡ Err (asking.Refused r)) ↔ (refusal ≡ Some r)) → ((r : Refusal) → result ≡ Err (asking.Refused r) → ⊥) →
     refusal ≡ None
 not_unanswered result None why other = refl
@@ -275,34 +266,6 @@ IsStop-apply tells SourceFault stop = absurd stop
 IsStop-apply tells SinkFault stop = absurd stop
 IsStop-apply tells InputLimit stop = absurd stop
 
--- a line of words isn't empty
-spaced_line-some : (first : List ℕ) (rest : List (List ℕ)) → 0 < length (spaced_line first rest)
-spaced_line-some first rest = omega (arith, length-append (spaced first rest) (LINE_END ∷ []))
-
-pub reply_line-some : (reply : Reply) → 0 < length (reply_line reply)
-reply_line-some (AckLine ack) = spaced_line-some (codes "ok") (decimal ack.n ∷ decimal ack.k ∷ [])
-reply_line-some (Answered outcome) = spaced_line-some (answer_kind outcome) (answer_words outcome)
-reply_line-some (Refused refusal) = spaced_line-some (codes "refused") (refusal_name refusal ∷ [])
-reply_line-some (SeriesHead count) = spaced_line-some (codes "series") (decimal count ∷ [])
-reply_line-some (Row at outcome) = spaced_line-some (decimal at) (answer_words outcome)
-reply_line-some (WindowsHead count) = spaced_line-some (codes "windows") (decimal count ∷ [])
-reply_line-some (Window w) = spaced_line-some (decimal w.first)
-    (decimal w.last ∷ decimal w.summary.count ∷ signed_decimal w.summary.sum ∷ signed_decimal w.summary.min ∷ signed_decimal w.summary.max ∷ decimal
-    w.summary.t_first ∷ decimal w.summary.t_last ∷ [])
-reply_line-some (ListHead count) = spaced_line-some (codes "list") (decimal count ∷ [])
-reply_line-some (CertifyHead answer base count) =
-    spaced_line-some (codes "certify") (signed_decimal answer ∷ signed_decimal base ∷ decimal count ∷ [])
-reply_line-some (Side side) =
-    spaced_line-some (if side.inner then codes "inside" else codes "outside")
-    (decimal side.first ∷ decimal side.last ∷ decimal side.values ∷ run_words side.runs)
-reply_line-some (StreamRow row) = spaced_line-some row.name (target_words row.params ++ decimal row.n ∷ decimal row.k ∷ decimal row.landmarks ∷ decimal
-    row.values ∷ [])
-
--- so a line that is said to a session or to none isn't either
-pub said_line-some : (speaker : Option ℕ) (reply : Reply) → 0 < length (said_line speaker reply)
-said_line-some None reply = reply_line-some reply
-said_line-some (Some session) reply = omega arith
-
 module _ (speaker : Option ℕ) where
   -- one reply was sent, or less than it
   pub Replies-sent : (brought : Brought) (before after : Option (List ℕ)) (reply : Reply) (sent : Result Unit Failed) →
@@ -348,7 +311,7 @@ module _ (speaker : Option ℕ) where
   event-some history event (Some r) some = cc
 
   -- and so has a query
-  one_reply-some : (reply : Reply) → 0 < length (text_said speaker (only_replies (reply ∷ [])))
+  pub one_reply-some : (reply : Reply) → 0 < length (text_said speaker (only_replies (reply ∷ [])))
   one_reply-some reply = omega (arith, said_line-some speaker reply, length-append (said_line speaker reply) [])
 
   answer-some : (refusal : Option Refusal) (outcome : Option Outcome) → (refusal ≡ None → IsSome outcome) →
@@ -369,6 +332,8 @@ module _ (speaker : Option ℕ) where
   meaning-some history (Ok (Some (Ask query))) some = let none = ask-event history query in cc
   meaning-some history (Ok (Some (Certify query end))) some = let none = certify-event history query end in cc
   meaning-some history (Ok (Some (AskRows series))) some = let none = series-event history series in cc
+  meaning-some history (Ok (Some (Last name))) some = let none = last-event history name in cc
+  meaning-some history (Ok (Some (Values name from to))) some = let none = values-event history name from to in cc
   meaning-some history (Ok (Some (Windows name))) some = let none = windows-event history name in cc
   meaning-some history (Ok (Some ListAll)) some = cc
 

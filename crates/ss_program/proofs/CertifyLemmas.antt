@@ -27,7 +27,7 @@ use Rattle.ss_journal.specs.Kept.{IsSealed}
 use Rattle.ss_outside.specs.Disk.{DiskView, OfContent, Told}
 use Rattle.ss_query.specs.Asked.{seen_of}
 use Rattle.ss_records.specs.Kept.{RecordsState, shown_by}
-use Rattle.ss_program.specs.Said.{said_line}
+use Rattle.ss_report.specs.Text.{said_line}
 use Rattle.ss_report.specs.declared.reply.Reply.{Reply}
 use Rattle.ss_store.specs.Kept.{StoreState}
 use Rattle.ss_store.specs.Recover.{Recovers}
@@ -35,7 +35,8 @@ use Rattle.ss_store.proofs.KeptStates.{Recovers-StoreIsIn}
 use Rattle.ss_program.specs.Answer.{IsOpen}
 use Rattle.ss_program.specs.Certifying.{HasEvidence}
 use Rattle.ss_program.specs.Line.{Brought, History, certified, command_brings, refused, only_replies, text_said, unless_refused}
-use Rattle.ss_program.proofs.AnswerLemmas.{StoreIsIn-open, said_line-some}
+use Rattle.ss_program.proofs.AnswerLemmas.{StoreIsIn-open}
+use Rattle.ss_program.proofs.TextLemmas.{said_line-some}
 
 -- ---- the evidence that a state has
 

@@ -19,7 +19,7 @@ use Rattle.ss_command.proofs.SayLemmas.{meant-sayable}
 use Rattle.ss_command.specs.Grammar.{meaning}
 use Rattle.ss_command.specs.Printed.{IsSayable}
 use Rattle.ss_command.specs.declared.command.Command.{Command}
-use Rattle.ss_command.specs.declared.command.Command.TheVariants.{Do, Ask, Certify, Series as AskRows, Windows, List as ListAll}
+use Rattle.ss_command.specs.declared.command.Command.TheVariants.{Do, Ask, Certify, Series as AskRows, Last, Values, Windows, List as ListAll}
 use Rattle.ss_model.proofs.AnswerLemmas.{answer-holds, answer-kind, answer-known}
 use Rattle.ss_model.proofs.HistoryLemmas.{IsHistory_push, IsState-state}
 use Rattle.ss_model.proofs.RowLemmas.{row-answered}
@@ -49,7 +49,8 @@ use Rattle.ss_program.specs.Line.{
   unless_refused,
 }
 use Rattle.ss_program.specs.Session.{plain_after, replies}
-use Rattle.ss_program.proofs.AnswerLemmas.{ask-event, brings-answer_replies, certify-event, history-still, series-event, windows-event}
+use Rattle.ss_program.proofs.AnswerLemmas.{ask-event, brings-answer_replies, certify-event, history-still, last-event, series-event, values-event}
+use Rattle.ss_program.proofs.AnswerLemmas.{windows-event}
 use Rattle.ss_program.proofs.CertifyLemmas.{brings-certified, evidence-known, evidence-right}
 use Rattle.ss_program.proofs.SeriesLemmas.{brings-series, series_rows-map}
 use Rattle.ss_program.proofs.SessionLemmas.{replies-append}
@@ -79,6 +80,9 @@ command-leaves history (Ask query) sayable whole = still history (command_brings
 command-leaves history (Certify query end) sayable whole =
     still history (command_brings history (Certify query end)) (certify-event history query end) whole
 command-leaves history (AskRows series) sayable whole = still history (command_brings history (AskRows series)) (series-event history series) whole
+command-leaves history (Last name) sayable whole = still history (command_brings history (Last name)) (last-event history name) whole
+command-leaves history (Values name from to) sayable whole =
+    still history (command_brings history (Values name from to)) (values-event history name from to) whole
 command-leaves history (Windows name) sayable whole = still history (command_brings history (Windows name)) (windows-event history name) whole
 command-leaves history ListAll sayable whole = still history (command_brings history ListAll) refl whole
 

@@ -2,9 +2,12 @@ pub mod StepLemmas
 pub mod SendLemmas
 pub mod SessionLemmas
 pub mod TakeLemmas
+pub mod TextLemmas
 pub mod AnswerLemmas
 pub mod TakesLemmas
 pub mod RowLemmas
+pub mod NewestLemmas
+pub mod ValuesLemmas
 pub mod SeriesLemmas
 pub mod CertifyLemmas
 pub mod HeldLemmas

@@ -46,14 +46,15 @@ use Rattle.ss_line.specs.declared.entry.Entry.{Entry}
 use Rattle.ss_model.specs.Shown.{placed_of}
 use Rattle.ss_model.specs.declared.types.Placed.{Placed}
 use Rattle.ss_model.specs.State.{Stream, state, stream_named}
-use Rattle.ss_program.specs.Said.{said_line}
+use Rattle.ss_report.specs.Text.{said_line}
 use Rattle.ss_report.specs.declared.reply.Reply.{Reply}
 use Rattle.ss_report.specs.declared.reply.Reply.TheVariants.{Refused, WindowsHead, Window, ListHead}
 use Rattle.ss_program.specs.Line.{Brought, History, command_brings, stream_rows, text_said, window_rows}
 use Rattle.ss_program.specs.Sent.{appended, AppendsLess, Sends}
 use Rattle.ss_outside.specs.declared.source.Failed.{Failed}
 use Rattle.ss_program.proofs.SendLemmas.{AppendsLess-after, AppendsLess-none, appended-appended, appended-nil}
-use Rattle.ss_program.proofs.AnswerLemmas.{brings-unknown, brings-windows, said_line-some}
+use Rattle.ss_program.proofs.AnswerLemmas.{brings-unknown, brings-windows}
+use Rattle.ss_program.proofs.TextLemmas.{said_line-some}
 
 module _ (speaker : Option ℕ) where
   -- one reply alone

@@ -15,7 +15,7 @@ use Rattle.ss_model.specs.Answers.{outcome_of}
 use Rattle.ss_model.specs.Series.{refuses_series}
 use Rattle.ss_model.specs.State.{Stream, state}
 use Rattle.ss_model.specs.declared.outcome.Outcome.{Outcome}
-use Rattle.ss_program.specs.Said.{said_line}
+use Rattle.ss_report.specs.Text.{said_line}
 use Rattle.ss_report.specs.declared.reply.Reply.{Reply}
 use Rattle.ss_report.specs.declared.reply.Reply.TheVariants.{SeriesHead, Row}
 use Rattle.ss_store.specs.Asked.{refuses_query_held}

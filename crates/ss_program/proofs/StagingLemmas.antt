@@ -3,9 +3,8 @@ use Rattle.std.proofs.Common.{inl, inr, ◌⊎◌, ⊎_elim, ◌≡◌, ◌∙�
 use Rattle.std.proofs.lemmas.Result.{on_ok_weaker}
 use Rattle.std.specs.Prelude.{◌↔◌, IsTrue, OnOk}
 use Rattle.ss_catalog.specs.declared.event.Event.{Event}
-use Rattle.ss_catalog.specs.declared.query.Query.{Query}
 use Rattle.ss_catalog.specs.declared.refusal.Refusal.{Refusal}
-use Rattle.ss_command.specs.declared.command.Command.TheVariants.{Ask, Do}
+use Rattle.ss_command.specs.declared.command.Command.TheVariants.{Do}
 use Rattle.ss_journal.proofs.TearLemmas.{on_ok}
 use Rattle.ss_journal.specs.Kept.{shown}
 use Rattle.ss_model.specs.History.{added}
@@ -28,7 +27,7 @@ use Rattle.ss_program.specs.Line.{Brought, History, command_brings, history_afte
 use Rattle.ss_program.specs.Progress.{StandsAround}
 use Rattle.ss_program.specs.Amid.{StagesBrought}
 use Rattle.ss_program.specs.declared.status.Status.{Status}
-use Rattle.ss_program.proofs.AnswerLemmas.{ask-event, brings-accepted, history-still, not_refused}
+use Rattle.ss_program.proofs.AnswerLemmas.{brings-accepted, history-still, not_refused}
 
 -- an event that the store doesn't refuse isn't refused by any history that it shows
 pub accepted-shown : (event : Event) (store : StoreState) (disk : DiskView) (result : Result Ack ApplyError) → IsServing disk store →
@@ -80,16 +79,16 @@ shown-still was is history brought old new none same stands =
     subst (λ h. Stands h (shown_by is new)) (sym (history-still history brought none)) (subst (Stands history) (sym same) stands)
 
 -- a query is a line that brings no event
-pub Stages-asked : {was is : RecordsState} (query : Query) (result : Result Reply Status) (old new : Told) → KnowsNow old →
-    OnOk result (is.journal ≡ was.journal) → AsksQuery was (λ history. command_brings history (Ask query)) result old new →
-    StagesBrought (λ history. command_brings history (Ask query)) was is result old new
-Stages-asked {was = was} {is = is} query (Ok reply) old new knows same asks = record {
-  turns = λ history. Turns-looked was is history old new (command_brings history (Ask query)) (Ok reply) knows asks.reads
-      (λ stands. shown-still was is history (command_brings history (Ask query)) old.content new.content (ask-event history query)
+pub Stages-asked : {was is : RecordsState} (brought : History → Brought) (result : Result Reply Status) (old new : Told) →
+    ((history : History) → (brought history).event ≡ None) → KnowsNow old → OnOk result (is.journal ≡ was.journal) → AsksQuery was brought result old new →
+    StagesBrought brought was is result old new
+Stages-asked {was = was} {is = is} brought (Ok reply) old new none knows same asks = record {
+  turns = λ history. Turns-looked was is history old new (brought history) (Ok reply) knows asks.reads
+      (λ stands. shown-still was is history (brought history) old.content new.content (none history)
       (ap (λ (bytes : List ℕ). shown_by is bytes) asks.reads.same.content ∙ ap (λ j. shown j old.content) same) stands);
   reply = asks.reply;
 }
-Stages-asked {was = was} {is = is} query (Err status) old new knows same asks = record {
-  turns = λ history. Turns-looked was is history old new (command_brings history (Ask query)) (Err status) knows asks.reads (λ stands. tt);
+Stages-asked {was = was} {is = is} brought (Err status) old new none knows same asks = record {
+  turns = λ history. Turns-looked was is history old new (brought history) (Err status) knows asks.reads (λ stands. tt);
   reply = asks.reply;
 }

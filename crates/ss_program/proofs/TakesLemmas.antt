@@ -14,7 +14,7 @@ use Rattle.ss_outside.specs.Disk.{DiskView, OfContent, Told, WhereTold}
 use Rattle.ss_outside.specs.Step.{Step}
 use Rattle.ss_outside.specs.Verdict.{Counted, fine, verdict}
 use Rattle.ss_outside.specs.declared.source.Failed.{Failed}
-use Rattle.ss_program.specs.Said.{said_line}
+use Rattle.ss_report.specs.Text.{said_line}
 use Rattle.ss_report.specs.declared.reply.Reply.{Reply}
 use Rattle.ss_report.specs.declared.reply.Reply.TheVariants.{Refused}
 use Rattle.ss_journal.specs.Kept.{IsSealed}

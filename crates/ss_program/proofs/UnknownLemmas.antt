@@ -13,7 +13,7 @@ use Rattle.ss_catalog.specs.declared.refusal.Refusal.{Refusal}
 use Rattle.ss_catalog.specs.declared.refusal.Refusal.TheVariants.{Unknown}
 use Rattle.ss_command.specs.Grammar.{meaning}
 use Rattle.ss_command.specs.declared.command.Command.{Command}
-use Rattle.ss_command.specs.declared.command.Command.TheVariants.{Do, Ask, Certify, Series as AskRows, Windows, List as ListAll}
+use Rattle.ss_command.specs.declared.command.Command.TheVariants.{Do, Ask, Certify, Series as AskRows, Last, Values, Windows, List as ListAll}
 use Rattle.ss_model.proofs.DropLemmas.{refuses-drop, stream_named-dropped}
 use Rattle.ss_model.proofs.EventLemmas.{given_to-created}
 use Rattle.ss_model.proofs.NameLemmas.{same_name-Decides, same_name-same}
@@ -40,7 +40,7 @@ use Rattle.ss_program.specs.Line.{
 }
 use Rattle.ss_program.specs.Session.{NoneCreates, plain_after}
 use Rattle.ss_program.proofs.SessionLemmas.{plain_after-append}
-use Rattle.ss_program.proofs.AnswerLemmas.{ask-event, brings-unanswered, certify-event, history-still, series-event, windows-event}
+use Rattle.ss_program.proofs.AnswerLemmas.{ask-event, brings-unanswered, certify-event, history-still, last-event, series-event, values-event, windows-event}
 
 -- after this history no stream of the name stands
 abbrev IsUnknown : List ℕ → History → Type 0
@@ -90,6 +90,10 @@ unknown-command name history (Certify query end) spared unknown =
     unknown-still name history (command_brings history (Certify query end)) (certify-event history query end) unknown
 unknown-command name history (AskRows series) spared unknown =
     unknown-still name history (command_brings history (AskRows series)) (series-event history series) unknown
+unknown-command name history (Last other) spared unknown =
+    unknown-still name history (command_brings history (Last other)) (last-event history other) unknown
+unknown-command name history (Values other from to) spared unknown =
+    unknown-still name history (command_brings history (Values other from to)) (values-event history other from to) unknown
 unknown-command name history (Windows other) spared unknown =
     unknown-still name history (command_brings history (Windows other)) (windows-event history other) unknown
 unknown-command name history ListAll spared unknown = unknown-still name history (command_brings history ListAll) refl unknown

@@ -1,4 +1,3 @@
-pub mod Said
 pub mod Line
 pub mod Talk
 pub mod Session

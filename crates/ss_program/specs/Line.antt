@@ -10,6 +10,7 @@ use Rattle.ss_certify.specs.Called.{evidence_in}
 use Rattle.ss_certify.specs.Told.{told}
 use Rattle.ss_certify.specs.declared.evidence.Evidence.{Evidence}
 use Rattle.ss_command.specs.Grammar.{meaning}
+use Rattle.ss_command.specs.declared.TheConstants.{MOST_SESSIONS}
 use Rattle.ss_command.specs.declared.command.Command.{Command}
 use Rattle.ss_command.specs.declared.command.Command.TheVariants.{Do, Ask, Certify, Series as AskRows, Last, Values, Windows, List as ListAll}
 use Rattle.ss_landmarks.specs.Landmark.{LandmarkValue}
@@ -24,8 +25,7 @@ use Rattle.ss_model.specs.State.{Stream, state, stream_named}
 use Rattle.ss_model.specs.Steps.{ack_of}
 use Rattle.ss_model.specs.declared.newest.Newest.{Newest}
 use Rattle.ss_model.specs.declared.outcome.Outcome.{Outcome}
-use Rattle.ss_report.specs.Text.{reply_line}
-use Rattle.ss_program.specs.Said.{said_line}
+use Rattle.ss_report.specs.Text.{reply_line, said_line}
 use Rattle.ss_report.specs.declared.reply.Reply.{Reply}
 use Rattle.ss_report.specs.declared.reply.Reply.TheVariants.{Done, Answered, Refused, SeriesHead, Row, WindowsHead, Window, ListHead, Stream as StreamRow}
 use Rattle.ss_report.specs.declared.reply.Reply.TheVariants.{Last as LastLine, ValuesHead, Value as ValueRow}
@@ -145,7 +145,7 @@ brings history line = meaning_brings history (meaning line)
 
 -- who a reply is said to: one of the eight sessions, or none
 abbrev pub IsSpeaker : Option ℕ → Type 0
-IsSpeaker speaker = IfSome speaker (λ session. session < 8)
+IsSpeaker speaker = IfSome speaker (λ session. session < MOST_SESSIONS)
 
 -- the text of what a line brings, as it is said to a session, or to none
 abbrev pub text_said : Option ℕ → Brought → List ℕ

@@ -3,11 +3,12 @@ ghost use Rattle.std.specs.Prelude.{◌≡◌, ◌+◌, ◌≤◌, [], ◌∷◌
 ghost use Rattle.ss_catalog.specs.Events.{IsInTime};
 ghost use Rattle.ss_command.specs.Printed.{IsCommandInTime};
 ghost use Rattle.ss_landmarks.specs.Landmark.{all_values};
+ghost use Rattle.ss_landmarks.specs.declared.landmarks.TheConstants.{MOST_LANDMARK_SLOTS};
 ghost use Rattle.ss_line.specs.Line.{StandsIn};
 ghost use Rattle.ss_model.specs.State.{Stream, state, stream_numbered};
 ghost use Rattle.ss_outside.specs.Step.{Step};
 ghost use Rattle.ss_outside.specs.Verdict.{Counted, verdict};
-ghost use Rattle.ss_program.specs.Said.{said_line};
+ghost use Rattle.ss_report.specs.Text.{said_line};
 ghost use Rattle.ss_store.specs.Kept.{StoreIsIn, part_numbered};
 ghost use Rattle.ss_store.specs.Recover.{Stands};
 ghost use Rattle.ss_program.specs.Answer.{AppliesEvent, AsksQuery, IsOpen, IsRowsText, IsServing, IsTextBrought, ReadsRow, SendsRows, Shows, TakesLine};
@@ -20,7 +21,6 @@ ghost use Rattle.ss_program.specs.Status.{disk_verdict, ended, IsApplyStop, IsDi
 ghost use Rattle.ss_command.specs.declared.command.Command.TheVariants.{Do, Ask, Last, Values, Windows, List as ListAll};
 
 use crate::certifying::show_certificate;
-use crate::said::said_text;
 use crate::sending::send;
 use crate::series::show_series;
 use crate::status::Status;
@@ -30,7 +30,7 @@ use ss_command::Command;
 use ss_line::At;
 use ss_model::Placed;
 use ss_outside::{Disk, Failed, Sink};
-use ss_report::Reply;
+use ss_report::{Reply, said_text};
 use ss_store::{ApplyError, AskError, Store, ValueRange};
 
 /// The status where a sink failed.
@@ -224,6 +224,7 @@ fn send_values<K: Sink>(
     requires stands { IsSome (part_numbered range.id.0 store.now.streams) }
     requires within { IfSome (part_numbered range.id.0 store.now.streams) (λ part.
         range.first + range.count ≤ length (all_values part.landmarks.landmarks)) }
+    requires few { range.first + range.count ≤ MOST_LANDMARK_SLOTS }
     ensures sends { IfSome (part_numbered range.id.0 store.now.streams) (λ part. SendsRows speaker (K.held sink.old) (K.held sink.new)
         (value_rows (take range.count (drop range.first (all_values part.landmarks.landmarks)))) result) }
     ensures counted { Counted (verdict result) (K.faults sink.old) (K.faults sink.new) }

@@ -11,7 +11,6 @@ mod promises;
 mod refuse;
 mod replies;
 mod running;
-mod said;
 mod sending;
 mod series;
 mod session;

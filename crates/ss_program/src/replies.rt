@@ -1,7 +1,6 @@
 // Replies that wait until what they speak of is on the disk.
-use crate::said::said_text;
 use arrayvec::ArrayString;
-use ss_report::Reply;
+use ss_report::{Reply, said_text};
 use std::alloc::{AllocError, Global};
 use std::marker::Model;
 
@@ -32,7 +31,7 @@ impl Model for Replies {
 impl Replies {
     ghost use Rattle.std.specs.Prelude.{◌≡◌, ◌+◌, ◌≤◌, ◌↔◌, [], ◌++◌, length, IfOk, IsTrue};
     ghost use Rattle.ss_program.specs.Line.{IsSpeaker};
-    ghost use Rattle.ss_program.specs.Said.{said_line};
+    ghost use Rattle.ss_report.specs.Text.{said_line};
 
     /// None, with room for all that may wait. It takes memory.
     pub fn new(alloc: Global) -> Result<Replies, AllocError>

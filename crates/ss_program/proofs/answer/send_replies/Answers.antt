@@ -2,7 +2,7 @@ use Rattle.std.proofs.Common.{◌≡◌, ◌∙◌, Err, length, take_all, refl,
 use Rattle.std.proofs.lemmas.Option.{slice_get_read}
 use Rattle.std.specs.List.{flat_map}
 use Rattle.ss_outside.specs.Verdict.{Counted, failed}
-use Rattle.ss_program.specs.Said.{said_line}
+use Rattle.ss_report.specs.Text.{said_line}
 use Rattle.ss_program.specs.Sent.{appended, Puts}
 use Rattle.ss_program.proofs.RowLemmas.{rows-less}
 use Rattle.ss_program.proofs.answer.send_replies.Goals as goal

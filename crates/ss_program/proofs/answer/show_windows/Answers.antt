@@ -2,7 +2,7 @@ use Rattle.std.proofs.Common.{◌≡◌, ◌∙◌, Err, refl, sym, subst, rules
 use Rattle.std.specs.List.{flat_map}
 use Rattle.ss_command.specs.declared.command.Command.TheVariants.{Windows}
 use Rattle.ss_outside.specs.Verdict.{Counted}
-use Rattle.ss_program.specs.Said.{said_line}
+use Rattle.ss_report.specs.Text.{said_line}
 use Rattle.ss_report.specs.declared.reply.Reply.TheVariants.{WindowsHead}
 use Rattle.ss_store.specs.Kept.{part_numbered}
 use Rattle.ss_store.proofs.FoundAlike.{found-kept, unknown-kept, windows-kept}

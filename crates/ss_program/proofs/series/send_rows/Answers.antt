@@ -11,7 +11,7 @@ use Rattle.ss_outside.specs.Crash.{OnlyReads}
 use Rattle.ss_outside.specs.Disk.{DiskView}
 use Rattle.ss_outside.specs.Step.{Step}
 use Rattle.ss_outside.specs.Verdict.{Counted, fine, verdict}
-use Rattle.ss_program.specs.Said.{said_line}
+use Rattle.ss_report.specs.Text.{said_line}
 use Rattle.ss_report.specs.declared.reply.Reply.TheVariants.{Row}
 use Rattle.ss_store.specs.Asked.{refuses_query_held}
 use Rattle.ss_store.specs.Kept.{StoreState}

@@ -5,7 +5,7 @@ use Rattle.ss_outside.specs.Crash.{OnlyReads}
 use Rattle.ss_outside.specs.Disk.{OfContent}
 use Rattle.ss_outside.specs.Step.{Step}
 use Rattle.ss_outside.specs.Verdict.{fine}
-use Rattle.ss_program.specs.Said.{said_line}
+use Rattle.ss_report.specs.Text.{said_line}
 use Rattle.ss_store.specs.Recover.{Stands}
 use Rattle.ss_program.specs.Answer.{IsOpen}
 use Rattle.ss_program.specs.Line.{History, series_rows}

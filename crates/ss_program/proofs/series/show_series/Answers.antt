@@ -5,7 +5,7 @@ use Rattle.ss_catalog.specs.Series.{whole_query}
 use Rattle.ss_command.specs.declared.command.Command.TheVariants.{Series as AskRows}
 use Rattle.ss_model.specs.State.{state}
 use Rattle.ss_outside.specs.Verdict.{Counted}
-use Rattle.ss_program.specs.Said.{said_line}
+use Rattle.ss_report.specs.Text.{said_line}
 use Rattle.ss_report.specs.declared.reply.Reply.TheVariants.{Refused, SeriesHead}
 use Rattle.ss_store.specs.Asked.{refuses_query_held}
 use Rattle.ss_program.specs.Answer.{IsTextBrought, Shows}

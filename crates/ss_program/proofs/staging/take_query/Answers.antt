@@ -5,7 +5,7 @@ use Rattle.ss_program.specs.Amid.{TakesBrought, amid, owed_by}
 use Rattle.ss_program.specs.Line.{History, command_brings}
 use Rattle.ss_program.specs.Status.{disk_verdict, ended}
 use Rattle.ss_program.specs.Talk.{Talk, turn_brought}
-use Rattle.ss_program.proofs.AnswerLemmas.{ask-some}
+use Rattle.ss_program.proofs.AnswerLemmas.{ask-event, ask-some}
 use Rattle.ss_program.proofs.BroughtLemmas.{TakesBrought-owed, TakesBrought-stopped, TakesTurn-said}
 use Rattle.ss_program.proofs.StagingLemmas.{Stages-asked}
 use Rattle.ss_program.proofs.StepLemmas.{step-told}
@@ -31,7 +31,8 @@ returns-in_err-reply-clause-takes g c =
       counted = asks.counted;
       told = λ told. TakesBrought-stopped brought was is waiting held old.told new.told (g.met.D.Disk.knows_now c.ask.new.disk (asks.tells ∙ told)) to status
           refl (going-disk old.tells status c.in_err-reply.ensures.status) (λ history stands. ask-some None history query)
-          (Stages-asked query (Err status) old.told new.told (g.met.D.Disk.knows_now c.args.disk.now told) tt (asks.told told));
+          (Stages-asked brought (Err status) old.told new.told (λ history. ask-event history query) (g.met.D.Disk.knows_now c.args.disk.now told) tt
+          (asks.told told));
     })
 
 pub returns-clause-takes : goal.returns-clause-takes
@@ -46,5 +47,6 @@ returns-clause-takes g c =
     TakesTurn-said (λ (talk : Talk). turn_brought talk (brought talk.history)) tt c.say.result
     (TakesBrought-owed brought c.args.store.now.records c.ask.new.store.records c.args.waiting.now (g.K.Sink.held c.args.sink.now) old.told mid.told
     (g.met.D.Disk.knows_now c.ask.new.disk told) reply tt
-    (Stages-asked query (Ok reply) old.told mid.told (g.met.D.Disk.knows_now c.args.disk.now (sym asks.tells ∙ told)) c.in_ok-reply.ensures.journal first))
+    (Stages-asked brought (Ok reply) old.told mid.told (λ history. ask-event history query)
+    (g.met.D.Disk.knows_now c.args.disk.now (sym asks.tells ∙ told)) c.in_ok-reply.ensures.journal first))
     second)

@@ -1,0 +1,46 @@
+-- What `last` brings, by what the store tells of a stream.
+use Rattle.std.proofs.Common.{◌≡◌, ◌∙◌, ℕ, ◌<◌, List, [], ◌∷◌, length, Option, Some, None, sym, ap}
+use Rattle.std.specs.Prelude.{not, is_some, option_map}
+use Rattle.ss_catalog.specs.declared.refusal.Refusal.{Refusal}
+use Rattle.ss_catalog.specs.declared.refusal.Refusal.TheVariants.{Unknown}
+use Rattle.ss_command.specs.declared.command.Command.TheVariants.{Last}
+use Rattle.ss_model.specs.Newest.{newest_in, newest_of}
+use Rattle.ss_model.specs.Refusals.{first_that_applies, refuses_reading}
+use Rattle.ss_model.specs.State.{Stream, state, stream_named}
+use Rattle.ss_model.specs.declared.newest.Newest.{Newest}
+use Rattle.ss_report.specs.declared.reply.Reply.TheVariants.{Last as LastLine, Refused}
+use Rattle.ss_store.specs.Kept.{StoreIsIn, StoreState}
+use Rattle.ss_store.specs.Newest.{refuses_reading_held}
+use Rattle.ss_store.specs.Recover.{Stands}
+use Rattle.ss_store.proofs.KeptStates.{AllAgree-recovered}
+use Rattle.ss_store.proofs.ReadRefusals.{refuses_reading_held-is}
+use Rattle.ss_program.specs.Line.{History, command_brings, newest_replies, only_replies, refused, text_said, unless_refused}
+use Rattle.ss_program.proofs.AnswerLemmas.{one_reply-some}
+
+-- a look that is refused brings its refusal
+pub brings-unlooked : (history : History) (name : List ℕ) (refusal : Refusal) → refuses_reading (state history) name ≡ Some refusal →
+    command_brings history (Last name) ≡ refused refusal
+brings-unlooked history name refusal is = ap (λ r. unless_refused r (only_replies (newest_replies (newest_in (state history) name)))) is
+
+-- and one that isn't brings what is told
+pub brings-newest : (history : History) (name : List ℕ) (told : Newest) → refuses_reading (state history) name ≡ None →
+    newest_in (state history) name ≡ Some told → command_brings history (Last name) ≡ only_replies (LastLine told ∷ [])
+brings-newest history name told none is =
+    ap (λ r. unless_refused r (only_replies (newest_replies (newest_in (state history) name)))) none ∙ ap (λ o. only_replies (newest_replies o)) is
+
+-- what is refused by what the store holds
+pub refuses_reading-kept : (store : StoreState) (image : List ℕ) (history : History) (name : List ℕ) → StoreIsIn store image →
+    Stands history image → refuses_reading (state history) name ≡ refuses_reading_held store.streams name
+refuses_reading-kept store image history name kept stands =
+    sym (refuses_reading_held-is store.streams (state history) name (AllAgree-recovered store image (state history) kept stands.state).0)
+
+-- either has one reply
+newest-some : (speaker : Option ℕ) (o : Option Stream) →
+    0 < length (text_said speaker (unless_refused (first_that_applies ((not (is_some o), Unknown) ∷ []))
+    (only_replies (newest_replies (option_map newest_of o)))))
+newest-some speaker None = one_reply-some speaker (Refused Unknown)
+newest-some speaker (Some s) = one_reply-some speaker (LastLine (newest_of s))
+
+pub last-some : (speaker : Option ℕ) (history : History) (name : List ℕ) → 0 < length (text_said speaker (command_brings history (Last name)))
+unfolding refuses_reading
+last-some speaker history name = newest-some speaker (stream_named name (state history))
