@@ -1,38 +1,9 @@
 -- What a line brings, by what it means, and what sending it leaves.
-use Rattle.std.proofs.Common.{
-  ⊎_elim,
-  codes,
-  ◌≡◌,
-  ℕ,
-  ◌<◌,
-  Bool,
-  ◌++◌,
-  ◌↔◌,
-  List,
-  [],
-  ◌∷◌,
-  length,
-  Option,
-  Some,
-  None,
-  IsSome,
-  Ok,
-  Err,
-  Result,
-  IfErr,
-  refl,
-  sym,
-  ap,
-  ◌∙◌,
-  subst,
-  arith,
-  inl,
-  inr,
-}
+use Rattle.std.proofs.Common.{⊎_elim, ◌≡◌, ℕ, ◌<◌, Bool, ◌++◌, ◌↔◌, List, [], ◌∷◌, length, Option, Some, None, IsSome, Ok, Err, Result, IfErr, refl, sym, ap, ◌∙◌, subst, arith, inl, inr}
 use Rattle.std.proofs.lemmas.Bool.{cases_lt, cond-true, cond-false, le-leb, lt-leb, lt-ltb}
 use Rattle.std.proofs.lemmas.List.{append-nil, length-append}
 use Rattle.std.specs.List.{flat_map}
-use Rattle.std.specs.Prelude.{if◌then◌else◌, nat_le, IsTrue}
+use Rattle.std.specs.Prelude.{nat_le, IsTrue}
 use Rattle.ss_catalog.specs.declared.event.Event.{Event}
 use Rattle.ss_catalog.specs.declared.query.End.{End}
 use Rattle.ss_catalog.specs.declared.query.Query.{Query}

@@ -21,6 +21,7 @@ pub mod LawLemmas
 pub mod UnknownLemmas
 pub mod Rows
 pub mod SaidRows
+pub mod NewestRows
 pub mod FieldRows
 pub mod AmidRows
 pub mod AmidLemmas

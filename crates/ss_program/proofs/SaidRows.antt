@@ -1,6 +1,6 @@
 -- Worked rows of what is said to sessions, and the numbers of its rules.
 use Rattle.std.proofs.Common.{◌≡◌, ◌+◌, ◌^◌, ◌++◌, [], ◌∷◌, arith, lit≤, refl}
-use Rattle.std.specs.Prelude.{List, Some, None, codes, flat_map, map, pos, negsuc}
+use Rattle.std.specs.Prelude.{ℕ, List, Some, None, codes, flat_map, map, pos, negsuc}
 use Rattle.std.specs.Fmt.{digits}
 use Rattle.ss_catalog.specs.Names.{is_name}
 use Rattle.ss_catalog.specs.declared.event.Event.TheVariants.{Create, Value}

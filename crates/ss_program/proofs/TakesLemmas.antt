@@ -1,9 +1,7 @@
 -- What a line does to the devices: what is shown, and what is added and replied.
-use Rattle.std.proofs.Common.{◌≡◌, ℕ, Bool, List, [], Option, None, Ok, Err, Result, IfErr, refl, sym, ◌∙◌, subst}
-use Rattle.std.proofs.lemmas.List.{append-nil}
+use Rattle.std.proofs.Common.{◌≡◌, ℕ, Bool, List, Option, None, Ok, Err, Result, IfErr, refl, sym, subst}
 use Rattle.std.specs.Prelude.{IsErr}
 use Rattle.ss_catalog.specs.declared.event.Event.{Event}
-use Rattle.ss_catalog.specs.declared.refusal.Refusal.{Refusal}
 use Rattle.ss_command.specs.declared.command.Command.TheVariants.{Do}
 use Rattle.ss_model.specs.Refusals.{refuses}
 use Rattle.ss_model.specs.State.{state}
@@ -16,7 +14,6 @@ use Rattle.ss_outside.specs.Verdict.{Counted, fine, verdict}
 use Rattle.ss_outside.specs.declared.source.Failed.{Failed}
 use Rattle.ss_report.specs.Text.{said_line}
 use Rattle.ss_report.specs.declared.reply.Reply.{Reply}
-use Rattle.ss_report.specs.declared.reply.Reply.TheVariants.{Refused}
 use Rattle.ss_journal.specs.Kept.{IsSealed}
 use Rattle.ss_records.specs.Kept.{RecordsState}
 use Rattle.ss_store.specs.Kept.{StoreState}
@@ -24,7 +21,7 @@ use Rattle.ss_store.specs.Recover.{Stands}
 use Rattle.ss_store.proofs.Calls.{Turns-answers, Turns-failed}
 use Rattle.ss_program.specs.Answer.{AppliesEvent, AsksQuery, DoesCommand, IsOpen, Shows, TakesLine, at_sink}
 use Rattle.ss_program.specs.Devices.{Devices, over}
-use Rattle.ss_program.specs.Line.{Brought, History, command_brings, history_after, nothing, refused, text_said}
+use Rattle.ss_program.specs.Line.{Brought, History, command_brings, history_after, text_said}
 use Rattle.ss_program.specs.Progress.{StandsAround}
 use Rattle.ss_program.specs.Sent.{appended, AppendsLess, Puts, Sends}
 use Rattle.ss_program.specs.Status.{IsApplyStop, IsDiskStop, IsShowStop, IsStop, disk_verdict, ended, sink_verdict}
@@ -40,7 +37,6 @@ use Rattle.ss_program.specs.declared.status.Status.TheVariants.{
   InputLimit,
   RecordChanged,
 }
-use Rattle.ss_program.proofs.SendLemmas.{appended-nil}
 use Rattle.ss_program.proofs.AnswerLemmas.{Adds-reads, Stands-only_replies, IsStop-apply, IsStop-show, Replies-sent, Replies-only_replies, Replies-stopped}
 use Rattle.ss_program.proofs.AnswerLemmas.{event-some}
 
