@@ -20,10 +20,10 @@ use Rattle.ss_command.specs.Grammar.{meaning}
 use Rattle.ss_command.specs.Printed.{IsSayable}
 use Rattle.ss_command.specs.declared.command.Command.{Command}
 use Rattle.ss_command.specs.declared.command.Command.TheVariants.{Do, Ask, Certify, Series as AskRows, Last, Values, Windows, List as ListAll}
-use Rattle.ss_model.proofs.AnswerLemmas.{answer-holds, answer-kind, answer-known}
+use Rattle.ss_model.proofs.AnswerLemmas.{answer-exact, answer-holds, answer-kind, answer-known}
 use Rattle.ss_model.proofs.HistoryLemmas.{IsHistory_push, IsState-state}
 use Rattle.ss_model.proofs.RowLemmas.{row-answered}
-use Rattle.ss_model.specs.Answers.{HoldsPresence, HoldsTruth, IsOfKind, outcome_of, refuses_query}
+use Rattle.ss_model.specs.Answers.{HoldsPresence, HoldsTruth, IsExactOutcome, IsOfKind, outcome_of, refuses_query, split_by}
 use Rattle.ss_model.specs.History.{CanBeSaid, added, marked_of, values_of}
 use Rattle.ss_model.specs.Refusals.{IsHistory, refuses}
 use Rattle.ss_model.specs.Series.{AnswersRow, refuses_series}
@@ -103,12 +103,14 @@ answered-query : (history : History) (query : Query) (o : Option Outcome) → Is
     outcome_of (state history) query ≡ o → IsSome o →
     (outcome : Outcome) × (command_brings history (Ask query) ≡ only_replies (Answered outcome ∷ [])) × IsOfKind query.kind outcome
     × HoldsTruth query (values_of history query.name) (marked_of history query.name) outcome
+    × (split_by (state history) query ≡ [] → IsExactOutcome outcome)
 answered-query history query None whole none is some = cc
 answered-query history query (Some outcome) whole none is some = (
   outcome,
   brings-answer_replies history query outcome none is,
   answer-kind (state history) query outcome is,
   answer-holds history query outcome whole is,
+  answer-exact (state history) query outcome is,
 )
 
 -- and a line that means it
@@ -116,9 +118,10 @@ pub answered-line : (history : History) (line : List ℕ) (query : Query) → Is
     refuses_query (state history) query ≡ None →
     (outcome : Outcome) × (brings history line ≡ only_replies (Answered outcome ∷ [])) × IsOfKind query.kind outcome
     × HoldsTruth query (values_of history query.name) (marked_of history query.name) outcome
+    × (split_by (state history) query ≡ [] → IsExactOutcome outcome)
 answered-line history line query whole means none =
     let it = answered-query history query (outcome_of (state history) query) whole none refl (answer-known (state history) query none) in
-    (it.0, ap (λ m. meaning_brings history m) means ∙ it.1, it.2, it.3)
+    (it.0, ap (λ m. meaning_brings history m) means ∙ it.1, it.2, it.3, it.4)
 
 -- what is answered to whether a value is there
 presence-of_kind : (kind : Kind) (value : ℤ) (outcome : Outcome) → kind ≡ kinds.Has value → IsOfKind kind outcome →

@@ -19,6 +19,7 @@ pub mod EndLemmas
 pub mod GenerateLemmas
 pub mod LawLemmas
 pub mod UnknownLemmas
+pub mod NewestLaws
 pub mod Rows
 pub mod SaidRows
 pub mod NewestRows

@@ -34,7 +34,7 @@ brings-unvalued history name from to refusal is =
     ap (λ r. unless_refused r (only_replies (values_shown from to (stream_named name (state history))))) is
 
 -- and one that isn't brings the head and the rows
-brings-values : (history : History) (name : List ℕ) (from to : ℕ) (s : Stream) → refuses_values (state history) name from to ≡ None →
+pub brings-values : (history : History) (name : List ℕ) (from to : ℕ) (s : Stream) → refuses_values (state history) name from to ≡ None →
     stream_named name (state history) ≡ Some s → command_brings history (Values name from to)
     ≡ only_replies (ValuesHead (length (values_between s.landmarks from to)) ∷ value_rows (values_between s.landmarks from to))
 brings-values history name from to s none is =

@@ -1,5 +1,5 @@
 // Laws of what lines bring, each the contract of a function that does nothing.
-ghost use Rattle.std.specs.Prelude.{◌≡◌, ◌++◌, [], ◌∷◌, ℕ, ℤ, List, flat_map, map, Some, None, Ok};
+ghost use Rattle.std.specs.Prelude.{◌≡◌, ◌++◌, ◌&&◌, [], ◌∷◌, ℕ, ℤ, List, filter, flat_map, length, map, nat_le, Some, None, Ok};
 ghost use Rattle.ss_catalog.specs.Series.{row_count, row_start, rows_of};
 ghost use Rattle.ss_catalog.specs.declared.event.Event.TheVariants.{Create, Drop};
 ghost use Rattle.ss_catalog.specs.declared.params.Params.{Params};
@@ -11,20 +11,27 @@ ghost use Rattle.ss_catalog.specs.declared.series.Series.{Series};
 ghost use Rattle.ss_certify.specs.Told.{told};
 ghost use Rattle.ss_certify.specs.declared.evidence.Evidence.{Evidence};
 ghost use Rattle.ss_command.specs.Grammar.{meaning};
-ghost use Rattle.ss_command.specs.declared.command.Command.TheVariants.{Do, Ask, Certify, Series as AskRows};
-ghost use Rattle.ss_model.specs.Answers.{HoldsPresence, HoldsTruth, IsOfKind, refuses_query};
-ghost use Rattle.ss_model.specs.History.{added, marked_of, values_of};
-ghost use Rattle.ss_model.specs.Refusals.{IsHistory};
+ghost use Rattle.ss_command.specs.declared.command.Command.TheVariants.{Do, Ask, Certify, Last, Series as AskRows, Values};
+ghost use Rattle.ss_landmarks.specs.Landmark.{LandmarkValue};
+ghost use Rattle.ss_model.specs.Answers.{HoldsPresence, HoldsTruth, IsExactOutcome, IsOfKind, refuses_query, split_by};
+ghost use Rattle.ss_model.specs.History.{added, landmarks_of, marked_of, values_of};
+ghost use Rattle.ss_model.specs.Marks.{later, latest_of};
+ghost use Rattle.ss_model.specs.Newest.{refuses_values};
+ghost use Rattle.ss_model.specs.NewestTruth.{HoldsNewest, kept_point};
+ghost use Rattle.ss_model.specs.Refusals.{IsHistory, refuses_reading};
 ghost use Rattle.ss_model.specs.Series.{AnswersRow, refuses_series};
 ghost use Rattle.ss_model.specs.State.{state};
 ghost use Rattle.ss_model.specs.Truth.{true_presence};
+ghost use Rattle.ss_model.specs.Windows.{time_of_last};
+ghost use Rattle.ss_model.specs.declared.newest.Newest.{Newest};
 ghost use Rattle.ss_model.specs.declared.outcome.Outcome.{Outcome};
 ghost use Rattle.ss_model.specs.declared.outcome.Outcome.TheVariants.{Has};
 ghost use Rattle.ss_model.specs.declared.outcome.Presence.{Presence};
 ghost use Rattle.ss_report.specs.Text.{reply_line};
-ghost use Rattle.ss_report.specs.declared.reply.Reply.TheVariants.{Answered, Refused, SeriesHead, Row};
+ghost use Rattle.ss_report.specs.declared.reply.Reply.TheVariants.{Answered, Last as LastLine, Refused, SeriesHead, Row, ValuesHead};
+ghost use Rattle.ss_summary.specs.Points.{Point};
 ghost use Rattle.ss_program.specs.Certifying.{IsSharp};
-ghost use Rattle.ss_program.specs.Line.{History};
+ghost use Rattle.ss_program.specs.Line.{History, value_rows};
 ghost use Rattle.ss_program.specs.Session.{NoneCreates, plain_after, replies, text_of};
 ghost use Rattle.ss_program.specs.Talk.{plain};
 
@@ -40,7 +47,7 @@ pub fn reports_are_replies()
 
 /// Each line of a session that asks a query which isn't refused then has one reply, in its place among the others: an answer to
 /// what was asked for, which holds the truth over all values that the stream has of the history and of the lines before, which
-/// are those since its last create. So each interval in a report does.
+/// are those since its last create. So each interval in a report does. Where the range splits no window the answer is one point.
 pub fn queries_hold_the_truth()
     ensures { (history : History) (ls before after : List (List ℕ)) (line : List ℕ) (query : Query) → IsHistory history →
         ls ≡ before ++ line ∷ after → meaning line ≡ Ok (Some (Ask query)) →
@@ -48,7 +55,8 @@ pub fn queries_hold_the_truth()
         (outcome : Outcome)
         × (replies history ls ≡ replies history before ++ Answered outcome ∷ replies (plain_after history before) after)
         × IsOfKind query.kind outcome
-        × HoldsTruth query (values_of (plain_after history before) query.name) (marked_of (plain_after history before) query.name) outcome }
+        × HoldsTruth query (values_of (plain_after history before) query.name) (marked_of (plain_after history before) query.name) outcome
+        × (split_by (state (plain_after history before)) query ≡ [] → IsExactOutcome outcome) }
 {}
 
 /// Each line of a session that asks whether a stream has a value, and isn't refused then, has one reply, in its place among the
@@ -77,6 +85,33 @@ pub fn series_hold_the_truth()
         ++ (SeriesHead (row_count series) ∷ map (λ row. Row (row_start series row) (answers row)) (rows_of series))
         ++ replies (plain_after history before) after)
         × ((row : ℕ) → AnswersRow (plain_after history before) series row (answers row)) }
+{}
+
+/// Each line of a session that asks how far a stream has come, and isn't refused then, has one reply, in its place among the
+/// others. What it says is true of all values that the stream has of the history and of the lines before since its last create,
+/// those of its landmarks among them.
+pub fn newest_values_are_told()
+    ensures { (history : History) (ls before after : List (List ℕ)) (line name : List ℕ) → IsHistory history →
+        ls ≡ before ++ line ∷ after → meaning line ≡ Ok (Some (Last name)) →
+        refuses_reading (state (plain_after history before)) name ≡ None →
+        (told : Newest)
+        × (replies history ls ≡ replies history before ++ LastLine told ∷ replies (plain_after history before) after)
+        × HoldsNewest told
+        (later (time_of_last (values_of (plain_after history before) name)) (latest_of (landmarks_of (plain_after history before) name)))
+        (values_of (plain_after history before) name ++ marked_of (plain_after history before) name) }
+{}
+
+/// Each line of a session that asks for the values of landmarks of a stream in a range, and isn't refused then, has their head and
+/// their rows as replies, in their place among the others. They are all values of landmarks with such times that the stream has of
+/// the history and of the lines before since its last create, in their order.
+pub fn landmark_values_are_told()
+    ensures { (history : History) (ls before after : List (List ℕ)) (line name : List ℕ) (from to : ℕ) →
+        ls ≡ before ++ line ∷ after → meaning line ≡ Ok (Some (Values name from to)) →
+        refuses_values (state (plain_after history before)) name from to ≡ None →
+        (values : List LandmarkValue)
+        × (replies history ls ≡ replies history before ++ (ValuesHead (length values) ∷ value_rows values)
+        ++ replies (plain_after history before) after)
+        × (map kept_point values ≡ filter (λ (p : Point). nat_le from p.0 && nat_le p.0 to) (marked_of (plain_after history before) name)) }
 {}
 
 /// Each line of a session that asks why an end of an answer can't be narrower, and isn't refused then, has the lines of some

@@ -19,8 +19,9 @@ mod status;
 mod taking;
 
 pub use laws::{
-    certificates_are_sharp, dropped_streams_are_unknown, presence_holds_the_truth,
-    queries_hold_the_truth, reports_are_replies, series_hold_the_truth, sessions_leave_a_history,
+    certificates_are_sharp, dropped_streams_are_unknown, landmark_values_are_told,
+    newest_values_are_told, presence_holds_the_truth, queries_hold_the_truth, reports_are_replies,
+    series_hold_the_truth, sessions_leave_a_history,
 };
 pub use promises::run_store;
 pub use running::{LONGEST_INPUT, run};
