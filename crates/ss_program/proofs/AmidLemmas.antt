@@ -6,6 +6,7 @@ use Rattle.ss_outside.proofs.CrashLemmas.{at_start, joined, of_content, weaker}
 use Rattle.ss_outside.specs.Crash.{KnowsNow, LeavesOnly}
 use Rattle.ss_outside.specs.Disk.{DiskView, NothingPending, Told}
 use Rattle.ss_records.specs.Kept.{RecordsState, shown_by}
+use Rattle.ss_sessions.specs.Cursors.{Cursors}
 use Rattle.ss_store.specs.Kept.{StoreState}
 use Rattle.ss_store.specs.Recover.{Stands}
 use Rattle.ss_program.specs.Amid.{Amid, AreOwed, GoesAmid, HasRoom, IsAmid, IsReady, Takes, TakesNone, amid, one_more, owed_by}
@@ -163,8 +164,8 @@ module _ {sealing : Sealing} {talk : Talk} {ls : List (List ℕ)} {before : Opti
       Takes-then {more = []} {mores = mores} result first (subst (λ l. Takes sealing talk l mores before mid to result between new) (sym (append-nil ls)) second)
 
 -- none are taken
-pub TakesNone-still : (at : Amid) (disk : Told) (u : Unit {0}) → KnowsNow disk → TakesNone at at (Ok u) disk disk
-TakesNone-still at disk u knows sealing talk ls before = record {
-  goes = λ is. subst (λ l. GoesAmid sealing talk l before at disk disk) (sym (append-nil ls)) (GoesAmid-none sealing talk ls before at disk knows is);
+pub TakesNone-still : (at : Cursors → Amid) (disk : Told) (u : Unit {0}) → KnowsNow disk → TakesNone at at (Ok u) disk disk
+TakesNone-still at disk u knows cursors sealing talk ls before = record {
+  goes = λ is. subst (λ l. GoesAmid sealing talk l before (at cursors) disk disk) (sym (append-nil ls)) (GoesAmid-none sealing talk ls before (at cursors) disk knows is);
   stops = tt;
 }

@@ -1,6 +1,7 @@
 -- A line of a session, by what it brings.
 use Rattle.std.proofs.Common.{
   ◌⊎◌,
+  inl,
   ⊎_elim,
   ◌≡◌,
   ℕ,
@@ -29,23 +30,29 @@ use Rattle.std.proofs.Common.{
 use Rattle.std.proofs.lemmas.List.{append-nil}
 use Rattle.std.specs.List.{flat_map}
 use Rattle.std.specs.Prelude.{IsTrue, OnOk}
-use Rattle.ss_outside.proofs.CrashLemmas.{now, of_content, reads-none, weaker}
+use Rattle.ss_catalog.specs.declared.event.Event.{Event}
+use Rattle.ss_command.specs.declared.command.Command.TheVariants.{Do}
+use Rattle.ss_model.specs.Refusals.{refuses}
+use Rattle.ss_model.specs.State.{state}
+use Rattle.ss_outside.proofs.CrashLemmas.{at_start, now, of_content, reads-none, weaker}
 use Rattle.ss_outside.specs.Crash.{KnowsNow, LeavesOnly}
 use Rattle.ss_journal.proofs.ShownLemmas.{shown-sealed}
 use Rattle.ss_outside.specs.Disk.{DiskView, Told}
 use Rattle.ss_records.specs.Kept.{RecordsState, shown_by}
-use Rattle.ss_report.specs.Text.{reply_line}
+use Rattle.ss_report.specs.Text.{said_line}
 use Rattle.ss_report.specs.declared.reply.Reply.{Reply}
 use Rattle.ss_store.specs.Calls.{Turns, TurnsHistory}
 use Rattle.ss_store.specs.Kept.{StoreState}
 use Rattle.ss_store.specs.Recover.{Stands}
-use Rattle.ss_program.specs.Amid.{Amid, AreOwed, GoesAmid, IsAmid, StagesBrought, TakesBrought, TakesNone, TakesTurn, amid, owed_by, with_text}
-use Rattle.ss_program.specs.Answer.{Adds, IsOpen, Replies}
-use Rattle.ss_program.specs.Line.{Brought, History, history_after, nothing, text_brought, the_event}
-use Rattle.ss_program.specs.Progress.{IsAlone, NoneWait, StandsAround, StandsWithin, StopsIn, StopsWith}
-use Rattle.ss_program.specs.Sent.{appended, AppendsLess}
+use Rattle.ss_program.specs.Amid.{Amid, AreOwed, GoesAmid, IsAmid, Owed, StagesBrought, TakesBrought, TakesNone, TakesTurn, amid, owed_by, with_text}
+use Rattle.ss_program.specs.Answer.{Adds, IsOpen, Replies, at_sink}
+use Rattle.ss_program.specs.Line.{Brought, History, command_brings, history_after, nothing, text_said, the_event}
+use Rattle.ss_program.specs.Progress.{IsAlone, NoneWait, StandsAround, StandsWithin, StopsIn}
+use Rattle.ss_program.specs.Sent.{appended, AppendsLess, Sends, StopsSaying}
 use Rattle.ss_program.specs.Session.{after_line, after_lines, text_of}
-use Rattle.ss_program.specs.Talk.{Talk, Turn, after_turn, no_cursors, turn_brought, turn_of}
+use Rattle.ss_program.specs.Talk.{Talk, Turn, after_turn, turn_brought, turn_of}
+use Rattle.ss_outside.specs.declared.source.Failed.{Failed}
+use Rattle.ss_sessions.specs.Cursors.{Cursors}
 use Rattle.ss_arguments.specs.declared.mode.Sealing.{Sealing}
 use Rattle.ss_arguments.specs.declared.mode.Sealing.TheVariants.{Each, Shared}
 use Rattle.ss_program.specs.declared.status.Status.{Status}
@@ -61,7 +68,7 @@ use Rattle.ss_program.specs.declared.status.Status.TheVariants.{
   RecordChanged,
 }
 use Rattle.ss_program.proofs.AmidLemmas.{AreOwed-none, GoesAmid-none, IsAmid-begin, StandsBeyond-all, StandsBeyond-none, Takes-next, Takes-then, owed-nothing, said-all, sealing-owed}
-use Rattle.ss_program.proofs.AnswerLemmas.{history-still}
+use Rattle.ss_program.proofs.AnswerLemmas.{event-some, history-still}
 use Rattle.ss_program.proofs.SealLemmas.{line-owed, line-stopped}
 use Rattle.ss_program.proofs.SendLemmas.{appended-appended}
 use Rattle.ss_program.proofs.SessionLemmas.{
@@ -77,8 +84,11 @@ use Rattle.ss_program.proofs.SessionLemmas.{
 use Rattle.ss_program.proofs.StagingLemmas.{Turns-looked, shown-still}
 
 -- what a call answers
-abbrev the_stop : Status → Result Reply Status
-the_stop status = Err status
+abbrev pub given : {T : Type 0} → T → Result T Status
+given value = Ok value
+
+abbrev pub halted : {T : Type 0} → Status → Result T Status
+halted status = Err status
 
 abbrev the_reply : Reply → Result Reply Status
 the_reply reply = Ok reply
@@ -105,60 +115,91 @@ moments-around talk ls line old new run =
     (λ image either. ⊎_elim (StandsWithin-before talk ls line image) (StandsWithin-after talk ls line image) either) run
 
 -- what it added, by its turn
-adds_to : (talk : Talk) (line : List ℕ) (brought : Brought) (old new : Told) (result : Result (Unit {0}) Status) →
-    turn_of talk line ≡ turn_brought talk brought → Adds talk.history brought old new result →
+adds_to : (speaker : Option ℕ) (talk : Talk) (line : List ℕ) (brought : Brought) (old new : Told) (result : Result (Unit {0}) Status) →
+    turn_of talk line ≡ turn_brought speaker talk brought → Adds talk.history brought old new result →
     Turns (Stands talk.history) (λ image. Stands talk.history image ⊎ Stands (after_line talk line).history image)
     (Stands (after_line talk line).history) old new result
-adds_to talk line brought old new result turn adds =
+adds_to speaker talk line brought old new result turn adds =
     subst (λ (t : Turn). Turns (Stands talk.history) (λ image. Stands talk.history image ⊎ Stands (after_turn talk t).history image)
     (Stands (after_turn talk t).history) old new result) (sym turn) adds
 
-module _ (brought : History → Brought) (was is : RecordsState) (waiting : Option (List ℕ)) (held : Option (List ℕ)) (old new : Told) (knows : KnowsNow new) where
-  turns-after : {T : Type 0} (result : Result T Status) (talk : Talk) (line : List ℕ) → turn_of talk line ≡ turn_brought talk (brought talk.history) →
-      TurnsHistory was is talk.history (StandsAround talk.history (brought talk.history)) (history_after talk.history (brought talk.history)) old new
-      result →
-      TurnsHistory was is talk.history (λ image. Stands talk.history image ⊎ Stands (after_line talk line).history image)
-      (after_line talk line).history old new result
-  turns-after result talk line turn turns =
-      subst (λ (t : Turn). TurnsHistory was is talk.history (λ image. Stands talk.history image ⊎ Stands (after_turn talk t).history image)
-      (after_turn talk t).history old new result) (sym turn) turns
+-- what a line does, by its turn
+abbrev pub Turning : (Talk → Turn) → RecordsState → RecordsState → {T : Type 0} → Result T Status → Told → Told → Type 0
+Turning turn was is result old new = (here : Talk) →
+    TurnsHistory was is here.history (λ image. Stands here.history image ⊎ Stands (after_turn here (turn here)).history image)
+    (after_turn here (turn here)).history old new result
 
-  -- what the line brings is staged, and its one reply is owed
-  pub TakesBrought-owed : (reply : Reply) (u : Unit {0}) → StagesBrought brought was is (Ok reply) old new →
-      TakesBrought brought (amid was (owed_by waiting) held) (amid is (with_text (owed_by waiting) (reply_line reply)) held) (Ok u) old new
-  TakesBrought-owed reply u stages sealing talk ls before line turn = record {
+module _ (turn : Talk → Turn) (was is : RecordsState) (waiting : Option (List ℕ)) (held : Option (List ℕ)) (cursors : Cursors) (old new : Told)
+    (knows : KnowsNow new) where
+  turns-after : {T : Type 0} (result : Result T Status) (here : Talk) (line : List ℕ) → turn_of here line ≡ turn here →
+      TurnsHistory was is here.history (λ image. Stands here.history image ⊎ Stands (after_turn here (turn here)).history image)
+      (after_turn here (turn here)).history old new result →
+      TurnsHistory was is here.history (λ image. Stands here.history image ⊎ Stands (after_line here line).history image)
+      (after_line here line).history old new result
+  turns-after result here line known turns =
+      subst (λ (t : Turn). TurnsHistory was is here.history (λ image. Stands here.history image ⊎ Stands (after_turn here t).history image)
+      (after_turn here t).history old new result) (sym known) turns
+
+  -- what a line brings is done in memory, and what is said to it is owed
+  pub TakesTurn-owed : {T : Type 0} (value : T) (after : Cursors) (text : List ℕ) (u : Unit {0}) → Turning turn was is (given value) old new →
+      ((here : Talk) → here.cursors ≡ cursors → Stands here.history (shown_by was old.content) →
+      ((turn here).says ≡ text) × ((turn here).cursors ≡ after)) →
+      TakesTurn turn (amid was (owed_by waiting) held cursors) (amid is (with_text (owed_by waiting) text) held after) (Ok u) old new
+  TakesTurn-owed value after text u turns says sealing talk ls before line known = record {
     goes = λ at.
         let here = after_lines talk ls in
-        let text : text_brought (brought here.history) ≡ reply_line reply =
-        ap (λ rs. flat_map reply_line rs) (stages.reply here.history at.shown) ∙ append-nil (reply_line reply) in
-        line-owed sealing talk ls before (amid was (owed_by waiting) held) old new knows at line is (the_reply reply)
-        (turns-after (the_reply reply) here line turn (stages.turns here.history))
-        (amid is (with_text (owed_by waiting) (reply_line reply)) held) reply refl
-        (ap (λ (t : Turn). t.cursors) turn ∙ sym at.cursors) refl
-        (ap (λ (t : List ℕ). with_text (owed_by waiting) t) (sym (ap (λ (t : Turn). t.says) turn ∙ text))) refl;
+        let said = says here (sym at.cursors) at.shown in
+        line-owed sealing talk ls before (amid was (owed_by waiting) held cursors) old new knows at line is (given value)
+        (turns-after (given value) here line known (turns here))
+        (amid is (with_text (owed_by waiting) text) held after) value refl
+        (ap (λ (t : Turn). t.cursors) known ∙ said.1) refl
+        (ap (λ (t : List ℕ). with_text (owed_by waiting) t) (sym (ap (λ (t : Turn). t.says) known ∙ said.0))) refl;
     stops = tt;
   }
 
-  -- the run stops at the line, to which something is said
-  pub TakesBrought-stopped : (to : Amid) (status : Status) → held ≡ to.held → (status ≡ OutOfMemory → ⊥) →
-      ((history : History) → Stands history (shown_by was old.content) → 0 < length (text_brought (brought history))) →
-      StagesBrought brought was is (Err status) old new → TakesBrought brought (amid was (owed_by waiting) held) to (Err status) old new
-  TakesBrought-stopped to status same other some stages sealing talk ls before line turn = record {
+  -- the run stops at a line to which something is said
+  pub TakesTurn-stopped : {T : Type 0} (to : Amid) (status : Status) → held ≡ to.held → (status ≡ OutOfMemory → ⊥) →
+      ((here : Talk) → Stands here.history (shown_by was old.content) → 0 < length (turn here).says) →
+      Turning turn was is (halted {T = T} status) old new → TakesTurn turn (amid was (owed_by waiting) held cursors) to (Err status) old new
+  TakesTurn-stopped {T = T} to status same other some turns sealing talk ls before line known = record {
     goes = tt;
     stops = λ at.
         let here = after_lines talk ls in
         subst (λ o. StopsIn sealing talk (ls ++ line ∷ []) old new before o status) same
-        (line-stopped sealing talk ls before (amid was (owed_by waiting) held) old new knows at line is (the_stop status)
-        (turns-after (the_stop status) here line turn (stages.turns here.history)) waiting status refl other
-        (subst (λ (t : Turn). 0 < length t.says) (sym turn) (some here.history at.shown)));
+        (line-stopped sealing talk ls before (amid was (owed_by waiting) held cursors) old new knows at line is (halted {T = T} status)
+        (turns-after (halted {T = T} status) here line known (turns here)) waiting status refl other
+        (subst (λ (t : Turn). 0 < length t.says) (sym known) (some here at.shown)));
   }
 
+module _ (speaker : Option ℕ) (brought : History → Brought) (was is : RecordsState) (waiting : Option (List ℕ)) (held : Option (List ℕ)) (old new : Told)
+    (knows : KnowsNow new) where
+  -- what the line brings is staged, and its one reply is owed
+  pub TakesBrought-owed : (reply : Reply) (u : Unit {0}) → StagesBrought brought was is (Ok reply) old new →
+      TakesBrought speaker brought (amid was (owed_by waiting) held) (amid is (with_text (owed_by waiting) (said_line speaker reply)) held) (Ok u) old new
+  TakesBrought-owed reply u stages cursors =
+      TakesTurn-owed (λ talk. turn_brought speaker talk (brought talk.history)) was is waiting held cursors old new knows reply cursors
+      (said_line speaker reply) u (λ here. stages.turns here.history)
+      (λ here same stands. (
+        ap (λ rs. flat_map (said_line speaker) rs) (stages.reply here.history stands) ∙ append-nil (said_line speaker reply),
+        same,
+      ))
+
+  -- the run stops at the line, to which something is said
+  pub TakesBrought-stopped : (left : Owed) (status : Status) → (status ≡ OutOfMemory → ⊥) →
+      ((history : History) → Stands history (shown_by was old.content) → 0 < length (text_said speaker (brought history))) →
+      StagesBrought brought was is (Err status) old new →
+      TakesBrought speaker brought (amid was (owed_by waiting) held) (amid is left held) (Err status) old new
+  TakesBrought-stopped left status other some stages cursors =
+      TakesTurn-stopped (λ talk. turn_brought speaker talk (brought talk.history)) was is waiting held cursors old new knows {T = Reply}
+      (amid is left held cursors) status refl other (λ here stands. some here.history stands) (λ here. stages.turns here.history)
+
 -- a line at which nothing is done: it is owed one reply
-pub TakesBrought-still : {was : RecordsState} (brought : Brought) (waiting : Option (List ℕ)) (held : Option (List ℕ)) (disk : Told) (reply : Reply)
+pub TakesBrought-still : {was : RecordsState} (speaker : Option ℕ) (brought : Brought) (waiting : Option (List ℕ)) (held : Option (List ℕ)) (disk : Told) (reply : Reply)
     (u : Unit {0}) → KnowsNow disk → brought.event ≡ None → brought.replies ≡ reply ∷ [] →
-    TakesBrought (λ history. brought) (amid was (owed_by waiting) held) (amid was (with_text (owed_by waiting) (reply_line reply)) held) (Ok u) disk disk
-TakesBrought-still {was = was} brought waiting held disk reply u knows none one =
-    TakesBrought-owed (λ history. brought) was was waiting held disk disk knows reply u (record {
+    TakesBrought speaker (λ history. brought) (amid was (owed_by waiting) held) (amid was (with_text (owed_by waiting) (said_line speaker reply)) held)
+    (Ok u) disk disk
+TakesBrought-still {was = was} speaker brought waiting held disk reply u knows none one =
+    TakesBrought-owed speaker (λ history. brought) was was waiting held disk disk knows reply u (record {
       turns = λ history. Turns-looked was was history disk disk brought (Ok reply) knows (reads-none disk)
           (λ stands. shown-still was was history brought disk.content disk.content none refl stands);
       reply = λ history stands. one;
@@ -174,8 +215,8 @@ no-lines [] none = refl
 no-lines (line ∷ ls) none = absurd (omega (arith, none))
 
 -- a line that brings nothing: nothing is owed to it
-module _ (was : RecordsState) (held : Option (List ℕ)) (disk : Told) (knows : KnowsNow disk) (talk : Talk) (ls : List (List ℕ)) (line : List ℕ)
-    (before : Option (List ℕ)) (turn : turn_of (after_lines talk ls) line ≡ turn_brought (after_lines talk ls) nothing) where
+module _ (speaker : Option ℕ) (was : RecordsState) (held : Option (List ℕ)) (cursors : Cursors) (disk : Told) (knows : KnowsNow disk) (talk : Talk) (ls : List (List ℕ)) (line : List ℕ)
+    (before : Option (List ℕ)) (turn : turn_of (after_lines talk ls) line ≡ turn_brought speaker (after_lines talk ls) nothing) where
   -- the conversation after it is the one before
   silent-talk : after_lines talk (ls ++ line ∷ []) ≡ after_lines talk ls
   silent-talk =
@@ -186,14 +227,14 @@ module _ (was : RecordsState) (held : Option (List ℕ)) (disk : Told) (knows : 
   silent-text : text_of talk (ls ++ line ∷ []) ≡ text_of talk ls
   silent-text = text_of-push talk ls line ∙ ap (λ (t : Turn). text_of talk ls ++ t.says) turn ∙ append-nil (text_of talk ls)
 
-  silent-goes : (sealing : Sealing) (waiting : Option (List ℕ)) → IsAmid sealing talk ls before (amid was (owed_by waiting) held) disk →
-      GoesAmid sealing talk (ls ++ line ∷ []) before (amid was (owed_by waiting) held) disk disk
+  silent-goes : (sealing : Sealing) (waiting : Option (List ℕ)) → IsAmid sealing talk ls before (amid was (owed_by waiting) held cursors) disk →
+      GoesAmid sealing talk (ls ++ line ∷ []) before (amid was (owed_by waiting) held cursors) disk disk
   silent-goes Each None at =
       let none = no-lines at.rest at.few in
       let out : ls ≡ at.out = at.are ∙ ap (λ l. at.out ++ l) none ∙ append-nil at.out in
       let stands = within-none (after_lines talk at.out) disk.content
       (subst (λ l. StandsWithin (after_lines talk at.out) l disk.content) none at.within) in
-      GoesAmid-none Each talk (ls ++ line ∷ []) before (amid was (owed_by None) held) disk knows (record {
+      GoesAmid-none Each talk (ls ++ line ∷ []) before (amid was (owed_by None) held cursors) disk knows (record {
         out = ls ++ line ∷ [];
         rest = [];
         are = sym (append-nil (ls ++ line ∷ []));
@@ -209,7 +250,7 @@ module _ (was : RecordsState) (held : Option (List ℕ)) (disk : Told) (knows : 
   silent-goes Shared None at = absurd at.few
   silent-goes Shared (Some replies) at =
       let here = after_lines talk ls in
-      let from = amid was (owed_by (Some replies)) held in
+      let from = amid was (owed_by (Some replies)) held cursors in
       line-owed Shared talk ls before from disk disk knows at line was (the_answer tt)
       (subst (λ (t : Turn). TurnsHistory was was here.history (λ image. Stands here.history image ⊎ Stands (after_turn here t).history image)
       (after_turn here t).history disk disk (the_answer tt)) (sym turn)
@@ -219,45 +260,36 @@ module _ (was : RecordsState) (held : Option (List ℕ)) (disk : Told) (knows : 
       (ap (λ (t : List ℕ). record { text = t; lines = None }) (sym (append-nil replies))
       ∙ ap (λ (t : Turn). with_text (owed_by (Some replies)) t.says) (sym turn)) refl
 
-pub TakesBrought-silent : (was : RecordsState) (waiting : Option (List ℕ)) (held : Option (List ℕ)) (disk : Told) (u : Unit {0}) → KnowsNow disk →
-    TakesBrought (λ history. nothing) (amid was (owed_by waiting) held) (amid was (owed_by waiting) held) (Ok u) disk disk
-TakesBrought-silent was waiting held disk u knows sealing talk ls before line turn =
-    record { goes = λ at. silent-goes was held disk knows talk ls line before turn sealing waiting at; stops = tt }
+pub TakesBrought-silent : (speaker : Option ℕ) (was : RecordsState) (waiting : Option (List ℕ)) (held : Option (List ℕ)) (disk : Told) (u : Unit {0}) →
+    KnowsNow disk → TakesBrought speaker (λ history. nothing) (amid was (owed_by waiting) held) (amid was (owed_by waiting) held) (Ok u) disk disk
+TakesBrought-silent speaker was waiting held disk u knows cursors sealing talk ls before line turn =
+    record { goes = λ at. silent-goes speaker was held cursors disk knows talk ls line before turn sealing waiting at; stops = tt }
 
--- what was brought to the disk before a line failed, or was cut off
-pub TakesTurn-unsealed : {from to : Amid} {old new : Told} (turn : Talk → Turn) (status : Status) → TakesNone from to (Err status) old new →
-    TakesTurn turn from to (Err status) old new
-TakesTurn-unsealed {from = from} {to = to} {old = old} {new = new} turn status takes sealing talk ls before line known = record {
-  goes = tt;
-  stops = λ at.
-      StopsIn-more sealing talk ls (line ∷ []) old new before to.held status
-      (subst (λ l. StopsIn sealing talk l old new before to.held status) (append-nil ls) ((takes sealing talk ls before).stops at));
-}
+module _ {was is : RecordsState} {owed left : Owed} {held after : Option (List ℕ)} {old new : Told} (cursors : Cursors) (turn : Talk → Turn) where
+  -- what was brought to the disk before a line failed, or was cut off
+  pub TakesTurn-unsealed : (status : Status) → TakesNone (amid was owed held) (amid is left after) (Err status) old new →
+      TakesTurn turn (amid was owed held cursors) (amid is left after cursors) (Err status) old new
+  TakesTurn-unsealed status takes sealing talk ls before line known = record {
+    goes = tt;
+    stops = λ at.
+        StopsIn-more sealing talk ls (line ∷ []) old new before after status
+        (subst (λ l. StopsIn sealing talk l old new before after status) (append-nil ls) ((takes cursors sealing talk ls before).stops at));
+  }
 
--- a line is done in memory, and then what is said to it
-pub TakesTurn-said : {from mid to : Amid} {old between new : Told} (turn : Talk → Turn) (u : Unit {0}) (result : Result (Unit {0}) Status) →
-    TakesTurn turn from mid (Ok u) old between → TakesNone mid to result between new → TakesTurn turn from to result old new
-TakesTurn-said turn u result first second sealing talk ls before line known =
-    Takes-then result (first sealing talk ls before line known) (second sealing talk (ls ++ line ∷ []) before)
-
--- or after what was brought to the disk before it
-pub TakesTurn-next : {from mid to : Amid} {old between new : Told} (turn : Talk → Turn) (u : Unit {0}) (result : Result (Unit {0}) Status) →
-    TakesNone from mid (Ok u) old between → TakesTurn turn mid to result between new → TakesTurn turn from to result old new
-TakesTurn-next turn u result first second sealing talk ls before line known =
-    Takes-next result (first sealing talk ls before) (second sealing talk ls before line known)
-
-module _ (brought : History → Brought) {from to : Amid} {old new : Told} where
-  -- Memory ran out at an event, after which all that waited was brought to the disk and sent.
-  pub TakesBrought-starved : {u : Unit {0}} → KnowsNow new → to.owed.text ≡ [] → shown_by to.records new.content ≡ new.content →
-      ((history : History) → Stands history (shown_by from.records old.content) → IsSome (brought history).event) →
-      TakesNone from to (Ok u) old new → TakesBrought brought from to (Err OutOfMemory) old new
-  TakesBrought-starved knows none sealed accepted takes sealing talk ls before line turn = record {
+  -- Memory ran out at a line that wants it, after which all that waited was brought to the disk and sent.
+  pub TakesTurn-starved : {u : Unit {0}} → KnowsNow new → left.text ≡ [] → shown_by is new.content ≡ new.content →
+      ((here : Talk) → here.cursors ≡ cursors → Stands here.history (shown_by was old.content) →
+      IsTrue (turn here).wants_memory × (0 < length (turn here).says)) →
+      TakesNone (amid was owed held) (amid is left after) (Ok u) old new →
+      TakesTurn turn (amid was owed held cursors) (amid is left after cursors) (Err OutOfMemory) old new
+  TakesTurn-starved knows none sealed wants takes sealing talk ls before line known = record {
     goes = tt;
     stops = λ at.
         let here = after_lines talk ls in
-        let goes = subst (λ l. GoesAmid sealing talk l before to old new) (append-nil ls) ((takes sealing talk ls before).goes at) in
-        let left = of_content new (Stands here.history) goes.amid.durable (subst (Stands here.history) sealed goes.amid.shown) in
-        let some : IsSome (turn_of here line).event = subst (λ (t : Turn). IsSome t.event) (sym turn) (accepted here.history at.shown) in
+        let to = amid is left after cursors in
+        let goes = subst (λ l. GoesAmid sealing talk l before to old new) (append-nil ls) ((takes cursors sealing talk ls before).goes at) in
+        let rests = of_content new (Stands here.history) goes.amid.durable (subst (Stands here.history) sealed goes.amid.shown) in
+        let want = wants here (sym at.cursors) at.shown in
         record {
           at = record {
             out = ls;
@@ -266,19 +298,62 @@ module _ (brought : History → Brought) {from to : Amid} {old new : Told} where
             are = refl;
             bytes = 0;
             few = omega arith;
-            alone = IsAlone-one sealing here line 0 (says-some here line some);
+            alone = IsAlone-one sealing here line 0 (subst (λ (t : Turn). 0 < length t.says) (sym known) want.1);
             sent = said-all sealing talk ls before to new none goes.amid
                 ∙ ap (λ (t : List ℕ). appended before t) (sym (append-nil (text_of talk ls)));
-            left = λ image is. StandsBeyond-none here (line ∷ []) image ([], line ∷ [], refl, left image is);
-            starved = λ memory. (
-              refl,
-              subst (λ (t : Turn). IsTrue t.wants_memory) (sym turn) (accepted here.history at.shown),
-              left,
-            );
+            left = λ image is. StandsBeyond-none here (line ∷ []) image ([], line ∷ [], refl, rests image is);
+            starved = λ memory. (refl, subst (λ (t : Turn). IsTrue t.wants_memory) (sym known) want.0, rests);
           };
           any_moment = moments-more talk old new ls (line ∷ []) goes.any_moment;
         };
   }
+
+module _ {was is : RecordsState} {owed left : Owed} {held after : Option (List ℕ)} {old between new : Told} (cursors : Cursors) (turn : Talk → Turn)
+    (u : Unit {0}) (result : Result (Unit {0}) Status) where
+  -- a line is done in memory, and then what is said to it
+  pub TakesTurn-said : {from : Amid} → TakesTurn turn from (amid was owed held cursors) (Ok u) old between →
+      TakesNone (amid was owed held) (amid is left after) result between new → TakesTurn turn from (amid is left after cursors) result old new
+  TakesTurn-said first second sealing talk ls before line known =
+      Takes-then result (first sealing talk ls before line known) (second cursors sealing talk (ls ++ line ∷ []) before)
+
+  -- or after what was brought to the disk before it
+  pub TakesTurn-next : {to : Amid} → TakesNone (amid was owed held) (amid is left after) (Ok u) old between →
+      TakesTurn turn (amid is left after cursors) to result between new → TakesTurn turn (amid was owed held cursors) to result old new
+  TakesTurn-next first second sealing talk ls before line known =
+      Takes-next result (first cursors sealing talk ls before) (second sealing talk ls before line known)
+
+-- the same of what a line brings, whatever cursors there are
+module _ {was is : RecordsState} {owed left : Owed} {held after : Option (List ℕ)} {old new : Told} (speaker : Option ℕ) (brought : History → Brought) where
+  pub TakesBrought-unsealed : (status : Status) → TakesNone (amid was owed held) (amid is left after) (Err status) old new →
+      TakesBrought speaker brought (amid was owed held) (amid is left after) (Err status) old new
+  TakesBrought-unsealed status takes cursors = TakesTurn-unsealed cursors (λ talk. turn_brought speaker talk (brought talk.history)) status takes
+
+module _ {was mid is : RecordsState} {owed between left : Owed} {held middle after : Option (List ℕ)} {old then new : Told} (speaker : Option ℕ)
+    (brought : History → Brought) (u : Unit {0}) (result : Result (Unit {0}) Status) where
+  pub TakesBrought-said : TakesBrought speaker brought (amid was owed held) (amid mid between middle) (Ok u) old then →
+      TakesNone (amid mid between middle) (amid is left after) result then new →
+      TakesBrought speaker brought (amid was owed held) (amid is left after) result old new
+  TakesBrought-said first second cursors =
+      TakesTurn-said cursors (λ talk. turn_brought speaker talk (brought talk.history)) u result (first cursors) second
+
+  pub TakesBrought-next : TakesNone (amid was owed held) (amid mid between middle) (Ok u) old then →
+      TakesBrought speaker brought (amid mid between middle) (amid is left after) result then new →
+      TakesBrought speaker brought (amid was owed held) (amid is left after) result old new
+  TakesBrought-next first second cursors =
+      TakesTurn-next cursors (λ talk. turn_brought speaker talk (brought talk.history)) u result first (second cursors)
+
+-- memory ran out at an event
+pub TakesBrought-starved : {was is : RecordsState} {owed left : Owed} {held after : Option (List ℕ)} {old new : Told} {u : Unit {0}} (speaker : Option ℕ)
+    (event : Event) → KnowsNow new → left.text ≡ [] → shown_by is new.content ≡ new.content →
+    ((history : History) → Stands history (shown_by was old.content) → IsSome (command_brings history (Do event)).event) →
+    TakesNone (amid was owed held) (amid is left after) (Ok u) old new →
+    TakesBrought speaker (λ history. command_brings history (Do event)) (amid was owed held) (amid is left after) (Err OutOfMemory) old new
+TakesBrought-starved speaker event knows none sealed accepted takes cursors =
+    TakesTurn-starved cursors (λ talk. turn_brought speaker talk (command_brings talk.history (Do event))) knows none sealed
+    (λ here same stands. (
+      accepted here.history stands,
+      event-some speaker here.history event (refuses (state here.history) event) (accepted here.history stands),
+    )) takes
 
 -- less than what is said to a line was sent, which brings no event
 Stops-rows : (sealing : Sealing) (talk : Talk) (ls : List (List ℕ)) (line : List ℕ) (before held after : Option (List ℕ)) (old new : Told)
@@ -315,40 +390,40 @@ Stops-rows sealing talk ls line before held after old new status knows other sai
     }
 
 -- what is left in the sink, where a line brings no event
-less-of : (brought : Brought) (before after : Option (List ℕ)) (status : Status) → brought.event ≡ None → StopsWith brought before after status →
-    (status ≡ OutOfMemory → ⊥) × AppendsLess before after (text_brought brought)
-less-of brought before after SinkFault none stop = (λ memory. cc, stop)
-less-of brought before after DiskFault none stop = (λ memory. cc, stop)
-less-of brought before after RecordChanged none stop = (λ memory. cc, stop)
-less-of brought before after OutOfMemory none stop = let some = subst (λ e. IsSome e) none stop.1 in cc
-less-of brought before after Done none stop = absurd stop
-less-of brought before after Usage none stop = absurd stop
-less-of brought before after RefusedStore none stop = absurd stop
-less-of brought before after SourceFault none stop = absurd stop
-less-of brought before after InputLimit none stop = absurd stop
+less-of : (speaker : Option ℕ) (brought : Brought) (before after : Option (List ℕ)) (status : Status) → brought.event ≡ None → StopsSaying (text_said speaker brought) (IsSome brought.event) before after status →
+    (status ≡ OutOfMemory → ⊥) × AppendsLess before after (text_said speaker brought)
+less-of speaker brought before after SinkFault none stop = (λ memory. cc, stop)
+less-of speaker brought before after DiskFault none stop = (λ memory. cc, stop)
+less-of speaker brought before after RecordChanged none stop = (λ memory. cc, stop)
+less-of speaker brought before after OutOfMemory none stop = let some = subst (λ e. IsSome e) none stop.1 in cc
+less-of speaker brought before after Done none stop = absurd stop
+less-of speaker brought before after Usage none stop = absurd stop
+less-of speaker brought before after RefusedStore none stop = absurd stop
+less-of speaker brought before after SourceFault none stop = absurd stop
+less-of speaker brought before after InputLimit none stop = absurd stop
 
-module _ {was is : RecordsState} (brought : History → Brought) (waiting : Option (List ℕ)) (held after : Option (List ℕ)) (old new : Told)
+module _ {was is : RecordsState} (speaker : Option ℕ) (brought : History → Brought) (waiting : Option (List ℕ)) (held after : Option (List ℕ)) (old new : Told)
     (knows : KnowsNow new) (none : NoneWait waiting) (sealed : shown_by was old.content ≡ old.content)
     (no_event : (history : History) → (brought history).event ≡ None) where
   -- A line that brings no event is answered where nothing waits, and nothing is staged then.
   pub TakesBrought-rows : (result : Result (Unit {0}) Status) → OnOk result (shown_by is new.content ≡ new.content) →
       ((history : History) → Adds history (brought history) old new result) →
-      ((history : History) → Stands history old.content → Replies None (brought history) held after result) →
-      TakesBrought brought (amid was (owed_by waiting) held) (amid is (owed_by waiting) after) result old new
-  TakesBrought-rows (Ok u) still adds replies sealing talk ls before line turn = record {
+      ((history : History) → Stands history old.content → Replies speaker (brought history) held after result) →
+      TakesBrought speaker brought (amid was (owed_by waiting) held) (amid is (owed_by waiting) after) result old new
+  TakesBrought-rows (Ok u) still adds replies cursors sealing talk ls before line turn = record {
     goes = λ at.
         let here = after_lines talk ls in
         let stands = subst (Stands here.history) sealed at.shown in
-        let turns = adds_to here line (brought here.history) old new (Ok u) turn (adds here.history) in
-        let said = said-all sealing talk ls before (amid was (owed_by waiting) held) old (owed-nothing waiting none) at in
+        let turns = adds_to speaker here line (brought here.history) old new (Ok u) turn (adds here.history) in
+        let said = said-all sealing talk ls before (amid was (owed_by waiting) held cursors) old (owed-nothing waiting none) at in
         let sent = replies here.history stands in
         let push = after_lines-push talk ls line in
         record {
-          amid = IsAmid-begin sealing talk (ls ++ line ∷ []) before (amid is (owed_by waiting) after) new (owed-nothing waiting none)
+          amid = IsAmid-begin sealing talk (ls ++ line ∷ []) before (amid is (owed_by waiting) after cursors) new (owed-nothing waiting none)
               (AreOwed-none sealing waiting (sealing-owed sealing waiting at.rest at.few)) still
               (subst (λ (t : Talk). Stands t.history new.content) (sym push) (turns.content stands)) (turns.durable at.durable)
-              (sent ∙ ap (λ o. appended o (text_brought (brought here.history))) said
-              ∙ appended-appended before (text_of talk ls) (text_brought (brought here.history))
+              (sent ∙ ap (λ o. appended o (text_said speaker (brought here.history))) said
+              ∙ appended-appended before (text_of talk ls) (text_said speaker (brought here.history))
               ∙ ap (λ (t : Turn). appended before (text_of talk ls ++ t.says)) (sym turn)
               ∙ ap (λ (t : List ℕ). appended before t) (sym (text_of-push talk ls line)))
               (at.cursors ∙ ap (λ (t : Turn). t.cursors) (sym turn) ∙ ap (λ (t : Talk). t.cursors) (sym push));
@@ -356,17 +431,54 @@ module _ {was is : RecordsState} (brought : History → Brought) (waiting : Opti
         };
     stops = tt;
   }
-  TakesBrought-rows (Err status) still adds replies sealing talk ls before line turn = record {
+  TakesBrought-rows (Err status) still adds replies cursors sealing talk ls before line turn = record {
     goes = tt;
     stops = λ at.
         let here = after_lines talk ls in
         let stands = subst (Stands here.history) sealed at.shown in
-        let turns = adds_to here line (brought here.history) old new (unanswered status) turn (adds here.history) in
-        let less = less-of (brought here.history) held after status (no_event here.history) (replies here.history stands) in
+        let turns = adds_to speaker here line (brought here.history) old new (unanswered status) turn (adds here.history) in
+        let less = less-of speaker (brought here.history) held after status (no_event here.history) (replies here.history stands) in
         Stops-rows sealing talk ls line before held after old new status knows less.0
-        (said-all sealing talk ls before (amid was (owed_by waiting) held) old (owed-nothing waiting none) at)
+        (said-all sealing talk ls before (amid was (owed_by waiting) held cursors) old (owed-nothing waiting none) at)
         (ap (λ (t : Turn). t.event) turn ∙ no_event here.history)
         (subst (λ (t : Turn). AppendsLess held after t.says) (sym turn) less.1) (turns.any_moment at.durable stands);
+  }
+
+-- What is said to a line that brings no event is sent at once, where nothing waits, and nothing is staged then.
+module _ {was : RecordsState} (turn : Talk → Turn) (waiting : Option (List ℕ)) (held after : Option (List ℕ)) (cursors left : Cursors) (disk : Told)
+    (knows : KnowsNow disk) (none : NoneWait waiting) (sealed : shown_by was disk.content ≡ disk.content) (text : List ℕ)
+    (says : (here : Talk) → here.cursors ≡ cursors → ((turn here).says ≡ text) × ((turn here).event ≡ None)) where
+  pub TakesTurn-put : (sent : Result (Unit {0}) Failed) → Sends held after text sent →
+      OnOk sent ((here : Talk) → here.cursors ≡ cursors → left ≡ (turn here).cursors) →
+      TakesTurn turn (amid was (owed_by waiting) held cursors) (amid was (owed_by waiting) after left) (at_sink sent) disk disk
+  TakesTurn-put (Ok u) sends goes sealing talk ls before line known = record {
+    goes = λ at.
+        let here = after_lines talk ls in
+        let said = says here (sym at.cursors) in
+        let then = after_lines-push talk ls line ∙ ap (λ (t : Turn). after_turn here t) known in
+        let still = ap (λ e. here.history ++ the_event e) said.1 ∙ append-nil here.history in
+        GoesAmid-none sealing talk (ls ++ line ∷ []) before (amid was (owed_by waiting) after left) disk knows
+        (IsAmid-begin sealing talk (ls ++ line ∷ []) before (amid was (owed_by waiting) after left) disk (owed-nothing waiting none)
+        (AreOwed-none sealing waiting (sealing-owed sealing waiting at.rest at.few)) sealed
+        (subst (λ h. Stands h disk.content) (sym (ap (λ (t : Talk). t.history) then ∙ still)) (subst (Stands here.history) sealed at.shown)) at.durable
+        (sends ∙ ap (λ o. appended o text) (said-all sealing talk ls before (amid was (owed_by waiting) held cursors) disk (owed-nothing waiting none) at)
+        ∙ appended-appended before (text_of talk ls) text
+        ∙ ap (λ (t : List ℕ). appended before (text_of talk ls ++ t)) (sym (ap (λ (t : Turn). t.says) known ∙ said.0))
+        ∙ ap (λ (t : List ℕ). appended before t) (sym (text_of-push talk ls line)))
+        (goes here (sym at.cursors) ∙ sym (ap (λ (t : Talk). t.cursors) then)));
+    stops = tt;
+  }
+  TakesTurn-put (Err e) sends goes sealing talk ls before line known = record {
+    goes = tt;
+    stops = λ at.
+        let here = after_lines talk ls in
+        let said = says here (sym at.cursors) in
+        let either = λ (image : List ℕ). Stands here.history image ⊎ Stands (after_line here line).history image in
+        Stops-rows sealing talk ls line before held after disk disk SinkFault knows (λ memory. cc)
+        (said-all sealing talk ls before (amid was (owed_by waiting) held cursors) disk (owed-nothing waiting none) at)
+        (ap (λ (t : Turn). t.event) known ∙ said.1)
+        (subst (λ (t : List ℕ). AppendsLess held after t) (sym (ap (λ (t : Turn). t.says) known ∙ said.0)) sends)
+        (at_start disk either knows (of_content disk either at.durable (inl (subst (Stands here.history) sealed at.shown))));
   }
 
 -- where nothing is staged, what records show is the content

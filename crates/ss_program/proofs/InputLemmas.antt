@@ -41,12 +41,14 @@ use Rattle.ss_outside.specs.Disk.{Told}
 use Rattle.ss_records.specs.Kept.{RecordsState, shown_by}
 use Rattle.ss_store.specs.Kept.{StoreState}
 use Rattle.ss_store.specs.Recover.{Stands}
-use Rattle.ss_program.specs.Amid.{Amid, GoesAmid, IsAmid, OfAmid, Takes, TakesBytes, TakesLast, TakesNone, TakesTurn, amid, owed_by}
+use Rattle.ss_program.specs.Amid.{Amid, GoesAmid, IsAmid, OfAmid, Owed, Takes, TakesBytes, TakesLast, TakesNone, TakesTurn, amid, owed_by}
 use Rattle.ss_program.specs.Progress.{EndsSession, HasReplied, HasTaken, NoneWait, SessionState, StopsIn, TakesPiece}
 use Rattle.ss_program.specs.Session.{after_lines}
 use Rattle.ss_program.specs.Line.{Brought}
-use Rattle.ss_program.specs.Talk.{Talk, kept_turn, no_cursors, turn_brought, turn_of}
+use Rattle.ss_program.specs.Talk.{Talk, kept_spoken, kept_turn, turn_brought, turn_in, turn_of}
+use Rattle.ss_sessions.specs.Cursors.{Cursors}
 use Rattle.ss_arguments.specs.declared.mode.Form.{Form}
+use Rattle.ss_arguments.specs.declared.mode.Form.TheVariants.{Lines, Sessions}
 use Rattle.ss_arguments.specs.declared.mode.Sealing.{Sealing}
 use Rattle.ss_program.specs.declared.status.Status.{Status}
 use Rattle.ss_program.specs.declared.status.Status.TheVariants.{Done}
@@ -71,7 +73,10 @@ ended_line-short (Some bytes) = unless_long-short (without_return bytes)
 -- what a line brings as it is kept is what it brings
 turn-kept : (form : Form) (talk : Talk) (o : Option (List ℕ)) (line : List ℕ) → form ≡ talk.form → o ≡ unless_long line →
     turn_of talk line ≡ kept_turn form o talk
-turn-kept form talk o line same is = ap (λ (b : Brought). turn_brought talk b) (sym (kept-brings talk.history o line is))
+turn-kept Lines talk o line same is =
+    ap (λ (form : Form). turn_in form talk line) (sym same) ∙ ap (λ (b : Brought). turn_brought None talk b) (sym (kept-brings talk.history o line is))
+turn-kept Sessions talk o line same is =
+    ap (λ (form : Form). turn_in form talk line) (sym same) ∙ ap (λ (k : Option (List ℕ)). kept_spoken talk k) (sym is)
 
 -- a line is taken as it is kept
 pub Takes-kept : {from to : Amid} {result : Result (Unit {0}) Status} {old new : Told} (form : Form) (o : Option (List ℕ)) (line : List ℕ) →
@@ -165,32 +170,32 @@ OfAmid-stops form line next from mid after status old between new piece done fir
     (second sealing talk before (input ++ take done piece) same one.0 one.1.amid))
 
 -- the state of a session by its parts
-abbrev pub session_of : Form → StoreState → Kept → Option (List ℕ) → SessionState
-session_of form store line waiting = record { form = form; store = store; line = line; cursors = no_cursors; waiting = waiting }
+abbrev pub session_of : Form → Cursors → StoreState → Kept → Option (List ℕ) → SessionState
+session_of form cursors store line waiting = record { form = form; store = store; line = line; cursors = cursors; waiting = waiting }
 
-module _ (form : Form) (store : StoreState) (line : Kept) (waiting : Option (List ℕ)) (held : Option (List ℕ)) (old : Told)
+module _ (form : Form) (cursors : Cursors) (store : StoreState) (line : Kept) (waiting : Option (List ℕ)) (held : Option (List ℕ)) (old : Told)
     (nothing_staged : shown_by store.records old.content ≡ old.content) where
   -- before a piece nothing waits, and nothing is staged
-  begins : (sealing : Sealing) (talk : Talk) (before : Option (List ℕ)) (input : List ℕ) → HasTaken sealing talk old (session_of form store line waiting) input →
-      HasReplied talk before held input → IsAmid sealing talk (lines_so_far input) before (amid store.records (owed_by waiting) held) old
+  begins : (sealing : Sealing) (talk : Talk) (before : Option (List ℕ)) (input : List ℕ) → HasTaken sealing talk old (session_of form cursors store line waiting) input →
+      HasReplied talk before held input → IsAmid sealing talk (lines_so_far input) before (amid store.records (owed_by waiting) held cursors) old
   begins sealing talk before input at replied =
-      IsAmid-begin sealing talk (lines_so_far input) before (amid store.records (owed_by waiting) held) old (owed-nothing waiting at.unsaid)
+      IsAmid-begin sealing talk (lines_so_far input) before (amid store.records (owed_by waiting) held cursors) old (owed-nothing waiting at.unsaid)
       (AreOwed-none sealing waiting at.seals) nothing_staged at.stands at.durable replied at.cursors
 
-  module _ (next : StoreState) (after_line : Kept) (left : Option (List ℕ)) (after : Option (List ℕ)) (piece : List ℕ) (new : Told) where
+  module _ (now : Cursors) (next : StoreState) (after_line : Kept) (left : Option (List ℕ)) (after : Option (List ℕ)) (piece : List ℕ) (new : Told) where
     -- a piece was taken, and then all was sealed and sent, if it was
-    pub TakesPiece-sealed : {u : Unit {0}} (mid : Amid) (between : Told) (result : Result (Unit {0}) Status) →
-        TakesBytes (λ (w : Unit {0}). piece) piece form line after_line (amid store.records (owed_by waiting) held) mid (Ok u) old between →
+    pub TakesPiece-sealed : {u : Unit {0}} (mid : Cursors → Amid) (between : Told) (result : Result (Unit {0}) Status) →
+        TakesBytes (λ (w : Unit {0}). piece) piece form line after_line (amid store.records (owed_by waiting) held cursors) (mid now) (Ok u) old between →
         TakesNone mid (amid next.records (owed_by left) after) result between new → OnOk result (shown_by next.records new.content ≡ new.content) →
         OnOk result (NoneWait left) →
-        TakesPiece (λ (w : Unit {0}). piece) piece (session_of form store line waiting) (session_of form next after_line left) held after result old new
+        TakesPiece (λ (w : Unit {0}). piece) piece (session_of form cursors store line waiting) (session_of form now next after_line left) held after result old new
     TakesPiece-sealed mid between (Ok v) bytes none_more sealed none = record {
       goes = λ sealing talk before input at replied.
           let taken = lines_so_far (input ++ piece) in
-          let to = amid next.records (owed_by left) after in
+          let to = amid next.records (owed_by left) after now in
           let one = bytes.goes sealing talk before input at.form at.line (begins sealing talk before input at replied) in
           let has = subst (λ ls. GoesAmid sealing talk ls before to old new) (append-nil taken)
-          (GoesAmid-then sealing talk taken [] before mid old between new to one.1 ((none_more sealing talk taken before).goes one.1.amid)) in
+          (GoesAmid-then sealing talk taken [] before (mid now) old between new to one.1 ((none_more now sealing talk taken before).goes one.1.amid)) in
           record {
             at = record {
               stands = subst (Stands (after_lines talk taken).history) sealed has.amid.shown;
@@ -212,30 +217,30 @@ module _ (form : Form) (store : StoreState) (line : Kept) (waiting : Option (Lis
           let taken = lines_so_far (input ++ piece) in
           let one = bytes.goes sealing talk before input at.form at.line (begins sealing talk before input at replied) in
           subst (λ ls. StopsIn sealing talk ls old new before after status) (append-nil taken)
-          (StopsIn-after sealing talk taken [] before mid old between new after status one.1 ((none_more sealing talk taken before).stops one.1.amid));
+          (StopsIn-after sealing talk taken [] before (mid now) old between new after status one.1 ((none_more now sealing talk taken before).stops one.1.amid));
     }
 
     -- or the run stopped in the piece
-    pub TakesPiece-stopped : (status : Status) → OfAmid form line (amid store.records (owed_by waiting) held) old (λ sealing talk before input.
+    pub TakesPiece-stopped : (status : Status) → OfAmid form line (amid store.records (owed_by waiting) held cursors) old (λ sealing talk before input.
         StopsIn sealing talk (lines_so_far (input ++ piece)) old new before after status) →
-        TakesPiece (λ (w : Unit {0}). piece) piece (session_of form store line waiting) (session_of form next after_line left) held after (Err status) old new
+        TakesPiece (λ (w : Unit {0}). piece) piece (session_of form cursors store line waiting) (session_of form now next after_line left) held after (Err status) old new
     TakesPiece-stopped status takes = record {
       goes = tt;
       stops = λ sealing talk before input at replied. takes sealing talk before input at.form at.line (begins sealing talk before input at replied);
     }
 
-  module _ (records : RecordsState) (left : Option (List ℕ)) (after : Option (List ℕ)) (new : Told) where
+  module _ (now : Cursors) (records : RecordsState) (left : Option (List ℕ)) (after : Option (List ℕ)) (new : Told) where
     -- the input ended, and all was sealed and sent
     pub EndsSession-done : {u : Unit {0}} → shown_by records new.content ≡ new.content → NoneWait left →
-        TakesLast form line (amid store.records (owed_by waiting) held) (amid records (owed_by left) after) (Ok u) old new →
-        EndsSession (session_of form store line waiting) held after Done old new
+        TakesLast form line (amid store.records (owed_by waiting) held cursors) (amid records (owed_by left) after now) (Ok u) old new →
+        EndsSession (session_of form cursors store line waiting) held after Done old new
     EndsSession-done sealed none takes = record {
       done = λ _ sealing talk before input at replied.
           let has = takes.goes sealing talk before input at.form at.line (begins sealing talk before input at replied) in
           record {
             stands = subst (Stands (after_lines talk (lines input)).history) sealed has.amid.shown;
             durable = has.amid.durable;
-            replied = said-all sealing talk (lines input) before (amid records (owed_by left) after) new (owed-nothing left none) has.amid;
+            replied = said-all sealing talk (lines input) before (amid records (owed_by left) after now) new (owed-nothing left none) has.amid;
             any_moment = has.any_moment;
           };
       stops = λ going. absurd (going refl);
@@ -243,8 +248,8 @@ module _ (form : Form) (store : StoreState) (line : Kept) (waiting : Option (Lis
 
     -- or the run stopped
     pub EndsSession-stopped : (status : Status) → (status ≡ Done → ⊥) →
-        TakesLast form line (amid store.records (owed_by waiting) held) (amid records (owed_by left) after) (Err status) old new →
-        EndsSession (session_of form store line waiting) held after status old new
+        TakesLast form line (amid store.records (owed_by waiting) held cursors) (amid records (owed_by left) after now) (Err status) old new →
+        EndsSession (session_of form cursors store line waiting) held after status old new
     EndsSession-stopped status going takes = record {
       done = λ is. absurd (going is);
       stops = λ _ sealing talk before input at replied. takes.stops sealing talk before input at.form at.line (begins sealing talk before input at replied);
@@ -269,22 +274,25 @@ module _ (form : Form) (line : Kept) {from to : Amid} {old new : Told} where
         subst (λ ls. StopsIn sealing talk ls old new before to.held status) (sym last.1) ((last.2 sealing talk before same).stops at);
   }
 
-module _ (form : Form) (line : Kept) {from mid to : Amid} {old between new : Told} where
+module _ (form : Form) (line : Kept) {from : Amid} {was is : RecordsState} {owed left : Owed} {held after : Option (List ℕ)} {old between new : Told}
+    (cursors : Cursors) where
   -- all is brought to the disk and sent after the last line
-  pub TakesLast-then : {u : Unit {0}} (result : Result (Unit {0}) Status) → TakesLast form line from mid (Ok u) old between →
-      TakesNone mid to result between new → TakesLast form line from to result old new
+  pub TakesLast-then : {u : Unit {0}} (result : Result (Unit {0}) Status) → TakesLast form line from (amid was owed held cursors) (Ok u) old between →
+      TakesNone (amid was owed held) (amid is left after) result between new → TakesLast form line from (amid is left after cursors) result old new
   TakesLast-then (Ok u) first second = record {
-    goes = λ sealing talk before input same is at.
-        let one = first.goes sealing talk before input same is at in
+    goes = λ sealing talk before input same line at.
+        let one = first.goes sealing talk before input same line at in
+        let to = amid is left after cursors in
         subst (λ ls. GoesAmid sealing talk ls before to old new) (append-nil (lines input))
-        (GoesAmid-then sealing talk (lines input) [] before mid old between new to one ((second sealing talk (lines input) before).goes one.amid));
+        (GoesAmid-then sealing talk (lines input) [] before (amid was owed held cursors) old between new to one
+        ((second cursors sealing talk (lines input) before).goes one.amid));
     stops = tt;
   }
   TakesLast-then (Err status) first second = record {
     goes = tt;
-    stops = λ sealing talk before input same is at.
-        let one = first.goes sealing talk before input same is at in
-        subst (λ ls. StopsIn sealing talk ls old new before to.held status) (append-nil (lines input))
-        (StopsIn-after sealing talk (lines input) [] before mid old between new to.held status one
-        ((second sealing talk (lines input) before).stops one.amid));
+    stops = λ sealing talk before input same line at.
+        let one = first.goes sealing talk before input same line at in
+        subst (λ ls. StopsIn sealing talk ls old new before after status) (append-nil (lines input))
+        (StopsIn-after sealing talk (lines input) [] before (amid was owed held cursors) old between new after status one
+        ((second cursors sealing talk (lines input) before).stops one.amid));
   }

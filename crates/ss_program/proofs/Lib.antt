@@ -30,7 +30,11 @@ pub mod SealLemmas
 pub mod StopLemmas
 pub mod BroughtLemmas
 pub mod StagingLemmas
+pub mod CursorLemmas
+pub mod OrderLemmas
 pub mod InputLemmas
 pub mod SeriesRows
 pub mod CertifyRows
 pub mod PresenceRows
+pub mod CursorRows
+pub mod SessionRows

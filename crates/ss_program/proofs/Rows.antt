@@ -32,7 +32,8 @@ use Rattle.ss_program.specs.Outcome.{lines_within}
 use Rattle.ss_program.specs.Refused.{refusal_line, status_of_open}
 use Rattle.ss_program.specs.Session.{NoneCreates, accepted, plain_after, report}
 use Rattle.ss_program.specs.Status.{exit_number}
-use Rattle.ss_program.specs.Talk.{no_cursors, plain, turn_of}
+use Rattle.ss_program.specs.Talk.{plain, turn_of}
+use Rattle.ss_sessions.specs.Cursors.{no_cursors}
 use Rattle.ss_program.specs.declared.running.TheConstants.{BUFFER, LONGEST_INPUT}
 use Rattle.ss_program.specs.declared.status.Status.TheVariants.{
   Done,

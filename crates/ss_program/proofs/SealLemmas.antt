@@ -40,13 +40,13 @@ use Rattle.ss_outside.specs.declared.source.Failed.{Failed}
 use Rattle.ss_records.specs.Kept.{RecordsState, shown_by}
 use Rattle.ss_store.specs.Calls.{SealsHistory, TurnsHistory}
 use Rattle.ss_store.specs.Recover.{Stands}
-use Rattle.ss_program.specs.Amid.{Amid, AreOwed, GoesAmid, IsAmid, TakesNone, owed_by, with_text}
+use Rattle.ss_program.specs.Amid.{Amid, AreOwed, GoesAmid, IsAmid, Owed, TakesNone, amid, owed_by, with_text}
 use Rattle.ss_program.specs.Answer.{at_sink}
 use Rattle.ss_program.specs.Progress.{IsAlone, StandsWithin, StopsIn}
 use Rattle.ss_program.specs.Sent.{appended, AppendsLess, Sends}
 use Rattle.ss_program.specs.Session.{after_line, after_lines, text_of}
 use Rattle.ss_program.specs.Status.{disk_verdict, ended}
-use Rattle.ss_program.specs.Talk.{Cursors, Talk, turn_of}
+use Rattle.ss_program.specs.Talk.{Talk, turn_of}
 use Rattle.ss_arguments.specs.declared.mode.Sealing.{Sealing}
 use Rattle.ss_arguments.specs.declared.mode.Sealing.TheVariants.{Each, Shared}
 use Rattle.ss_program.specs.declared.status.Status.{Status}
@@ -254,29 +254,30 @@ module _ (sealing : Sealing) (talk : Talk) (ls : List (List ℕ)) (before : Opti
           }
 
 -- all was brought to the disk, and what was owed was sent, or less than it
-pub TakesNone-sent : (from to : Amid) (old new : Told) (u : Unit {0}) (sent : Result (Unit {0}) Failed) → KnowsNow new →
-    shown_by to.records new.content ≡ new.content → SealsHistory {E = Failed} from.records to.records (Ok u) old new → to.owed.text ≡ [] →
-    ((sealing : Sealing) (ls : List (List ℕ)) → AreOwed sealing from.owed.lines ls → AreOwed sealing to.owed.lines []) →
-    from.cursors ≡ to.cursors → ((bytes : ℕ) → bytes < length from.owed.text → MayStop from.owed.lines from.owed.text bytes) →
-    Sends from.held to.held from.owed.text sent → TakesNone from to (at_sink sent) old new
-TakesNone-sent from to old new u (Ok v) knows sealed seals empty few cursors may sends sealing talk ls before = record {
-  goes = λ at. send-done sealing talk ls before from old new knows at to u sealed seals empty (few sealing at.rest at.few) cursors sends;
+pub TakesNone-sent : (was is : RecordsState) (owed owes : Owed) (held after : Option (List ℕ)) (old new : Told) (u : Unit {0})
+    (sent : Result (Unit {0}) Failed) → KnowsNow new →
+    shown_by is new.content ≡ new.content → SealsHistory {E = Failed} was is (Ok u) old new → owes.text ≡ [] →
+    ((sealing : Sealing) (ls : List (List ℕ)) → AreOwed sealing owed.lines ls → AreOwed sealing owes.lines []) →
+    ((bytes : ℕ) → bytes < length owed.text → MayStop owed.lines owed.text bytes) →
+    Sends held after owed.text sent → TakesNone (amid was owed held) (amid is owes after) (at_sink sent) old new
+TakesNone-sent was is owed owes held after old new u (Ok v) knows sealed seals empty few may sends cursors sealing talk ls before = record {
+  goes = λ at. send-done sealing talk ls before (amid was owed held cursors) old new knows at (amid is owes after cursors) u sealed seals empty
+      (few sealing at.rest at.few) refl sends;
   stops = tt;
 }
-TakesNone-sent from to old new u (Err e) knows sealed seals empty few cursors may sends sealing talk ls before = record {
+TakesNone-sent was is owed owes held after old new u (Err e) knows sealed seals empty few may sends cursors sealing talk ls before = record {
   goes = tt;
-  stops = λ at. send-failed sealing talk ls before from old new knows at to u sealed seals sends (may sends.0 sends.1);
+  stops = λ at. send-failed sealing talk ls before (amid was owed held cursors) old new knows at (amid is owes after cursors) u sealed seals sends
+      (may sends.0 sends.1);
 }
 
 -- or the disk failed
-pub TakesNone-unsealed : (from to : Amid) {is : RecordsState} (old new : Told) (e : Failed) → KnowsNow new →
-    SealsHistory {T = Unit {0}} from.records is (Err e) old new → MayStop from.owed.lines from.owed.text 0 → from.held ≡ to.held →
-    TakesNone from to (Err DiskFault) old new
-TakesNone-unsealed from to old new e knows seals may held sealing talk ls before = record {
+pub TakesNone-unsealed : (was is : RecordsState) (owed owes : Owed) (held : Option (List ℕ)) (old new : Told) (e : Failed) → KnowsNow new →
+    SealsHistory {T = Unit {0}} was is (Err e) old new → MayStop owed.lines owed.text 0 →
+    TakesNone (amid was owed held) (amid is owes held) (Err DiskFault) old new
+TakesNone-unsealed was is owed owes held old new e knows seals may cursors sealing talk ls before = record {
   goes = tt;
-  stops = λ at.
-      subst (λ o. StopsIn sealing talk (ls ++ []) old new before o DiskFault) held
-      (seal-failed sealing talk ls before from old new knows at e seals may);
+  stops = λ at. seal-failed sealing talk ls before (amid was owed held cursors) old new knows at e seals may;
 }
 
 -- nothing is owed then, by how events come to the disk

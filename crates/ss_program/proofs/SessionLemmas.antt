@@ -1,9 +1,18 @@
 -- How a session goes on with further lines, and where it stops. Of what a line brings this rests only on that an event is never silent.
-use Rattle.std.proofs.Common.{inl, inr, ◌≡◌, ℕ, ◌+◌, ◌<◌, ◌≤◌, ◌++◌, List, [], ◌∷◌, length, take, Option, IsSome, refl, sym, ap, ◌∙◌, subst, append_assoc, arith}
+use Rattle.std.proofs.Common.{Some, None, Ok, Err, Result, inl, inr, ◌≡◌, ℕ, ◌+◌, ◌<◌, ◌≤◌, ◌++◌, List, [], ◌∷◌, length, take, Option, IsSome, refl, sym, ap, ◌∙◌, subst, append_assoc, arith}
 use Rattle.std.proofs.Math.Seq.{take-append-add}
 use Rattle.std.specs.List.{flat_map}
 use Rattle.std.proofs.lemmas.Grind.{flat_map-append}
 use Rattle.std.proofs.lemmas.List.{append-nil, length-append, take-append-le}
+use Rattle.ss_arguments.specs.declared.mode.Form.{Form}
+use Rattle.ss_arguments.specs.declared.mode.Form.TheVariants.{Lines, Sessions}
+use Rattle.ss_catalog.specs.declared.refusal.Refusal.{Refusal}
+use Rattle.ss_command.specs.LineState.{unless_long}
+use Rattle.ss_sessions.specs.Grammar.{spoken_of}
+use Rattle.ss_sessions.specs.declared.order.Order.{Order}
+use Rattle.ss_sessions.specs.declared.order.Order.TheVariants as orders
+use Rattle.ss_sessions.specs.declared.order.Spoken.{Spoken}
+use Rattle.ss_sessions.specs.declared.order.Spoken.TheVariants.{Nothing, Unaddressed, To}
 use Rattle.ss_command.specs.Lines.{lines_so_far}
 use Rattle.ss_command.proofs.LineLemmas.{lines-front}
 use Rattle.ss_report.specs.Text.{reply_line}
@@ -16,15 +25,38 @@ use Rattle.ss_store.specs.Recover.{Stands}
 use Rattle.ss_program.specs.Progress.{StandsBeyond, StandsWithin, StopsAmong, StopsIn}
 use Rattle.ss_program.specs.Sent.{appended, AppendsFront}
 use Rattle.ss_program.specs.Session.{accepted, after_line, after_lines, plain_after, replies, report, report_so_far, text_of}
-use Rattle.ss_program.specs.Talk.{Talk, after_turn, plain, turn_of}
+use Rattle.ss_program.specs.Talk.{Talk, after_turn, kept_spoken, plain, turn_in, turn_of, turn_spoken, turn_to}
 use Rattle.ss_arguments.specs.declared.mode.Sealing.{Sealing}
 use Rattle.ss_program.specs.declared.status.Status.{Status}
-use Rattle.ss_program.proofs.AnswerLemmas.{text-some}
+use Rattle.ss_program.proofs.AnswerLemmas.{meaning-some, text-some}
+use Rattle.ss_program.proofs.CursorLemmas.{close-event, next-event, open-event}
 use Rattle.ss_program.proofs.SendLemmas.{AppendsFront-longer}
 
 -- something is said to a line that brings an event
+to-some : (session : ℕ) (talk : Talk) (said : Result (Option Order) Refusal) → IsSome (turn_to session talk said).event →
+    0 < length (turn_to session talk said).says
+to-some session talk (Err refusal) some = cc
+to-some session talk (Ok None) some = cc
+to-some session talk (Ok (Some (orders.Command command))) some = meaning-some (Some session) talk.history (Ok (Some command)) some
+to-some session talk (Ok (Some (orders.Open name))) some = let none = open-event talk.history talk.cursors session name in cc
+to-some session talk (Ok (Some (orders.Next count))) some = let none = next-event talk.cursors session count in cc
+to-some session talk (Ok (Some orders.Close)) some = let none = close-event talk.cursors session in cc
+
+spoken-some : (talk : Talk) (spoken : Spoken) → IsSome (turn_spoken talk spoken).event → 0 < length (turn_spoken talk spoken).says
+spoken-some talk Nothing some = cc
+spoken-some talk Unaddressed some = cc
+spoken-some talk (To session said) some = to-some session talk said some
+
+kept-some : (talk : Talk) (line : Option (List ℕ)) → IsSome (kept_spoken talk line).event → 0 < length (kept_spoken talk line).says
+kept-some talk None some = cc
+kept-some talk (Some line) some = spoken-some talk (spoken_of line) some
+
+in-some : (form : Form) (talk : Talk) (line : List ℕ) → IsSome (turn_in form talk line).event → 0 < length (turn_in form talk line).says
+in-some Lines talk line some = text-some talk.history line some
+in-some Sessions talk line some = kept-some talk (unless_long line) some
+
 pub says-some : (talk : Talk) (line : List ℕ) → IsSome (turn_of talk line).event → 0 < length (turn_of talk line).says
-says-some talk line some = text-some talk.history line some
+says-some talk line some = in-some talk.form talk line some
 
 -- the conversation after more lines
 pub after_lines-append : (talk : Talk) (ls ms : List (List ℕ)) → after_lines talk (ls ++ ms) ≡ after_lines (after_lines talk ls) ms

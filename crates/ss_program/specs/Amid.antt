@@ -15,7 +15,9 @@ use Rattle.ss_program.specs.Line.{Brought, History, history_after}
 use Rattle.ss_program.specs.Progress.{StandsAround, StandsWithin, StopsIn}
 use Rattle.ss_program.specs.Sent.{appended}
 use Rattle.ss_program.specs.Session.{after_lines, text_of}
-use Rattle.ss_program.specs.Talk.{Cursors, Talk, Turn, no_cursors, turn_brought, turn_of}
+use Rattle.ss_program.specs.Cursor.{Ordered}
+use Rattle.ss_program.specs.Talk.{Talk, Turn, turn_brought, turn_of, turn_said}
+use Rattle.ss_sessions.specs.Cursors.{Cursors}
 use Rattle.ss_program.specs.declared.replies.TheConstants.{LONGEST_REPLY, MOST_WAITING_BYTES}
 use Rattle.ss_arguments.specs.declared.mode.Form.{Form}
 use Rattle.ss_arguments.specs.declared.mode.Sealing.{Sealing}
@@ -55,8 +57,9 @@ pub record Amid : Type 0 where
   pub owed : Owed
   pub held : Option (List ℕ)
 
-abbrev pub amid : RecordsState → Owed → Option (List ℕ) → Amid
-amid records owed held = record { cursors = no_cursors; records = records; owed = owed; held = held }
+-- what most of them change, with the cursors
+abbrev pub amid : RecordsState → Owed → Option (List ℕ) → Cursors → Amid
+amid records owed held cursors = record { cursors = cursors; records = records; owed = owed; held = held }
 
 -- Between two lines: what is said to some first of these lines is out, and what they did is on the disk. What is said to the rest is
 -- owed. The store shows what all of them did, and the disk has what some first of them did.
@@ -83,10 +86,10 @@ pub record Takes (sealing : Sealing) (talk : Talk) (ls more : List (List ℕ)) (
   pub goes : OnOk result (IsAmid sealing talk ls before from old → GoesAmid sealing talk (ls ++ more) before to old new)
   pub stops : IfErr result (λ status. IsAmid sealing talk ls before from old → StopsIn sealing talk (ls ++ more) old new before to.held status)
 
--- no line more is taken, in any conversation
-abbrev pub TakesNone : Amid → Amid → Result Unit Status → Told → Told → Type 0
-TakesNone from to result old new =
-    (sealing : Sealing) (talk : Talk) (ls : List (List ℕ)) (before : Option (List ℕ)) → Takes sealing talk ls [] before from to result old new
+-- no line more is taken, in any conversation, whatever cursors there are
+abbrev pub TakesNone : (Cursors → Amid) → (Cursors → Amid) → Result Unit Status → Told → Told → Type 0
+TakesNone from to result old new = (cursors : Cursors) (sealing : Sealing) (talk : Talk) (ls : List (List ℕ)) (before : Option (List ℕ)) →
+    Takes sealing talk ls [] before (from cursors) (to cursors) result old new
 
 -- a line is taken that has this turn
 abbrev pub TakesTurn : (Talk → Turn) → Amid → Amid → Result Unit Status → Told → Told → Type 0
@@ -94,9 +97,15 @@ TakesTurn turn from to result old new =
     (sealing : Sealing) (talk : Talk) (ls : List (List ℕ)) (before : Option (List ℕ)) (line : List ℕ) →
     turn_of (after_lines talk ls) line ≡ turn (after_lines talk ls) → Takes sealing talk ls (line ∷ []) before from to result old new
 
--- or one that brings this after the history
-abbrev pub TakesBrought : (History → Brought) → Amid → Amid → Result Unit Status → Told → Told → Type 0
-TakesBrought brought from to result old new = TakesTurn (λ talk. turn_brought talk (brought talk.history)) from to result old new
+-- or one that brings this after the history, said to a session or to none, whatever cursors there are
+abbrev pub TakesBrought : Option ℕ → (History → Brought) → (Cursors → Amid) → (Cursors → Amid) → Result Unit Status → Told → Told → Type 0
+TakesBrought speaker brought from to result old new = (cursors : Cursors) →
+    TakesTurn (λ talk. turn_brought speaker talk (brought talk.history)) (from cursors) (to cursors) result old new
+
+-- or one by which a session orders this, after the history and over the cursors
+abbrev pub TakesOrdered : ℕ → (History → Cursors → Ordered) → Amid → Amid → Result Unit Status → Told → Told → Type 0
+TakesOrdered session ordered from to result old new =
+    TakesTurn (λ talk. turn_said (Some session) (ordered talk.history talk.cursors)) from to result old new
 
 -- A line is taken in memory: the event that it brings, if any, comes after the history that records show, wholly or not at all, and
 -- its one reply is answered.

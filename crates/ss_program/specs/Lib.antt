@@ -1,4 +1,5 @@
 pub mod Line
+pub mod Cursor
 pub mod Talk
 pub mod Session
 pub mod Sent
@@ -8,6 +9,7 @@ pub mod Answer
 pub mod Series
 pub mod Certifying
 pub mod Amid
+pub mod Opened
 pub mod Words
 pub mod Status
 pub mod Held

@@ -9,7 +9,8 @@ use Rattle.ss_store.specs.Recover.{Stands}
 use Rattle.ss_program.specs.Line.{Brought, History, history_after, text_brought}
 use Rattle.ss_program.specs.Sent.{appended, StopsSaying}
 use Rattle.ss_program.specs.Session.{after_lines, text_of, report_so_far}
-use Rattle.ss_program.specs.Talk.{Cursors, Talk, turn_of}
+use Rattle.ss_program.specs.Talk.{Talk, turn_of}
+use Rattle.ss_sessions.specs.Cursors.{Cursors}
 use Rattle.ss_arguments.specs.declared.mode.Form.{Form}
 use Rattle.ss_arguments.specs.declared.mode.Sealing.{Sealing}
 use Rattle.ss_arguments.specs.declared.mode.Sealing.TheVariants.{Each, Shared}

@@ -5,6 +5,7 @@
 mod answer;
 mod certifying;
 mod check;
+mod cursors;
 mod generate;
 mod laws;
 mod promises;
@@ -14,6 +15,7 @@ mod running;
 mod sending;
 mod series;
 mod session;
+mod spoken;
 mod staging;
 mod status;
 mod taking;

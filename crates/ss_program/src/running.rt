@@ -39,7 +39,7 @@ ghost use Rattle.ss_program.specs.Generated.{GeneratesFrom};
 ghost use Rattle.ss_program.specs.Line.{History};
 ghost use Rattle.ss_program.specs.Outcome.{Moved, Reads, ReadsPiece, ServesInput};
 ghost use Rattle.ss_program.specs.Progress.{NoneWait, sealing_by};
-ghost use Rattle.ss_program.specs.Talk.{no_cursors};
+ghost use Rattle.ss_sessions.specs.Cursors.{no_cursors};
 ghost use Rattle.ss_arguments.specs.declared.mode.Form.{Form};
 ghost use Rattle.ss_arguments.specs.declared.mode.Sealing.{Sealing};
 ghost use Rattle.ss_program.specs.Status.{EndsAs, EndsServing, disk_verdict, ended, sink_verdict, source_verdict, IsStop};

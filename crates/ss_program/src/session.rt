@@ -7,7 +7,7 @@ ghost use Rattle.ss_outside.specs.Verdict.{Counted};
 ghost use Rattle.ss_program.specs.Answer.{IsOpen};
 ghost use Rattle.ss_program.specs.Progress.{EndsSession, NoneWait, TakesPiece, sealing_by};
 ghost use Rattle.ss_program.specs.Status.{disk_verdict, ended, sink_verdict, IsStop};
-ghost use Rattle.ss_program.specs.Talk.{no_cursors};
+ghost use Rattle.ss_sessions.specs.Cursors.{no_cursors};
 
 use crate::replies::Replies;
 use crate::status::Status;
@@ -15,14 +15,16 @@ use crate::taking::{finish_lines, take_piece};
 use ss_arguments::{Form, Sealing};
 use ss_command::LineReader;
 use ss_outside::{Disk, Sink};
+use ss_sessions::Sessions;
 use ss_store::Store;
 use std::alloc::{AllocError, Global};
 use std::marker::Model;
 
-/// The form of the input, the store, and the line that is under way.
+/// The form of the input, the cursors of its sessions, the store, and the line that is under way.
 #[derive(Drop)]
 pub struct Session {
     form: Form,
+    sessions: Sessions,
     store: Store,
     reader: LineReader,
     // Where events share seals, the replies that wait for one.
@@ -32,11 +34,10 @@ pub struct Session {
 impl Model for Session {
     ghost use Rattle.ss_command.specs.LineState.{under_way};
     ghost use Rattle.ss_program.specs.Progress.{SessionState};
-    ghost use Rattle.ss_program.specs.Talk.{no_cursors};
 
     ghost Value = { SessionState };
 
-    ghost view = { λ s. record { form = s.form; store = s.store; line = under_way s.reader; cursors = no_cursors; waiting = s.waiting } };
+    ghost view = { λ s. record { form = s.form; store = s.store; line = under_way s.reader; cursors = s.sessions; waiting = s.waiting } };
 }
 
 impl Session {
@@ -59,6 +60,7 @@ impl Session {
         };
         Ok(Session {
             form,
+            sessions: Sessions::new(alloc),
             store,
             reader: LineReader::new(),
             waiting,
@@ -82,6 +84,7 @@ impl Session {
     {
         take_piece(
             self.form,
+            &mut self.sessions,
             &mut self.store,
             &mut self.reader,
             &mut self.waiting,
@@ -101,6 +104,7 @@ impl Session {
     {
         finish_lines(
             self.form,
+            &mut self.sessions,
             &mut self.store,
             &mut self.reader,
             &mut self.waiting,

@@ -1,27 +1,24 @@
 // Lines that are done in memory: what they do is staged, and their replies wait until all of it is on the disk. Where each event is
 // sealed by itself, what a line does is brought to the disk at once, and then its reply is sent.
-ghost use Rattle.std.specs.Prelude.{◌≡◌, ◌≤◌, [], length, None, Some, IsTrue, IfErr, IfSome, OnOk, OnErr};
-ghost use Rattle.std.specs.Option.{option_copied};
+ghost use Rattle.std.specs.Prelude.{◌≡◌, ◌≤◌, [], length, None, Some, IsTrue, IfErr, OnOk, OnErr};
 ghost use Rattle.ss_catalog.specs.Events.{IsInTime};
 ghost use Rattle.ss_command.specs.Printed.{IsCommandInTime};
 ghost use Rattle.ss_command.specs.declared.command.Command.TheVariants.{Do, Ask, Last};
 ghost use Rattle.ss_outside.specs.Step.{Step};
 ghost use Rattle.ss_outside.specs.Verdict.{Counted};
-ghost use Rattle.ss_report.specs.Text.{reply_line};
-ghost use Rattle.ss_program.specs.Amid.{BringsEvent, HasRoom, IsReady, StagesBrought, TakesBrought, TakesNone, TakesTurn, amid, owed_by, with_text};
+ghost use Rattle.ss_report.specs.Text.{said_line};
+ghost use Rattle.ss_program.specs.Amid.{BringsEvent, HasRoom, IsReady, StagesBrought, TakesBrought, TakesNone, amid, owed_by, with_text};
 ghost use Rattle.ss_program.specs.Answer.{IsOpen, IsServing};
-ghost use Rattle.ss_program.specs.Line.{History, command_brings, refused};
+ghost use Rattle.ss_program.specs.Line.{History, command_brings, refused, IsSpeaker};
 ghost use Rattle.ss_program.specs.Progress.{NoneWait};
 ghost use Rattle.ss_program.specs.Status.{disk_verdict, ended, sink_verdict, IsApplyStop, IsShowStop, IsStop};
-ghost use Rattle.ss_program.specs.Talk.{kept_turn};
 
 use crate::answer::{ask, at_sink, newest, obey, send_reply};
 use crate::replies::Replies;
 use crate::sending::send;
 use crate::status::Status;
-use ss_arguments::Form;
 use ss_catalog::{Event, Name, Query, Refusal};
-use ss_command::{Command, LONGEST_LINE, parse};
+use ss_command::Command;
 use ss_outside::{Disk, Sink};
 use ss_report::Reply;
 use ss_store::{ApplyError, Store};
@@ -85,8 +82,8 @@ fn has_room(waiting: &Option<Replies>) -> bool
     }
 }
 
-// Sees to it that one more reply can wait.
-fn make_room<D: Disk, K: Sink>(
+/// Sees to it that one more reply can wait.
+pub fn make_room<D: Disk, K: Sink>(
     store: &mut Store,
     waiting: &mut Option<Replies>,
     disk: &mut D,
@@ -109,14 +106,16 @@ fn make_room<D: Disk, K: Sink>(
 
 // Brings what a line did to the disk, and then sends the reply to it.
 fn send_sealed<D: Disk, K: Sink>(
+    speaker: Option<u8>,
     store: &mut Store,
     reply: &Reply,
     disk: &mut D,
     sink: &mut K,
 ) -> Result<(), Status>
-    requires { IsServing (D.seen disk.old) store.old }
+    requires speaker { IsSpeaker speaker }
+    requires serves { IsServing (D.seen disk.old) store.old }
     ensures takes { Step (disk_verdict (ended result)) (D.seen disk.old) (D.seen disk.new)
-        (TakesNone (amid store.old.records (with_text (owed_by None) (reply_line reply.now)) (K.held sink.old))
+        (TakesNone (amid store.old.records (with_text (owed_by None) (said_line speaker reply.now)) (K.held sink.old))
         (amid store.new.records (owed_by None) (K.held sink.new)) result) }
     ensures open { OnOk result (IsOpen (D.seen disk.new) store.new) }
     ensures status { IfErr result (IsShowStop (D.seen disk.old).tells) }
@@ -124,31 +123,33 @@ fn send_sealed<D: Disk, K: Sink>(
 {
     match store.seal(disk) {
         Err(_) => Err(Status::DiskFault),
-        Ok(()) => at_sink(send_reply(None, reply, sink)),
+        Ok(()) => at_sink(send_reply(speaker, reply, sink)),
     }
 }
 
-// Says the reply to a line that is done in memory: it waits, or what the line did is brought to the disk and the reply is sent.
-fn say<D: Disk, K: Sink>(
+/// Says the reply to a line that is done in memory: it waits, or what the line did is brought to the disk and the reply is sent.
+pub fn say<D: Disk, K: Sink>(
+    speaker: Option<u8>,
     store: &mut Store,
     waiting: &mut Option<Replies>,
     reply: &Reply,
     disk: &mut D,
     sink: &mut K,
 ) -> Result<(), Status>
+    requires speaker { IsSpeaker speaker }
     requires serves { IsServing (D.seen disk.old) store.old }
     requires room { HasRoom waiting.old }
     ensures takes { Step (disk_verdict (ended result)) (D.seen disk.old) (D.seen disk.new)
-        (TakesNone (amid store.old.records (with_text (owed_by waiting.old) (reply_line reply.now)) (K.held sink.old))
+        (TakesNone (amid store.old.records (with_text (owed_by waiting.old) (said_line speaker reply.now)) (K.held sink.old))
         (amid store.new.records (owed_by waiting.new) (K.held sink.new)) result) }
     ensures ready { OnOk result (IsReady (D.seen disk.new) store.new waiting.new) }
     ensures status { IfErr result (IsShowStop (D.seen disk.old).tells) }
     ensures counted { Counted (sink_verdict (ended result)) (K.faults sink.old) (K.faults sink.new) }
 {
     match waiting {
-        None => send_sealed(store, reply, disk, sink),
+        None => send_sealed(speaker, store, reply, disk, sink),
         Some(replies) => {
-            replies.hold(None, reply);
+            replies.hold(speaker, reply);
             Ok(())
         }
     }
@@ -179,24 +180,26 @@ fn stage<D: Disk>(store: &mut Store, event: &Event, disk: &mut D) -> Result<Repl
 
 // Stages an event, and says the reply to it. Where memory runs out, all that waits is brought to the disk and sent before the run stops.
 fn take_event<D: Disk, K: Sink>(
+    speaker: Option<u8>,
     store: &mut Store,
     waiting: &mut Option<Replies>,
     event: &Event,
     disk: &mut D,
     sink: &mut K,
 ) -> Result<(), Status>
+    requires speaker { IsSpeaker speaker }
     requires in_time { IsInTime event.now }
     requires ready { IsReady (D.seen disk.old) store.old waiting.old }
     requires room { HasRoom waiting.old }
     ensures takes { Step (disk_verdict (ended result)) (D.seen disk.old) (D.seen disk.new)
-        (TakesBrought (λ history. command_brings history (Do event.now)) (amid store.old.records (owed_by waiting.old) (K.held sink.old))
+        (TakesBrought speaker (λ history. command_brings history (Do event.now)) (amid store.old.records (owed_by waiting.old) (K.held sink.old))
         (amid store.new.records (owed_by waiting.new) (K.held sink.new)) result) }
     ensures ready { OnOk result (IsReady (D.seen disk.new) store.new waiting.new) }
     ensures status { IfErr result (IsStop (D.seen disk.old).tells) }
     ensures counted { Counted (sink_verdict (ended result)) (K.faults sink.old) (K.faults sink.new) }
 {
     match stage(store, event, disk) {
-        Ok(reply) => say(store, waiting, &reply, disk, sink),
+        Ok(reply) => say(speaker, store, waiting, &reply, disk, sink),
         Err(status) => match status {
             Status::OutOfMemory => {
                 flush(store, waiting, disk, sink)?;
@@ -209,165 +212,124 @@ fn take_event<D: Disk, K: Sink>(
 
 // Asks a query, and says its answer, by what the store shows.
 fn take_query<D: Disk, K: Sink>(
+    speaker: Option<u8>,
     store: &mut Store,
     waiting: &mut Option<Replies>,
     query: &Query,
     disk: &mut D,
     sink: &mut K,
 ) -> Result<(), Status>
+    requires speaker { IsSpeaker speaker }
     requires ready { IsReady (D.seen disk.old) store.old waiting.old }
     requires room { HasRoom waiting.old }
     ensures takes { Step (disk_verdict (ended result)) (D.seen disk.old) (D.seen disk.new)
-        (TakesBrought (λ history. command_brings history (Ask query.now)) (amid store.old.records (owed_by waiting.old) (K.held sink.old))
+        (TakesBrought speaker (λ history. command_brings history (Ask query.now)) (amid store.old.records (owed_by waiting.old) (K.held sink.old))
         (amid store.new.records (owed_by waiting.new) (K.held sink.new)) result) }
     ensures ready { OnOk result (IsReady (D.seen disk.new) store.new waiting.new) }
     ensures status { IfErr result (IsStop (D.seen disk.old).tells) }
     ensures counted { Counted (sink_verdict (ended result)) (K.faults sink.old) (K.faults sink.new) }
 {
     let reply = ask(store, query, disk)?;
-    say(store, waiting, &reply, disk, sink)
+    say(speaker, store, waiting, &reply, disk, sink)
 }
 
 // Says how far a stream has come, and what is known of its newest value, by what the store shows.
 fn take_newest<D: Disk, K: Sink>(
+    speaker: Option<u8>,
     store: &mut Store,
     waiting: &mut Option<Replies>,
     name: &Name,
     disk: &mut D,
     sink: &mut K,
 ) -> Result<(), Status>
+    requires speaker { IsSpeaker speaker }
     requires ready { IsReady (D.seen disk.old) store.old waiting.old }
     requires room { HasRoom waiting.old }
     ensures takes { Step (disk_verdict (ended result)) (D.seen disk.old) (D.seen disk.new)
-        (TakesBrought (λ history. command_brings history (Last name.now)) (amid store.old.records (owed_by waiting.old) (K.held sink.old))
+        (TakesBrought speaker (λ history. command_brings history (Last name.now)) (amid store.old.records (owed_by waiting.old) (K.held sink.old))
         (amid store.new.records (owed_by waiting.new) (K.held sink.new)) result) }
     ensures ready { OnOk result (IsReady (D.seen disk.new) store.new waiting.new) }
     ensures status { IfErr result (IsStop (D.seen disk.old).tells) }
     ensures counted { Counted (sink_verdict (ended result)) (K.faults sink.old) (K.faults sink.new) }
 {
     let reply = newest(store, name, disk)?;
-    say(store, waiting, &reply, disk, sink)
+    say(speaker, store, waiting, &reply, disk, sink)
 }
 
 // Shows rows, which don't wait: before them all is brought to the disk and sent.
 fn show_rows<D: Disk, K: Sink>(
+    speaker: Option<u8>,
     store: &mut Store,
     waiting: &mut Option<Replies>,
     command: &Command,
     disk: &mut D,
     sink: &mut K,
 ) -> Result<(), Status>
+    requires speaker { IsSpeaker speaker }
     requires in_time { IsCommandInTime command.now }
     requires no_event { (history : History) → (command_brings history command.now).event ≡ None }
     requires ready { IsReady (D.seen disk.old) store.old waiting.old }
     ensures takes { Step (disk_verdict (ended result)) (D.seen disk.old) (D.seen disk.new)
-        (TakesBrought (λ history. command_brings history command.now) (amid store.old.records (owed_by waiting.old) (K.held sink.old))
+        (TakesBrought speaker (λ history. command_brings history command.now) (amid store.old.records (owed_by waiting.old) (K.held sink.old))
         (amid store.new.records (owed_by waiting.new) (K.held sink.new)) result) }
     ensures ready { OnOk result (IsReady (D.seen disk.new) store.new waiting.new) }
     ensures status { IfErr result (IsStop (D.seen disk.old).tells) }
     ensures counted { Counted (sink_verdict (ended result)) (K.faults sink.old) (K.faults sink.new) }
 {
     flush(store, waiting, disk, sink)?;
-    obey(None, store, command, disk, sink)
+    obey(speaker, store, command, disk, sink)
 }
 
-// Does what a command says, and says what it brings.
-fn take_command<D: Disk, K: Sink>(
+/// Does what a command says, and says what it brings.
+pub fn take_command<D: Disk, K: Sink>(
+    speaker: Option<u8>,
     store: &mut Store,
     waiting: &mut Option<Replies>,
     command: &Command,
     disk: &mut D,
     sink: &mut K,
 ) -> Result<(), Status>
+    requires speaker { IsSpeaker speaker }
     requires in_time { IsCommandInTime command.now }
     requires ready { IsReady (D.seen disk.old) store.old waiting.old }
     requires room { HasRoom waiting.old }
     ensures takes { Step (disk_verdict (ended result)) (D.seen disk.old) (D.seen disk.new)
-        (TakesBrought (λ history. command_brings history command.now) (amid store.old.records (owed_by waiting.old) (K.held sink.old))
+        (TakesBrought speaker (λ history. command_brings history command.now) (amid store.old.records (owed_by waiting.old) (K.held sink.old))
         (amid store.new.records (owed_by waiting.new) (K.held sink.new)) result) }
     ensures ready { OnOk result (IsReady (D.seen disk.new) store.new waiting.new) }
     ensures status { IfErr result (IsStop (D.seen disk.old).tells) }
     ensures counted { Counted (sink_verdict (ended result)) (K.faults sink.old) (K.faults sink.new) }
 {
     match command {
-        Command::Do(event) => take_event(store, waiting, event, disk, sink),
-        Command::Ask(query) => take_query(store, waiting, query, disk, sink),
-        Command::Last(name) => take_newest(store, waiting, name, disk, sink),
+        Command::Do(event) => take_event(speaker, store, waiting, event, disk, sink),
+        Command::Ask(query) => take_query(speaker, store, waiting, query, disk, sink),
+        Command::Last(name) => take_newest(speaker, store, waiting, name, disk, sink),
         Command::Certify { .. }
         | Command::Series(_)
         | Command::Values { .. }
         | Command::Windows(_)
-        | Command::List => show_rows(store, waiting, command, disk, sink),
+        | Command::List => show_rows(speaker, store, waiting, command, disk, sink),
     }
 }
 
-// Refuses a line, which does nothing.
-fn say_refusal<D: Disk, K: Sink>(
+/// Refuses a line, which does nothing.
+pub fn say_refusal<D: Disk, K: Sink>(
+    speaker: Option<u8>,
     store: &mut Store,
     waiting: &mut Option<Replies>,
     refusal: Refusal,
     disk: &mut D,
     sink: &mut K,
 ) -> Result<(), Status>
+    requires speaker { IsSpeaker speaker }
     requires ready { IsReady (D.seen disk.old) store.old waiting.old }
     requires room { HasRoom waiting.old }
     ensures takes { Step (disk_verdict (ended result)) (D.seen disk.old) (D.seen disk.new)
-        (TakesBrought (λ history. refused refusal) (amid store.old.records (owed_by waiting.old) (K.held sink.old))
+        (TakesBrought speaker (λ history. refused refusal) (amid store.old.records (owed_by waiting.old) (K.held sink.old))
         (amid store.new.records (owed_by waiting.new) (K.held sink.new)) result) }
     ensures ready { OnOk result (IsReady (D.seen disk.new) store.new waiting.new) }
     ensures status { IfErr result (IsStop (D.seen disk.old).tells) }
     ensures counted { Counted (sink_verdict (ended result)) (K.faults sink.old) (K.faults sink.new) }
 {
-    say(store, waiting, &Reply::Refused(refusal), disk, sink)
-}
-
-// Does what a line says, where one more reply can wait. A line that is too long comes as `None`.
-fn take_line<D: Disk, K: Sink>(
-    _form: Form,
-    store: &mut Store,
-    waiting: &mut Option<Replies>,
-    line: Option<&[u8]>,
-    disk: &mut D,
-    sink: &mut K,
-) -> Result<(), Status>
-    requires short { IfSome (option_copied line) (λ bytes. length bytes ≤ LONGEST_LINE) }
-    requires ready { IsReady (D.seen disk.old) store.old waiting.old }
-    requires room { HasRoom waiting.old }
-    ensures takes { Step (disk_verdict (ended result)) (D.seen disk.old) (D.seen disk.new)
-        (TakesTurn (kept_turn _form (option_copied line.entry)) (amid store.old.records (owed_by waiting.old) (K.held sink.old))
-        (amid store.new.records (owed_by waiting.new) (K.held sink.new)) result) }
-    ensures ready { OnOk result (IsReady (D.seen disk.new) store.new waiting.new) }
-    ensures status { IfErr result (IsStop (D.seen disk.old).tells) }
-    ensures counted { Counted (sink_verdict (ended result)) (K.faults sink.old) (K.faults sink.new) }
-{
-    let Some(line) = line else {
-        return say_refusal(store, waiting, Refusal::Line, disk, sink);
-    };
-    match parse(line) {
-        Err(refusal) => say_refusal(store, waiting, refusal, disk, sink),
-        Ok(None) => Ok(()),
-        Ok(Some(command)) => take_command(store, waiting, &command, disk, sink),
-    }
-}
-
-/// Does what a line says. Where no more replies can wait, all is brought to the disk and sent before.
-pub fn stage_line<D: Disk, K: Sink>(
-    form: Form,
-    store: &mut Store,
-    waiting: &mut Option<Replies>,
-    line: Option<&[u8]>,
-    disk: &mut D,
-    sink: &mut K,
-) -> Result<(), Status>
-    requires short { IfSome (option_copied line) (λ bytes. length bytes ≤ LONGEST_LINE) }
-    requires ready { IsReady (D.seen disk.old) store.old waiting.old }
-    ensures takes { Step (disk_verdict (ended result)) (D.seen disk.old) (D.seen disk.new)
-        (TakesTurn (kept_turn form (option_copied line.entry)) (amid store.old.records (owed_by waiting.old) (K.held sink.old))
-        (amid store.new.records (owed_by waiting.new) (K.held sink.new)) result) }
-    ensures ready { OnOk result (IsReady (D.seen disk.new) store.new waiting.new) }
-    ensures status { IfErr result (IsStop (D.seen disk.old).tells) }
-    ensures counted { Counted (sink_verdict (ended result)) (K.faults sink.old) (K.faults sink.new) }
-{
-    make_room(store, waiting, disk, sink)?;
-    take_line(form, store, waiting, line, disk, sink)
+    say(speaker, store, waiting, &Reply::Refused(refusal), disk, sink)
 }

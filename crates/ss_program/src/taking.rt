@@ -8,14 +8,15 @@ ghost use Rattle.ss_program.specs.Amid.{IsReady, TakesBytes, TakesLast, amid, ow
 ghost use Rattle.ss_program.specs.Answer.{IsOpen};
 ghost use Rattle.ss_program.specs.Progress.{EndsSession, NoneWait, TakesPiece};
 ghost use Rattle.ss_program.specs.Status.{disk_verdict, ended, sink_verdict, IsStop};
-ghost use Rattle.ss_program.specs.Talk.{no_cursors};
 
 use crate::replies::Replies;
-use crate::staging::{flush, stage_line};
+use crate::spoken::stage_line;
+use crate::staging::flush;
 use crate::status::Status;
 use ss_arguments::Form;
 use ss_command::{Ended, LineReader};
 use ss_outside::{Disk, Sink};
+use ss_sessions::Sessions;
 use ss_store::Store;
 
 // The line that has ended, where it is kept.
@@ -33,6 +34,7 @@ fn line_of(reader: &LineReader, ended: Ended) -> Option<&[u8]>
 // Takes bytes of a piece up to and with its first line end, does what the line says that ended, and answers how many bytes it took.
 fn advance<D: Disk, K: Sink>(
     form: Form,
+    sessions: &mut Sessions,
     store: &mut Store,
     reader: &mut LineReader,
     waiting: &mut Option<Replies>,
@@ -44,7 +46,7 @@ fn advance<D: Disk, K: Sink>(
     requires ready { IsReady (D.seen disk.old) store.old waiting.old }
     ensures takes { Step (disk_verdict (ended result)) (D.seen disk.old) (D.seen disk.new)
         (TakesBytes (λ count. take count piece.now) piece.now form (under_way reader.old) (under_way reader.new)
-        (amid store.old.records (owed_by waiting.old) (K.held sink.old)) (amid store.new.records (owed_by waiting.new) (K.held sink.new)) result) }
+        (amid store.old.records (owed_by waiting.old) (K.held sink.old) sessions.old) (amid store.new.records (owed_by waiting.new) (K.held sink.new) sessions.new) result) }
     ensures count { IfOk result (λ count. (0 < count) × (count ≤ length piece.now)) }
     ensures ready { OnOk result (IsReady (D.seen disk.new) store.new waiting.new) }
     ensures status { IfErr result (IsStop (D.seen disk.old).tells) }
@@ -54,7 +56,7 @@ fn advance<D: Disk, K: Sink>(
     match ended {
         None => Ok(count),
         Some(ended) => {
-            stage_line(form, store, waiting, line_of(reader, ended), disk, sink)?;
+            stage_line(form, sessions, store, waiting, line_of(reader, ended), disk, sink)?;
             Ok(count)
         }
     }
@@ -63,6 +65,7 @@ fn advance<D: Disk, K: Sink>(
 // Takes a piece of the input, and does what each line says that ends in it.
 fn take_lines<D: Disk, K: Sink>(
     form: Form,
+    sessions: &mut Sessions,
     store: &mut Store,
     reader: &mut LineReader,
     waiting: &mut Option<Replies>,
@@ -73,14 +76,14 @@ fn take_lines<D: Disk, K: Sink>(
     requires { IsReady (D.seen disk.old) store.old waiting.old }
     ensures takes { Step (disk_verdict (ended result)) (D.seen disk.old) (D.seen disk.new)
         (TakesBytes (λ _. piece.now) piece.now form (under_way reader.old) (under_way reader.new)
-        (amid store.old.records (owed_by waiting.old) (K.held sink.old)) (amid store.new.records (owed_by waiting.new) (K.held sink.new)) result) }
+        (amid store.old.records (owed_by waiting.old) (K.held sink.old) sessions.old) (amid store.new.records (owed_by waiting.new) (K.held sink.new) sessions.new) result) }
     ensures ready { OnOk result (IsReady (D.seen disk.new) store.new waiting.new) }
     ensures status { IfErr result (IsStop (D.seen disk.old).tells) }
     ensures counted { Counted (sink_verdict (ended result)) (K.faults sink.old) (K.faults sink.new) }
 {
     let mut done = 0;
     while done < piece.len() {
-        done += advance(form, store, reader, waiting, &piece[done..], disk, sink)?;
+        done += advance(form, sessions, store, reader, waiting, &piece[done..], disk, sink)?;
     }
     Ok(())
 }
@@ -89,6 +92,7 @@ fn take_lines<D: Disk, K: Sink>(
 /// to these lines are sent that wait. At an error the run stopped at one of these lines, and the session is of no more use.
 pub fn take_piece<D: Disk, K: Sink>(
     form: Form,
+    sessions: &mut Sessions,
     store: &mut Store,
     reader: &mut LineReader,
     waiting: &mut Option<Replies>,
@@ -98,20 +102,21 @@ pub fn take_piece<D: Disk, K: Sink>(
 ) -> Result<(), Status>
     requires { IsOpen (D.seen disk.old) store.old }
     ensures takes { Step (disk_verdict (ended result)) (D.seen disk.old) (D.seen disk.new) (TakesPiece (λ _. piece.now) piece.now
-        (record { form = form; store = store.old; line = under_way reader.old; cursors = no_cursors; waiting = waiting.old })
-        (record { form = form; store = store.new; line = under_way reader.new; cursors = no_cursors; waiting = waiting.new })
+        (record { form = form; store = store.old; line = under_way reader.old; cursors = sessions.old; waiting = waiting.old })
+        (record { form = form; store = store.new; line = under_way reader.new; cursors = sessions.new; waiting = waiting.new })
         (K.held sink.old) (K.held sink.new) result) }
     ensures open { OnOk result (IsOpen (D.seen disk.new) store.new) }
     ensures status { IfErr result (IsStop (D.seen disk.old).tells) }
     ensures counted { Counted (sink_verdict (ended result)) (K.faults sink.old) (K.faults sink.new) }
 {
-    take_lines(form, store, reader, waiting, piece, disk, sink)?;
+    take_lines(form, sessions, store, reader, waiting, piece, disk, sink)?;
     flush(store, waiting, disk, sink)
 }
 
 // Ends the last line of the input, if it has bytes, and does what it says.
 fn take_last<D: Disk, K: Sink>(
     form: Form,
+    sessions: &mut Sessions,
     store: &mut Store,
     reader: &mut LineReader,
     waiting: &mut Option<Replies>,
@@ -120,21 +125,22 @@ fn take_last<D: Disk, K: Sink>(
 ) -> Result<(), Status>
     requires { IsReady (D.seen disk.old) store.old waiting.old }
     ensures takes { Step (disk_verdict (ended result)) (D.seen disk.old) (D.seen disk.new)
-        (TakesLast form (under_way reader.old) (amid store.old.records (owed_by waiting.old) (K.held sink.old))
-        (amid store.new.records (owed_by waiting.new) (K.held sink.new)) result) }
+        (TakesLast form (under_way reader.old) (amid store.old.records (owed_by waiting.old) (K.held sink.old) sessions.old)
+        (amid store.new.records (owed_by waiting.new) (K.held sink.new) sessions.new) result) }
     ensures ready { OnOk result (IsReady (D.seen disk.new) store.new waiting.new) }
     ensures status { IfErr result (IsStop (D.seen disk.old).tells) }
     ensures counted { Counted (sink_verdict (ended result)) (K.faults sink.old) (K.faults sink.new) }
 {
     match reader.finish() {
         None => Ok(()),
-        Some(ended) => stage_line(form, store, waiting, line_of(reader, ended), disk, sink),
+        Some(ended) => stage_line(form, sessions, store, waiting, line_of(reader, ended), disk, sink),
     }
 }
 
 // Ends the last line of the input, and then brings all to the disk and sends what waits.
 fn end_lines<D: Disk, K: Sink>(
     form: Form,
+    sessions: &mut Sessions,
     store: &mut Store,
     reader: &mut LineReader,
     waiting: &mut Option<Replies>,
@@ -143,20 +149,21 @@ fn end_lines<D: Disk, K: Sink>(
 ) -> Result<(), Status>
     requires { IsReady (D.seen disk.old) store.old waiting.old }
     ensures takes { Step (disk_verdict (ended result)) (D.seen disk.old) (D.seen disk.new)
-        (TakesLast form (under_way reader.old) (amid store.old.records (owed_by waiting.old) (K.held sink.old))
-        (amid store.new.records (owed_by waiting.new) (K.held sink.new)) result) }
+        (TakesLast form (under_way reader.old) (amid store.old.records (owed_by waiting.old) (K.held sink.old) sessions.old)
+        (amid store.new.records (owed_by waiting.new) (K.held sink.new) sessions.new) result) }
     ensures open { OnOk result (IsOpen (D.seen disk.new) store.new) }
     ensures none { OnOk result (NoneWait waiting.new) }
     ensures status { IfErr result (IsStop (D.seen disk.old).tells) }
     ensures counted { Counted (sink_verdict (ended result)) (K.faults sink.old) (K.faults sink.new) }
 {
-    take_last(form, store, reader, waiting, disk, sink)?;
+    take_last(form, sessions, store, reader, waiting, disk, sink)?;
     flush(store, waiting, disk, sink)
 }
 
 /// Ends the input: does what a last line says that no line end ended, brings all to the disk and sends the replies that wait.
 pub fn finish_lines<D: Disk, K: Sink>(
     form: Form,
+    sessions: &mut Sessions,
     store: &mut Store,
     reader: &mut LineReader,
     waiting: &mut Option<Replies>,
@@ -165,12 +172,12 @@ pub fn finish_lines<D: Disk, K: Sink>(
 ) -> Status
     requires { IsOpen (D.seen disk.old) store.old }
     ensures ends { Step (disk_verdict result) (D.seen disk.old) (D.seen disk.new) (EndsSession
-        (record { form = form; store = store.old; line = under_way reader.old; cursors = no_cursors; waiting = waiting.old })
+        (record { form = form; store = store.old; line = under_way reader.old; cursors = sessions.old; waiting = waiting.old })
         (K.held sink.old) (K.held sink.new) result) }
     ensures status { (result ≡ Status.Done) ⊎ IsStop (D.seen disk.old).tells result }
     ensures counted { Counted (sink_verdict result) (K.faults sink.old) (K.faults sink.new) }
 {
-    match end_lines(form, store, reader, waiting, disk, sink) {
+    match end_lines(form, sessions, store, reader, waiting, disk, sink) {
         Ok(()) => Status::Done,
         Err(status) => status,
     }

@@ -2,7 +2,7 @@ use Rattle.std.proofs.Common.{◌≡◌, ◌∙◌, ◌++◌, ℕ, List, None, O
 use Rattle.ss_outside.proofs.StepLemmas.{step-none}
 use Rattle.ss_outside.specs.Step.{Step}
 use Rattle.ss_outside.specs.Verdict.{fine}
-use Rattle.ss_report.specs.Text.{reply_line}
+use Rattle.ss_report.specs.Text.{said_line}
 use Rattle.ss_program.specs.Amid.{Owed, TakesNone, amid, owed_by, with_text}
 use Rattle.ss_program.proofs.AmidLemmas.{TakesNone-still}
 use Rattle.ss_program.proofs.staging.say.Goals as goal
@@ -18,7 +18,7 @@ returns-in-Some-clause-takes g c =
     let disk = g.D.Disk.seen c.args.disk.now in
     let was = c.args.store.now.records in
     let held = g.K.Sink.held c.args.sink.now in
-    let text = reply_line c.args.reply.now in
+    let text = said_line c.args.speaker c.args.reply.now in
     let to = amid was (owed_by (Some c.hold.new.self)) held in
     subst (λ (o : Owed). Step fine disk disk (TakesNone (amid was o held) to (Ok tt))) (sym (waits c.args.waiting.now _ c.hold.new.self text c.in-Some.is c.hold.ensures))
     (step-none disk (TakesNone to to (Ok tt)) (λ told. TakesNone-still to disk.told tt (g.met.D.Disk.knows_now c.args.disk.now told)))

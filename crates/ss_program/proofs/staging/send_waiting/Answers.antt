@@ -16,8 +16,8 @@ returns-in-Err-clause-takes g c =
     record {
       tells = seals.tells;
       counted = seals.counted;
-      told = λ told. TakesNone-unsealed (amid c.args.store.now.records owed held) (amid c.seal.new.self.records owed held) old new c.in-Err.field-0
-          (g.met.D.Disk.knows_now c.seal.new.disk (seals.tells ∙ told)) (seals.told told).history tt refl;
+      told = λ told. TakesNone-unsealed c.args.store.now.records c.seal.new.self.records owed owed held old new c.in-Err.field-0
+          (g.met.D.Disk.knows_now c.seal.new.disk (seals.tells ∙ told)) (seals.told told).history tt;
     }
 
 pub returns-in-Ok-clause-takes : goal.returns-in-Ok-clause-takes
@@ -28,14 +28,15 @@ returns-in-Ok-clause-takes g c =
     let is = c.seal.new.self.records in
     let held = g.K.Sink.held c.args.sink.now in
     let after = g.K.Sink.held c.send.new.sink in
-    let from = amid c.args.store.now.records (owed_by (Some c.args.waiting.now)) held in
-    let to = amid is (owed_by (Some c.clear.new.self)) after in
+    let was = c.args.store.now.records in
+    let owed = owed_by (Some c.args.waiting.now) in
+    let owes = owed_by (Some c.clear.new.self) in
     let same = shown-sealed is.journal new.content c.in-Ok.ensures.sealed.sealed in
     rw c.at_sink-sent.ensures
-    (step-sink {S = TakesNone from to (at_sink c.send.result)} c.send.result (record {
+    (step-sink {S = TakesNone (amid was owed held) (amid is owes after) (at_sink c.send.result)} c.send.result (record {
       tells = seals.tells;
       counted = seals.counted;
-      told = λ told. TakesNone-sent from to old new c.in-Ok.field-0 c.send.result
-          (g.met.D.Disk.knows_now c.seal.new.disk (seals.tells ∙ told)) same (seals.told told).history c.clear.ensures shared-sent refl
+      told = λ told. TakesNone-sent was is owed owes held after old new c.in-Ok.field-0 c.send.result
+          (g.met.D.Disk.knows_now c.seal.new.disk (seals.tells ∙ told)) same (seals.told told).history c.clear.ensures shared-sent
           (λ bytes less. tt) (subst (λ t. Sends held after t c.send.result) c.as_slice.ensures c.send.ensures.sends);
     }))

@@ -5,8 +5,7 @@ use Rattle.ss_outside.specs.Step.{Step}
 use Rattle.ss_program.specs.Amid.{TakesBrought, amid, owed_by}
 use Rattle.ss_program.specs.Line.{History, command_brings}
 use Rattle.ss_program.specs.Status.{disk_verdict, ended}
-use Rattle.ss_program.specs.Talk.{Talk, turn_brought}
-use Rattle.ss_program.proofs.BroughtLemmas.{TakesBrought-rows, TakesTurn-next, TakesTurn-unsealed, shown-opened}
+use Rattle.ss_program.proofs.BroughtLemmas.{TakesBrought-next, TakesBrought-rows, TakesBrought-unsealed, shown-opened}
 use Rattle.ss_program.proofs.StepLemmas.{step-told}
 use Rattle.ss_program.proofs.staging.show_rows.Goals as goal
 
@@ -18,9 +17,9 @@ returns-in_err-flush-clause-takes g c =
     let to = amid c.flush.new.store.records (owed_by c.flush.new.waiting) (g.K.Sink.held c.flush.new.sink) in
     let status = c.in_err-flush.field-0.0 in
     let same : c.from_residual.result ≡ Err status = search rules in
-    subst (λ r. Step (disk_verdict (ended r)) old new (TakesBrought (λ history. command_brings history c.args.command.now) from to r)) (sym same)
+    subst (λ r. Step (disk_verdict (ended r)) old new (TakesBrought c.args.speaker (λ history. command_brings history c.args.command.now) from to r)) (sym same)
     (step-as c.in_err-flush.ensures.takes (λ takes.
-    TakesTurn-unsealed (λ (talk : Talk). turn_brought talk (command_brings talk.history c.args.command.now)) status takes))
+    TakesBrought-unsealed c.args.speaker (λ history. command_brings history c.args.command.now) status takes))
 
 pub returns-clause-takes : goal.returns-clause-takes
 returns-clause-takes g c =
@@ -35,7 +34,7 @@ returns-clause-takes g c =
     let brought = λ (history : History). command_brings history c.args.command.now in
     let rows = c.obey.ensures in
     step-told flushed.takes rows.adds (λ told first second.
-    TakesTurn-next (λ (talk : Talk). turn_brought talk (brought talk.history)) tt c.obey.result first
-    (TakesBrought-rows brought c.flush.new.waiting held after mid.told new.told (g.met.D.Disk.knows_now c.obey.new.disk (rows.adds.tells ∙ told)) flushed.none
+    TakesBrought-next c.args.speaker brought tt c.obey.result first
+    (TakesBrought-rows c.args.speaker brought c.flush.new.waiting held after mid.told new.told (g.met.D.Disk.knows_now c.obey.new.disk (rows.adds.tells ∙ told)) flushed.none
     (shown-sealed was.journal mid.told.content flushed.open.sealed) c.requires.no_event c.obey.result
     (shown-opened new c.obey.new.store c.obey.result rows.opens) second (rows.replies told)))

@@ -9,10 +9,9 @@ use Rattle.ss_outside.specs.Verdict.{fine}
 use Rattle.ss_program.specs.Amid.{TakesBrought, TakesNone, amid, owed_by}
 use Rattle.ss_program.specs.Line.{History, command_brings}
 use Rattle.ss_program.specs.Status.{disk_verdict, ended}
-use Rattle.ss_program.specs.Talk.{Talk, turn_brought}
 use Rattle.ss_program.proofs.AmidLemmas.{owed-nothing}
 use Rattle.ss_program.proofs.AnswerLemmas.{IsStop-apply, event-some}
-use Rattle.ss_program.proofs.BroughtLemmas.{TakesBrought-owed, TakesBrought-starved, TakesBrought-stopped, TakesTurn-said, TakesTurn-unsealed}
+use Rattle.ss_program.proofs.BroughtLemmas.{TakesBrought-owed, TakesBrought-said, TakesBrought-starved, TakesBrought-stopped, TakesBrought-unsealed}
 use Rattle.ss_program.proofs.StepLemmas.{step-told}
 use Rattle.ss_program.proofs.StopLemmas.{counted-apply}
 use Rattle.ss_program.proofs.staging.take_event.Goals as goal
@@ -24,8 +23,8 @@ returns-in-Ok-clause-takes g c =
     let event = c.args.event.now in
     let brought = λ (history : History). command_brings history (Do event) in
     step-told c.in-Ok.ensures.stages c.say.ensures.takes (λ told first second.
-    TakesTurn-said (λ (talk : Talk). turn_brought talk (brought talk.history)) tt c.say.result
-    (TakesBrought-owed brought c.args.store.now.records c.stage.new.store.records c.args.waiting.now (g.K.Sink.held c.args.sink.now) old.told mid.told
+    TakesBrought-said c.args.speaker brought tt c.say.result
+    (TakesBrought-owed c.args.speaker brought c.args.store.now.records c.stage.new.store.records c.args.waiting.now (g.K.Sink.held c.args.sink.now) old.told mid.told
     (g.met.D.Disk.knows_now c.stage.new.disk told) c.in-Ok.reply tt first) second)
 
 pub returns-in_err-flush-in-OutOfMemory-clause-takes : goal.returns-in_err-flush-in-OutOfMemory-clause-takes
@@ -40,11 +39,11 @@ returns-in_err-flush-in-OutOfMemory-clause-takes g c =
     let starved = c.in-Err.ensures.starved c.in-OutOfMemory.is in
     let status = c.in_err-flush-in-OutOfMemory.field-0.0 in
     let same : c.from_residual.result ≡ Err status = search rules in
-    subst (λ r. Step (disk_verdict (ended r)) old new (TakesBrought brought (amid was owed held) to r)) (sym same)
-    (subst (λ d. Step (disk_verdict status) (g.D.Disk.seen d) new (TakesBrought brought (amid was owed held) to (Err status))) starved.0
-    (subst (λ r. Step (disk_verdict status) (g.D.Disk.seen c.stage.new.disk) new (TakesBrought brought (amid r owed held) to (Err status))) starved.1
+    subst (λ r. Step (disk_verdict (ended r)) old new (TakesBrought c.args.speaker brought (amid was owed held) to r)) (sym same)
+    (subst (λ d. Step (disk_verdict status) (g.D.Disk.seen d) new (TakesBrought c.args.speaker brought (amid was owed held) to (Err status))) starved.0
+    (subst (λ r. Step (disk_verdict status) (g.D.Disk.seen c.stage.new.disk) new (TakesBrought c.args.speaker brought (amid r owed held) to (Err status))) starved.1
     (step-as c.in_err-flush-in-OutOfMemory.ensures.takes (λ takes.
-    TakesTurn-unsealed (λ (talk : Talk). turn_brought talk (brought talk.history)) status takes))))
+    TakesBrought-unsealed c.args.speaker brought status takes))))
 
 pub returns-in_ok-flush-in-OutOfMemory-clause-takes : goal.returns-in_ok-flush-in-OutOfMemory-clause-takes
 returns-in_ok-flush-in-OutOfMemory-clause-takes g c =
@@ -63,7 +62,7 @@ returns-in_ok-flush-in-OutOfMemory-clause-takes g c =
     record {
       tells = takes.tells;
       counted = takes.counted;
-      told = λ told. TakesBrought-starved brought (g.met.D.Disk.knows_now c.flush.new.disk (takes.tells ∙ told))
+      told = λ told. TakesBrought-starved c.args.speaker c.args.event.now (g.met.D.Disk.knows_now c.flush.new.disk (takes.tells ∙ told))
           (owed-nothing c.flush.new.waiting flushed.none) (shown-sealed is.journal new.told.content flushed.open.sealed) (c.in-Err.ensures.accepted told)
           (takes.told told);
     }
@@ -81,10 +80,10 @@ returns-in_default g c =
       takes = record {
         tells = stages.tells;
         counted = stages.counted;
-        told = λ told. TakesBrought-stopped (λ history. command_brings history (Do event)) c.args.store.now.records c.stage.new.store.records waiting held
-            old.told new.told (g.met.D.Disk.knows_now c.stage.new.disk (stages.tells ∙ told)) (amid c.stage.new.store.records (owed_by waiting) held) status
-            refl c.in_default.not-OutOfMemory
-            (λ history stands. event-some None history event (refuses (state history) event) (c.in-Err.ensures.accepted told history stands)) (stages.told told);
+        told = λ told. TakesBrought-stopped c.args.speaker (λ history. command_brings history (Do event)) c.args.store.now.records c.stage.new.store.records waiting held
+            old.told new.told (g.met.D.Disk.knows_now c.stage.new.disk (stages.tells ∙ told)) (owed_by waiting) status
+            c.in_default.not-OutOfMemory
+            (λ history stands. event-some c.args.speaker history event (refuses (state history) event) (c.in-Err.ensures.accepted told history stands)) (stages.told told);
       };
       ready = tt;
       status = IsStop-apply old.tells status c.in-Err.ensures.status;

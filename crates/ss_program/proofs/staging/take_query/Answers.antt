@@ -4,9 +4,8 @@ use Rattle.ss_outside.specs.Step.{Step}
 use Rattle.ss_program.specs.Amid.{TakesBrought, amid, owed_by}
 use Rattle.ss_program.specs.Line.{History, command_brings}
 use Rattle.ss_program.specs.Status.{disk_verdict, ended}
-use Rattle.ss_program.specs.Talk.{Talk, turn_brought}
 use Rattle.ss_program.proofs.AnswerLemmas.{ask-event, ask-some}
-use Rattle.ss_program.proofs.BroughtLemmas.{TakesBrought-owed, TakesBrought-stopped, TakesTurn-said}
+use Rattle.ss_program.proofs.BroughtLemmas.{TakesBrought-owed, TakesBrought-said, TakesBrought-stopped}
 use Rattle.ss_program.proofs.StagingLemmas.{Stages-asked}
 use Rattle.ss_program.proofs.StepLemmas.{step-told}
 use Rattle.ss_program.proofs.StopLemmas.{going-disk}
@@ -26,13 +25,12 @@ returns-in_err-reply-clause-takes g c =
     let status = c.in_err-reply.field-0.0 in
     let same : c.from_residual.result ≡ Err status = search rules in
     let asks = c.in_err-reply.ensures.asks in
-    subst (λ r. Step (disk_verdict (ended r)) old new (TakesBrought brought (amid was (owed_by waiting) held) to r)) (sym same) (record {
+    subst (λ r. Step (disk_verdict (ended r)) old new (TakesBrought c.args.speaker brought (amid was (owed_by waiting) held) to r)) (sym same) (record {
       tells = asks.tells;
       counted = asks.counted;
-      told = λ told. TakesBrought-stopped brought was is waiting held old.told new.told (g.met.D.Disk.knows_now c.ask.new.disk (asks.tells ∙ told)) to status
-          refl (going-disk old.tells status c.in_err-reply.ensures.status) (λ history stands. ask-some None history query)
-          (Stages-asked brought (Err status) old.told new.told (λ history. ask-event history query) (g.met.D.Disk.knows_now c.args.disk.now told) tt
-          (asks.told told));
+      told = λ told. TakesBrought-stopped c.args.speaker brought was is waiting held old.told new.told (g.met.D.Disk.knows_now c.ask.new.disk (asks.tells ∙ told)) (owed_by waiting) status
+          (going-disk old.tells status c.in_err-reply.ensures.status) (λ history stands. ask-some c.args.speaker history query)
+          (Stages-asked brought (Err status) old.told new.told (λ history. ask-event history query) (g.met.D.Disk.knows_now c.args.disk.now told) tt (asks.told told));
     })
 
 pub returns-clause-takes : goal.returns-clause-takes
@@ -44,8 +42,8 @@ returns-clause-takes g c =
     let asks = c.in_ok-reply.ensures.asks in
     let reply = c.in_ok-reply.reply in
     step-told asks c.say.ensures.takes (λ told first second.
-    TakesTurn-said (λ (talk : Talk). turn_brought talk (brought talk.history)) tt c.say.result
-    (TakesBrought-owed brought c.args.store.now.records c.ask.new.store.records c.args.waiting.now (g.K.Sink.held c.args.sink.now) old.told mid.told
+    TakesBrought-said c.args.speaker brought tt c.say.result
+    (TakesBrought-owed c.args.speaker brought c.args.store.now.records c.ask.new.store.records c.args.waiting.now (g.K.Sink.held c.args.sink.now) old.told mid.told
     (g.met.D.Disk.knows_now c.ask.new.disk told) reply tt
     (Stages-asked brought (Ok reply) old.told mid.told (λ history. ask-event history query)
     (g.met.D.Disk.knows_now c.args.disk.now (sym asks.tells ∙ told)) c.in_ok-reply.ensures.journal first))

@@ -16,7 +16,7 @@ pub returns-in-None-clause-takes : goal.returns-in-None-clause-takes
 returns-in-None-clause-takes g c =
     let view = g.D.Disk.seen c.args.disk.now in
     let piece = c.args.piece.now in
-    let at = amid c.args.store.now.records (owed_by c.args.waiting.now) (g.K.Sink.held c.args.sink.now) in
+    let at = amid c.args.store.now.records (owed_by c.args.waiting.now) (g.K.Sink.held c.args.sink.now) c.args.sessions.now in
     step-none view (TakesBytes (λ count. take count piece) piece c.args.form (under_way c.args.reader.now) (under_way c.feed-count.new.self) at at
     (Ok c.feed-count.result.0)) (λ told. record {
       goes = λ sealing talk before input form line is.
@@ -37,9 +37,9 @@ returns-in_err-stage_line-in-Some-clause-takes g c =
     let piece = c.args.piece.now in
     let count = c.feed-count.result.0 in
     let o = option_copied c.line_of.result in
-    let from = amid c.args.store.now.records (owed_by c.args.waiting.now) (g.K.Sink.held c.args.sink.now) in
+    let from = amid c.args.store.now.records (owed_by c.args.waiting.now) (g.K.Sink.held c.args.sink.now) c.args.sessions.now in
     let after = g.K.Sink.held c.stage_line.new.sink in
-    let to = amid c.stage_line.new.store.records (owed_by c.stage_line.new.waiting) after in
+    let to = amid c.stage_line.new.store.records (owed_by c.stage_line.new.waiting) after c.stage_line.new.sessions in
     let status = c.in_err-stage_line-in-Some.field-0.0 in
     let same : c.from_residual.result ≡ Err status = search rules in
     subst (λ r. Step (disk_verdict (ended r)) old new (TakesBytes (λ count. take count piece) piece c.args.form (under_way c.args.reader.now)
@@ -61,7 +61,7 @@ returns-in_ok-stage_line-in-Some-clause-takes g c =
     let piece = c.args.piece.now in
     let count = c.feed-count.result.0 in
     let o = option_copied c.line_of.result in
-    let to = amid c.stage_line.new.store.records (owed_by c.stage_line.new.waiting) (g.K.Sink.held c.stage_line.new.sink) in
+    let to = amid c.stage_line.new.store.records (owed_by c.stage_line.new.waiting) (g.K.Sink.held c.stage_line.new.sink) c.stage_line.new.sessions in
     step-as c.in_ok-stage_line-in-Some.ensures.takes (λ takes. record {
       goes = λ sealing talk before input form line is.
           let more = input ++ take count piece in

@@ -12,7 +12,7 @@ use Rattle.ss_program.proofs.taking.take_last.Goals as goal
 pub returns-in-None-clause-takes : goal.returns-in-None-clause-takes
 returns-in-None-clause-takes g c =
     let view = g.D.Disk.seen c.args.disk.now in
-    let at = amid c.args.store.now.records (owed_by c.args.waiting.now) (g.K.Sink.held c.args.sink.now) in
+    let at = amid c.args.store.now.records (owed_by c.args.waiting.now) (g.K.Sink.held c.args.sink.now) c.args.sessions.now in
     step-none view (TakesLast c.args.form (under_way c.args.reader.now) at at (Ok tt)) (λ told. record {
       goes = λ sealing talk before input form line is.
           subst (λ ls. GoesAmid sealing talk ls before at view.told view.told) (sym (c.in-None.ensures.lines input line))

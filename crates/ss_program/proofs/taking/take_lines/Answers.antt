@@ -15,7 +15,7 @@ pub loop-done-init : goal.loop-done-init
 loop-done-init g c =
     let disk = g.D.Disk.seen c.args.disk.now in
     let line = under_way c.args.reader.now in
-    let at = amid c.args.store.now.records (owed_by c.args.waiting.now) (g.K.Sink.held c.args.sink.now) in
+    let at = amid c.args.store.now.records (owed_by c.args.waiting.now) (g.K.Sink.held c.args.sink.now) c.args.sessions.now in
     record {
       fits = omega arith;
       ready = c.requires;
@@ -37,9 +37,9 @@ loop-done-preserved g c =
       ready = c.in_ok-done.ensures.ready;
       on = step-then inv.on c.in_ok-done.ensures.takes (λ first second.
           OfAmid-more c.args.form (under_way c.args.reader.now) (under_way c.loop-done.reader) (under_way c.advance.new.reader)
-          (amid c.args.store.now.records (owed_by c.args.waiting.now) (g.K.Sink.held c.args.sink.now))
-          (amid c.loop-done.store.records (owed_by c.loop-done.waiting) (g.K.Sink.held c.loop-done.sink))
-          (amid c.advance.new.store.records (owed_by c.advance.new.waiting) (g.K.Sink.held c.advance.new.sink))
+          (amid c.args.store.now.records (owed_by c.args.waiting.now) (g.K.Sink.held c.args.sink.now) c.args.sessions.now)
+          (amid c.loop-done.store.records (owed_by c.loop-done.waiting) (g.K.Sink.held c.loop-done.sink) c.loop-done.sessions)
+          (amid c.advance.new.store.records (owed_by c.advance.new.waiting) (g.K.Sink.held c.advance.new.sink) c.advance.new.sessions)
           (g.D.Disk.seen c.args.disk.now).told (g.D.Disk.seen c.loop-done.disk).told (g.D.Disk.seen c.advance.new.disk).told piece done count first
           second.goes);
       faults = c.in_ok-done.ensures.counted ∙ inv.faults;
@@ -55,15 +55,15 @@ returns-in_err-done-clause-takes g c =
     let new = g.D.Disk.seen c.advance.new.disk in
     let line = under_way c.args.reader.now in
     let next = under_way c.advance.new.reader in
-    let from = amid c.args.store.now.records (owed_by c.args.waiting.now) (g.K.Sink.held c.args.sink.now) in
+    let from = amid c.args.store.now.records (owed_by c.args.waiting.now) (g.K.Sink.held c.args.sink.now) c.args.sessions.now in
     let after = g.K.Sink.held c.advance.new.sink in
-    let to = amid c.advance.new.store.records (owed_by c.advance.new.waiting) after in
+    let to = amid c.advance.new.store.records (owed_by c.advance.new.waiting) after c.advance.new.sessions in
     let status = c.in_err-done.field-0.0 in
     let same : c.from_residual.result ≡ Err status = search rules in
     subst (λ r. Step (disk_verdict (ended r)) old new (TakesBytes (λ _. piece) piece c.args.form line next from to r)) (sym same)
     (step-then inv.on c.in_err-done.ensures.takes (λ first second. record {
       goes = tt;
-      stops = OfAmid-stops c.args.form line (under_way c.loop-done.reader) from (amid c.loop-done.store.records (owed_by c.loop-done.waiting) (g.K.Sink.held c.loop-done.sink))
+      stops = OfAmid-stops c.args.form line (under_way c.loop-done.reader) from (amid c.loop-done.store.records (owed_by c.loop-done.waiting) (g.K.Sink.held c.loop-done.sink) c.loop-done.sessions)
           after status old.told mid.told new.told piece done first second.stops;
     }))
 
@@ -73,7 +73,7 @@ returns-clause-takes g c =
     let done = c.loop-done.done in
     let old = (g.D.Disk.seen c.args.disk.now).told in
     let mid = (g.D.Disk.seen c.loop-done.disk).told in
-    let at = amid c.loop-done.store.records (owed_by c.loop-done.waiting) (g.K.Sink.held c.loop-done.sink) in
+    let at = amid c.loop-done.store.records (owed_by c.loop-done.waiting) (g.K.Sink.held c.loop-done.sink) c.loop-done.sessions in
     step-as c.loop-done.invariant.on (λ on. record {
       goes = λ sealing talk before input form line is.
           subst (λ bs. (under_way c.loop-done.reader ≡ kept (unended (input ++ bs))) × GoesAmid sealing talk (lines_so_far (input ++ bs)) before at old mid)

@@ -1,0 +1,124 @@
+-- What the cursor forms of a session do between two lines.
+use Rattle.std.proofs.Common.{◌≡◌, ◌∙◌, ◌++◌, ◌∷◌, [], List, ℕ, Option, Some, None, Result, Ok, Err, refl, sym, ap, subst}
+use Rattle.std.proofs.lemmas.List.{append-nil}
+use Rattle.std.proofs.lemmas.Result.{on_ok_weaker}
+use Rattle.std.specs.List.{flat_map}
+use Rattle.std.specs.Prelude.{IsTrue, OnOk}
+use Rattle.ss_journal.specs.Kept.{shown}
+use Rattle.ss_outside.proofs.CrashLemmas.{reads-none}
+use Rattle.ss_outside.specs.Crash.{KnowsNow}
+use Rattle.ss_outside.specs.Disk.{Told}
+use Rattle.ss_outside.specs.declared.source.Failed.{Failed}
+use Rattle.ss_records.specs.Kept.{RecordsState, shown_by}
+use Rattle.ss_report.specs.declared.reply.Reply.{Reply}
+use Rattle.ss_sessions.specs.Cursors.{Cursors}
+use Rattle.ss_store.specs.Recover.{Stands}
+use Rattle.ss_arguments.specs.declared.mode.Form.{Form}
+use Rattle.ss_arguments.specs.declared.mode.Form.TheVariants.{Lines, Sessions}
+use Rattle.ss_catalog.specs.declared.refusal.Refusal.TheVariants.{Line}
+use Rattle.ss_program.specs.Amid.{Amid, Owed, TakesNone, TakesOrdered, TakesTurn, amid, owed_by, with_text}
+use Rattle.ss_program.specs.Answer.{at_sink}
+use Rattle.ss_program.specs.Cursor.{Ordered, close_brings, next_brings, open_brings}
+use Rattle.ss_program.specs.Line.{Brought, History, only_replies, refused, text_said}
+use Rattle.ss_program.specs.Opened.{OpensBrought}
+use Rattle.ss_program.specs.Progress.{NoneWait}
+use Rattle.ss_report.specs.Text.{said_line}
+use Rattle.ss_program.specs.Sent.{Sends}
+use Rattle.ss_program.specs.Talk.{Talk, kept_turn, turn_brought, turn_said}
+use Rattle.ss_program.specs.declared.status.Status.{Status}
+use Rattle.ss_program.specs.declared.status.Status.TheVariants.{OutOfMemory}
+use Rattle.ss_program.proofs.BroughtLemmas.{TakesTurn-owed, TakesTurn-put, TakesTurn-starved, TakesTurn-stopped, given, halted}
+use Rattle.ss_program.proofs.CursorLemmas.{close-event, next-event, open-event, open-some}
+use Rattle.ss_program.proofs.StagingLemmas.{Turns-looked, shown-still}
+
+-- the text of one reply
+one-text : (session : ℕ) (brought : Brought) (reply : Reply) → brought.replies ≡ reply ∷ [] →
+    text_said (Some session) brought ≡ said_line (Some session) reply
+one-text session brought reply one =
+    ap (λ rs. flat_map (said_line (Some session)) rs) one ∙ append-nil (said_line (Some session) reply)
+
+module _ (session : ℕ) (name : List ℕ) (was is : RecordsState) (waiting : Option (List ℕ)) (held : Option (List ℕ)) (before : Cursors) (old new : Told)
+    (knows : KnowsNow old) (knows_new : KnowsNow new) where
+  abbrev opens : Talk → Ordered
+  opens talk = open_brings talk.history talk.cursors session name
+
+  -- a cursor is opened, and the reply to that is owed
+  pub TakesOpened : (after : Cursors) (reply : Reply) (u : Unit {0}) → is.journal ≡ was.journal →
+      OpensBrought was (λ history. open_brings history before session name) after (Ok reply) old new →
+      TakesOrdered session (λ history cursors. open_brings history cursors session name) (amid was (owed_by waiting) held before)
+      (amid is (with_text (owed_by waiting) (said_line (Some session) reply)) held after) (Ok u) old new
+  TakesOpened after reply u same took =
+      TakesTurn-owed (λ talk. turn_said (Some session) (opens talk)) was is waiting held before old new knows_new reply after
+      (said_line (Some session) reply) u
+      (λ here. Turns-looked was is here.history old new (opens here).brought (given reply) knows took.reads
+      (λ stands. shown-still was is here.history (opens here).brought old.content new.content
+      (open-event here.history here.cursors session name)
+      (ap (λ (bytes : List ℕ). shown_by is bytes) took.reads.same.content ∙ ap (λ j. shown j old.content) same) stands))
+      (λ here there stands.
+      let one = took.reply here.history stands in
+      subst (λ cs. (text_said (Some session) (open_brings here.history cs session name).brought ≡ said_line (Some session) reply)
+      × ((open_brings here.history cs session name).cursors ≡ after)) (sym there)
+      (one-text session (open_brings here.history before session name).brought reply one.0, one.1))
+
+  -- the run stops at it
+  pub TakesOpened-stopped : (left : Owed) (after : Cursors) (status : Status) → (status ≡ OutOfMemory → ⊥) →
+      OpensBrought was (λ history. open_brings history before session name) after (Err status) old new →
+      TakesOrdered session (λ history cursors. open_brings history cursors session name) (amid was (owed_by waiting) held before)
+      (amid is left held after) (Err status) old new
+  TakesOpened-stopped left after status other took =
+      TakesTurn-stopped (λ talk. turn_said (Some session) (opens talk)) was is waiting held before old new knows_new {T = Reply}
+      (amid is left held after) status refl other (λ here stands. open-some here.history here.cursors session name)
+      (λ here. Turns-looked was is here.history old new (opens here).brought (halted {T = Reply} status) knows took.reads (λ stands. tt))
+
+-- memory ran out at it, after which all that waited was brought to the disk and sent
+pub TakesOpened-starved : {was is : RecordsState} {owed left : Owed} {held after : Option (List ℕ)} {old new : Told} {u : Unit {0}} (session : ℕ)
+    (name : List ℕ) (before : Cursors) → KnowsNow new → left.text ≡ [] → shown_by is new.content ≡ new.content →
+    ((history : History) → Stands history (shown_by was old.content) → IsTrue (open_brings history before session name).wants_memory) →
+    TakesNone (amid was owed held) (amid is left after) (Ok u) old new →
+    TakesOrdered session (λ history cursors. open_brings history cursors session name) (amid was owed held before) (amid is left after before)
+    (Err OutOfMemory) old new
+TakesOpened-starved session name before knows none sealed accepted takes =
+    TakesTurn-starved before (λ talk. turn_said (Some session) (open_brings talk.history talk.cursors session name)) knows none sealed
+    (λ here there stands. (
+      subst (λ cs. IsTrue (open_brings here.history cs session name).wants_memory) (sym there) (accepted here.history stands),
+      open-some here.history here.cursors session name,
+    )) takes
+
+-- the next rows of a cursor are shown, where nothing waits
+pub TakesShown : {was : RecordsState} (session count : ℕ) (waiting : Option (List ℕ)) (held after : Option (List ℕ)) (before left : Cursors) (disk : Told)
+    (sent : Result (Unit {0}) Failed) → KnowsNow disk → NoneWait waiting → shown_by was disk.content ≡ disk.content →
+    Sends held after (text_said (Some session) (next_brings before session count).brought) sent →
+    OnOk sent (left ≡ (next_brings before session count).cursors) →
+    TakesOrdered session (λ history cursors. next_brings cursors session count) (amid was (owed_by waiting) held before)
+    (amid was (owed_by waiting) after left) (at_sink sent) disk disk
+TakesShown session count waiting held after before left disk sent knows none sealed sends goes =
+    TakesTurn-put (λ talk. turn_said (Some session) (next_brings talk.cursors session count)) waiting held after before left disk knows none sealed
+    (text_said (Some session) (next_brings before session count).brought)
+    (λ here there. (
+      ap (λ (cs : Cursors). text_said (Some session) (next_brings cs session count).brought) there,
+      next-event here.cursors session count,
+    )) sent sends
+    (on_ok_weaker sent (λ is here there. is ∙ ap (λ (cs : Cursors). (next_brings cs session count).cursors) (sym there)) goes)
+
+-- a cursor is closed, and the reply to that is owed
+pub TakesClosed : (session : ℕ) (was : RecordsState) (waiting : Option (List ℕ)) (held : Option (List ℕ)) (before after : Cursors) (disk : Told)
+    (reply : Reply) (u : Unit {0}) → KnowsNow disk → (close_brings before session).brought ≡ only_replies (reply ∷ []) →
+    after ≡ (close_brings before session).cursors →
+    TakesOrdered session (λ history cursors. close_brings cursors session) (amid was (owed_by waiting) held before)
+    (amid was (with_text (owed_by waiting) (said_line (Some session) reply)) held after) (Ok u) disk disk
+TakesClosed session was waiting held before after disk reply u knows brings goes =
+    TakesTurn-owed (λ talk. turn_said (Some session) (close_brings talk.cursors session)) was was waiting held before disk disk knows reply after
+    (said_line (Some session) reply) u
+    (λ here. Turns-looked was was here.history disk disk (close_brings here.cursors session).brought (given reply) knows (reads-none disk)
+    (λ stands. shown-still was was here.history (close_brings here.cursors session).brought disk.content disk.content
+    (close-event here.cursors session) refl stands))
+    (λ here there stands.
+    subst (λ cs. (text_said (Some session) (close_brings cs session).brought ≡ said_line (Some session) reply)
+    × ((close_brings cs session).cursors ≡ after)) (sym there)
+    (one-text session (close_brings before session).brought reply (ap (λ (b : Brought). b.replies) brings), sym goes))
+
+-- a line that is too long is refused, whatever the form of the input
+pub TakesTurn-long : {from to : Amid} {old new : Told} (form : Form) (result : Result (Unit {0}) Status) →
+    TakesTurn (λ talk. turn_brought None talk (refused Line)) from to result old new → TakesTurn (kept_turn form None) from to result old new
+TakesTurn-long Lines result takes = takes
+TakesTurn-long Sessions result takes = takes

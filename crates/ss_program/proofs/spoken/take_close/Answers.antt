@@ -1,0 +1,19 @@
+use Rattle.std.proofs.Common.{Some}
+use Rattle.ss_program.specs.Cursor.{close_brings}
+use Rattle.ss_program.specs.Talk.{Talk, turn_said}
+use Rattle.ss_program.proofs.BroughtLemmas.{TakesTurn-said}
+use Rattle.ss_program.proofs.OrderLemmas.{TakesClosed}
+use Rattle.ss_program.proofs.StepLemmas.{step-told}
+use Rattle.ss_program.proofs.TakesLemmas.{still}
+use Rattle.ss_program.proofs.spoken.take_close.Goals as goal
+
+pub returns-clause-takes : goal.returns-clause-takes
+returns-clause-takes g c =
+    let disk = g.D.Disk.seen c.args.disk.now in
+    let session = c.args.session in
+    let after = c.close_cursor-reply.new.sessions in
+    step-told (still disk) c.say.ensures.takes (λ told first second.
+    TakesTurn-said after (λ (talk : Talk). turn_said (Some session) (close_brings talk.cursors session)) tt c.say.result
+    (TakesClosed session c.args.store.now.records c.args.waiting.now (g.K.Sink.held c.args.sink.now) c.args.sessions.now after disk.told
+    c.close_cursor-reply.result tt (g.met.D.Disk.knows_now c.args.disk.now told) c.close_cursor-reply.ensures.reply c.close_cursor-reply.ensures.cursors)
+    second)

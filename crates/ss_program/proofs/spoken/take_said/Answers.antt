@@ -1,0 +1,23 @@
+use Rattle.std.proofs.Common.{◌∙◌, Ok, Option, Result, Some, ap, sym, subst}
+use Rattle.ss_catalog.specs.declared.refusal.Refusal.{Refusal}
+use Rattle.ss_outside.proofs.StepLemmas.{step-none}
+use Rattle.ss_outside.specs.Step.{Step}
+use Rattle.ss_outside.specs.Verdict.{fine}
+use Rattle.ss_sessions.specs.declared.order.Order.{Order}
+use Rattle.ss_program.specs.Amid.{TakesTurn, amid, owed_by}
+use Rattle.ss_program.specs.Line.{nothing}
+use Rattle.ss_program.specs.Talk.{turn_brought, turn_to}
+use Rattle.ss_program.proofs.BroughtLemmas.{TakesBrought-silent}
+use Rattle.ss_program.proofs.spoken.take_said.Goals as goal
+
+pub returns-in-Ok-None-clause-takes : goal.returns-in-Ok-None-clause-takes
+returns-in-Ok-None-clause-takes g c =
+    let disk = g.D.Disk.seen c.args.disk.now in
+    let session = c.args.session in
+    let cursors = c.args.sessions.now in
+    let held = g.K.Sink.held c.args.sink.now in
+    let was = c.args.store.now.records in
+    let at = amid was (owed_by c.args.waiting.now) held cursors in
+    subst (λ (s : Result (Option Order) Refusal). Step fine disk disk (TakesTurn (λ talk. turn_to session talk s) at at (Ok tt))) (sym (c.in-Ok-None.is ∙ ap (λ (o : Option Order). Ok o) c.in-Ok-None.field-0-is))
+    (step-none disk (TakesTurn (λ talk. turn_brought (Some session) talk nothing) at at (Ok tt)) (λ told.
+    TakesBrought-silent (Some session) was c.args.waiting.now held disk.told tt (g.met.D.Disk.knows_now c.args.disk.now told) cursors))

@@ -1,0 +1,21 @@
+use Rattle.std.proofs.Common.{None, Ok, subst}
+use Rattle.ss_outside.proofs.StepLemmas.{step-none}
+use Rattle.ss_outside.specs.Step.{Step}
+use Rattle.ss_outside.specs.Verdict.{fine}
+use Rattle.ss_sessions.specs.declared.order.Spoken.{Spoken}
+use Rattle.ss_program.specs.Amid.{TakesTurn, amid, owed_by}
+use Rattle.ss_program.specs.Line.{nothing}
+use Rattle.ss_program.specs.Talk.{turn_brought, turn_spoken}
+use Rattle.ss_program.proofs.BroughtLemmas.{TakesBrought-silent}
+use Rattle.ss_program.proofs.spoken.take_spoken.Goals as goal
+
+pub returns-in-Nothing-clause-takes : goal.returns-in-Nothing-clause-takes
+returns-in-Nothing-clause-takes g c =
+    let disk = g.D.Disk.seen c.args.disk.now in
+    let cursors = c.args.sessions.now in
+    let held = g.K.Sink.held c.args.sink.now in
+    let was = c.args.store.now.records in
+    let at = amid was (owed_by c.args.waiting.now) held cursors in
+    subst (λ (s : Spoken). Step fine disk disk (TakesTurn (λ talk. turn_spoken talk s) at at (Ok tt))) c.in-Nothing.ensures.meaning
+    (step-none disk (TakesTurn (λ talk. turn_brought None talk nothing) at at (Ok tt)) (λ told.
+    TakesBrought-silent None was c.args.waiting.now held disk.told tt (g.met.D.Disk.knows_now c.args.disk.now told) cursors))
