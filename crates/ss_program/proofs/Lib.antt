@@ -20,6 +20,9 @@ pub mod GenerateLemmas
 pub mod LawLemmas
 pub mod UnknownLemmas
 pub mod NewestLaws
+pub mod HeardLemmas
+pub mod ConversationLemmas
+pub mod AskedRows
 pub mod Rows
 pub mod SaidRows
 pub mod NewestRows

@@ -2,6 +2,7 @@ pub mod Line
 pub mod Cursor
 pub mod Talk
 pub mod Session
+pub mod Asked
 pub mod Sent
 pub mod Devices
 pub mod Progress
