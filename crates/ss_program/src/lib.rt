@@ -15,6 +15,7 @@ mod running;
 mod sending;
 mod series;
 mod session;
+mod session_laws;
 mod spoken;
 mod staging;
 mod status;
@@ -28,4 +29,8 @@ pub use laws::{
 pub use promises::run_store;
 pub use running::{LONGEST_INPUT, run};
 pub use sending::send;
+pub use session_laws::{
+    conversations_hold_the_truth, conversations_leave_a_history,
+    cursors_show_the_history_at_their_opening, sessions_say_what_commands_bring,
+};
 pub use status::{Status, complaint, exit_code};

@@ -1,0 +1,15 @@
+use Rattle.ss_arguments.specs.declared.mode.Form.TheVariants.{Sessions}
+use Rattle.ss_program.specs.Session.{after_lines}
+use Rattle.ss_program.specs.Talk.{begun}
+use Rattle.ss_program.proofs.HeardLemmas.{cursor-opens, cursor-shows, cursor-shows-begun}
+use Rattle.ss_program.proofs.SessionLemmas.{after_lines-form}
+use Rattle.ss_program.proofs.session_laws.cursors_show_the_history_at_their_opening.Goals as goal
+
+pub returns-clause-opened : goal.returns-clause-opened
+returns-clause-opened c history before opening name session =
+    cursor-opens (after_lines (begun Sessions history) before) opening name session (after_lines-form (begun Sessions history) before)
+
+pub returns-clause-shown : goal.returns-clause-shown
+returns-clause-shown c history before between opening line name session count =
+    cursor-shows (after_lines (begun Sessions history) before) between opening line name session count
+    (after_lines-form (begun Sessions history) before) (cursor-shows-begun history before)
