@@ -284,10 +284,10 @@ pub shown-least : (rows : List Placed) (count m : ℕ) → m ≡ min count (leng
     (take m rows ≡ take count rows) × (m ≡ length (take count rows)) × (drop m rows ≡ drop count rows)
 shown-least rows count m is = elim (cases_lt count (length rows)) [
   | inl less ↦ (let same : m ≡ count = omega (arith, is, less) in (
-      ap (λ n. take n rows) same,
-      same ∙ taken-most rows count (omega (arith, less)),
-      ap (λ n. drop n rows) same,
-    ))
+    ap (λ n. take n rows) same,
+    same ∙ taken-most rows count (omega (arith, less)),
+    ap (λ n. drop n rows) same,
+  ))
   | inr past ↦ (let same : m ≡ length rows = omega (arith, is, past) in
       let whole : take count rows ≡ rows = take_all count rows past in (
         take_all m rows (omega (arith, same)) ∙ sym whole,

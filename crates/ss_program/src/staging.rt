@@ -331,5 +331,12 @@ pub fn say_refusal<D: Disk, K: Sink>(
     ensures status { IfErr result (IsStop (D.seen disk.old).tells) }
     ensures counted { Counted (sink_verdict (ended result)) (K.faults sink.old) (K.faults sink.new) }
 {
-    say(speaker, store, waiting, &Reply::Refused(refusal), disk, sink)
+    say(
+        speaker,
+        store,
+        waiting,
+        &Reply::Refused(refusal),
+        disk,
+        sink,
+    )
 }

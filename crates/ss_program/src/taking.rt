@@ -56,7 +56,15 @@ fn advance<D: Disk, K: Sink>(
     match ended {
         None => Ok(count),
         Some(ended) => {
-            stage_line(form, sessions, store, waiting, line_of(reader, ended), disk, sink)?;
+            stage_line(
+                form,
+                sessions,
+                store,
+                waiting,
+                line_of(reader, ended),
+                disk,
+                sink,
+            )?;
             Ok(count)
         }
     }
@@ -83,7 +91,16 @@ fn take_lines<D: Disk, K: Sink>(
 {
     let mut done = 0;
     while done < piece.len() {
-        done += advance(form, sessions, store, reader, waiting, &piece[done..], disk, sink)?;
+        done += advance(
+            form,
+            sessions,
+            store,
+            reader,
+            waiting,
+            &piece[done..],
+            disk,
+            sink,
+        )?;
     }
     Ok(())
 }
@@ -133,7 +150,15 @@ fn take_last<D: Disk, K: Sink>(
 {
     match reader.finish() {
         None => Ok(()),
-        Some(ended) => stage_line(form, sessions, store, waiting, line_of(reader, ended), disk, sink),
+        Some(ended) => stage_line(
+            form,
+            sessions,
+            store,
+            waiting,
+            line_of(reader, ended),
+            disk,
+            sink,
+        ),
     }
 }
 

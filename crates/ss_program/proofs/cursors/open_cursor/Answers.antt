@@ -42,8 +42,7 @@ returns-in-Err-Refused-clause-opens g c =
       told = λ told. record {
         reply = λ history stands.
             let why = (((opens.told told).refused (state history) stands.state) refusal).0 refl in
-            let brings = open-refused history cursors session name (refusal_of refusal) why in
-            (
+            let brings = open-refused history cursors session name (refusal_of refusal) why in (
               ap (λ (o : Ordered). o.brought.replies) brings ∙ ap (λ r. Refused r ∷ []) (sym c.refusal.ensures),
               ap (λ (o : Ordered). o.cursors) brings ∙ sym c.in-Err-Refused.ensures.unopened,
             );
