@@ -80,8 +80,8 @@ fn run_watched<R: AllocGlobal + Input + Print + Eprint + Clock + Files<File = Fi
     status_with(run.is_strict, has_refused, number)
 }
 
-// The exit status of a run over a store. Where the arguments aren't known, they are read again, to say what is wrong with them.
-fn run_asked<R: Env + AllocGlobal + Input + Print + Eprint + Clock + Files<File = File>>(
+// The exit status of a run over a store, which is watched where standard error has something to say.
+fn run_heard<R: AllocGlobal + Input + Print + Eprint + Clock + Files<File = File>>(
     rt: &R,
     run: Run,
     terminals: Terminals,
@@ -98,11 +98,20 @@ fn run_asked<R: Env + AllocGlobal + Input + Print + Eprint + Clock + Files<File 
         run.form,
         terminals,
     );
-    let number = if watch.hears() {
+    if watch.hears() {
         run_watched(rt, run, watch)
     } else {
         run_over(rt, run)
-    };
+    }
+}
+
+// The same. Where the arguments aren't known, they are read again, to say what is wrong with them.
+fn run_asked<R: Env + AllocGlobal + Input + Print + Eprint + Clock + Files<File = File>>(
+    rt: &R,
+    run: Run,
+    terminals: Terminals,
+) -> u8 {
+    let number = run_heard(rt, run, terminals);
     if number != Status::Usage.number() {
         return number;
     }
