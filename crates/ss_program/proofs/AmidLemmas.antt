@@ -1,5 +1,6 @@
 -- Between two lines of a session: how it begins, how it goes on, and where a run stops.
-use Rattle.std.proofs.Common.{◌≡◌, ℕ, ◌+◌, ◌≤◌, ◌++◌, List, [], ◌∷◌, length, Option, Some, None, Result, Ok, Err, refl, sym, ap, ◌∙◌, subst, append_assoc, arith}
+use Rattle.std.proofs.Common.{◌≡◌, ℕ, ◌+◌, ◌≤◌, ◌++◌, List, [], ◌∷◌, length, Option, Some, None, Result, Ok, Err, refl, sym, ap, ◌∙◌, subst}
+use Rattle.std.proofs.Common.{append_assoc, arith}
 use Rattle.std.proofs.lemmas.List.{append-nil, length-append}
 use Rattle.std.specs.Prelude.{suc}
 use Rattle.ss_outside.proofs.CrashLemmas.{at_start, joined, of_content, weaker}
@@ -161,11 +162,13 @@ module _ {sealing : Sealing} {talk : Talk} {ls : List (List ℕ)} {before : Opti
       Takes sealing talk ls [] before from mid (Ok u) old between → Takes sealing talk ls mores before mid to result between new →
       Takes sealing talk ls mores before from to result old new
   Takes-next {mores = mores} result first second =
-      Takes-then {more = []} {mores = mores} result first (subst (λ l. Takes sealing talk l mores before mid to result between new) (sym (append-nil ls)) second)
+      Takes-then {more = []} {mores = mores} result first
+      (subst (λ l. Takes sealing talk l mores before mid to result between new) (sym (append-nil ls)) second)
 
 -- none are taken
 pub TakesNone-still : (at : Cursors → Amid) (disk : Told) (u : Unit {0}) → KnowsNow disk → TakesNone at at (Ok u) disk disk
 TakesNone-still at disk u knows cursors sealing talk ls before = record {
-  goes = λ is. subst (λ l. GoesAmid sealing talk l before (at cursors) disk disk) (sym (append-nil ls)) (GoesAmid-none sealing talk ls before (at cursors) disk knows is);
+  goes = λ is. subst (λ l. GoesAmid sealing talk l before (at cursors) disk disk) (sym (append-nil ls))
+      (GoesAmid-none sealing talk ls before (at cursors) disk knows is);
   stops = tt;
 }

@@ -1,5 +1,6 @@
 -- What a line brings, by what it means, and what sending it leaves.
-use Rattle.std.proofs.Common.{⊎_elim, ◌≡◌, ℕ, ◌<◌, Bool, ◌++◌, ◌↔◌, List, [], ◌∷◌, length, Option, Some, None, IsSome, Ok, Err, Result, IfErr, refl, sym, ap, ◌∙◌, subst, arith, inl, inr}
+use Rattle.std.proofs.Common.{⊎_elim, ◌≡◌, ℕ, ◌<◌, Bool, ◌++◌, ◌↔◌, List, [], ◌∷◌, length, Option, Some, None, IsSome, Ok, Err, Result}
+use Rattle.std.proofs.Common.{IfErr, refl, sym, ap, ◌∙◌, subst, arith, inl, inr}
 use Rattle.std.proofs.lemmas.Bool.{cases_lt, cond-true, cond-false, le-leb, lt-leb, lt-ltb}
 use Rattle.std.proofs.lemmas.List.{append-nil, length-append}
 use Rattle.std.specs.List.{flat_map}

@@ -127,7 +127,8 @@ pub adds-line : {T : Type 0} (history : History) (old mid new : Told) (ls : List
     LeavesOnly old new (StandsWithin (plain history) (ls ++ printed command ∷ []))
 adds-line history old mid new ls command tally result ran sayable adds =
     let here = plain_after history ls in
-    joined old mid new (StandsWithin (plain history) (ls ++ printed command ∷ [])) (moments-more (plain history) old mid ls (printed command ∷ []) ran.any_moment)
+    joined old mid new (StandsWithin (plain history) (ls ++ printed command ∷ []))
+    (moments-more (plain history) old mid ls (printed command ∷ []) ran.any_moment)
     (moments-line history mid new ls (printed command)
     (subst (λ b. LeavesOnly mid new (StandsAround here b)) (sym (brings-printed here command sayable)) (adds.any_moment ran.durable ran.stands)))
 

@@ -157,7 +157,8 @@ OfAmid-more form line next last from mid to old between new piece done k first s
     )
 
 -- or the run stops in them
-pub OfAmid-stops : (form : Form) (line next : Kept) (from mid : Amid) (after : Option (List ℕ)) (status : Status) (old between new : Told) (piece : List ℕ) (done : ℕ) →
+pub OfAmid-stops : (form : Form) (line next : Kept) (from mid : Amid) (after : Option (List ℕ)) (status : Status) (old between new : Told)
+    (piece : List ℕ) (done : ℕ) →
     OfAmid form line from old (λ sealing talk before input. (next ≡ kept (unended (input ++ take done piece)))
     × GoesAmid sealing talk (lines_so_far (input ++ take done piece)) before mid old between) →
     OfAmid form next mid between (λ sealing talk before input.
@@ -176,7 +177,8 @@ session_of form cursors store line waiting = record { form = form; store = store
 module _ (form : Form) (cursors : Cursors) (store : StoreState) (line : Kept) (waiting : Option (List ℕ)) (held : Option (List ℕ)) (old : Told)
     (nothing_staged : shown_by store.records old.content ≡ old.content) where
   -- before a piece nothing waits, and nothing is staged
-  begins : (sealing : Sealing) (talk : Talk) (before : Option (List ℕ)) (input : List ℕ) → HasTaken sealing talk old (session_of form cursors store line waiting) input →
+  begins : (sealing : Sealing) (talk : Talk) (before : Option (List ℕ)) (input : List ℕ) →
+      HasTaken sealing talk old (session_of form cursors store line waiting) input →
       HasReplied talk before held input → IsAmid sealing talk (lines_so_far input) before (amid store.records (owed_by waiting) held cursors) old
   begins sealing talk before input at replied =
       IsAmid-begin sealing talk (lines_so_far input) before (amid store.records (owed_by waiting) held cursors) old (owed-nothing waiting at.unsaid)
@@ -188,7 +190,8 @@ module _ (form : Form) (cursors : Cursors) (store : StoreState) (line : Kept) (w
         TakesBytes (λ (w : Unit {0}). piece) piece form line after_line (amid store.records (owed_by waiting) held cursors) (mid now) (Ok u) old between →
         TakesNone mid (amid next.records (owed_by left) after) result between new → OnOk result (shown_by next.records new.content ≡ new.content) →
         OnOk result (NoneWait left) →
-        TakesPiece (λ (w : Unit {0}). piece) piece (session_of form cursors store line waiting) (session_of form now next after_line left) held after result old new
+        TakesPiece (λ (w : Unit {0}). piece) piece (session_of form cursors store line waiting)
+        (session_of form now next after_line left) held after result old new
     TakesPiece-sealed mid between (Ok v) bytes none_more sealed none = record {
       goes = λ sealing talk before input at replied.
           let taken = lines_so_far (input ++ piece) in
@@ -217,13 +220,15 @@ module _ (form : Form) (cursors : Cursors) (store : StoreState) (line : Kept) (w
           let taken = lines_so_far (input ++ piece) in
           let one = bytes.goes sealing talk before input at.form at.line (begins sealing talk before input at replied) in
           subst (λ ls. StopsIn sealing talk ls old new before after status) (append-nil taken)
-          (StopsIn-after sealing talk taken [] before (mid now) old between new after status one.1 ((none_more now sealing talk taken before).stops one.1.amid));
+          (StopsIn-after sealing talk taken [] before (mid now) old between new after status one.1
+          ((none_more now sealing talk taken before).stops one.1.amid));
     }
 
     -- or the run stopped in the piece
     pub TakesPiece-stopped : (status : Status) → OfAmid form line (amid store.records (owed_by waiting) held cursors) old (λ sealing talk before input.
         StopsIn sealing talk (lines_so_far (input ++ piece)) old new before after status) →
-        TakesPiece (λ (w : Unit {0}). piece) piece (session_of form cursors store line waiting) (session_of form now next after_line left) held after (Err status) old new
+        TakesPiece (λ (w : Unit {0}). piece) piece (session_of form cursors store line waiting)
+        (session_of form now next after_line left) held after (Err status) old new
     TakesPiece-stopped status takes = record {
       goes = tt;
       stops = λ sealing talk before input at replied. takes sealing talk before input at.form at.line (begins sealing talk before input at replied);

@@ -72,7 +72,8 @@ pub record IsThrough (sealing : Sealing) (talk : Talk) (start now : Told) (sessi
     pub on : GoesOn sealing talk start now session before held (take n input)
 
 -- none were
-pub IsThrough-start : (sealing : Sealing) (talk : Talk) (disk : Told) (session : SessionState) (before left : Option (List ℕ)) (input : List ℕ) → KnowsNow disk →
+pub IsThrough-start : (sealing : Sealing) (talk : Talk) (disk : Told) (session : SessionState) (before left : Option (List ℕ)) (input : List ℕ) →
+    KnowsNow disk →
     HasTaken sealing talk disk session [] → HasReplied talk before before [] → left ≡ Some input →
     IsThrough sealing talk disk disk session before before left input 0
 IsThrough-start sealing talk disk session before left input knows at replied source = record {
@@ -85,7 +86,8 @@ IsThrough-start sealing talk disk session before left input knows at replied sou
 pub IsThrough-more : (sealing : Sealing) (talk : Talk) (start mid now : Told) (first second : SessionState) (before held after old_left left : Option (List ℕ))
     (input : List ℕ) (n k : ℕ) →
     IsThrough sealing talk start mid first before held old_left input n → k ≤ length (drop n input) → left ≡ Some (drop k (drop n input)) →
-    GoesOn sealing talk mid now second before after (take n input ++ take k (drop n input)) → IsThrough sealing talk start now second before after left input (n + k)
+    GoesOn sealing talk mid now second before after (take n input ++ take k (drop n input)) →
+    IsThrough sealing talk start now second before after left input (n + k)
 IsThrough-more sealing talk start mid now first second before held after old_left left input n k through more source on = record {
   within = omega (arith, through.within, more, length-drop n input);
   source = source ∙ ap (λ bs. Some bs) (drop-drop k n input);
@@ -94,7 +96,8 @@ IsThrough-more sealing talk start mid now first second before held after old_lef
 }
 
 -- all of the input was taken
-pub record IsAtEnd (sealing : Sealing) (talk : Talk) (start now : Told) (session : SessionState) (before held left : Option (List ℕ)) (input : List ℕ) : Type 0 where
+pub record IsAtEnd (sealing : Sealing) (talk : Talk) (start now : Told) (session : SessionState) (before held left : Option (List ℕ))
+    (input : List ℕ) : Type 0 where
   pub fits : length input ≤ LONGEST_INPUT
   pub source : left ≡ Some []
   pub on : GoesOn sealing talk start now session before held input
@@ -102,7 +105,8 @@ pub record IsAtEnd (sealing : Sealing) (talk : Talk) (start now : Told) (session
 pub IsThrough-end : {sealing : Sealing} {talk : Talk} {start now : Told} {session : SessionState} {before held left : Option (List ℕ)} {input : List ℕ} {n : ℕ}
     (after_left : Option (List ℕ)) → IsThrough sealing talk start now session before held left input n → length input ≤ n →
     length input ≤ LONGEST_INPUT → after_left ≡ Some [] → IsAtEnd sealing talk start now session before held after_left input
-IsThrough-end {sealing = sealing} {talk = talk} {start = start} {now = now} {session = session} {before = before} {held = held} {input = input} {n = n} after_left through
+IsThrough-end {sealing = sealing} {talk = talk} {start = start} {now = now} {session = session} {before = before} {held = held} {input = input}
+    {n = n} after_left through
     all fits none = record {
       fits = fits;
       source = none;

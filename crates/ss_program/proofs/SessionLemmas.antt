@@ -1,5 +1,6 @@
 -- How a session goes on with further lines, and where it stops. Of what a line brings this rests only on that an event is never silent.
-use Rattle.std.proofs.Common.{Some, None, Ok, Err, Result, inl, inr, ◌≡◌, ℕ, ◌+◌, ◌<◌, ◌≤◌, ◌++◌, List, [], ◌∷◌, length, take, Option, IsSome, refl, sym, ap, ◌∙◌, subst, append_assoc, arith}
+use Rattle.std.proofs.Common.{Some, None, Ok, Err, Result, inl, inr, ◌≡◌, ℕ, ◌+◌, ◌<◌, ◌≤◌, ◌++◌, List, [], ◌∷◌, length, take, Option}
+use Rattle.std.proofs.Common.{IsSome, refl, sym, ap, ◌∙◌, subst, append_assoc, arith}
 use Rattle.std.proofs.Math.Seq.{take-append-add}
 use Rattle.std.specs.List.{flat_map}
 use Rattle.std.proofs.lemmas.Grind.{flat_map-append}

@@ -51,7 +51,8 @@ pub fn run_store<D: Disk, S: Source, K: Sink>(
     ensures acked_held { (form : Form) (history : History) (input : List ℕ) →
         BeginsOver form Sealing.Each (mode_of (words_of words.now)) (D.seen disk.old) (S.left source.old) history input → (had has : List ℕ) →
         K.held sink.old ≡ Some had → K.held sink.new ≡ Some has → (image : List ℕ) → (D.seen disk.new).told.may_leave image →
-        (j : ℕ) × (acks (begun form history) (lines input) (length has - length had) ≤ j) × (j ≤ acks (begun form history) (lines input) (length has - length had) + 1)
+        (j : ℕ) × (acks (begun form history) (lines input) (length has - length had) ≤ j)
+        × (j ≤ acks (begun form history) (lines input) (length has - length had) + 1)
         × Stands (history ++ take j (accepted (begun form history) (lines input))) image }
     // Where events share seals, it holds each event whose reply the sink got, and none but those of the lines that were read.
     ensures shared_held { (form : Form) (history : History) (input : List ℕ) →

@@ -46,7 +46,8 @@ fn advance<D: Disk, K: Sink>(
     requires ready { IsReady (D.seen disk.old) store.old waiting.old }
     ensures takes { Step (disk_verdict (ended result)) (D.seen disk.old) (D.seen disk.new)
         (TakesBytes (λ count. take count piece.now) piece.now form (under_way reader.old) (under_way reader.new)
-        (amid store.old.records (owed_by waiting.old) (K.held sink.old) sessions.old) (amid store.new.records (owed_by waiting.new) (K.held sink.new) sessions.new) result) }
+        (amid store.old.records (owed_by waiting.old) (K.held sink.old) sessions.old)
+        (amid store.new.records (owed_by waiting.new) (K.held sink.new) sessions.new) result) }
     ensures count { IfOk result (λ count. (0 < count) × (count ≤ length piece.now)) }
     ensures ready { OnOk result (IsReady (D.seen disk.new) store.new waiting.new) }
     ensures status { IfErr result (IsStop (D.seen disk.old).tells) }
@@ -84,7 +85,8 @@ fn take_lines<D: Disk, K: Sink>(
     requires { IsReady (D.seen disk.old) store.old waiting.old }
     ensures takes { Step (disk_verdict (ended result)) (D.seen disk.old) (D.seen disk.new)
         (TakesBytes (λ _. piece.now) piece.now form (under_way reader.old) (under_way reader.new)
-        (amid store.old.records (owed_by waiting.old) (K.held sink.old) sessions.old) (amid store.new.records (owed_by waiting.new) (K.held sink.new) sessions.new) result) }
+        (amid store.old.records (owed_by waiting.old) (K.held sink.old) sessions.old)
+        (amid store.new.records (owed_by waiting.new) (K.held sink.new) sessions.new) result) }
     ensures ready { OnOk result (IsReady (D.seen disk.new) store.new waiting.new) }
     ensures status { IfErr result (IsStop (D.seen disk.old).tells) }
     ensures counted { Counted (sink_verdict (ended result)) (K.faults sink.old) (K.faults sink.new) }

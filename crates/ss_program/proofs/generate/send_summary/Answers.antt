@@ -17,5 +17,6 @@ returns-clause-sends g c lines all tallies =
     Sends-summary (g.K.Sink.held c.args.sink.now) (g.K.Sink.held c.send_counts.new.sink) (g.K.Sink.held c.send_replies.new.sink) c.args.seed c.args.count
     lines all
     c.args.tally.now c.send_replies.result tallies c.in_ok-send_counts.ensures.sends
-    (subst (λ rs. SendsRows None (g.K.Sink.held c.send_counts.new.sink) (g.K.Sink.held c.send_replies.new.sink) rs c.send_replies.result) c.as_slice.ensures.value
+    (subst (λ rs. SendsRows None (g.K.Sink.held c.send_counts.new.sink) (g.K.Sink.held c.send_replies.new.sink) rs c.send_replies.result)
+    c.as_slice.ensures.value
     c.send_replies.ensures.sends)

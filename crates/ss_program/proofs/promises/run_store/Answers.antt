@@ -21,7 +21,8 @@ pub returns-clause-any_moment : goal.returns-clause-any_moment
 returns-clause-any_moment g c form sealing history input begins image left =
     let known = c.run.ensures.known in
     StandsForFirst-within (begun form history) (lines input) image
-    ((c.run.ensures.serves form sealing begins.asked known.0 known.1 input begins.source begins.tells begins.durable history begins.stands).any_moment.each image
+    ((c.run.ensures.serves form sealing begins.asked known.0 known.1 input
+    begins.source begins.tells begins.durable history begins.stands).any_moment.each image
     left)
 
 pub returns-clause-acked_held : goal.returns-clause-acked_held
@@ -34,7 +35,8 @@ returns-clause-acked_held g c form history input begins had has is_had is_has im
 pub returns-clause-shared_held : goal.returns-clause-shared_held
 returns-clause-shared_held g c form history input begins had has is_had is_has image left =
     let known = c.run.ensures.known in
-    let holds = (c.run.ensures.serves form Shared begins.asked known.0 known.1 input begins.source begins.tells begins.durable history begins.stands).kept had has
+    let holds = (c.run.ensures.serves form Shared begins.asked known.0 known.1 input
+    begins.source begins.tells begins.durable history begins.stands).kept had has
     is_had is_has image left in
     (holds.4.j, holds.0, holds.1, holds.2, holds.3, holds.4.acked, holds.4.within, holds.4.stands)
 

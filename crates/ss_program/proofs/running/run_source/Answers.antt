@@ -70,7 +70,8 @@ pub returns-in-Err-clause-serves : goal.returns-in-Err-clause-serves
 returns-in-Err-clause-serves g c input is told none history stands =
     let opens = c.in-Err.ensures.opens in
     rw c.refuse.ensures.status
-    (Serves-refused c.args.sealing (begun c.args.form history) input (g.S.Source.left c.args.source.now) (g.K.Sink.held c.args.sink.now) (g.K.Sink.held c.refuse.new.sink)
+    (Serves-refused c.args.sealing (begun c.args.form history) input (g.S.Source.left c.args.source.now) (g.K.Sink.held c.args.sink.now)
+    (g.K.Sink.held c.refuse.new.sink)
     (g.K.Sink.faults c.args.sink.now) (g.K.Sink.faults c.refuse.new.sink) (g.D.Disk.seen c.args.disk.now).told (g.D.Disk.seen c.open.new.disk).told
     c.in-Err.error
     (opens.told told).opens stands c.refuse.ensures.says is (g.met.D.Disk.knows_now c.open.new.disk (opens.tells ∙ told))

@@ -26,10 +26,21 @@ loop-done-init g c =
       is_open = c.requires.open;
       left = λ input is. record { within = omega arith; source = is };
       through = step-none disk (λ old now. (input : List ℕ) → left ≡ Some input → NothingPending old → (history : History) →
-          Stands history old.content → IsThrough (sealing_by c.args.session.now.waiting) (begun c.args.session.now.form history) old now c.args.session.now before before left input 0)
+          Stands history old.content →
+          IsThrough (sealing_by c.args.session.now.waiting) (begun c.args.session.now.form history) old now c.args.session.now before before left input 0)
           (λ told input is none history stands.
-          IsThrough-start (sealing_by c.args.session.now.waiting) (begun c.args.session.now.form history) disk.told c.args.session.now before left input (g.met.D.Disk.knows_now c.args.disk.now told)
-          (record { stands = stands; durable = none; line = c.requires.front; unsaid = c.requires.unsaid; seals = refl; form = refl; cursors = c.requires.cursors }) (sym (appended-nil before)) is);
+          IsThrough-start (sealing_by c.args.session.now.waiting) (begun c.args.session.now.form history) disk.told c.args.session.now before left input
+          (g.met.D.Disk.knows_now c.args.disk.now told)
+          (record {
+            stands = stands;
+            durable = none;
+            line = c.requires.front;
+            unsaid = c.requires.unsaid;
+            seals = refl;
+            form = refl;
+            cursors = c.requires.cursors;
+          })
+          (sym (appended-nil before)) is);
       source = refl;
       sink = refl;
     }
@@ -53,9 +64,11 @@ loop-done-preserved g c =
           let one = first input is none history stands in
           let rest = drop done input in
           let moves = c.in-Ok.ensures.moves rest one.source in
-          IsThrough-more (sealing_by c.args.session.now.waiting) (begun c.args.session.now.form history) old mid new c.loop-done.session c.read_piece.new.session (g.K.Sink.held c.args.sink.now) (g.K.Sink.held c.loop-done.sink)
+          IsThrough-more (sealing_by c.args.session.now.waiting) (begun c.args.session.now.form history) old mid new c.loop-done.session
+          c.read_piece.new.session (g.K.Sink.held c.args.sink.now) (g.K.Sink.held c.loop-done.sink)
           (g.K.Sink.held c.read_piece.new.sink) (g.S.Source.left c.loop-done.source) after_left input done c.in-Ok.count one moves.0 moves.2
-          (second.goes rest one.source (sealing_by c.args.session.now.waiting) (begun c.args.session.now.form history) (g.K.Sink.held c.args.sink.now) (take done input) one.on.at one.on.replied));
+          (second.goes rest one.source (sealing_by c.args.session.now.waiting) (begun c.args.session.now.form history) (g.K.Sink.held c.args.sink.now)
+          (take done input) one.on.at one.on.replied));
       source = c.in-Ok.ensures.source ∙ inv.source;
       sink = c.in-Ok.ensures.sink ∙ inv.sink;
     }
@@ -84,14 +97,17 @@ returns-in-Ok-eq0-clause-serves g c =
     let inv = c.loop-done.invariant in
     let read = step-then {S = λ a b. (input : List ℕ) → g.S.Source.left c.args.source.now ≡ Some input → NothingPending a →
     (history : History) → Stands history a.content →
-    IsThrough (sealing_by c.args.session.now.waiting) (begun c.args.session.now.form history) a b c.read_piece.new.session before (g.K.Sink.held c.read_piece.new.sink) left input (n + k)}
+    IsThrough (sealing_by c.args.session.now.waiting) (begun c.args.session.now.form history) a b c.read_piece.new.session
+    before (g.K.Sink.held c.read_piece.new.sink) left input (n + k)}
     inv.through c.in-Ok-eq0.ensures.reads (λ first second input is none history stands.
     let one = first input is none history stands in
     let rest = drop n input in
     let moves = c.in-Ok-eq0.ensures.moves rest one.source in
-    IsThrough-more (sealing_by c.args.session.now.waiting) (begun c.args.session.now.form history) old mid then.told c.loop-done.session c.read_piece.new.session before (g.K.Sink.held c.loop-done.sink)
+    IsThrough-more (sealing_by c.args.session.now.waiting) (begun c.args.session.now.form history) old mid then.told c.loop-done.session
+    c.read_piece.new.session before (g.K.Sink.held c.loop-done.sink)
     (g.K.Sink.held c.read_piece.new.sink) (g.S.Source.left c.loop-done.source) left input n k one moves.0 moves.2
-    (second.goes rest one.source (sealing_by c.args.session.now.waiting) (begun c.args.session.now.form history) before (take n input) one.on.at one.on.replied)) in
+    (second.goes rest one.source (sealing_by c.args.session.now.waiting) (begun c.args.session.now.form history) before
+    (take n input) one.on.at one.on.replied)) in
     step-told read c.finish.ensures.ends (λ tells through ends input is none history stands.
     let at = inv.left input is in
     let rest = drop n input in

@@ -20,7 +20,8 @@ invariant-loop-done g l = record {
   left : (input : List ℕ) → g.S.Source.left l.fn.source ≡ Some input → IsLeft (g.S.Source.left l.source) input l.done;
   through : Step fine (g.D.Disk.seen l.fn.disk) (g.D.Disk.seen l.disk) (λ old now. (input : List ℕ) → g.S.Source.left l.fn.source ≡ Some input →
       NothingPending old → (history : History) → Stands history old.content →
-      IsThrough (sealing_by l.fn.session.waiting) (begun l.fn.session.form history) old now l.session (g.K.Sink.held l.fn.sink) (g.K.Sink.held l.sink) (g.S.Source.left l.source) input l.done);
+      IsThrough (sealing_by l.fn.session.waiting) (begun l.fn.session.form history) old now l.session (g.K.Sink.held l.fn.sink) (g.K.Sink.held l.sink)
+      (g.S.Source.left l.source) input l.done);
   source : g.S.Source.faults l.source ≡ g.S.Source.faults l.fn.source;
   sink : g.K.Sink.faults l.sink ≡ g.K.Sink.faults l.fn.sink;
 }

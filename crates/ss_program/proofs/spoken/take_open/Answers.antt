@@ -73,7 +73,8 @@ returns-in_ok-flush-in-OutOfMemory-clause-takes g c =
     let opens = c.in-Err.ensures.opens in
     let flushed = c.in_ok-flush-in-OutOfMemory.ensures in
     let takes = subst (λ d. Step fine (g.D.Disk.seen d) new (TakesNone (amid was owed held) to (Ok tt))) starved.0
-    (subst (λ (s : StoreState). Step fine (g.D.Disk.seen c.open_cursor.new.disk) new (TakesNone (amid s.records owed held) to (Ok tt))) starved.1 flushed.takes) in
+    (subst (λ (s : StoreState). Step fine (g.D.Disk.seen c.open_cursor.new.disk) new (TakesNone (amid s.records owed held) to (Ok tt)))
+    starved.1 flushed.takes) in
     subst (λ cs. Step fine old new (TakesOrdered session brought (amid was owed held before) (to cs) (Err OutOfMemory))) (sym c.in-Err.ensures.unopened)
     (record {
       tells = takes.tells;

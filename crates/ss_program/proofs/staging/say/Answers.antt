@@ -20,5 +20,6 @@ returns-in-Some-clause-takes g c =
     let held = g.K.Sink.held c.args.sink.now in
     let text = said_line c.args.speaker c.args.reply.now in
     let to = amid was (owed_by (Some c.hold.new.self)) held in
-    subst (λ (o : Owed). Step fine disk disk (TakesNone (amid was o held) to (Ok tt))) (sym (waits c.args.waiting.now _ c.hold.new.self text c.in-Some.is c.hold.ensures))
+    subst (λ (o : Owed). Step fine disk disk (TakesNone (amid was o held) to (Ok tt)))
+    (sym (waits c.args.waiting.now _ c.hold.new.self text c.in-Some.is c.hold.ensures))
     (step-none disk (TakesNone to to (Ok tt)) (λ told. TakesNone-still to disk.told tt (g.met.D.Disk.knows_now c.args.disk.now told)))

@@ -13,5 +13,6 @@ returns-clause-takes g c =
     let refusal = c.args.refusal in
     step-told (still disk) c.say.ensures.takes (λ told first second.
     TakesBrought-said c.args.speaker (λ history. refused refusal) tt c.say.result
-    (TakesBrought-still {was = c.args.store.now.records} c.args.speaker (refused refusal) c.args.waiting.now (g.K.Sink.held c.args.sink.now) disk.told (Refused refusal) tt
+    (TakesBrought-still {was = c.args.store.now.records} c.args.speaker (refused refusal) c.args.waiting.now (g.K.Sink.held c.args.sink.now)
+    disk.told (Refused refusal) tt
     (g.met.D.Disk.knows_now c.args.disk.now told) refl refl) second)

@@ -24,7 +24,8 @@ returns-in-Ok-clause-takes g c =
     let brought = λ (history : History). command_brings history (Do event) in
     step-told c.in-Ok.ensures.stages c.say.ensures.takes (λ told first second.
     TakesBrought-said c.args.speaker brought tt c.say.result
-    (TakesBrought-owed c.args.speaker brought c.args.store.now.records c.stage.new.store.records c.args.waiting.now (g.K.Sink.held c.args.sink.now) old.told mid.told
+    (TakesBrought-owed c.args.speaker brought c.args.store.now.records c.stage.new.store.records c.args.waiting.now (g.K.Sink.held c.args.sink.now)
+    old.told mid.told
     (g.met.D.Disk.knows_now c.stage.new.disk told) c.in-Ok.reply tt first) second)
 
 pub returns-in_err-flush-in-OutOfMemory-clause-takes : goal.returns-in_err-flush-in-OutOfMemory-clause-takes
@@ -41,7 +42,8 @@ returns-in_err-flush-in-OutOfMemory-clause-takes g c =
     let same : c.from_residual.result ≡ Err status = search rules in
     subst (λ r. Step (disk_verdict (ended r)) old new (TakesBrought c.args.speaker brought (amid was owed held) to r)) (sym same)
     (subst (λ d. Step (disk_verdict status) (g.D.Disk.seen d) new (TakesBrought c.args.speaker brought (amid was owed held) to (Err status))) starved.0
-    (subst (λ r. Step (disk_verdict status) (g.D.Disk.seen c.stage.new.disk) new (TakesBrought c.args.speaker brought (amid r owed held) to (Err status))) starved.1
+    (subst (λ r. Step (disk_verdict status) (g.D.Disk.seen c.stage.new.disk) new (TakesBrought c.args.speaker brought (amid r owed held) to (Err status)))
+    starved.1
     (step-as c.in_err-flush-in-OutOfMemory.ensures.takes (λ takes.
     TakesBrought-unsealed c.args.speaker brought status takes))))
 
@@ -80,10 +82,12 @@ returns-in_default g c =
       takes = record {
         tells = stages.tells;
         counted = stages.counted;
-        told = λ told. TakesBrought-stopped c.args.speaker (λ history. command_brings history (Do event)) c.args.store.now.records c.stage.new.store.records waiting held
+        told = λ told. TakesBrought-stopped c.args.speaker (λ history. command_brings history (Do event)) c.args.store.now.records c.stage.new.store.records
+            waiting held
             old.told new.told (g.met.D.Disk.knows_now c.stage.new.disk (stages.tells ∙ told)) (owed_by waiting) status
             c.in_default.not-OutOfMemory
-            (λ history stands. event-some c.args.speaker history event (refuses (state history) event) (c.in-Err.ensures.accepted told history stands)) (stages.told told);
+            (λ history stands. event-some c.args.speaker history event (refuses (state history) event) (c.in-Err.ensures.accepted told history stands))
+            (stages.told told);
       };
       ready = tt;
       status = IsStop-apply old.tells status c.in-Err.ensures.status;

@@ -29,7 +29,8 @@ returns-in_err-reply-clause-takes g c =
     subst (λ r. Step (disk_verdict (ended r)) old new (TakesBrought c.args.speaker brought (amid was (owed_by waiting) held) to r)) (sym same) (record {
       tells = asks.tells;
       counted = asks.counted;
-      told = λ told. TakesBrought-stopped c.args.speaker brought was is waiting held old.told new.told (g.met.D.Disk.knows_now c.newest.new.disk (asks.tells ∙ told))
+      told = λ told. TakesBrought-stopped c.args.speaker brought was is waiting held old.told new.told
+          (g.met.D.Disk.knows_now c.newest.new.disk (asks.tells ∙ told))
           (owed_by waiting) status (going-disk old.tells status c.in_err-reply.ensures.status) (λ history stands. last-some c.args.speaker history name)
           (Stages-asked brought (Err status) old.told new.told (λ history. last-event history name) (g.met.D.Disk.knows_now c.args.disk.now told) tt
           (asks.told told));
@@ -45,7 +46,8 @@ returns-clause-takes g c =
     let reply = c.in_ok-reply.reply in
     step-told asks c.say.ensures.takes (λ told first second.
     TakesBrought-said c.args.speaker brought tt c.say.result
-    (TakesBrought-owed c.args.speaker brought c.args.store.now.records c.newest.new.store.records c.args.waiting.now (g.K.Sink.held c.args.sink.now) old.told mid.told
+    (TakesBrought-owed c.args.speaker brought c.args.store.now.records c.newest.new.store.records c.args.waiting.now (g.K.Sink.held c.args.sink.now)
+    old.told mid.told
     (g.met.D.Disk.knows_now c.newest.new.disk told) reply tt
     (Stages-asked brought (Ok reply) old.told mid.told (λ history. last-event history name)
     (g.met.D.Disk.knows_now c.args.disk.now (sym asks.tells ∙ told)) c.in_ok-reply.ensures.journal first))

@@ -28,9 +28,11 @@ returns-in_err-reply-clause-takes g c =
     subst (λ r. Step (disk_verdict (ended r)) old new (TakesBrought c.args.speaker brought (amid was (owed_by waiting) held) to r)) (sym same) (record {
       tells = asks.tells;
       counted = asks.counted;
-      told = λ told. TakesBrought-stopped c.args.speaker brought was is waiting held old.told new.told (g.met.D.Disk.knows_now c.ask.new.disk (asks.tells ∙ told)) (owed_by waiting) status
+      told = λ told. TakesBrought-stopped c.args.speaker brought was is waiting held old.told new.told
+          (g.met.D.Disk.knows_now c.ask.new.disk (asks.tells ∙ told)) (owed_by waiting) status
           (going-disk old.tells status c.in_err-reply.ensures.status) (λ history stands. ask-some c.args.speaker history query)
-          (Stages-asked brought (Err status) old.told new.told (λ history. ask-event history query) (g.met.D.Disk.knows_now c.args.disk.now told) tt (asks.told told));
+          (Stages-asked brought (Err status) old.told new.told (λ history. ask-event history query)
+          (g.met.D.Disk.knows_now c.args.disk.now told) tt (asks.told told));
     })
 
 pub returns-clause-takes : goal.returns-clause-takes
@@ -43,7 +45,8 @@ returns-clause-takes g c =
     let reply = c.in_ok-reply.reply in
     step-told asks c.say.ensures.takes (λ told first second.
     TakesBrought-said c.args.speaker brought tt c.say.result
-    (TakesBrought-owed c.args.speaker brought c.args.store.now.records c.ask.new.store.records c.args.waiting.now (g.K.Sink.held c.args.sink.now) old.told mid.told
+    (TakesBrought-owed c.args.speaker brought c.args.store.now.records c.ask.new.store.records c.args.waiting.now (g.K.Sink.held c.args.sink.now)
+    old.told mid.told
     (g.met.D.Disk.knows_now c.ask.new.disk told) reply tt
     (Stages-asked brought (Ok reply) old.told mid.told (λ history. ask-event history query)
     (g.met.D.Disk.knows_now c.args.disk.now (sym asks.tells ∙ told)) c.in_ok-reply.ensures.journal first))

@@ -11,8 +11,10 @@ returns-in-Ok-clause-ends g c =
     let new = (g.D.Disk.seen c.end_lines.new.disk).told in
     let store = c.args.store.now in
     let is = c.end_lines.new.store.records in
-    step-as c.in-Ok.ensures.takes (λ takes. EndsSession-done c.args.form c.args.sessions.now store (under_way c.args.reader.now) c.args.waiting.now (g.K.Sink.held c.args.sink.now) old
-    (shown-sealed store.records.journal old.content c.requires.sealed) c.end_lines.new.sessions is c.end_lines.new.waiting (g.K.Sink.held c.end_lines.new.sink) new
+    step-as c.in-Ok.ensures.takes (λ takes. EndsSession-done c.args.form c.args.sessions.now store (under_way c.args.reader.now)
+    c.args.waiting.now (g.K.Sink.held c.args.sink.now) old
+    (shown-sealed store.records.journal old.content c.requires.sealed) c.end_lines.new.sessions is c.end_lines.new.waiting
+    (g.K.Sink.held c.end_lines.new.sink) new
     (shown-sealed is.journal new.content c.in-Ok.ensures.open.sealed) c.in-Ok.ensures.none takes)
 
 pub returns-in-Err-clause-ends : goal.returns-in-Err-clause-ends
@@ -21,6 +23,7 @@ returns-in-Err-clause-ends g c =
     let old = view.told in
     let new = (g.D.Disk.seen c.end_lines.new.disk).told in
     let store = c.args.store.now in
-    step-as c.in-Err.ensures.takes (λ takes. EndsSession-stopped c.args.form c.args.sessions.now store (under_way c.args.reader.now) c.args.waiting.now (g.K.Sink.held c.args.sink.now) old
+    step-as c.in-Err.ensures.takes (λ takes. EndsSession-stopped c.args.form c.args.sessions.now store (under_way c.args.reader.now)
+    c.args.waiting.now (g.K.Sink.held c.args.sink.now) old
     (shown-sealed store.records.journal old.content c.requires.sealed) c.end_lines.new.sessions c.end_lines.new.store.records c.end_lines.new.waiting
     (g.K.Sink.held c.end_lines.new.sink) new c.in-Err.status (going-stop view.tells c.in-Err.status c.in-Err.ensures.status) takes)

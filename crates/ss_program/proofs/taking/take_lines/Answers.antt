@@ -63,7 +63,8 @@ returns-in_err-done-clause-takes g c =
     subst (λ r. Step (disk_verdict (ended r)) old new (TakesBytes (λ _. piece) piece c.args.form line next from to r)) (sym same)
     (step-then inv.on c.in_err-done.ensures.takes (λ first second. record {
       goes = tt;
-      stops = OfAmid-stops c.args.form line (under_way c.loop-done.reader) from (amid c.loop-done.store.records (owed_by c.loop-done.waiting) (g.K.Sink.held c.loop-done.sink) c.loop-done.sessions)
+      stops = OfAmid-stops c.args.form line (under_way c.loop-done.reader) from
+          (amid c.loop-done.store.records (owed_by c.loop-done.waiting) (g.K.Sink.held c.loop-done.sink) c.loop-done.sessions)
           after status old.told mid.told new.told piece done first second.stops;
     }))
 

@@ -12,9 +12,11 @@ invariant-loop-done g l = record {
   fits : l.done ≤ length l.piece;
   ready : IsReady (g.D.Disk.seen l.disk) l.store l.waiting;
   on : Step fine (g.D.Disk.seen l.fn.disk) (g.D.Disk.seen l.disk) (λ old now.
-      OfAmid l.fn.form (under_way l.fn.reader) (amid l.fn.store.records (owed_by l.fn.waiting) (g.K.Sink.held l.fn.sink) l.fn.sessions) old (λ sealing talk before input.
+      OfAmid l.fn.form (under_way l.fn.reader)
+      (amid l.fn.store.records (owed_by l.fn.waiting) (g.K.Sink.held l.fn.sink) l.fn.sessions) old (λ sealing talk before input.
       (under_way l.reader ≡ kept (unended (input ++ take l.done l.piece)))
-      × GoesAmid sealing talk (lines_so_far (input ++ take l.done l.piece)) before (amid l.store.records (owed_by l.waiting) (g.K.Sink.held l.sink) l.sessions) old now));
+      × GoesAmid sealing talk (lines_so_far (input ++ take l.done l.piece)) before
+      (amid l.store.records (owed_by l.waiting) (g.K.Sink.held l.sink) l.sessions) old now));
   faults : g.K.Sink.faults l.sink ≡ g.K.Sink.faults l.fn.sink;
 }
 

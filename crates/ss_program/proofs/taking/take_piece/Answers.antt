@@ -26,7 +26,8 @@ returns-in_err-take_lines-clause-takes g c =
     subst (λ r. Step (disk_verdict (ended r)) old new (TakesPiece (λ _. piece) piece (session_of c.args.form c.args.sessions.now store line c.args.waiting.now)
     (session_of c.args.form c.take_lines.new.sessions is next c.take_lines.new.waiting) held after r)) (sym same)
     (step-as c.in_err-take_lines.ensures.takes (λ takes. TakesPiece-stopped c.args.form c.args.sessions.now store line c.args.waiting.now held old.told
-    (shown-sealed store.records.journal old.told.content c.requires.sealed) c.take_lines.new.sessions is next c.take_lines.new.waiting after piece new.told status takes.stops))
+    (shown-sealed store.records.journal old.told.content c.requires.sealed) c.take_lines.new.sessions is next c.take_lines.new.waiting
+    after piece new.told status takes.stops))
 
 pub returns-clause-takes : goal.returns-clause-takes
 returns-clause-takes g c =
