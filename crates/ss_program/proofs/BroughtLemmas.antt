@@ -1,18 +1,14 @@
 -- A line of a session, by what it brings.
 use Rattle.std.proofs.Common.{
   ◌⊎◌,
-  inl,
-  ⊎_elim,
   ◌≡◌,
   ℕ,
   ◌<◌,
-  ◌≤◌,
   ◌++◌,
   List,
   [],
   ◌∷◌,
   length,
-  take,
   Option,
   Some,
   None,
@@ -34,50 +30,35 @@ use Rattle.ss_catalog.specs.declared.event.Event.{Event}
 use Rattle.ss_command.specs.declared.command.Command.TheVariants.{Do}
 use Rattle.ss_model.specs.Refusals.{refuses}
 use Rattle.ss_model.specs.State.{state}
-use Rattle.ss_outside.proofs.CrashLemmas.{at_start, now, of_content, reads-none, weaker}
-use Rattle.ss_outside.specs.Crash.{KnowsNow, LeavesOnly}
+use Rattle.ss_outside.proofs.CrashLemmas.{now, of_content, reads-none}
+use Rattle.ss_outside.specs.Crash.{KnowsNow}
 use Rattle.ss_journal.proofs.ShownLemmas.{shown-sealed}
 use Rattle.ss_outside.specs.Disk.{DiskView, Told}
 use Rattle.ss_records.specs.Kept.{RecordsState, shown_by}
 use Rattle.ss_report.specs.Text.{said_line}
 use Rattle.ss_report.specs.declared.reply.Reply.{Reply}
-use Rattle.ss_store.specs.Calls.{Turns, TurnsHistory}
+use Rattle.ss_store.specs.Calls.{TurnsHistory}
 use Rattle.ss_store.specs.Kept.{StoreState}
 use Rattle.ss_store.specs.Recover.{Stands}
-use Rattle.ss_program.specs.Amid.{Amid, AreOwed, GoesAmid, IsAmid, Owed, StagesBrought, TakesBrought, TakesNone, TakesTurn, amid, owed_by, with_text}
-use Rattle.ss_program.specs.Answer.{Adds, IsOpen, Replies, at_sink}
-use Rattle.ss_program.specs.Line.{Brought, History, command_brings, history_after, nothing, text_said, the_event}
-use Rattle.ss_program.specs.Progress.{IsAlone, NoneWait, StandsAround, StandsWithin, StopsIn}
-use Rattle.ss_program.specs.Sent.{appended, AppendsLess, Sends, StopsSaying}
+use Rattle.ss_program.specs.Amid.{Amid, GoesAmid, IsAmid, Owed, StagesBrought, TakesBrought, TakesNone, TakesTurn, amid, owed_by, with_text}
+use Rattle.ss_program.specs.Answer.{IsOpen}
+use Rattle.ss_program.specs.Line.{Brought, History, command_brings, nothing, text_said}
+use Rattle.ss_program.specs.Progress.{IsAlone, StandsWithin, StopsIn}
+use Rattle.ss_program.specs.Sent.{appended}
 use Rattle.ss_program.specs.Session.{after_line, after_lines, text_of}
 use Rattle.ss_program.specs.Talk.{Talk, Turn, after_turn, turn_brought, turn_of}
-use Rattle.ss_outside.specs.declared.source.Failed.{Failed}
 use Rattle.ss_sessions.specs.Cursors.{Cursors}
 use Rattle.ss_arguments.specs.declared.mode.Sealing.{Sealing}
 use Rattle.ss_arguments.specs.declared.mode.Sealing.TheVariants.{Each, Shared}
 use Rattle.ss_program.specs.declared.status.Status.{Status}
-use Rattle.ss_program.specs.declared.status.Status.TheVariants.{
-  Done,
-  Usage,
-  RefusedStore,
-  DiskFault,
-  SourceFault,
-  SinkFault,
-  OutOfMemory,
-  InputLimit,
-  RecordChanged,
-}
-use Rattle.ss_program.proofs.AmidLemmas.{AreOwed-none, GoesAmid-none, IsAmid-begin, StandsBeyond-all, StandsBeyond-none, Takes-next, Takes-then, owed-nothing, said-all, sealing-owed}
-use Rattle.ss_program.proofs.AnswerLemmas.{event-some, history-still}
+use Rattle.ss_program.specs.declared.status.Status.TheVariants.{OutOfMemory}
+use Rattle.ss_program.proofs.AmidLemmas.{GoesAmid-none, StandsBeyond-none, Takes-next, Takes-then, said-all}
+use Rattle.ss_program.proofs.AnswerLemmas.{event-some}
 use Rattle.ss_program.proofs.SealLemmas.{line-owed, line-stopped}
-use Rattle.ss_program.proofs.SendLemmas.{appended-appended}
 use Rattle.ss_program.proofs.SessionLemmas.{
-  StandsWithin-after,
-  StandsWithin-before,
   StopsIn-more,
   after_lines-push,
   moments-more,
-  says-some,
   text_of-one,
   text_of-push,
 }
@@ -93,35 +74,14 @@ halted status = Err status
 abbrev the_reply : Reply → Result Reply Status
 the_reply reply = Ok reply
 
-abbrev unanswered : Status → Result (Unit {0}) Status
-unanswered status = Err status
-
 abbrev the_answer : Unit {0} → Result (Unit {0}) Status
 the_answer u = Ok u
 
 -- one line, where each event is sealed by itself
-IsAlone-one : (sealing : Sealing) (talk : Talk) (line : List ℕ) (bytes : ℕ) → bytes < length (turn_of talk line).says →
+pub IsAlone-one : (sealing : Sealing) (talk : Talk) (line : List ℕ) (bytes : ℕ) → bytes < length (turn_of talk line).says →
     IsAlone sealing talk (line ∷ []) bytes
 IsAlone-one Each talk line bytes less = (refl, subst (λ (t : List ℕ). bytes < length t) (sym (text_of-one talk line)) less)
 IsAlone-one Shared talk line bytes less = tt
-
--- the moments of a line that was answered
-moments-around : (talk : Talk) (ls : List (List ℕ)) (line : List ℕ) (old new : Told) →
-    LeavesOnly old new (λ image. Stands (after_lines talk ls).history image ⊎ Stands (after_line (after_lines talk ls) line).history image) →
-    LeavesOnly old new (StandsWithin talk (ls ++ line ∷ []))
-moments-around talk ls line old new run =
-    weaker old new (λ image. Stands (after_lines talk ls).history image ⊎ Stands (after_line (after_lines talk ls) line).history image)
-    (StandsWithin talk (ls ++ line ∷ []))
-    (λ image either. ⊎_elim (StandsWithin-before talk ls line image) (StandsWithin-after talk ls line image) either) run
-
--- what it added, by its turn
-adds_to : (speaker : Option ℕ) (talk : Talk) (line : List ℕ) (brought : Brought) (old new : Told) (result : Result (Unit {0}) Status) →
-    turn_of talk line ≡ turn_brought speaker talk brought → Adds talk.history brought old new result →
-    Turns (Stands talk.history) (λ image. Stands talk.history image ⊎ Stands (after_line talk line).history image)
-    (Stands (after_line talk line).history) old new result
-adds_to speaker talk line brought old new result turn adds =
-    subst (λ (t : Turn). Turns (Stands talk.history) (λ image. Stands talk.history image ⊎ Stands (after_turn talk t).history image)
-    (Stands (after_turn talk t).history) old new result) (sym turn) adds
 
 -- what a line does, by its turn
 abbrev pub Turning : (Talk → Turn) → RecordsState → RecordsState → {T : Type 0} → Result T Status → Told → Told → Type 0
@@ -194,7 +154,8 @@ module _ (speaker : Option ℕ) (brought : History → Brought) (was is : Record
       (amid is left held cursors) status refl other (λ here stands. some here.history stands) (λ here. stages.turns here.history)
 
 -- a line at which nothing is done: it is owed one reply
-pub TakesBrought-still : {was : RecordsState} (speaker : Option ℕ) (brought : Brought) (waiting : Option (List ℕ)) (held : Option (List ℕ)) (disk : Told) (reply : Reply)
+pub TakesBrought-still : {was : RecordsState} (speaker : Option ℕ) (brought : Brought) (waiting : Option (List ℕ)) (held : Option (List ℕ)) (disk : Told)
+    (reply : Reply)
     (u : Unit {0}) → KnowsNow disk → brought.event ≡ None → brought.replies ≡ reply ∷ [] →
     TakesBrought speaker (λ history. brought) (amid was (owed_by waiting) held) (amid was (with_text (owed_by waiting) (said_line speaker reply)) held)
     (Ok u) disk disk
@@ -215,7 +176,8 @@ no-lines [] none = refl
 no-lines (line ∷ ls) none = absurd (omega (arith, none))
 
 -- a line that brings nothing: nothing is owed to it
-module _ (speaker : Option ℕ) (was : RecordsState) (held : Option (List ℕ)) (cursors : Cursors) (disk : Told) (knows : KnowsNow disk) (talk : Talk) (ls : List (List ℕ)) (line : List ℕ)
+module _ (speaker : Option ℕ) (was : RecordsState) (held : Option (List ℕ)) (cursors : Cursors) (disk : Told) (knows : KnowsNow disk) (talk : Talk)
+    (ls : List (List ℕ)) (line : List ℕ)
     (before : Option (List ℕ)) (turn : turn_of (after_lines talk ls) line ≡ turn_brought speaker (after_lines talk ls) nothing) where
   -- the conversation after it is the one before
   silent-talk : after_lines talk (ls ++ line ∷ []) ≡ after_lines talk ls
@@ -354,132 +316,6 @@ TakesBrought-starved speaker event knows none sealed accepted takes cursors =
       accepted here.history stands,
       event-some speaker here.history event (refuses (state here.history) event) (accepted here.history stands),
     )) takes
-
--- less than what is said to a line was sent, which brings no event
-Stops-rows : (sealing : Sealing) (talk : Talk) (ls : List (List ℕ)) (line : List ℕ) (before held after : Option (List ℕ)) (old new : Told)
-    (status : Status) → KnowsNow new → (status ≡ OutOfMemory → ⊥) → held ≡ appended before (text_of talk ls) →
-    (turn_of (after_lines talk ls) line).event ≡ None → AppendsLess held after (turn_of (after_lines talk ls) line).says →
-    LeavesOnly old new (λ image. Stands (after_lines talk ls).history image ⊎ Stands (after_line (after_lines talk ls) line).history image) →
-    StopsIn sealing talk (ls ++ line ∷ []) old new before after status
-Stops-rows sealing talk ls line before held after old new status knows other said none less run =
-    let here = after_lines talk ls in
-    let says = (turn_of here line).says in
-    let k = less.0 in
-    let text = text_of-one here line in
-    let few : k ≤ length (text_of here (line ∷ [])) = omega (arith, less.1, ap (λ (t : List ℕ). length t) text) in
-    let still : here.history ++ the_event (turn_of here line).event ≡ here.history =
-    ap (λ e. here.history ++ the_event e) none ∙ append-nil here.history in
-    record {
-      at = record {
-        out = ls;
-        now = line ∷ [];
-        others = [];
-        are = refl;
-        bytes = k;
-        few = few;
-        alone = IsAlone-one sealing here line k less.1;
-        sent = less.2 ∙ ap (λ o. appended o (take k says)) said
-            ∙ appended-appended before (text_of talk ls) (take k says)
-            ∙ ap (λ (t : List ℕ). appended before (text_of talk ls ++ take k t)) (sym text);
-        left = λ image left. StandsBeyond-all here (line ∷ []) k image few
-            (⊎_elim (λ stands. subst (λ h. Stands h image) (sym still) stands) (λ stands. stands)
-            (now old new (λ image. Stands here.history image ⊎ Stands (after_line here line).history image) knows run image left));
-        starved = λ memory. absurd (other memory);
-      };
-      any_moment = moments-around talk ls line old new run;
-    }
-
--- what is left in the sink, where a line brings no event
-less-of : (speaker : Option ℕ) (brought : Brought) (before after : Option (List ℕ)) (status : Status) → brought.event ≡ None → StopsSaying (text_said speaker brought) (IsSome brought.event) before after status →
-    (status ≡ OutOfMemory → ⊥) × AppendsLess before after (text_said speaker brought)
-less-of speaker brought before after SinkFault none stop = (λ memory. cc, stop)
-less-of speaker brought before after DiskFault none stop = (λ memory. cc, stop)
-less-of speaker brought before after RecordChanged none stop = (λ memory. cc, stop)
-less-of speaker brought before after OutOfMemory none stop = let some = subst (λ e. IsSome e) none stop.1 in cc
-less-of speaker brought before after Done none stop = absurd stop
-less-of speaker brought before after Usage none stop = absurd stop
-less-of speaker brought before after RefusedStore none stop = absurd stop
-less-of speaker brought before after SourceFault none stop = absurd stop
-less-of speaker brought before after InputLimit none stop = absurd stop
-
-module _ {was is : RecordsState} (speaker : Option ℕ) (brought : History → Brought) (waiting : Option (List ℕ)) (held after : Option (List ℕ)) (old new : Told)
-    (knows : KnowsNow new) (none : NoneWait waiting) (sealed : shown_by was old.content ≡ old.content)
-    (no_event : (history : History) → (brought history).event ≡ None) where
-  -- A line that brings no event is answered where nothing waits, and nothing is staged then.
-  pub TakesBrought-rows : (result : Result (Unit {0}) Status) → OnOk result (shown_by is new.content ≡ new.content) →
-      ((history : History) → Adds history (brought history) old new result) →
-      ((history : History) → Stands history old.content → Replies speaker (brought history) held after result) →
-      TakesBrought speaker brought (amid was (owed_by waiting) held) (amid is (owed_by waiting) after) result old new
-  TakesBrought-rows (Ok u) still adds replies cursors sealing talk ls before line turn = record {
-    goes = λ at.
-        let here = after_lines talk ls in
-        let stands = subst (Stands here.history) sealed at.shown in
-        let turns = adds_to speaker here line (brought here.history) old new (Ok u) turn (adds here.history) in
-        let said = said-all sealing talk ls before (amid was (owed_by waiting) held cursors) old (owed-nothing waiting none) at in
-        let sent = replies here.history stands in
-        let push = after_lines-push talk ls line in
-        record {
-          amid = IsAmid-begin sealing talk (ls ++ line ∷ []) before (amid is (owed_by waiting) after cursors) new (owed-nothing waiting none)
-              (AreOwed-none sealing waiting (sealing-owed sealing waiting at.rest at.few)) still
-              (subst (λ (t : Talk). Stands t.history new.content) (sym push) (turns.content stands)) (turns.durable at.durable)
-              (sent ∙ ap (λ o. appended o (text_said speaker (brought here.history))) said
-              ∙ appended-appended before (text_of talk ls) (text_said speaker (brought here.history))
-              ∙ ap (λ (t : Turn). appended before (text_of talk ls ++ t.says)) (sym turn)
-              ∙ ap (λ (t : List ℕ). appended before t) (sym (text_of-push talk ls line)))
-              (at.cursors ∙ ap (λ (t : Turn). t.cursors) (sym turn) ∙ ap (λ (t : Talk). t.cursors) (sym push));
-          any_moment = moments-around talk ls line old new (turns.any_moment at.durable stands);
-        };
-    stops = tt;
-  }
-  TakesBrought-rows (Err status) still adds replies cursors sealing talk ls before line turn = record {
-    goes = tt;
-    stops = λ at.
-        let here = after_lines talk ls in
-        let stands = subst (Stands here.history) sealed at.shown in
-        let turns = adds_to speaker here line (brought here.history) old new (unanswered status) turn (adds here.history) in
-        let less = less-of speaker (brought here.history) held after status (no_event here.history) (replies here.history stands) in
-        Stops-rows sealing talk ls line before held after old new status knows less.0
-        (said-all sealing talk ls before (amid was (owed_by waiting) held cursors) old (owed-nothing waiting none) at)
-        (ap (λ (t : Turn). t.event) turn ∙ no_event here.history)
-        (subst (λ (t : Turn). AppendsLess held after t.says) (sym turn) less.1) (turns.any_moment at.durable stands);
-  }
-
--- What is said to a line that brings no event is sent at once, where nothing waits, and nothing is staged then.
-module _ {was : RecordsState} (turn : Talk → Turn) (waiting : Option (List ℕ)) (held after : Option (List ℕ)) (cursors left : Cursors) (disk : Told)
-    (knows : KnowsNow disk) (none : NoneWait waiting) (sealed : shown_by was disk.content ≡ disk.content) (text : List ℕ)
-    (says : (here : Talk) → here.cursors ≡ cursors → ((turn here).says ≡ text) × ((turn here).event ≡ None)) where
-  pub TakesTurn-put : (sent : Result (Unit {0}) Failed) → Sends held after text sent →
-      OnOk sent ((here : Talk) → here.cursors ≡ cursors → left ≡ (turn here).cursors) →
-      TakesTurn turn (amid was (owed_by waiting) held cursors) (amid was (owed_by waiting) after left) (at_sink sent) disk disk
-  TakesTurn-put (Ok u) sends goes sealing talk ls before line known = record {
-    goes = λ at.
-        let here = after_lines talk ls in
-        let said = says here (sym at.cursors) in
-        let then = after_lines-push talk ls line ∙ ap (λ (t : Turn). after_turn here t) known in
-        let still = ap (λ e. here.history ++ the_event e) said.1 ∙ append-nil here.history in
-        GoesAmid-none sealing talk (ls ++ line ∷ []) before (amid was (owed_by waiting) after left) disk knows
-        (IsAmid-begin sealing talk (ls ++ line ∷ []) before (amid was (owed_by waiting) after left) disk (owed-nothing waiting none)
-        (AreOwed-none sealing waiting (sealing-owed sealing waiting at.rest at.few)) sealed
-        (subst (λ h. Stands h disk.content) (sym (ap (λ (t : Talk). t.history) then ∙ still)) (subst (Stands here.history) sealed at.shown)) at.durable
-        (sends ∙ ap (λ o. appended o text) (said-all sealing talk ls before (amid was (owed_by waiting) held cursors) disk (owed-nothing waiting none) at)
-        ∙ appended-appended before (text_of talk ls) text
-        ∙ ap (λ (t : List ℕ). appended before (text_of talk ls ++ t)) (sym (ap (λ (t : Turn). t.says) known ∙ said.0))
-        ∙ ap (λ (t : List ℕ). appended before t) (sym (text_of-push talk ls line)))
-        (goes here (sym at.cursors) ∙ sym (ap (λ (t : Talk). t.cursors) then)));
-    stops = tt;
-  }
-  TakesTurn-put (Err e) sends goes sealing talk ls before line known = record {
-    goes = tt;
-    stops = λ at.
-        let here = after_lines talk ls in
-        let said = says here (sym at.cursors) in
-        let either = λ (image : List ℕ). Stands here.history image ⊎ Stands (after_line here line).history image in
-        Stops-rows sealing talk ls line before held after disk disk SinkFault knows (λ memory. cc)
-        (said-all sealing talk ls before (amid was (owed_by waiting) held cursors) disk (owed-nothing waiting none) at)
-        (ap (λ (t : Turn). t.event) known ∙ said.1)
-        (subst (λ (t : List ℕ). AppendsLess held after t) (sym (ap (λ (t : Turn). t.says) known ∙ said.0)) sends)
-        (at_start disk either knows (of_content disk either at.durable (inl (subst (Stands here.history) sealed at.shown))));
-  }
 
 -- where nothing is staged, what records show is the content
 pub shown-opened : (disk : DiskView) (store : StoreState) (result : Result (Unit {0}) Status) → OnOk result (IsOpen disk store) →

@@ -32,6 +32,7 @@ pub mod AmidLemmas
 pub mod SealLemmas
 pub mod StopLemmas
 pub mod BroughtLemmas
+pub mod PutLemmas
 pub mod StagingLemmas
 pub mod CursorLemmas
 pub mod OrderLemmas

@@ -27,7 +27,8 @@ use Rattle.ss_program.specs.Sent.{Sends}
 use Rattle.ss_program.specs.Talk.{Talk, kept_turn, turn_brought, turn_said}
 use Rattle.ss_program.specs.declared.status.Status.{Status}
 use Rattle.ss_program.specs.declared.status.Status.TheVariants.{OutOfMemory}
-use Rattle.ss_program.proofs.BroughtLemmas.{TakesTurn-owed, TakesTurn-put, TakesTurn-starved, TakesTurn-stopped, given, halted}
+use Rattle.ss_program.proofs.BroughtLemmas.{TakesTurn-owed, TakesTurn-starved, TakesTurn-stopped, given, halted}
+use Rattle.ss_program.proofs.PutLemmas.{TakesTurn-put}
 use Rattle.ss_program.proofs.CursorLemmas.{close-event, next-event, open-event, open-some}
 use Rattle.ss_program.proofs.StagingLemmas.{Turns-looked, shown-still}
 

@@ -5,7 +5,8 @@ use Rattle.ss_outside.specs.Step.{Step}
 use Rattle.ss_program.specs.Amid.{TakesBrought, amid, owed_by}
 use Rattle.ss_program.specs.Line.{History, command_brings}
 use Rattle.ss_program.specs.Status.{disk_verdict, ended}
-use Rattle.ss_program.proofs.BroughtLemmas.{TakesBrought-next, TakesBrought-rows, TakesBrought-unsealed, shown-opened}
+use Rattle.ss_program.proofs.BroughtLemmas.{TakesBrought-next, TakesBrought-unsealed, shown-opened}
+use Rattle.ss_program.proofs.PutLemmas.{TakesBrought-rows}
 use Rattle.ss_program.proofs.StepLemmas.{step-told}
 use Rattle.ss_program.proofs.staging.show_rows.Goals as goal
 
@@ -35,6 +36,7 @@ returns-clause-takes g c =
     let rows = c.obey.ensures in
     step-told flushed.takes rows.adds (λ told first second.
     TakesBrought-next c.args.speaker brought tt c.obey.result first
-    (TakesBrought-rows c.args.speaker brought c.flush.new.waiting held after mid.told new.told (g.met.D.Disk.knows_now c.obey.new.disk (rows.adds.tells ∙ told)) flushed.none
+    (TakesBrought-rows c.args.speaker brought c.flush.new.waiting held after mid.told new.told
+    (g.met.D.Disk.knows_now c.obey.new.disk (rows.adds.tells ∙ told)) flushed.none
     (shown-sealed was.journal mid.told.content flushed.open.sealed) c.requires.no_event c.obey.result
     (shown-opened new c.obey.new.store c.obey.result rows.opens) second (rows.replies told)))
