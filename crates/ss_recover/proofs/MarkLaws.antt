@@ -233,14 +233,16 @@ module _ (s : Marks) (n : ℕ) (m : Marked) (own : List Found) (shows : ShowsMar
   not-made said = ap (λ o. option_map_or has_all_values o false) shows.by ∙ sym (said-shown ls s.latest m s.last shows.last) ∙ said
 
   -- where a record may not come, all with it aren't those of landmarks
-  pub stops : (x : Found) (rest : List Found) → stream_of x.holds ≡ n → marked_with m x.holds ≡ None → are_marks (marks_in n (without_slots (own ++ x ∷ rest))) ≡ false
+  pub stops : (x : Found) (rest : List Found) → stream_of x.holds ≡ n → marked_with m x.holds ≡ None →
+      are_marks (marks_in n (without_slots (own ++ x ∷ rest))) ≡ false
   stops x rest same none = ap (λ l. are_marks (marks_in n l)) (map-append (λ (f : Found). f.holds) own (x ∷ rest)) ∙ go x.holds same none
     where
       with_first : (r : Record) → is_mark_of n r ≡ true → marked_with m r ≡ None → are_marks (marks_in n (without_slots own ++ r ∷ without_slots rest)) ≡ false
       with_first r mark none =
           ap (λ o. option_map_or has_all_values o false)
           (ap marked_by (filter-append (is_mark_of n) (without_slots own) (r ∷ without_slots rest)
-          ∙ ap (λ l. marks_in n (without_slots own) ++ l) (cond-true (is_mark_of n r) (r ∷ marks_in n (without_slots rest)) (marks_in n (without_slots rest)) mark))
+          ∙ ap (λ l. marks_in n (without_slots own) ++ l)
+          (cond-true (is_mark_of n r) (r ∷ marks_in n (without_slots rest)) (marks_in n (without_slots rest)) mark))
           ∙ fold-append marked_on (Some nothing_marked) (marks_in n (without_slots own)) (r ∷ marks_in n (without_slots rest))
           ∙ ap (λ o. fold marked_on (marked_on o r) (marks_in n (without_slots rest))) shows.by
           ∙ ap (λ o. fold marked_on o (marks_in n (without_slots rest))) none ∙ marked_on-none (marks_in n (without_slots rest)))

@@ -244,7 +244,8 @@ is_run-sound front (records.Stream id name params dropped ∷ rest) back n lower
           ∙ sym (joined (length (c ∷ streams_created rest) == 1) (nat_lt (length (streams_created front)) MOST_STREAMS)
           (has_new_name n (streams_created front ++ ((c ∷ streams_created rest) ++ streams_created back))) (is_dropped n (r ∷ rest) || values)
           (ap (λ (l : List Created). length (c ∷ l) == 1) none))
-          ∙ (λ i. (nat_lt (sym few i) MOST_STREAMS && new i) && last i) ∙ ap (λ k. may && (not (list_any is_own rest) && (dropped || has_sound_values_in_order rest k))) (sym own.0)
+          ∙ (λ i. (nat_lt (sym few i) MOST_STREAMS && new i) && last i)
+          ∙ ap (λ k. may && (not (list_any is_own rest) && (dropped || has_sound_values_in_order rest k))) (sym own.0)
       | u ∷ us ↦ λ is.
           sound-never front (r ∷ rest) back n lower own above (λ one. absurd (omega (arith, one, ap (λ (l : List Created). length l) is)))
           ∙ sym (and_right may (not (list_any is_own rest) && (dropped || has_sound_values_in_order rest id))

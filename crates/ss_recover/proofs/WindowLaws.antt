@@ -91,7 +91,8 @@ module _ (n : ℕ) (all : List Found) (i : ℕ) (x : Found) (within : i < length
   pub TileTo-window : (next : ℕ) → TileTo n all i next → (w : Window) → window_of n x.holds ≡ Some w → IsInside w → w.first ≡ next →
       TileTo n all (i + 1) (w.first + w.summary.count)
   TileTo-window next to w some inside at = record {
-    left = to.left ∙ ap (tile_from next) (left-window w some) ∙ (rw (sym at) (ap (λ b. b && tile_from (w.first + w.summary.count) (windows_at n (drop (i + 1) all))) (same w.first)));
+    left = to.left ∙ ap (tile_from next) (left-window w some)
+        ∙ (rw (sym at) (ap (λ b. b && tile_from (w.first + w.summary.count) (windows_at n (drop (i + 1) all))) (same w.first)));
     so_far =
         let so_far = to.so_far in
         omega (
