@@ -46,7 +46,8 @@ pub record CopiesRows (number : ℕ) (store : StoreState) (result : Result (List
   pub reads : OnlyReads old new
 
 -- A cursor is opened, over what records show. Content and images stay.
-pub record OpensCursor (was : RecordsState) (session : ℕ) (name : List ℕ) (before after : Cursors) (result : Result ℕ CursorError) (old new : Told) : Type 0 where
+pub record OpensCursor (was : RecordsState) (session : ℕ) (name : List ℕ) (before after : Cursors) (result : Result ℕ CursorError)
+    (old new : Told) : Type 0 where
   -- its rows are the windows of the stream in the state that they show
   pub opened : (streams : List Stream) → Recovers streams (shown_by was old.content) → OnOk result (opened before session name streams ≡ Some after)
   -- each refusal exactly where it applies in that state
