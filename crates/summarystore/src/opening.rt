@@ -278,8 +278,8 @@ fn refuse_foreign<S: System>(system: &mut S) -> Result<(), Reason>
 }
 
 /// Opens the file of a store. Nothing is read before its bytes and its name are durable, and nothing is written. It fails
-/// where there is no file and one has to be there, where something else has the path, where a standard stream goes into the file, where another opening keeps it away,
-/// and where the file isn't formatted, but holds something.
+/// where there is no file and one has to be there, where something else has the path, where a standard stream goes into the
+/// file, where another opening keeps it away, and where the file isn't formatted, but holds something.
 pub fn open<S: System>(system: &mut S, path: &str, missing: Missing) -> Result<Opened, Reason>
     ensures held { IfOk result (λ opened. IsHeldAs missing opened (S.holds system.new)) }
     ensures settled { IfOk result (λ opened. IsSettledAs opened (S.holds system.new)) }
