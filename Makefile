@@ -43,6 +43,7 @@ bench: ## times the programs that were built last: bench/README.md
 	@bench/drops $(PROGRAM)
 	@bench/queries $(PROGRAM)
 	@bench/presence $(PROGRAM)
+	@bench/sessions $(PROGRAM)
 	@bench/python $(PROGRAM)
 	@bench/commits $(BENCH)
 	@bench/records $(BENCH)
