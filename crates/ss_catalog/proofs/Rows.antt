@@ -1,10 +1,10 @@
 -- Worked rows, each computed.
-use Rattle.std.proofs.Common.{◌≡◌, ℕ, ◌+◌, refl, ◌^◌, pos, List, [], ◌∷◌, map, true, false, Some, None, arith, codes}
+use Rattle.std.proofs.Common.{◌≡◌, ℕ, ◌+◌, refl, ◌^◌, pos, List, [], ◌∷◌, ◌++◌, map, true, false, Some, None, arith, codes}
 use Rattle.ss_catalog.specs.Catalog.{id_of, without_name}
 use Rattle.ss_catalog.specs.Events.{IsInTime, event_name}
 use Rattle.ss_catalog.specs.Names.{is_name}
 use Rattle.ss_catalog.specs.Params.{in_range}
-use Rattle.ss_catalog.specs.Queries.{adds_up, end_name, kind_name}
+use Rattle.ss_catalog.specs.Queries.{adds_up, end_name, is_guess, kind_name, query_verb, series_verb}
 use Rattle.ss_catalog.specs.Series.{IsSeriesInRange, numbers_from, row_query, rows_in, rows_of, whole_query}
 use Rattle.ss_catalog.specs.declared.TheConstants.{LAST_TIME, MOST_ROWS, MOST_STREAMS, LAST_STREAM}
 use Rattle.ss_catalog.specs.declared.event.Event.TheVariants as events
@@ -12,7 +12,7 @@ use Rattle.ss_catalog.specs.declared.name.TheConstants.{LONGEST_NAME}
 use Rattle.ss_catalog.specs.declared.params.TheConstants.{GREATEST_BASE, GREATEST_POWER, GREATEST_WIDENING, GREATEST_SCALE}
 use Rattle.ss_catalog.specs.declared.params.Params.TheVariants.{Exp, Power}
 use Rattle.ss_catalog.specs.declared.query.End.TheVariants.{Lo, Hi}
-use Rattle.ss_catalog.specs.declared.query.Kind.TheVariants.{Count, Sum, Min, Max}
+use Rattle.ss_catalog.specs.declared.query.Kind.TheVariants.{Count, Sum, Min, Max, Has, CountGuess, SumGuess}
 use Rattle.ss_catalog.specs.declared.series.Series.{Series}
 use Rattle.ss_catalog.specs.declared.stream_id.StreamId.{StreamId}
 
@@ -67,11 +67,20 @@ params-power_greatest = refl
 params-power_0 : in_range (Power 0 0 1 1) ≡ false
 params-power_0 = refl
 
-kinds : map kind_name (Count ∷ Sum ∷ Min ∷ Max ∷ []) ≡ codes "count" ∷ codes "sum" ∷ codes "min" ∷ codes "max" ∷ []
+kinds : map kind_name (Count ∷ Sum ∷ Min ∷ Max ∷ CountGuess ∷ SumGuess ∷ [])
+    ≡ codes "count" ∷ codes "sum" ∷ codes "min" ∷ codes "max" ∷ codes "count" ∷ codes "sum" ∷ []
 kinds = refl
 
-kinds-add_up : map adds_up (Count ∷ Sum ∷ Min ∷ Max ∷ []) ≡ true ∷ true ∷ false ∷ false ∷ []
+kinds-add_up : map adds_up (Count ∷ Sum ∷ Min ∷ Max ∷ CountGuess ∷ SumGuess ∷ []) ≡ true ∷ true ∷ false ∷ false ∷ false ∷ false ∷ []
 kinds-add_up = refl
+
+kinds-guess : map is_guess (Count ∷ Sum ∷ Min ∷ Max ∷ Has (pos 5) ∷ CountGuess ∷ SumGuess ∷ [])
+    ≡ false ∷ false ∷ false ∷ false ∷ false ∷ true ∷ true ∷ []
+kinds-guess = refl
+
+kinds-verbs : map query_verb (Max ∷ Has (pos 5) ∷ SumGuess ∷ []) ++ map series_verb (Count ∷ CountGuess ∷ [])
+    ≡ codes "query" ∷ codes "query" ∷ codes "estimate" ∷ codes "series" ∷ codes "estimates" ∷ []
+kinds-verbs = refl
 
 ends : map end_name (Lo ∷ Hi ∷ []) ≡ codes "lo" ∷ codes "hi" ∷ []
 ends = refl

@@ -1,11 +1,11 @@
 -- What queries say.
-use Rattle.std.specs.Prelude.{ℕ, ◌≤◌, Bool, true, false, FitsSigned, List, codes}
+use Rattle.std.specs.Prelude.{ℕ, ◌≤◌, Bool, true, false, FitsSigned, if◌then◌else◌, List, codes}
 use Rattle.std.specs.Int.{w64}
 use Rattle.ss_catalog.specs.declared.TheConstants.{LAST_TIME}
 use Rattle.ss_catalog.specs.declared.query.End.{End}
 use Rattle.ss_catalog.specs.declared.query.End.TheVariants.{Lo, Hi}
 use Rattle.ss_catalog.specs.declared.query.Kind.{Kind}
-use Rattle.ss_catalog.specs.declared.query.Kind.TheVariants.{Count, Sum, Min, Max, Has}
+use Rattle.ss_catalog.specs.declared.query.Kind.TheVariants.{Count, Sum, Min, Max, Has, CountGuess, SumGuess}
 use Rattle.ss_catalog.specs.declared.query.Query.{Query}
 
 -- the name of what is asked for, in a command and in a reply
@@ -15,6 +15,25 @@ kind_name Sum = codes "sum"
 kind_name Min = codes "min"
 kind_name Max = codes "max"
 kind_name (Has value) = codes "has"
+kind_name CountGuess = codes "count"
+kind_name SumGuess = codes "sum"
+
+-- the likeliest value is asked for
+abbrev pub is_guess : Kind → Bool
+is_guess Count = false
+is_guess Sum = false
+is_guess Min = false
+is_guess Max = false
+is_guess (Has value) = false
+is_guess CountGuess = true
+is_guess SumGuess = true
+
+-- the first word of a command that asks for it, and of one that does so in rows, which the reply to this has too
+abbrev pub query_verb : Kind → List ℕ
+query_verb kind = if is_guess kind then codes "estimate" else codes "query"
+
+abbrev pub series_verb : Kind → List ℕ
+series_verb kind = if is_guess kind then codes "estimates" else codes "series"
 
 -- what is asked for adds up: of all values it is what it is of some and of the others, added
 abbrev pub adds_up : Kind → Bool
@@ -23,6 +42,8 @@ adds_up Sum = true
 adds_up Min = false
 adds_up Max = false
 adds_up (Has value) = false
+adds_up CountGuess = false
+adds_up SumGuess = false
 
 -- the name of an end of an interval, in a command
 abbrev pub end_name : End → List ℕ
@@ -36,6 +57,8 @@ IsKindOfValues Sum = Unit
 IsKindOfValues Min = Unit
 IsKindOfValues Max = Unit
 IsKindOfValues (Has value) = FitsSigned w64 value
+IsKindOfValues CountGuess = Unit
+IsKindOfValues SumGuess = Unit
 
 -- a query has no time above the last one
 abbrev pub IsQueryInTime : Query → Type 0

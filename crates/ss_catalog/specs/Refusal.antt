@@ -2,7 +2,7 @@
 use Rattle.std.specs.Prelude.{ℕ, List, codes}
 use Rattle.ss_catalog.specs.declared.refusal.Refusal.{Refusal}
 use Rattle.ss_catalog.specs.declared.refusal.Refusal.TheVariants.{Line, Syntax, Number, Name, Param, Exists, Streams, Unknown, Open, NotOpen, Time}
-use Rattle.ss_catalog.specs.declared.refusal.Refusal.TheVariants.{Range, StreamFull, StoreFull, Busy, NoCursor}
+use Rattle.ss_catalog.specs.declared.refusal.Refusal.TheVariants.{Range, StreamFull, StoreFull, Busy, NoCursor, Frame}
 
 -- the number of a refusal: its place in the order, from 1
 abbrev pub refusal_number : Refusal → ℕ
@@ -22,6 +22,7 @@ refusal_number StreamFull = 13
 refusal_number StoreFull = 14
 refusal_number Busy = 15
 refusal_number NoCursor = 16
+refusal_number Frame = 17
 
 -- the name of a refusal in a reply
 abbrev pub refusal_name : Refusal → List ℕ
@@ -41,3 +42,4 @@ refusal_name StreamFull = codes "STREAM_FULL"
 refusal_name StoreFull = codes "STORE_FULL"
 refusal_name Busy = codes "BUSY"
 refusal_name NoCursor = codes "NO_CURSOR"
+refusal_name Frame = codes "FRAME"

@@ -1,6 +1,6 @@
 // What is asked of a stream.
 ghost use Rattle.std.specs.Prelude.{◌≡◌};
-ghost use Rattle.ss_catalog.specs.Queries.{adds_up, end_name, kind_name};
+ghost use Rattle.ss_catalog.specs.Queries.{adds_up, end_name, is_guess, kind_name, query_verb, series_verb};
 
 use crate::Name;
 
@@ -17,6 +17,10 @@ pub enum Kind {
     Max,
     /// Whether a value is one of them.
     Has { value: i64 },
+    /// How many values there are, and the likeliest number.
+    CountGuess,
+    /// Their sum, and the likeliest one.
+    SumGuess,
 }
 
 impl Kind {
@@ -25,12 +29,37 @@ impl Kind {
         ensures { result.now ≡ kind_name self }
     {
         match self {
-            Kind::Count => "count",
-            Kind::Sum => "sum",
+            Kind::Count | Kind::CountGuess => "count",
+            Kind::Sum | Kind::SumGuess => "sum",
             Kind::Min => "min",
             Kind::Max => "max",
             Kind::Has { .. } => "has",
         }
+    }
+
+    /// The first word of a command that asks for it.
+    pub fn query_verb(self) -> &'static str
+        ensures { result.now ≡ query_verb self }
+    {
+        if self.is_guess() { "estimate" } else { "query" }
+    }
+
+    /// The first word of a command that asks for it in rows, and of its reply.
+    pub fn series_verb(self) -> &'static str
+        ensures { result.now ≡ series_verb self }
+    {
+        if self.is_guess() {
+            "estimates"
+        } else {
+            "series"
+        }
+    }
+
+    // Whether the likeliest value is asked for.
+    fn is_guess(self) -> bool
+        ensures { result ≡ is_guess self }
+    {
+        matches!(self, Kind::CountGuess | Kind::SumGuess)
     }
 
     /// Whether it adds up: what is asked for of all values is the sum of what it is of some and of the others.

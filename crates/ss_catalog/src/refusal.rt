@@ -38,6 +38,8 @@ pub enum Refusal {
     Busy,
     /// The session has no cursor.
     NoCursor,
+    /// The bytes spell no valid frame.
+    Frame,
 }
 
 impl Refusal {
@@ -62,6 +64,7 @@ impl Refusal {
             Refusal::StoreFull => 14,
             Refusal::Busy => 15,
             Refusal::NoCursor => 16,
+            Refusal::Frame => 17,
         }
     }
 
@@ -86,6 +89,7 @@ impl Refusal {
             Refusal::StoreFull => "STORE_FULL",
             Refusal::Busy => "BUSY",
             Refusal::NoCursor => "NO_CURSOR",
+            Refusal::Frame => "FRAME",
         }
     }
 }

@@ -79,6 +79,15 @@ HasFields-with_fields end from (f ∷ fs) bytes long order =
       HasFields-with_fields end (f.place + f.size) fs (with_field bytes f) (kept ∙ long) order.2,
     )
 
+-- they leave how many bytes there are
+pub length-with_fields : (end from : ℕ) (fs : List Field) (bytes : List ℕ) → length bytes ≡ end → AreInOrder end from fs
+    → length (with_fields bytes fs) ≡ end
+length-with_fields end from [] bytes long order = long
+length-with_fields end from (f ∷ fs) bytes long order =
+    let inside = order.1.inside in
+    let kept = length-with_field f bytes order.1.whole (omega arith) in
+    length-with_fields end (f.place + f.size) fs (with_field bytes f) (kept ∙ long) order.2
+
 -- a byte is read from where it stands
 pub slice_index-part : (at value : ℕ) (bytes : List ℕ) → part 1 at bytes ≡ value ∷ [] → slice_index bytes at ≡ value
 slice_index-part at value bytes there =

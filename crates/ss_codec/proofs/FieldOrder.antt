@@ -10,43 +10,43 @@ use Rattle.ss_codec.specs.declared.record.Record.TheVariants.{Stream, Window, La
 use Rattle.ss_codec.specs.Record.{drop_number, family, filter_number, parameters, state_number, closing_time, fields, word_spelled}
 use Rattle.ss_codec.proofs.FieldLemmas.{IsWithin, AreInOrder}
 
--- a field of a number lies within a slot
-number-within : (n place value : ℕ) → place + n ≤ 128 → IsWithin 128 (record { place = place; size = n; bytes = number_bytes n value })
-number-within n place value inside = record { whole = length-number_bytes n value; inside = inside }
+-- a field of a number lies before the end
+pub number-within : (end n place value : ℕ) → place + n ≤ end → IsWithin end (record { place = place; size = n; bytes = number_bytes n value })
+number-within end n place value inside = record { whole = length-number_bytes n value; inside = inside }
 
-byte-within : (place value : ℕ) → place + 1 ≤ 128 → IsWithin 128 (record { place = place; size = 1; bytes = value ∷ [] })
-byte-within place value inside = record { whole = refl; inside = inside }
+pub byte-within : (end place value : ℕ) → place + 1 ≤ end → IsWithin end (record { place = place; size = 1; bytes = value ∷ [] })
+byte-within end place value inside = record { whole = refl; inside = inside }
 
 pub stream-in_order : (id : ℕ) (name : List ℕ) (params : Params) (dropped : Bool) → length name ≤ 32
     → AreInOrder 128 0 (fields (Stream id name params dropped))
 stream-in_order id name params dropped short =
     let numbers = parameters params in (
       lit≤ tt,
-      byte-within 0 1 (lit≤ tt),
+      byte-within 128 0 1 (lit≤ tt),
       (
         lit≤ tt,
-        byte-within 1 (family params) (lit≤ tt),
+        byte-within 128 1 (family params) (lit≤ tt),
         (
           lit≤ tt,
-          byte-within 2 (length name) (lit≤ tt),
+          byte-within 128 2 (length name) (lit≤ tt),
           (
             lit≤ tt,
-            byte-within 3 (drop_number dropped) (lit≤ tt),
+            byte-within 128 3 (drop_number dropped) (lit≤ tt),
             (
               lit≤ tt,
-              number-within 4 4 id (lit≤ tt),
+              number-within 128 4 4 id (lit≤ tt),
               (
                 lit≤ tt,
-                number-within 4 8 numbers.0 (lit≤ tt),
+                number-within 128 4 8 numbers.0 (lit≤ tt),
                 (
                   lit≤ tt,
-                  number-within 4 12 numbers.1 (lit≤ tt),
+                  number-within 128 4 12 numbers.1 (lit≤ tt),
                   (
                     lit≤ tt,
-                    number-within 4 16 numbers.2 (lit≤ tt),
+                    number-within 128 4 16 numbers.2 (lit≤ tt),
                     (
                       lit≤ tt,
-                      number-within 4 20 numbers.3 (lit≤ tt),
+                      number-within 128 4 20 numbers.3 (lit≤ tt),
                       (
                         lit≤ tt,
                         record { whole = refl; inside = omega arith },
@@ -65,46 +65,46 @@ stream-in_order id name params dropped short =
 pub window-in_order : (id first : ℕ) (f : Figures) → AreInOrder 128 0 (fields (Window id first f))
 window-in_order id first f = (
   lit≤ tt,
-  byte-within 0 2 (lit≤ tt),
+  byte-within 128 0 2 (lit≤ tt),
   (
     lit≤ tt,
-    byte-within 1 (filter_number f.filter) (lit≤ tt),
+    byte-within 128 1 (filter_number f.filter) (lit≤ tt),
     (
       lit≤ tt,
-      number-within 4 4 id (lit≤ tt),
+      number-within 128 4 4 id (lit≤ tt),
       (
         lit≤ tt,
-        number-within 8 8 first (lit≤ tt),
+        number-within 128 8 8 first (lit≤ tt),
         (
           lit≤ tt,
-          number-within 8 16 f.count (lit≤ tt),
+          number-within 128 8 16 f.count (lit≤ tt),
           (
             lit≤ tt,
-            number-within 16 24 (cast_unsigned w128 f.sum) (lit≤ tt),
+            number-within 128 16 24 (cast_unsigned w128 f.sum) (lit≤ tt),
             (
               lit≤ tt,
-              number-within 8 40 (cast_unsigned w64 f.min) (lit≤ tt),
+              number-within 128 8 40 (cast_unsigned w64 f.min) (lit≤ tt),
               (
                 lit≤ tt,
-                number-within 8 48 (cast_unsigned w64 f.max) (lit≤ tt),
+                number-within 128 8 48 (cast_unsigned w64 f.max) (lit≤ tt),
                 (
                   lit≤ tt,
-                  number-within 8 56 f.t_first (lit≤ tt),
+                  number-within 128 8 56 f.t_first (lit≤ tt),
                   (
                     lit≤ tt,
-                    number-within 8 64 f.t_last (lit≤ tt),
+                    number-within 128 8 64 f.t_last (lit≤ tt),
                     (
                       lit≤ tt,
-                      number-within 8 72 (word_spelled f.filter 0) (lit≤ tt),
+                      number-within 128 8 72 (word_spelled f.filter 0) (lit≤ tt),
                       (
                         lit≤ tt,
-                        number-within 8 80 (word_spelled f.filter 1) (lit≤ tt),
+                        number-within 128 8 80 (word_spelled f.filter 1) (lit≤ tt),
                         (
                           lit≤ tt,
-                          number-within 8 88 (word_spelled f.filter 2) (lit≤ tt),
+                          number-within 128 8 88 (word_spelled f.filter 2) (lit≤ tt),
                           (
                             lit≤ tt,
-                            number-within 8 96 (word_spelled f.filter 3) (lit≤ tt),
+                            number-within 128 8 96 (word_spelled f.filter 3) (lit≤ tt),
                             tt,
                           ),
                         ),
@@ -124,25 +124,25 @@ window-in_order id first f = (
 pub landmark-in_order : (id number values start : ℕ) (finish : Option ℕ) → AreInOrder 128 0 (fields (Landmark id number values start finish))
 landmark-in_order id number values start finish = (
   lit≤ tt,
-  byte-within 0 3 (lit≤ tt),
+  byte-within 128 0 3 (lit≤ tt),
   (
     lit≤ tt,
-    byte-within 1 (state_number finish) (lit≤ tt),
+    byte-within 128 1 (state_number finish) (lit≤ tt),
     (
       lit≤ tt,
-      number-within 4 4 id (lit≤ tt),
+      number-within 128 4 4 id (lit≤ tt),
       (
         lit≤ tt,
-        number-within 4 8 number (lit≤ tt),
+        number-within 128 4 8 number (lit≤ tt),
         (
           lit≤ tt,
-          number-within 4 12 values (lit≤ tt),
+          number-within 128 4 12 values (lit≤ tt),
           (
             lit≤ tt,
-            number-within 8 16 start (lit≤ tt),
+            number-within 128 8 16 start (lit≤ tt),
             (
               lit≤ tt,
-              number-within 8 24 (closing_time finish) (lit≤ tt),
+              number-within 128 8 24 (closing_time finish) (lit≤ tt),
               tt,
             ),
           ),
@@ -155,22 +155,22 @@ landmark-in_order id number values start finish = (
 pub value-in_order : (id number index t : ℕ) (v : ℤ) → AreInOrder 128 0 (fields (Value id number index t v))
 value-in_order id number index t v = (
   lit≤ tt,
-  byte-within 0 4 (lit≤ tt),
+  byte-within 128 0 4 (lit≤ tt),
   (
     lit≤ tt,
-    number-within 4 4 id (lit≤ tt),
+    number-within 128 4 4 id (lit≤ tt),
     (
       lit≤ tt,
-      number-within 4 8 number (lit≤ tt),
+      number-within 128 4 8 number (lit≤ tt),
       (
         lit≤ tt,
-        number-within 4 12 index (lit≤ tt),
+        number-within 128 4 12 index (lit≤ tt),
         (
           lit≤ tt,
-          number-within 8 16 t (lit≤ tt),
+          number-within 128 8 16 t (lit≤ tt),
           (
             lit≤ tt,
-            number-within 8 24 (cast_unsigned w64 v) (lit≤ tt),
+            number-within 128 8 24 (cast_unsigned w64 v) (lit≤ tt),
             tt,
           ),
         ),

@@ -1,7 +1,7 @@
-mod FieldLemmas
-mod FieldOrder
+pub mod FieldLemmas
+pub mod FieldOrder
 mod FilterSpelling
-mod ParameterLemmas
+pub mod ParameterLemmas
 pub mod RecordLemmas
 mod Rows
 mod DroppedRows

@@ -1,5 +1,5 @@
--- The parameters of a stream are read from where they stand.
-use Rattle.std.specs.Prelude.{◌≡◌, ℕ, ◌^◌, ◌<◌, true, List, slice_index}
+-- The parameters of a target are read from where they stand.
+use Rattle.std.specs.Prelude.{◌≡◌, ℕ, ◌+◌, ◌^◌, ◌<◌, true, List, slice_index}
 use Rattle.std.proofs.Common.{arith, refl, lit<}
 use Rattle.std.proofs.lemmas.Bool.Decides.{nat_tests}
 use Rattle.ss_fields.specs.Fields.{number_at}
@@ -31,9 +31,9 @@ AreSmall-in_range (Power p q r s) ranged = record {
 }
 
 -- the parameters whose family and numbers stand in the bytes are read from there
-pub params_in-numbers : (params : Params) (bytes : List ℕ) → slice_index bytes 1 ≡ family params
-    → number_at 4 bytes 8 ≡ (parameters params).0 → number_at 4 bytes 12 ≡ (parameters params).1
-    → number_at 4 bytes 16 ≡ (parameters params).2 → number_at 4 bytes 20 ≡ (parameters params).3 → params_in bytes ≡ params
+pub params_in-numbers : (params : Params) (place : ℕ) (bytes : List ℕ) → slice_index bytes 1 ≡ family params
+    → number_at 4 bytes place ≡ (parameters params).0 → number_at 4 bytes (place + 4) ≡ (parameters params).1
+    → number_at 4 bytes (place + 8) ≡ (parameters params).2 → number_at 4 bytes (place + 12) ≡ (parameters params).3 → params_in place bytes ≡ params
 unfolding params_in
-params_in-numbers (Exp b r s) bytes kind first second third fourth = rw (kind, first, second, third) refl
-params_in-numbers (Power p q r s) bytes kind first second third fourth = rw (kind, first, second, third, fourth) refl
+params_in-numbers (Exp b r s) place bytes kind first second third fourth = rw (kind, first, second, third) refl
+params_in-numbers (Power p q r s) place bytes kind first second third fourth = rw (kind, first, second, third, fourth) refl

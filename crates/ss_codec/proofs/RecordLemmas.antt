@@ -29,7 +29,7 @@ use Rattle.ss_codec.proofs.ParameterLemmas.{AreSmall-in_range, params_in-numbers
 use Rattle.ss_codec.proofs.FilterSpelling.{filter_in-numbers, word_spelled-fits}
 use Rattle.ss_codec.proofs.FieldOrder.{landmark-in_order, stream-in_order, value-in_order, window-in_order}
 
-not_true : (b : Bool) → (b ≡ true → ⊥) → b ≡ false
+pub not_true : (b : Bool) → (b ≡ true → ⊥) → b ≡ false
 not_true true never = absurd (never refl)
 not_true false never = refl
 
@@ -123,11 +123,11 @@ is_valid-IsLandmark id number values start finish stream low high interval =
     let test = is_interval-IsInterval values start finish interval in
     grind (arith, nat_tests)
 
-fits-true : (z : ℤ) → fits_i64 z ≡ true → FitsSigned w64 z
+pub fits-true : (z : ℤ) → fits_i64 z ≡ true → FitsSigned w64 z
 fits-true (pos n) test = let small : n < 2 ^ 63 = grind (arith, nat_tests) in record { sfits = small }
 fits-true (negsuc n) test = let small : n < 2 ^ 63 = grind (arith, nat_tests) in record { sfits = small }
 
-true-fits : (z : ℤ) → FitsSigned w64 z → fits_i64 z ≡ true
+pub true-fits : (z : ℤ) → FitsSigned w64 z → fits_i64 z ≡ true
 true-fits (pos n) fits = let small : n < 2 ^ 63 = fits.sfits in grind (arith, nat_tests)
 true-fits (negsuc n) fits = let small : n < 2 ^ 63 = fits.sfits in grind (arith, nat_tests)
 
@@ -181,7 +181,7 @@ stream_in-fields id name params dropped bytes is has =
     let second = number_at-take 4 12 (parameters params).1 bytes (omega (arith, small.second)) has.1.1.1.1.1.1.0 in
     let third = number_at-take 4 16 (parameters params).2 bytes (omega (arith, small.third)) has.1.1.1.1.1.1.1.0 in
     let fourth = number_at-take 4 20 (parameters params).3 bytes (omega (arith, small.fourth)) has.1.1.1.1.1.1.1.1.0 in
-    let target = params_in-numbers params bytes kind first second third fourth in
+    let target = params_in-numbers params 8 bytes kind first second third fourth in
     let named : take (slice_index bytes 2) (drop 24 bytes) ≡ name = rw size has.1.1.1.1.1.1.1.1.1.0 in
     let dropped_is : (slice_index bytes 3 == 1) ≡ dropped = rw state (drop_number-read dropped) in
     cc
@@ -364,8 +364,8 @@ checked-long bytes long more =
     let size = length-take (slice_index bytes 2) (drop 24 bytes) in
     let rest = length-drop 24 bytes in
     let dropped = slice_index bytes 3 == 1 in
-    let no : is_valid (Stream (number_at 4 bytes 4) word (params_in bytes) dropped) ≡ false = not_true _ (λ valid.
-    let short = (IsStream-is_valid (number_at 4 bytes 4) word (params_in bytes) dropped valid).short in
+    let no : is_valid (Stream (number_at 4 bytes 4) word (params_in 8 bytes) dropped) ≡ false = not_true _ (λ valid.
+    let short = (IsStream-is_valid (number_at 4 bytes 4) word (params_in 8 bytes) dropped valid).short in
     omega arith) in
     rw no refl
 

@@ -1,5 +1,5 @@
 // Records, read.
-ghost use Rattle.std.specs.Prelude.{◌≡◌, ◌≢◌, ◌+◌, ◌-◌, ◌*◌, ◌&&◌, ◌==◌, ◌≤◌, drop, take, nat_le, slice_index, IfSome, IfNone, if◌then◌else◌};
+ghost use Rattle.std.specs.Prelude.{◌≡◌, ◌≢◌, ◌+◌, ◌-◌, ◌*◌, ◌&&◌, ◌==◌, ◌≤◌, length, drop, take, nat_le, slice_index, IfSome, IfNone, if◌then◌else◌};
 ghost use Rattle.std.specs.List.{list_all};
 ghost use Rattle.ss_summary.specs.Possible.{is_possible};
 ghost use Rattle.ss_codec.specs.Record.{Spells, counts_from_1, is_interval};
@@ -15,14 +15,15 @@ use ss_catalog::{LAST_TIME, LONGEST_NAME, Name, Params};
 use ss_fields::{get_i64, get_i128, get_u32, get_u64};
 use ss_summary::{Filter, GREATEST_COUNT, Summary};
 
-// The parameters in the bytes of a stream.
+/// The parameters in some bytes: byte 1 says their family, and from `place` on stand their numbers.
 #[tactic(auto, unfolding(crate::specs::Decoded::params_in))]
-fn params_in(bytes: &[u8; SLOT_SIZE]) -> Params
-    ensures { result ≡ params_in bytes.now }
+pub fn params_in(bytes: &[u8], place: usize) -> Params
+    requires { place + 16 ≤ length bytes.now }
+    ensures { result ≡ params_in place bytes.now }
 {
-    let first = get_u32(bytes, 8);
-    let second = get_u32(bytes, 12);
-    let third = get_u32(bytes, 16);
+    let first = get_u32(bytes, place);
+    let second = get_u32(bytes, place + 4);
+    let third = get_u32(bytes, place + 8);
     if bytes[1] == EXPONENTIAL {
         Params::Exp {
             b: first,
@@ -34,7 +35,7 @@ fn params_in(bytes: &[u8; SLOT_SIZE]) -> Params
             p: first,
             q: second,
             r: third,
-            s: get_u32(bytes, 20),
+            s: get_u32(bytes, place + 12),
         }
     }
 }
@@ -50,7 +51,7 @@ fn stream_in(bytes: &[u8; SLOT_SIZE]) -> Option<Record>
     }
     let id = get_u32(bytes, 4);
     let name = Name::of(&bytes[NAME..NAME + length])?;
-    let params = params_in(bytes);
+    let params = params_in(bytes, 8);
     if params.in_range() {
         Some(Record::Stream {
             id,

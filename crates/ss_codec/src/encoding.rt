@@ -12,8 +12,8 @@ use crate::record::{
 use ss_catalog::{LONGEST_NAME, Name, Params};
 use ss_summary::{Filter, Summary};
 
-// The number of a target's family.
-fn family(params: &Params) -> u8
+/// The number of a target's family.
+pub fn family(params: &Params) -> u8
     ensures { result ≡ family params.now }
 {
     match *params {
@@ -22,8 +22,8 @@ fn family(params: &Params) -> u8
     }
 }
 
-// The four parameters of a target. The exponential family has three, and a 0.
-fn parameters(params: &Params) -> (u32, u32, u32, u32)
+/// The four parameters of a target. The exponential family has three, and a 0.
+pub fn parameters(params: &Params) -> (u32, u32, u32, u32)
     ensures { result ≡ parameters params.now }
 {
     match *params {
