@@ -1,0 +1,3 @@
+pub mod Frame
+pub mod Pieces
+pub mod PieceState
