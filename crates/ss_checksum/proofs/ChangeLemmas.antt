@@ -1,0 +1,97 @@
+-- Bytes and others that have one checksum differ by a number that the steps make nothing of.
+use Rattle.std.proofs.Common.{◌≡◌, ◌≢◌, ◌∙◌, refl, sym, ap, ap₂, ℕ, ◌+◌, ◌-◌, ◌*◌, ◌^◌, ◌<◌, ◌≤◌, List, [], ◌∷◌, length, All, arith, lit<, lit≤, inl, inr}
+use Rattle.std.specs.Prelude.{bit_xor}
+use Rattle.std.specs.Int.Bits.{xor_assoc, xor_self, xor_zero_r}
+use Rattle.std.proofs.Math.Nat.{mul-le-mul_right, pow-le-pow_right}
+use Rattle.std.proofs.lemmas.Bool.{cases_lt}
+use Rattle.std.proofs.lemmas.List.Elements.{All-head, All-tail}
+use Rattle.std.proofs.lemmas.Nat.{pow-add, xor_comm, xor_lt}
+use Rattle.ss_checksum.specs.Changes.{AreAsLong, difference, number_of}
+use Rattle.ss_checksum.specs.Checksum.{after_bits, after_byte, after_bytes, checksum}
+use Rattle.ss_checksum.proofs.StepLemmas.{after_bits-add, after_bits-shifted, after_bits-some, after_bits-xor, xor_cancel, xor_parts}
+
+abbrev AreBytes : List ℕ → Type 0
+AreBytes xs = All (λ x. x < 2 ^ 8) xs
+
+-- how many bits bytes have
+abbrev pub bits_of : List ℕ → ℕ
+bits_of [] = 0
+bits_of (x ∷ xs) = 8 + bits_of xs
+
+pub bits_of-is : (xs : List ℕ) → bits_of xs ≡ 8 * length xs
+bits_of-is [] = refl
+bits_of-is (x ∷ xs) = omega (arith, bits_of-is xs)
+
+pub number_of-lt : (xs : List ℕ) → AreBytes xs → number_of xs < 2 ^ bits_of xs
+number_of-lt [] bytes = lit< tt
+number_of-lt (x ∷ xs) bytes =
+    let rest = number_of-lt xs (All-tail (λ x. x < 2 ^ 8) x xs bytes) in
+    let first : x < 2 ^ 8 = All-head (λ x. x < 2 ^ 8) x xs bytes in
+    let room : 2 ^ (8 + bits_of xs) ≡ 2 ^ 8 * 2 ^ bits_of xs = pow-add 2 8 (bits_of xs) in
+    rw room (omega (arith, rest, first))
+
+-- bytes one after the other are steps over all their bits at once
+pub after_bytes-is : (state : ℕ) (xs : List ℕ) → AreBytes xs → after_bytes state xs ≡ after_bits (bits_of xs) (bit_xor state (number_of xs))
+after_bytes-is state [] bytes = sym (xor_zero_r state)
+after_bytes-is state (x ∷ xs) bytes =
+    let rest = number_of xs in
+    let first : x < 2 ^ 8 = All-head (λ x. x < 2 ^ 8) x xs bytes in
+    let moved : after_bits 8 (rest * 2 ^ 8) ≡ rest = after_bits-shifted 8 rest in
+    let parts : bit_xor x (rest * 2 ^ 8) ≡ x + 2 ^ 8 * rest = xor_comm x (rest * 2 ^ 8) ∙ xor_parts rest 8 x first ∙ omega arith in
+    after_bytes-is (after_byte state x) xs (All-tail (λ x. x < 2 ^ 8) x xs bytes)
+    ∙ ap (λ y. after_bits (bits_of xs) (bit_xor (after_byte state x) y)) (sym moved)
+    ∙ ap (after_bits (bits_of xs)) (sym (after_bits-xor 8 (bit_xor state x) (rest * 2 ^ 8)))
+    ∙ sym (after_bits-add 8 (bits_of xs) (bit_xor (bit_xor state x) (rest * 2 ^ 8)))
+    ∙ ap (after_bits (8 + bits_of xs)) (xor_assoc state x (rest * 2 ^ 8) ∙ ap (bit_xor state) parts)
+
+pub bits_of-same : (xs ys : List ℕ) → length ys ≡ length xs → bits_of ys ≡ bits_of xs
+bits_of-same xs ys same = omega (arith, bits_of-is xs, bits_of-is ys)
+
+-- the checksums differ by what the steps make of the difference
+pub checksums-differ : (xs ys : List ℕ) → AreAsLong xs ys → bit_xor (checksum xs) (checksum ys) ≡ after_bits (bits_of xs) (difference xs ys)
+unfolding checksum
+checksums-differ xs ys long =
+    let ones = 2 ^ 32 - 1 in
+    let here = after_bytes-is ones xs long.bytes in
+    let there = after_bytes-is ones ys long.others ∙ ap (λ k. after_bits k (bit_xor ones (number_of ys))) (bits_of-same xs ys long.same) in
+    let inner = xor_comm ones (number_of xs) in
+    xor_cancel (after_bytes ones xs) (after_bytes ones ys) ones
+    ∙ ap₂ bit_xor here there
+    ∙ sym (after_bits-xor (bits_of xs) (bit_xor ones (number_of xs)) (bit_xor ones (number_of ys)))
+    ∙ ap (after_bits (bits_of xs)) (ap₂ bit_xor (xor_comm ones (number_of xs)) (xor_comm ones (number_of ys)) ∙ xor_cancel (number_of xs) (number_of ys) ones)
+
+-- so they are two where the steps leave something
+pub checksums-apart : (xs ys : List ℕ) → AreAsLong xs ys → 0 < after_bits (bits_of xs) (difference xs ys) → checksum ys ≢ checksum xs
+checksums-apart xs ys long some same =
+    let none : bit_xor (checksum xs) (checksum ys) ≡ 0 = ap (bit_xor (checksum xs)) same ∙ xor_self (checksum xs) in
+    let differ = checksums-differ xs ys long in
+    omega (arith, none, differ, some)
+
+pub difference-lt : (xs ys : List ℕ) → AreAsLong xs ys → difference xs ys < 2 ^ bits_of xs
+difference-lt xs ys long =
+    let there : number_of ys < 2 ^ bits_of xs = rw (bits_of-same xs ys long.same) at (number_of-lt ys long.others) in
+    xor_lt (bits_of xs) (number_of xs) (number_of ys) (number_of-lt xs long.bytes) there
+
+-- powers below others have smaller exponents
+pub below_power : (i k : ℕ) → 2 ^ i < 2 ^ k → i < k
+below_power i k less =
+    elim (cases_lt i k) [
+      | inl lt ↦ lt
+      | inr ge ↦ absurd (omega (arith, less, pow-le-pow_right {n = 2} (lit≤ tt) ge))
+    ]
+
+-- what is left of a run of bits after more steps than it was moved up
+pub moved_down : (k at run : ℕ) → at ≤ k → after_bits k (run * 2 ^ at) ≡ after_bits (k - at) run
+moved_down k at run inside =
+    let parts : k ≡ at + (k - at) = omega (arith, inside) in
+    ap (λ n. after_bits n (run * 2 ^ at)) parts
+    ∙ after_bits-add at (k - at) (run * 2 ^ at)
+    ∙ ap (after_bits (k - at)) (after_bits-shifted at run)
+
+pub bursts : (xs ys : List ℕ) (run at : ℕ) → AreAsLong xs ys → 0 < run → run < 2 ^ 32 → difference xs ys ≡ run * 2 ^ at → checksum ys ≢ checksum xs
+bursts xs ys run at long some few is =
+    let n = bits_of xs in
+    let least : 1 * 2 ^ at ≤ run * 2 ^ at = mul-le-mul_right (2 ^ at) some in
+    let inside : at < n = below_power at n (omega (arith, least, is, difference-lt xs ys long)) in
+    let left : after_bits n (difference xs ys) ≡ after_bits (n - at) run = ap (after_bits n) is ∙ moved_down n at run (omega (arith, inside)) in
+    checksums-apart xs ys long (omega (arith, left, after_bits-some (n - at) run some few))

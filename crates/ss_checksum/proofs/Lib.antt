@@ -1,0 +1,6 @@
+mod Rows
+pub mod ChangeLemmas
+pub mod ParityLemmas
+pub mod ReturnLemmas
+pub mod StepLemmas
+pub mod TableLemmas

@@ -1,0 +1,5 @@
+use Rattle.ss_checksum.proofs.ChangeLemmas.{bursts}
+use Rattle.ss_checksum.proofs.laws.bursts_are_told.Goals as goal
+
+pub returns : goal.returns
+returns c = bursts

@@ -1,0 +1,9 @@
+//! CRC-32C, as RFC 3720 gives it, and what changes of bytes it tells for sure.
+#![tactic(auto)]
+
+mod bytewise;
+mod laws;
+mod table;
+
+pub use bytewise::checksum;
+pub use laws::{bursts_are_told, few_bits_are_told, spelled_checksums_are_told_apart};
