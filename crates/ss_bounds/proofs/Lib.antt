@@ -11,4 +11,9 @@ pub mod TruthLemmas
 pub mod ChoiceLemmas
 pub mod ExtremeLemmas
 pub mod RangeLemmas
+pub mod SeveralLemmas
+pub mod GuessLemmas
+pub mod RatioLemmas
+pub mod MixedLemmas
 pub mod Rows
+pub mod GuessRows

@@ -20,6 +20,18 @@ times-minus n a b =
     let scaled : n * (up (a -ℤ b) + down a + up b) ≡ n * (down (a -ℤ b) + up a + down b) = ap (λ z. n * z) same in
     omega (arith, ints)
 
+pub times-plus : (n : ℕ) (a b : ℤ) → (pos n *ℤ (a +ℤ b)) ≡ ((pos n *ℤ a) +ℤ (pos n *ℤ b))
+times-plus n a b =
+    let same : up (a +ℤ b) + down a + down b ≡ down (a +ℤ b) + up a + up b = omega (arith, ints) in
+    let scaled : n * (up (a +ℤ b) + down a + down b) ≡ n * (down (a +ℤ b) + up a + up b) = ap (λ z. n * z) same in
+    omega (arith, ints)
+
+pub product-times : (m n : ℕ) (a : ℤ) → (pos (m * n) *ℤ a) ≡ (pos m *ℤ (pos n *ℤ a))
+product-times m n a =
+    let same : up (pos n *ℤ a) + n * down a ≡ down (pos n *ℤ a) + n * up a = omega (arith, ints) in
+    let scaled : m * (up (pos n *ℤ a) + n * down a) ≡ m * (down (pos n *ℤ a) + n * up a) = ap (λ z. m * z) same in
+    omega (arith, ints)
+
 pub minus-times : (c x : ℕ) (a : ℤ) → x ≤ c → (pos (c - x) *ℤ a) ≡ ((pos c *ℤ a) -ℤ (pos x *ℤ a))
 minus-times c x a within =
     let parts : c ≡ x + (c - x) = omega arith in

@@ -50,7 +50,7 @@ parted test (p ∷ ps) =
     (omega (arith, rest.0, next.0), omega (arith, ints, rest.1, next.1))
 
 -- the least and the greatest sum are those at some number of values
-sum_interval-at : (s : SplitFigures) (x : ℕ) → least_count s ≤ x → x ≤ greatest_count s
+pub sum_interval-at : (s : SplitFigures) (x : ℕ) → least_count s ≤ x → x ≤ greatest_count s
     → ((sum_interval s).0 ≤ℤ low_sum s x) × (high_sum s x ≤ℤ (sum_interval s).1)
 unfolding sum_interval
 sum_interval-at s x low high =

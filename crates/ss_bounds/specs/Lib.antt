@@ -6,3 +6,6 @@ pub mod Times
 pub mod Extremes
 pub mod Either
 pub mod Truth
+pub mod Guess
+pub mod Mixed
+pub mod Several

@@ -5,16 +5,21 @@ mod attained;
 mod bounds;
 mod extreme;
 mod extremes;
+mod guess;
 mod laws;
 mod lines;
+mod mixed;
+mod ratio;
 mod split;
+mod spread;
 
 pub use attained::{greatest_sum_at, least_sum_at};
 pub use bounds::{count_bounds, sum_bounds};
 pub use extreme::Extreme;
 pub use extremes::{greater, lesser, max_bounds, min_bounds};
+pub use guess::{count_guess, sum_guess};
 pub use laws::{
-    ends_of_sums_are_attained, extremes_hold_the_truth, free_times_are_parted,
-    split_windows_hold_the_truth, values_can_be_parted,
+    ends_of_sums_are_attained, extremes_hold_the_truth, free_times_are_parted, guesses_lie_between,
+    several_hold_the_truth, split_windows_hold_the_truth, values_can_be_parted,
 };
 pub use split::{MOST_TIMES, MOST_VALUES, Split};
