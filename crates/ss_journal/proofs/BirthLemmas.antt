@@ -11,8 +11,8 @@ use Rattle.ss_outside.specs.Disk.{Told, overwrite}
 use Rattle.ss_journal.specs.Birth.{IsBegun, IsFormed, Leads, blank_end, form_ranges, magic_bytes}
 use Rattle.ss_outside.specs.Step.{Syncs}
 use Rattle.ss_outside.specs.declared.source.Failed.{Failed}
-use Rattle.ss_journal.specs.Format.{IsCleared, has_magic, is_born, is_unborn, magic, slots_in}
-use Rattle.ss_journal.specs.Gates.{ClosedFrom, entry_place, opens}
+use Rattle.ss_journal.specs.Format.{IsShut, has_magic, is_born, is_unborn, magic, slots_in}
+use Rattle.ss_journal.specs.Gates.{opens}
 use Rattle.ss_journal.specs.Redo.{Gives, Redone, SameMap, SlotMap, StandsFor, blank_map}
 use Rattle.ss_journal.specs.Steps.{Durably, Marks, Reaches, Rewrites, Writes, WritesZeros}
 use Rattle.ss_journal.specs.Writes.{SameRest, DiffersAt, DiffersIn, Tears, length_with}
@@ -305,21 +305,21 @@ module _ (content image : List ℕ) (formed : IsFormed content) (differs : Diffe
 
 -- the gate is opened
 pub birth-opened : (content : List ℕ) → IsFormed content
-    → IsTrue (is_born (overwrite content 0 (165 ∷ []))) × ClosedFrom 0 (overwrite content 0 (165 ∷ []))
+    → IsShut (overwrite content 0 (165 ∷ []))
 birth-opened content formed =
     let within : 0 ≤ length content = omega arith in
     let image = overwrite content 0 (165 ∷ []) in
     let differs = DiffersIn-overwrite 0 content (165 ∷ []) within in
     let gate = get_or-overwrite_inside content (165 ∷ []) 0 within 0 (omega arith) in (
       born-opened content image formed differs (subst (λ (byte : ℕ). IsTrue (opens byte)) (sym gate) refl),
-      λ n le lt. gate-image content image formed differs (entry_place n) (omega arith) (omega (arith, lt)),
+      gate-image content image formed differs 512 (omega arith) (omega arith),
     )
 
 -- the gate is written, and synced
 pub gate-opened : (old new : Told) (result : Result (Unit {0}) Failed) → IsFormed old.content → Durably (Writes 0 (165 ∷ [])) result old new
-    → Durably (Reaches (Leads IsCleared)) result old new
+    → Durably (Reaches (Leads IsShut)) result old new
 gate-opened old new result formed wrote = record {
-  step = reaches-rewritten (Leads IsCleared) result wrote.step (λ only. wrote.durable)
+  step = reaches-rewritten (Leads IsShut) result wrote.step (λ only. wrote.durable)
       (λ found image stands differs. StandsFor-birth_gate old.content image formed differs found stands)
       (DiffersIn-overwrite 0 old.content (165 ∷ []) (omega arith))
       (birth-opened old.content formed, SameRest-overwrite old.content 0 (165 ∷ []) (omega arith) (omega arith));
@@ -328,8 +328,8 @@ gate-opened old new result formed wrote = record {
 
 -- the whole birth
 pub born-joined : (old begun formed new : Told) (first second : Unit {0}) (result : Result (Unit {0}) Failed) → Reaches (Leads IsBegun) (Ok first) old begun
-    → Reaches (Leads IsFormed) (Ok second) begun formed → Durably (Reaches (Leads IsCleared)) result formed new
-    → Durably (Reaches (Leads IsCleared)) result old new
+    → Reaches (Leads IsFormed) (Ok second) begun formed → Durably (Reaches (Leads IsShut)) result formed new
+    → Durably (Reaches (Leads IsShut)) result old new
 born-joined old begun formed new first second result begins forms opens = record {
   step = reaches-joined second result
       (reaches-joined {S = Leads IsFormed} first (Ok second) begins forms

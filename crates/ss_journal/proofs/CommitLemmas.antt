@@ -1,5 +1,5 @@
 -- A transaction in the next entry, and the gate that makes it count.
-use Rattle.std.proofs.Common.{IsFalse, IsTrue, List, [], ap, arith, drop, inl, inr, length, map, refl, subst, sym, take, ℕ, ⊎_elim, ◌++◌, ◌+◌, ◌<◌, ◌∙◌}
+use Rattle.std.proofs.Common.{IsFalse, IsTrue, List, [], ap, arith, drop, inl, inr, length, map, refl, subst, sym, take, ℕ, ◌++◌, ◌+◌, ◌<◌, ◌∙◌}
 use Rattle.std.proofs.Common.{◌∷◌, ◌≡◌, ◌≤◌, ◌⊎◌}
 use Rattle.std.proofs.lemmas.Bool.{cases_eq}
 use Rattle.std.proofs.lemmas.List.Concat.{flat_map-append}
@@ -11,7 +11,7 @@ use Rattle.ss_outside.specs.Disk.{overwrite}
 use Rattle.ss_journal.proofs.NextEntry.{AddsEntry, IsReadyFor}
 use Rattle.ss_journal.specs.Entries.{entries, entry_body, is_good, open_prefix, puts_of}
 use Rattle.ss_journal.specs.Format.{entry_bytes, is_born}
-use Rattle.ss_journal.specs.Gates.{ClosedFrom, IsClosed, entry_place, is_open, opens}
+use Rattle.ss_journal.specs.Gates.{EndsAt, IsClosed, entry_place, is_open, opens}
 use Rattle.ss_journal.specs.Kept.{EndsBefore}
 use Rattle.ss_journal.specs.Puts.{FillSlots, IsTxn, slots_fit}
 use Rattle.ss_journal.specs.Redo.{Gives, Redone, SameMap, SlotMap, StandsFor, changed, entries_in_use, file_map, puts_in_use, redo, redo_entries, stands}
@@ -23,13 +23,13 @@ use Rattle.ss_journal.proofs.PrefixLemmas.{IsPrefix, IsPrefix-entries, gate-entr
 use Rattle.ss_journal.proofs.RedoLemmas.{StandsFor-from, entries_in_use-formed, redo-formed, redo_entries-again, redo_entries-more, redo_entries-stands}
 
 -- the entry that was written
-pub entry-overwrite : (n : ℕ) (content entry : List ℕ) → entry_place n ≤ length content → length entry ≡ 544
-    → entry_bytes (overwrite content (entry_place n) entry) n ≡ entry
-entry-overwrite n content entry within long =
-    let rest = drop (entry_place n + length entry) content in
-    ap (λ (list : List ℕ). take 544 (drop (entry_place n) list)) (append_assoc (take (entry_place n) content) entry rest)
-    ∙ ap (take 544) (drop_at (take (entry_place n) content) (entry ++ rest) (entry_place n) (length-take-le (entry_place n) content within))
-    ∙ take_at entry rest 544 long
+pub entry-overwrite : (n : ℕ) (content entry end : List ℕ) → entry_place n ≤ length content → length entry ≡ 544
+    → entry_bytes (overwrite content (entry_place n) (entry ++ end)) n ≡ entry
+entry-overwrite n content entry end within long =
+    let rest = drop (entry_place n + length (entry ++ end)) content in
+    ap (λ (list : List ℕ). take 544 (drop (entry_place n) list)) (append_assoc (take (entry_place n) content) (entry ++ end) rest)
+    ∙ ap (take 544) (drop_at (take (entry_place n) content) ((entry ++ end) ++ rest) (entry_place n) (length-take-le (entry_place n) content within))
+    ∙ ap (take 544) (append_assoc entry end rest) ∙ take_at entry (end ++ rest) 544 long
 
 -- a content that ends before entry n, and an image that differs in entries from there on
 module _ (n : ℕ) (content image : List ℕ) (ends : EndsBefore n content) (free : n < 64) (size : length image ≡ length content)
@@ -93,16 +93,16 @@ module _ (n : ℕ) (content image : List ℕ) (ends : EndsBefore n content) (fre
 abbrev pub EndsBefore-ready : (n : ℕ) (puts : List Put) (content : List ℕ) → IsReadyFor n puts content → n < 64 → EndsBefore n content
 EndsBefore-ready n puts content ready free = record {
   born = ready.born;
-  closed = ready.closed n (omega arith) free;
+  closed = ready.closed free;
   number = ready.number;
   found = ready.found;
   map = ready.map;
 }
 
--- a content with n entries in use, and an image that differs in entry n alone, which stands there whole and open
+-- a content with n entries in use, and an image that differs in entries from n on, where entry n stands whole and open, and ends
 module _ (n : ℕ) (puts : List Put) (content image : List ℕ) (ready : IsReadyFor n puts content) (free : n < 64) (size : length image ≡ length content)
-    (beside : (place : ℕ) → (place < entry_place n) ⊎ (entry_place (n + 1) ≤ place) → slice_index image place ≡ slice_index content place)
-    (whole : FillSlots puts) (txn : IsTxn puts) (is_entry : entry_bytes image n ≡ 165 ∷ entry_body puts) where
+    (from-slots : (place : ℕ) → (place < entry_place n) ⊎ (36864 ≤ place) → slice_index image place ≡ slice_index content place)
+    (whole : FillSlots puts) (txn : IsTxn puts) (is_entry : entry_bytes image n ≡ 165 ∷ entry_body puts) (closed-after : EndsAt (n + 1) image) where
   abbrev before_it : List (List ℕ)
   before_it = open_prefix (entries content)
 
@@ -115,19 +115,11 @@ module _ (n : ℕ) (puts : List Put) (content image : List ℕ) (ready : IsReady
   abbrev ends : EndsBefore n content
   ends = EndsBefore-ready n puts content ready free
 
-  from-slots : (place : ℕ) → (place < entry_place n) ⊎ (36864 ≤ place) → slice_index image place ≡ slice_index content place
-  from-slots place out = beside place (⊎_elim (λ below. inl below) (λ from. inr (omega (arith, from, free))) out)
-
   born : IsTrue (is_born image)
   born = born-image n content image ends free size from-slots
 
   redone : redo_entries 0 before_it (file_map image) ≡ stands map-before
   redone = redone-before n content image ends free size from-slots
-
-  -- each later gate is as it was
-  closed-after : ClosedFrom (n + 1) image
-  closed-after k low high =
-      subst (λ (byte : ℕ). IsFalse (opens byte)) (sym (beside (entry_place k) (inr (omega (arith, low))))) (ready.closed k (omega (arith, low)) high)
 
   opened-to : (k : ℕ) → k < n + 1 → IsTrue (is_open (entry_bytes image k))
   opened-to k lt = elim (cases_eq k n) [
@@ -138,7 +130,7 @@ module _ (n : ℕ) (puts : List Put) (content image : List ℕ) (ready : IsReady
   prefix-opened : open_prefix (entries image) ≡ before_it ++ entry ∷ []
   prefix-opened =
       open_prefix-entries image (n + 1) (omega (arith, free)) opened-to
-      (λ lt. subst (λ (byte : ℕ). IsFalse (opens byte)) (sym (gate-entry_bytes image (n + 1))) (closed-after (n + 1) (omega arith) lt))
+      (λ lt. subst (λ (byte : ℕ). IsFalse (opens byte)) (sym (gate-entry_bytes image (n + 1))) (closed-after lt))
       ∙ map-range_with_len_more (entry_bytes image) 0 n n (omega arith)
       ∙ ap (λ (all : List (List ℕ)). all ++ entry_bytes image n ∷ []) (same-before n content image ends free size from-slots)
       ∙ ap (λ (e : List ℕ). before_it ++ e ∷ []) is_entry

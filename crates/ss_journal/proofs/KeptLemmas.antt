@@ -11,8 +11,8 @@ use Rattle.ss_journal.specs.contracts.phase.Phase.{the_type}
 use Rattle.ss_journal.specs.Birth.{Leads}
 use Rattle.ss_journal.specs.Calls.{MakesDurable, ReadsPage, ReadsSlot, Settles}
 use Rattle.ss_journal.specs.Entries.{puts_of}
-use Rattle.ss_journal.specs.Format.{IsCleared, is_born, is_unborn, slot_at, slots_in}
-use Rattle.ss_journal.specs.Gates.{ClosedFrom}
+use Rattle.ss_journal.specs.Format.{IsShut, is_born, is_unborn, slot_at, slots_in}
+use Rattle.ss_journal.specs.Gates.{EndsAt, IsClosed}
 use Rattle.ss_journal.specs.Kept.{IsInPhase, IsKept, IsShown, JournalState}
 use Rattle.ss_journal.specs.Opening.{AreEntries}
 use Rattle.ss_journal.specs.Puts.{extent_after, is_put, slots_fit, with_puts}
@@ -104,19 +104,18 @@ born_formed phase in_use content (inr (inl is)) now = (subst (λ p. IsInPhase p 
 born_formed phase in_use content (inr (inr is)) now = absurd (subst (λ p. IsInPhase p in_use content) is now)
 
 -- a settled journal: the file alone gives the map, and no put waits
-pub IsKept-settled : (extent : ℕ) (waiting : List Put) (staged content : List ℕ) (found : SlotMap) → IsTrue (is_born content) → ClosedFrom 0 content
+pub IsKept-settled : (extent : ℕ) (waiting : List Put) (staged content : List ℕ) (found : SlotMap) → IsTrue (is_born content) → IsClosed 0 content
     → StandsFor content found → found.extent ≡ extent → waiting ≡ [] → staged ≡ []
     → IsKept (record { phase = Settled; extent = extent; in_use = 0; waiting = waiting; sealed = 0; staged = staged }) content
 IsKept-settled extent waiting staged content found born closed is same none sealed =
-    let first = closed 0 (omega arith) (omega arith) in
-    let alone = redo-first_closed content born first in
+    let alone = redo-first_closed content born closed in
     IsKept-sealed _ content sealed (record {
-      phase = (born, closed);
+      phase = (born, λ lt. closed);
       number = ap length (sym alone.2);
       waiting = none ∙ sym alone.1;
       found = file_map content;
       map = alone.0;
-      extent = (file_map-first_closed content found born first is).extent ∙ same;
+      extent = (file_map-first_closed content found born closed is).extent ∙ same;
     })
 
 -- what a settling leaves of the disk and the map, by what stood in the file
@@ -125,7 +124,7 @@ module _ (journal : JournalState) (old new : Told) (kept : IsShown journal old.c
   abbrev settled : JournalState
   settled = record { phase = Settled; extent = journal.extent; in_use = 0; waiting = waiting; sealed = 0; staged = staged }
 
-  pub settled-kept : IsTrue (is_born new.content) → ClosedFrom 0 new.content
+  pub settled-kept : IsTrue (is_born new.content) → IsClosed 0 new.content
       → ((found : SlotMap) → StandsFor old.content found → StandsFor new.content found) → waiting ≡ [] → staged ≡ [] → IsKept settled new.content
   settled-kept born closed map none sealed =
       IsKept-settled journal.extent waiting staged new.content kept.found born closed
@@ -133,7 +132,7 @@ module _ (journal : JournalState) (old new : Told) (kept : IsShown journal old.c
 
   -- it was unformatted
   module _ (unborn : IsTrue (is_unborn old.content)) where
-    pub settles-born : (value done : Unit {0}) → waiting ≡ [] → staged ≡ [] → Durably (Reaches (Leads IsCleared)) (Ok value) old new
+    pub settles-born : (value done : Unit {0}) → waiting ≡ [] → staged ≡ [] → Durably (Reaches (Leads IsShut)) (Ok value) old new
         → Settles settled (Ok done) old new
     settles-born value done none sealed born = record {
       kept = settled-kept born.step.reached.0.0 born.step.reached.0.1 born.step.keeps_map.map none sealed;
@@ -143,7 +142,7 @@ module _ (journal : JournalState) (old new : Told) (kept : IsShown journal old.c
     }
 
     pub settles-unborn : {step : Result (Unit {0}) Failed} (left : JournalState) (result : Result (Unit {0}) Failed) → IsErr result
-        → Durably (Reaches (Leads IsCleared)) step old new → Settles left result old new
+        → Durably (Reaches (Leads IsShut)) step old new → Settles left result old new
     settles-unborn {step} left result is birth = record {
       kept = on_err result _ is;
       keeps_map = keeps-err old new step result is birth.step.keeps_map;
@@ -155,8 +154,8 @@ module _ (journal : JournalState) (old new : Told) (kept : IsShown journal old.c
   pub settles-formed : (value done : Unit {0}) → waiting ≡ [] → staged ≡ [] → IsTrue (is_born old.content) → Clears (Ok value) old new
       → Settles settled (Ok done) old new
   settles-formed value done none sealed formed clears = record {
-    kept = settled-kept clears.cleared.reached.0 clears.cleared.reached.1 clears.cleared.keeps_map.map none sealed;
-    keeps_map = clears.cleared.keeps_map;
+    kept = settled-kept clears.shut.reached.0 clears.shut.reached.1 clears.shut.keeps_map.map none sealed;
+    keeps_map = clears.shut.keeps_map;
     makes_durable = clears.makes_durable;
     rest = λ unborn. absurd (both_ways _ (is_born-unborn old.content unborn) formed);
   }
@@ -220,7 +219,7 @@ module _ (journal : JournalState) (content : List ℕ) (found : SlotMap) (slot :
   unused_bytes (inr past) = ⊎_elim unborn_bytes (λ born. past_bytes born past) (cases_phase journal.phase journal.in_use content kept.phase)
 
 module _ (journal : JournalState) (content : List ℕ) (settled : journal.phase ≡ Settled) (kept : IsShown journal content) where
-  pub formed-settled : IsTrue (is_born content) × ClosedFrom journal.in_use content
+  pub formed-settled : IsTrue (is_born content) × EndsAt journal.in_use content
   formed-settled = subst (λ (phase : Phase). IsInPhase phase journal.in_use content) settled kept.phase
 
   -- puts that fit the extent may be committed
@@ -244,7 +243,7 @@ module _ (journal : JournalState) (content : List ℕ) (settled : journal.phase 
   IsShown-staged puts is new added stands phase after more joins =
       let parts = StandsFor-parts new (changed kept.found puts) stands in
       record {
-        phase = subst (λ (p : Phase). IsInPhase p is.in_use new) (sym phase) (added.born, subst (λ (n : ℕ). ClosedFrom n new) (sym more) added.closed);
+        phase = subst (λ (p : Phase). IsInPhase p is.in_use new) (sym phase) (added.born, subst (λ (n : ℕ). EndsAt n new) (sym more) added.closed);
         number = more ∙ added.number;
         waiting = joins ∙ ap (λ (p : List Put). p ++ puts) kept.waiting ∙ sym added.all;
         found = parts.0;

@@ -1,23 +1,23 @@
 -- When a transaction may be staged for the next entry, and what that entry adds.
 use Rattle.std.specs.Prelude.{◌≡◌, ℕ, ◌+◌, List, ◌++◌, length, IsTrue}
 use Rattle.ss_journal.specs.declared.put.Put.{Put}
-use Rattle.ss_journal.specs.Gates.{ClosedFrom}
+use Rattle.ss_journal.specs.Gates.{EndsAt}
 use Rattle.ss_journal.specs.Format.{is_born}
 use Rattle.ss_journal.specs.Puts.{slots_fit}
 use Rattle.ss_journal.specs.Redo.{SlotMap, stands, redo, entries_in_use, puts_in_use}
 
--- a formatted content with n entries in use, each later gate closed, that stands for a map into which these puts fit
+-- a formatted content with n entries in use, the gate after them closed, that stands for a map into which these puts fit
 pub record IsReadyFor (n : ℕ) (puts : List Put) (content : List ℕ) : Type 0 where
   pub born : IsTrue (is_born content)
-  pub closed : ClosedFrom n content
+  pub closed : EndsAt n content
   pub number : n ≡ length (entries_in_use content)
   pub found : SlotMap
   pub map : redo content ≡ stands found
   pub fit : IsTrue (slots_fit puts found.extent)
 
--- entry n, of these puts, is in use after those before it, and each later gate is closed
+-- entry n, of these puts, is in use after those before it, and the gate after it is closed
 pub record AddsEntry (n : ℕ) (puts : List Put) (old new : List ℕ) : Type 0 where
   pub born : IsTrue (is_born new)
-  pub closed : ClosedFrom (n + 1) new
+  pub closed : EndsAt (n + 1) new
   pub number : n + 1 ≡ length (entries_in_use new)
   pub all : puts_in_use new ≡ puts_in_use old ++ puts

@@ -117,6 +117,33 @@ overwrite-overwrite content first second at mid within there =
     ∙ ap (λ (list : List ℕ). take at content ++ first ++ second ++ list) rest
     ∙ ap (λ (list : List ℕ). list ++ drop (at + length (first ++ second)) content) (append_assoc (take at content) first second)
 
+-- a write over another, which it covers
+overwrite-again : (content first second : List ℕ) (at : ℕ) → at ≤ length content → length first ≤ length second
+    → overwrite (overwrite content at first) at second ≡ overwrite content at second
+overwrite-again content first second at within few =
+    let extra = length second - length first in
+    let kept = drop (at + length first) content in
+    let whole : length first + extra ≡ length second = omega (arith, few) in
+    let front = length-take-le at content within in
+    let all : List ℕ = take at content ++ (first ++ kept) in
+    let rest : drop (at + length second) all ≡ drop (at + length second) content =
+    sym (drop-drop (length second) at all) ∙ ap (drop (length second)) (drop_at (take at content) (first ++ kept) at front)
+    ∙ ap (λ (n : ℕ). drop n (first ++ kept)) (let same : length second ≡ length first + extra = omega (arith, few) in same)
+    ∙ sym (drop-drop extra (length first) (first ++ kept)) ∙ ap (drop extra) (drop_at first kept (length first) refl)
+    ∙ drop-drop extra (at + length first) content
+    ∙ ap (λ (n : ℕ). drop n content) (let same : at + length first + extra ≡ at + length second = omega (arith, few) in same) in
+    ap (λ (list : List ℕ). take at list ++ second ++ drop (at + length second) list) (append_assoc (take at content) first kept)
+    ∙ ap (λ (list : List ℕ). list ++ second ++ drop (at + length second) all) (take_at (take at content) (first ++ kept) at front)
+    ∙ ap (λ (list : List ℕ). take at content ++ second ++ list) rest
+
+-- a write over the end of another, which it covers
+pub overwrite-end : (content first end second : List ℕ) (at mid : ℕ) → at ≤ length content → at + length first ≡ mid → length end ≤ length second
+    → overwrite (overwrite content at (first ++ end)) mid second ≡ overwrite content at (first ++ second)
+overwrite-end content first end second at mid within there few =
+    ap (λ (list : List ℕ). overwrite list mid second) (sym (overwrite-overwrite content first end at mid within there))
+    ∙ overwrite-again (overwrite content at first) end second mid (omega (arith, within, there, length-overwrite content first at within)) few
+    ∙ overwrite-overwrite content first second at mid within there
+
 pub overwrite-zeros : (content now : List ℕ) (at from count : ℕ) → at ≤ length content → at ≤ from
     → now ≡ overwrite content at (replicate (from - at) 0)
     → overwrite now from (replicate count 0) ≡ overwrite content at (replicate (from + count - at) 0)

@@ -1,6 +1,5 @@
 -- Worked images, whole and in parts, and the numbers that are rules.
-use Rattle.std.proofs.Common.{◌≡◌, ℕ, ◌+◌, ◌-◌, ◌*◌, ◌^◌, true, false, List, [], ◌∷◌, ◌++◌, length, map, replicate, Ok, Err, refl}
-use Rattle.std.specs.List.{range_with_len}
+use Rattle.std.proofs.Common.{◌≡◌, ℕ, ◌+◌, ◌*◌, ◌^◌, true, false, List, [], ◌∷◌, ◌++◌, length, map, replicate, Ok, Err, refl}
 use Rattle.ss_fields.specs.Fields as Fields
 use Rattle.ss_outside.specs.Verdict.{fine, refused, no_memory, failed}
 use Rattle.ss_journal.specs.declared.format.TheConstants.{GATE_OPEN, MAGIC_END, ENTRIES, ENTRY_SIZE, FIRST_ENTRY, MOST_PUTS, PUT_SIZE, MOST_WAITING, SLOT_SIZE}
@@ -9,8 +8,7 @@ use Rattle.ss_journal.specs.Calls.{entries_after, slot_in_page, verdict_of_open}
 use Rattle.ss_journal.specs.declared.journal_error.JournalError.{JournalError}
 use Rattle.ss_journal.specs.declared.journal_error.JournalError.TheVariants.{Disk, NotAStore, BadEntry, OutOfMemory}
 use Rattle.ss_journal.specs.Format.{magic, is_unborn, is_born, slots_in}
-use Rattle.ss_journal.specs.Gates.{entry_place, other_gates}
-use Rattle.ss_journal.specs.Kept.{with_entries}
+use Rattle.ss_journal.specs.Kept.{gate_behind, with_entries}
 use Rattle.ss_journal.specs.Entries.{puts_of, is_good, open_prefix, entries, entry_body}
 use Rattle.ss_journal.specs.Redo.{SlotMap, Redone, stands, bad_entry, not_a_store, redo_entries, redo, changed, zeros, entries_in_use}
 
@@ -51,12 +49,19 @@ slots_in-short = refl
 pub slots_in-most : slots_in (134254592 + 1000) ≡ 1048576
 slots_in-most = refl
 
--- what is staged stands from its entry on, and where nothing is the content stays
+-- what is staged stands from its entry on, with a closed gate behind it, and where nothing is the content stays
 pub with_entries-none : with_entries 1 [] (1 ∷ 2 ∷ []) ≡ 1 ∷ 2 ∷ []
 with_entries-none = refl
 
-pub with_entries-one : with_entries 1 (165 ∷ 7 ∷ []) (replicate 1060 0) ≡ replicate 1056 0 ++ 165 ∷ 7 ∷ 0 ∷ 0 ∷ []
+pub with_entries-one : with_entries 1 (165 ∷ 7 ∷ []) (replicate 1060 165) ≡ replicate 1056 165 ++ 165 ∷ 7 ∷ 0 ∷ 165 ∷ []
 with_entries-one = refl
+
+-- the gate of the last entry may be closed, and behind it there is none
+pub gate_behind-last : gate_behind (544 * 63) ≡ 0 ∷ []
+gate_behind-last = refl
+
+pub gate_behind-none : gate_behind (544 * 64) ≡ []
+gate_behind-none = refl
 
 -- an entry of one put: 128 times this byte into this slot
 abbrev pub one_put : ℕ → ℕ → List ℕ
@@ -170,10 +175,6 @@ the_put_size = refl
 
 pub the_most_waiting : MOST_WAITING ≡ ENTRIES * MOST_PUTS
 the_most_waiting = refl
-
--- the gates of all entries but the first
-pub the_other_gates : other_gates ≡ map (λ n. (entry_place n, 1)) (range_with_len 1 (ENTRIES - 1))
-the_other_gates = refl
 
 pub the_slot_size : SLOT_SIZE ≡ 128
 the_slot_size = refl

@@ -6,7 +6,7 @@ use Rattle.ss_outside.proofs.CrashLemmas.{joined, weaker}
 use Rattle.ss_outside.specs.Disk.{Told}
 use Rattle.ss_outside.specs.declared.source.Failed.{Failed}
 use Rattle.ss_journal.specs.Calls.{Commits, KeepsMap, KeepsShown, MakesRoom, Seals, Stages}
-use Rattle.ss_journal.specs.Format.{IsCleared}
+use Rattle.ss_journal.specs.Format.{IsShut}
 use Rattle.ss_journal.specs.Kept.{IsSealed, JournalState, shown}
 use Rattle.ss_journal.specs.Redo.{SlotMap, StandsFor, changed}
 use Rattle.ss_journal.specs.Steps.{Reaches}
@@ -41,7 +41,7 @@ Seals-as {was} {then} {journal} {result} {old} {new} same = subst (λ (j : Journ
 
 -- all that is staged is sealed, and then the entries come into their slots
 pub room-made : (was mid : JournalState) (old between new : Told) (value cleared done : Unit {0}) (waiting : List Put) → Seals was mid (Ok value) old between
-    → IsSealed mid → waiting ≡ [] → Reaches (λ _ content. IsCleared content) (Ok cleared) between new
+    → IsSealed mid → waiting ≡ [] → Reaches (λ _ content. IsShut content) (Ok cleared) between new
     → MakesRoom was (record { phase = Settled; extent = mid.extent; in_use = 0; waiting = waiting; sealed = 0; staged = mid.staged }) (Ok done) old new
 room-made was mid old between new value cleared done waiting seals sealed none reaches = record {
   kept = settled-kept mid between new (IsShown-sealed mid between.content sealed seals.kept) waiting mid.staged reaches.reached.0 reaches.reached.1
@@ -53,7 +53,7 @@ room-made was mid old between new value cleared done waiting seals sealed none r
 -- the same where the entries didn't come there
 pub room-uncleared : {step : Result (Unit {0}) Failed} (was mid left : JournalState) (old between new : Told) (value : Unit {0})
     (result : Result (Unit {0}) Failed) → IsErr result → Seals was mid (Ok value) old between → IsSealed mid
-    → Reaches (λ _ content. IsCleared content) step between new → MakesRoom was left result old new
+    → Reaches (λ _ content. IsShut content) step between new → MakesRoom was left result old new
 room-uncleared {step} was mid left old between new value result failed seals sealed reaches =
     let keeps = shown-joined was mid mid old between new value step sealed sealed seals.keeps_shown reaches.keeps_map in
     record {

@@ -1,15 +1,45 @@
 -- What a journal shows: the content with the entries that are staged.
-use Rattle.std.proofs.Common.{IsTrue, List, [], ap, arith, drop, inl, inr, length, refl, subst, sym, ℕ, ◌++◌, ◌+◌, ◌*◌, ◌<◌}
-use Rattle.std.proofs.Common.{◌∷◌, ◌≡◌, ◌≤◌, ◌⊎◌}
+use Rattle.std.proofs.Common.{IsTrue, List, [], ap, arith, drop, inl, inr, length, nat_lt, refl, subst, sym, ℕ, ◌++◌, ◌+◌, ◌*◌, ◌<◌}
+use Rattle.std.proofs.Common.{◌∙◌, ◌∷◌, ◌≡◌, ◌≤◌, ◌⊎◌}
+use Rattle.std.proofs.lemmas.Bool.{cases_Bool, cases_lt, cond-false, cond-true, le-ltb, lt-ltb}
+use Rattle.std.proofs.lemmas.List.{append_assoc, length-append}
 use Rattle.std.specs.Prelude.{slice_index}
 use Rattle.ss_outside.proofs.DiskLemmas.{get_or-overwrite_outside, length-overwrite}
 use Rattle.ss_outside.specs.Disk.{overwrite}
 use Rattle.ss_journal.specs.Format.{is_born, slot_at, slot_place, slots_in}
 use Rattle.ss_journal.specs.Gates.{entry_place}
-use Rattle.ss_journal.specs.Kept.{BeginsOpen, EndsBefore, IfStaged, IsBounded, IsKept, IsSealed, IsShown, JournalState, shown, with_entries}
+use Rattle.ss_journal.specs.Kept.{BeginsOpen, EndsBefore, IfStaged, IsBounded, IsKept, IsSealed, IsShown, JournalState, closed_behind, gate_behind, shown, with_entries}
 use Rattle.ss_journal.proofs.HeaderLemmas.{is_born-parts, piece-same}
 use Rattle.ss_journal.proofs.MapLemmas.{slot_within}
-use Rattle.ss_journal.proofs.RangeLemmas.{overwrite-overwrite}
+use Rattle.ss_journal.proofs.RangeLemmas.{overwrite-end}
+
+-- a closed gate has a place among the entries
+pub gate_behind-fits : (end : ℕ) → end ≤ 544 * 64 → end + length (gate_behind end) ≤ 544 * 64
+gate_behind-fits end few = elim (cases_lt end (544 * 64)) [
+  | inl lt ↦
+      let one : length (gate_behind end) ≡ 1 = ap (λ (list : List ℕ). length list) (cond-true (nat_lt end (544 * 64)) (0 ∷ []) [] (lt-ltb end (544 * 64) lt)) in
+      omega (arith, one, lt)
+  | inr past ↦
+      let none : length (gate_behind end) ≡ 0 = ap (λ (list : List ℕ). length list) (cond-false (nat_lt end (544 * 64)) (0 ∷ []) [] (le-ltb end (544 * 64) past)) in
+      omega (arith, none, few)
+]
+
+gate_behind-few : (end : ℕ) → length (gate_behind end) ≤ 1
+gate_behind-few end = elim (cases_Bool (nat_lt end (544 * 64))) [
+  | inl before ↦ let one = ap (λ (list : List ℕ). length list) (cond-true (nat_lt end (544 * 64)) (0 ∷ []) [] before) in omega (arith, one)
+  | inr past ↦ let none = ap (λ (list : List ℕ). length list) (cond-false (nat_lt end (544 * 64)) (0 ∷ []) [] past) in omega (arith, none)
+]
+
+pub closed_behind-fits : (n : ℕ) (bytes : List ℕ) → 544 * n + length bytes ≤ 544 * 64 → 544 * n + length (closed_behind n bytes) ≤ 544 * 64
+closed_behind-fits n bytes few =
+    omega (arith, gate_behind-fits (544 * n + length bytes) few, length-append bytes (gate_behind (544 * n + length bytes)))
+
+-- entries one after the other, and the gate behind them
+closed_behind-append : (n next : ℕ) (bytes entry : List ℕ) → 544 * n + length bytes ≡ 544 * next
+    → closed_behind n (bytes ++ entry) ≡ bytes ++ closed_behind next entry
+closed_behind-append n next bytes entry there =
+    let same : 544 * n + length (bytes ++ entry) ≡ 544 * next + length entry = omega (arith, there, length-append bytes entry) in
+    ap (λ (end : ℕ). (bytes ++ entry) ++ gate_behind end) same ∙ append_assoc bytes entry (gate_behind (544 * next + length entry))
 
 -- entries come before the slots, and leave the length
 module _ (n : ℕ) where
@@ -17,15 +47,22 @@ module _ (n : ℕ) where
       → length (with_entries n bytes content) ≡ length content
   length-with_entries [] content long few = refl
   length-with_entries (gate ∷ bytes) content long few =
-      omega (arith, long, few, length-overwrite content (gate ∷ bytes) (entry_place n) (omega (arith, long, few)))
+      omega (
+        arith,
+        long,
+        few,
+        closed_behind-fits n (gate ∷ bytes) few,
+        length-overwrite content (closed_behind n (gate ∷ bytes)) (entry_place n) (omega (arith, long, few)),
+      )
 
   pub beside-with_entries : (bytes content : List ℕ) → 36864 ≤ length content → 544 * n + length bytes ≤ 544 * 64 → (place : ℕ)
       → (place < entry_place n) ⊎ (36864 ≤ place) → slice_index (with_entries n bytes content) place ≡ slice_index content place
   beside-with_entries [] content long few place out = refl
   beside-with_entries (gate ∷ bytes) content long few place (inl below) =
-      get_or-overwrite_outside content (gate ∷ bytes) (entry_place n) (omega (arith, long, few)) place (inl below)
+      get_or-overwrite_outside content (closed_behind n (gate ∷ bytes)) (entry_place n) (omega (arith, long, few)) place (inl below)
   beside-with_entries (gate ∷ bytes) content long few place (inr from) =
-      get_or-overwrite_outside content (gate ∷ bytes) (entry_place n) (omega (arith, long, few)) place (inr (omega (arith, from, few)))
+      get_or-overwrite_outside content (closed_behind n (gate ∷ bytes)) (entry_place n) (omega (arith, long, few)) place
+      (inr (omega (arith, from, closed_behind-fits n (gate ∷ bytes) few)))
 
   -- a formatted content shows a formatted one
   pub born-with_entries : (bytes content : List ℕ) → IfStaged bytes (EndsBefore n content) → IsTrue (is_born (with_entries n bytes content))
@@ -35,12 +72,15 @@ module _ (n : ℕ) where
 
   -- one entry more is written after them
   pub with_entries-more : (next gate : ℕ) (bytes entry content : List ℕ) → entry_place n ≤ length content → 544 * n + length bytes ≡ 544 * next
-      → with_entries n (bytes ++ gate ∷ entry) content ≡ overwrite (with_entries n bytes content) (entry_place next) (gate ∷ entry)
+      → with_entries n (bytes ++ gate ∷ entry) content ≡ overwrite (with_entries n bytes content) (entry_place next) (closed_behind next (gate ∷ entry))
   with_entries-more next gate [] entry content within there =
       let same : n ≡ next = omega (arith, there) in
-      ap (λ (k : ℕ). overwrite content (entry_place k) (gate ∷ entry)) same
+      ap (λ (k : ℕ). overwrite content (entry_place k) (closed_behind k (gate ∷ entry))) same
   with_entries-more next gate (first ∷ bytes) entry content within there =
-      sym (overwrite-overwrite content (first ∷ bytes) (gate ∷ entry) (entry_place n) (entry_place next) within (omega (arith, there)))
+      let end = gate_behind (544 * n + length (first ∷ bytes)) in
+      ap (overwrite content (entry_place n)) (closed_behind-append n next (first ∷ bytes) (gate ∷ entry) there)
+      ∙ sym (overwrite-end content (first ∷ bytes) end (closed_behind next (gate ∷ entry)) (entry_place n) (entry_place next) within (omega (arith, there))
+      (omega (arith, gate_behind-few (544 * n + length (first ∷ bytes)))))
 
   -- where the next entry is free the content ends before the staged ones
   pub EndsBefore-staged : (next : ℕ) (bytes content : List ℕ) → 544 * n + length bytes ≡ 544 * next → IfStaged bytes (EndsBefore n content)
@@ -59,7 +99,8 @@ IfStaged-some [] some is = absurd (omega (arith, some))
 IfStaged-some (gate ∷ bytes) some is = is
 
 -- what is staged is written from its entry on
-pub with_entries-some : (n : ℕ) (bytes content : List ℕ) → 0 < length bytes → with_entries n bytes content ≡ overwrite content (entry_place n) bytes
+pub with_entries-some : (n : ℕ) (bytes content : List ℕ) → 0 < length bytes
+    → with_entries n bytes content ≡ overwrite content (entry_place n) (closed_behind n bytes)
 with_entries-some n [] content some = absurd (omega (arith, some))
 with_entries-some n (gate ∷ bytes) content some = refl
 

@@ -1,15 +1,17 @@
 -- A transaction is staged: its entry follows those that are staged, and what the journal shows has its puts.
-use Rattle.std.proofs.Common.{IsTrue, List, ap, arith, inl, inr, length, subst, sym, ℕ, ◌++◌, ◌+◌, ◌<◌, ◌∙◌, ◌∷◌, ◌≡◌, ◌≤◌, ◌⊎◌}
+use Rattle.std.proofs.Common.{IsFalse, IsTrue, List, [], ap, arith, inl, inr, length, nat_lt, refl, subst, sym, ℕ, ◌++◌, ◌+◌, ◌*◌, ◌<◌, ◌∙◌, ◌∷◌, ◌≡◌, ◌≤◌, ◌⊎◌}
+use Rattle.std.proofs.Math.Seq.{get_or-append_seam}
+use Rattle.std.proofs.lemmas.Bool.{cond-true, lt-ltb}
 use Rattle.std.proofs.lemmas.List.{length-append}
 use Rattle.std.specs.Prelude.{slice_index}
-use Rattle.ss_outside.proofs.DiskLemmas.{get_or-overwrite_outside, length-overwrite}
+use Rattle.ss_outside.proofs.DiskLemmas.{get_or-overwrite_inside, get_or-overwrite_outside, length-overwrite}
 use Rattle.ss_outside.specs.Disk.{overwrite}
 use Rattle.ss_journal.specs.Calls.{Stages}
 use Rattle.ss_journal.proofs.NextEntry.{AddsEntry, IsReadyFor}
 use Rattle.ss_journal.specs.Entries.{entry_body}
 use Rattle.ss_journal.specs.Format.{entry_bytes}
-use Rattle.ss_journal.specs.Gates.{entry_place}
-use Rattle.ss_journal.specs.Kept.{BeginsOpen, EndsBefore, IsBounded, IsKept, IsSettled, JournalState, shown, with_entries}
+use Rattle.ss_journal.specs.Gates.{EndsAt, entry_place, opens}
+use Rattle.ss_journal.specs.Kept.{BeginsOpen, EndsBefore, IsBounded, IsKept, IsSettled, JournalState, closed_behind, gate_behind, shown, with_entries}
 use Rattle.ss_journal.specs.Puts.{FillSlots, IsTxn, extent_after, slots_fit}
 use Rattle.ss_journal.specs.Redo.{SlotMap, StandsFor, changed}
 use Rattle.ss_journal.specs.declared.phase.Phase.TheVariants.{Settled}
@@ -19,12 +21,15 @@ use Rattle.ss_journal.proofs.EntryLemmas.{length-entry_body}
 use Rattle.ss_journal.proofs.HeaderLemmas.{is_born-parts}
 use Rattle.ss_journal.proofs.KeptLemmas.{IsReadyFor-settled, IsShown-staged, StandsFor-kept}
 use Rattle.ss_journal.proofs.PutLemmas.{extent_after-most, waiting-below}
-use Rattle.ss_journal.proofs.ShownLemmas.{BeginsOpen-more, EndsBefore-staged, IfStaged-from, with_entries-more}
+use Rattle.ss_journal.proofs.ShownLemmas.{BeginsOpen-more, EndsBefore-staged, IfStaged-from, closed_behind-fits, with_entries-more}
 
 -- an entry that is written over a content with room for it
 module _ (n : ℕ) (puts : List Put) (content : List ℕ) (ready : IsReadyFor n puts content) (free : n < 64) (whole : FillSlots puts) (txn : IsTxn puts) where
+  abbrev written : List ℕ
+  written = closed_behind n (165 ∷ entry_body puts)
+
   abbrev image : List ℕ
-  image = overwrite content (entry_place n) (165 ∷ entry_body puts)
+  image = overwrite content (entry_place n) written
 
   long : 36864 ≤ length content
   long = (is_born-parts content ready.born).0
@@ -35,21 +40,38 @@ module _ (n : ℕ) (puts : List Put) (content : List ℕ) (ready : IsReadyFor n 
   size-body : length (entry_body puts) ≡ 543
   size-body = length-entry_body puts whole txn.few
 
-  size : length image ≡ length content
-  size = omega (arith, long, free, size-body, length-overwrite content (165 ∷ entry_body puts) (entry_place n) within)
+  fits : 544 * n + length written ≤ 544 * 64
+  fits = closed_behind-fits n (165 ∷ entry_body puts) (omega (arith, free, size-body))
 
-  beside : (place : ℕ) → (place < entry_place n) ⊎ (entry_place (n + 1) ≤ place) → slice_index image place ≡ slice_index content place
-  beside place (inl below) = get_or-overwrite_outside content (165 ∷ entry_body puts) (entry_place n) within place (inl below)
-  beside place (inr from) = get_or-overwrite_outside content (165 ∷ entry_body puts) (entry_place n) within place (inr (omega (arith, from, size-body)))
+  size : length image ≡ length content
+  size = omega (arith, long, fits, length-overwrite content written (entry_place n) within)
+
+  beside : (place : ℕ) → (place < entry_place n) ⊎ (36864 ≤ place) → slice_index image place ≡ slice_index content place
+  beside place (inl below) = get_or-overwrite_outside content written (entry_place n) within place (inl below)
+  beside place (inr from) = get_or-overwrite_outside content written (entry_place n) within place (inr (omega (arith, from, fits)))
 
   is_entry : entry_bytes image n ≡ 165 ∷ entry_body puts
-  is_entry = entry-overwrite n content (165 ∷ entry_body puts) within (omega (arith, size-body))
+  is_entry = entry-overwrite n content (165 ∷ entry_body puts) (gate_behind (544 * n + length (165 ∷ entry_body puts))) within (omega (arith, size-body))
+
+  -- the gate behind it is closed
+  closed-after : EndsAt (n + 1) image
+  closed-after lt =
+      let end = 544 * n + length (165 ∷ entry_body puts) in
+      let before : end < 544 * 64 = omega (arith, lt, size-body) in
+      let one : gate_behind end ≡ 0 ∷ [] = cond-true (nat_lt end (544 * 64)) (0 ∷ []) [] (lt-ltb end (544 * 64) before) in
+      let all : written ≡ 165 ∷ entry_body puts ++ 0 ∷ [] = ap (λ (list : List ℕ). 165 ∷ entry_body puts ++ list) one in
+      let there : entry_place n + length (165 ∷ entry_body puts) ≡ entry_place (n + 1) = omega (arith, size-body) in
+      let inside : length (165 ∷ entry_body puts) < length written = omega (arith, ap length all, length-append (165 ∷ entry_body puts) (0 ∷ [])) in
+      let byte : slice_index image (entry_place (n + 1)) ≡ 0 =
+      ap (slice_index image) (sym there) ∙ get_or-overwrite_inside content written (entry_place n) within (length (165 ∷ entry_body puts)) inside
+      ∙ ap (λ (list : List ℕ). slice_index list (length (165 ∷ entry_body puts))) all ∙ get_or-append_seam (165 ∷ entry_body puts) 0 [] 0 in
+      subst (λ (b : ℕ). IsFalse (opens b)) (sym byte) refl
 
   pub AddsEntry-written : AddsEntry n puts content image
-  AddsEntry-written = AddsEntry-opened n puts content image ready free size beside whole txn is_entry
+  AddsEntry-written = AddsEntry-opened n puts content image ready free size beside whole txn is_entry closed-after
 
   pub StandsFor-written : (found : SlotMap) → StandsFor content found → StandsFor image (changed found puts)
-  StandsFor-written = StandsFor-opened n puts content image ready free size beside whole txn is_entry
+  StandsFor-written = StandsFor-opened n puts content image ready free size beside whole txn is_entry closed-after
 
 -- what staging makes of a journal
 pub record IsStaged (puts : List Put) (was then : JournalState) : Type 0 where
@@ -89,19 +111,19 @@ module _ (was then : JournalState) (puts : List Put) (bounded : IsBounded was) (
     within-sealed : entry_place was.sealed ≤ length content
     within-sealed = omega (arith, (is_born-parts content ends.born).0, bounded.staged, free)
 
-    written : shown then content ≡ overwrite (shown was content) (entry_place was.in_use) (165 ∷ entry_body puts)
-    written =
+    more : shown then content ≡ overwrite (shown was content) (entry_place was.in_use) (closed_behind was.in_use (165 ∷ entry_body puts))
+    more =
         ap (λ (n : ℕ). with_entries n then.staged content) is.sealed ∙ ap (λ (bytes : List ℕ). with_entries was.sealed bytes content) is.staged
         ∙ with_entries-more was.sealed was.in_use 165 was.staged (entry_body puts) content within-sealed bounded.staged
 
     pub StandsFor-staged : (found : SlotMap) → StandsFor (shown was content) found → StandsFor (shown then content) (changed found puts)
-    StandsFor-staged found stands = subst (λ (list : List ℕ). StandsFor list (changed found puts)) (sym written)
+    StandsFor-staged found stands = subst (λ (list : List ℕ). StandsFor list (changed found puts)) (sym more)
         (StandsFor-written was.in_use puts (shown was content) ready free whole txn found stands)
 
     pub IsKept-staged : IsKept then content
     IsKept-staged = record {
       shown = IsShown-staged was (shown was content) settled kept.shown puts then (shown then content)
-          (subst (AddsEntry was.in_use puts (shown was content)) (sym written)
+          (subst (AddsEntry was.in_use puts (shown was content)) (sym more)
           (AddsEntry-written was.in_use puts (shown was content) ready free whole txn))
           (StandsFor-staged kept.shown.found (StandsFor-kept was (shown was content) settled kept.shown)) is.phase is.extent is.in_use is.waiting;
       before = IfStaged-from then.staged (subst (λ (n : ℕ). EndsBefore n content) (sym is.sealed) ends);

@@ -2,7 +2,7 @@
 use Rattle.std.specs.Prelude.{ℕ, ◌+◌, ◌-◌, ◌*◌, ◌/◌, min, Bool, not, ◌&&◌, ◌||◌, ◌==◌, nat_eq, nat_le, List, [], ◌∷◌, length, take, drop, slice_index, IsTrue}
 use Rattle.std.specs.List.{starts_with}
 use Rattle.ss_journal.specs.declared.format.TheConstants.{ENTRY_SIZE, FIRST_SLOT, SLOT_SIZE, MOST_SLOTS}
-use Rattle.ss_journal.specs.Gates.{opens, entry_place, IsClosed, ClosedFrom}
+use Rattle.ss_journal.specs.Gates.{opens, entry_place, IsClosed}
 
 -- SSTORE01
 abbrev pub magic : List ℕ
@@ -24,10 +24,6 @@ is_born image = nat_le FIRST_SLOT (length image) && opens (slice_index image 0) 
 -- a formatted file with the first gate closed: none of its entries is in use
 abbrev pub IsShut : List ℕ → Type 0
 IsShut content = IsTrue (is_born content) × IsClosed 0 content
-
--- a formatted file with each gate closed
-abbrev pub IsCleared : List ℕ → Type 0
-IsCleared content = IsTrue (is_born content) × ClosedFrom 0 content
 
 -- where a slot begins
 abbrev pub slot_place : ℕ → ℕ

@@ -1,5 +1,5 @@
 -- A journal and the content of its disk.
-use Rattle.std.specs.Prelude.{◌≡◌, ◌≢◌, ℕ, ◌+◌, ◌*◌, ◌<◌, ◌≤◌, List, [], ◌∷◌, length, IsTrue, All, Result, Ok, Err, ⊤}
+use Rattle.std.specs.Prelude.{◌≡◌, ◌≢◌, ℕ, ◌+◌, ◌*◌, ◌<◌, ◌≤◌, nat_lt, if◌then◌else◌, List, [], ◌∷◌, ◌++◌, length, IsTrue, All, Result, Ok, Err, ⊤}
 use Rattle.ss_outside.specs.Disk.{overwrite}
 use Rattle.ss_journal.specs.declared.put.Put.{Put}
 use Rattle.ss_journal.specs.declared.format.TheConstants.{ENTRIES, ENTRY_SIZE, GATE_OPEN, MOST_PUTS, MOST_SLOTS}
@@ -7,7 +7,7 @@ use Rattle.ss_journal.specs.declared.phase.Phase.{Phase}
 use Rattle.ss_journal.specs.declared.phase.Phase.TheVariants.{Unborn, Born, Settled, Stopped}
 use Rattle.ss_journal.specs.declared.journal_error.JournalError.{JournalError}
 use Rattle.ss_journal.specs.declared.journal_error.JournalError.TheVariants.{Disk, NotAStore, BadEntry, OutOfMemory}
-use Rattle.ss_journal.specs.Gates.{ClosedFrom, IsClosed, entry_place}
+use Rattle.ss_journal.specs.Gates.{EndsAt, IsClosed, entry_place}
 use Rattle.ss_journal.specs.Format.{is_unborn, is_born}
 use Rattle.ss_journal.specs.Redo.{SlotMap, not_a_store, bad_entry, stands, redo, entries_in_use, puts_in_use}
 
@@ -45,7 +45,7 @@ IsRunning journal = journal.phase ≢ Stopped
 abbrev pub HasStopped : JournalState → Type 0
 HasStopped journal = journal.phase ≡ Stopped
 
--- the file is formatted, and each gate after the entries in use is closed
+-- the file is formatted, and the gate after the entries in use is closed
 abbrev pub IsSettled : JournalState → Type 0
 IsSettled journal = journal.phase ≡ Settled
 
@@ -53,24 +53,32 @@ IsSettled journal = journal.phase ≡ Settled
 abbrev pub IsInPhase : Phase → ℕ → List ℕ → Type 0
 IsInPhase Unborn in_use content = IsTrue (is_unborn content)
 IsInPhase Born in_use content = IsTrue (is_born content)
-IsInPhase Settled in_use content = IsTrue (is_born content) × ClosedFrom in_use content
+IsInPhase Settled in_use content = IsTrue (is_born content) × EndsAt in_use content
 IsInPhase Stopped in_use content = ⊥
 
 -- nothing is staged
 abbrev pub IsSealed : JournalState → Type 0
 IsSealed journal = journal.staged ≡ []
 
--- the content with these bytes from entry n on
+-- the closed gate of the entry that begins so many bytes after the first, where there is one
+abbrev pub gate_behind : ℕ → List ℕ
+gate_behind end = if nat_lt end (ENTRY_SIZE * ENTRIES) then 0 ∷ [] else []
+
+-- bytes of entries from entry n on, and the closed gate behind them
+abbrev pub closed_behind : ℕ → List ℕ → List ℕ
+closed_behind n bytes = bytes ++ gate_behind (ENTRY_SIZE * n + length bytes)
+
+-- the content with these entries from entry n on, which are the last
 abbrev pub with_entries : ℕ → List ℕ → List ℕ → List ℕ
 with_entries n [] content = content
-with_entries n (gate ∷ bytes) content = overwrite content (entry_place n) (gate ∷ bytes)
+with_entries n (gate ∷ bytes) content = overwrite content (entry_place n) (closed_behind n (gate ∷ bytes))
 
 -- what a journal shows over a content: the content with the entries that are staged
 abbrev pub shown : JournalState → List ℕ → List ℕ
 shown journal content = with_entries journal.sealed journal.staged content
 
 -- One disk: what the journal shows over the content is as it keeps it. The entries in use are those that the journal keeps, and
--- once settled each gate after them is closed.
+-- once settled the gate after them is closed.
 pub record IsShown (journal : JournalState) (content : List ℕ) : Type 0 where
   pub phase : IsInPhase journal.phase journal.in_use content
   pub number : journal.in_use ≡ length (entries_in_use content)

@@ -1,13 +1,13 @@
 -- What a step of a call leaves of the disk, and of the map.
-use Rattle.std.specs.Prelude.{◌≡◌, ◌⊎◌, ℕ, List, [], ◌∷◌, length, replicate, Bool, Result, OnOk}
+use Rattle.std.specs.Prelude.{◌≡◌, ◌⊎◌, ℕ, List, [], ◌∷◌, length, replicate, Result, OnOk}
 use Rattle.ss_outside.specs.Crash.{LeavesOnly, OnlyReads}
 use Rattle.ss_outside.specs.Disk.{Told, NothingPending, overwrite}
 use Rattle.ss_outside.specs.declared.source.Failed.{Failed}
 use Rattle.ss_journal.specs.declared.put.Put.{Put}
 use Rattle.ss_journal.specs.Birth.{magic_bytes}
 use Rattle.ss_journal.specs.Calls.{KeepsMap, MakesDurable}
-use Rattle.ss_journal.specs.Format.{IsCleared}
-use Rattle.ss_journal.specs.Gates.{ClosesGate, entry_place}
+use Rattle.ss_journal.specs.Format.{IsShut}
+use Rattle.ss_journal.specs.Gates.{entry_place}
 use Rattle.ss_journal.specs.Redo.{SlotMap, StandsFor}
 use Rattle.ss_journal.specs.Writes.{Tears, slot_ranges, slots_written}
 
@@ -47,14 +47,9 @@ pub record Durably (R : Result Unit Failed → Told → Told → Type 0) (result
   pub step : R result old new
   pub durable : OnOk result (NothingPending new)
 
--- The gate of an entry is closed, which a crash may tear, if it was open.
-pub record Shuts (n : ℕ) (result : Result Bool Failed) (old new : Told) : Type 0 where
-  pub gate : ClosesGate n old new result
-  pub tears : Tears ((entry_place n, 1) ∷ []) old new
-
 -- What is pending is made durable, and then no entry of the formatted file is in use.
 pub record Clears (result : Result Unit Failed) (old new : Told) : Type 0 where
-  pub cleared : Reaches (λ _ content. IsCleared content) result old new
+  pub shut : Reaches (λ _ content. IsShut content) result old new
   pub makes_durable : MakesDurable old new result
 
 -- Entries come into the file from entry n on, all or none: with nothing pending before, a crash at any moment leaves the map from

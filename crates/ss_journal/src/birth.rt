@@ -4,7 +4,7 @@ ghost use Rattle.ss_outside.specs.Disk.{OfContent};
 ghost use Rattle.ss_outside.specs.Step.{Step};
 ghost use Rattle.ss_outside.specs.Verdict.{verdict};
 ghost use Rattle.ss_journal.specs.Birth.{IsBegun, IsFormed, Leads};
-ghost use Rattle.ss_journal.specs.Format.{is_unborn, IsCleared};
+ghost use Rattle.ss_journal.specs.Format.{is_unborn, IsShut};
 ghost use Rattle.ss_journal.specs.Steps.{Durably, Marks, Reaches};
 
 use crate::format::{FILE_END, FIRST_SLOT, GATE_OPEN, MAGIC, MAGIC_END};
@@ -47,7 +47,7 @@ fn form<D: Disk>(disk: &mut D) -> Result<(), Failed>
 // Opens the birth gate of a formatted file.
 fn open_gate<D: Disk>(disk: &mut D) -> Result<(), Failed>
     requires formed { OfContent (D.seen disk.old) IsFormed }
-    ensures { Step (verdict result) (D.seen disk.old) (D.seen disk.new) (Durably (Reaches (Leads IsCleared)) result) }
+    ensures { Step (verdict result) (D.seen disk.old) (D.seen disk.new) (Durably (Reaches (Leads IsShut)) result) }
 {
     write_through(disk, 0, &[GATE_OPEN])
 }
@@ -55,7 +55,7 @@ fn open_gate<D: Disk>(disk: &mut D) -> Result<(), Failed>
 // Formats an unborn file. Every slot is zeros before and after. What lies after the last slot that a file can have stays.
 pub fn give_birth<D: Disk>(disk: &mut D) -> Result<(), Failed>
     requires unborn { OfContent (D.seen disk.old) (λ content. IsTrue (is_unborn content)) }
-    ensures { Step (verdict result) (D.seen disk.old) (D.seen disk.new) (Durably (Reaches (Leads IsCleared)) result) }
+    ensures { Step (verdict result) (D.seen disk.old) (D.seen disk.new) (Durably (Reaches (Leads IsShut)) result) }
 {
     begin(disk)?;
     form(disk)?;

@@ -95,7 +95,7 @@ impl Journal {
     }
 
     /// Formats a file that isn't formatted. Of a formatted one it makes durable what is pending, by a sync, and then brings the
-    /// entries in use into their slots and closes their gates. It leaves the map as it is, also in a crash.
+    /// entries in use into their slots and closes the first gate. It leaves the map as it is, also in a crash.
     pub fn settle<D: Disk>(&mut self, disk: &mut D) -> Result<(), Failed>
         requires running { IsRunning self.old }
         requires sealed { IsSealed self.old }
@@ -173,7 +173,7 @@ impl Journal {
         }
     }
 
-    /// Where every entry is in use, seals those that are staged, brings all into their slots and closes their gates. It leaves the
+    /// Where every entry is in use, seals those that are staged, brings all into their slots and closes the first gate. It leaves the
     /// map that the journal shows as it is; a crash leaves that one or the map from before the staged transactions.
     pub fn make_room<D: Disk>(&mut self, disk: &mut D) -> Result<(), Failed>
         requires settled { IsSettled self.old }
@@ -230,9 +230,13 @@ impl Journal {
             return Ok(());
         }
         self.phase = Phase::Stopped;
-        add_entries(disk, self.sealed, self.staged.as_slice())?;
+        if self.in_use < ENTRIES {
+            self.staged.add(&[0]);
+        }
+        let added = add_entries(disk, self.sealed, self.staged.as_slice());
         self.staged.clear();
         self.sealed = self.in_use;
+        added?;
         self.phase = Phase::Settled;
         Ok(())
     }

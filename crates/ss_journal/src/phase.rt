@@ -7,7 +7,7 @@ pub enum Phase {
     Unborn,
     // The file is formatted, and its gates may be open.
     Born,
-    // The file is formatted, and each gate after the entries in use is closed.
+    // The file is formatted, and the gate after the entries in use is closed. Later ones may be open.
     Settled,
     // A call has failed. There is no further call.
     Stopped,

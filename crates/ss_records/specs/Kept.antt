@@ -24,7 +24,7 @@ pub record AreKept (records : RecordsState) (content : List ℕ) : Type 0 where
   pub free : (found : SlotMap) → StandsFor (shown_by records content) found → AreLiveIn records.live found.bytes
   pub cached : (found : SlotMap) → StandsFor (shown_by records content) found → ArePages records.cached found.bytes
 
--- the file is formatted, each gate after the entries in use is closed, and nothing is staged
+-- the file is formatted, the gate after the entries in use is closed, and nothing is staged
 abbrev pub AreAtRest : RecordsState → Type 0
 AreAtRest records = IsSettled records.journal × IsSealed records.journal
 

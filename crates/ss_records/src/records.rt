@@ -99,7 +99,7 @@ impl Records {
         self.live.least_outside()
     }
 
-    /// Formats a file that isn't formatted, or brings the entries in use into their slots and closes their gates. It leaves
+    /// Formats a file that isn't formatted, or brings the entries in use into their slots and closes the first gate. It leaves
     /// the map as it is, also in a crash.
     pub fn settle<D: Disk>(&mut self, disk: &mut D) -> Result<(), Failed>
         requires running { IsRunning self.old.journal }

@@ -71,13 +71,12 @@ pub fn disk_with(alloc: Global, file: &File) -> Result<MemDisk, AllocError> {
     MemDisk::new(alloc, bytes_of(alloc, file)?)
 }
 
-// Whether a file is so long, and so many of its first three entries are in use.
+// Whether a file is so long, and so many of its first three entries are in use: those before the first closed gate.
 pub fn is_file(disk: &MemDisk, length: usize, in_use: usize) -> bool {
     let bytes = disk.content();
     for n in 0..3usize {
         let place = 512 + n * 544;
-        let gate = if n < in_use { 0xA5 } else { 0 };
-        if place >= bytes.len() || bytes[place] != gate {
+        if place >= bytes.len() || n <= in_use && (bytes[place] == 0xA5) != (n < in_use) {
             return false;
         }
     }

@@ -121,7 +121,7 @@ const AFTER_CLOSED: Row = Row {
     in_use: 0,
 };
 
-// Of three entries the first gate is closed, and the others are open: none is in use, and settling closes their gates.
+// Of three entries the first gate is closed, and the others are open: none is in use, and settling leaves them so.
 const GROUP_AFTER_CLOSED: Row = Row {
     file: File::Formed(&[0, 0, 0, 5, 0, 6], &[3]),
     commit: NOTHING,

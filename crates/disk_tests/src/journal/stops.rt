@@ -251,11 +251,11 @@ fn a_birth_leaves_zeros_at_each_stop(rt: HostRuntime) -> Result<(), Fail> {
     pass(first_unborn(rt.alloc()))
 }
 
-// The calls before the second sync of a commit: 3 of open, 64 of settle, a write, a sync and a write.
-const SECOND_SYNC: u64 = 70;
+// The calls before the second sync of a commit: 3 of open, 1 of settle, a write, a sync and a write.
+const SECOND_SYNC: u64 = 7;
 
-// The same before the first sync, where an entry is in use when the disk is opened: 4 of open, 68 of settle, a write.
-const NEXT_SYNC: u64 = 73;
+// The same before the first sync, where an entry is in use when the disk is opened: 4 of open, 5 of settle, a write.
+const NEXT_SYNC: u64 = 10;
 
 // Whether a crash leaves the map.
 fn leaves(

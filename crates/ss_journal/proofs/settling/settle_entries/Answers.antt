@@ -1,16 +1,17 @@
-use Rattle.ss_journal.specs.Format.{IsCleared}
-use Rattle.ss_journal.proofs.StepLemmas.{after-step, reaches-failed, reaches-joined, step-failed, step-next}
+use Rattle.std.proofs.Common.{◌≡◌, length, sym, ◌∙◌}
+use Rattle.std.proofs.lemmas.Bool.{eqb-true}
+use Rattle.std.proofs.lemmas.List.{nil_from_length}
+use Rattle.ss_outside.proofs.CrashLemmas.{reads-none}
+use Rattle.ss_outside.proofs.StepLemmas.{step-none}
+use Rattle.ss_journal.specs.Format.{IsShut}
+use Rattle.ss_journal.proofs.RedoLemmas.{first_closed-none}
+use Rattle.ss_journal.proofs.StepLemmas.{reaches-read}
 use Rattle.ss_journal.proofs.settling.settle_entries.Goals as goal
 
-pub returns-in_err-apply_any : goal.returns-in_err-apply_any
-returns-in_err-apply_any g c =
-    let failed = c.from_residual in
-    step-failed failed.result failed.ensures.0 c.in_err-apply_any.ensures (λ told applies. reaches-failed failed.result failed.ensures.0 applies)
-
-pub close_others-requires : goal.close_others-requires
-close_others-requires g c = record { shut = after-step c.in_ok-apply_any.ensures (λ told applies. applies.reached) }
-
-pub returns : goal.returns
-returns g c =
-    step-next c.in_ok-apply_any.ensures c.close_others.ensures
-    (λ told then applies closes. reaches-joined {S = λ _ content. IsCleared content} _ c.close_others.result applies closes (λ was is. is))
+pub returns-then-is_empty : goal.returns-then-is_empty
+returns-then-is_empty g c =
+    let none : length c.args.puts.now ≡ 0 = eqb-true (length c.args.puts.now) 0 (sym c.is_empty.ensures ∙ c.if-is_empty.true) in
+    step-none _ _ (λ told.
+    let entries = c.requires.entries told in
+    reaches-read (λ _ content. IsShut content) _ (g.met.D.Disk.knows_now c.args.disk.now told) (reads-none _)
+    (entries.born, first_closed-none _ entries.in_use.found entries.born entries.in_use.map (sym entries.in_use.all ∙ nil_from_length c.args.puts.now none)))
