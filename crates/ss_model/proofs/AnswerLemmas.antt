@@ -1,31 +1,39 @@
 -- What the answers of states hold.
-use Rattle.std.proofs.Common.{◌≡◌, ℕ, Bool, true, false, List, [], map, refl, ap, sym, ◌∙◌, subst, Some, None, inl, inr, IsSome}
+use Rattle.std.proofs.Common.{◌≡◌, ℕ, Bool, true, false, List, [], map, refl, ap, sym, ◌∙◌, subst, Some, None, inl, inr, IsSome, arith}
 use Rattle.std.specs.Prelude.{Option, option_map, is_some}
 use Rattle.std.specs.List.{filter}
 use Rattle.std.proofs.lemmas.Bool.{cases_Bool}
+use Rattle.std.proofs.lemmas.Int.{ints}
+use Rattle.ss_catalog.specs.Queries.{is_guess}
 use Rattle.ss_catalog.specs.declared.query.Kind.{Kind}
 use Rattle.ss_catalog.specs.declared.query.Kind.TheVariants as kinds
 use Rattle.ss_catalog.specs.declared.query.Query.{Query}
+use Rattle.ss_bounds.specs.Guess.{AreAllSplit}
+use Rattle.ss_bounds.proofs.GuessLemmas.{count_guess-within, sum_guess-within}
 use Rattle.ss_landmarks.specs.Free.{is_free}
-use Rattle.ss_target.specs.Lengths.{lengths_of}
 use Rattle.ss_summary.specs.Points.{Point}
-use Rattle.ss_model.specs.Answers.{HoldsTruth, IsExactOutcome, IsOfKind, answer_of, answer_of_kind, outcome_of, refuses_query, split_by}
+use Rattle.ss_model.specs.Answers.{HasEnds, HoldsTruth, IsExactOutcome, IsOfKind, answer_of, answer_of_kind, interval_query, outcome_of}
+use Rattle.ss_model.specs.Answers.{refuses_query, split_by, unguessed}
 use Rattle.ss_model.specs.History.{landmarks_of, marked_of, values_of, Happened}
-use Rattle.ss_model.specs.Interval.{is_split, split_figures, split_windows}
+use Rattle.ss_model.specs.Interval.{is_split, known_count, known_sum, split_figures, split_windows}
 use Rattle.ss_model.specs.Marks.{marked_values}
 use Rattle.ss_model.specs.Outline.{SameOutlines}
 use Rattle.ss_model.specs.Refusals.{IsHistory, stands}
+use Rattle.ss_model.specs.Standing.{IsStream}
 use Rattle.ss_model.specs.State.{Created, Stream, state, standing, stream_after, stream_named}
 use Rattle.ss_model.specs.Truth.{RiseAtFree}
+use Rattle.ss_model.specs.Rule.{rule_of}
 use Rattle.ss_model.specs.Windows.{windows}
 use Rattle.ss_model.specs.declared.outcome.Outcome.{Outcome}
 use Rattle.ss_model.specs.declared.types.Window.{Window}
+use Rattle.ss_model.proofs.HistoryLemmas.{IsState-state}
 use Rattle.ss_model.proofs.IntervalLemmas.{AreExactlyOf, AreOf-exactly, count-lies, sum-lies, least-HoldsExtreme, greatest-HoldsExtreme}
 use Rattle.ss_model.proofs.IntervalLemmas.{count-exact, sum-exact, least-exact, greatest-exact}
 use Rattle.ss_model.proofs.OutlineLemmas.{read-outlines}
 use Rattle.ss_model.proofs.PieceLemmas.{AreExactlyOf-windows}
 use Rattle.ss_model.proofs.PresenceLemmas.{presence-holds}
-use Rattle.ss_model.proofs.RisingLemmas.{named-after, values-rise}
+use Rattle.ss_model.proofs.RisingLemmas.{All-named, named-after, values-rise}
+use Rattle.ss_model.proofs.SplitLemmas.{AreAllSplit-stream}
 
 -- what a choice gave it gave of something
 mapped : {A B : Type 0} (f : A → B) (o : Option A) (b : B) → option_map f o ≡ Some b → (a : A) × (o ≡ Some a) × (f a ≡ b)
@@ -34,25 +42,34 @@ mapped f (Some a) b same = (a, refl, cc)
 
 -- each kind of answer holds the truth
 kind-holds : (kind : Kind) (free : ℕ → Bool) (query : Query) (ws : List Window) (plain marked : List Point) → AreExactlyOf ws plain
-    → RiseAtFree free 0 plain → kind ≡ query.kind → HoldsTruth query plain marked (answer_of_kind kind free query.from query.to ws marked)
-kind-holds kinds.Count free query ws plain marked of rising is =
+    → RiseAtFree free 0 plain → AreAllSplit (split_windows free query.from query.to ws) → kind ≡ query.kind → HoldsTruth query plain marked (answer_of_kind kind free query.from query.to ws marked)
+kind-holds kinds.Count free query ws plain marked of rising each is =
     count-lies free query.from query.to ws plain marked 0 (AreOf-exactly ws plain of) rising
-kind-holds kinds.Sum free query ws plain marked of rising is =
+kind-holds kinds.Sum free query ws plain marked of rising each is =
     sum-lies free query.from query.to ws plain marked 0 (AreOf-exactly ws plain of) rising
-kind-holds kinds.Min free query ws plain marked of rising is =
+kind-holds kinds.Min free query ws plain marked of rising each is =
     least-HoldsExtreme free query.from query.to ws plain marked 0 (AreOf-exactly ws plain of) rising
-kind-holds kinds.Max free query ws plain marked of rising is =
+kind-holds kinds.Max free query ws plain marked of rising each is =
     greatest-HoldsExtreme free query.from query.to ws plain marked 0 (AreOf-exactly ws plain of) rising
-kind-holds (kinds.Has v) free query ws plain marked of rising is =
+kind-holds (kinds.Has v) free query ws plain marked of rising each is =
     (v, sym is, presence-holds v free query.from query.to ws plain marked 0 of rising)
+kind-holds kinds.CountGuess free query ws plain marked of rising each is =
+    let truth = count-lies free query.from query.to ws plain marked 0 (AreOf-exactly ws plain of) rising in
+    let guess = count_guess-within (known_count query.from query.to ws marked) (split_windows free query.from query.to ws) each in
+    rw (sym is) (omega (arith, ints, truth.0), omega (arith, ints, truth.1), guess.0, guess.1)
+kind-holds kinds.SumGuess free query ws plain marked of rising each is =
+    let truth = sum-lies free query.from query.to ws plain marked 0 (AreOf-exactly ws plain of) rising in
+    let guess = sum_guess-within (known_sum query.from query.to ws marked) (split_windows free query.from query.to ws) each in
+    rw (sym is) (truth.0, truth.1, guess.0, guess.1)
 
 -- the answer of a stream that stands as a history leaves it
-stream-holds : (history : List Happened) (query : Query) (c : Created) → IsHistory history
+stream-holds : (history : List Happened) (query : Query) (c : Created) → IsHistory history → IsStream (stream_after history c)
     → HoldsTruth query (values_of history c.name) (marked_of history c.name) (answer_of query (stream_after history c))
-stream-holds history query c whole =
+stream-holds history query c whole sound =
     let values = values_of history c.name in
-    kind-holds query.kind (is_free (landmarks_of history c.name)) query (windows (lengths_of c.params) values) values (marked_of history c.name)
-    (AreExactlyOf-windows (lengths_of c.params) values) (values-rise history c.name whole) refl
+    kind-holds query.kind (is_free (landmarks_of history c.name)) query (windows (rule_of c.params) values) values (marked_of history c.name)
+    (AreExactlyOf-windows (rule_of c.params) values) (values-rise history c.name whole)
+    (AreAllSplit-stream (stream_after history c) query.from query.to sound) refl
 
 pub answer-holds : (history : List Happened) (query : Query) (outcome : Outcome) → IsHistory history → outcome_of (state history) query ≡ Some outcome
     → HoldsTruth query (values_of history query.name) (marked_of history query.name) outcome
@@ -62,7 +79,8 @@ answer-holds history query outcome whole answered =
     let of = named-after history query.name (standing history) s.0 s.1 in
     let is : answer_of query (stream_after history of.created) ≡ outcome = ap (answer_of query) (sym of.is) ∙ s.2 in
     let holds = subst (HoldsTruth query (values_of history of.created.name) (marked_of history of.created.name)) is
-    (stream-holds history query of.created whole) in
+    (stream-holds history query of.created whole
+    (subst IsStream of.is (All-named IsStream query.name (state history) s.0 (IsState-state history whole).each s.1))) in
     subst (λ n. HoldsTruth query (values_of history n) (marked_of history n) outcome) of.named holds
 
 kind-is : (kind : Kind) (free : ℕ → Bool) (query : Query) (ws : List Window) (marked : List Point)
@@ -72,6 +90,8 @@ kind-is kinds.Sum free query ws marked = refl
 kind-is kinds.Min free query ws marked = refl
 kind-is kinds.Max free query ws marked = refl
 kind-is (kinds.Has v) free query ws marked = (v, refl)
+kind-is kinds.CountGuess free query ws marked = refl
+kind-is kinds.SumGuess free query ws marked = refl
 
 pub answer-kind : (streams : List Stream) (query : Query) (outcome : Outcome) → outcome_of streams query ≡ Some outcome → IsOfKind query.kind outcome
 unfolding outcome_of
@@ -87,6 +107,12 @@ kind-exact kinds.Sum free query ws marked unsplit = sum-exact free query.from qu
 kind-exact kinds.Min free query ws marked unsplit = least-exact free query.from query.to ws marked unsplit
 kind-exact kinds.Max free query ws marked unsplit = greatest-exact free query.from query.to ws marked unsplit
 kind-exact (kinds.Has v) free query ws marked unsplit = tt
+kind-exact kinds.CountGuess free query ws marked unsplit =
+    let within = count_guess-within (known_count query.from query.to ws marked) [] tt in
+    rw unsplit (omega (arith, ints, within.0, within.1), omega (arith, ints, within.0, within.1))
+kind-exact kinds.SumGuess free query ws marked unsplit =
+    let within = sum_guess-within (known_sum query.from query.to ws marked) [] tt in
+    rw unsplit (omega (arith, ints, within.0, within.1), omega (arith, ints, within.0, within.1))
 
 pub answer-exact : (streams : List Stream) (query : Query) (outcome : Outcome) → outcome_of streams query ≡ Some outcome
     → split_by streams query ≡ [] → IsExactOutcome outcome
@@ -96,6 +122,29 @@ answer-exact streams query outcome answered unsplit =
     let unsplit : filter (is_split query.from query.to) s.0.windows ≡ [] = rw s.1 at unsplit in
     subst IsExactOutcome s.2 (kind-exact query.kind (is_free s.0.landmarks) query s.0.windows (marked_values s.0.landmarks)
     (ap (map (split_figures (is_free s.0.landmarks) query.from query.to)) unsplit))
+
+-- a guess has the ends of the interval
+kind-ends : (kind : Kind) (free : ℕ → Bool) (query : Query) (ws : List Window) (marked : List Point) → is_guess kind ≡ true
+    → HasEnds (answer_of_kind kind free query.from query.to ws marked) (answer_of_kind (unguessed kind) free query.from query.to ws marked)
+kind-ends kinds.Count free query ws marked guessed = cc
+kind-ends kinds.Sum free query ws marked guessed = cc
+kind-ends kinds.Min free query ws marked guessed = cc
+kind-ends kinds.Max free query ws marked guessed = cc
+kind-ends (kinds.Has v) free query ws marked guessed = cc
+kind-ends kinds.CountGuess free query ws marked guessed = (refl, refl)
+kind-ends kinds.SumGuess free query ws marked guessed = (refl, refl)
+
+pub answer-ends : (streams : List Stream) (query : Query) (outcome : Outcome) → is_guess query.kind ≡ true
+    → outcome_of streams query ≡ Some outcome
+    → (answer : Outcome) × (outcome_of streams (interval_query query) ≡ Some answer) × HasEnds outcome answer
+unfolding outcome_of
+answer-ends streams query outcome guessed answered =
+    let s = mapped (answer_of query) (stream_named query.name streams) outcome answered in (
+      answer_of (interval_query query) s.0,
+      ap (option_map (answer_of (interval_query query))) s.1,
+      subst (λ o. HasEnds o (answer_of (interval_query query) s.0)) s.2
+          (kind-ends query.kind (is_free s.0.landmarks) query s.0.windows (marked_values s.0.landmarks) guessed),
+    )
 
 -- a query that isn't refused has an answer
 some-answered : (o : Option Stream) (query : Query) → is_some o ≡ true → IsSome (option_map (answer_of query) o)

@@ -1,5 +1,5 @@
 -- Worked rows of what states answer to queries, each computed from a history.
-use Rattle.std.specs.Prelude.{◌≡◌, ℕ, ℤ, pos, negsuc, List, [], ◌∷◌, map, Option, Some, None, codes}
+use Rattle.std.specs.Prelude.{◌≡◌, ℕ, ℤ, pos, negsuc, true, List, [], ◌∷◌, map, Option, Some, None, codes}
 use Rattle.std.proofs.Common.{arith, refl}
 use Rattle.std.proofs.lemmas.Int.{ints}
 use Rattle.ss_windowing.specs.Windowing.{window_index}
@@ -7,6 +7,7 @@ use Rattle.ss_power.specs.Power.{power_length}
 use Rattle.ss_catalog.specs.declared.event.Event.TheVariants.{Create, Value, Open, Close, Drop}
 use Rattle.ss_catalog.specs.declared.params.Params.{Params}
 use Rattle.ss_catalog.specs.declared.params.Params.TheVariants.{Exp, Power}
+use Rattle.ss_catalog.specs.Queries.{is_guess}
 use Rattle.ss_catalog.specs.declared.query.Kind.{Kind}
 use Rattle.ss_catalog.specs.declared.query.Kind.TheVariants as kinds
 use Rattle.ss_catalog.specs.declared.query.Query.{Query}
@@ -18,12 +19,12 @@ use Rattle.ss_bounds.specs.Split.{SplitFigures, sum_interval}
 use Rattle.ss_landmarks.specs.Free.{is_free}
 use Rattle.ss_summary.specs.Points.{New}
 use Rattle.ss_model.specs.History.{Happened, added}
-use Rattle.ss_model.specs.Answers.{HoldsTruth, IsExactOutcome, IsOfKind, outcome_of, query_refusals, refuses_query}
+use Rattle.ss_model.specs.Answers.{HasEnds, HoldsTruth, IsExactOutcome, IsOfKind, outcome_of, query_refusals, refuses_query}
 use Rattle.ss_model.specs.Interval.{IsExact, split_windows}
 use Rattle.ss_model.specs.Refusals.{refusals}
 use Rattle.ss_model.specs.State.{Stream, state}
 use Rattle.ss_model.specs.declared.outcome.Outcome.{Outcome}
-use Rattle.ss_model.specs.declared.outcome.Outcome.TheVariants.{Count, Sum, Min, Max}
+use Rattle.ss_model.specs.declared.outcome.Outcome.TheVariants.{Count, Sum, Min, Max, Estimate}
 
 a : List ℕ
 a = codes "a"
@@ -59,6 +60,27 @@ answers-two_split : answers (query kinds.Count 25 55 ∷ query kinds.Sum 25 55 �
     Some (Count 2 4) ∷ Some (Sum (negsuc 2) (pos 25)) ∷ Some (Min (Sure (negsuc 2) (pos 8))) ∷ Some (Max (Sure (pos 2) (pos 9))) ∷ []
 unfolding answers outcome_of query state window_index sum_interval readings a
 answers-two_split = refl
+
+-- the likeliest values lie between the same ends: sums of about 5.59 and 5.59 + 5.5, and one of 5.5
+answers-guess : answers
+    (query kinds.CountGuess 10 25 ∷ query kinds.SumGuess 10 25 ∷ query kinds.CountGuess 25 55 ∷ query kinds.SumGuess 25 55
+    ∷ query kinds.SumGuess 45 55 ∷ query kinds.SumGuess 0 100 ∷ query kinds.CountGuess 71 80 ∷ []) ≡
+    Some (Estimate (pos 1) (pos 2) (pos 3)) ∷ Some (Estimate (negsuc 4) (pos 6) (pos 16)) ∷ Some (Estimate (pos 2) (pos 3) (pos 4))
+    ∷ Some (Estimate (negsuc 2) (pos 11) (pos 25)) ∷ Some (Estimate (pos 2) (pos 6) (pos 9)) ∷ Some (Estimate (pos 29) (pos 29) (pos 29))
+    ∷ Some (Estimate (pos 0) (pos 0) (pos 0)) ∷ []
+unfolding answers outcome_of query state window_index sum_interval readings a
+answers-guess = refl
+
+-- two guesses of one and a half make three, and not four; a sum of 10.5 is nearest to 10 and to 11
+halves : List Happened
+halves = map added (
+    Create a (Power 1 0 1 3) ∷ Value a 10 (pos 1) ∷ Value a 12 (pos 2) ∷ Value a 15 (pos 3) ∷ Value a 20 (pos 4) ∷ Value a 21 (pos 5)
+    ∷ Value a 25 (pos 6) ∷ [])
+
+answers-halves : map (outcome_of (state halves)) (query kinds.CountGuess 13 22 ∷ query kinds.SumGuess 13 22 ∷ []) ≡
+    Some (Estimate (pos 2) (pos 3) (pos 4)) ∷ Some (Estimate (pos 5) (pos 10) (pos 16)) ∷ []
+unfolding outcome_of query state power_length window_index sum_interval halves a
+answers-halves = refl
 
 -- the name is tested before the range
 why : Query → Option Refusal
@@ -155,6 +177,18 @@ truth-sum_above holds = omega (arith, ints, holds.1)
 truth-sum_below : holds_of_one kinds.Sum (Sum (pos 2) (pos 3)) → ⊥
 truth-sum_below holds = omega (arith, ints, holds.0)
 
+truth-amount_above : holds_of_one kinds.CountGuess (Estimate (pos 0) (pos 0) (pos 0)) → ⊥
+truth-amount_above holds = omega (arith, ints, holds.1)
+
+truth-amount_below : holds_of_one kinds.SumGuess (Estimate (pos 2) (pos 2) (pos 3)) → ⊥
+truth-amount_below holds = omega (arith, ints, holds.0)
+
+truth-guess_above : holds_of_one kinds.SumGuess (Estimate (pos 0) (pos 4) (pos 3)) → ⊥
+truth-guess_above holds = omega (arith, ints, holds.3)
+
+truth-guess_below : holds_of_one kinds.CountGuess (Estimate (pos 1) (pos 0) (pos 3)) → ⊥
+truth-guess_below holds = omega (arith, ints, holds.2)
+
 -- what leaves something open isn't exact
 exact-maybe : IsExact (Maybe (pos 1) (pos 1)) → ⊥
 exact-maybe exact = exact
@@ -191,6 +225,9 @@ exact-count lo hi exact = exact
 exact-sum : IsExactOutcome (Sum (pos 1) (pos 2)) → pos 1 ≡ pos 2
 exact-sum exact = exact
 
+exact-estimate : IsExactOutcome (Estimate (pos 1) (pos 2) (pos 3)) → (pos 1 ≡ pos 2) × (pos 2 ≡ pos 3)
+exact-estimate exact = exact
+
 exact-min : IsExactOutcome (Min (Maybe (pos 1) (pos 1))) → ⊥
 exact-min exact = exact
 
@@ -217,3 +254,13 @@ module _ (kind : Kind) where
 
   kind-max : IsOfKind kind (Max Nothing) → kind ≡ kinds.Max
   kind-max is = is
+
+  kind-estimate : IsOfKind kind (Estimate (pos 1) (pos 2) (pos 3)) → is_guess kind ≡ true
+  kind-estimate is = is
+
+-- an estimate has the ends of a count or a sum
+ends-count : HasEnds (Estimate (pos 1) (pos 2) (pos 3)) (Count 1 3) × HasEnds (Estimate (pos 1) (pos 2) (pos 3)) (Sum (pos 1) (pos 3))
+ends-count = ((refl, refl), (refl, refl))
+
+ends-other : (HasEnds (Estimate (pos 1) (pos 2) (pos 3)) (Count 1 2) → pos 3 ≡ pos 2) × (HasEnds (Count 1 3) (Count 1 3) → ⊥)
+ends-other = ((λ ends. ends.1), (λ ends. ends))

@@ -1,4 +1,5 @@
 mod Rows
+mod RuleRows
 mod HistoryRows
 mod MarkRows
 mod QueryRows
@@ -7,10 +8,12 @@ mod PresenceRows
 mod SeriesRows
 pub mod Rises
 pub mod Stretches
+pub mod Told
 pub mod Incremental
 pub mod Closes
 pub mod Tiles
 pub mod MarkLemmas
+pub mod RuleLemmas
 pub mod DecayLemmas
 pub mod EventLemmas
 pub mod NameLemmas
@@ -27,6 +30,7 @@ pub mod OutlineLemmas
 pub mod OriginLemmas
 pub mod AskedLemmas
 pub mod IntervalLemmas
+pub mod SplitLemmas
 pub mod PieceLemmas
 pub mod PresenceLemmas
 pub mod RisingLemmas

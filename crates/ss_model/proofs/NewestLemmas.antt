@@ -22,7 +22,6 @@ use Rattle.ss_model.specs.Newest.{known_exactly, known_in, newer, newest_known, 
 use Rattle.ss_model.specs.NewestTruth.{HoldsNewest, IsNewest, LiesWithin, kept_point}
 use Rattle.ss_model.specs.Truth.{RiseAtFree}
 use Rattle.ss_catalog.specs.Names.{same_name}
-use Rattle.ss_target.specs.Lengths.{lengths_of}
 use Rattle.ss_model.specs.History.{Happened, landmarks_of, marked_of, values_of}
 use Rattle.ss_model.specs.Newest.{newest_in, newest_of}
 use Rattle.ss_model.specs.Refusals.{IsHistory}
@@ -36,7 +35,8 @@ use Rattle.std.specs.List.{find, position_or_len}
 use Rattle.std.proofs.lemmas.List.Folds.{find_at}
 use Rattle.std.proofs.lemmas.Option.{get_or_from_slice_get, slice_get_within}
 use Rattle.ss_landmarks.specs.Free.{is_free}
-use Rattle.ss_model.specs.Windows.{stretches, time_of_last, windows}
+use Rattle.ss_model.specs.Rule.{Rule, rule_of}
+use Rattle.ss_model.specs.Windows.{stretches, time_at, time_of_last, windows}
 use Rattle.ss_model.specs.declared.newest.Known.{Known}
 use Rattle.ss_model.specs.declared.types.Window.{Window}
 use Rattle.ss_model.proofs.MarkLemmas.{none-latest}
@@ -169,12 +169,12 @@ abbrev HoldsKnown : Option Known → List Point → Type 0
 HoldsKnown None values = values ≡ []
 HoldsKnown (Some known) values = LiesWithin known.at known.lo known.hi values
 
-known-windows : (free : ℕ → Bool) (len : ℕ → ℕ) (plain : List Point) → RiseAtFree free 0 plain →
-    HoldsKnown (option_map known_in (newest_window (windows len plain))) plain
-known-windows free len [] rising = refl
-known-windows free len (p ∷ ps) rising =
+known-windows : (free : ℕ → Bool) (rule : Rule) (plain : List Point) → RiseAtFree free 0 plain →
+    HoldsKnown (option_map known_in (newest_window (windows rule plain))) plain
+known-windows free rule [] rising = refl
+known-windows free rule (p ∷ ps) rising =
     let n = length (p ∷ ps) in
-    let end = EndsWith-stretches 0 n (boundaries len n) p ps (omega arith) (Rises-boundaries len n (omega arith)) in
+    let end = EndsWith-stretches 0 n (boundaries rule (time_at (p ∷ ps)) n) p ps (omega arith) (Rises-boundaries rule (time_at (p ∷ ps)) n (omega arith)) in
     let value = end.value in
     rw end.is (record {
       value = value.value;
@@ -239,13 +239,13 @@ told-holds (Some t) None values none holds = (refl, holds)
 told-holds (Some t) (Some known) values none holds = (refl, holds)
 
 -- what is told of the windows of some values and of landmarks holds of all of them
-pub newest-holds : (free : ℕ → Bool) (len : ℕ → ℕ) (plain : List Point) (ls : List Landmark) → RiseAtFree free 0 plain → AreLandmarks ls →
-    HoldsNewest (newest_told (later (time_of_last plain) (latest_of ls)) (newest_known (windows len plain) ls)) (later (time_of_last plain) (latest_of ls))
+pub newest-holds : (free : ℕ → Bool) (rule : Rule) (plain : List Point) (ls : List Landmark) → RiseAtFree free 0 plain → AreLandmarks ls →
+    HoldsNewest (newest_told (later (time_of_last plain) (latest_of ls)) (newest_known (windows rule plain) ls)) (later (time_of_last plain) (latest_of ls))
     (plain ++ marked_values ls)
-newest-holds free len plain ls rising order =
-    told-holds (later (time_of_last plain) (latest_of ls)) (newest_known (windows len plain) ls) (plain ++ marked_values ls) (no-values plain ls)
-    (known-newer (option_map known_in (newest_window (windows len plain))) (option_map known_exactly (newest_value ls)) plain (marked_values ls)
-    (known-windows free len plain rising) (known-values (all_values ls) (newest_value ls) (RiseFrom-all_values 0 ls order) refl))
+newest-holds free rule plain ls rising order =
+    told-holds (later (time_of_last plain) (latest_of ls)) (newest_known (windows rule plain) ls) (plain ++ marked_values ls) (no-values plain ls)
+    (known-newer (option_map known_in (newest_window (windows rule plain))) (option_map known_exactly (newest_value ls)) plain (marked_values ls)
+    (known-windows free rule plain rising) (known-values (all_values ls) (newest_value ls) (RiseFrom-all_values 0 ls order) refl))
 
 -- ---- the streams of a state
 
@@ -261,9 +261,9 @@ newest_of-holds history c whole order =
     let landmarks = landmarks_of history c.name in
     let last = later (time_of_last plain) (latest_of landmarks) in
     subst
-    (λ (t : Option ℕ). HoldsNewest (newest_told (later t (latest_of landmarks)) (newest_known (windows (lengths_of c.params) plain) landmarks)) last
-    (plain ++ marked_of history c.name)) (sym (newest_time-windows (lengths_of c.params) plain))
-    (newest-holds (is_free landmarks) (lengths_of c.params) plain landmarks (values-rise history c.name whole) order)
+    (λ (t : Option ℕ). HoldsNewest (newest_told (later t (latest_of landmarks)) (newest_known (windows (rule_of c.params) plain) landmarks)) last
+    (plain ++ marked_of history c.name)) (sym (newest_time-windows (rule_of c.params) plain))
+    (newest-holds (is_free landmarks) (rule_of c.params) plain landmarks (values-rise history c.name whole) order)
 
 All-found : {X : Type 0} (P : X → Type 0) (p : X → Bool) (xs : List X) (x : X) → All P xs → find p xs ≡ Some x → P x
 All-found P p xs x all found =

@@ -1,13 +1,12 @@
 -- Where values are from changes nothing but the filters of windows.
 use Rattle.std.specs.Prelude.{◌≡◌, ℕ, zero, suc, ◌+◌, ◌-◌, ◌<◌, true, ℤ, ◌+ℤ◌, List, [], ◌∷◌, ◌++◌, map, take, drop, length}
 use Rattle.std.specs.Int.{int_min, int_max}
-use Rattle.std.proofs.Common.{refl, ap, ap₂, sym, ◌∙◌, subst, inl, inr, arith}
+use Rattle.std.proofs.Common.{get_or, refl, ap, ap₂, sym, ◌∙◌, subst, inl, inr, arith}
 use Rattle.std.proofs.lemmas.Bool.{cases_Bool}
 use Rattle.std.proofs.lemmas.List.{take-map, drop-map, length-map, map-append}
 use Rattle.std.proofs.lemmas.List.Folds.{fold-map}
 use Rattle.ss_catalog.specs.declared.event.Event.{Event}
 use Rattle.ss_catalog.specs.declared.event.Event.TheVariants.{Create, Value, Open, Close, Drop}
-use Rattle.ss_target.specs.Lengths.{lengths_of}
 use Rattle.ss_summary.specs.Figures.{Figures, unfiltered}
 use Rattle.ss_summary.specs.Filters.{filter_with, full, union}
 use Rattle.ss_summary.specs.Points.{Point, Origin, Old}
@@ -17,7 +16,8 @@ use Rattle.ss_model.specs.History.{Given, Happened, creates, given_after, given_
 use Rattle.ss_model.specs.Marks.{has_open, later, latest_of}
 use Rattle.ss_model.specs.Origins.{as_old, unfiltered_stream, unfiltered_window}
 use Rattle.ss_model.specs.State.{Created, Stream, standing, standing_after, state, stream_after}
-use Rattle.ss_model.specs.Windows.{newest_time, stretches, taken, windows}
+use Rattle.ss_model.specs.Rule.{Rule, rule_of}
+use Rattle.ss_model.specs.Windows.{newest_time, stretches, taken, time_at, windows}
 use Rattle.ss_model.specs.declared.types.Window.{Window}
 use Rattle.ss_model.proofs.EventLemmas.{after_last-push_yes, given_to-event, given_to-other}
 use Rattle.ss_model.proofs.HistoryLemmas.{by_pushes, GoesOn-push, IsHistory-nil, IsHistory_push}
@@ -86,12 +86,18 @@ stretches-old before end (b ∷ bs) (p ∷ ps) count rising =
     ∙ ap (λ ws. record { first = before + 1; summary = unfiltered (summary_of (take k (p ∷ ps))) } ∷ ws)
     (stretches-old b end bs (drop k (p ∷ ps)) back rising.1)
 
-windows-old : (len : ℕ → ℕ) (ps : List Point) → windows len (map old_point ps) ≡ map unfiltered_window (windows len ps)
-windows-old len [] = refl
-windows-old len (p ∷ ps) =
+times-old : (ps : List Point) → map (λ (p : Point). p.0) (map old_point ps) ≡ map (λ (p : Point). p.0) ps
+times-old [] = refl
+times-old (p ∷ ps) = ap (λ ts. p.0 ∷ ts) (times-old ps)
+
+windows-old : (rule : Rule) (ps : List Point) → windows rule (map old_point ps) ≡ map unfiltered_window (windows rule ps)
+windows-old rule [] = refl
+windows-old rule (p ∷ ps) =
     let n = length (p ∷ ps) in
-    ap (λ m. stretches 1 (boundaries len m) (map old_point (p ∷ ps))) (length-map (p ∷ ps) old_point)
-    ∙ stretches-old 0 n (boundaries len n) (p ∷ ps) (omega arith) (Rises-boundaries len n (omega arith))
+    let time = time_at (p ∷ ps) in
+    ap (λ m. stretches 1 (boundaries rule (time_at (map old_point (p ∷ ps))) m) (map old_point (p ∷ ps))) (length-map (p ∷ ps) old_point)
+    ∙ ap (λ ts. stretches 1 (boundaries rule (λ position. get_or ts (position - 1) 0) n) (map old_point (p ∷ ps))) (times-old (p ∷ ps))
+    ∙ stretches-old 0 n (boundaries rule time n) (p ∷ ps) (omega arith) (Rises-boundaries rule time n (omega arith))
 
 -- what a stream was given
 abbrev old_given : Given → Given
@@ -140,11 +146,11 @@ stream-old history s =
       number = s.number;
       name = s.name;
       params = s.params;
-      windows = windows (lengths_of s.params) g.plain;
+      windows = windows (rule_of s.params) g.plain;
       landmarks = g.landmarks;
     }) (given_to-old history s.name)
     ∙ ap (λ ws. record { number = s.number; name = s.name; params = s.params; windows = ws; landmarks = landmarks_of history s.name })
-    (windows-old (lengths_of s.params) (values_of history s.name))
+    (windows-old (rule_of s.params) (values_of history s.name))
 
 streams-old : (history : List Happened) (ss : List Created)
     → map (stream_after (map as_old history)) ss ≡ map unfiltered_stream (map (stream_after history) ss)

@@ -4,7 +4,8 @@ use Rattle.std.proofs.lemmas.List.{take-append-drop, append-nil}
 use Rattle.ss_summary.specs.Summaries.{summary_of}
 use Rattle.ss_summary.specs.Points.{Point}
 use Rattle.ss_model.specs.Boundaries.{boundaries}
-use Rattle.ss_model.specs.Windows.{stretches, windows}
+use Rattle.ss_model.specs.Rule.{Rule}
+use Rattle.ss_model.specs.Windows.{stretches, time_at, windows}
 use Rattle.ss_model.proofs.Rises.{Rises, Rises-low, Rises-boundaries}
 use Rattle.ss_model.proofs.Stretches.{length-back}
 use Rattle.ss_model.proofs.IntervalLemmas.{AreExactlyOf, AreOf, AreOf-exactly}
@@ -29,10 +30,10 @@ AreExactlyOf-stretches before end (b ∷ bs) (p ∷ ps) count rising =
       later,
     )
 
-pub AreExactlyOf-windows : (len : ℕ → ℕ) (values : List Point) → AreExactlyOf (windows len values) values
-AreExactlyOf-windows len [] = refl
-AreExactlyOf-windows len (p ∷ ps) = AreExactlyOf-stretches 0 (length (p ∷ ps)) (boundaries len (length (p ∷ ps))) (p ∷ ps) (omega arith)
-    (Rises-boundaries len (length (p ∷ ps)) (omega arith))
+pub AreExactlyOf-windows : (rule : Rule) (values : List Point) → AreExactlyOf (windows rule values) values
+AreExactlyOf-windows rule [] = refl
+AreExactlyOf-windows rule (p ∷ ps) = AreExactlyOf-stretches 0 (length (p ∷ ps)) (boundaries rule (time_at (p ∷ ps)) (length (p ∷ ps))) (p ∷ ps) (omega arith)
+    (Rises-boundaries rule (time_at (p ∷ ps)) (length (p ∷ ps)) (omega arith))
 
-pub AreOf-windows : (len : ℕ → ℕ) (values : List Point) → AreOf (windows len values) values
-AreOf-windows len values = AreOf-exactly (windows len values) values (AreExactlyOf-windows len values)
+pub AreOf-windows : (rule : Rule) (values : List Point) → AreOf (windows rule values) values
+AreOf-windows rule values = AreOf-exactly (windows rule values) values (AreExactlyOf-windows rule values)

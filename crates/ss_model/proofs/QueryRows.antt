@@ -12,6 +12,7 @@ use Rattle.ss_summary.specs.Points.{Point, New}
 use Rattle.ss_model.specs.Interval.{interval_of_count, interval_of_sum, interval_of_least, interval_of_greatest, split_windows}
 use Rattle.ss_model.specs.Marks.{marked_values}
 use Rattle.ss_model.specs.Truth.{true_count, true_sum}
+use Rattle.ss_model.specs.Rule.{without_step}
 use Rattle.ss_model.specs.Windows.{windows}
 use Rattle.ss_model.specs.declared.types.Window.{Window}
 
@@ -24,16 +25,16 @@ abbrev seven : List Point
 seven = (10, pos 5, New) ∷ (20, negsuc 2, New) ∷ (30, pos 8, New) ∷ (40, pos 1, New) ∷ (50, pos 9, New) ∷ (60, pos 2, New) ∷ (70, pos 7, New) ∷ []
 
 abbrev count_in : ℕ × ℕ → ℕ × ℕ
-count_in range = interval_of_count free range.0 range.1 (windows (exp_length 2 1 1) seven) []
+count_in range = interval_of_count free range.0 range.1 (windows (without_step (exp_length 2 1 1)) seven) []
 
 abbrev sum_in : ℕ × ℕ → ℤ × ℤ
-sum_in range = interval_of_sum free range.0 range.1 (windows (exp_length 2 1 1) seven) []
+sum_in range = interval_of_sum free range.0 range.1 (windows (without_step (exp_length 2 1 1)) seven) []
 
 abbrev least_in : ℕ × ℕ → Extreme
-least_in range = interval_of_least free range.0 range.1 (windows (exp_length 2 1 1) seven) []
+least_in range = interval_of_least free range.0 range.1 (windows (without_step (exp_length 2 1 1)) seven) []
 
 abbrev greatest_in : ℕ × ℕ → Extreme
-greatest_in range = interval_of_greatest free range.0 range.1 (windows (exp_length 2 1 1) seven) []
+greatest_in range = interval_of_greatest free range.0 range.1 (windows (without_step (exp_length 2 1 1)) seven) []
 
 counts-seven : map count_in ((10, 40) ∷ (10, 25) ∷ (15, 25) ∷ (25, 55) ∷ []) ≡ (4, 4) ∷ (1, 3) ∷ (0, 2) ∷ (2, 4) ∷ []
 unfolding window_index
@@ -60,11 +61,12 @@ truth-sums : map (λ (range : ℕ × ℕ). true_sum range.0 range.1 seven []) ((
 truth-sums = refl
 
 -- four values at four times in one window of four: the free times are used up
-crowded : interval_of_count free 10 11 (windows (λ i. 4) ((10, pos 4, New) ∷ (11, pos 4, New) ∷ (12, pos 6, New) ∷ (13, pos 6, New) ∷ [])) [] ≡ (2, 2)
+crowded : interval_of_count free 10 11 (windows (without_step (λ i. 4)) ((10, pos 4, New) ∷ (11, pos 4, New) ∷ (12, pos 6, New) ∷ (13, pos 6, New) ∷ [])) []
+    ≡ (2, 2)
 unfolding window_index
 crowded = refl
 
-crowded-sum : interval_of_sum free 10 11 (windows (λ i. 4) ((10, pos 4, New) ∷ (11, pos 4, New) ∷ (12, pos 6, New) ∷ (13, pos 6, New) ∷ [])) []
+crowded-sum : interval_of_sum free 10 11 (windows (without_step (λ i. 4)) ((10, pos 4, New) ∷ (11, pos 4, New) ∷ (12, pos 6, New) ∷ (13, pos 6, New) ∷ [])) []
     ≡ (pos 8, pos 12)
 unfolding window_index sum_interval
 crowded-sum = refl
@@ -73,7 +75,7 @@ crowded-sum = refl
 abbrev single : List Landmark
 single = record { start = 100; finish = Some 100; values = record { t = 100; v = pos 7 } ∷ [] } ∷ []
 
-marked_before : map (λ (range : ℕ × ℕ). interval_of_sum (is_free single) range.0 range.1 (windows (exp_length 2 1 1) ((101, pos 8, New) ∷ []))
+marked_before : map (λ (range : ℕ × ℕ). interval_of_sum (is_free single) range.0 range.1 (windows (without_step (exp_length 2 1 1)) ((101, pos 8, New) ∷ []))
     (marked_values single))
     ((100, 100) ∷ (101, 101) ∷ (0, 200) ∷ []) ≡ (pos 7, pos 7) ∷ (pos 8, pos 8) ∷ (pos 15, pos 15) ∷ []
 unfolding window_index sum_interval
@@ -84,7 +86,7 @@ abbrev spanning : List Landmark
 spanning = record { start = 20; finish = Some 40; values = record { t = 20; v = pos 100 } ∷ record { t = 30; v = pos 200 } ∷ [] } ∷ []
 
 abbrev spanned : {A : Type 0} → ((ℕ → Bool) → ℕ → ℕ → List Window → List Point → A) → A
-spanned answer = answer (is_free spanning) 20 40 (windows (λ i. 2) ((10, pos 1, New) ∷ (50, pos 3, New) ∷ [])) (marked_values spanning)
+spanned answer = answer (is_free spanning) 20 40 (windows (without_step (λ i. 2)) ((10, pos 1, New) ∷ (50, pos 3, New) ∷ [])) (marked_values spanning)
 
 -- of the times between its ends, the 18 outside the landmark are free
 spanned-split : spanned (λ free from to ws marked. split_windows free from to ws)
@@ -105,13 +107,13 @@ unfolding window_index
 spanned-least = refl
 
 -- two values at both ends of 64 bits
-edges : map (λ (v : ℤ). interval_of_sum free 10 15 (windows (λ i. 2) ((10, v, New) ∷ (20, pos 9223372036854775807, New) ∷ [])) [])
+edges : map (λ (v : ℤ). interval_of_sum free 10 15 (windows (without_step (λ i. 2)) ((10, v, New) ∷ (20, pos 9223372036854775807, New) ∷ [])) [])
     (pos 9223372036854775807 ∷ negsuc 9223372036854775807 ∷ [])
     ≡ (pos 9223372036854775807, pos 9223372036854775807) ∷ (negsuc 9223372036854775807, pos 9223372036854775807) ∷ []
 unfolding window_index sum_interval
 edges = refl
 
-edges-whole : map (λ (v : ℤ). interval_of_sum free 0 30 (windows (λ i. 2) ((10, v, New) ∷ (20, pos 9223372036854775807, New) ∷ [])) [])
+edges-whole : map (λ (v : ℤ). interval_of_sum free 0 30 (windows (without_step (λ i. 2)) ((10, v, New) ∷ (20, pos 9223372036854775807, New) ∷ [])) [])
     (pos 9223372036854775807 ∷ negsuc 9223372036854775807 ∷ [])
     ≡ (pos 18446744073709551614, pos 18446744073709551614) ∷ (negsuc 0, negsuc 0) ∷ []
 unfolding window_index sum_interval

@@ -17,6 +17,7 @@ use Rattle.ss_model.specs.History.{values_of, Happened}
 use Rattle.ss_model.specs.Marks.{has_open, with_closed, with_marked, with_opened}
 use Rattle.ss_model.specs.Refusals.{IsHistory}
 use Rattle.ss_model.specs.Standing.{IsStream}
+use Rattle.ss_model.specs.Rule.{rule_of}
 use Rattle.ss_model.specs.State.{Created, Stream, state, standing, stream_after, stream_named, values_in}
 use Rattle.ss_model.specs.Steps.{change_named, stepped_from, with_taken, with_plain_value}
 use Rattle.ss_model.proofs.DecayLemmas.{length-windows, IsWithinTarget-windows}
@@ -72,10 +73,10 @@ pub decay-state : (history : List Happened) →
 decay-state history =
     All-state (λ s. 0 < values_in s → length s.windows + 1 ≤ 2 * cover (lengths_of s.params) (values_in s)) history
     (λ c some.
-    let len = lengths_of c.params in
+    let rule = rule_of c.params in
     let values = values_of history c.name in
-    let count = taken-windows len values in
-    rw count (length-windows len values (omega arith)))
+    let count = taken-windows rule values in
+    rw count (length-windows (lengths_of c.params) values (omega arith)))
 
 pub within-state : (history : List Happened) → IsHistory history →
     All (λ s. All (IsWithinTarget (lengths_of s.params) (values_in s)) s.windows) (state history)
@@ -86,7 +87,7 @@ within-state history whole =
     All-get_or (λ s. has_target s.params ≡ true → All (IsWithinTarget (lengths_of s.params) (values_in s)) s.windows) (state history) k d inside
     (All-state (λ s. has_target s.params ≡ true → All (IsWithinTarget (lengths_of s.params) (values_in s)) s.windows) history
     (λ c target.
-    let len = lengths_of c.params in
+    let rule = rule_of c.params in
     let values = values_of history c.name in
-    rw (taken-windows len values) (IsWithinTarget-windows len values (lengths_of-positive c.params target) (lengths_of-never_fall c.params target))))
+    rw (taken-windows rule values) (IsWithinTarget-windows rule values (lengths_of-positive c.params target) (lengths_of-never_fall c.params target))))
     has.target

@@ -14,12 +14,12 @@ use Rattle.ss_landmarks.specs.Free.{is_free}
 use Rattle.ss_landmarks.specs.Landmark.{Landmark, open_landmark}
 use Rattle.ss_landmarks.specs.Order.{AreLandmarks}
 use Rattle.ss_summary.specs.Summaries as summaries
-use Rattle.ss_target.specs.Lengths.{lengths_of}
 use Rattle.ss_summary.specs.Points.{Point, Origin}
 use Rattle.ss_model.specs.History.{Given, given_after, given_to, is_for, landmarks_of, values_of, Happened}
 use Rattle.ss_model.specs.Marks.{has_open, later, latest_of, with_closed, with_marked, with_opened}
 use Rattle.ss_model.specs.Refusals.{IsHistory, is_before, is_early, is_opening, is_past, refuses}
 use Rattle.ss_model.specs.Standing.{IsStream}
+use Rattle.ss_model.specs.Rule.{rule_of}
 use Rattle.ss_model.specs.State.{Created, Stream, state, standing, stream_after, stream_named, last_time}
 use Rattle.ss_model.specs.Truth.{RiseAtFree}
 use Rattle.ss_model.specs.Windows.{time_of_last}
@@ -156,11 +156,11 @@ last_time-named : (history : List Happened) (name : List ℕ) (s : Stream) → I
 last_time-named history name s of =
     let values = values_of history of.created.name in
     ap last_time of.is
-    ∙ ap (λ o. later o (latest_of (landmarks_of history of.created.name))) (newest_time-windows (lengths_of of.created.params) values)
+    ∙ ap (λ o. later o (latest_of (landmarks_of history of.created.name))) (newest_time-windows (rule_of of.created.params) values)
     ∙ ap (λ n. latest_given (given_to history n)) of.named
 
 -- what holds of each stream holds of one that is named
-All-named : (P : Stream → Type 0) (name : List ℕ) (streams : List Stream) (s : Stream) → All P streams → stream_named name streams ≡ Some s → P s
+pub All-named : (P : Stream → Type 0) (name : List ℕ) (streams : List Stream) (s : Stream) → All P streams → stream_named name streams ≡ Some s → P s
 All-named P name [] s all found = cc
 All-named P name (u ∷ us) s all found = elim (cases_Bool (same_name name u.name)) [
   | inl same ↦ (let here : Some u ≡ Some s = rw same at found in let here : u ≡ s = cc in subst P here (All-head P u us all))

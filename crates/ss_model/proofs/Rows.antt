@@ -8,6 +8,7 @@ use Rattle.ss_summary.specs.Filters.{bit_of, filter_of, full, union}
 use Rattle.ss_summary.specs.Points.{Point, New}
 use Rattle.ss_summary.specs.declared.filter.Filter.{Filter}
 use Rattle.ss_model.specs.Boundaries.{boundaries}
+use Rattle.ss_model.specs.Rule.{without_step}
 use Rattle.ss_model.specs.Windows.{stretches, windows}
 use Rattle.ss_model.specs.Closed.{closed}
 use Rattle.ss_model.specs.Joins.{JoinsDue}
@@ -21,37 +22,37 @@ most_values : MOST_VALUES ≡ GREATEST_COUNT
 most_values = refl
 
 -- the windows are one more than the boundaries: 1, 2, 2, 3, 3, 4, 3
-boundaries-1 : boundaries (exp_length 2 1 1) 1 ≡ []
+boundaries-1 : boundaries (without_step (exp_length 2 1 1)) (λ position. 0) 1 ≡ []
 unfolding window_index
 boundaries-1 = refl
 
-boundaries-2 : boundaries (exp_length 2 1 1) 2 ≡ 1 ∷ []
+boundaries-2 : boundaries (without_step (exp_length 2 1 1)) (λ position. 0) 2 ≡ 1 ∷ []
 unfolding window_index
 boundaries-2 = refl
 
-boundaries-3 : boundaries (exp_length 2 1 1) 3 ≡ 2 ∷ []
+boundaries-3 : boundaries (without_step (exp_length 2 1 1)) (λ position. 0) 3 ≡ 2 ∷ []
 unfolding window_index
 boundaries-3 = refl
 
-boundaries-4 : boundaries (exp_length 2 1 1) 4 ≡ 2 ∷ 3 ∷ []
+boundaries-4 : boundaries (without_step (exp_length 2 1 1)) (λ position. 0) 4 ≡ 2 ∷ 3 ∷ []
 unfolding window_index
 boundaries-4 = refl
 
-boundaries-5 : boundaries (exp_length 2 1 1) 5 ≡ 2 ∷ 4 ∷ []
+boundaries-5 : boundaries (without_step (exp_length 2 1 1)) (λ position. 0) 5 ≡ 2 ∷ 4 ∷ []
 unfolding window_index
 boundaries-5 = refl
 
-boundaries-6 : boundaries (exp_length 2 1 1) 6 ≡ 2 ∷ 4 ∷ 5 ∷ []
+boundaries-6 : boundaries (without_step (exp_length 2 1 1)) (λ position. 0) 6 ≡ 2 ∷ 4 ∷ 5 ∷ []
 unfolding window_index
 boundaries-6 = refl
 
-boundaries-7 : boundaries (exp_length 2 1 1) 7 ≡ 4 ∷ 6 ∷ []
+boundaries-7 : boundaries (without_step (exp_length 2 1 1)) (λ position. 0) 7 ≡ 4 ∷ 6 ∷ []
 unfolding window_index
 boundaries-7 = refl
 
 -- the same for power-law targets: 1, 2, 2, 3, 3, 4, 4, then windows of 2 for ever, and with windows of 1 one for each value
 boundary_rows : (ℕ → ℕ) → List ℕ → List (List ℕ)
-boundary_rows len = map (boundaries len)
+boundary_rows len = map (boundaries (without_step len) (λ position. 0))
 
 boundaries-growing : boundary_rows (power_length 1 1 1 1) (1 ∷ 2 ∷ 3 ∷ 4 ∷ 5 ∷ 6 ∷ 7 ∷ []) ≡
     [] ∷ (1 ∷ []) ∷ (2 ∷ []) ∷ (2 ∷ 3 ∷ []) ∷ (2 ∷ 4 ∷ []) ∷ (2 ∷ 4 ∷ 5 ∷ []) ∷ (2 ∷ 4 ∷ 6 ∷ []) ∷ []
@@ -98,7 +99,7 @@ readings_windows =
     }
     ∷ []
 
-windows-readings : windows (exp_length 2 1 1) readings ≡ readings_windows
+windows-readings : windows (without_step (exp_length 2 1 1)) readings ≡ readings_windows
 unfolding window_index readings bit_of filter_of union
 windows-readings = refl
 
@@ -128,15 +129,15 @@ ending : List ℕ → List Window
 ending bs = stretches 1 bs readings
 
 -- of the windows 1 to 2, 3 to 4, 5, 6 and 7 the first two are due at 7, and so are the next two
-closed-apart : closed (exp_length 2 1 1) 7 (ending (2 ∷ 4 ∷ 5 ∷ 6 ∷ [])) ≡ ending (4 ∷ 6 ∷ [])
+closed-apart : closed (without_step (exp_length 2 1 1)) 7 (ending (2 ∷ 4 ∷ 5 ∷ 6 ∷ [])) ≡ ending (4 ∷ 6 ∷ [])
 unfolding window_index ending readings bit_of filter_of union
 closed-apart = refl
 
-closed-older_joined : closed (exp_length 2 1 1) 7 (ending (4 ∷ 5 ∷ 6 ∷ [])) ≡ ending (4 ∷ 6 ∷ [])
+closed-older_joined : closed (without_step (exp_length 2 1 1)) 7 (ending (4 ∷ 5 ∷ 6 ∷ [])) ≡ ending (4 ∷ 6 ∷ [])
 unfolding window_index ending readings bit_of filter_of union
 closed-older_joined = refl
 
-closed-newer_joined : closed (exp_length 2 1 1) 7 (ending (2 ∷ 4 ∷ 6 ∷ [])) ≡ ending (4 ∷ 6 ∷ [])
+closed-newer_joined : closed (without_step (exp_length 2 1 1)) 7 (ending (2 ∷ 4 ∷ 6 ∷ [])) ≡ ending (4 ∷ 6 ∷ [])
 unfolding window_index ending readings bit_of filter_of union
 closed-newer_joined = refl
 
@@ -165,7 +166,7 @@ pair = record {
 }
 
 -- they are joined in either order
-JoinsDue-newer_first : JoinsDue (exp_length 2 1 1) 7 (ending (2 ∷ 4 ∷ 5 ∷ 6 ∷ [])) (ending (4 ∷ 6 ∷ []))
+JoinsDue-newer_first : JoinsDue (without_step (exp_length 2 1 1)) 7 (ending (2 ∷ 4 ∷ 5 ∷ 6 ∷ [])) (ending (4 ∷ 6 ∷ []))
 unfolding window_index ending readings reading older newer pair bit_of filter_of union
 JoinsDue-newer_first = (
   2,

@@ -14,19 +14,18 @@ use Rattle.ss_catalog.specs.declared.TheConstants.{MOST_STREAMS, LAST_STREAM, LA
 use Rattle.ss_catalog.specs.declared.event.Event.{Event}
 use Rattle.ss_catalog.specs.declared.event.Event.TheVariants.{Create, Value, Open, Close, Drop}
 use Rattle.ss_catalog.specs.declared.params.Params.{Params}
-use Rattle.ss_target.specs.Lengths.{lengths_of}
 use Rattle.ss_summary.specs.Figures.{IsPossible}
 use Rattle.ss_summary.specs.Summaries.{summary_of}
 use Rattle.ss_summary.specs.declared.summary.TheConstants.{LATEST_TIME}
 use Rattle.ss_summary.proofs.Values.{IsPossible-summary_of}
-use Rattle.ss_windowing.specs.Windowing.{fits}
 use Rattle.ss_windowing.specs.declared.decay.TheConstants.{MOST_VALUES}
 use Rattle.ss_summary.specs.Points.{Point, Origin}
-use Rattle.ss_model.specs.Closed.{closed, closed_onto, joined_window, last_position}
+use Rattle.ss_model.specs.Closed.{closed, closed_onto, joined_window, may_join}
 use Rattle.ss_model.specs.History.{CanBeSaid}
 use Rattle.ss_model.specs.Marks.{has_open, with_closed, with_marked, with_opened}
 use Rattle.ss_model.specs.Refusals.{has_all_records, is_before, is_early, has_most_values, is_past, of_named, refuses}
 use Rattle.ss_model.specs.Standing.{IsStream, IsState}
+use Rattle.ss_model.specs.Rule.{Rule, rule_of}
 use Rattle.ss_model.specs.State.{Stream, next_number, numbers_of, names_of, stream_named, values_in, last_time, live, records_of}
 use Rattle.ss_model.specs.Steps.{change_named, single_window, stepped_from, with_taken, with_plain_value}
 use Rattle.ss_model.specs.declared.types.TheConstants.{MOST_RECORDS}
@@ -39,17 +38,17 @@ use Rattle.ss_model.proofs.StreamLemmas.{records_of-marked, records_of-opened}
 use Rattle.ss_model.proofs.Tiles.{AreWindows-nil}
 
 -- closing makes no windows
-length-closed_onto : (len : ℕ → ℕ) (n : ℕ) (w : Window) (ws : List Window) → length (closed_onto len n w ws) ≤ length (w ∷ ws)
-length-closed_onto len n w [] = omega arith
-length-closed_onto len n w (v ∷ vs) =
-    let joined = length-closed_onto len n (joined_window w v) vs in
-    let apart = length-closed_onto len n v vs in
-    cond_both (fits len w.first (last_position v) n) (closed_onto len n (joined_window w v) vs) (w ∷ closed_onto len n v vs)
+length-closed_onto : (rule : Rule) (n : ℕ) (w : Window) (ws : List Window) → length (closed_onto rule n w ws) ≤ length (w ∷ ws)
+length-closed_onto rule n w [] = omega arith
+length-closed_onto rule n w (v ∷ vs) =
+    let joined = length-closed_onto rule n (joined_window w v) vs in
+    let apart = length-closed_onto rule n v vs in
+    cond_both (may_join rule n w v) (closed_onto rule n (joined_window w v) vs) (w ∷ closed_onto rule n v vs)
     (λ us. length us ≤ length (w ∷ v ∷ vs)) (λ fit. omega arith) (λ unfit. omega arith)
 
-pub length-closed_le : (len : ℕ → ℕ) (n : ℕ) (ws : List Window) → length (closed len n ws) ≤ length ws
-length-closed_le len n [] = omega arith
-length-closed_le len n (w ∷ ws) = length-closed_onto len n w ws
+pub length-closed_le : (rule : Rule) (n : ℕ) (ws : List Window) → length (closed rule n ws) ≤ length ws
+length-closed_le rule n [] = omega arith
+length-closed_le rule n (w ∷ ws) = length-closed_onto rule n w ws
 
 -- a time that isn't past is later than the last one
 pub later-is_past : (last : Option ℕ) (t : ℕ) → is_past last t ≡ false → (old : ℕ) → last ≡ Some old → old < t
@@ -109,7 +108,7 @@ IsState-create origin streams name params before can =
 records_of-value : (s : Stream) (p : Point) → records_of (with_plain_value s p) ≤ records_of s + 1
 records_of-value s p =
     let n = values_in s + 1 in
-    omega (arith, length-closed_le (lengths_of s.params) n (s.windows ++ single_window n p ∷ []), length_push s.windows (single_window n p))
+    omega (arith, length-closed_le (rule_of s.params) n (s.windows ++ single_window n p ∷ []), length_push s.windows (single_window n p))
 
 -- another stream of the same name and number in the place of one
 IsState-set : (before after : List Stream) (s u : Stream) → IsState (before ++ s ∷ after) → u.number ≡ s.number → u.name ≡ s.name →

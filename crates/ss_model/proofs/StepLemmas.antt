@@ -12,10 +12,11 @@ use Rattle.ss_catalog.specs.declared.event.Event.TheVariants.{Create, Value, Ope
 use Rattle.ss_catalog.specs.declared.params.Params.{Params}
 use Rattle.ss_catalog.specs.declared.refusal.Refusal.{Refusal}
 use Rattle.ss_catalog.specs.declared.refusal.Refusal.TheVariants as refusal
-use Rattle.ss_target.specs.Lengths.{has_target, lengths_of}
+use Rattle.ss_target.specs.Lengths.{has_target}
 use Rattle.ss_summary.specs.Points.{Point, Origin}
 use Rattle.ss_model.specs.History.{Given, creates, given_after, given_to, Happened}
 use Rattle.ss_model.specs.Marks.{has_open, with_closed, with_opened}
+use Rattle.ss_model.specs.Rule.{rule_of}
 use Rattle.ss_model.specs.State.{Created, Stream, next_number, standing_after, standing, stream_after, state, last_time}
 use Rattle.ss_model.specs.Refusals.{stands, has_all_streams, has_all_records, is_before, is_early, has_most_values, is_past, first_that_applies, of_named}
 use Rattle.ss_model.specs.Refusals.{refuses}
@@ -69,14 +70,14 @@ stream_given c given = record {
   number = c.number;
   name = c.name;
   params = c.params;
-  windows = windows (lengths_of c.params) given.plain;
+  windows = windows (rule_of c.params) given.plain;
   landmarks = given.landmarks;
 }
 
 stream_given-plain : (c : Created) (given : Given) (p : Point) →
     stream_given c (record given { plain = given.plain ++ p ∷ [] }) ≡ with_plain_value (stream_given c given) p
 stream_given-plain c given p =
-    let len = lengths_of c.params in rw (windows_push len given.plain p, taken-windows len given.plain) refl
+    let rule = rule_of c.params in rw (windows_push rule given.plain p, taken-windows rule given.plain) refl
 
 stream_given-value : (c : Created) (origin : Origin) (given : Given) (name : List ℕ) (t : ℕ) (v : ℤ) (begun : Bool) → has_open given.landmarks ≡ begun →
     stream_given c (given_after origin given (Value name t v)) ≡ with_taken (stream_given c given) (t, v, origin)

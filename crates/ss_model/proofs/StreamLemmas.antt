@@ -19,7 +19,6 @@ use Rattle.ss_landmarks.proofs.OrderLemmas.{AreLandmarks-close, AreLandmarks-tak
 use Rattle.ss_landmarks.proofs.TimeLemmas.{CanClose-after, CanOpen-after, CanTake-after, CanTake-first, all_values-close, all_values-open, all_values-take}
 use Rattle.ss_summary.specs.Figures.{IsPossible}
 use Rattle.ss_summary.specs.Summaries.{summary_of}
-use Rattle.ss_target.specs.Lengths.{lengths_of}
 use Rattle.ss_windowing.specs.declared.decay.TheConstants.{MOST_VALUES}
 use Rattle.ss_summary.specs.Points.{Point}
 use Rattle.ss_model.specs.Closed.{closed}
@@ -27,6 +26,7 @@ use Rattle.ss_model.specs.Joins.{JoinsDue}
 use Rattle.ss_model.specs.Marks.{has_open, lies_free, with_closed, with_marked, with_opened}
 use Rattle.ss_model.specs.Refusals.{is_before, is_early, is_opening, is_past}
 use Rattle.ss_model.specs.Standing.{IsStream}
+use Rattle.ss_model.specs.Rule.{Rule, rule_of}
 use Rattle.ss_model.specs.State.{Stream, last_time, records_of, values_in}
 use Rattle.ss_model.specs.Steps.{single_window, with_plain_value}
 use Rattle.ss_model.specs.Windows.{newest_time}
@@ -189,24 +189,24 @@ IsStream-single s p sound none past few possible =
     }
 
 -- with some windows that are due joined, however many
-pub IsStream-joined : (len : ℕ → ℕ) (n : ℕ) (s : Stream) (ws : List Window) → IsStream s → JoinsDue len n s.windows ws →
+pub IsStream-joined : (rule : Rule) (n : ℕ) (s : Stream) (ws : List Window) → IsStream s → JoinsDue rule n s.windows ws →
     IsStream (record s { windows = ws })
-IsStream-joined len n s ws sound joins = record {
+IsStream-joined rule n s ws sound joins = record {
   target = sound.target;
   number = sound.number;
-  windows = AreWindows-JoinsDue len n s.windows ws sound.windows joins;
+  windows = AreWindows-JoinsDue rule n s.windows ws sound.windows joins;
   landmarks = sound.landmarks;
-  free = lie_free-JoinsDue len n s.windows ws s.landmarks sound.windows joins sound.free;
+  free = lie_free-JoinsDue rule n s.windows ws s.landmarks sound.windows joins sound.free;
 }
 
 -- and after those that are due are joined
 pub IsStream-value : (s : Stream) (p : Point) → IsStream s → has_open s.landmarks ≡ false → is_past (last_time s) p.0 ≡ false →
     values_in s < MOST_VALUES → IsPossible (summary_of (p ∷ [])) → IsStream (with_plain_value s p)
 IsStream-value s p sound none past few possible =
-    let len = lengths_of s.params in
+    let rule = rule_of s.params in
     let n = values_in s + 1 in
     let ws = s.windows ++ single_window n p ∷ [] in
-    IsStream-joined len n (record s { windows = ws }) (closed len n ws) (IsStream-single s p sound none past few possible) (JoinsDue-closed len n ws)
+    IsStream-joined rule n (record s { windows = ws }) (closed rule n ws) (IsStream-single s p sound none past few possible) (JoinsDue-closed rule n ws)
 
 -- ---- how many records it needs then
 

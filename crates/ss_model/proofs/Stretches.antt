@@ -6,7 +6,8 @@ use Rattle.ss_summary.specs.Summaries.{summary_of}
 use Rattle.ss_summary.proofs.SummaryLemmas.{time_at_end-append}
 use Rattle.ss_summary.specs.Points.{Point}
 use Rattle.ss_model.specs.Boundaries.{boundaries}
-use Rattle.ss_model.specs.Windows.{stretches, windows, taken, newest_time, time_of_last}
+use Rattle.ss_model.specs.Rule.{Rule}
+use Rattle.ss_model.specs.Windows.{stretches, windows, taken, newest_time, time_at, time_of_last}
 use Rattle.ss_model.specs.declared.types.Window.{Window}
 use Rattle.ss_model.proofs.Rises.{Rises, Rises-low, Rises-boundaries}
 
@@ -40,10 +41,10 @@ taken-stretches before end (b ∷ bs) (p ∷ ps) count rising =
     let w : Window = record { first = before + 1; summary = summary_of (take k (p ∷ ps)) } in
     omega (arith, taken-cons w (stretches (b + 1) bs (drop k (p ∷ ps))), count-summary_of (take k (p ∷ ps)))
 
-pub taken-windows : (len : ℕ → ℕ) (values : List Point) → taken (windows len values) ≡ length values
-taken-windows len [] = refl
-taken-windows len (p ∷ ps) = taken-stretches 0 (length (p ∷ ps)) (boundaries len (length (p ∷ ps))) (p ∷ ps) (omega arith)
-    (Rises-boundaries len (length (p ∷ ps)) (omega arith))
+pub taken-windows : (rule : Rule) (values : List Point) → taken (windows rule values) ≡ length values
+taken-windows rule [] = refl
+taken-windows rule (p ∷ ps) = taken-stretches 0 (length (p ∷ ps)) (boundaries rule (time_at (p ∷ ps)) (length (p ∷ ps))) (p ∷ ps) (omega arith)
+    (Rises-boundaries rule (time_at (p ∷ ps)) (length (p ∷ ps)) (omega arith))
 
 time_of_last-append : (xs ys : List Point) → 0 < length ys → time_of_last (xs ++ ys) ≡ time_of_last ys
 time_of_last-append xs [] some = absurd (omega arith)
@@ -70,10 +71,10 @@ newest_time-stretches before end (b ∷ bs) (p ∷ ps) count rising =
     newest_time_behind (record { first = before + 1; summary = summary_of front }) (b + 1) bs rest (omega arith)
     ∙ later ∙ sym (time_of_last-append front rest (omega arith)) ∙ ap time_of_last (take-append-drop k (p ∷ ps))
 
-pub newest_time-windows : (len : ℕ → ℕ) (values : List Point) → newest_time (windows len values) ≡ time_of_last values
-newest_time-windows len [] = refl
-newest_time-windows len (p ∷ ps) = newest_time-stretches 0 (length (p ∷ ps)) (boundaries len (length (p ∷ ps))) (p ∷ ps) (omega arith)
-    (Rises-boundaries len (length (p ∷ ps)) (omega arith))
+pub newest_time-windows : (rule : Rule) (values : List Point) → newest_time (windows rule values) ≡ time_of_last values
+newest_time-windows rule [] = refl
+newest_time-windows rule (p ∷ ps) = newest_time-stretches 0 (length (p ∷ ps)) (boundaries rule (time_at (p ∷ ps)) (length (p ∷ ps))) (p ∷ ps) (omega arith)
+    (Rises-boundaries rule (time_at (p ∷ ps)) (length (p ∷ ps)) (omega arith))
 
 pub stretches_none : (first : ℕ) (values : List Point) → 0 < length values →
     stretches first [] values ≡ record { first = first; summary = summary_of values } ∷ []

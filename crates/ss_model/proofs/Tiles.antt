@@ -4,14 +4,14 @@ use Rattle.std.proofs.Common.{take, drop, append_assoc}
 use Rattle.std.proofs.lemmas.List.{take-append-drop, drop_more}
 use Rattle.std.proofs.lemmas.Bool.{cond_both}
 use Rattle.std.proofs.lemmas.List.Sums.{sum_by-append}
-use Rattle.ss_windowing.specs.Windowing.{fits}
 use Rattle.ss_windowing.specs.declared.decay.TheConstants.{MOST_VALUES}
 use Rattle.ss_summary.specs.Figures.{IsPossible}
 use Rattle.ss_summary.specs.Summaries.{summary_of, joined}
 use Rattle.ss_summary.proofs.SummaryLemmas.{IsPossible-joined}
 use Rattle.ss_summary.specs.Points.{Point}
 use Rattle.ss_model.specs.Windows.{taken, newest_time}
-use Rattle.ss_model.specs.Closed.{last_position, joined_window, closed_onto, closed}
+use Rattle.ss_model.specs.Closed.{last_position, joined_window, may_join, closed_onto, closed}
+use Rattle.ss_model.specs.Rule.{Rule}
 use Rattle.ss_model.specs.Tiling.{StandFrom, AreWindows, AreNeighbours}
 use Rattle.ss_model.specs.declared.types.Window.{Window}
 use Rattle.ss_model.proofs.Stretches.{taken-cons}
@@ -112,21 +112,21 @@ AreWindows_joined us vs w v tiles possible = record {
   );
 }
 
-pub AreWindows-closed_onto : (len : ℕ → ℕ) (n : ℕ) (us : List Window) (w : Window) (ws : List Window) →
-    AreWindows (us ++ w ∷ ws) → AreWindows (us ++ closed_onto len n w ws)
-AreWindows-closed_onto len n us w [] tiles = tiles
-AreWindows-closed_onto len n us w (v ∷ vs) tiles =
+pub AreWindows-closed_onto : (rule : Rule) (n : ℕ) (us : List Window) (w : Window) (ws : List Window) →
+    AreWindows (us ++ w ∷ ws) → AreWindows (us ++ closed_onto rule n w ws)
+AreWindows-closed_onto rule n us w [] tiles = tiles
+AreWindows-closed_onto rule n us w (v ∷ vs) tiles =
     let pair = AreNeighbours-from_AreWindows us vs w v tiles in
     let front : IsPossible w.summary = IsPossible-from_AreWindows us (v ∷ vs) w tiles in
     let moved : AreWindows ((us ++ w ∷ []) ++ v ∷ vs) = rw (append_assoc us (w ∷ []) (v ∷ vs)) tiles in
     let back : IsPossible v.summary = IsPossible-from_AreWindows (us ++ w ∷ []) vs v moved in
     let one = IsPossible-joined w.summary v.summary front back pair.times pair.few in
-    let apart = AreWindows-closed_onto len n (us ++ w ∷ []) v vs moved in
-    cond_both (fits len w.first (last_position v) n) (closed_onto len n (joined_window w v) vs) (w ∷ closed_onto len n v vs)
+    let apart = AreWindows-closed_onto rule n (us ++ w ∷ []) v vs moved in
+    cond_both (may_join rule n w v) (closed_onto rule n (joined_window w v) vs) (w ∷ closed_onto rule n v vs)
     (λ (zs : List Window). AreWindows (us ++ zs))
-    (λ fit. AreWindows-closed_onto len n us (joined_window w v) vs (AreWindows_joined us vs w v tiles one))
-    (λ unfit. rw (append_assoc us (w ∷ []) (closed_onto len n v vs)) at apart)
+    (λ fit. AreWindows-closed_onto rule n us (joined_window w v) vs (AreWindows_joined us vs w v tiles one))
+    (λ unfit. rw (append_assoc us (w ∷ []) (closed_onto rule n v vs)) at apart)
 
-pub AreWindows-closed : (len : ℕ → ℕ) (n : ℕ) (ws : List Window) → AreWindows ws → AreWindows (closed len n ws)
-AreWindows-closed len n [] tiles = tiles
-AreWindows-closed len n (w ∷ ws) tiles = AreWindows-closed_onto len n [] w ws tiles
+pub AreWindows-closed : (rule : Rule) (n : ℕ) (ws : List Window) → AreWindows ws → AreWindows (closed rule n ws)
+AreWindows-closed rule n [] tiles = tiles
+AreWindows-closed rule n (w ∷ ws) tiles = AreWindows-closed_onto rule n [] w ws tiles

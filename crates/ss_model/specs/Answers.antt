@@ -1,22 +1,25 @@
 -- What a state answers to a query, and when that is true.
-use Rattle.std.specs.Prelude.{◌≡◌, ℕ, ◌≤◌, Bool, true, false, not, nat_lt, ℤ, ◌≤ℤ◌, List, [], ◌∷◌, Option, option_map}
+use Rattle.std.specs.Prelude.{◌≡◌, ℕ, ◌≤◌, Bool, true, false, not, nat_lt, ℤ, pos, ◌≤ℤ◌, List, [], ◌∷◌, Option, option_map}
 use Rattle.std.specs.List.{filter}
 use Rattle.std.specs.Option.{option_map_or}
+use Rattle.ss_catalog.specs.Queries.{is_guess}
 use Rattle.ss_catalog.specs.declared.query.Kind.{Kind}
 use Rattle.ss_catalog.specs.declared.query.Kind.TheVariants as kinds
 use Rattle.ss_catalog.specs.declared.query.Query.{Query}
 use Rattle.ss_catalog.specs.declared.refusal.Refusal.{Refusal}
 use Rattle.ss_catalog.specs.declared.refusal.Refusal.TheVariants.{Unknown, Range}
+use Rattle.ss_bounds.specs.Guess.{count_guess, sum_guess}
 use Rattle.ss_bounds.specs.Truth.{HoldsExtreme}
 use Rattle.ss_landmarks.specs.Free.{is_free}
 use Rattle.ss_summary.specs.Points.{Point}
-use Rattle.ss_model.specs.Interval.{interval_of_count, interval_of_sum, interval_of_least, interval_of_greatest, is_split, presence_of, IsExact}
+use Rattle.ss_model.specs.Interval.{interval_of_count, interval_of_sum, interval_of_least, interval_of_greatest, is_split, known_count, known_sum, presence_of, split_windows}
+use Rattle.ss_model.specs.Interval.{IsExact}
 use Rattle.ss_model.specs.Marks.{marked_values}
 use Rattle.ss_model.specs.Refusals.{stands, first_that_applies}
 use Rattle.ss_model.specs.State.{Stream, stream_named}
-use Rattle.ss_model.specs.Truth.{true_count, true_sum, true_least, true_greatest, true_presence}
+use Rattle.ss_model.specs.Truth.{true_amount, true_count, true_sum, true_least, true_greatest, true_presence}
 use Rattle.ss_model.specs.declared.outcome.Outcome.{Outcome}
-use Rattle.ss_model.specs.declared.outcome.Outcome.TheVariants.{Count, Sum, Min, Max, Has}
+use Rattle.ss_model.specs.declared.outcome.Outcome.TheVariants.{Count, Sum, Min, Max, Has, Estimate}
 use Rattle.ss_model.specs.declared.outcome.Presence.{Presence}
 use Rattle.ss_model.specs.declared.outcome.Presence.TheVariants.{Absent, Present, Maybe}
 use Rattle.ss_model.specs.declared.types.Window.{Window}
@@ -38,6 +41,12 @@ answer_of_kind kinds.Sum free from to windows marked =
 answer_of_kind kinds.Min free from to windows marked = Min (interval_of_least free from to windows marked)
 answer_of_kind kinds.Max free from to windows marked = Max (interval_of_greatest free from to windows marked)
 answer_of_kind (kinds.Has value) free from to windows marked = Has (presence_of value free from to windows marked)
+answer_of_kind kinds.CountGuess free from to windows marked =
+    let counts = interval_of_count free from to windows marked in
+    Estimate (pos counts.0) (count_guess (pos (known_count from to windows marked)) (split_windows free from to windows)) (pos counts.1)
+answer_of_kind kinds.SumGuess free from to windows marked =
+    let sums = interval_of_sum free from to windows marked in
+    Estimate sums.0 (sum_guess (known_sum from to windows marked) (split_windows free from to windows)) sums.1
 
 -- the answer of a stream
 abbrev pub answer_of : Query → Stream → Outcome
@@ -46,6 +55,21 @@ answer_of query s = answer_of_kind query.kind (is_free s.landmarks) query.from q
 -- the answer of a state, where the stream stands
 unfoldable pub outcome_of : List Stream → Query → Option Outcome
 outcome_of streams query = option_map (answer_of query) (stream_named query.name streams)
+
+-- the query that is answered by the interval alone, where this one is answered by a guess too
+abbrev pub unguessed : Kind → Kind
+unguessed kinds.CountGuess = kinds.Count
+unguessed kinds.SumGuess = kinds.Sum
+unguessed kind = kind
+
+abbrev pub interval_query : Query → Query
+interval_query query = record { name = query.name; kind = unguessed query.kind; from = query.from; to = query.to }
+
+-- an answer with a guess has the same ends as one by an interval
+abbrev pub HasEnds : Outcome → Outcome → Type 0
+HasEnds (Estimate lo guess hi) (Count least most) = (lo ≡ pos least) × (hi ≡ pos most)
+HasEnds (Estimate lo guess hi) (Sum least most) = (lo ≡ least) × (hi ≡ most)
+HasEnds _ _ = ⊥
 
 -- the windows of the stream that the range splits
 abbrev pub split_by : List Stream → Query → List Window
@@ -67,6 +91,9 @@ HoldsTruth query plain marked (Min e) = HoldsExtreme e (true_least query.from qu
 HoldsTruth query plain marked (Max e) = HoldsExtreme e (true_greatest query.from query.to plain marked)
 HoldsTruth query plain marked (Has presence) =
     (value : ℤ) × (query.kind ≡ kinds.Has value) × HoldsPresence presence (true_presence value query.from query.to plain marked)
+-- a guess lies in the interval, as the truth does
+HoldsTruth query plain marked (Estimate lo guess hi) =
+    let truth = true_amount query.kind query.from query.to plain marked in (lo ≤ℤ truth) × (truth ≤ℤ hi) × (lo ≤ℤ guess) × (guess ≤ℤ hi)
 
 -- an answer is to what was asked for
 abbrev pub IsOfKind : Kind → Outcome → Type 0
@@ -75,6 +102,7 @@ IsOfKind kind (Sum lo hi) = kind ≡ kinds.Sum
 IsOfKind kind (Min e) = kind ≡ kinds.Min
 IsOfKind kind (Max e) = kind ≡ kinds.Max
 IsOfKind kind (Has _) = (value : ℤ) × (kind ≡ kinds.Has value)
+IsOfKind kind (Estimate lo guess hi) = is_guess kind ≡ true
 
 -- an answer is one number, or says that there is no value. Of whether a value is there nothing is said: a window may leave that open
 -- which lies whole in the range.
@@ -84,3 +112,4 @@ IsExactOutcome (Sum lo hi) = lo ≡ hi
 IsExactOutcome (Min e) = IsExact e
 IsExactOutcome (Max e) = IsExact e
 IsExactOutcome (Has _) = Unit {0}
+IsExactOutcome (Estimate lo guess hi) = (lo ≡ guess) × (guess ≡ hi)

@@ -1,24 +1,24 @@
 -- Windows that come from others by joining neighbours that are due.
 use Rattle.std.specs.Prelude.{◌≡◌, ℕ, zero, suc, true, List, ◌∷◌, ◌++◌}
-use Rattle.ss_windowing.specs.Windowing.{fits}
-use Rattle.ss_model.specs.Closed.{last_position, joined_window}
+use Rattle.ss_model.specs.Closed.{joined_window, may_join}
+use Rattle.ss_model.specs.Rule.{Rule}
 use Rattle.ss_model.specs.declared.types.Window.{Window}
 
--- one join: two neighbours that lie together in one target window at n become one, and the others stay
-pub record JoinsTwo (len : ℕ → ℕ) (n : ℕ) (old new : List Window) : Type 0 where
+-- one join: two neighbours that may be one at n become one, and the others stay
+pub record JoinsTwo (rule : Rule) (n : ℕ) (old new : List Window) : Type 0 where
   pub before : List Window
   pub window : Window
   pub next : Window
   pub rest : List Window
   pub was : old ≡ before ++ window ∷ next ∷ rest
   pub is : new ≡ before ++ joined_window window next ∷ rest
-  pub due : fits len window.first (last_position next) n ≡ true
+  pub due : may_join rule n window next ≡ true
 
 -- so many joins, one after another
-abbrev pub Joins : (ℕ → ℕ) → ℕ → ℕ → List Window → List Window → Type 0
-Joins len n zero old new = old ≡ new
-Joins len n (suc k) old new = (between : List Window) × JoinsTwo len n old between × Joins len n k between new
+abbrev pub Joins : Rule → ℕ → ℕ → List Window → List Window → Type 0
+Joins rule n zero old new = old ≡ new
+Joins rule n (suc k) old new = (between : List Window) × JoinsTwo rule n old between × Joins rule n k between new
 
 -- any number of joins, of whichever neighbours are due, in whichever order
-abbrev pub JoinsDue : (ℕ → ℕ) → ℕ → List Window → List Window → Type 0
-JoinsDue len n old new = (k : ℕ) × Joins len n k old new
+abbrev pub JoinsDue : Rule → ℕ → List Window → List Window → Type 0
+JoinsDue rule n old new = (k : ℕ) × Joins rule n k old new

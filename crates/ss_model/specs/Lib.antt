@@ -1,3 +1,4 @@
+pub mod Rule
 pub mod Boundaries
 pub mod Windows
 pub mod Closed

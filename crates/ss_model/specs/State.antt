@@ -5,9 +5,9 @@ use Rattle.ss_catalog.specs.declared.event.Event.{Event}
 use Rattle.ss_catalog.specs.declared.event.Event.TheVariants.{Create, Value, Open, Close, Drop}
 use Rattle.ss_catalog.specs.declared.params.Params.{Params}
 use Rattle.ss_landmarks.specs.Landmark.{Landmark, all_values}
-use Rattle.ss_target.specs.Lengths.{lengths_of}
 use Rattle.ss_model.specs.History.{landmarks_of, values_of, Happened}
 use Rattle.ss_model.specs.Marks.{later, latest_of}
+use Rattle.ss_model.specs.Rule.{rule_of}
 use Rattle.ss_model.specs.Windows.{windows, taken, newest_time}
 use Rattle.ss_model.specs.declared.types.Window.{Window}
 
@@ -49,7 +49,7 @@ stream_after history s = record {
   number = s.number;
   name = s.name;
   params = s.params;
-  windows = windows (lengths_of s.params) (values_of history s.name);
+  windows = windows (rule_of s.params) (values_of history s.name);
   landmarks = landmarks_of history s.name;
 }
 

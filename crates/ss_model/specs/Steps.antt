@@ -5,9 +5,9 @@ use Rattle.ss_catalog.specs.declared.event.Event.{Event}
 use Rattle.ss_catalog.specs.declared.event.Event.TheVariants.{Create, Value, Open, Close, Drop}
 use Rattle.ss_summary.specs.Points.{Point, Origin, New}
 use Rattle.ss_summary.specs.Summaries.{summary_of}
-use Rattle.ss_target.specs.Lengths.{lengths_of}
 use Rattle.ss_model.specs.Closed.{closed}
 use Rattle.ss_model.specs.Marks.{has_open, with_closed, with_marked, with_opened}
+use Rattle.ss_model.specs.Rule.{rule_of}
 use Rattle.ss_model.specs.State.{Stream, next_number, numbers_of, stream_named, values_in}
 use Rattle.ss_model.specs.declared.types.Ack.{Ack}
 use Rattle.ss_model.specs.declared.types.Window.{Window}
@@ -20,7 +20,7 @@ single_window position p = record { first = position; summary = summary_of (p �
 abbrev pub with_plain_value : Stream → Point → Stream
 with_plain_value s p =
     let n = values_in s + 1 in
-    record s { windows = closed (lengths_of s.params) n (s.windows ++ single_window n p ∷ []) }
+    record s { windows = closed (rule_of s.params) n (s.windows ++ single_window n p ∷ []) }
 
 -- a stream with one more value, which is the open landmark's, where one is open
 abbrev pub with_taken : Stream → Point → Stream

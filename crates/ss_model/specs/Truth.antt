@@ -1,11 +1,13 @@
 -- The truth of a query: the answer over all values that a stream took since it was created, which a store no longer has one by
 -- one. The values outside landmarks and those of landmarks are two lists of points.
 use Rattle.ss_summary.specs.Points.{Point}
-use Rattle.std.specs.Prelude.{◌≡◌, ℕ, ◌+◌, ◌≤◌, Bool, true, ℤ, List, [], ◌∷◌, ◌++◌, length, Option}
+use Rattle.std.specs.Prelude.{◌≡◌, ℕ, ◌+◌, ◌≤◌, Bool, true, ℤ, pos, List, [], ◌∷◌, ◌++◌, length, Option}
 use Rattle.std.specs.Ordering.{int_eq}
 use Rattle.std.specs.List.{list_any}
 use Rattle.ss_bounds.specs.Either.{least_in, greatest_in}
 use Rattle.ss_bounds.specs.Truth.{asked, total}
+use Rattle.ss_catalog.specs.declared.query.Kind.{Kind}
+use Rattle.ss_catalog.specs.declared.query.Kind.TheVariants as kinds
 
 -- the values that a query for the times from..=to asks for
 abbrev pub all_asked : ℕ → ℕ → List Point → List Point → List ℤ
@@ -21,6 +23,11 @@ true_count from to plain marked = length (all_asked from to plain marked)
 
 abbrev pub true_sum : ℕ → ℕ → List Point → List Point → ℤ
 true_sum from to plain marked = total (all_asked from to plain marked)
+
+-- what a guess is of: how many they are, or else their sum
+abbrev pub true_amount : Kind → ℕ → ℕ → List Point → List Point → ℤ
+true_amount kinds.CountGuess from to plain marked = pos (true_count from to plain marked)
+true_amount _ from to plain marked = true_sum from to plain marked
 
 abbrev pub true_least : ℕ → ℕ → List Point → List Point → Option ℤ
 true_least from to plain marked = least_in (all_asked from to plain marked)

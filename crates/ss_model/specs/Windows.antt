@@ -1,8 +1,9 @@
 -- The windows of a list of points.
-use Rattle.std.specs.Prelude.{ℕ, ◌+◌, ◌-◌, List, [], ◌∷◌, length, take, drop, sum_by, Option, Some, None}
+use Rattle.std.specs.Prelude.{ℕ, ◌+◌, ◌-◌, List, [], ◌∷◌, length, map, get_or, take, drop, sum_by, Option, Some, None}
 use Rattle.ss_summary.specs.Summaries.{summary_of, time_at_end}
 use Rattle.ss_summary.specs.Points.{Point}
 use Rattle.ss_model.specs.Boundaries.{boundaries}
+use Rattle.ss_model.specs.Rule.{Rule}
 use Rattle.ss_model.specs.declared.types.Window.{Window}
 
 -- the windows of values from a position on, cut after each boundary
@@ -13,9 +14,13 @@ stretches first (b ∷ bs) (p ∷ ps) =
     record { first = first; summary = summary_of (take (b + 1 - first) (p ∷ ps)) }
     ∷ stretches (b + 1) bs (drop (b + 1 - first) (p ∷ ps))
 
+-- the time of the value at a position from 1 on, and 0 past the last
+abbrev pub time_at : List Point → ℕ → ℕ
+time_at values position = get_or (map (λ (p : Point). p.0) values) (position - 1) 0
+
 -- the windows of a list of values, oldest first
-abbrev pub windows : (ℕ → ℕ) → List Point → List Window
-windows len values = stretches 1 (boundaries len (length values)) values
+abbrev pub windows : Rule → List Point → List Window
+windows rule values = stretches 1 (boundaries rule (time_at values) (length values)) values
 
 -- how many values windows hold
 abbrev pub taken : List Window → ℕ

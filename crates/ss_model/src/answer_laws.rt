@@ -1,8 +1,10 @@
 // Laws on what a state answers to a query, each the contract of a function that does nothing.
-ghost use Rattle.std.specs.Prelude.{◌≡◌, List, [], Some, None, IsSome};
+ghost use Rattle.std.specs.Prelude.{◌≡◌, List, [], Some, None, IsSome, true};
+ghost use Rattle.ss_catalog.specs.Queries.{is_guess};
 ghost use Rattle.ss_catalog.specs.declared.event.Event.{Event};
 ghost use Rattle.ss_catalog.specs.declared.query.Query.{Query};
-ghost use Rattle.ss_model.specs.Answers.{HoldsTruth, IsExactOutcome, IsOfKind, outcome_of, refuses_query, split_by};
+ghost use Rattle.ss_model.specs.Answers.{HasEnds, HoldsTruth, IsExactOutcome, IsOfKind, interval_query, outcome_of};
+ghost use Rattle.ss_model.specs.Answers.{refuses_query, split_by};
 ghost use Rattle.ss_model.specs.History.{marked_of, values_of, Happened};
 ghost use Rattle.ss_model.specs.Outline.{SameOutlines};
 ghost use Rattle.ss_model.specs.Refusals.{IsHistory};
@@ -26,4 +28,11 @@ pub fn queries_are_refused_or_answered()
     ensures answered { (streams : List Stream) (query : Query) → refuses_query streams query ≡ None → IsSome (outcome_of streams query) }
     ensures outlines { (streams others : List Stream) (query : Query) → SameOutlines streams others →
         refuses_query streams query ≡ refuses_query others query }
+{}
+
+/// The likeliest value is told between the ends that a query is answered.
+pub fn estimates_have_the_ends()
+    ensures { (streams : List Stream) (query : Query) (outcome : Outcome) → is_guess query.kind ≡ true →
+        outcome_of streams query ≡ Some outcome →
+        (answer : Outcome) × (outcome_of streams (interval_query query) ≡ Some answer) × HasEnds outcome answer }
 {}

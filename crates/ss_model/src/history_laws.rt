@@ -9,6 +9,7 @@ ghost use Rattle.ss_model.specs.History.{CanBeSaid, landmarks_of, values_of, Hap
 ghost use Rattle.ss_model.specs.Marks.{later, latest_of};
 ghost use Rattle.ss_model.specs.Origins.{as_old, unfiltered_stream};
 ghost use Rattle.ss_model.specs.Refusals.{IsHistory, refuses};
+ghost use Rattle.ss_model.specs.Rule.{rule_of};
 ghost use Rattle.ss_model.specs.Shown.{placed_of};
 ghost use Rattle.ss_model.specs.Standing.{IsState};
 ghost use Rattle.ss_model.specs.State.{last_time, state, Stream, stream_named, stream_numbered, values_in};
@@ -55,7 +56,7 @@ pub fn other_streams_stay()
 /// What is read off a stream of a state, by the values that the history has of it.
 pub fn streams_are_of_their_values()
     ensures windows { (history : List Happened) →
-        All (λ s. s.windows ≡ windows (lengths_of s.params) (values_of history s.name)) (state history) }
+        All (λ s. s.windows ≡ windows (rule_of s.params) (values_of history s.name)) (state history) }
     ensures count { (history : List Happened) → All (λ s. values_in s ≡ length (values_of history s.name)) (state history) }
     ensures landmarks { (history : List Happened) → All (λ s. s.landmarks ≡ landmarks_of history s.name) (state history) }
     ensures time { (history : List Happened) →

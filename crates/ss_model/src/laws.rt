@@ -5,6 +5,7 @@ ghost use Rattle.ss_summary.specs.Summaries.{summary_of, joined};
 ghost use Rattle.ss_summary.specs.Points.{Point};
 ghost use Rattle.ss_model.specs.Windows.{windows, taken, newest_time, time_of_last};
 ghost use Rattle.ss_model.specs.Closed.{closed, joined_window, last_position};
+ghost use Rattle.ss_model.specs.Rule.{Rule};
 ghost use Rattle.ss_model.specs.Tiling.{AreWindows, AreNeighbours};
 ghost use Rattle.ss_model.specs.declared.types.Window.{Window};
 
@@ -13,20 +14,20 @@ use ss_windowing::MOST_VALUES;
 /// Incremental equals from scratch: the windows of one more value are the windows before and the new value as a
 /// window of its own, where each run of neighbours in one target window is joined.
 pub fn incremental_is_from_scratch()
-    ensures { (len : ℕ → ℕ) (values : List Point) (p : Point) →
-        windows len (values ++ p ∷ [])
-        ≡ closed len (length values + 1)
-        (windows len values ++ record { first = length values + 1; summary = summary_of (p ∷ []) } ∷ []) }
+    ensures { (rule : Rule) (values : List Point) (p : Point) →
+        windows rule (values ++ p ∷ [])
+        ≡ closed rule (length values + 1)
+        (windows rule values ++ record { first = length values + 1; summary = summary_of (p ∷ []) } ∷ []) }
 {}
 
 /// The windows of some values hold as many.
 pub fn windows_count_values()
-    ensures { (len : ℕ → ℕ) (values : List Point) → taken (windows len values) ≡ length values }
+    ensures { (rule : Rule) (values : List Point) → taken (windows rule values) ≡ length values }
 {}
 
 /// The newest time of the windows of some values is that of the last value.
 pub fn windows_end_last()
-    ensures { (len : ℕ → ℕ) (values : List Point) → newest_time (windows len values) ≡ time_of_last values }
+    ensures { (rule : Rule) (values : List Point) → newest_time (windows rule values) ≡ time_of_last values }
 {}
 
 /// Windows stay windows when a later value is put after them as a window of its own.
@@ -44,17 +45,17 @@ pub fn joining_keeps_windows()
 
 /// Windows stay windows when those that are due are joined.
 pub fn closing_keeps_windows()
-    ensures { (len : ℕ → ℕ) (n : ℕ) (ws : List Window) → AreWindows ws → AreWindows (closed len n ws) }
+    ensures { (rule : Rule) (n : ℕ) (ws : List Window) → AreWindows ws → AreWindows (closed rule n ws) }
 {}
 
 /// Joining what is due loses no value.
 pub fn closing_keeps_taken()
-    ensures { (len : ℕ → ℕ) (n : ℕ) (ws : List Window) → taken (closed len n ws) ≡ taken ws }
+    ensures { (rule : Rule) (n : ℕ) (ws : List Window) → taken (closed rule n ws) ≡ taken ws }
 {}
 
 /// Joining what is due keeps the newest time.
 pub fn closing_keeps_newest_time()
-    ensures { (len : ℕ → ℕ) (n : ℕ) (ws : List Window) → newest_time (closed len n ws) ≡ newest_time ws }
+    ensures { (rule : Rule) (n : ℕ) (ws : List Window) → newest_time (closed rule n ws) ≡ newest_time ws }
 {}
 
 /// Each window begins after the values before it, and its summary is possible.

@@ -14,13 +14,16 @@ mod query_laws;
 mod series_laws;
 mod types;
 
-pub use answer_laws::{outcomes_hold_the_truth, queries_are_refused_or_answered};
+pub use answer_laws::{
+    estimates_have_the_ends, outcomes_hold_the_truth, queries_are_refused_or_answered,
+};
 pub use closing_laws::{
     closing_again_changes_nothing, closing_is_confluent, closing_is_joining_what_is_due,
     interrupted_joins_close_to_the_windows, joining_due_keeps_windows, joins_add_up,
 };
 pub use decay_laws::{
-    closing_leaves_none_due, cover_is_least, decay_bound, no_window_outgrows_its_target,
+    closing_leaves_none_due, cover_is_least, decay_bound, decay_bound_with_steps,
+    no_window_crosses_a_step, no_window_outgrows_its_target,
 };
 pub use history_laws::{
     histories_go_on, origins_change_filters_alone, other_streams_stay, states_go_on_by_steps,

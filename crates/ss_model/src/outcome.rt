@@ -27,4 +27,6 @@ pub enum Outcome {
     Max(Extreme),
     /// What is known of whether a value is there.
     Has(Presence),
+    /// A count or a sum from `lo` to `hi`, and the likeliest one.
+    Estimate { lo: i128, guess: i128, hi: i128 },
 }

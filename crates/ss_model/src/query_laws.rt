@@ -10,26 +10,27 @@ ghost use Rattle.ss_model.specs.Interval.{presence_of, split_windows};
 ghost use Rattle.ss_model.specs.History.{marked_of, values_of, Happened};
 ghost use Rattle.ss_model.specs.Marks.{marked_values};
 ghost use Rattle.ss_model.specs.Refusals.{IsHistory};
+ghost use Rattle.ss_model.specs.Rule.{Rule};
 ghost use Rattle.ss_model.specs.State.{state};
 ghost use Rattle.ss_model.specs.Truth.{is_one_of, RiseAtFree, true_count, true_greatest, true_least, true_presence, true_sum};
 ghost use Rattle.ss_model.specs.Windows.{windows};
 ghost use Rattle.ss_model.specs.declared.types.Window.{Window};
 
-/// The answers that the windows of some values give hold the truth over these values, one by one: for any lengths of windows,
+/// The answers that the windows of some values give hold the truth over these values, one by one: for any merge rule,
 /// any times that are free, any values of landmarks, and every range.
 pub fn answers_hold_the_truth()
-    ensures count { (len : ℕ → ℕ) (free : ℕ → Bool) (from to : ℕ) (plain marked : List Point) → RiseAtFree free 0 plain →
-        let answer = interval_of_count free from to (windows len plain) marked in
+    ensures count { (rule : Rule) (free : ℕ → Bool) (from to : ℕ) (plain marked : List Point) → RiseAtFree free 0 plain →
+        let answer = interval_of_count free from to (windows rule plain) marked in
         let truth = true_count from to plain marked in (answer.0 ≤ truth) × (truth ≤ answer.1) }
-    ensures sum { (len : ℕ → ℕ) (free : ℕ → Bool) (from to : ℕ) (plain marked : List Point) → RiseAtFree free 0 plain →
-        let answer = interval_of_sum free from to (windows len plain) marked in
+    ensures sum { (rule : Rule) (free : ℕ → Bool) (from to : ℕ) (plain marked : List Point) → RiseAtFree free 0 plain →
+        let answer = interval_of_sum free from to (windows rule plain) marked in
         let truth = true_sum from to plain marked in (answer.0 ≤ℤ truth) × (truth ≤ℤ answer.1) }
-    ensures least { (len : ℕ → ℕ) (free : ℕ → Bool) (from to : ℕ) (plain marked : List Point) → RiseAtFree free 0 plain →
-        HoldsExtreme (interval_of_least free from to (windows len plain) marked) (true_least from to plain marked) }
-    ensures greatest { (len : ℕ → ℕ) (free : ℕ → Bool) (from to : ℕ) (plain marked : List Point) → RiseAtFree free 0 plain →
-        HoldsExtreme (interval_of_greatest free from to (windows len plain) marked) (true_greatest from to plain marked) }
-    ensures presence { (value : ℤ) (len : ℕ → ℕ) (free : ℕ → Bool) (from to : ℕ) (plain marked : List Point) → RiseAtFree free 0 plain →
-        HoldsPresence (presence_of value free from to (windows len plain) marked) (true_presence value from to plain marked) }
+    ensures least { (rule : Rule) (free : ℕ → Bool) (from to : ℕ) (plain marked : List Point) → RiseAtFree free 0 plain →
+        HoldsExtreme (interval_of_least free from to (windows rule plain) marked) (true_least from to plain marked) }
+    ensures greatest { (rule : Rule) (free : ℕ → Bool) (from to : ℕ) (plain marked : List Point) → RiseAtFree free 0 plain →
+        HoldsExtreme (interval_of_greatest free from to (windows rule plain) marked) (true_greatest from to plain marked) }
+    ensures presence { (value : ℤ) (rule : Rule) (free : ℕ → Bool) (from to : ℕ) (plain marked : List Point) → RiseAtFree free 0 plain →
+        HoldsPresence (presence_of value free from to (windows rule plain) marked) (true_presence value from to plain marked) }
 {}
 
 /// The answers of each stream of a state hold the truth over all values of the stream, those outside landmarks and those of

@@ -1,8 +1,9 @@
 // Worked rows: windows of a few values, and the edges of 64 bits.
 use ss_bounds::{
-    Extreme, MOST_TIMES, MOST_VALUES, Split, count_bounds, ends_of_sums_are_attained,
-    extremes_hold_the_truth, free_times_are_parted, greatest_sum_at, least_sum_at, max_bounds,
-    min_bounds, split_windows_hold_the_truth, sum_bounds, values_can_be_parted,
+    Extreme, MOST_TIMES, MOST_VALUES, Split, count_bounds, count_guess, ends_of_sums_are_attained,
+    extremes_hold_the_truth, free_times_are_parted, greatest_sum_at, guesses_lie_between,
+    least_sum_at, max_bounds, min_bounds, several_hold_the_truth, split_windows_hold_the_truth,
+    sum_bounds, sum_guess, values_can_be_parted,
 };
 use ss_summary::{Filter, LATEST_TIME, Summary};
 
@@ -187,6 +188,42 @@ fn ends_are_attained_as_by_trying(rt: HostRuntime) {
     }
 }
 
+// The count and the sum that are known, two windows, and the guesses of both.
+type Guessed = ((i64, i64), Option<Window>, Option<Window>, (i128, i128));
+
+// Three values with the sum 6, and three with 15: of each one end and two of four free times.
+const THREE_LOW: Window = (3, 6, 1, 3, 1, 2, 2);
+
+const THREE_HIGH: Window = (3, 15, 4, 6, 1, 2, 2);
+
+// -4 and -1 at 10 and 11, from 10 to 10.
+const BESIDE: Window = (2, -5, -4, -1, 1, 0, 0);
+
+const GUESSES: [Guessed; 9] = [
+    ((7, -7), None, None, (7, -7)),
+    ((0, 0), Some(FOUR), None, (2, 6)),
+    ((0, 0), None, Some(TWO), (1, 6)),
+    ((0, 0), Some(FOUR), Some(TWO), (3, 11)),
+    ((1, 7), Some(TWO), None, (2, 12)),
+    ((0, 0), Some(THREE_LOW), Some(THREE_HIGH), (3, 10)),
+    ((0, 0), Some(BESIDE), None, (1, -2)),
+    ((1, -2), Some(BESIDE), None, (2, -4)),
+    ((0, 0), Some(FULL), None, (549755813888, 0)),
+];
+
+fn is_guessed(row: &Guessed) -> bool {
+    let count = count_guess(i128::from(row.0.0), split(row.1), split(row.2));
+    let sum = sum_guess(i128::from(row.0.1), split(row.1), split(row.2));
+    count == row.3.0 && sum == row.3.1
+}
+
+#[test]
+fn guesses_of_counts_and_sums(rt: HostRuntime) {
+    for (k, row) in GUESSES.iter().enumerate() {
+        assert!(rt; is_guessed(row), "row {k}");
+    }
+}
+
 // What is known exactly, two windows, and what is known of the least or the greatest value.
 type Row = (Option<i64>, Option<Window>, Option<Window>, Extreme);
 
@@ -279,4 +316,6 @@ fn laws_are_called() {
     values_can_be_parted();
     extremes_hold_the_truth();
     free_times_are_parted();
+    guesses_lie_between();
+    several_hold_the_truth();
 }

@@ -1,5 +1,5 @@
 use Rattle.std.proofs.Common.{◌≡◌, ap, length, refl}
-use Rattle.ss_target.specs.Lengths.{lengths_of}
+use Rattle.ss_model.specs.Rule.{rule_of}
 use Rattle.ss_model.specs.History.{landmarks_of, values_of}
 use Rattle.ss_model.specs.Marks.{later, latest_of}
 use Rattle.ss_model.specs.State.{values_in, last_time}
@@ -9,11 +9,11 @@ use Rattle.ss_model.proofs.Stretches.{taken-windows, newest_time-windows}
 use Rattle.ss_model.proofs.history_laws.streams_are_of_their_values.Goals as goal
 
 pub returns-clause-windows : goal.returns-clause-windows
-returns-clause-windows c history = All-state (λ s. s.windows ≡ windows (lengths_of s.params) (values_of history s.name)) history (λ s. refl)
+returns-clause-windows c history = All-state (λ s. s.windows ≡ windows (rule_of s.params) (values_of history s.name)) history (λ s. refl)
 
 pub returns-clause-count : goal.returns-clause-count
 returns-clause-count c history =
-    All-state (λ s. values_in s ≡ length (values_of history s.name)) history (λ s. taken-windows (lengths_of s.params) (values_of history s.name))
+    All-state (λ s. values_in s ≡ length (values_of history s.name)) history (λ s. taken-windows (rule_of s.params) (values_of history s.name))
 
 pub returns-clause-landmarks : goal.returns-clause-landmarks
 returns-clause-landmarks c history = All-state (λ s. s.landmarks ≡ landmarks_of history s.name) history (λ s. refl)
@@ -21,4 +21,4 @@ returns-clause-landmarks c history = All-state (λ s. s.landmarks ≡ landmarks_
 pub returns-clause-time : goal.returns-clause-time
 returns-clause-time c history =
     All-state (λ s. last_time s ≡ later (time_of_last (values_of history s.name)) (latest_of (landmarks_of history s.name))) history
-    (λ s. ap (λ o. later o (latest_of (landmarks_of history s.name))) (newest_time-windows (lengths_of s.params) (values_of history s.name)))
+    (λ s. ap (λ o. later o (latest_of (landmarks_of history s.name))) (newest_time-windows (rule_of s.params) (values_of history s.name)))

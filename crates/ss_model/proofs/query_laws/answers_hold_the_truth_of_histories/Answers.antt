@@ -2,7 +2,7 @@ use Rattle.std.proofs.Common.{◌≤◌}
 use Rattle.std.specs.Prelude.{◌≤ℤ◌}
 use Rattle.ss_bounds.specs.Truth.{HoldsExtreme}
 use Rattle.ss_landmarks.specs.Free.{is_free}
-use Rattle.ss_target.specs.Lengths.{lengths_of}
+use Rattle.ss_model.specs.Rule.{rule_of}
 use Rattle.ss_model.specs.Answers.{HoldsPresence}
 use Rattle.ss_model.specs.History.{landmarks_of, marked_of, values_of}
 use Rattle.ss_model.specs.Interval.{interval_of_count, interval_of_greatest, interval_of_least, interval_of_sum, presence_of}
@@ -20,38 +20,38 @@ pub returns-clause-count : goal.returns-clause-count
 returns-clause-count c history from to whole =
     All-state (λ s. let answer = interval_of_count (is_free s.landmarks) from to s.windows (marked_values s.landmarks) in
     let truth = true_count from to (values_of history s.name) (marked_of history s.name) in (answer.0 ≤ truth) × (truth ≤ answer.1)) history
-    (λ s. count-lies (is_free (landmarks_of history s.name)) from to (windows (lengths_of s.params) (values_of history s.name))
+    (λ s. count-lies (is_free (landmarks_of history s.name)) from to (windows (rule_of s.params) (values_of history s.name))
     (values_of history s.name) (marked_of history s.name) 0
-    (AreOf-windows (lengths_of s.params) (values_of history s.name)) (values-rise history s.name whole))
+    (AreOf-windows (rule_of s.params) (values_of history s.name)) (values-rise history s.name whole))
 
 pub returns-clause-sum : goal.returns-clause-sum
 returns-clause-sum c history from to whole =
     All-state (λ s. let answer = interval_of_sum (is_free s.landmarks) from to s.windows (marked_values s.landmarks) in
     let truth = true_sum from to (values_of history s.name) (marked_of history s.name) in (answer.0 ≤ℤ truth) × (truth ≤ℤ answer.1)) history
-    (λ s. sum-lies (is_free (landmarks_of history s.name)) from to (windows (lengths_of s.params) (values_of history s.name))
+    (λ s. sum-lies (is_free (landmarks_of history s.name)) from to (windows (rule_of s.params) (values_of history s.name))
     (values_of history s.name) (marked_of history s.name) 0
-    (AreOf-windows (lengths_of s.params) (values_of history s.name)) (values-rise history s.name whole))
+    (AreOf-windows (rule_of s.params) (values_of history s.name)) (values-rise history s.name whole))
 
 pub returns-clause-least : goal.returns-clause-least
 returns-clause-least c history from to whole =
     All-state (λ s. HoldsExtreme (interval_of_least (is_free s.landmarks) from to s.windows (marked_values s.landmarks))
     (true_least from to (values_of history s.name) (marked_of history s.name))) history
-    (λ s. least-HoldsExtreme (is_free (landmarks_of history s.name)) from to (windows (lengths_of s.params) (values_of history s.name))
+    (λ s. least-HoldsExtreme (is_free (landmarks_of history s.name)) from to (windows (rule_of s.params) (values_of history s.name))
     (values_of history s.name) (marked_of history s.name) 0
-    (AreOf-windows (lengths_of s.params) (values_of history s.name)) (values-rise history s.name whole))
+    (AreOf-windows (rule_of s.params) (values_of history s.name)) (values-rise history s.name whole))
 
 pub returns-clause-greatest : goal.returns-clause-greatest
 returns-clause-greatest c history from to whole =
     All-state (λ s. HoldsExtreme (interval_of_greatest (is_free s.landmarks) from to s.windows (marked_values s.landmarks))
     (true_greatest from to (values_of history s.name) (marked_of history s.name))) history
-    (λ s. greatest-HoldsExtreme (is_free (landmarks_of history s.name)) from to (windows (lengths_of s.params) (values_of history s.name))
+    (λ s. greatest-HoldsExtreme (is_free (landmarks_of history s.name)) from to (windows (rule_of s.params) (values_of history s.name))
     (values_of history s.name) (marked_of history s.name) 0
-    (AreOf-windows (lengths_of s.params) (values_of history s.name)) (values-rise history s.name whole))
+    (AreOf-windows (rule_of s.params) (values_of history s.name)) (values-rise history s.name whole))
 
 pub returns-clause-presence : goal.returns-clause-presence
 returns-clause-presence c value history from to whole =
     All-state (λ s. HoldsPresence (presence_of value (is_free s.landmarks) from to s.windows (marked_values s.landmarks))
     (true_presence value from to (values_of history s.name) (marked_of history s.name))) history
-    (λ s. presence-holds value (is_free (landmarks_of history s.name)) from to (windows (lengths_of s.params) (values_of history s.name))
+    (λ s. presence-holds value (is_free (landmarks_of history s.name)) from to (windows (rule_of s.params) (values_of history s.name))
     (values_of history s.name) (marked_of history s.name) 0
-    (AreExactlyOf-windows (lengths_of s.params) (values_of history s.name)) (values-rise history s.name whole))
+    (AreExactlyOf-windows (rule_of s.params) (values_of history s.name)) (values-rise history s.name whole))
