@@ -10,12 +10,13 @@ use Rattle.ss_catalog.specs.Names.{same_name}
 use Rattle.ss_catalog.specs.declared.query.Kind.TheVariants as kinds
 use Rattle.ss_catalog.specs.declared.query.Query.{Query}
 use Rattle.ss_landmarks.specs.Free.{is_free}
-use Rattle.ss_target.specs.Lengths.{lengths_of}
 use Rattle.ss_model.specs.History.{landmarks_of, values_of, Happened}
 use Rattle.ss_model.specs.Interval.{interval_of_count, interval_of_sum, known_count, known_sum, split_windows}
 use Rattle.ss_model.specs.Marks.{marked_values}
 use Rattle.ss_model.specs.Refusals.{IsHistory}
 use Rattle.ss_model.specs.Standing.{IsStream}
+use Rattle.ss_target.specs.Lengths.{lengths_of}
+use Rattle.ss_model.specs.Rule.{rule_of}
 use Rattle.ss_model.specs.State.{Stream, state, stream_after, stream_named}
 use Rattle.ss_model.specs.Windows.{windows}
 use Rattle.ss_model.proofs.IntervalLemmas.{AreOf, count-lies, sum-lies}
@@ -36,13 +37,13 @@ module _ (c : Contents) (from to : ℕ) (sides : List Sides) (sound : AreContent
     (fit : AllFit (split_windows (is_free c.landmarks) from to (own_windows c)) sides) where
   parts : AreReplaced (is_free c.landmarks) from to 0 (own_windows c) sides (rebuilt from to sides c).plain
   parts =
-      replaced-all (is_free c.landmarks) from to 0 (own_windows c) sides c.plain (AreOf-windows (lengths_of c.params) c.plain) sound.rising fit
+      replaced-all (is_free c.landmarks) from to 0 (own_windows c) sides c.plain (AreOf-windows (rule_of c.params) c.plain) sound.rising fit
 
   pub Like-rebuilt : Like (rebuilt from to sides c) c
   Like-rebuilt = record {
     params = refl;
     landmarks = refl;
-    number = length-others (lengths_of c.params) c.plain (rebuilt from to sides c).plain parts.of;
+    number = length-others (rule_of c.params) c.plain (rebuilt from to sides c).plain parts.of;
     windows = windows-others (lengths_of c.params) c.plain (rebuilt from to sides c).plain parts.of;
   }
 
@@ -52,7 +53,7 @@ module _ (c : Contents) (from to : ℕ) (sides : List Sides) (sound : AreContent
     few = omega (arith, Like-rebuilt.number, sound.few);
     rising = parts.rising;
     sayable = sayable-others (is_free c.landmarks) 0 (own_windows c) c.plain (rebuilt from to sides c).plain
-        (AreOf-windows (lengths_of c.params) c.plain) parts.of parts.rising sound.sayable;
+        (AreOf-windows (rule_of c.params) c.plain) parts.of parts.rising sound.sayable;
     landmarks = sound.landmarks;
   }
 
@@ -81,7 +82,7 @@ module _ (c : Contents) (from to : ℕ) (sides : List Sides) (sound : AreContent
 -- the intervals that the windows of some contents give hold the truth over all contents like them
 module _ (c d : Contents) (from to : ℕ) (sound : AreContents d) (like : Like d c) where
   own : AreOf (own_windows c) d.plain
-  own = AreOf-alike (own_windows d) (own_windows c) d.plain like.windows (AreOf-windows (lengths_of d.params) d.plain)
+  own = AreOf-alike (own_windows d) (own_windows c) d.plain like.windows (AreOf-windows (rule_of d.params) d.plain)
 
   pub count_in-lies : let answer = interval_of_count (is_free c.landmarks) from to (own_windows c) (marked_values c.landmarks) in
       (answer.0 ≤ count_in from to d) × (count_in from to d ≤ answer.1)
@@ -111,10 +112,10 @@ AreContents-contents_of history whole =
     let rising = values-rise history c.name whole in
     record {
       target = sound.target;
-      few = omega (arith, sound.windows.few, taken-windows (lengths_of c.params) values);
+      few = omega (arith, sound.windows.few, taken-windows (rule_of c.params) values);
       rising = rising;
-      sayable = sayable-standing free 1 0 0 (windows (lengths_of c.params) values) values sound.windows.stand
-          (AreOf-windows (lengths_of c.params) values) rising;
+      sayable = sayable-standing free 1 0 0 (windows (rule_of c.params) values) values sound.windows.stand
+          (AreOf-windows (rule_of c.params) values) rising;
       landmarks = sound.landmarks;
     })) each
 

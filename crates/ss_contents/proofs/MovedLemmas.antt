@@ -1,5 +1,5 @@
 -- Values that are moved to other times are as many in a range as there are times in it, and their windows are the same, filters included.
-use Rattle.std.specs.Prelude.{◌≡◌, ℕ, zero, suc, ◌+◌, ◌-◌, Bool, ℤ, pos, ◌+ℤ◌, List, [], ◌∷◌, length, take, drop, map, All, Some}
+use Rattle.std.specs.Prelude.{◌≡◌, ℕ, zero, suc, ◌+◌, ◌-◌, Bool, ℤ, pos, ◌+ℤ◌, List, [], ◌∷◌, length, take, drop, All, Some}
 use Rattle.std.specs.Int.{int_min, int_max}
 use Rattle.std.proofs.Common.{ap, arith, inl, inr, refl, sym, ◌∙◌, subst}
 use Rattle.std.proofs.lemmas.Bool.{cases_Bool}
@@ -10,20 +10,20 @@ use Rattle.ss_bounds.specs.Truth.{asked}
 use Rattle.ss_catalog.specs.declared.query.Kind.TheVariants as kinds
 use Rattle.ss_catalog.specs.declared.query.Query.{Query}
 use Rattle.ss_landmarks.specs.Free.{is_free}
-use Rattle.ss_summary.specs.Figures.{Figures}
 use Rattle.ss_summary.specs.Filters.{filter_of_point, filter_with, union}
 use Rattle.ss_summary.specs.Points.{Point, Old, New}
 use Rattle.ss_summary.specs.Summaries.{greatest, least, summary_of, time_at_end, total}
-use Rattle.ss_target.specs.Lengths.{lengths_of}
 use Rattle.ss_model.specs.Boundaries.{boundaries}
 use Rattle.ss_model.specs.Marks.{marked_values}
+use Rattle.ss_model.specs.Rule.{rule_of}
 use Rattle.ss_model.specs.State.{Stream, stream_named}
 use Rattle.ss_model.specs.Truth.{RiseAtFree}
-use Rattle.ss_model.specs.Windows.{stretches}
+use Rattle.ss_model.specs.Windows.{stretches, time_at}
 use Rattle.ss_model.specs.declared.types.Window.{Window}
+use Rattle.ss_model.proofs.Rises.{boundaries-same}
 use Rattle.ss_contents.specs.Attained.{MayBeTrue, truth_of_kind}
 use Rattle.ss_contents.specs.Contents.{AreContents, Contents, IsSayableValue, Like, contents_of, count_in, own_windows, unfiltered_windows}
-use Rattle.ss_contents.specs.Moved.{AreKeptAlike, HasCount, MayBeCounted, at_times_of, moved}
+use Rattle.ss_contents.specs.Moved.{AreKeptAlike, MayBeCounted, at_times_of, moved}
 use Rattle.ss_contents.proofs.ContentsLemmas.{AreContents-named}
 
 -- ---- lists
@@ -186,12 +186,17 @@ module _ (c d : Contents) (sound : AreContents c) (other : AreContents d) (like 
 
   windows-moved : own_windows (moved c d) ≡ own_windows c
   windows-moved =
-      let len = lengths_of c.params in
-      let bs = boundaries len (length c.plain) in
-      let number = ap (λ n. stretches 1 (boundaries len n) (at_times_of c.plain d.plain)) (length-at_times_of c.plain d.plain as_many) in
+      let rule = rule_of c.params in
+      let n = length c.plain in
+      let bs = boundaries rule (time_at c.plain) n in
+      let own = at_times_of c.plain d.plain in
+      let number : stretches 1 (boundaries rule (time_at own) (length own)) own ≡ stretches 1 bs own =
+      ap (λ m. stretches 1 (boundaries rule (time_at own) m) own) (length-at_times_of c.plain d.plain as_many)
+      ∙ ap (λ cs. stretches 1 cs own) (boundaries-same rule (time_at own) (time_at c.plain) n (λ place some low. refl)) in
       let others : unfiltered_windows (stretches 1 bs d.plain) ≡ unfiltered_windows (stretches 1 bs c.plain) =
-      ap (λ n. unfiltered_windows (stretches 1 (boundaries len n) d.plain)) as_many
-      ∙ ap (λ params. unfiltered_windows (stretches 1 (boundaries (lengths_of params) (length d.plain)) d.plain)) (sym like.params)
+      ap (λ cs. unfiltered_windows (stretches 1 cs d.plain)) (boundaries-same rule (time_at c.plain) (time_at d.plain) n (λ place some low. refl))
+      ∙ ap (λ m. unfiltered_windows (stretches 1 (boundaries rule (time_at d.plain) m) d.plain)) as_many
+      ∙ ap (λ params. unfiltered_windows (stretches 1 (boundaries (rule_of params) (time_at d.plain) (length d.plain)) d.plain)) (sym like.params)
       ∙ like.windows in
       number ∙ stretches-at_times_of 1 bs c.plain d.plain as_many others
 

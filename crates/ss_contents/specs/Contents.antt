@@ -7,11 +7,12 @@ use Rattle.ss_landmarks.specs.Free.{is_free}
 use Rattle.ss_landmarks.specs.Landmark.{Landmark}
 use Rattle.ss_landmarks.specs.Order.{AreLandmarks}
 use Rattle.ss_windowing.specs.declared.decay.TheConstants.{MOST_VALUES}
-use Rattle.ss_target.specs.Lengths.{has_target, lengths_of}
+use Rattle.ss_target.specs.Lengths.{has_target}
 use Rattle.ss_summary.specs.Points.{Point}
 use Rattle.ss_model.specs.History.{landmarks_of, values_of, Happened}
 use Rattle.ss_model.specs.Marks.{marked_values}
 use Rattle.ss_model.specs.Origins.{unfiltered_window}
+use Rattle.ss_model.specs.Rule.{rule_of}
 use Rattle.ss_model.specs.State.{Stream}
 use Rattle.ss_model.specs.Truth.{RiseAtFree, true_count, true_sum}
 use Rattle.ss_model.specs.Windows.{windows}
@@ -29,7 +30,7 @@ contents_of history s = record { params = s.params; plain = values_of history s.
 
 -- the windows of all its values outside landmarks
 abbrev pub own_windows : Contents → List Window
-own_windows c = windows (lengths_of c.params) c.plain
+own_windows c = windows (rule_of c.params) c.plain
 
 -- a value that a command can say: its time isn't above the last one, and it has 64 bits
 abbrev pub IsSayableValue : Point → Type 0

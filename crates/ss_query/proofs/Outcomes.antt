@@ -1,12 +1,13 @@
 -- What is answered from what is known of a range of times is the answer of the windows and of the landmarks.
 use Rattle.std.proofs.Common.{◌≡◌, ◌∙◌, ℕ, ◌+◌, List, [], ◌∷◌, map, refl, sym, ap, ap₂, arith, Option, Some, None}
-use Rattle.std.specs.Prelude.{ℤ, ◌+ℤ◌, sum_by}
+use Rattle.std.specs.Prelude.{ℤ, pos, ◌+ℤ◌, sum_by}
 use Rattle.std.specs.List.{filter}
 use Rattle.std.specs.Int.{int_max, int_min}
 use Rattle.std.proofs.lemmas.Int.{ints}
 use Rattle.std.proofs.lemmas.List.Sums.{sum_by-cons}
 use Rattle.ss_bounds.specs.Either.{either, greatest_in, least_in}
 use Rattle.ss_bounds.specs.Extremes.{listed, max_interval, min_interval}
+use Rattle.ss_bounds.specs.Guess.{count_guess, sum_guess}
 use Rattle.ss_bounds.specs.Split.{SplitFigures, greatest_count, least_count, sum_interval}
 use Rattle.ss_bounds.specs.Truth.{asked, total}
 use Rattle.ss_bounds.proofs.ChoiceLemmas.{IsChoice-max, IsChoice-min, choice_in-append}
@@ -17,14 +18,15 @@ use Rattle.ss_landmarks.specs.Free.{is_free}
 use Rattle.ss_landmarks.specs.Landmark.{Landmark}
 use Rattle.ss_landmarks.specs.declared.tally.Tally.{Tally}
 use Rattle.ss_model.specs.Answers.{IsOfKind, answer_of, answer_of_kind}
-use Rattle.ss_model.specs.Interval.{is_split, known_maxs, known_mins, split_figures, split_windows, whole_windows}
+use Rattle.ss_model.specs.Interval.{interval_of_count, interval_of_sum, is_split, known_maxs, known_mins, split_figures, split_windows, whole_windows}
 use Rattle.ss_model.specs.Interval as intervals
 use Rattle.ss_model.specs.Marks.{marked_values}
 use Rattle.ss_model.specs.Standing.{IsStream}
 use Rattle.ss_model.specs.State.{Stream}
-use Rattle.ss_model.specs.declared.outcome.Outcome.TheVariants.{Count, Has, Max, Min, Sum}
+use Rattle.ss_model.specs.declared.outcome.Outcome.TheVariants.{Count, Estimate, Has, Max, Min, Sum}
 use Rattle.ss_model.specs.declared.types.Window.{Window}
-use Rattle.ss_query.specs.Asked.{counts_of, cut_of, figures_of, seen_count, seen_max, seen_min, seen_sum, outcome_seen, seen_of, sums_of}
+use Rattle.ss_query.specs.Asked.{counts_of, counts_seen, cut_of, figures_of, seen_count, seen_max, seen_min, seen_sum, outcome_seen, seen_of, sums_of}
+use Rattle.ss_query.specs.Asked.{sums_seen}
 use Rattle.ss_query.specs.declared.asking.Seen.{Seen}
 use Rattle.ss_query.specs.declared.cut.Cut.{Cut}
 use Rattle.ss_query.proofs.MarkedTallies.{greatest-asked, least-asked, length-asked, total-asked}
@@ -95,27 +97,44 @@ module _ (landmarks : List Landmark) (kind : Kind) (from to : ℕ) (seen : Seen)
   splits : figures_in (listed seen.left seen.right) ≡ split_windows (is_free landmarks) from to ws
   splits = ap (λ l. figures_in l) is.cuts ∙ figures-cuts landmarks from to (filter (is_split from to) ws)
 
+  figures : listed (figures_of seen.left) (figures_of seen.right) ≡ split_windows (is_free landmarks) from to ws
+  figures = listed-figures seen.left seen.right ∙ splits
+
+  -- so are the ends of counts and sums
+  counts : counts_seen seen ≡ interval_of_count (is_free landmarks) from to ws (marked_values landmarks)
+  counts =
+      let both = counts-listed seen.left seen.right in
+      let least = both.0 ∙ ap (sum_by least_count) splits in
+      let greatest = both.1 ∙ ap (sum_by greatest_count) splits in
+      let known = seen_count-seen in
+      ap₂ (λ (lo hi : ℕ). (lo, hi)) (omega (arith, known, least)) (omega (arith, known, greatest))
+
+  sums : sums_seen seen ≡ interval_of_sum (is_free landmarks) from to ws (marked_values landmarks)
+  sums =
+      let both = sums-listed (seen_sum seen.whole seen.marked) seen.left seen.right in
+      ap₂ (λ (lo hi : ℤ). (lo, hi)) (both.0 ∙ ap₂ (λ p q. p +ℤ q) seen_sum-seen (ap lows splits))
+      (both.1 ∙ ap₂ (λ p q. p +ℤ q) seen_sum-seen (ap highs splits))
+
 -- so is the answer to each kind of query
 outcome-seen : (landmarks : List Landmark) (kind : Kind) (from to : ℕ) (seen : Seen) (ws : List Window) → IsSeen landmarks kind from to seen ws →
     outcome_seen kind seen ≡ answer_of_kind kind (is_free landmarks) from to ws (marked_values landmarks)
 outcome-seen landmarks kinds.Count from to seen ws is =
-    let both = counts-listed seen.left seen.right in
-    let known = seen_count-seen landmarks kinds.Count from to seen ws is in
-    let least = both.0 ∙ ap (sum_by least_count) (splits landmarks kinds.Count from to seen ws is) in
-    let greatest = both.1 ∙ ap (sum_by greatest_count) (splits landmarks kinds.Count from to seen ws is) in
-    ap₂ Count (omega (arith, known, least)) (omega (arith, known, greatest))
+    ap (λ (c : ℕ × ℕ). Count c.0 c.1) (counts landmarks kinds.Count from to seen ws is)
 outcome-seen landmarks kinds.Sum from to seen ws is =
-    let both = sums-listed (seen_sum seen.whole seen.marked) seen.left seen.right in
-    let known = seen_sum-seen landmarks kinds.Sum from to seen ws is in
-    let cut = splits landmarks kinds.Sum from to seen ws is in
-    ap₂ Sum (both.0 ∙ ap₂ (λ p q. p +ℤ q) known (ap lows cut)) (both.1 ∙ ap₂ (λ p q. p +ℤ q) known (ap highs cut))
+    ap (λ (s : ℤ × ℤ). Sum s.0 s.1) (sums landmarks kinds.Sum from to seen ws is)
 outcome-seen landmarks kinds.Min from to seen ws is =
     ap Min (ap₂ min_interval (least-seen landmarks kinds.Min from to seen ws is)
-    (listed-figures seen.left seen.right ∙ splits landmarks kinds.Min from to seen ws is))
+    (figures landmarks kinds.Min from to seen ws is))
 outcome-seen landmarks kinds.Max from to seen ws is =
     ap Max (ap₂ max_interval (greatest-seen landmarks kinds.Max from to seen ws is)
-    (listed-figures seen.left seen.right ∙ splits landmarks kinds.Max from to seen ws is))
+    (figures landmarks kinds.Max from to seen ws is))
 outcome-seen landmarks (kinds.Has v) from to seen ws is = ap Has is.presence
+outcome-seen landmarks kinds.CountGuess from to seen ws is =
+    ap₂ (λ (c : ℕ × ℕ) (guess : ℤ). Estimate (pos c.0) guess (pos c.1)) (counts landmarks kinds.CountGuess from to seen ws is)
+    (ap₂ count_guess (ap pos (seen_count-seen landmarks kinds.CountGuess from to seen ws is)) (figures landmarks kinds.CountGuess from to seen ws is))
+outcome-seen landmarks kinds.SumGuess from to seen ws is =
+    ap₂ (λ (s : ℤ × ℤ) (guess : ℤ). Estimate s.0 guess s.1) (sums landmarks kinds.SumGuess from to seen ws is)
+    (ap₂ sum_guess (seen_sum-seen landmarks kinds.SumGuess from to seen ws is) (figures landmarks kinds.SumGuess from to seen ws is))
 
 -- so is what is answered from what is known of a stream
 pub outcome_seen-seen_of : (query : Query) (s : Stream) → IsStream s →
@@ -131,3 +150,5 @@ outcome-kind kinds.Sum seen = refl
 outcome-kind kinds.Min seen = refl
 outcome-kind kinds.Max seen = refl
 outcome-kind (kinds.Has v) seen = (v, refl)
+outcome-kind kinds.CountGuess seen = refl
+outcome-kind kinds.SumGuess seen = refl

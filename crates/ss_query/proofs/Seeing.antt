@@ -23,6 +23,7 @@ use Rattle.ss_model.specs.Standing.{IsStream}
 use Rattle.ss_model.specs.State.{Stream}
 use Rattle.ss_model.specs.Tiling.{StandFrom}
 use Rattle.ss_model.specs.declared.types.Window.{Window}
+use Rattle.ss_model.proofs.SplitLemmas.{lies}
 use Rattle.ss_summary.specs.Figures.{Figures}
 use Rattle.ss_query.specs.Asked.{cut_of, joined_with, left_with, marks_seen}
 use Rattle.ss_query.specs.Asked.{presence_with, right_with, seen_after, seen_of, seen_with, whole_with}
@@ -173,19 +174,6 @@ ruled_out (Some x) P is not_P = absurd (not_P is)
 if_weaker : {X : Type 0} (o : Option X) (P Q : Type 0) → (P → Q) → IfSome o (λ x. P) → IfSome o (λ x. Q)
 if_weaker None P Q weaker is = tt
 if_weaker (Some x) P Q weaker is = weaker is
-
--- where a window lies to the range
-pub record Lies (from to first last : ℕ) : Type 0 where
-  pub ends : from ≤ last
-  pub begins : first ≤ to
-  pub out : ¬ ((from ≤ first) × (last ≤ to))
-
-pub lies : (from to first last : ℕ) → (not (nat_le from first && nat_le last to) && not (nat_lt last from || nat_lt to first)) ≡ true → Lies from to first last
-lies from to first last split = record {
-  ends = grind (arith, nat_tests);
-  begins = grind (arith, nat_tests);
-  out = λ both. let one = both.0 in let two = both.1 in grind (arith, nat_tests);
-}
 
 choosing : {X : Type 0} (b v : Bool) (x y : X) → b ≡ v → (if b then x else y) ≡ (if v then x else y)
 choosing b v x y same = ap (λ (c : Bool). if c then x else y) same

@@ -1,19 +1,16 @@
 -- A window that lies free among landmarks, and that a range splits: its figures, by counts of free times.
-use Rattle.std.proofs.Common.{◌≡◌, ◌∙◌, ℕ, ◌+◌, ◌-◌, ◌<◌, ◌≤◌, max, min, List, sym, ap₂, subst, arith, inl, inr, IsTrue}
+use Rattle.std.proofs.Common.{◌≡◌, ◌∙◌, ℕ, ◌+◌, ◌-◌, ◌<◌, ◌≤◌, max, min, List, sym, ap₂, subst, arith, IsTrue}
 use Rattle.std.specs.Prelude.{ℤ}
-use Rattle.std.proofs.lemmas.Bool.{cases_lt}
 use Rattle.ss_bounds.specs.Split.{IsSplit, SplitFigures}
 use Rattle.ss_bounds.specs.Times.{ends_in, split_of, times_inside, times_outside}
-use Rattle.ss_bounds.proofs.RangeLemmas.{IsSplit-split_of, times_inside-times, times_inside-times_outside}
+use Rattle.ss_bounds.proofs.RangeLemmas.{times_inside-times, times_inside-times_outside}
 use Rattle.ss_landmarks.specs.Free.{free, is_free}
 use Rattle.ss_landmarks.specs.Landmark.{Landmark}
-use Rattle.ss_landmarks.proofs.TimeLemmas.{free-add, free-le}
 use Rattle.ss_model.specs.Interval.{is_split, split_figures}
 use Rattle.ss_model.specs.Marks.{lies_free}
 use Rattle.ss_model.specs.declared.types.Window.{Window}
-use Rattle.ss_model.proofs.MarkLemmas.{LiesFree-lies_free}
+use Rattle.ss_model.proofs.SplitLemmas.{IsSplit-window}
 use Rattle.ss_summary.specs.Figures.{Figures, IsPossible}
-use Rattle.ss_query.proofs.Seeing.{lies}
 
 module _ (landmarks : List Landmark) (from to : ℕ) where
   -- the free times of the range between two times
@@ -28,34 +25,6 @@ module _ (landmarks : List Landmark) (from to : ℕ) where
   pub free-parted : (first last : ℕ) →
       times_inside (is_free landmarks) from to first last + times_outside (is_free landmarks) from to first last ≡ free landmarks (first + 1) (last - 1)
   free-parted first last = times_inside-times_outside (is_free landmarks) from to first last
-
--- a window that a range splits has two values or more
-two-or-more : (from to count first last : ℕ) → 1 ≤ count → (count ≡ 1 → first ≡ last) → from ≤ last → first ≤ to → ¬ ((from ≤ first) × (last ≤ to)) → 2 ≤ count
-two-or-more from to count first last some one ends begins out = elim (cases_lt 1 count) [
-  | inl more ↦ omega arith
-  | inr less ↦ (let same = one (omega arith) in absurd (out (omega arith, omega arith)))
-]
-
--- there is a free time for each value between the first and the last
-free-between : (landmarks : List Landmark) (count first last : ℕ) → first < last → count ≤ free landmarks first last →
-    count - 2 ≤ free landmarks (first + 1) (last - 1)
-free-between landmarks count first last rising few =
-    let front = free-add landmarks first first last (omega arith) (omega arith) in
-    let back = free-add landmarks (first + 1) (last - 1) last (omega arith) (omega arith) in
-    let one = free-le landmarks first first in
-    let other = free-le landmarks (last - 1 + 1) last in
-    omega (arith, few, front, back, one, other)
-
-pub IsSplit-window : (landmarks : List Landmark) (from to : ℕ) (w : Window) → IsTrue (is_split from to w) → IsTrue (lies_free landmarks w) →
-    IsPossible w.summary → IsSplit (split_figures (is_free landmarks) from to w)
-IsSplit-window landmarks from to w split is_in possible =
-    let place = lies from to w.summary.t_first w.summary.t_last split in
-    let free = LiesFree-lies_free landmarks w is_in in
-    let more = two-or-more from to w.summary.count w.summary.t_first w.summary.t_last possible.count_low possible.one place.ends place.begins place.out in
-    let rising : w.summary.t_first < w.summary.t_last = omega (arith, more, possible.times) in
-    IsSplit-split_of (is_free landmarks) from to w.summary.count w.summary.sum w.summary.min w.summary.max w.summary.t_first w.summary.t_last
-    more possible.count_high possible.min_fits possible.max_fits possible.order possible.sum_low possible.sum_high (omega arith) possible.last place.out
-    (free-between landmarks w.summary.count w.summary.t_first w.summary.t_last rising free.few)
 
 figures-same : (count : ℕ) (sum sum' least least' greatest greatest' : ℤ) (ends ends' inside inside' outside outside' : ℕ) →
     sum ≡ sum' → least ≡ least' → greatest ≡ greatest' → ends ≡ ends' → inside ≡ inside' → outside ≡ outside' →

@@ -4,6 +4,7 @@ use Rattle.std.specs.Prelude.{List, fold, IfSome, Option, None, Some}
 use Rattle.std.specs.Option.{option_map, option_map_or}
 use Rattle.ss_bounds.specs.Either.{greater, lesser}
 use Rattle.ss_bounds.specs.Extremes.{listed, max_interval, min_interval}
+use Rattle.ss_bounds.specs.Guess.{count_guess, sum_guess}
 use Rattle.ss_bounds.specs.Split.{IsSplit, SplitFigures, count_interval, sum_interval}
 use Rattle.ss_landmarks.specs.Free.{is_free}
 use Rattle.ss_landmarks.specs.Landmark.{Landmark, LandmarkValue}
@@ -15,7 +16,7 @@ use Rattle.ss_model.specs.Closed.{last_position}
 use Rattle.ss_model.specs.Interval.{is_apart, is_extreme, is_split, is_whole, may_have, may_reach, split_figures}
 use Rattle.ss_model.specs.State.{Stream}
 use Rattle.ss_model.specs.declared.outcome.Outcome.{Outcome}
-use Rattle.ss_model.specs.declared.outcome.Outcome.TheVariants.{Count, Sum, Min, Max, Has}
+use Rattle.ss_model.specs.declared.outcome.Outcome.TheVariants.{Count, Sum, Min, Max, Has, Estimate}
 use Rattle.ss_model.specs.declared.outcome.Presence.{Presence}
 use Rattle.ss_model.specs.declared.outcome.Presence.TheVariants.{Absent, Present, Maybe}
 use Rattle.ss_model.specs.declared.types.Window.{Window}
@@ -32,6 +33,8 @@ presence_of_marks kinds.Sum values = Absent
 presence_of_marks kinds.Min values = Absent
 presence_of_marks kinds.Max values = Absent
 presence_of_marks (kinds.Has v) values = if is_among v values then Present else Absent
+presence_of_marks kinds.CountGuess values = Absent
+presence_of_marks kinds.SumGuess values = Absent
 
 -- before any window was read: what these values add up to, and whether the value that is asked for is one of them
 abbrev pub marks_seen : Kind → List LandmarkValue → Seen
@@ -86,6 +89,8 @@ presence_with landmarks kinds.Sum from to known w = known
 presence_with landmarks kinds.Min from to known w = known
 presence_with landmarks kinds.Max from to known w = known
 presence_with landmarks (kinds.Has v) from to known w = stronger known (presence_in landmarks from to v w)
+presence_with landmarks kinds.CountGuess from to known w = known
+presence_with landmarks kinds.SumGuess from to known w = known
 
 -- a window may come next: it has no more values than a stream can have besides those so far, and its times are behind theirs
 abbrev pub Follows : Seen → Window → Type 0
@@ -162,14 +167,29 @@ pub record IsFewMarked (marked : Tally) : Type 0 where
 abbrev pub IsNear : ℤ → Type 0
 IsNear z = unsigned_abs z < 2 ^ 120
 
+-- from how many to how many values lie in the range, and from which to which sum
+abbrev pub counts_seen : Seen → ℕ × ℕ
+counts_seen seen =
+    let known = seen_count seen.whole seen.marked in
+    (known + (counts_of seen.left).0 + (counts_of seen.right).0, known + (counts_of seen.left).1 + (counts_of seen.right).1)
+
+abbrev pub sums_seen : Seen → ℤ × ℤ
+sums_seen seen =
+    let known = seen_sum seen.whole seen.marked in
+    (known +ℤ (sums_of seen.left).0 +ℤ (sums_of seen.right).0, known +ℤ (sums_of seen.left).1 +ℤ (sums_of seen.right).1)
+
 -- what is answered from what is known
 abbrev pub outcome_seen : Kind → Seen → Outcome
-outcome_seen kinds.Count seen =
-    let known = seen_count seen.whole seen.marked in
-    Count (known + (counts_of seen.left).0 + (counts_of seen.right).0) (known + (counts_of seen.left).1 + (counts_of seen.right).1)
-outcome_seen kinds.Sum seen =
-    let known = seen_sum seen.whole seen.marked in
-    Sum (known +ℤ (sums_of seen.left).0 +ℤ (sums_of seen.right).0) (known +ℤ (sums_of seen.left).1 +ℤ (sums_of seen.right).1)
+outcome_seen kinds.Count seen = let counts = counts_seen seen in Count counts.0 counts.1
+outcome_seen kinds.Sum seen = let sums = sums_seen seen in Sum sums.0 sums.1
 outcome_seen kinds.Min seen = Min (min_interval (seen_min seen.whole seen.marked) (listed (figures_of seen.left) (figures_of seen.right)))
 outcome_seen kinds.Max seen = Max (max_interval (seen_max seen.whole seen.marked) (listed (figures_of seen.left) (figures_of seen.right)))
 outcome_seen (kinds.Has v) seen = Has seen.presence
+outcome_seen kinds.CountGuess seen =
+    let counts = counts_seen seen in
+    let guess = count_guess (pos (seen_count seen.whole seen.marked)) (listed (figures_of seen.left) (figures_of seen.right)) in
+    Estimate (pos counts.0) guess (pos counts.1)
+outcome_seen kinds.SumGuess seen =
+    let sums = sums_seen seen in
+    let guess = sum_guess (seen_sum seen.whole seen.marked) (listed (figures_of seen.left) (figures_of seen.right)) in
+    Estimate sums.0 guess sums.1

@@ -7,12 +7,15 @@ ghost use Rattle.ss_model.specs.Closed.{last_position};
 ghost use Rattle.ss_model.specs.Interval.{is_apart, is_split, is_whole, split_figures};
 ghost use Rattle.ss_model.specs.Marks.{lies_free};
 ghost use Rattle.ss_summary.specs.declared.summary.TheConstants.{GREATEST_COUNT};
-ghost use Rattle.ss_query.specs.Asked.{Follows, HasCuts, IsCut, IsFewMarked, IsNear, counts_of, cut_of, figures_of, joined_with, seen_count};
-ghost use Rattle.ss_query.specs.Asked.{seen_sum, left_with, marks_seen, outcome_seen, right_with, seen_with, sums_of, whole_with};
+ghost use Rattle.ss_query.specs.Asked.{Follows, HasCuts, IsCut, IsFewMarked, IsNear, counts_of, counts_seen, cut_of, figures_of, joined_with, seen_count};
+ghost use Rattle.ss_query.specs.Asked.{seen_sum, left_with, marks_seen, outcome_seen, right_with, seen_with, sums_of, sums_seen, whole_with};
 
 use crate::Cut;
 use crate::presence::{presence_of_marks, presence_with};
-use ss_bounds::{Split, count_bounds, greater, lesser, max_bounds, min_bounds, sum_bounds};
+use ss_bounds::{
+    Split, count_bounds, count_guess, greater, lesser, max_bounds, min_bounds, sum_bounds,
+    sum_guess,
+};
 use ss_catalog::{Kind, LAST_TIME, Query};
 use ss_landmarks::{Landmarks, Tally};
 use ss_model::{Outcome, Presence, Window};
@@ -290,18 +293,35 @@ fn figures_of(cut: Option<Cut>) -> Option<Split>
     }
 }
 
+// From how many to how many values lie in the range.
+fn counts_seen(seen: Seen) -> (u64, u64)
+    requires { IsFewMarked seen.marked }
+    ensures { result ≡ counts_seen seen }
+{
+    let known = known_count(seen.whole, seen.marked);
+    let left = counts_of(seen.left);
+    let right = counts_of(seen.right);
+    (known + left.0 + right.0, known + left.1 + right.1)
+}
+
+// From which to which sum they have.
+fn sums_seen(seen: Seen) -> (i128, i128)
+    requires { IsFewMarked seen.marked }
+    ensures { result ≡ sums_seen seen }
+{
+    let known = known_sum(seen.whole, seen.marked);
+    let left = sums_of(seen.left);
+    let right = sums_of(seen.right);
+    (known + left.0 + right.0, known + left.1 + right.1)
+}
+
 // How many values lie in the range.
 fn count_seen(seen: Seen) -> Outcome
     requires { IsFewMarked seen.marked }
     ensures { result ≡ outcome_seen Kind.Count seen }
 {
-    let known = known_count(seen.whole, seen.marked);
-    let left = counts_of(seen.left);
-    let right = counts_of(seen.right);
-    Outcome::Count {
-        lo: known + left.0 + right.0,
-        hi: known + left.1 + right.1,
-    }
+    let (lo, hi) = counts_seen(seen);
+    Outcome::Count { lo, hi }
 }
 
 // What their sum is.
@@ -309,13 +329,38 @@ fn sum_seen(seen: Seen) -> Outcome
     requires { IsFewMarked seen.marked }
     ensures { result ≡ outcome_seen Kind.Sum seen }
 {
-    let known = known_sum(seen.whole, seen.marked);
-    let left = sums_of(seen.left);
-    let right = sums_of(seen.right);
-    Outcome::Sum {
-        lo: known + left.0 + right.0,
-        hi: known + left.1 + right.1,
+    let (lo, hi) = sums_seen(seen);
+    Outcome::Sum { lo, hi }
+}
+
+// How many values lie in the range, and the likeliest number.
+fn count_guessed(seen: Seen) -> Outcome
+    requires { IsFewMarked seen.marked }
+    ensures { result ≡ outcome_seen Kind.CountGuess seen }
+{
+    let known = i128::from(known_count(seen.whole, seen.marked));
+    let left = figures_of(seen.left);
+    let right = figures_of(seen.right);
+    let guess = count_guess(known, left, right);
+    let (lo, hi) = counts_seen(seen);
+    Outcome::Estimate {
+        lo: i128::from(lo),
+        guess,
+        hi: i128::from(hi),
     }
+}
+
+// What their sum is, and the likeliest one.
+fn sum_guessed(seen: Seen) -> Outcome
+    requires { IsFewMarked seen.marked }
+    ensures { result ≡ outcome_seen Kind.SumGuess seen }
+{
+    let known = known_sum(seen.whole, seen.marked);
+    let left = figures_of(seen.left);
+    let right = figures_of(seen.right);
+    let guess = sum_guess(known, left, right);
+    let (lo, hi) = sums_seen(seen);
+    Outcome::Estimate { lo, guess, hi }
 }
 
 // What the least of them is.
@@ -355,5 +400,7 @@ pub fn outcome_seen(seen: Seen, kind: Kind) -> Outcome
         Kind::Min => least_seen(seen),
         Kind::Max => greatest_seen(seen),
         Kind::Has { .. } => Outcome::Has(seen.presence),
+        Kind::CountGuess => count_guessed(seen),
+        Kind::SumGuess => sum_guessed(seen),
     }
 }
