@@ -1,0 +1,212 @@
+-- The definitions of ages, of parts of a range and of sizes at some rows, and where the laws leave no room.
+use Rattle.std.proofs.Common.{◌≡◌, ◌+◌, ◌-◌, ◌*◌, [], ◌∷◌, arith, true, false, refl}
+use Rattle.std.specs.Prelude.{List, max, pos}
+use Rattle.std.proofs.lemmas.Int.{ints}
+use Rattle.ss_bounds.specs.Several.{greatest_of_all, least_of_all, sum_of_counts, sum_of_sums}
+use Rattle.ss_bounds.specs.Split.{sum_interval}
+use Rattle.ss_bounds.specs.declared.extreme.Extreme.TheVariants.{Nothing, Sure, Maybe}
+use Rattle.ss_catalog.specs.Series.{numbers_from}
+use Rattle.ss_catalog.specs.declared.params.Params.TheVariants.{Exp}
+use Rattle.ss_catalog.specs.declared.query.Kind.TheVariants as kinds
+use Rattle.ss_catalog.specs.declared.series.Series.{Series}
+use Rattle.ss_measures.specs.Ages.{cuts, open_at, values_since}
+use Rattle.ss_measures.specs.Parts.{IsCountWithin, IsExtremeWithin, IsSumWithin, count_of, greatest_of, least_of, of_rows, sum_of}
+use Rattle.ss_model.specs.State.{Stream, records_of}
+use Rattle.ss_model.specs.Decay.{cover}
+use Rattle.ss_model.specs.Rule.{without_step}
+use Rattle.ss_model.specs.Windows.{windows}
+use Rattle.ss_model.specs.declared.types.Window.{Window}
+use Rattle.ss_power.specs.Power.{power_length}
+use Rattle.ss_summary.specs.Points.{New, Point}
+use Rattle.ss_windowing.specs.Exp.{exp_length}
+use Rattle.ss_windowing.specs.Windowing.{window_index}
+
+-- seven values, and their windows 1..4, 5..6 and 7
+abbrev seven : List Point
+seven = (10, pos 5, New) ∷ (20, pos 3, New) ∷ (30, pos 8, New) ∷ (40, pos 1, New) ∷ (50, pos 9, New) ∷ (60, pos 2, New) ∷ (70, pos 7, New) ∷ []
+
+abbrev their_windows : List Window
+their_windows = windows (without_step (exp_length 2 1 1)) seven
+
+-- a value at the time counts, and the one before it doesn't
+values_since-10 : values_since 10 seven ≡ 7
+values_since-10 = refl
+
+values_since-25 : values_since 25 seven ≡ 5
+values_since-25 = refl
+
+values_since-70 : values_since 70 seven ≡ 1
+values_since-70 = refl
+
+values_since-71 : values_since 71 seven ≡ 0
+values_since-71 = refl
+
+-- the first window is cut from after its first time to its last
+cuts-10 : cuts 10 their_windows ≡ false
+unfolding window_index
+cuts-10 = refl
+
+cuts-11 : cuts 11 their_windows ≡ true
+unfolding window_index
+cuts-11 = refl
+
+cuts-40 : cuts 40 their_windows ≡ true
+unfolding window_index
+cuts-40 = refl
+
+cuts-41 : cuts 41 their_windows ≡ false
+unfolding window_index
+cuts-41 = refl
+
+-- the four oldest values leave two open, whichever time cuts them; a window of two leaves none
+open_at-25 : open_at (exp_length 2 1 1) 25 seven their_windows ≡ 2
+unfolding window_index
+open_at-25 = refl
+
+open_at-41 : open_at (exp_length 2 1 1) 41 seven their_windows ≡ 0
+unfolding window_index
+open_at-41 = refl
+
+open_at-55 : open_at (exp_length 2 1 1) 55 seven their_windows ≡ 0
+unfolding window_index
+open_at-55 = refl
+
+-- the line of exponential lengths is reached at the first age of each group, and the newest r values end at r
+length-7 : 3 * exp_length 2 3 5 (window_index (exp_length 2 3 5) 15) ≡ (2 - 1) * 15 + 3 * 5
+unfolding window_index
+length-7 = refl
+
+length-past_newest : exp_length 2 3 1 (window_index (exp_length 2 3 1) 3) ≡ 2
+unfolding window_index
+length-past_newest = refl
+
+-- two groups of three hold 45 values, and not 46
+cover-45 : cover (exp_length 2 3 5) 45 ≡ 3 * 2
+unfolding window_index
+cover-45 = refl
+
+cover-46 : cover (exp_length 2 3 5) 46 ≡ 3 * 2 + 1
+unfolding window_index
+cover-46 = refl
+
+-- power 1 1 4 1: two groups hold 12 values in windows of 1 and 2, and the next window has three
+power-11 : power_length 1 1 4 1 (window_index (power_length 1 1 4 1) 11) ≡ 2
+unfolding power_length window_index
+power-11 = refl
+
+power-12 : power_length 1 1 4 1 (window_index (power_length 1 1 4 1) 12) ≡ 3
+unfolding power_length window_index
+power-12 = refl
+
+cover-12 : cover (power_length 1 1 4 1) 12 ≡ 4 * 2
+unfolding power_length window_index
+cover-12 = refl
+
+cover-13 : cover (power_length 1 1 4 1) 13 ≡ 4 * 2 + 1
+unfolding power_length window_index
+cover-13 = refl
+
+-- ---- a range and its parts
+
+-- a stream of these values
+abbrev one : Stream
+one = record { number = 0; name = []; params = Exp 2 1 1; windows = their_windows; landmarks = [] }
+
+-- the range 15 to 45 has one to three of the first window's values, 5, 3, 8 and 1, and its two parts leave two more open
+count-range : count_of one 15 45 ≡ (1, 3)
+unfolding window_index
+count-range = refl
+
+count-parts : sum_of_counts (count_of one 15 25 ∷ count_of one 26 45 ∷ []) ≡ (1, 5)
+unfolding window_index
+count-parts = refl
+
+sum-range : sum_of one 15 45 ≡ (pos 1, pos 16)
+unfolding window_index sum_interval
+sum-range = refl
+
+sum-parts : sum_of_sums (sum_of one 15 25 ∷ sum_of one 26 45 ∷ []) ≡ (pos 1, pos 31)
+unfolding window_index sum_interval
+sum-parts = refl
+
+-- the first window lies whole in 10 to 45, and both its halves may have each of its values
+least-range : least_of one 10 45 ≡ Sure (pos 1) (pos 1)
+unfolding window_index
+least-range = refl
+
+least-parts : least_of_all (least_of one 10 25 ∷ least_of one 26 45 ∷ []) ≡ Sure (pos 1) (pos 8)
+unfolding window_index
+least-parts = refl
+
+greatest-range : greatest_of one 10 45 ≡ Sure (pos 8) (pos 8)
+unfolding window_index
+greatest-range = refl
+
+greatest-parts : greatest_of_all (greatest_of one 10 25 ∷ greatest_of one 26 45 ∷ []) ≡ Sure (pos 1) (pos 8)
+unfolding window_index
+greatest-parts = refl
+
+-- the rows 15 to 25, 26 to 36 and 37 to 45 of a series
+abbrev in_rows : Series
+in_rows = record { name = []; kind = kinds.Count; from = 15; to = 45; step = 11 }
+
+count-rows : of_rows (count_of one) in_rows ≡ (0, 2) ∷ (0, 2) ∷ (1, 3) ∷ []
+unfolding window_index numbers_from
+count-rows = refl
+
+-- what lies within an interval: its own ends do, and ends just past them don't
+within-at : IsCountWithin (1, 3) (1, 3) × IsSumWithin (pos 1, pos 3) (pos 1, pos 3)
+within-at = ((omega arith, omega arith), (omega (arith, ints), omega (arith, ints)))
+
+count-below : ¬ IsCountWithin (0, 3) (1, 3)
+count-below within = omega (arith, within.0)
+
+count-above : ¬ IsCountWithin (1, 4) (1, 3)
+count-above within = omega (arith, within.1)
+
+sum-below : ¬ IsSumWithin (pos 0, pos 3) (pos 1, pos 3)
+sum-below within = omega (arith, ints, within.0)
+
+sum-above : ¬ IsSumWithin (pos 1, pos 4) (pos 1, pos 3)
+sum-above within = omega (arith, ints, within.1)
+
+-- of least and greatest values
+extreme-at : IsExtremeWithin (Sure (pos 1) (pos 3)) (Sure (pos 1) (pos 3)) × IsExtremeWithin (Sure (pos 1) (pos 3)) (Maybe (pos 1) (pos 3))
+    × IsExtremeWithin (Maybe (pos 1) (pos 3)) (Maybe (pos 1) (pos 3))
+extreme-at = (
+  (omega (arith, ints), omega (arith, ints)),
+  (omega (arith, ints), omega (arith, ints)),
+  (omega (arith, ints), omega (arith, ints)),
+)
+
+extreme-below : ¬ IsExtremeWithin (Sure (pos 0) (pos 3)) (Maybe (pos 1) (pos 3))
+extreme-below within = omega (arith, ints, within.0)
+
+extreme-above : ¬ IsExtremeWithin (Maybe (pos 1) (pos 4)) (Maybe (pos 1) (pos 3))
+extreme-above within = omega (arith, ints, within.1)
+
+extreme_sure-below : ¬ IsExtremeWithin (Sure (pos 0) (pos 3)) (Sure (pos 1) (pos 3))
+extreme_sure-below within = omega (arith, ints, within.0)
+
+extreme_sure-above : ¬ IsExtremeWithin (Sure (pos 1) (pos 4)) (Sure (pos 1) (pos 3))
+extreme_sure-above within = omega (arith, ints, within.1)
+
+extreme-unsure : ¬ IsExtremeWithin (Maybe (pos 2) (pos 2)) (Sure (pos 1) (pos 3))
+extreme-unsure within = within
+
+extreme-nothing : ¬ IsExtremeWithin Nothing (Maybe (pos 1) (pos 3))
+extreme-nothing within = within
+
+extreme-some : ¬ IsExtremeWithin (Maybe (pos 1) (pos 3)) Nothing
+extreme-some within = within
+
+-- ---- sizes
+
+-- a stream without values needs one record, and one with a value two
+records-none : records_of (record one { windows = [] }) ≡ max 1 (2 * cover (exp_length 2 1 1) 0)
+records-none = refl
+
+records-one : records_of (record one { windows = windows (without_step (exp_length 2 1 1)) ((10, pos 5, New) ∷ []) })
+    ≡ max 1 (2 * cover (exp_length 2 1 1) 1)
+unfolding window_index
+records-one = refl
