@@ -14,13 +14,13 @@ use Rattle.ss_landmarks.specs.Landmarks.{AreKnown, LandmarksState}
 use Rattle.ss_line.specs.declared.entry.Entry.{Entry}
 use Rattle.ss_summary.specs.Figures.{Figures, IsPossible}
 use Rattle.ss_summary.specs.Summaries.{summary_of}
-use Rattle.ss_target.specs.Lengths.{lengths_of}
 use Rattle.ss_target.specs.Targets.{params_of}
 use Rattle.ss_summary.specs.Points.{New}
 use Rattle.ss_model.specs.Closed.{closed}
 use Rattle.ss_model.specs.ClosedState.{closed_stream}
 use Rattle.ss_model.specs.Marks.{has_open, later, latest_of}
 use Rattle.ss_model.specs.Refusals.{is_past}
+use Rattle.ss_model.specs.Rule.{rule_of}
 use Rattle.ss_model.specs.Standing.{IsStream}
 use Rattle.ss_model.specs.State.{Stream, last_time, values_in}
 use Rattle.ss_model.specs.Steps.{single_window, with_plain_value}
@@ -190,4 +190,4 @@ pub closed-single : (s : Stream) (t : ℕ) (v : ℤ) → closed_stream (with_sin
 closed-single s t v =
     let one : Window = single_window (values_in s + 1) (t, v, New) in
     let count : taken (s.windows ++ one ∷ []) ≡ values_in s + 1 = taken-append s.windows (one ∷ []) in
-    ap (λ n. with_windows s (closed (lengths_of s.params) n (s.windows ++ one ∷ []))) count
+    ap (λ n. with_windows s (closed (rule_of s.params) n (s.windows ++ one ∷ []))) count

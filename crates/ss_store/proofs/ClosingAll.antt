@@ -8,9 +8,9 @@ use Rattle.std.proofs.lemmas.Option.{none-some}
 use Rattle.ss_outside.specs.Crash.{KnowsNow}
 use Rattle.ss_outside.specs.Disk.{Told}
 use Rattle.ss_codec.specs.declared.record.Record.{Record}
-use Rattle.ss_target.specs.Lengths.{lengths_of}
 use Rattle.ss_model.specs.Closed.{closed}
 use Rattle.ss_model.specs.ClosedState.{closed_state, closed_stream}
+use Rattle.ss_model.specs.Rule.{rule_of}
 use Rattle.ss_model.specs.Standing.{IsState, IsStream}
 use Rattle.ss_model.specs.State.{Stream, values_in}
 use Rattle.ss_model.proofs.JoinLemmas.{JoinsDue-closed}
@@ -69,9 +69,9 @@ length-closed_until (suc n) (s ∷ ss) = ap suc (length-closed_until n ss)
 -- closing again changes nothing
 closed_stream-again : (s : Stream) → IsStream s → closed_stream (closed_stream s) ≡ closed_stream s
 closed_stream-again s is =
-    let len = lengths_of s.params in
+    let rule = rule_of s.params in
     let n = values_in s in
-    closed_stream-joined s (closed len n s.windows) is.windows (JoinsDue-closed len n s.windows)
+    closed_stream-joined s (closed rule n s.windows) is.windows (JoinsDue-closed rule n s.windows)
 
 closed_state-until : (n : ℕ) (streams : List Stream) → All IsStream streams → closed_state (closed_until n streams) ≡ closed_state streams
 closed_state-until zero streams each = refl
@@ -85,11 +85,11 @@ closed_state-until (suc n) (s ∷ ss) each =
 pub IsState-closed : (streams : List Stream) (place : ℕ) (s : Stream) → IsState streams → slice_get streams place ≡ Some s →
     IsState (slice_set streams place (closed_stream s))
 IsState-closed streams place s state at =
-    let len = lengths_of s.params in
+    let rule = rule_of s.params in
     let n = values_in s in
-    IsState-shorter streams place s (closed len n s.windows) state at
-    (IsStream-joined len n s (closed len n s.windows) (IsStream-at streams place s state at) (JoinsDue-closed len n s.windows))
-    (length-closed_le len n s.windows)
+    IsState-shorter streams place s (closed rule n s.windows) state at
+    (IsStream-joined rule n s (closed rule n s.windows) (IsStream-at streams place s state at) (JoinsDue-closed rule n s.windows))
+    (length-closed_le rule n s.windows)
 
 IsState-until : (n : ℕ) (streams : List Stream) → IsState streams → IsState (closed_until n streams)
 IsState-until zero streams state = state

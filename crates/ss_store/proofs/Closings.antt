@@ -11,6 +11,7 @@ use Rattle.ss_target.specs.Targets.{params_of}
 use Rattle.ss_model.specs.Closed.{closed}
 use Rattle.ss_model.specs.ClosedState.{closed_stream}
 use Rattle.ss_model.specs.Joins.{JoinsDue}
+use Rattle.ss_model.specs.Rule.{rule_of}
 use Rattle.ss_model.specs.Standing.{IsStream}
 use Rattle.ss_model.specs.State.{Stream, values_in}
 use Rattle.ss_model.specs.declared.types.Window.{Window}
@@ -26,13 +27,13 @@ use Rattle.ss_store.proofs.Joinings.{IsJoinedIn-none}
 use Rattle.ss_store.proofs.Spans.{NoneIsDue-spans, values_held-windows}
 
 -- joins after joins, of windows that hold as many values
-joins_more : (s : Stream) (between new : List Window) → JoinsDue (lengths_of s.params) (values_in s) s.windows between →
-    JoinsDue (lengths_of s.params) (values_in (with_windows s between)) between new → JoinsDue (lengths_of s.params) (values_in s) s.windows new
+joins_more : (s : Stream) (between new : List Window) → JoinsDue (rule_of s.params) (values_in s) s.windows between →
+    JoinsDue (rule_of s.params) (values_in (with_windows s between)) between new → JoinsDue (rule_of s.params) (values_in s) s.windows new
 joins_more s between new first second =
-    JoinsDue-append (lengths_of s.params) (values_in s) s.windows between new first
-    (subst (λ n. JoinsDue (lengths_of s.params) n between new) (taken-JoinsDue (lengths_of s.params) (values_in s) s.windows between first) second)
+    JoinsDue-append (rule_of s.params) (values_in s) s.windows between new first
+    (subst (λ n. JoinsDue (rule_of s.params) n between new) (taken-JoinsDue (rule_of s.params) (values_in s) s.windows between first) second)
 
-module _ (others : List (ℕ × Option Record)) (s : Stream) (between : List Window) (first : JoinsDue (lengths_of s.params) (values_in s) s.windows between) where
+module _ (others : List (ℕ × Option Record)) (s : Stream) (between : List Window) (first : JoinsDue (rule_of s.params) (values_in s) s.windows between) where
   IsJoinedIn-more : (part : StreamParts) (image : List ℕ) → IsJoinedIn others part (with_windows s between) image → IsJoinedIn others part s image
   IsJoinedIn-more part image is = record { windows = is.windows; joins = joins_more s between is.windows first is.joins; held = is.held }
 
@@ -80,16 +81,17 @@ closes : (others : List (ℕ × Option Record)) (part : StreamParts) (s : Stream
     IsHeldIn others part (closed_stream s) image
 closes others part s n image stream all none is =
     let len = lengths_of s.params in
+    let rule = rule_of s.params in
     let params : params_of part.target ≡ s.params = is.held.agrees.params in
     let held : values_held (entries_of part) ≡ values_in (with_windows s is.windows) =
     values_held-windows is.windows (entries_of part) is.held.stream.windows is.held.agrees.positions in
-    let count : n ≡ values_in s = all ∙ held ∙ taken-JoinsDue len (values_in s) s.windows is.windows is.joins in
+    let count : n ≡ values_in s = all ∙ held ∙ taken-JoinsDue rule (values_in s) s.windows is.windows is.joins in
     let spans : NoSpansAreDue len (values_in s) (map span_of is.windows) =
     subst (λ l. NoSpansAreDue len (values_in s) l) is.held.agrees.positions
     (subst (λ k. NoSpansAreDue len k (map span_held (entries_of part))) count
     (subst (λ p. NoSpansAreDue (lengths_of p) n (map span_held (entries_of part))) params none)) in
-    let end : is.windows ≡ closed len (values_in s) s.windows =
-    closed-only_end len (values_in s) s.windows is.windows stream.windows is.joins (NoneIsDue-spans len (values_in s) is.windows spans) in
+    let end : is.windows ≡ closed rule (values_in s) s.windows =
+    closed-only_end rule (values_in s) s.windows is.windows stream.windows is.joins (NoneIsDue-spans len (values_in s) is.windows spans) in
     subst (λ ws. IsHeldIn others part (with_windows s ws) image) end is.held
 
 pub TurnsShown-closes : {E : Type 0} (was is : RecordsState) (others : List (ℕ × Option Record)) (part now : StreamParts) (s : Stream) (n : ℕ)

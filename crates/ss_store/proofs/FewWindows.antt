@@ -9,6 +9,7 @@ use Rattle.ss_summary.proofs.FilterLemmas.{IsFilter-full, has-full}
 use Rattle.ss_line.specs.declared.entry.Entry.{Entry}
 use Rattle.ss_model.specs.Closed.{closed}
 use Rattle.ss_model.specs.Decay.{NoneIsDue, cover}
+use Rattle.ss_model.specs.Rule.{without_step}
 use Rattle.ss_model.specs.Tiling.{AreWindows, StandFrom}
 use Rattle.ss_model.specs.Windows.{taken}
 use Rattle.ss_model.specs.declared.types.Window.{Window}
@@ -87,9 +88,10 @@ length-none_due len (e ∷ es) tiles none some =
     let all : taken ws ≡ n = omega arith in
     let most = (last-held 1 e es tiles).1 in
     let are : AreWindows ws = record { stand = StandFrom-zeros_at 1 0 (e ∷ es) (omega arith) (omega arith) tiles; few = omega arith } in
-    let due : NoneIsDue len n ws = NoneIsDue-spans len n ws (subst (λ l. NoSpansAreDue len n l) (spans-zeros_at 1 (e ∷ es) tiles) none) in
-    let end : ws ≡ closed len n ws = closed-only_end len n ws ws are (0, refl) due in
+    let rule = without_step len in
+    let due : NoneIsDue rule n ws = NoneIsDue-spans len n ws (subst (λ l. NoSpansAreDue len n l) (spans-zeros_at 1 (e ∷ es) tiles) none) in
+    let end : ws ≡ closed rule n ws = closed-only_end rule n ws ws are (0, refl) due in
     let bound = length-closed len n ws are all some in
     let count : length ws ≡ length (e ∷ es) = length-map (e ∷ es) zeros_at in
-    let same : length (closed len n ws) ≡ length ws = ap (λ (l : List Window). length l) (sym end) in
+    let same : length (closed rule n ws) ≡ length ws = ap (λ (l : List Window). length l) (sym end) in
     omega (arith, bound, same, count)

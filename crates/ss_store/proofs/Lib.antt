@@ -6,6 +6,8 @@ pub mod Dropping
 pub mod ShorterStates
 pub mod Among
 pub mod HeldCounts
+pub mod EventCounts
+pub mod EventsHeld
 pub mod KeptStates
 pub mod Unformed
 pub mod Additions

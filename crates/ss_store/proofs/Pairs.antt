@@ -21,6 +21,7 @@ use Rattle.ss_target.specs.Targets.{params_of}
 use Rattle.ss_model.specs.Closed.{joined_window, last_position}
 use Rattle.ss_model.specs.Joins.{JoinsDue}
 use Rattle.ss_model.specs.Marks.{later, latest_of, lies_free}
+use Rattle.ss_model.specs.Rule.{rule_of}
 use Rattle.ss_model.specs.Standing.{IsStream}
 use Rattle.ss_model.specs.State.{Stream, values_in}
 use Rattle.ss_model.specs.Tiling.{AreWindows}
@@ -227,7 +228,7 @@ pub record JoinsHeld (others : List (ℕ × Option Record)) (part new : StreamPa
   pub was : IsPermutation (records_held (part, s) ++ others)
       ((w.slot, Some (window_record part.id.0 one)) ∷ (v.slot, Some (window_record part.id.0 two)) ∷ beside)
   pub windows : List Window
-  pub joins : JoinsDue (lengths_of s.params) (values_in s) s.windows windows
+  pub joins : JoinsDue (rule_of s.params) (values_in s) s.windows windows
   pub agrees : Agrees new (with_windows s windows)
   pub stream : IsStream (with_windows s windows)
   pub is : IsPermutation ((w.slot, Some (records.Window part.id.0 w.first (joined one.summary two.summary))) ∷ beside)
@@ -315,9 +316,9 @@ module _ (others : List (ℕ × Option Record)) (part new : StreamParts) (s : St
       let last : v.last ≡ last_position theirs.two = ap (λ (p : ℕ × ℕ). p.1) theirs.second in
       (λ i. fits (lengths_of (sym params i)) (sym first i) (sym last i) (sym held i)) ∙ pair.due
 
-  joins : JoinsDue (lengths_of s.params) (values_in s) s.windows ws
+  joins : JoinsDue (rule_of s.params) (values_in s) s.windows ws
   unfolding ws
-  joins = JoinsDue-one (lengths_of s.params) (values_in s) s.windows ws (record {
+  joins = JoinsDue-one (rule_of s.params) (values_in s) s.windows ws (record {
     before = theirs.before;
     window = theirs.one;
     next = theirs.two;
@@ -415,9 +416,9 @@ module _ (others : List (ℕ × Option Record)) (part new : StreamParts) (s : St
           landmarks = ap (λ (l : LandmarksState). l.landmarks) same.landmarks ∙ agrees.landmarks;
           known = subst AreKnown (sym same.landmarks) agrees.known;
           last_time = same.last_time ∙ agrees.last_time
-              ∙ ap (λ o. later o (latest_of s.landmarks)) (sym (newest_time-JoinsDue (lengths_of s.params) (values_in s) s.windows ws joins));
+              ∙ ap (λ o. later o (latest_of s.landmarks)) (sym (newest_time-JoinsDue (rule_of s.params) (values_in s) s.windows ws joins));
         };
-        stream = IsStream-joined (lengths_of s.params) (values_in s) s ws stream joins;
+        stream = IsStream-joined (rule_of s.params) (values_in s) s ws stream joins;
         is = subst (λ n. IsPermutation ((w.slot, Some (records.Window n w.first (joined theirs.one.summary theirs.two.summary))) ∷ rest)
             (records_held (new, with_windows s ws) ++ others)) (sym number)
             (subst (λ f. IsPermutation ((w.slot, Some (records.Window s.number f (joined theirs.one.summary theirs.two.summary))) ∷ rest)

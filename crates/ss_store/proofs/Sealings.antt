@@ -13,10 +13,10 @@ use Rattle.ss_journal.proofs.TearLemmas.{on_err}
 use Rattle.ss_records.specs.Calls.{SealsRecords}
 use Rattle.ss_records.specs.Kept.{AreKept, RecordsState}
 use Rattle.ss_codec.specs.declared.record.Record.{Record}
-use Rattle.ss_target.specs.Lengths.{lengths_of}
 use Rattle.ss_summary.specs.Points.{New}
 use Rattle.ss_model.specs.Closed.{closed}
 use Rattle.ss_model.specs.ClosedState.{closed_stream}
+use Rattle.ss_model.specs.Rule.{rule_of}
 use Rattle.ss_model.specs.State.{Stream, values_in}
 use Rattle.ss_model.specs.Steps.{with_plain_value}
 use Rattle.ss_model.proofs.JoinLemmas.{JoinsDue-closed}
@@ -46,8 +46,8 @@ pub IsPartlyJoined-closed : (others : List (ℕ × Option Record)) (part : Strea
     IsHeldIn others part (closed_stream s) image → IsPartlyJoined others s image
 IsPartlyJoined-closed others part s image held = record {
   part = part;
-  windows = closed (lengths_of s.params) (values_in s) s.windows;
-  joins = JoinsDue-closed (lengths_of s.params) (values_in s) s.windows;
+  windows = closed (rule_of s.params) (values_in s) s.windows;
+  joins = JoinsDue-closed (rule_of s.params) (values_in s) s.windows;
   held = held;
 }
 

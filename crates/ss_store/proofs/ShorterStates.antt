@@ -5,10 +5,10 @@ use Rattle.std.proofs.lemmas.List.{length-append, length-set}
 use Rattle.std.proofs.lemmas.List.Elements.{All-set}
 use Rattle.std.proofs.lemmas.List.Sums.{sum_by-cons}
 use Rattle.std.proofs.lemmas.Option.{none-some, same_Some}
-use Rattle.ss_target.specs.Lengths.{lengths_of}
 use Rattle.ss_model.specs.Closed.{closed, joined_window}
 use Rattle.ss_model.specs.ClosedState.{closed_stream}
 use Rattle.ss_model.specs.Joins.{JoinsDue, Joins}
+use Rattle.ss_model.specs.Rule.{Rule, rule_of}
 use Rattle.ss_model.specs.Standing.{IsState, IsStream}
 use Rattle.ss_model.specs.State.{Stream, records_of, values_in}
 use Rattle.ss_model.specs.Tiling.{AreWindows}
@@ -45,26 +45,26 @@ IsState-shorter streams place s ws state at stream few =
 length-joined : (before rest : List Window) (w v : Window) → length (before ++ joined_window w v ∷ rest) ≤ length (before ++ w ∷ v ∷ rest)
 length-joined before rest w v = omega (arith, length-append before (joined_window w v ∷ rest), length-append before (w ∷ v ∷ rest))
 
-length-joins : (len : ℕ → ℕ) (n k : ℕ) (old new : List Window) → Joins len n k old new → length new ≤ length old
-length-joins len n zero old new same = omega (arith, ap length same)
-length-joins len n (suc k) old new joins =
+length-joins : (rule : Rule) (n k : ℕ) (old new : List Window) → Joins rule n k old new → length new ≤ length old
+length-joins rule n zero old new same = omega (arith, ap length same)
+length-joins rule n (suc k) old new joins =
     let one = joins.1 in
     omega (
       arith,
-      length-joins len n k joins.0 new joins.2,
+      length-joins rule n k joins.0 new joins.2,
       ap length one.is,
       ap length one.was,
       length-joined one.before one.rest one.window one.next,
     )
 
-pub length-JoinsDue : (len : ℕ → ℕ) (n : ℕ) (old new : List Window) → JoinsDue len n old new → length new ≤ length old
-length-JoinsDue len n old new joins = length-joins len n joins.0 old new joins.1
+pub length-JoinsDue : (rule : Rule) (n : ℕ) (old new : List Window) → JoinsDue rule n old new → length new ≤ length old
+length-JoinsDue rule n old new joins = length-joins rule n joins.0 old new joins.1
 
 -- a stream of which some windows were joined that are due closes to the same
-pub closed_stream-joined : (s : Stream) (ws : List Window) → AreWindows s.windows → JoinsDue (lengths_of s.params) (values_in s) s.windows ws →
+pub closed_stream-joined : (s : Stream) (ws : List Window) → AreWindows s.windows → JoinsDue (rule_of s.params) (values_in s) s.windows ws →
     closed_stream (with_windows s ws) ≡ closed_stream s
 closed_stream-joined s ws tiles joins =
-    let len = lengths_of s.params in
-    let same : closed len (taken ws) ws ≡ closed len (values_in s) s.windows =
-    ap (λ n. closed len n ws) (taken-JoinsDue len (values_in s) s.windows ws joins) ∙ closed-JoinsDue len (values_in s) s.windows ws tiles joins in
+    let rule = rule_of s.params in
+    let same : closed rule (taken ws) ws ≡ closed rule (values_in s) s.windows =
+    ap (λ n. closed rule n ws) (taken-JoinsDue rule (values_in s) s.windows ws joins) ∙ closed-JoinsDue rule (values_in s) s.windows ws tiles joins in
     ap (with_windows s) same

@@ -3,6 +3,7 @@ use Rattle.std.proofs.Common.{◌≡◌, ◌∙◌, ℕ, ◌+◌, ◌≤◌, Lis
 use Rattle.ss_windowing.specs.declared.decay.TheConstants.{MOST_VALUES}
 use Rattle.ss_line.specs.declared.entry.Entry.{Entry}
 use Rattle.ss_model.specs.Decay.{NoneIsDue}
+use Rattle.ss_model.specs.Rule.{without_step}
 use Rattle.ss_model.specs.Tiling.{AreWindows}
 use Rattle.ss_model.specs.Windows.{taken}
 use Rattle.ss_model.specs.declared.types.Window.{Window}
@@ -89,7 +90,7 @@ TileFrom-push [] e tiles start one few = (start, omega arith, few, tt)
 TileFrom-push (f ∷ fs) e tiles start one few = TileFrom-more 1 f fs e tiles start one few
 
 -- positions of windows
-pub NoneIsDue-spans : (len : ℕ → ℕ) (n : ℕ) (ws : List Window) → NoSpansAreDue len n (map span_of ws) → NoneIsDue len n ws
+pub NoneIsDue-spans : (len : ℕ → ℕ) (n : ℕ) (ws : List Window) → NoSpansAreDue len n (map span_of ws) → NoneIsDue (without_step len) n ws
 NoneIsDue-spans len n [] none = tt
 NoneIsDue-spans len n (w ∷ []) none = tt
 NoneIsDue-spans len n (w ∷ v ∷ vs) none = (none.0, NoneIsDue-spans len n (v ∷ vs) none.1)

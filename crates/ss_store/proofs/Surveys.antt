@@ -13,6 +13,7 @@ use Rattle.ss_line.specs.declared.entry.At.{At}
 use Rattle.ss_line.specs.declared.entry.Entry.{Entry}
 use Rattle.ss_model.specs.Closed.{closed, closed_onto, joined_window, last_position}
 use Rattle.ss_model.specs.ClosedState.{closed_stream}
+use Rattle.ss_model.specs.Rule.{without_step}
 use Rattle.ss_model.specs.Standing.{IsStream}
 use Rattle.ss_model.specs.State.{Stream}
 use Rattle.ss_model.specs.declared.types.Window.{Window}
@@ -35,7 +36,7 @@ windows_left len n [] = 0
 windows_left len n (span ∷ spans) = windows_behind len n span.0 spans + 1
 
 length-closed_onto : (len : ℕ → ℕ) (n : ℕ) (w : Window) (vs : List Window) →
-    length (closed_onto len n w vs) ≡ windows_behind len n w.first (map span_of vs) + 1
+    length (closed_onto (without_step len) n w vs) ≡ windows_behind len n w.first (map span_of vs) + 1
 length-closed_onto len n w [] = refl
 length-closed_onto len n w (v ∷ vs) =
     elim (cases_Bool (fits len w.first (last_position v) n)) [
@@ -43,7 +44,7 @@ length-closed_onto len n w (v ∷ vs) =
       | inr unfit ↦ (let rest = length-closed_onto len n v vs in rw unfit (omega (arith, rest)))
     ]
 
-length-closed : (len : ℕ → ℕ) (n : ℕ) (ws : List Window) → length (closed len n ws) ≡ windows_left len n (map span_of ws)
+length-closed : (len : ℕ → ℕ) (n : ℕ) (ws : List Window) → length (closed (without_step len) n ws) ≡ windows_left len n (map span_of ws)
 length-closed len n [] = refl
 length-closed len n (w ∷ ws) = length-closed_onto len n w ws
 

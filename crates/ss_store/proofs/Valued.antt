@@ -11,13 +11,13 @@ use Rattle.std.proofs.lemmas.Option.{get_or_from_slice_get, none-some, same_Some
 use Rattle.ss_catalog.specs.Names.{same_name}
 use Rattle.ss_catalog.specs.declared.event.Event.{Event}
 use Rattle.ss_catalog.specs.declared.event.Event.TheVariants.{Value, Open, Close}
-use Rattle.ss_target.specs.Lengths.{lengths_of}
 use Rattle.ss_windowing.specs.declared.decay.TheConstants.{MOST_VALUES}
 use Rattle.ss_summary.specs.Points.{New}
 use Rattle.ss_model.specs.Closed.{closed}
 use Rattle.ss_model.specs.ClosedState.{closed_state, closed_stream}
 use Rattle.ss_model.specs.History.{CanBeSaid}
 use Rattle.ss_model.specs.Refusals.{is_past, refuses}
+use Rattle.ss_model.specs.Rule.{rule_of}
 use Rattle.ss_model.specs.Standing.{IsState, IsStream}
 use Rattle.ss_model.specs.State.{Stream, last_time, names_of, records_of, values_in}
 use Rattle.ss_model.specs.Marks.{has_open, with_closed, with_opened}
@@ -160,8 +160,8 @@ pub record MayTake (streams : List Stream) (name : List ℕ) (t : ℕ) (v : ℤ)
 
 closed_stream-again : (s : Stream) → IsStream s → closed_stream (closed_stream s) ≡ closed_stream s
 closed_stream-again s is =
-    let len = lengths_of s.params in
-    closed_stream-joined s (closed len (values_in s) s.windows) is.windows (JoinsDue-closed len (values_in s) s.windows)
+    let rule = rule_of s.params in
+    closed_stream-joined s (closed rule (values_in s) s.windows) is.windows (JoinsDue-closed rule (values_in s) s.windows)
 
 module _ (streams : List Stream) (name : List ℕ) (t : ℕ) (v : ℤ) (place : ℕ) (s : Stream) (may : MayTake streams name t v place s) where
   pub stepped-set : slice_set streams place (with_plain_value s (t, v, New)) ≡ stepped streams (Value name t v)
@@ -182,7 +182,7 @@ module _ (streams : List Stream) (name : List ℕ) (t : ℕ) (v : ℤ) (place : 
   closed-single : closed_stream (with_single s t v) ≡ with_plain_value s (t, v, New)
   closed-single =
       let w = single_window (values_in s + 1) (t, v, New) in
-      ap (λ n. with_windows s (closed (lengths_of s.params) n (s.windows ++ w ∷ []))) values-single
+      ap (λ n. with_windows s (closed (rule_of s.params) n (s.windows ++ w ∷ []))) values-single
 
   pub IsState-single : IsState (slice_set streams place (with_single s t v))
   IsState-single =

@@ -2,9 +2,9 @@
 use Rattle.std.specs.Prelude.{◌≡◌, ◌⊎◌, ℕ, ℤ, ◌+◌, List, [], ◌∷◌, ◌++◌, Option}
 use Rattle.ss_codec.specs.declared.record.Record.{Record}
 use Rattle.ss_line.specs.declared.entry.Entry.{Entry}
-use Rattle.ss_target.specs.Lengths.{lengths_of}
 use Rattle.ss_summary.specs.Points.{New}
 use Rattle.ss_model.specs.Joins.{JoinsDue}
+use Rattle.ss_model.specs.Rule.{rule_of}
 use Rattle.ss_model.specs.State.{Stream, values_in}
 use Rattle.ss_model.specs.Steps.{single_window}
 use Rattle.ss_model.specs.declared.types.Window.{Window}
@@ -20,7 +20,7 @@ with_windows s ws = record s { windows = ws }
 pub record IsPartlyJoined (others : List (ℕ × Option Record)) (s : Stream) (image : List ℕ) : Type 0 where
   pub part : StreamParts
   pub windows : List Window
-  pub joins : JoinsDue (lengths_of s.params) (values_in s) s.windows windows
+  pub joins : JoinsDue (rule_of s.params) (values_in s) s.windows windows
   pub held : IsHeldIn others part (with_windows s windows) image
 
 -- a stream with a value as a window of its own, before any window is joined

@@ -3,10 +3,10 @@ use Rattle.std.specs.Prelude.{◌≡◌, ℕ, true, false, List, [], ◌∷◌, 
 use Rattle.ss_codec.specs.declared.record.Record.{Record}
 use Rattle.ss_line.specs.declared.entry.At.{At}
 use Rattle.ss_line.specs.declared.entry.Entry.{Entry}
-use Rattle.ss_target.specs.Lengths.{lengths_of}
 use Rattle.ss_windowing.specs.Windowing.{fits}
 use Rattle.ss_schedule.specs.Pairs.{AreSideBySide}
 use Rattle.ss_model.specs.Joins.{JoinsDue}
+use Rattle.ss_model.specs.Rule.{rule_of}
 use Rattle.ss_model.specs.State.{Stream, values_in}
 use Rattle.ss_model.specs.declared.types.Window.{Window}
 use Rattle.ss_recover.specs.declared.parts.StreamParts.{StreamParts}
@@ -27,5 +27,5 @@ pub record AreDue (len : ℕ → ℕ) (n : ℕ) (entries : List (At × Entry)) (
 -- what is held agrees with a stream of whose windows some were joined that are due, and its records lie in an image
 pub record IsJoinedIn (others : List (ℕ × Option Record)) (part : StreamParts) (s : Stream) (image : List ℕ) : Type 0 where
   pub windows : List Window
-  pub joins : JoinsDue (lengths_of s.params) (values_in s) s.windows windows
+  pub joins : JoinsDue (rule_of s.params) (values_in s) s.windows windows
   pub held : IsHeldIn others part (with_windows s windows) image

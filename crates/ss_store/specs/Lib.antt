@@ -19,3 +19,4 @@ pub mod Dropping
 pub mod Applied
 pub mod Newest
 pub mod Values
+pub mod Events

@@ -4,6 +4,7 @@ mod apply;
 mod ask;
 mod create;
 mod drop;
+mod events;
 mod landmarks;
 mod list;
 mod mark;
