@@ -1,0 +1,4 @@
+pub mod Own
+pub mod Offers
+pub mod Held
+pub mod Fronts
