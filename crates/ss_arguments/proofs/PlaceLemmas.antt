@@ -23,6 +23,7 @@ use Rattle.clap.proofs.WalkLemmas.{first_value-rows}
 use Rattle.ss_arguments.specs.Modes.{mode_asked}
 use Rattle.ss_arguments.specs.Places.{by_place, three_words}
 use Rattle.ss_arguments.specs.declared.mode.Mode.{Mode}
+use Rattle.ss_arguments.proofs.ModeLemmas.{mode_asked-many}
 
 no_hyphen : (word : Text) → starts_with_minus word ≡ false → strip_byte 45 word ≡ None
 no_hyphen [] plain = refl
@@ -201,7 +202,7 @@ mode_asked-refused (a ∷ b ∷ d ∷ []) kind plain among =
     let q = neither _ _ p.1 in
     let r = neither _ _ q.1 in
     absurd (rw (fault_of-3 a b d p.0 q.0 r.0) at among)
-mode_asked-refused (a ∷ b ∷ d ∷ e ∷ rest) kind plain among = refl
+mode_asked-refused (a ∷ b ∷ d ∷ e ∷ rest) kind plain among = mode_asked-many a b d e rest
 
 -- a parse that succeeds, by the values of its matches
 pub mode_asked-matches : (app : App) (words : List Text) (matches : ArgMatches) → app ≡ three_words → list_any starts_with_minus words ≡ false

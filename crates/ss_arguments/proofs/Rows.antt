@@ -5,7 +5,7 @@ use Rattle.ss_fields.specs.Words.{is_number, number_of, number_up_to}
 use Rattle.ss_arguments.specs.declared.TheConstants.{MOST_DIGITS}
 use Rattle.ss_arguments.specs.declared.mode.Mode.{Mode}
 use Rattle.ss_arguments.specs.declared.mode.Mode.TheVariants.{Serve, Check, Gen}
-use Rattle.ss_arguments.specs.declared.mode.Form.TheVariants.{Lines, Sessions}
+use Rattle.ss_arguments.specs.declared.mode.Form.TheVariants.{Lines, Sessions, Frames, Follow}
 use Rattle.ss_arguments.specs.declared.mode.Sealing.TheVariants.{Each, Shared}
 use Rattle.ss_arguments.specs.Modes.{are_refused_at_once, mode_of, number_between}
 
@@ -30,26 +30,50 @@ no_words = refl
 no_path : mode_of (codes "p" ∷ []) ≡ None
 no_path = refl
 
-path_alone : mode_after [] ≡ Some (Serve Lines Each)
+path_alone : mode_after [] ≡ Some (Serve (Lines false) Each)
 path_alone = refl
 
-run_word : mode_after (codes "run" ∷ []) ≡ Some (Serve Lines Each)
+run_word : mode_after (codes "run" ∷ []) ≡ Some (Serve (Lines false) Each)
 run_word = refl
 
-batch_word : mode_after (codes "batch" ∷ []) ≡ Some (Serve Lines Shared)
+batch_word : mode_after (codes "batch" ∷ []) ≡ Some (Serve (Lines false) Shared)
 batch_word = refl
 
-sessions_word : mode_after (codes "sessions" ∷ []) ≡ Some (Serve Sessions Each)
+framed_word : mode_after (codes "framed" ∷ []) ≡ Some (Serve (Lines true) Each)
+framed_word = refl
+
+framed_and_batch : mode_after (codes "framed" ∷ codes "batch" ∷ []) ≡ Some (Serve (Lines true) Shared)
+framed_and_batch = refl
+
+sessions_word : mode_after (codes "sessions" ∷ []) ≡ Some (Serve (Sessions false) Each)
 sessions_word = refl
 
-sessions_and_batch : mode_after (codes "sessions" ∷ codes "batch" ∷ []) ≡ Some (Serve Sessions Shared)
+sessions_and_batch : mode_after (codes "sessions" ∷ codes "batch" ∷ []) ≡ Some (Serve (Sessions false) Shared)
 sessions_and_batch = refl
+
+sessions_and_framed : mode_after (codes "sessions" ∷ codes "framed" ∷ []) ≡ Some (Serve (Sessions true) Each)
+sessions_and_framed = refl
+
+sessions_framed_and_batch : mode_after (codes "sessions" ∷ codes "framed" ∷ codes "batch" ∷ []) ≡ Some (Serve (Sessions true) Shared)
+sessions_framed_and_batch = refl
+
+frames_word : mode_after (codes "frames" ∷ []) ≡ Some (Serve Frames Each)
+frames_word = refl
+
+frames_and_batch : mode_after (codes "frames" ∷ codes "batch" ∷ []) ≡ Some (Serve Frames Shared)
+frames_and_batch = refl
+
+follow_word : mode_after (codes "follow" ∷ []) ≡ Some (Serve Follow Each)
+follow_word = refl
+
+follow_and_batch : mode_after (codes "follow" ∷ codes "batch" ∷ []) ≡ Some (Serve Follow Shared)
+follow_and_batch = refl
 
 check_word : mode_after (codes "check" ∷ []) ≡ Some Check
 check_word = refl
 
 -- the path may be any word
-path_with_hyphen : mode_of (codes "p" ∷ codes "-s" ∷ []) ≡ Some (Serve Lines Each)
+path_with_hyphen : mode_of (codes "p" ∷ codes "-s" ∷ []) ≡ Some (Serve (Lines false) Each)
 path_with_hyphen = refl
 
 -- other words ask for nothing
@@ -115,6 +139,99 @@ sessions_twice_batch = refl
 
 sessions_and_numbers : mode_after (codes "sessions" ∷ codes "1" ∷ codes "1" ∷ []) ≡ None
 sessions_and_numbers = refl
+
+batch_and_framed : mode_after (codes "batch" ∷ codes "framed" ∷ []) ≡ None
+batch_and_framed = refl
+
+frames_and_framed : mode_after (codes "frames" ∷ codes "framed" ∷ []) ≡ None
+frames_and_framed = refl
+
+follow_and_framed : mode_after (codes "follow" ∷ codes "framed" ∷ []) ≡ None
+follow_and_framed = refl
+
+frames_framed_and_batch : mode_after (codes "frames" ∷ codes "framed" ∷ codes "batch" ∷ []) ≡ None
+frames_framed_and_batch = refl
+
+follow_framed_and_batch : mode_after (codes "follow" ∷ codes "framed" ∷ codes "batch" ∷ []) ≡ None
+follow_framed_and_batch = refl
+
+run_and_framed : mode_after (codes "run" ∷ codes "framed" ∷ []) ≡ None
+run_and_framed = refl
+
+framed_and_run : mode_after (codes "framed" ∷ codes "run" ∷ []) ≡ None
+framed_and_run = refl
+
+framed_and_framed : mode_after (codes "framed" ∷ codes "framed" ∷ []) ≡ None
+framed_and_framed = refl
+
+framed_and_sessions : mode_after (codes "framed" ∷ codes "sessions" ∷ []) ≡ None
+framed_and_sessions = refl
+
+framed_and_frames : mode_after (codes "framed" ∷ codes "frames" ∷ []) ≡ None
+framed_and_frames = refl
+
+framed_and_follow : mode_after (codes "framed" ∷ codes "follow" ∷ []) ≡ None
+framed_and_follow = refl
+
+framed_twice_and_batch : mode_after (codes "framed" ∷ codes "framed" ∷ codes "batch" ∷ []) ≡ None
+framed_twice_and_batch = refl
+
+framed_and_batch_twice : mode_after (codes "framed" ∷ codes "batch" ∷ codes "batch" ∷ []) ≡ None
+framed_and_batch_twice = refl
+
+sessions_batch_and_framed : mode_after (codes "sessions" ∷ codes "batch" ∷ codes "framed" ∷ []) ≡ None
+sessions_batch_and_framed = refl
+
+sessions_framed_twice : mode_after (codes "sessions" ∷ codes "framed" ∷ codes "framed" ∷ []) ≡ None
+sessions_framed_twice = refl
+
+sessions_framed_batch_and_more : mode_after (codes "sessions" ∷ codes "framed" ∷ codes "batch" ∷ codes "x" ∷ []) ≡ None
+sessions_framed_batch_and_more = refl
+
+sessions_and_frames : mode_after (codes "sessions" ∷ codes "frames" ∷ []) ≡ None
+sessions_and_frames = refl
+
+frames_and_sessions : mode_after (codes "frames" ∷ codes "sessions" ∷ []) ≡ None
+frames_and_sessions = refl
+
+frames_and_follow : mode_after (codes "frames" ∷ codes "follow" ∷ []) ≡ None
+frames_and_follow = refl
+
+follow_and_run : mode_after (codes "follow" ∷ codes "run" ∷ []) ≡ None
+follow_and_run = refl
+
+check_and_framed : mode_after (codes "check" ∷ codes "framed" ∷ []) ≡ None
+check_and_framed = refl
+
+frames_cut_short : mode_after (codes "frame" ∷ []) ≡ None
+frames_cut_short = refl
+
+frames_and_a_letter : mode_after (codes "framess" ∷ []) ≡ None
+frames_and_a_letter = refl
+
+frames_in_capitals : mode_after (codes "FRAMES" ∷ []) ≡ None
+frames_in_capitals = refl
+
+framed_in_capitals : mode_after (codes "FRAMED" ∷ []) ≡ None
+framed_in_capitals = refl
+
+framed_cut_short : mode_after (codes "frame" ∷ codes "batch" ∷ []) ≡ None
+framed_cut_short = refl
+
+follow_cut_short : mode_after (codes "follo" ∷ []) ≡ None
+follow_cut_short = refl
+
+follow_and_a_letter : mode_after (codes "follows" ∷ []) ≡ None
+follow_and_a_letter = refl
+
+follow_in_capitals : mode_after (codes "FOLLOW" ∷ []) ≡ None
+follow_in_capitals = refl
+
+follow_and_nothing : mode_after (codes "follow" ∷ [] ∷ []) ≡ None
+follow_and_nothing = refl
+
+frames_and_numbers : mode_after (codes "frames" ∷ codes "1" ∷ codes "1" ∷ []) ≡ None
+frames_and_numbers = refl
 
 check_and_more : mode_after (codes "check" ∷ codes "x" ∷ []) ≡ None
 check_and_more = refl

@@ -1,6 +1,6 @@
 -- The modes of the program, by the words of the command line.
-use Rattle.std.specs.Prelude.{ℕ, ◌-◌, ◌^◌, nat_le, if◌then◌else◌, Bool, true, List, [], ◌∷◌, length, map, codes, Option, Some, None, Result, Ok, Err}
-use Rattle.std.specs.Prelude.{String, string_bytes}
+use Rattle.std.specs.Prelude.{ℕ, ◌-◌, ◌^◌, nat_le, if◌then◌else◌, Bool, true, false, List, [], ◌∷◌, length, map, codes, Option, Some, None, Result, Ok, Err}
+use Rattle.std.specs.Prelude.{String, string_bytes, option_and_then}
 use Rattle.std.specs.List.{list_any}
 use Rattle.std.specs.Str.{bytes_eq}
 use Rattle.std.specs.Str.Parse.{starts_with_minus}
@@ -11,7 +11,7 @@ use Rattle.ss_arguments.specs.declared.TheConstants.{MOST_DIGITS}
 use Rattle.ss_arguments.specs.declared.mode.Form.{Form}
 use Rattle.ss_arguments.specs.declared.mode.Mode.{Mode}
 use Rattle.ss_arguments.specs.declared.mode.Mode.TheVariants.{Serve, Check, Gen}
-use Rattle.ss_arguments.specs.declared.mode.Form.TheVariants.{Lines, Sessions}
+use Rattle.ss_arguments.specs.declared.mode.Form.TheVariants.{Lines, Sessions, Frames, Follow}
 use Rattle.ss_arguments.specs.declared.mode.Sealing.TheVariants.{Each, Shared}
 
 -- the words, as lists of bytes
@@ -48,27 +48,46 @@ plain form = Some (Serve form Each)
 abbrev pub batched : Form → Option Mode
 batched form = Some (Serve form Shared)
 
--- a mode that stands alone: `run`, `batch`, `sessions` or `check`
-abbrev pub named : List ℕ → Option Mode
-named word =
-    if bytes_eq word (codes "run") then plain Lines
-    else (if bytes_eq word (codes "batch") then batched Lines
-    else (if bytes_eq word (codes "sessions") then plain Sessions
-    else (if bytes_eq word (codes "check") then Some Check
-    else None)))
+-- the same form with the frame of each accepted event behind its reply, where it has replies
+abbrev pub with_frames : Form → Option Form
+with_frames (Lines framed) = Some (Lines true)
+with_frames (Sessions framed) = Some (Sessions true)
+with_frames Frames = None
+with_frames Follow = None
 
--- a mode of two words: `sessions batch`
-abbrev pub named_by_two : List ℕ → List ℕ → Option Mode
-named_by_two mode second =
-    if bytes_eq mode (codes "sessions") then (if bytes_eq second (codes "batch") then batched Sessions else None) else None
+-- a form, and how its events are sealed by the words behind it: none, or `batch`
+abbrev pub sealed : Form → List (List ℕ) → Option Mode
+sealed form [] = plain form
+sealed form (word ∷ []) = if bytes_eq word (codes "batch") then batched form else None
+sealed form _ = None
 
--- the mode by what stands after the path: nothing, `run`, `batch`, `sessions`, `sessions batch`, `check`, or `gen SEED COUNT`
+-- a form with the words behind it: `framed` or not, and how its events are sealed
+abbrev pub formed : Form → List (List ℕ) → Option Mode
+formed form [] = sealed form []
+formed form (word ∷ words) =
+    if bytes_eq word (codes "framed") then option_and_then (λ framed. sealed framed words) (with_frames form) else sealed form (word ∷ words)
+
+-- a mode whose word stands alone
+abbrev pub alone : Option Mode → List (List ℕ) → Option Mode
+alone mode [] = mode
+alone mode _ = None
+
+-- `gen` with its two numbers
+abbrev pub generated : List (List ℕ) → Option Mode
+generated (seed ∷ count ∷ []) = gen_of (seed_of seed) (count_of count)
+generated _ = None
+
+-- the mode by what stands after the path: `run`, `check`, `gen SEED COUNT`, or the word of a form (of lines: none) with the words behind it
 abbrev pub mode_asked : List (List ℕ) → Option Mode
-mode_asked [] = plain Lines
-mode_asked (mode ∷ []) = named mode
-mode_asked (mode ∷ second ∷ []) = named_by_two mode second
-mode_asked (mode ∷ seed ∷ count ∷ []) = if bytes_eq mode (codes "gen") then gen_of (seed_of seed) (count_of count) else None
-mode_asked _ = None
+mode_asked [] = formed (Lines false) []
+mode_asked (word ∷ words) =
+    if bytes_eq word (codes "run") then alone (plain (Lines false)) words
+    else (if bytes_eq word (codes "check") then alone (Some Check) words
+    else (if bytes_eq word (codes "gen") then generated words
+    else (if bytes_eq word (codes "sessions") then formed (Sessions false) words
+    else (if bytes_eq word (codes "frames") then formed Frames words
+    else (if bytes_eq word (codes "follow") then formed Follow words
+    else formed (Lines false) (word ∷ words))))))
 
 -- the mode by all the words: the program's name, the store's path, and what asks for a mode
 abbrev pub mode_of : List (List ℕ) → Option Mode

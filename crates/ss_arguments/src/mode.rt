@@ -1,12 +1,16 @@
 // What a run is asked to do.
 
-/// How the input becomes commands.
+/// How the input becomes commands, and what is said to them.
 #[derive(Clone, Copy, Debug, PartialEq, Eq)]
 pub enum Form {
-    /// Each line is a command.
-    Lines,
-    /// Each line is a command of one of eight sessions, or a form of its cursor.
-    Sessions,
+    /// Each line is a command. Where `framed`, the frame of each accepted event stands behind its reply.
+    Lines { framed: bool },
+    /// Each line is a command of one of eight sessions, or a form of its cursor. Where `framed`, as above.
+    Sessions { framed: bool },
+    /// Each line is a command, of which events alone are done: what is written are the frames of those that are accepted, in place of replies.
+    Frames,
+    /// Each 64 bytes are a frame, whose event is applied where it is the next of its stream.
+    Follow,
 }
 
 /// Which events come to the disk together, by one seal of the store.

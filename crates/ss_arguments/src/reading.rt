@@ -3,8 +3,9 @@ ghost use Rattle.std.specs.Prelude.{◌≡◌, ◌-◌, ◌^◌, true, false, co
 ghost use Rattle.std.specs.List.{list_any};
 ghost use Rattle.std.specs.Str.Parse.{starts_with_minus};
 ghost use Rattle.clap.specs.Words.{app_of};
-ghost use Rattle.ss_arguments.specs.Modes.{are_refused_at_once, batched, mode_asked, count_of, gen_of, mode_of, named, named_by_two, plain, seed_of, words_of};
-ghost use Rattle.ss_arguments.specs.Places.{by_place, three_words};
+ghost use Rattle.ss_arguments.specs.Modes.{alone, are_refused_at_once, batched, count_of, formed, gen_of, generated, mode_asked, mode_of};
+ghost use Rattle.ss_arguments.specs.Modes.{plain, sealed, seed_of, with_frames, words_of};
+ghost use Rattle.ss_arguments.specs.Places.{by_place, three_words, words_said};
 
 use crate::{Form, MOST_DIGITS, Mode, Sealing};
 use clap::error::ErrorKind;
@@ -12,6 +13,15 @@ use clap::{Arg, Command};
 use ss_fields::read_u64;
 use ss_generator::MOST_COUNT;
 use std::alloc::{AllocError, Global};
+
+// Each line is a command, and a reply is one line.
+const LINES: Form = Form::Lines { framed: false };
+
+// A plain run.
+const RUN: Mode = Mode::Serve {
+    form: LINES,
+    sealing: Sealing::Each,
+};
 
 // Reads a seed.
 #[tactic(auto, using(std::proofs::lemmas::Bool::Decides::nat_tests), unfolding(crate::specs::Modes::number_between, ss_fields::specs::Words::unsigned_of))]
@@ -56,30 +66,52 @@ fn batched(form: Form) -> Option<Mode>
     })
 }
 
-// The mode of one word.
-fn read_name(word: &str) -> Option<Mode>
-    ensures { result ≡ named word.now }
+// The same form with frames behind its replies, where it has replies.
+fn with_frames(form: Form) -> Option<Form>
+    ensures { result ≡ with_frames form }
 {
-    match word {
-        "run" => plain(Form::Lines),
-        "batch" => batched(Form::Lines),
-        "sessions" => plain(Form::Sessions),
-        "check" => Some(Mode::Check),
+    match form {
+        Form::Lines { .. } => Some(Form::Lines { framed: true }),
+        Form::Sessions { .. } => Some(Form::Sessions { framed: true }),
+        Form::Frames | Form::Follow => None,
+    }
+}
+
+// The mode of a form by the words behind it: none, or `batch`.
+fn read_sealed(form: Form, words: &[&str]) -> Option<Mode>
+    ensures { result ≡ sealed form (words_said words.now) }
+{
+    match *words {
+        [] => plain(form),
+        [word] => match word {
+            "batch" => batched(form),
+            _ => None,
+        },
         _ => None,
     }
 }
 
-// The mode of two words.
-fn read_two(mode: &str, second: &str) -> Option<Mode>
-    ensures { result ≡ named_by_two mode.now second.now }
+// The mode of a form by the words behind it, of which the first may be `framed`.
+fn read_formed(form: Form, words: &[&str]) -> Option<Mode>
+    ensures { result ≡ formed form (words_said words.now) }
 {
-    match (mode, second) {
-        ("sessions", "batch") => batched(Form::Sessions),
-        _ => None,
+    match *words {
+        [word, ..] => match word {
+            "framed" => read_sealed(with_frames(form)?, &words[1..]),
+            _ => read_sealed(form, words),
+        },
+        [] => read_sealed(form, words),
     }
 }
 
-// The mode of the two words after `gen`.
+// A mode whose word stands alone.
+fn read_alone(mode: Mode, words: &[&str]) -> Option<Mode>
+    ensures { result ≡ alone (Some mode) (words_said words.now) }
+{
+    if words.is_empty() { Some(mode) } else { None }
+}
+
+// The mode of a seed and a count.
 fn read_gen(seed: &str, count: &str) -> Option<Mode>
     ensures { result ≡ gen_of (seed_of seed.now) (count_of count.now) }
 {
@@ -88,16 +120,44 @@ fn read_gen(seed: &str, count: &str) -> Option<Mode>
     Some(Mode::Gen { seed, count })
 }
 
+// The mode of the words after `gen`.
+fn read_generated(words: &[&str]) -> Option<Mode>
+    ensures { result ≡ generated (words_said words.now) }
+{
+    match *words {
+        [seed, count] => read_gen(seed, count),
+        _ => None,
+    }
+}
+
+// The mode of the words after the path.
+fn read_mode(words: &[&str]) -> Option<Mode>
+    ensures { result ≡ mode_asked (words_said words.now) }
+{
+    match *words {
+        [] => read_formed(LINES, words),
+        [word, ..] => match word {
+            "run" => read_alone(RUN, &words[1..]),
+            "check" => read_alone(Mode::Check, &words[1..]),
+            "gen" => read_generated(&words[1..]),
+            "sessions" => read_formed(Form::Sessions { framed: false }, &words[1..]),
+            "frames" => read_formed(Form::Frames, &words[1..]),
+            "follow" => read_formed(Form::Follow, &words[1..]),
+            _ => read_formed(LINES, words),
+        },
+    }
+}
+
 // The mode of the words by their places.
-fn read_places(mode: Option<&str>, second: Option<&str>, third: Option<&str>) -> Option<Mode>
-    ensures { result ≡ by_place (option_map (λ word. word.now) mode.entry) (option_map (λ word. word.now) second.entry)
+fn read_places(first: Option<&str>, second: Option<&str>, third: Option<&str>) -> Option<Mode>
+    ensures { result ≡ by_place (option_map (λ word. word.now) first.entry) (option_map (λ word. word.now) second.entry)
         (option_map (λ word. word.now) third.entry) }
 {
-    match (mode, second, third) {
-        (None, None, None) => plain(Form::Lines),
-        (Some(mode), None, None) => read_name(mode),
-        (Some(mode), Some(second), None) => read_two(mode, second),
-        (Some("gen"), Some(seed), Some(count)) => read_gen(seed, count),
+    match (first, second, third) {
+        (None, None, None) => read_mode(&[]),
+        (Some(first), None, None) => read_mode(&[first]),
+        (Some(first), Some(second), None) => read_mode(&[first, second]),
+        (Some(first), Some(second), Some(third)) => read_mode(&[first, second, third]),
         _ => None,
     }
 }
@@ -147,8 +207,9 @@ fn read_words(alloc: Global, words: &[String]) -> Result<Option<Mode>, AllocErro
     }
 }
 
-/// The mode that the words of the command line ask for: the program's name, the store's path, and then none, `run`, `batch`,
-/// `sessions`, `sessions batch`, `check` or `gen SEED COUNT`. `None` at all other words.
+/// The mode that the words of the command line ask for: the program's name, the store's path, and then `run`, `check` or `gen SEED COUNT`, or a form
+/// of the input. A form is no word (lines), `sessions`, `frames` or `follow`; behind the first two may stand `framed`, and last `batch`. `None` at all
+/// other words.
 pub fn mode_of(alloc: Global, words: &[String]) -> Result<Option<Mode>, AllocError>
     ensures mode { IfOk result (λ mode. mode ≡ mode_of (words_of words.now)) }
     // Words that are refused at a glance want no memory.

@@ -1,6 +1,9 @@
 -- What making evidence and checking it give, field by field.
-use Rattle.std.specs.Prelude.{◌≡◌, ◌↔◌, Bool, true, IsTrue, IfSome, List, Some, Ok}
+use Rattle.std.proofs.Common.{◌∙◌, sym}
+use Rattle.std.specs.Prelude.{◌≡◌, ◌↔◌, ◌+ℤ◌, Bool, true, IsTrue, IfSome, List, [], Some, Ok, pos}
 use Rattle.ss_catalog.specs.declared.query.End.{End}
+use Rattle.ss_catalog.specs.declared.query.Kind.{Kind}
+use Rattle.ss_query.specs.declared.asking.Seen.{Seen}
 use Rattle.ss_catalog.specs.declared.query.Query.{Query}
 use Rattle.ss_contents.specs.Attained.{MayBeTrue}
 use Rattle.ss_model.specs.Answers.{outcome_of}
@@ -11,7 +14,7 @@ use Rattle.ss_query.specs.Asked.{seen_of}
 use Rattle.ss_records.specs.Kept.{RecordsState, shown_by}
 use Rattle.ss_store.specs.Recover.{Recovers}
 use Rattle.ss_certify.specs.Called.{ChecksEvidence, MakesEvidence, evidence_in}
-use Rattle.ss_certify.specs.Evidence.{IsEvidence, end_asked}
+use Rattle.ss_certify.specs.Evidence.{IsEvidence, IsRight, end_asked}
 use Rattle.ss_certify.specs.declared.evidence.Evidence.{Evidence}
 
 module _ {old new : Told} (was : RecordsState) (query : Query) (end : End) (w : Evidence) (makes : MakesEvidence was query end (Ok w) old new) where
@@ -40,3 +43,14 @@ module _ {old new : Told} (was : RecordsState) (query : Query) (end : End) (w : 
 
   checks-reads : OnlyReads old new
   checks-reads = checks.reads
+
+-- evidence is right by any figures of which it is evidence
+right-by : (kind : Kind) (end : End) (seen : Seen) (w : Evidence) → IsEvidence kind end seen w → IsRight kind end w
+right-by kind end seen w is = (seen, is)
+
+-- and by none where the answer isn't what its parts add up to
+right-not : (kind : Kind) (end : End) (w : Evidence) → w.certs.items ≡ [] → w.base ≡ pos 3 → w.answer ≡ pos 4 → IsRight kind end w → ⊥
+right-not kind end w none base answer right =
+    let sum : w.answer ≡ (w.base +ℤ pos 0) = rw none at right.1.adds_up in
+    let wrong : pos 4 ≡ pos 3 = sym answer ∙ (rw base at sum) in
+    cc

@@ -14,7 +14,7 @@ use Rattle.ss_catalog.specs.Queries.{adds_up}
 use Rattle.ss_catalog.specs.declared.query.End.{End}
 use Rattle.ss_catalog.specs.declared.query.End.TheVariants.{Lo, Hi}
 use Rattle.ss_catalog.specs.declared.query.Kind.{Kind}
-use Rattle.ss_catalog.specs.declared.query.Kind.TheVariants.{Count, Sum, Min, Max, Has}
+use Rattle.ss_catalog.specs.declared.query.Kind.TheVariants.{Count, Sum, Min, Max, Has, CountGuess, SumGuess}
 use Rattle.ss_model.specs.declared.types.Run.{Run}
 use Rattle.ss_query.specs.Asked.{HasCuts, IsCut, IsNear, counts_of, outcome_seen, sums_of}
 use Rattle.ss_query.proofs.NearSums.{held-near, held-three}
@@ -63,6 +63,10 @@ attaining-between Max Lo s split = let room = split.room in (omega arith, omega 
 attaining-between Max Hi s split = let room = split.room in (omega arith, omega arith)
 attaining-between (Has value) Lo s split = let room = split.room in (omega arith, omega arith)
 attaining-between (Has value) Hi s split = let room = split.room in (omega arith, omega arith)
+attaining-between CountGuess Lo s split = let room = split.room in (omega arith, omega arith)
+attaining-between CountGuess Hi s split = let room = split.room in (omega arith, omega arith)
+attaining-between SumGuess Lo s split = let room = split.room in (omega arith, omega arith)
+attaining-between SumGuess Hi s split = let room = split.room in (omega arith, omega arith)
 
 pub CanBeParted-inside_sum : (kind : Kind) (end : End) (s : SplitFigures) (x : ℕ) → IsSplit s → x < s.count → CanBeParted s x (inside_sum kind end s x)
 CanBeParted-inside_sum Count Lo s x split few = CanBeParted-low_sum s split x few
@@ -75,6 +79,10 @@ CanBeParted-inside_sum Max Lo s x split few = CanBeParted-low_sum s split x few
 CanBeParted-inside_sum Max Hi s x split few = CanBeParted-low_sum s split x few
 CanBeParted-inside_sum (Has value) Lo s x split few = CanBeParted-low_sum s split x few
 CanBeParted-inside_sum (Has value) Hi s x split few = CanBeParted-low_sum s split x few
+CanBeParted-inside_sum CountGuess Lo s x split few = CanBeParted-low_sum s split x few
+CanBeParted-inside_sum CountGuess Hi s x split few = CanBeParted-low_sum s split x few
+CanBeParted-inside_sum SumGuess Lo s x split few = CanBeParted-low_sum s split x few
+CanBeParted-inside_sum SumGuess Hi s x split few = CanBeParted-low_sum s split x few
 
 pub attaining-few : (kind : Kind) (end : End) (s : SplitFigures) → IsSplit s → attaining kind end s < s.count
 attaining-few kind end s split = let few = greatest_count-few s split in let most = (attaining-between kind end s split).1 in omega arith
@@ -180,6 +188,8 @@ asked-evidence_of Sum Hi seen adds has =
 asked-evidence_of Min end seen adds has = cc
 asked-evidence_of Max end seen adds has = cc
 asked-evidence_of (Has value) end seen adds has = cc
+asked-evidence_of CountGuess end seen adds has = cc
+asked-evidence_of SumGuess end seen adds has = cc
 
 pub IsEvidence-evidence_of : (kind : Kind) (end : End) (seen : Seen) → adds_up kind ≡ true → HasCuts seen
     → IsEvidence kind end seen (evidence_of kind end seen)

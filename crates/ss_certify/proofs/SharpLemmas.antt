@@ -39,7 +39,7 @@ use Rattle.ss_query.specs.declared.asking.Seen.{Seen}
 use Rattle.ss_query.specs.declared.cut.Cut.{Cut}
 use Rattle.ss_query.proofs.Outcomes.{seen_count-seen, seen_sum-seen, outcome_seen-seen_of}
 use Rattle.ss_query.proofs.Seeing.{IsSeen-seen_of}
-use Rattle.ss_query.proofs.SplitLemmas.{IsSplit-window}
+use Rattle.ss_model.proofs.SplitLemmas.{IsSplit-window}
 use Rattle.ss_summary.specs.Figures.{IsPossible}
 use Rattle.ss_certify.specs.Checked.{Certifies, inside_of, outside_of}
 use Rattle.ss_certify.specs.Evidence.{AllCertify, IsEvidence, base_of, cuts_of, end_asked, parts_of}
@@ -192,6 +192,14 @@ module _ (seen : Seen) (z : ℤ) where
   no-end-Has value Lo some = cc
   no-end-Has value Hi some = cc
 
+  no-end-CountGuess : (end : End) → end_asked end (outcome_seen kinds.CountGuess seen) ≡ Some z → ⊥
+  no-end-CountGuess Lo some = cc
+  no-end-CountGuess Hi some = cc
+
+  no-end-SumGuess : (end : End) → end_asked end (outcome_seen kinds.SumGuess seen) ≡ Some z → ⊥
+  no-end-SumGuess Lo some = cc
+  no-end-SumGuess Hi some = cc
+
 module _ (streams : List Stream) (query : Query) (s : Stream) (end : End) (w : Evidence) (found : stream_named query.name streams ≡ Some s)
     (evidence : IsEvidence query.kind end (seen_of query.kind query.from query.to s) w) where
   abbrev seen : Seen
@@ -220,6 +228,10 @@ module _ (streams : List Stream) (query : Query) (s : Stream) (end : End) (w : E
         absurd (no-end-Max seen w.answer end (sym (ap (λ k. end_asked end (outcome_seen k seen)) same) ∙ evidence.asked))
     may-be_true (kinds.Has value) same =
         absurd (no-end-Has seen w.answer value end (sym (ap (λ k. end_asked end (outcome_seen k seen)) same) ∙ evidence.asked))
+    may-be_true kinds.CountGuess same =
+        absurd (no-end-CountGuess seen w.answer end (sym (ap (λ k. end_asked end (outcome_seen k seen)) same) ∙ evidence.asked))
+    may-be_true kinds.SumGuess same =
+        absurd (no-end-SumGuess seen w.answer end (sym (ap (λ k. end_asked end (outcome_seen k seen)) same) ∙ evidence.asked))
 
     pub end_asked-answer : (outcome : Outcome) → outcome_of streams query ≡ Some outcome → end_asked end outcome ≡ Some w.answer
     unfolding outcome_of

@@ -7,7 +7,7 @@ use Rattle.ss_catalog.specs.declared.query.End.TheVariants.{Lo, Hi}
 use Rattle.ss_catalog.specs.declared.query.Kind.{Kind}
 use Rattle.ss_catalog.specs.declared.query.Kind.TheVariants as kinds
 use Rattle.ss_model.specs.declared.outcome.Outcome.{Outcome}
-use Rattle.ss_model.specs.declared.outcome.Outcome.TheVariants.{Count, Sum, Min, Max, Has}
+use Rattle.ss_model.specs.declared.outcome.Outcome.TheVariants.{Count, Sum, Min, Max, Has, Estimate}
 use Rattle.ss_query.specs.Asked.{seen_count, seen_sum, outcome_seen}
 use Rattle.ss_query.specs.declared.asking.Seen.{Seen}
 use Rattle.ss_query.specs.declared.cut.Cut.{Cut}
@@ -26,6 +26,8 @@ base_of kinds.Sum seen = seen_sum seen.whole seen.marked
 base_of kinds.Min seen = pos 0
 base_of kinds.Max seen = pos 0
 base_of (kinds.Has value) seen = pos 0
+base_of kinds.CountGuess seen = pos 0
+base_of kinds.SumGuess seen = pos 0
 
 -- what the values of a certificate in the range add to it
 abbrev pub part_of : Kind → Cert → ℤ
@@ -34,6 +36,8 @@ part_of kinds.Sum c = total (inside_of c)
 part_of kinds.Min c = pos 0
 part_of kinds.Max c = pos 0
 part_of (kinds.Has value) c = pos 0
+part_of kinds.CountGuess c = pos 0
+part_of kinds.SumGuess c = pos 0
 
 -- the same of some certificates
 abbrev pub parts_of : Kind → List Cert → ℤ
@@ -48,6 +52,7 @@ end_asked Hi (Sum lo hi) = Some hi
 end_asked end (Min extreme) = None
 end_asked end (Max extreme) = None
 end_asked end (Has _) = None
+end_asked end (Estimate lo guess hi) = None
 
 -- there is a certificate of each of these windows, in the same order
 abbrev pub AllCertify : List Cut → List Cert → Type 0
@@ -64,3 +69,7 @@ pub record IsEvidence (kind : Kind) (end : End) (seen : Seen) (w : Evidence) : T
   pub adds_up : w.answer ≡ (w.base +ℤ parts_of kind w.certs.items)
   -- which is the end that was asked for
   pub asked : end_asked end (outcome_seen kind seen) ≡ Some w.answer
+
+-- it is evidence by some figures, as those that were read of the windows when it was checked
+abbrev pub IsRight : Kind → End → Evidence → Type 0
+IsRight kind end w = (seen : Seen) × IsEvidence kind end seen w

@@ -44,7 +44,7 @@ pub fn base(seen: &Seen, kind: Kind) -> i128
     match kind {
         Kind::Count => i128::from(whole_count(seen.whole) + seen.marked.count),
         Kind::Sum => whole_sum(seen.whole) + seen.marked.sum,
-        Kind::Min | Kind::Max | Kind::Has { .. } => 0,
+        _ => 0,
     }
 }
 
@@ -57,6 +57,6 @@ pub fn part(kind: Kind, cert: &Cert) -> i128
     match kind {
         Kind::Count => i128::from(cert.x),
         Kind::Sum => total(cert.inside.as_slice()),
-        Kind::Min | Kind::Max | Kind::Has { .. } => 0,
+        _ => 0,
     }
 }

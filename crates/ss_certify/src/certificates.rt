@@ -1,5 +1,5 @@
 // Evidence is made and checked over a store.
-ghost use Rattle.std.specs.Prelude.{◌≡◌, ◌↔◌, true, false, IsTrue, IfSome, Err};
+ghost use Rattle.std.specs.Prelude.{◌≡◌, ◌↔◌, true, false, IsTrue, IfOk, IfSome, Err};
 ghost use Rattle.std.specs.List.{Contains};
 ghost use Rattle.ss_catalog.specs.Queries.{adds_up};
 ghost use Rattle.ss_catalog.specs.declared.refusal.Refusal.{Refusal};
@@ -12,6 +12,7 @@ ghost use Rattle.ss_store.specs.Errors.{verdict_of_ask};
 ghost use Rattle.ss_store.specs.Kept.{part_named};
 ghost use Rattle.ss_store.specs.declared.error.AskError.{AskError};
 ghost use Rattle.ss_certify.specs.Called.{ChecksEvidence, MakesEvidence};
+ghost use Rattle.ss_certify.specs.Evidence.{IsRight};
 
 use crate::Evidence;
 use crate::making::evidence;
@@ -61,6 +62,8 @@ pub fn check<D: Disk>(
     requires one_disk { StandsOn store.old (D.seen disk.old) }
     // What the state that is shown has, with what is staged. Where it is right the end that it shows may be the truth.
     ensures checks { Step (verdict_of_ask result) (D.seen disk.old) (D.seen disk.new) (ChecksEvidence store.old.records query.now end w.now result) }
+    // Over every disk it is found right only where it is right by the figures that were read.
+    ensures right { IfOk result (λ right. right ≡ true → IsRight query.now.kind end w.now) }
     ensures looks { Looks (verdict_of_ask result) store.old store.new (D.seen disk.old) (D.seen disk.new) }
     // A slot that has changed is that of a window of the stream.
     ensures changed { IfChanged (verdict_of_ask result) (λ slot. IfSome (part_named query.now.name store.old.streams) (λ part.

@@ -25,8 +25,8 @@ fn attaining(kind: Kind, end: End, split: Split) -> u64
     match (kind, end) {
         (Kind::Sum, End::Lo) => least_sum_at(split),
         (Kind::Sum, End::Hi) => greatest_sum_at(split),
-        (Kind::Count | Kind::Min | Kind::Max | Kind::Has { .. }, End::Lo) => fewest,
-        (Kind::Count | Kind::Min | Kind::Max | Kind::Has { .. }, End::Hi) => most,
+        (_, End::Lo) => fewest,
+        (_, End::Hi) => most,
     }
 }
 
@@ -37,8 +37,7 @@ fn sum_inside(kind: Kind, end: End, split: Split, x: u64) -> i128
 {
     match (kind, end) {
         (Kind::Sum, End::Hi) => high_sum(split, x),
-        (Kind::Count | Kind::Sum | Kind::Min | Kind::Max | Kind::Has { .. }, End::Lo)
-        | (Kind::Count | Kind::Min | Kind::Max | Kind::Has { .. }, End::Hi) => low_sum(split, x),
+        _ => low_sum(split, x),
     }
 }
 

@@ -78,7 +78,7 @@ fn end_asked(end: End, outcome: Outcome) -> Option<i128>
         (End::Hi, Outcome::Count { hi, .. }) => Some(i128::from(hi)),
         (End::Lo, Outcome::Sum { lo, .. }) => Some(lo),
         (End::Hi, Outcome::Sum { hi, .. }) => Some(hi),
-        (_, Outcome::Min(_) | Outcome::Max(_) | Outcome::Has(_)) => None,
+        _ => None,
     }
 }
 

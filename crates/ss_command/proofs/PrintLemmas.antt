@@ -1,13 +1,14 @@
 -- A printed command means that command.
-use Rattle.std.proofs.Common.{◌≡◌, ℕ, ◌^◌, ◌<◌, ◌≤◌, true, false, List, [], ◌∷◌, ◌++◌, length, Ok, Some, arith, refl}
+use Rattle.std.proofs.Common.{◌≡◌, ℕ, ◌^◌, ◌<◌, ◌≤◌, true, false, List, [], ◌∷◌, ◌++◌, length, Ok, Some, arith, refl, inl, inr}
 use Rattle.std.proofs.Common.{◌∙◌, codes, nat_lt, nat_le, ◌&&◌}
+use Rattle.std.proofs.lemmas.Bool.{cases_Bool}
 use Rattle.std.proofs.lemmas.Bool.Decides.{nat_tests}
 use Rattle.std.specs.Prelude.{ℤ, FitsSigned}
 use Rattle.std.specs.Fmt.{decimal, signed_decimal}
 use Rattle.std.specs.Int.{w64}
 use Rattle.ss_catalog.proofs.NameLemmas.{length-is_name}
 use Rattle.ss_catalog.specs.Names.{is_name}
-use Rattle.ss_catalog.specs.Queries.{IsKindOfValues, adds_up, end_name, kind_name}
+use Rattle.ss_catalog.specs.Queries.{IsKindOfValues, adds_up, end_name, is_guess, kind_name, query_verb, series_verb}
 use Rattle.ss_catalog.specs.Series.{IsSeriesInRange, rows_in}
 use Rattle.ss_catalog.specs.declared.TheConstants.{LAST_TIME, MOST_ROWS}
 use Rattle.ss_catalog.specs.declared.series.Series.{Series}
@@ -18,9 +19,8 @@ use Rattle.ss_catalog.specs.declared.query.End.TheVariants as ends
 use Rattle.ss_catalog.specs.declared.query.Kind.{Kind}
 use Rattle.ss_catalog.specs.declared.query.Kind.TheVariants as kinds
 use Rattle.ss_command.proofs.PutLemmas.{length-decimal_32, length-decimal_64, length-end, length-kind, length-signed_64}
-use Rattle.ss_command.specs.Grammar.{added_of, end_of, kind_of, meaning, meaning_of_words, step_of}
+use Rattle.ss_command.specs.Grammar.{added_of, command_of, end_of, figure_of, is_comment, meaning, meaning_of_words, step_of, steps_of}
 use Rattle.ss_command.specs.Printed.{IsSayable, kind_words, printed, spaced, takes_value, target_words}
-use Rattle.ss_command.specs.Words.{is_word}
 use Rattle.ss_command.specs.declared.command.Command.{Command}
 use Rattle.ss_command.specs.declared.command.Command.TheVariants as commands
 use Rattle.ss_command.proofs.SpacedLemmas.{AreWords, IsWord, IsWord-decimal, IsWord-name, IsWord-signed, length-spaced, literal, meaning-spaced}
@@ -114,39 +114,74 @@ IsWord-kind kinds.Sum = literal (codes "sum") refl
 IsWord-kind kinds.Min = literal (codes "min") refl
 IsWord-kind kinds.Max = literal (codes "max") refl
 IsWord-kind (kinds.Has value) = literal (codes "has") refl
+IsWord-kind kinds.CountGuess = literal (codes "count") refl
+IsWord-kind kinds.SumGuess = literal (codes "sum") refl
 
-kind_of-name : (kind : Kind) → takes_value kind ≡ false → kind_of (kind_name kind) ≡ Ok kind
-kind_of-name kinds.Count alone = refl
-kind_of-name kinds.Sum alone = refl
-kind_of-name kinds.Min alone = refl
-kind_of-name kinds.Max alone = refl
-kind_of-name (kinds.Has value) alone = cc
+-- the first words
+IsWord-query_verb : (kind : Kind) → IsWord (query_verb kind)
+IsWord-query_verb kind = elim (cases_Bool (is_guess kind)) [
+  | inl is ↦ rw is (literal (codes "estimate") refl)
+  | inr not_is ↦ rw not_is (literal (codes "query") refl)
+]
 
-is_word-has : (kind : Kind) → takes_value kind ≡ false → is_word (kind_name kind) (codes "has") ≡ false
-is_word-has kinds.Count alone = refl
-is_word-has kinds.Sum alone = refl
-is_word-has kinds.Min alone = refl
-is_word-has kinds.Max alone = refl
-is_word-has (kinds.Has value) alone = cc
+IsWord-series_verb : (kind : Kind) → IsWord (series_verb kind)
+IsWord-series_verb kind = elim (cases_Bool (is_guess kind)) [
+  | inl is ↦ rw is (literal (codes "estimates") refl)
+  | inr not_is ↦ rw not_is (literal (codes "series") refl)
+]
 
--- a printed `query` for all values means what it asks for
+length-verbs : (kind : Kind) → (length (query_verb kind) ≤ 8) × (length (series_verb kind) ≤ 9)
+length-verbs kind = elim (cases_Bool (is_guess kind)) [
+  | inl is ↦ rw is (omega arith, omega arith)
+  | inr not_is ↦ rw not_is (omega arith, omega arith)
+]
+
+-- how the words behind the first are read of a command that asks for all values, and of one that does so in rows
+reads-figure : (name : List ℕ) (kind : Kind) (times : List (List ℕ)) → takes_value kind ≡ false →
+    command_of (query_verb kind) (name ∷ kind_name kind ∷ times) ≡ figure_of name kind times
+reads-figure name kinds.Count times alone = refl
+reads-figure name kinds.Sum times alone = refl
+reads-figure name kinds.Min times alone = refl
+reads-figure name kinds.Max times alone = refl
+reads-figure name (kinds.Has value) times alone = cc
+reads-figure name kinds.CountGuess times alone = refl
+reads-figure name kinds.SumGuess times alone = refl
+
+reads-steps : (name : List ℕ) (kind : Kind) (times : List (List ℕ)) → takes_value kind ≡ false →
+    command_of (series_verb kind) (name ∷ kind_name kind ∷ times) ≡ steps_of name kind times
+reads-steps name kinds.Count times alone = refl
+reads-steps name kinds.Sum times alone = refl
+reads-steps name kinds.Min times alone = refl
+reads-steps name kinds.Max times alone = refl
+reads-steps name (kinds.Has value) times alone = cc
+reads-steps name kinds.CountGuess times alone = refl
+reads-steps name kinds.SumGuess times alone = refl
+
+is_comment-query_verb : (kind : Kind) → is_comment (query_verb kind) ≡ false
+is_comment-query_verb kind = elim (cases_Bool (is_guess kind)) [ inl is ↦ rw is refl | inr not_is ↦ rw not_is refl ]
+
+is_comment-series_verb : (kind : Kind) → is_comment (series_verb kind) ≡ false
+is_comment-series_verb kind = elim (cases_Bool (is_guess kind)) [ inl is ↦ rw is refl | inr not_is ↦ rw not_is refl ]
+
+-- a printed command that asks for all values means what it asks for
 meaning-figure : (name : List ℕ) (kind : Kind) (from to : ℕ) → is_name name ≡ true → from ≤ LAST_TIME → to ≤ LAST_TIME → takes_value kind ≡ false →
-    meaning (spaced (codes "query") (name ∷ kind_name kind ∷ decimal from ∷ decimal to ∷ [])) ≡ Ok
+    meaning (spaced (query_verb kind) (name ∷ kind_name kind ∷ decimal from ∷ decimal to ∷ [])) ≡ Ok
     (Some (commands.Ask (record { name = name; kind = kind; from = from; to = to })))
 meaning-figure name kind from to is early late alone =
     let rest = name ∷ kind_name kind ∷ decimal from ∷ decimal to ∷ [] in
     let all : AreWords rest = (IsWord-name name is, (IsWord-kind kind, (IsWord-decimal from (omega arith), (IsWord-decimal to (omega arith), tt)))) in
-    let short : length (spaced (codes "query") rest) ≤ 256 =
+    let short : length (spaced (query_verb kind) rest) ≤ 256 =
     omega (
       arith,
-      length-spaced rest (codes "query"),
+      length-spaced rest (query_verb kind),
+      (length-verbs kind).0,
       length-is_name name is,
       length-kind kind,
       length-decimal_64 from (omega arith),
       length-decimal_64 to (omega arith),
     ) in
-    meaning-spaced (codes "query") rest (literal (codes "query") refl) all short refl
-    ∙ rw (is_word-has kind alone, kind_of-name kind alone, time_of-decimal from early, time_of-decimal to late, name_of-name name is) refl
+    meaning-spaced (query_verb kind) rest (IsWord-query_verb kind) all short (is_comment-query_verb kind)
+    ∙ rw (reads-figure name kind (decimal from ∷ decimal to ∷ []) alone, time_of-decimal from early, time_of-decimal to late, name_of-name name is) refl
 
 -- so does one for a value
 meaning-has : (name : List ℕ) (v : ℤ) (from to : ℕ) → is_name name ≡ true → from ≤ LAST_TIME → to ≤ LAST_TIME → FitsSigned w64 v →
@@ -171,13 +206,15 @@ meaning-has name v from to is early late fits =
     ∙ rw (value_of-signed v fits, time_of-decimal from early, time_of-decimal to late, name_of-name name is) refl
 
 meaning-query : (name : List ℕ) (kind : Kind) (from to : ℕ) → is_name name ≡ true → from ≤ LAST_TIME → to ≤ LAST_TIME → IsKindOfValues kind →
-    meaning (spaced (codes "query") (name ∷ kind_words kind ++ decimal from ∷ decimal to ∷ [])) ≡ Ok
+    meaning (spaced (query_verb kind) (name ∷ kind_words kind ++ decimal from ∷ decimal to ∷ [])) ≡ Ok
     (Some (commands.Ask (record { name = name; kind = kind; from = from; to = to })))
 meaning-query name kinds.Count from to is early late fits = meaning-figure name kinds.Count from to is early late refl
 meaning-query name kinds.Sum from to is early late fits = meaning-figure name kinds.Sum from to is early late refl
 meaning-query name kinds.Min from to is early late fits = meaning-figure name kinds.Min from to is early late refl
 meaning-query name kinds.Max from to is early late fits = meaning-figure name kinds.Max from to is early late refl
 meaning-query name (kinds.Has value) from to is early late fits = meaning-has name value from to is early late fits
+meaning-query name kinds.CountGuess from to is early late fits = meaning-figure name kinds.CountGuess from to is early late refl
+meaning-query name kinds.SumGuess from to is early late fits = meaning-figure name kinds.SumGuess from to is early late refl
 
 -- a step of a series reads back
 step_of-decimal : (from to step : ℕ) → 0 < step → step ≤ LAST_TIME → rows_in from to step ≤ MOST_ROWS → step_of from to (decimal step) ≡ Ok step
@@ -200,19 +237,20 @@ meaning-series series is ranged alone =
         (IsWord-decimal series.from (omega arith), (IsWord-decimal series.to (omega arith), (IsWord-decimal series.step (omega arith), tt))),
       ),
     ) in
-    let short : length (spaced (codes "series") rest) ≤ 256 =
+    let short : length (spaced (series_verb series.kind) rest) ≤ 256 =
     omega (
       arith,
-      length-spaced rest (codes "series"),
+      length-spaced rest (series_verb series.kind),
+      (length-verbs series.kind).1,
       length-is_name series.name is,
       length-kind series.kind,
       length-decimal_64 series.from (omega arith),
       length-decimal_64 series.to (omega arith),
       length-decimal_64 series.step (omega arith),
     ) in
-    meaning-spaced (codes "series") rest (literal (codes "series") refl) all short refl
+    meaning-spaced (series_verb series.kind) rest (IsWord-series_verb series.kind) all short (is_comment-series_verb series.kind)
     ∙ rw (
-      kind_of-name series.kind alone,
+      reads-steps series.name series.kind (decimal series.from ∷ decimal series.to ∷ decimal series.step ∷ []) alone,
       time_of-decimal series.from from,
       time_of-decimal series.to to,
       step_of-decimal series.from series.to series.step ranged.some step ranged.few,
@@ -233,6 +271,8 @@ added_of-name kinds.Sum added = refl
 added_of-name kinds.Min added = cc
 added_of-name kinds.Max added = cc
 added_of-name (kinds.Has value) added = cc
+added_of-name kinds.CountGuess added = cc
+added_of-name kinds.SumGuess added = cc
 
 IsWord-end : (end : End) → IsWord (end_name end)
 IsWord-end ends.Lo = literal (codes "lo") refl

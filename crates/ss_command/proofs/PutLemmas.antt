@@ -36,6 +36,8 @@ length-kind kinds.Sum = omega arith
 length-kind kinds.Min = omega arith
 length-kind kinds.Max = omega arith
 length-kind (kinds.Has value) = omega arith
+length-kind kinds.CountGuess = omega arith
+length-kind kinds.SumGuess = omega arith
 
 pub length-end : (end : End) → length (end_name end) ≤ 2
 length-end ends.Lo = omega arith

@@ -244,6 +244,34 @@ means-series_refused :
 unfolding meaning words is_number number_of number_up_to signed_of is_name
 means-series_refused = refl
 
+-- the forms that ask for the likeliest values, and the order of their refusals
+means-estimate :
+    map meaning (codes "estimate a count 10 40" ∷ codes "estimate a sum 5 4" ∷ codes "estimates a count 10 40 5" ∷ codes "estimates a sum 1 0 1" ∷ [])
+    ≡ Ok (Some (commands.Ask (record { name = codes "a"; kind = kinds.CountGuess; from = 10; to = 40 })))
+    ∷ Ok (Some (commands.Ask (record { name = codes "a"; kind = kinds.SumGuess; from = 5; to = 4 })))
+    ∷ Ok (Some (commands.Series (record { name = codes "a"; kind = kinds.CountGuess; from = 10; to = 40; step = 5 })))
+    ∷ Ok (Some (commands.Series (record { name = codes "a"; kind = kinds.SumGuess; from = 1; to = 0; step = 1 })))
+    ∷ []
+unfolding meaning words is_number number_of number_up_to signed_of is_name
+means-estimate = refl
+
+means-estimate_refused :
+    map meaning (codes "estimate a min 0 9" ∷ codes "estimate a has 5 0 9" ∷ codes "estimate a sum x! 9" ∷ codes "estimate a! sum 9 4"
+    ∷ codes "estimates a max 0 9 1" ∷ codes "estimates a sum 0 200000 2" ∷ codes "estimates x! sum 0 100000 1" ∷ codes "estimate a sum 1 2 3" ∷ [])
+    ≡ map refused (refusals.Syntax ∷ refusals.Syntax ∷ refusals.Number ∷ refusals.Name ∷ refusals.Syntax ∷ refusals.Number ∷ refusals.Number
+    ∷ refusals.Syntax ∷ [])
+unfolding meaning words is_number number_of number_up_to signed_of is_name
+means-estimate_refused = refl
+
+printed-estimate : printed (commands.Ask (record { name = codes "a"; kind = kinds.SumGuess; from = 45; to = 65 })) ≡ codes "estimate a sum 45 65"
+unfolding printed digits
+printed-estimate = refl
+
+printed-estimates : printed (commands.Series (record { name = codes "a"; kind = kinds.CountGuess; from = 45; to = 65; step = 7 }))
+    ≡ codes "estimates a count 45 65 7"
+unfolding printed digits
+printed-estimates = refl
+
 printed-series : printed (commands.Series (record { name = codes "a"; kind = kinds.Min; from = 45; to = 65; step = 7 })) ≡ codes "series a min 45 65 7"
 unfolding printed digits
 printed-series = refl

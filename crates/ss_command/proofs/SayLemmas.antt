@@ -18,7 +18,8 @@ use Rattle.ss_catalog.specs.declared.refusal.Refusal.{Refusal}
 use Rattle.ss_command.specs.declared.TheConstants.{LONGEST_LINE}
 use Rattle.ss_command.specs.Grammar.{◌>>=◌, added_of, append_of, certify_of, close_of, command_of, create_of, drop_of, end_of, exp_of, figure_of, has_of}
 use Rattle.ss_command.specs.Grammar.{is_comment, landmark_of, last_of, list_of, meaning, values_of}
-use Rattle.ss_command.specs.Grammar.{meaning_of_words, kind_of, name_of, open_of, or_number, parameter_of, power_of, query_of, series_of, step_of, time_of}
+use Rattle.ss_command.specs.Grammar.{◌>>=◌, meaning_of_words, estimate_of, estimates_of, guessed_of, kind_of, name_of, open_of, or_number, parameter_of, power_of, query_of}
+use Rattle.ss_command.specs.Grammar.{series_of, step_of, steps_of, time_of}
 use Rattle.ss_command.specs.Grammar.{value_of}
 use Rattle.ss_command.specs.Grammar.{windows_of}
 use Rattle.ss_command.specs.Printed.{IsSayable, takes_value}
@@ -182,34 +183,47 @@ has-sayable name (value ∷ first ∷ last ∷ more ∷ rest) c same = cc
 kind-alone : (word : List ℕ) (kind : Kind) → kind_of word ≡ Ok kind → takes_value kind ≡ false
 kind-alone word kind same = grind arith
 
+guess-alone : (word : List ℕ) (kind : Kind) → guessed_of word ≡ Ok kind → takes_value kind ≡ false
+guess-alone word kind same = grind arith
+
 alone-fits : (kind : Kind) → takes_value kind ≡ false → IsKindOfValues kind
 alone-fits kinds.Count alone = tt
 alone-fits kinds.Sum alone = tt
 alone-fits kinds.Min alone = tt
 alone-fits kinds.Max alone = tt
 alone-fits (kinds.Has value) alone = cc
+alone-fits kinds.CountGuess alone = tt
+alone-fits kinds.SumGuess alone = tt
 
-figure-sayable : (name asked : List ℕ) (ws : List (List ℕ)) (c : Command) → figure_of name asked ws ≡ Ok c → IsSayable c
-figure-sayable name asked [] c same = cc
-figure-sayable name asked (first ∷ []) c same = cc
-figure-sayable name asked (first ∷ last ∷ []) c same =
-    let kind = bind-Ok (kind_of asked) _ c same in
-    let from = bind-Ok (time_of first) _ c kind.2 in
+figure-sayable : (name : List ℕ) (kind : Kind) (ws : List (List ℕ)) (c : Command) → takes_value kind ≡ false → figure_of name kind ws ≡ Ok c
+    → IsSayable c
+figure-sayable name kind [] c alone same = cc
+figure-sayable name kind (first ∷ []) c alone same = cc
+figure-sayable name kind (first ∷ last ∷ []) c alone same =
+    let from = bind-Ok (time_of first) _ c same in
     let to = bind-Ok (time_of last) _ c from.2 in
     let stream = bind-Ok (name_of name) _ c to.2 in
-    let is : commands.Ask (record { name = stream.0; kind = kind.0; from = from.0; to = to.0 }) ≡ c = cc (stream.2) in
-    subst IsSayable is (
-      name-is name stream.0 stream.1,
-      (time-le first from.0 from.1, time-le last to.0 to.1),
-      alone-fits kind.0 (kind-alone asked kind.0 kind.1),
-    )
-figure-sayable name asked (first ∷ last ∷ more ∷ rest) c same = cc
+    let is : commands.Ask (record { name = stream.0; kind = kind; from = from.0; to = to.0 }) ≡ c = cc (stream.2) in
+    subst IsSayable is (name-is name stream.0 stream.1, (time-le first from.0 from.1, time-le last to.0 to.1), alone-fits kind alone)
+figure-sayable name kind (first ∷ last ∷ more ∷ rest) c alone same = cc
+
+-- what is said of any kind that is read from a word
+by-kind : (asked : Result Kind Refusal) (next : Kind → Result Command Refusal) (c : Command)
+    → ((kind : Kind) → asked ≡ Ok kind → next kind ≡ Ok c → IsSayable c) → (asked >>= next) ≡ Ok c → IsSayable c
+by-kind asked next c each same = let kind = bind-Ok asked next c same in each kind.0 kind.1 kind.2
 
 query-sayable : (ws : List (List ℕ)) (c : Command) → query_of ws ≡ Ok c → IsSayable c
 query-sayable [] c same = cc
 query-sayable (name ∷ []) c same = cc
 query-sayable (name ∷ asked ∷ rest) c same =
-    choice (IsSayable c) (is_word asked (codes "has")) _ _ c (has-sayable name rest c) (figure-sayable name asked rest c) same
+    choice (IsSayable c) (is_word asked (codes "has")) _ _ c (has-sayable name rest c)
+    (by-kind (kind_of asked) _ c (λ kind is. figure-sayable name kind rest c (kind-alone asked kind is))) same
+
+estimate-sayable : (ws : List (List ℕ)) (c : Command) → estimate_of ws ≡ Ok c → IsSayable c
+estimate-sayable [] c same = cc
+estimate-sayable (name ∷ []) c same = cc
+estimate-sayable (name ∷ asked ∷ rest) c same =
+    by-kind (guessed_of asked) _ c (λ kind is. figure-sayable name kind rest c (guess-alone asked kind is)) same
 
 -- a step that was read cuts its range into rows
 step-rows : (from to step : ℕ) (word : List ℕ) → step_of from to word ≡ Ok step →
@@ -219,26 +233,36 @@ step-rows from to step word same =
     let bound = time-le word read.0 read.1 in
     grind (arith, nat_tests)
 
-series-sayable : (ws : List (List ℕ)) (c : Command) → series_of ws ≡ Ok c → IsSayable c
-series-sayable [] c same = cc
-series-sayable (name ∷ []) c same = cc
-series-sayable (name ∷ asked ∷ []) c same = cc
-series-sayable (name ∷ asked ∷ first ∷ []) c same = cc
-series-sayable (name ∷ asked ∷ first ∷ last ∷ []) c same = cc
-series-sayable (name ∷ asked ∷ first ∷ last ∷ width ∷ []) c same =
-    let kind = bind-Ok (kind_of asked) _ c same in
-    let from = bind-Ok (time_of first) _ c kind.2 in
+steps-sayable : (name : List ℕ) (kind : Kind) (ws : List (List ℕ)) (c : Command) → takes_value kind ≡ false → steps_of name kind ws ≡ Ok c
+    → IsSayable c
+steps-sayable name kind [] c alone same = cc
+steps-sayable name kind (first ∷ []) c alone same = cc
+steps-sayable name kind (first ∷ last ∷ []) c alone same = cc
+steps-sayable name kind (first ∷ last ∷ width ∷ []) c alone same =
+    let from = bind-Ok (time_of first) _ c same in
     let to = bind-Ok (time_of last) _ c from.2 in
     let step = bind-Ok (step_of from.0 to.0 width) _ c to.2 in
     let stream = bind-Ok (name_of name) _ c step.2 in
-    let is : commands.Series (record { name = stream.0; kind = kind.0; from = from.0; to = to.0; step = step.0 }) ≡ c = cc (stream.2) in
+    let is : commands.Series (record { name = stream.0; kind = kind; from = from.0; to = to.0; step = step.0 }) ≡ c = cc (stream.2) in
     let rows = step-rows from.0 to.0 step.0 width step.1 in
     subst IsSayable is (
       name-is name stream.0 stream.1,
       record { from = time-le first from.0 from.1; to = time-le last to.0 to.1; some = rows.0; step = rows.1; few = rows.2 },
-      kind-alone asked kind.0 kind.1,
+      alone,
     )
-series-sayable (name ∷ asked ∷ first ∷ last ∷ width ∷ more ∷ rest) c same = cc
+steps-sayable name kind (first ∷ last ∷ width ∷ more ∷ rest) c alone same = cc
+
+series-sayable : (ws : List (List ℕ)) (c : Command) → series_of ws ≡ Ok c → IsSayable c
+series-sayable [] c same = cc
+series-sayable (name ∷ []) c same = cc
+series-sayable (name ∷ asked ∷ rest) c same =
+    by-kind (kind_of asked) _ c (λ kind is. steps-sayable name kind rest c (kind-alone asked kind is)) same
+
+estimates-sayable : (ws : List (List ℕ)) (c : Command) → estimates_of ws ≡ Ok c → IsSayable c
+estimates-sayable [] c same = cc
+estimates-sayable (name ∷ []) c same = cc
+estimates-sayable (name ∷ asked ∷ rest) c same =
+    by-kind (guessed_of asked) _ c (λ kind is. steps-sayable name kind rest c (guess-alone asked kind is)) same
 
 windows-sayable : (ws : List (List ℕ)) (c : Command) → windows_of ws ≡ Ok c → IsSayable c
 windows-sayable [] c same = cc
@@ -306,7 +330,9 @@ command-sayable verb rest c same =
     (choice (IsSayable c) (is_word verb (codes "list")) _ _ c (list-sayable rest c)
     (choice (IsSayable c) (is_word verb (codes "certify")) _ _ c (certify-sayable rest c)
     (choice (IsSayable c) (is_word verb (codes "last")) _ _ c (last-sayable rest c)
-    (choice (IsSayable c) (is_word verb (codes "values")) _ _ c (values-sayable rest c) (λ wrong. cc (wrong))))))))))))
+    (choice (IsSayable c) (is_word verb (codes "values")) _ _ c (values-sayable rest c)
+    (choice (IsSayable c) (is_word verb (codes "estimate")) _ _ c (estimate-sayable rest c)
+    (choice (IsSayable c) (is_word verb (codes "estimates")) _ _ c (estimates-sayable rest c) (λ wrong. cc (wrong))))))))))))))
     same
 
 words-sayable : (ws : List (List ℕ)) (c : Command) → meaning_of_words ws ≡ Ok (Some c) → IsSayable c

@@ -129,6 +129,13 @@ kind_of word =
     else (if is_word word (codes "max") then Ok kinds.Max
     else Err refusals.Syntax)))
 
+-- what the likeliest value is asked of: one of these words
+abbrev pub guessed_of : List ℕ → Result Kind Refusal
+guessed_of word =
+    if is_word word (codes "count") then Ok kinds.CountGuess
+    else (if is_word word (codes "sum") then Ok kinds.SumGuess
+    else Err refusals.Syntax)
+
 -- `query NAME has V T1 T2`, from V on
 abbrev pub has_of : List ℕ → List (List ℕ) → Result Command Refusal
 has_of name (value ∷ first ∷ last ∷ []) = do
@@ -139,31 +146,43 @@ has_of name (value ∷ first ∷ last ∷ []) = do
   Ok (commands.Ask (record { name = stream; kind = kinds.Has v; from = from; to = to }))
 has_of name _ = Err refusals.Syntax
 
--- `query NAME count T1 T2`, from T1 on; also with `sum`, `min` and `max`
-abbrev pub figure_of : List ℕ → List ℕ → List (List ℕ) → Result Command Refusal
-figure_of name asked (first ∷ last ∷ []) = do
-  kind ← kind_of asked
+-- `query NAME count T1 T2`, from T1 on, by what is asked for; also with other words for that, and `estimate NAME count T1 T2`
+abbrev pub figure_of : List ℕ → Kind → List (List ℕ) → Result Command Refusal
+figure_of name kind (first ∷ last ∷ []) = do
   from ← time_of first
   to ← time_of last
   stream ← name_of name
   Ok (commands.Ask (record { name = stream; kind = kind; from = from; to = to }))
-figure_of name asked _ = Err refusals.Syntax
+figure_of name kind _ = Err refusals.Syntax
 
 -- a `query`, from its name on
 abbrev pub query_of : List (List ℕ) → Result Command Refusal
-query_of (name ∷ asked ∷ rest) = if is_word asked (codes "has") then has_of name rest else figure_of name asked rest
+query_of (name ∷ asked ∷ rest) = if is_word asked (codes "has") then has_of name rest else kind_of asked >>= (λ kind. figure_of name kind rest)
 query_of _ = Err refusals.Syntax
 
--- `series NAME count T1 T2 STEP`, from its name on; also with `sum`, `min` and `max`
-abbrev pub series_of : List (List ℕ) → Result Command Refusal
-series_of (name ∷ asked ∷ first ∷ last ∷ width ∷ []) = do
-  kind ← kind_of asked
+-- `estimate NAME count T1 T2`, from its name on; also with `sum`
+abbrev pub estimate_of : List (List ℕ) → Result Command Refusal
+estimate_of (name ∷ asked ∷ rest) = guessed_of asked >>= (λ kind. figure_of name kind rest)
+estimate_of _ = Err refusals.Syntax
+
+-- `series NAME count T1 T2 STEP`, from T1 on, by what is asked for; also with other words for that, and `estimates NAME count T1 T2 STEP`
+abbrev pub steps_of : List ℕ → Kind → List (List ℕ) → Result Command Refusal
+steps_of name kind (first ∷ last ∷ width ∷ []) = do
   from ← time_of first
   to ← time_of last
   step ← step_of from to width
   stream ← name_of name
   Ok (commands.Series (record { name = stream; kind = kind; from = from; to = to; step = step }))
+steps_of name kind _ = Err refusals.Syntax
+
+-- a `series`, and an `estimates`, from its name on
+abbrev pub series_of : List (List ℕ) → Result Command Refusal
+series_of (name ∷ asked ∷ rest) = kind_of asked >>= (λ kind. steps_of name kind rest)
 series_of _ = Err refusals.Syntax
+
+abbrev pub estimates_of : List (List ℕ) → Result Command Refusal
+estimates_of (name ∷ asked ∷ rest) = guessed_of asked >>= (λ kind. steps_of name kind rest)
+estimates_of _ = Err refusals.Syntax
 
 -- `windows NAME`, from its name on
 abbrev pub windows_of : List (List ℕ) → Result Command Refusal
@@ -231,7 +250,9 @@ command_of verb rest =
     else (if is_word verb (codes "certify") then certify_of rest
     else (if is_word verb (codes "last") then last_of rest
     else (if is_word verb (codes "values") then values_of rest
-    else Err refusals.Syntax))))))))))
+    else (if is_word verb (codes "estimate") then estimate_of rest
+    else (if is_word verb (codes "estimates") then estimates_of rest
+    else Err refusals.Syntax))))))))))))
 
 -- what words mean: nothing, where there are none, or a command
 abbrev pub meaning_of_words : List (List ℕ) → Result (Option Command) Refusal

@@ -4,7 +4,7 @@ use Rattle.std.specs.Fmt.{decimal, signed_decimal}
 use Rattle.std.specs.Int.{w64}
 use Rattle.ss_catalog.specs.Events.{IsInTime}
 use Rattle.ss_catalog.specs.Names.{is_name}
-use Rattle.ss_catalog.specs.Queries.{IsKindOfValues, IsQueryInTime, adds_up, end_name, kind_name}
+use Rattle.ss_catalog.specs.Queries.{IsKindOfValues, IsQueryInTime, adds_up, end_name, kind_name, query_verb, series_verb}
 use Rattle.ss_catalog.specs.Series.{IsSeriesInRange}
 use Rattle.ss_catalog.specs.declared.TheConstants.{LAST_TIME}
 use Rattle.ss_catalog.specs.declared.event.Event.TheVariants.{Create, Value, Open, Close, Drop}
@@ -35,6 +35,8 @@ kind_words kinds.Sum = kind_name kinds.Sum ∷ []
 kind_words kinds.Min = kind_name kinds.Min ∷ []
 kind_words kinds.Max = kind_name kinds.Max ∷ []
 kind_words (kinds.Has value) = kind_name (kinds.Has value) ∷ signed_decimal value ∷ []
+kind_words kinds.CountGuess = kind_name kinds.CountGuess ∷ []
+kind_words kinds.SumGuess = kind_name kinds.SumGuess ∷ []
 
 -- what is asked for is said with a value
 abbrev pub takes_value : Kind → Bool
@@ -43,6 +45,8 @@ takes_value kinds.Sum = false
 takes_value kinds.Min = false
 takes_value kinds.Max = false
 takes_value (kinds.Has value) = true
+takes_value kinds.CountGuess = false
+takes_value kinds.SumGuess = false
 
 -- a command as it is printed: its words with one space between them, numbers without leading zeros
 unfoldable pub printed : Command → List ℕ
@@ -51,9 +55,9 @@ printed (commands.Do (Value name t v)) = spaced (codes "append") (name ∷ decim
 printed (commands.Do (Open name t)) = spaced (codes "landmark") (name ∷ codes "open" ∷ decimal t ∷ [])
 printed (commands.Do (Close name t)) = spaced (codes "landmark") (name ∷ codes "close" ∷ decimal t ∷ [])
 printed (commands.Do (Drop name)) = spaced (codes "drop") (name ∷ [])
-printed (commands.Ask query) = spaced (codes "query") (query.name ∷ kind_words query.kind ++ decimal query.from ∷ decimal query.to ∷ [])
+printed (commands.Ask query) = spaced (query_verb query.kind) (query.name ∷ kind_words query.kind ++ decimal query.from ∷ decimal query.to ∷ [])
 printed (commands.Series series) =
-    spaced (codes "series") (series.name ∷ kind_name series.kind ∷ decimal series.from ∷ decimal series.to ∷ decimal series.step ∷ [])
+    spaced (series_verb series.kind) (series.name ∷ kind_name series.kind ∷ decimal series.from ∷ decimal series.to ∷ decimal series.step ∷ [])
 printed (commands.Windows name) = spaced (codes "windows") (name ∷ [])
 printed commands.List = codes "list"
 printed (commands.Certify query end) =

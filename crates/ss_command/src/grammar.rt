@@ -1,9 +1,9 @@
 // What a line means.
 ghost use Rattle.std.specs.Prelude.{◌≡◌, ◌≤◌, length, codes, true, false, IfOk, IfSome};
 ghost use Rattle.ss_catalog.specs.Queries.{adds_up};
-ghost use Rattle.ss_command.specs.Grammar.{added_of, append_of, certify_of, close_of, command_of, create_of, drop_of, end_of, exp_of, figure_of};
-ghost use Rattle.ss_command.specs.Grammar.{has_of, is_comment, kind_of, landmark_of, last_of, list_of, meaning};
-ghost use Rattle.ss_command.specs.Grammar.{open_of, power_of, query_of, series_of, values_of, windows_of};
+ghost use Rattle.ss_command.specs.Grammar.{added_of, append_of, certify_of, close_of, command_of, create_of, drop_of, end_of, estimate_of, exp_of};
+ghost use Rattle.ss_command.specs.Grammar.{estimates_of, figure_of, guessed_of, has_of, is_comment, kind_of, landmark_of, last_of, list_of, meaning};
+ghost use Rattle.ss_command.specs.Grammar.{open_of, power_of, query_of, series_of, steps_of, values_of, windows_of};
 ghost use Rattle.ss_command.specs.Printed.{IsCommandInTime, IsSayable, takes_value};
 
 use crate::command::Command;
@@ -146,6 +146,20 @@ fn kind(word: &[u8]) -> Result<Kind, Refusal>
     }
 }
 
+// What the likeliest value is asked of.
+fn guessed(word: &[u8]) -> Result<Kind, Refusal>
+    ensures value { result ≡ guessed_of word.now }
+    ensures alone { IfOk result (λ kind. takes_value kind ≡ false) }
+{
+    if is_word(word, "count") {
+        Ok(Kind::CountGuess)
+    } else if is_word(word, "sum") {
+        Ok(Kind::SumGuess)
+    } else {
+        Err(Refusal::Syntax)
+    }
+}
+
 // Reads `query NAME has V T1 T2`, from V on.
 fn has(name: &[u8], mut words: Words) -> Result<Command, Refusal>
     ensures meaning { result ≡ has_of name.now words.entry }
@@ -168,15 +182,15 @@ fn has(name: &[u8], mut words: Words) -> Result<Command, Refusal>
     }))
 }
 
-// Reads `query NAME count T1 T2` and its like, from T1 on.
-fn figure(name: &[u8], asked: &[u8], mut words: Words) -> Result<Command, Refusal>
-    ensures meaning { result ≡ figure_of name.now asked.now words.entry }
+// Reads `query NAME count T1 T2` and its like, from T1 on, by what is asked for.
+fn figure(name: &[u8], kind: Kind, mut words: Words) -> Result<Command, Refusal>
+    requires { takes_value kind ≡ false }
+    ensures meaning { result ≡ figure_of name.now kind words.entry }
     ensures time { IfOk result IsCommandInTime }
 {
     let first = words.word()?;
     let last = words.word()?;
     words.end()?;
-    let kind = kind(asked)?;
     let from = read_time(first)?;
     let to = read_time(last)?;
     let name = read_name(name)?;
@@ -198,22 +212,30 @@ fn query(mut words: Words) -> Result<Command, Refusal>
     if is_word(asked, "has") {
         has(name, words)
     } else {
-        figure(name, asked, words)
+        figure(name, kind(asked)?, words)
     }
 }
 
-// Reads `series NAME count T1 T2 STEP` and its like, from its name on.
-fn series(mut words: Words) -> Result<Command, Refusal>
-    ensures meaning { result ≡ series_of words.entry }
+// Reads `estimate NAME count T1 T2` and its like, from its name on.
+fn estimate(mut words: Words) -> Result<Command, Refusal>
+    ensures meaning { result ≡ estimate_of words.entry }
     ensures time { IfOk result IsCommandInTime }
 {
     let name = words.word()?;
     let asked = words.word()?;
+    figure(name, guessed(asked)?, words)
+}
+
+// Reads `series NAME count T1 T2 STEP` and its like, from T1 on, by what is asked for.
+fn steps(name: &[u8], kind: Kind, mut words: Words) -> Result<Command, Refusal>
+    requires { takes_value kind ≡ false }
+    ensures meaning { result ≡ steps_of name.now kind words.entry }
+    ensures time { IfOk result IsCommandInTime }
+{
     let first = words.word()?;
     let last = words.word()?;
     let width = words.word()?;
     words.end()?;
-    let kind = kind(asked)?;
     let from = read_time(first)?;
     let to = read_time(last)?;
     let step = read_step(width, from, to)?;
@@ -225,6 +247,26 @@ fn series(mut words: Words) -> Result<Command, Refusal>
         to,
         step,
     }))
+}
+
+// Reads a `series`, from its name on.
+fn series(mut words: Words) -> Result<Command, Refusal>
+    ensures meaning { result ≡ series_of words.entry }
+    ensures time { IfOk result IsCommandInTime }
+{
+    let name = words.word()?;
+    let asked = words.word()?;
+    steps(name, kind(asked)?, words)
+}
+
+// Reads an `estimates`, from its name on.
+fn estimates(mut words: Words) -> Result<Command, Refusal>
+    ensures meaning { result ≡ estimates_of words.entry }
+    ensures time { IfOk result IsCommandInTime }
+{
+    let name = words.word()?;
+    let asked = words.word()?;
+    steps(name, guessed(asked)?, words)
 }
 
 // Reads `windows NAME`, from its name on.
@@ -348,6 +390,10 @@ fn command(verb: &[u8], words: Words) -> Result<Command, Refusal>
         last(words)
     } else if is_word(verb, "values") {
         values(words)
+    } else if is_word(verb, "estimate") {
+        estimate(words)
+    } else if is_word(verb, "estimates") {
+        estimates(words)
     } else {
         Err(Refusal::Syntax)
     }

@@ -58,7 +58,7 @@ fn print_query(query: &Query, out: &mut ArrayString<256>)
     ensures text { out.new.bytes ≡ printed (commands.Ask query.now) }
     ensures sayable { IsSayable (commands.Ask query.now) }
 {
-    out.push_str("query");
+    out.push_str(query.kind.query_verb());
     put_name(&query.name, out);
     put_asked(query.kind, out);
     put_number(query.from, out);
@@ -73,7 +73,7 @@ fn print_series(series: &Series, out: &mut ArrayString<256>)
     ensures text { out.new.bytes ≡ printed (commands.Series series.now) }
     ensures sayable { IsSayable (commands.Series series.now) }
 {
-    out.push_str("series");
+    out.push_str(series.kind.series_verb());
     put_name(&series.name, out);
     put_kind(series.kind, out);
     put_number(series.from, out);

@@ -40,7 +40,7 @@ pub fn put_asked(kind: Kind, out: &mut ArrayString<256>)
     put_kind(kind, out);
     match kind {
         Kind::Has { value } => put_value(value, out),
-        Kind::Count | Kind::Sum | Kind::Min | Kind::Max => {}
+        _ => {}
     }
 }
 

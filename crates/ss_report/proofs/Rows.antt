@@ -1,18 +1,24 @@
 -- Worked rows, each computed.
 use Rattle.std.proofs.Common.{◌≡◌, ℕ, List, [], ◌∷◌, ◌++◌, map, true, false, Some, None, refl}
-use Rattle.std.specs.Prelude.{ℤ, codes, pos, negsuc}
+use Rattle.std.specs.Prelude.{ℤ, codes, pos, negsuc, replicate}
 use Rattle.std.specs.Fmt.{digits}
 use Rattle.ss_bounds.specs.declared.extreme.Extreme.TheVariants.{Nothing, Sure, Maybe}
+use Rattle.ss_catalog.specs.declared.query.Kind.TheVariants as kinds
 use Rattle.ss_catalog.specs.declared.params.Params.TheVariants.{Exp}
+use Rattle.ss_catalog.specs.declared.event.Event.TheVariants as events
 use Rattle.ss_catalog.specs.declared.refusal.Refusal.TheVariants as refusals
+use Rattle.hex.specs.Hex.{encode_with}
+use Rattle.ss_codec.specs.Fields as Fields
+use Rattle.ss_fields.specs.Fields as Numbers
+use Rattle.ss_frames.specs.Frame.{frame_spelled}
 use Rattle.ss_model.specs.declared.newest.Newest.TheVariants as newest
-use Rattle.ss_model.specs.declared.outcome.Outcome.TheVariants.{Count, Sum, Min, Max, Has}
+use Rattle.ss_model.specs.declared.outcome.Outcome.TheVariants.{Count, Sum, Min, Max, Has, Estimate}
 use Rattle.ss_model.specs.declared.outcome.Presence.TheVariants as presences
 use Rattle.ss_report.specs.Text.{reply_line, said_line}
 use Rattle.ss_summary.specs.Filters.{full}
 use Rattle.ss_model.specs.declared.types.Run.{Run}
 use Rattle.ss_report.specs.declared.reply.Reply.TheVariants.{Done, Answered, Refused, SeriesHead, Row, WindowsHead, Window, ListHead, Stream}
-use Rattle.ss_report.specs.declared.reply.Reply.TheVariants.{CertifyHead, Side, Last, ValuesHead, Value, Cursor, Rows, Closed}
+use Rattle.ss_report.specs.declared.reply.Reply.TheVariants.{CertifyHead, Side, Last, ValuesHead, Value, Cursor, Rows, Closed, Old, Gap, Framed}
 
 -- a text as a line
 abbrev ended : List ℕ → List ℕ
@@ -29,19 +35,21 @@ replies-answers :
     (Answered (Count 1 3) ∷ Answered (Sum (negsuc 4) (pos 16)) ∷ Answered (Min (Sure (negsuc 2) (pos 8)))
     ∷ Answered (Min (Maybe (negsuc 2) (pos 8))) ∷ Answered (Min Nothing) ∷ Answered (Max (Sure (pos 2) (pos 9)))
     ∷ Answered (Max (Maybe (pos 0) (pos 0))) ∷ Answered (Max Nothing) ∷ Answered (Has presences.Absent) ∷ Answered (Has presences.Present)
-    ∷ Answered (Has presences.Maybe) ∷ [])
+    ∷ Answered (Has presences.Maybe) ∷ Answered (Estimate (negsuc 4) (pos 6) (pos 16)) ∷ [])
     ≡ map ended
     (codes "count 1 3" ∷ codes "sum -5 16" ∷ codes "min -3 8" ∷ codes "min -3 8 maybe-none" ∷ codes "min none" ∷ codes "max 2 9"
-    ∷ codes "max 0 0 maybe-none" ∷ codes "max none" ∷ codes "has absent" ∷ codes "has present" ∷ codes "has maybe" ∷ [])
+    ∷ codes "max 0 0 maybe-none" ∷ codes "max none" ∷ codes "has absent" ∷ codes "has present" ∷ codes "has maybe"
+    ∷ codes "estimate -5 6 16" ∷ [])
 unfolding digits
 replies-answers = refl
 
 replies-series :
     map reply_line
-    (SeriesHead 5 ∷ Row 10 (Count 1 3) ∷ Row 4611686018427387904 (Sum (negsuc 4) (pos 16)) ∷ Row 0 (Min (Maybe (negsuc 2) (pos 8)))
-    ∷ Row 7 (Max (Sure (pos 2) (pos 9))) ∷ Row 8 (Max Nothing) ∷ [])
+    (SeriesHead kinds.Max 5 ∷ Row 10 (Count 1 3) ∷ Row 4611686018427387904 (Sum (negsuc 4) (pos 16)) ∷ Row 0 (Min (Maybe (negsuc 2) (pos 8)))
+    ∷ Row 7 (Max (Sure (pos 2) (pos 9))) ∷ Row 8 (Max Nothing) ∷ SeriesHead kinds.SumGuess 2 ∷ Row 35 (Estimate (negsuc 2) (pos 9) (pos 25)) ∷ [])
     ≡ map ended
-    (codes "series 5" ∷ codes "10 1 3" ∷ codes "4611686018427387904 -5 16" ∷ codes "0 -3 8 maybe-none" ∷ codes "7 2 9" ∷ codes "8 none" ∷ [])
+    (codes "series 5" ∷ codes "10 1 3" ∷ codes "4611686018427387904 -5 16" ∷ codes "0 -3 8 maybe-none" ∷ codes "7 2 9" ∷ codes "8 none"
+    ∷ codes "estimates 2" ∷ codes "35 -3 9 25" ∷ [])
 unfolding digits
 replies-series = refl
 
@@ -111,6 +119,31 @@ replies-cursors :
     map reply_line (Cursor 4 ∷ Rows 2 ∷ Rows 0 ∷ Closed ∷ []) ≡ map ended (codes "cursor 4" ∷ codes "rows 2" ∷ codes "rows 0" ∷ codes "closed" ∷ [])
 unfolding digits
 replies-cursors = refl
+
+-- what `follow` says of a frame that isn't next
+replies-passed_over :
+    map reply_line (Old ∷ Gap 0 ∷ Gap 18446744073709551615 ∷ []) ≡ map ended (codes "old" ∷ codes "gap 0" ∷ codes "gap 18446744073709551615" ∷ [])
+unfolding digits
+replies-passed_over = refl
+
+-- the digit 0 so many times
+abbrev zeros : ℕ → List ℕ
+zeros count = replicate count 48
+
+-- the frame of the stream `a` with `exp 2 1 1`, and those of its first two values, 5 at the time 10 and -3 at 20
+replies-frames :
+    map reply_line
+    (Framed (record { number = 1; event = events.Create (codes "a") (Exp 2 1 1) })
+    ∷ Framed (record { number = 2; event = events.Value (codes "a") 10 (pos 5) })
+    ∷ Framed (record { number = 3; event = events.Value (codes "a") 20 (negsuc 2) })
+    ∷ [])
+    ≡ map ended
+    ((codes "frame 010101" ++ zeros 25 ++ codes "161" ++ zeros 69 ++ codes "2" ++ zeros 7 ++ codes "1" ++ zeros 7 ++ codes "1" ++ zeros 8)
+    ∷ (codes "frame 020001" ++ zeros 25 ++ codes "261" ++ zeros 77 ++ codes "a" ++ zeros 15 ++ codes "5")
+    ∷ (codes "frame 020001" ++ zeros 25 ++ codes "361" ++ zeros 76 ++ codes "14fffffffffffffffd")
+    ∷ [])
+unfolding encode_with frame_spelled Fields.with_field Numbers.number_bytes
+replies-frames = refl
 
 -- to whom a line is said stands before it
 replies-said :

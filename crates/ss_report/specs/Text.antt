@@ -3,19 +3,22 @@ use Rattle.std.specs.Prelude.{ℕ, ◌+◌, List, [], ◌∷◌, ◌++◌, codes
 use Rattle.std.specs.Fmt.{decimal, signed_decimal}
 use Rattle.ss_bounds.specs.declared.extreme.Extreme.{Extreme}
 use Rattle.ss_bounds.specs.declared.extreme.Extreme.TheVariants.{Nothing, Sure, Maybe}
+use Rattle.ss_catalog.specs.Queries.{series_verb}
 use Rattle.ss_catalog.specs.Refusal.{refusal_name}
 use Rattle.ss_command.specs.Printed.{spaced, target_words}
 use Rattle.ss_command.specs.declared.TheConstants.{LINE_END}
+use Rattle.hex.specs.Hex.{encode_lower}
+use Rattle.ss_frames.specs.Frame.{FrameState, frame_spelled}
 use Rattle.ss_model.specs.declared.newest.Newest.{Newest}
 use Rattle.ss_model.specs.declared.newest.Newest.TheVariants as newest
 use Rattle.ss_model.specs.declared.outcome.Outcome.{Outcome}
-use Rattle.ss_model.specs.declared.outcome.Outcome.TheVariants.{Count, Sum, Min, Max, Has}
+use Rattle.ss_model.specs.declared.outcome.Outcome.TheVariants.{Count, Sum, Min, Max, Has, Estimate}
 use Rattle.ss_model.specs.declared.outcome.Presence.{Presence}
 use Rattle.ss_model.specs.declared.outcome.Presence.TheVariants as presences
 use Rattle.ss_model.specs.declared.types.Run.{Run}
 use Rattle.ss_report.specs.declared.reply.Reply.{Reply}
 use Rattle.ss_report.specs.declared.reply.Reply.TheVariants.{Done, Answered, Refused, SeriesHead, Row, WindowsHead, Window, ListHead, Stream}
-use Rattle.ss_report.specs.declared.reply.Reply.TheVariants.{CertifyHead, Side, Last, ValuesHead, Value, Cursor, Rows, Closed}
+use Rattle.ss_report.specs.declared.reply.Reply.TheVariants.{CertifyHead, Side, Last, ValuesHead, Value, Cursor, Rows, Closed, Old, Gap, Framed}
 
 -- a line of words with one space between them, with its line end
 abbrev pub spaced_line : List ℕ → List (List ℕ) → List ℕ
@@ -40,6 +43,7 @@ answer_kind (Sum lo hi) = codes "sum"
 answer_kind (Min extreme) = codes "min"
 answer_kind (Max extreme) = codes "max"
 answer_kind (Has known) = codes "has"
+answer_kind (Estimate lo guess hi) = codes "estimate"
 
 -- the words of an answer behind that one
 abbrev pub answer_words : Outcome → List (List ℕ)
@@ -48,6 +52,7 @@ answer_words (Sum lo hi) = signed_decimal lo ∷ signed_decimal hi ∷ []
 answer_words (Min extreme) = extreme_words extreme
 answer_words (Max extreme) = extreme_words extreme
 answer_words (Has known) = presence_word known ∷ []
+answer_words (Estimate lo guess hi) = signed_decimal lo ∷ signed_decimal guess ∷ signed_decimal hi ∷ []
 
 -- a run as a word: its value, and how many of it
 abbrev pub run_word : Run → List ℕ
@@ -64,12 +69,16 @@ newest_words newest.Nothing = codes "none" ∷ []
 newest_words (newest.Time last) = decimal last ∷ []
 newest_words (newest.Value last at lo hi) = decimal last ∷ decimal at ∷ signed_decimal lo ∷ signed_decimal hi ∷ []
 
+-- the bytes of a frame as a word: two hexadecimal digits each, in lower case
+abbrev pub frame_word : FrameState → List ℕ
+frame_word frame = encode_lower (frame_spelled frame)
+
 -- the line of a reply, with its line end
 abbrev pub reply_line : Reply → List ℕ
 reply_line (Done ack) = spaced_line (codes "ok") (decimal ack.n ∷ decimal ack.k ∷ [])
 reply_line (Answered outcome) = spaced_line (answer_kind outcome) (answer_words outcome)
 reply_line (Refused refusal) = spaced_line (codes "refused") (refusal_name refusal ∷ [])
-reply_line (SeriesHead count) = spaced_line (codes "series") (decimal count ∷ [])
+reply_line (SeriesHead kind count) = spaced_line (series_verb kind) (decimal count ∷ [])
 reply_line (Row at outcome) = spaced_line (decimal at) (answer_words outcome)
 reply_line (WindowsHead count) = spaced_line (codes "windows") (decimal count ∷ [])
 reply_line (Window w) =
@@ -87,6 +96,9 @@ reply_line (Value at value) = spaced_line (decimal at) (signed_decimal value ∷
 reply_line (Cursor count) = spaced_line (codes "cursor") (decimal count ∷ [])
 reply_line (Rows count) = spaced_line (codes "rows") (decimal count ∷ [])
 reply_line Closed = spaced_line (codes "closed") []
+reply_line Old = spaced_line (codes "old") []
+reply_line (Gap events) = spaced_line (codes "gap") (decimal events ∷ [])
+reply_line (Framed frame) = spaced_line (codes "frame") (frame_word frame ∷ [])
 
 -- the line of a reply as it is said: to a session behind `@`, its digit and a blank
 abbrev pub said_line : Option ℕ → Reply → List ℕ

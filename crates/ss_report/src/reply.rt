@@ -1,5 +1,6 @@
 // What is replied to a line.
-use ss_catalog::Refusal;
+use ss_catalog::{Kind, Refusal};
+use ss_frames::Frame;
 use ss_model::{Ack, Newest, Outcome, Placed, Run, StreamRow};
 
 /// Values that a window which a range splits may have had, all those inside the range or all those outside it: the
@@ -23,8 +24,11 @@ pub enum Reply {
     Answered(Outcome),
     /// A command was refused.
     Refused(Refusal),
-    /// So many rows of a series follow.
-    SeriesHead(u32),
+    /// So many rows of a series that asks for this follow.
+    SeriesHead {
+        kind: Kind,
+        count: u32,
+    },
     /// A row of a series: the time at which it begins, and the answer to its query.
     Row {
         at: u64,
@@ -61,6 +65,12 @@ pub enum Reply {
     Rows(u32),
     /// A cursor was closed.
     Closed,
+    /// A frame was passed over, since its stream has this event already.
+    Old,
+    /// A frame was passed over, since its stream has only so many events, and others come before this one.
+    Gap(u64),
+    /// The frame of the event that was accepted just before.
+    Framed(Frame),
 }
 
 impl Default for Reply {

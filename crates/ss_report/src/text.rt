@@ -3,17 +3,18 @@ ghost use Rattle.std.specs.Prelude.{◌≡◌, ◌+◌, ◌≤◌, ◌<◌, [], 
 ghost use Rattle.std.specs.Fmt.{decimal};
 ghost use Rattle.ss_command.specs.Printed.{spaced, with_word};
 ghost use Rattle.ss_command.specs.declared.TheConstants.{MOST_SESSIONS};
-ghost use Rattle.ss_report.specs.Text.{answer_kind, answer_words, extreme_words, presence_word, reply_line, run_words, said_line};
+ghost use Rattle.ss_report.specs.Text.{answer_kind, answer_words, extreme_words, frame_word, presence_word, reply_line, run_words, said_line};
 ghost use Rattle.ss_report.specs.declared.reply.Reply.TheVariants.{Done, Answered, Refused, SeriesHead, Row, WindowsHead, Window, ListHead, Stream};
-ghost use Rattle.ss_report.specs.declared.reply.Reply.TheVariants.{CertifyHead, Last, ValuesHead, Value, Cursor, Rows};
+ghost use Rattle.ss_report.specs.declared.reply.Reply.TheVariants.{CertifyHead, Last, ValuesHead, Value, Cursor, Rows, Gap, Framed};
 ghost use Rattle.ss_report.specs.declared.reply.Reply.TheVariants as replies;
 
 use crate::{Reply, Side};
 use arrayvec::ArrayString;
 use ss_bounds::Extreme;
-use ss_catalog::{LONGEST_NAME, Name, Refusal};
+use ss_catalog::{Kind, LONGEST_NAME, Name, Refusal};
 use ss_command::{MOST_SESSIONS, put_number, put_sum, put_target, put_value};
 use ss_fields::print_u64;
+use ss_frames::{FRAME_SIZE, Frame, encode_frame};
 use ss_model::{Ack, Newest, Outcome, Placed, Presence, Run, StreamRow};
 
 // Writes a number into an empty text.
@@ -80,9 +81,9 @@ fn put_presence(presence: Presence, out: &mut ArrayString<256>)
 
 // Adds what an answer says.
 fn put_words(outcome: &Outcome, out: &mut ArrayString<256>)
-    requires { length out.old.bytes + 82 ≤ 256 }
+    requires { length out.old.bytes + 123 ≤ 256 }
     ensures bytes { out.new.bytes ≡ spaced out.old.bytes (answer_words outcome.now) }
-    ensures short { length out.new.bytes ≤ length out.old.bytes + 82 }
+    ensures short { length out.new.bytes ≤ length out.old.bytes + 123 }
 {
     match *outcome {
         Outcome::Count { lo, hi } => {
@@ -96,6 +97,11 @@ fn put_words(outcome: &Outcome, out: &mut ArrayString<256>)
         Outcome::Min(extreme) => put_extreme(extreme, out),
         Outcome::Max(extreme) => put_extreme(extreme, out),
         Outcome::Has(presence) => put_presence(presence, out),
+        Outcome::Estimate { lo, guess, hi } => {
+            put_sum(lo, out);
+            put_sum(guess, out);
+            put_sum(hi, out);
+        }
     }
 }
 
@@ -109,6 +115,7 @@ fn kind_word(outcome: &Outcome) -> &'static str
         Outcome::Min(_) => "min",
         Outcome::Max(_) => "max",
         Outcome::Has(_) => "has",
+        Outcome::Estimate { .. } => "estimate",
     }
 }
 
@@ -133,11 +140,11 @@ fn refused_text(refusal: Refusal, out: &mut ArrayString<256>)
 }
 
 // Writes the line that stands above the rows of a series into an empty text.
-fn series_text(count: u32, out: &mut ArrayString<256>)
+fn series_text(kind: Kind, count: u32, out: &mut ArrayString<256>)
     requires { out.old.bytes ≡ [] }
-    ensures { out.new.bytes ≡ reply_line (SeriesHead count) }
+    ensures { out.new.bytes ≡ reply_line (SeriesHead kind count) }
 {
-    out.push_str("series");
+    out.push_str(kind.series_verb());
     put_number(u64::from(count), out);
     out.push_str("\n");
 }
@@ -311,6 +318,42 @@ fn rows_text(count: u32, out: &mut ArrayString<256>)
     out.push_str("\n");
 }
 
+// Writes the line of a frame that leaves others out into an empty text.
+fn gap_text(events: u64, out: &mut ArrayString<256>)
+    requires { out.old.bytes ≡ [] }
+    ensures { out.new.bytes ≡ reply_line (Gap events) }
+{
+    out.push_str("gap");
+    put_number(events, out);
+    out.push_str("\n");
+}
+
+// The digits of a frame.
+fn frame_digits(frame: &Frame) -> [u8; 2 * FRAME_SIZE]
+    ensures { result ≡ frame_word frame.now }
+{
+    let mut digits = [0; 2 * FRAME_SIZE];
+    let bytes = encode_frame(frame);
+    if hex::encode_to_slice(&bytes, &mut digits).is_err() {
+        unreachable!();
+    }
+    digits
+}
+
+// Writes the line of a frame into an empty text.
+fn framed_text(frame: &Frame, out: &mut ArrayString<256>)
+    requires { out.old.bytes ≡ [] }
+    ensures { out.new.bytes ≡ reply_line (Framed frame.now) }
+{
+    let digits = frame_digits(frame);
+    out.push_str("frame ");
+    match str::from_utf8(&digits) {
+        Ok(word) => out.push_str(word),
+        Err(_) => unreachable!(),
+    }
+    out.push_str("\n");
+}
+
 /// Writes the line of a reply, with its line end, into an empty text. docs/GUIDE.md ("Replies") lists the replies.
 pub fn reply_text(reply: &Reply, out: &mut ArrayString<256>)
     requires { out.old.bytes ≡ [] }
@@ -320,7 +363,7 @@ pub fn reply_text(reply: &Reply, out: &mut ArrayString<256>)
         Reply::Done(ack) => done_text(ack, out),
         Reply::Answered(outcome) => answer_text(outcome, out),
         Reply::Refused(refusal) => refused_text(*refusal, out),
-        Reply::SeriesHead(count) => series_text(*count, out),
+        Reply::SeriesHead { kind, count } => series_text(*kind, *count, out),
         Reply::Row { at, outcome } => row_text(*at, outcome, out),
         Reply::WindowsHead(count) => windows_text(*count, out),
         Reply::Window(window) => window_text(window, out),
@@ -338,6 +381,9 @@ pub fn reply_text(reply: &Reply, out: &mut ArrayString<256>)
         Reply::Cursor(count) => cursor_text(*count, out),
         Reply::Rows(count) => rows_text(*count, out),
         Reply::Closed => out.push_str("closed\n"),
+        Reply::Old => out.push_str("old\n"),
+        Reply::Gap(events) => gap_text(*events, out),
+        Reply::Framed(frame) => framed_text(frame, out),
     }
 }
 

@@ -3,9 +3,21 @@ use crate::words::{has_digits_alone, word_at};
 use std::alloc::{AllocError, Global};
 
 // The first words of the commands.
-const VERBS: [&str; 12] = [
-    "create", "append", "landmark", "drop", "query", "series", "windows", "list", "certify",
-    "last", "values", "cursor",
+const VERBS: [&str; 14] = [
+    "create",
+    "append",
+    "landmark",
+    "drop",
+    "query",
+    "series",
+    "windows",
+    "list",
+    "certify",
+    "last",
+    "values",
+    "cursor",
+    "estimate",
+    "estimates",
 ];
 
 // What is asked for of the values of a stream.
@@ -34,6 +46,8 @@ fn hint_on_form(verb: &str) -> &'static str {
         ": the file is in UTF-16, and has to be saved as UTF-8 or ASCII"
     } else if verb.contains(',') || verb.contains(';') {
         ": words stand between blanks, as in append NAME T V"
+    } else if verb.starts_with("\\x01\\x0") || verb.starts_with("\\x02\\x00") {
+        ": these bytes are frames, which the mode follow reads"
     } else if verb.starts_with('@') {
         ": lines of sessions are read where the mode is sessions"
     } else {
@@ -49,6 +63,8 @@ fn hint_on_word(verb: &str) -> &'static str {
         ": summarystore --help lists the commands"
     } else if verb == "quit" || verb == "exit" {
         ": the run ends where its input ends, at a terminal by Ctrl-D"
+    } else if verb == "frame" {
+        ": the bytes that its digits spell are read by the mode follow"
     } else if is_kind(verb) {
         ": that is asked for by a query, as in query NAME sum T1 T2"
     } else {

@@ -2,6 +2,7 @@
 #![tactic(auto)]
 
 mod explain;
+mod frames;
 mod hints;
 mod last_times;
 mod numbers;
@@ -16,7 +17,7 @@ mod watch;
 mod watched;
 mod words;
 
-pub use explain::{Explained, Explainer, MOST_EXPLAINED};
+pub use explain::{Explained, Explainer, MOST_EXPLAINED, Unit};
 pub use hints::is_verb;
 pub use terminals::Terminals;
 pub use watch::Watch;

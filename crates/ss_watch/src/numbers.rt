@@ -25,12 +25,13 @@ fn number_at(verb: &str, asked: &str, place: usize) -> Option<Number> {
         Some(Number::Parameter)
     } else if (verb == "append" || verb == "query" && asked == "has") && place == 3 {
         Some(Number::Value)
-    } else if verb == "series" && place == 5 {
+    } else if (verb == "series" || verb == "estimates") && place == 5 {
         Some(Number::Step)
     } else if verb == "cursor" && place == 2 {
         Some(Number::Count)
     } else if (verb == "append" || verb == "values") && place >= 2
         || (verb == "landmark" || verb == "query" || verb == "series") && place >= 3
+        || (verb == "estimate" || verb == "estimates") && place >= 3
         || verb == "certify" && place >= 4
     {
         Some(Number::Time)

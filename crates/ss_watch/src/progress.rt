@@ -43,11 +43,12 @@ fn rate(count: u64, time: Duration) -> u64 {
 // What the line says after this time.
 fn done_text(alloc: Global, done: &Done, time: Duration) -> Result<String, AllocError> {
     let counts = done.counts;
-    if counts.lines > 0 {
-        let rate = rate(counts.lines, time);
-        let (lines, accepted, refused) = (counts.lines, counts.accepted, counts.refused);
+    if counts.read > 0 {
+        let rate = rate(counts.read, time);
+        let (read, accepted, refused) = (counts.read, counts.accepted, counts.refused);
+        let many = counts.unit.many();
         format!(in alloc;
-            "{lines} lines read, {accepted} accepted, {refused} refused, {rate} a second"
+            "{read} {many} read, {accepted} accepted, {refused} refused, {rate} a second"
         )
     } else if done.syncs > 0 {
         let rate = rate(done.syncs, time);

@@ -1,4 +1,5 @@
 // Why a line was refused, in words.
+use crate::frames::frame_reason;
 use crate::numbers::number_reason;
 use crate::speaker::{Speaker, is_of_cursor};
 use crate::syntax::{syntax, syntax_of_cursor};
@@ -106,8 +107,8 @@ fn first_outside(params: &Params) -> Option<(&'static str, u32, u32, u32)> {
     }
 }
 
-// Why no target has these parameters.
-fn params(alloc: Global, params: &Params) -> Result<String, AllocError> {
+/// Why no target has these parameters.
+pub fn params(alloc: Global, params: &Params) -> Result<String, AllocError> {
     match first_outside(params) {
         Some((letter, value, least, greatest)) => {
             format!(in alloc; "{letter} is {value}, and can be {least} to {greatest}")
@@ -116,8 +117,8 @@ fn params(alloc: Global, params: &Params) -> Result<String, AllocError> {
     }
 }
 
-// The stream that an event is for.
-fn name_of_event(event: &Event) -> &Name {
+/// The stream that an event is for.
+pub fn name_of_event(event: &Event) -> &Name {
     match event {
         Event::Create { name, .. } => name,
         Event::Value { name, .. } => name,
@@ -205,7 +206,7 @@ fn of_command(
     }
 }
 
-/// Why a line was refused, in words. A line that was too long isn't there. The last time of its stream is there where it
+/// Why a line or a frame was refused, in words. A line that was too long isn't there. The last time of its stream is there where it
 /// is known.
 pub fn reason(
     alloc: Global,
@@ -218,6 +219,7 @@ pub fn reason(
     match (line, command, speaker) {
         (None, _, _) => format!(in alloc; "the line has more than {LONGEST_LINE} bytes"),
         (Some(_), Some(command), _) => of_command(alloc, command, refusal, last),
+        (Some(piece), None, _) if refusal == Refusal::Frame => frame_reason(alloc, piece),
         (Some(line), None, Speaker::Session(session)) if is_of_cursor(line) => {
             of_cursor(alloc, session, line, refusal)
         }

@@ -3,7 +3,7 @@ use crate::speaker::untagged;
 use ss_catalog::Refusal;
 use std::str;
 
-const REFUSALS: [Refusal; 16] = [
+const REFUSALS: [Refusal; 17] = [
     Refusal::Line,
     Refusal::Syntax,
     Refusal::Number,
@@ -20,12 +20,19 @@ const REFUSALS: [Refusal; 16] = [
     Refusal::StoreFull,
     Refusal::Busy,
     Refusal::NoCursor,
+    Refusal::Frame,
 ];
 
 /// What the first line of a reply says.
 #[derive(Clone, Copy)]
 pub enum Said {
     Refused(Refusal),
+    /// The stream of a frame has only so many events, and others come before that of the frame.
+    Gap(u64),
+    /// The event of a frame was there already.
+    Old,
+    /// The frame of an event, which stands behind the reply to it.
+    Framed,
     /// Something else, after which so many rows follow.
     Rows(u64),
 }
@@ -46,6 +53,7 @@ fn rows_after(head: &str) -> u64 {
     if first == "windows"
         || first == "list"
         || first == "series"
+        || first == "estimates"
         || first == "rows"
         || first == "values"
     {
@@ -60,11 +68,18 @@ fn rows_after(head: &str) -> u64 {
 /// What the first line of a reply says, given with its line end.
 pub fn read_reply(reply: &[u8]) -> Said {
     let text = untagged(str::from_utf8(reply).unwrap_or("").trim_end());
-    match text
+    if let Some(refusal) = text
         .strip_prefix("refused ")
         .and_then(|name| refusal_named(name))
     {
-        Some(refusal) => Said::Refused(refusal),
-        None => Said::Rows(rows_after(text)),
+        Said::Refused(refusal)
+    } else if let Some(events) = text.strip_prefix("gap ") {
+        Said::Gap(events.parse::<u64>().unwrap_or(0))
+    } else if text == "old" {
+        Said::Old
+    } else if text.starts_with("frame ") {
+        Said::Framed
+    } else {
+        Said::Rows(rows_after(text))
     }
 }

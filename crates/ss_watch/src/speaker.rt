@@ -38,10 +38,15 @@ fn session_named(word: &[u8]) -> Speaker {
     }
 }
 
+// Whether lines are those of sessions.
+fn has_sessions(form: Form) -> bool {
+    matches!(form, Form::Sessions { .. })
+}
+
 /// Who says a line, and what it says. A line without words or with `#` first is said by nobody in particular: it is no line of a
 /// session, and means nothing.
 pub fn spoken(form: Form, line: &[u8]) -> (Speaker, &[u8]) {
-    if form == Form::Lines || line.first() == Some(&b'#') || past_blanks(line).is_empty() {
+    if !has_sessions(form) || line.first() == Some(&b'#') || past_blanks(line).is_empty() {
         return (Speaker::Alone, line);
     }
     let (word, rest) = first_word(past_blanks(line));

@@ -52,18 +52,18 @@ fn landmark(alloc: Global, words: &[&str]) -> Result<String, AllocError> {
     )
 }
 
-// A form that asks for one of these, as a count or a sum, and has so many words.
+// A form that asks for a count or a sum, or the like, and has so many words: another word isn't one of those.
 fn asked(
     alloc: Global,
     form: &str,
     wanted: usize,
-    kinds: &str,
+    none: &str,
     words: &[&str],
 ) -> Result<String, AllocError> {
     let kind = word_at(words, 2);
     let hint = hint_on_kind(words);
-    let none = format!(in alloc; "\"{kind}\" is none of {kinds}{hint}")?;
-    unlike(alloc, form, wanted, words, none.as_str())
+    let other = format!(in alloc; "\"{kind}\" is {none}{hint}")?;
+    unlike(alloc, form, wanted, words, other.as_str())
 }
 
 fn query(alloc: Global, words: &[&str]) -> Result<String, AllocError> {
@@ -74,7 +74,7 @@ fn query(alloc: Global, words: &[&str]) -> Result<String, AllocError> {
         alloc,
         "query NAME count T1 T2, or sum, min or max,",
         5,
-        "count, sum, min, max and has",
+        "none of count, sum, min, max and has",
         words,
     )
 }
@@ -130,7 +130,23 @@ pub fn syntax(alloc: Global, words: &[&str]) -> Result<String, AllocError> {
             alloc,
             "series NAME count T1 T2 STEP, or sum, min or max,",
             6,
-            "count, sum, min and max",
+            "none of count, sum, min and max",
+            words,
+        )
+    } else if verb == "estimate" {
+        asked(
+            alloc,
+            "estimate NAME count T1 T2, or sum,",
+            5,
+            "neither count nor sum",
+            words,
+        )
+    } else if verb == "estimates" {
+        asked(
+            alloc,
+            "estimates NAME count T1 T2 STEP, or sum,",
+            6,
+            "neither count nor sum",
             words,
         )
     } else if verb == "windows" {

@@ -1,22 +1,23 @@
-// The lines of the input that wait for a reply.
+// The lines, or the frames, of the input that wait for a reply.
 ghost use Rattle.std.specs.Prelude.{◌≡◌, ◌↔◌, true, IsSome};
 
 use crate::speaker::{Speaker, is_of_cursor, spoken};
 use arrayvec::ArrayVec;
 use ss_arguments::Form;
 use ss_command::{Command, Ended, LONGEST_LINE, LineReader, parse};
+use ss_frames::{PieceReader, decode_piece};
 use std::alloc::Global;
 use std::collections::VecDeque;
 
-/// A line that gets a reply.
+/// A line, or a piece as long as a frame, that gets a reply.
 #[derive(Drop)]
 pub struct Heard {
     /// Its number in the input, from 1.
     pub number: u64,
     pub speaker: Speaker,
-    /// Its bytes, where it isn't too long: of a line of a session, those that follow who says it.
+    /// Its bytes, where it isn't a line that is too long: of a line of a session, those that follow who says it.
     pub line: Option<ArrayVec<u8, LONGEST_LINE>>,
-    /// What it asks for, where it is a command.
+    /// What it asks for, where it is a command, or a frame.
     pub command: Option<Command>,
 }
 
@@ -79,13 +80,26 @@ fn heard_line(form: Form, number: u64, line: Option<&[u8]>) -> Option<Heard> {
     }
 }
 
-/// Cuts the input into lines as they are read, and keeps those that wait for a reply. Where memory runs out, it keeps none
-/// from there on.
+// A piece as long as a frame, or the last one.
+fn heard_piece(number: u64, piece: &[u8]) -> Heard {
+    let mut kept = ArrayVec::new();
+    let _ = kept.try_extend_from_slice(piece);
+    Heard {
+        number,
+        speaker: Speaker::Alone,
+        line: Some(kept),
+        command: decode_piece(piece).map(|frame| Command::Do(frame.event)),
+    }
+}
+
+/// Cuts the input into lines, or into pieces as long as a frame, as they are read, and keeps those that wait for a reply. Where
+/// memory runs out, it keeps none from there on.
 #[derive(Drop)]
 pub struct Waiting {
     form: Form,
-    reader: LineReader,
-    lines: VecDeque<Heard>,
+    lines: LineReader,
+    pieces: PieceReader,
+    waiting: VecDeque<Heard>,
     count: u64,
     is_lost: bool,
 }
@@ -94,41 +108,76 @@ impl Waiting {
     pub fn new(alloc: Global, form: Form) -> Waiting {
         Waiting {
             form,
-            reader: LineReader::new(),
-            lines: VecDeque::new(alloc),
+            lines: LineReader::new(),
+            pieces: PieceReader::new(),
+            waiting: VecDeque::new(alloc),
             count: 0,
             is_lost: false,
         }
     }
 
-    /// How many lines were read.
+    /// How many lines or pieces were read.
     pub fn count(&self) -> u64 {
         self.count
     }
 
-    // Keeps a line, if it gets a reply.
+    // Keeps a line or a piece, if it gets a reply.
     fn keep(&mut self, heard: Option<Heard>) {
         let Some(heard) = heard else {
             return;
         };
         if self.is_lost
-            || self.lines.len() >= MOST_WAITING
-            || self.lines.push_back(heard).is_err()
+            || self.waiting.len() >= MOST_WAITING
+            || self.waiting.push_back(heard).is_err()
         {
             self.is_lost = true;
-            self.lines.clear();
+            self.waiting.clear();
         }
     }
 
+    // Takes the line that has ended.
+    fn hear_line(&mut self, ended: Ended)
+        requires ended { self.old.lines.ended ≡ true }
+        requires whole { ended ≡ Ended.Whole ↔ IsSome self.old.lines.line }
+    {
+        self.count = self.count.saturating_add(1);
+        let heard = heard_line(self.form, self.count, line_of(&self.lines, ended));
+        self.keep(heard);
+    }
+
+    // Takes the piece that has ended.
+    fn hear_piece(&mut self)
+        requires { self.old.pieces.ended ≡ true }
+    {
+        self.count = self.count.saturating_add(1);
+        let heard = heard_piece(self.count, self.pieces.bytes());
+        self.keep(Some(heard));
+    }
+
     // Takes bytes up to and with the first line end, and says how many.
-    fn advance(&mut self, piece: &[u8]) -> usize {
-        let (taken, ended) = self.reader.feed(piece);
+    fn advance_line(&mut self, bytes: &[u8]) -> usize {
+        let (taken, ended) = self.lines.feed(bytes);
         if let Some(ended) = ended {
-            self.count = self.count.saturating_add(1);
-            let heard = heard_line(self.form, self.count, line_of(&self.reader, ended));
-            self.keep(heard);
+            self.hear_line(ended);
         }
         taken
+    }
+
+    // Takes bytes up to the end of a piece, and says how many.
+    fn advance_piece(&mut self, bytes: &[u8]) -> usize {
+        let (taken, has_ended) = self.pieces.feed(bytes);
+        if has_ended {
+            self.hear_piece();
+        }
+        taken
+    }
+
+    // Takes bytes up to the end of a line, or of a piece, and says how many.
+    fn advance(&mut self, bytes: &[u8]) -> usize {
+        match self.form {
+            Form::Follow => self.advance_piece(bytes),
+            _ => self.advance_line(bytes),
+        }
     }
 
     /// Takes bytes that were read.
@@ -145,15 +194,22 @@ impl Waiting {
 
     /// Takes the end of the input.
     pub fn finish(&mut self) {
-        if let Some(ended) = self.reader.finish() {
-            self.count = self.count.saturating_add(1);
-            let heard = heard_line(self.form, self.count, line_of(&self.reader, ended));
-            self.keep(heard);
+        if self.form == Form::Follow {
+            if self.pieces.finish() {
+                self.hear_piece();
+            }
+        } else if let Some(ended) = self.lines.finish() {
+            self.hear_line(ended);
         }
     }
 
-    /// The line that the next reply is to, where it is known.
+    /// What the next reply is to, where it is known.
     pub fn next(&mut self) -> Option<Heard> {
-        self.lines.pop_front()
+        self.waiting.pop_front()
+    }
+
+    /// How many lines or pieces wait.
+    pub fn len(&self) -> usize {
+        self.waiting.len()
     }
 }

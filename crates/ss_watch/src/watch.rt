@@ -1,5 +1,5 @@
 // What standard error says while the program runs: why lines are refused, how far the run is, and which store it is.
-use crate::explain::{Counts, Explained, Explainer, MOST_EXPLAINED};
+use crate::explain::{Counts, Explained, Explainer, MOST_EXPLAINED, Unit};
 use crate::progress::{Done, Progress, WIDTH, progress_text};
 use crate::terminals::Terminals;
 use ss_arguments::Form;
@@ -9,6 +9,10 @@ use std::rt::Clock;
 // What is said to who types commands.
 const HINT: &str = "Commands go one a line: summarystore --help lists them, and Ctrl-D ends.\n";
 
+// The same, where frames are read.
+const HINT_ON_FRAMES: &str =
+    "Frames are read, which are no text: the mode frames writes them. Ctrl-D ends.\n";
+
 /// Watches a run from beside it, and says on standard error what a person wants to know. It is told what the devices
 /// did, after they did it, and changes nothing of it.
 #[derive(Drop)]
@@ -17,6 +21,7 @@ pub struct Watch<'a, R> {
     store: &'a str,
     terminals: Terminals,
     explains: bool,
+    form: Form,
     // Whether the store is made by this run, and that has still to be said.
     is_new: bool,
     // Whether it still has to be said how commands are typed.
@@ -29,13 +34,17 @@ pub struct Watch<'a, R> {
     syncs: u64,
 }
 
-// What is said at the end, where so many refused lines weren't explained.
+// What is said at the end, where so many refused lines or frames weren't explained.
 fn ending(alloc: Global, counts: Counts, more: u64) -> Result<String, AllocError> {
-    let (refused, lines) = (counts.refused, counts.lines);
+    let (refused, read, many) = (counts.refused, counts.read, counts.unit.many());
+    let what = match counts.unit {
+        Unit::Line => "refused",
+        Unit::Frame => "refused, or too early",
+    };
     if more > 0 {
-        format!(in alloc; "and {more} more\n{refused} of {lines} lines refused\n")
+        format!(in alloc; "and {more} more\n{refused} of {read} {many} {what}\n")
     } else {
-        format!(in alloc; "{refused} of {lines} lines refused\n")
+        format!(in alloc; "{refused} of {read} {many} {what}\n")
     }
 }
 
@@ -72,6 +81,7 @@ impl<'a, R: Eprint + Clock + AllocGlobal> Watch<'a, R> {
             store,
             terminals,
             explains: explains || terminals.error,
+            form,
             is_new,
             greets: terminals.input,
             is_inside: false,
@@ -104,7 +114,7 @@ impl<'a, R: Eprint + Clock + AllocGlobal> Watch<'a, R> {
 
     // Shows how far the run is, where that is due. A person who types sees it by the replies.
     fn renew(&mut self) {
-        if !self.terminals.error || self.terminals.input && self.explainer.counts().lines > 0 {
+        if !self.terminals.error || self.terminals.input && self.explainer.counts().read > 0 {
             return;
         }
         let Some(time) = self.progress.due(self.rt) else {
@@ -132,12 +142,17 @@ impl<'a, R: Eprint + Clock + AllocGlobal> Watch<'a, R> {
     // Says how commands are typed.
     fn greet(&mut self) {
         let store = self.store;
-        self.print(format!(in self.rt.alloc(); "summarystore: the store {store} is open\n{HINT}"));
+        let hint = if self.form == Form::Follow {
+            HINT_ON_FRAMES
+        } else {
+            HINT
+        };
+        self.print(format!(in self.rt.alloc(); "summarystore: the store {store} is open\n{hint}"));
     }
 
     /// The input is about to be read.
     pub fn begin_read(&mut self) {
-        if self.explainer.counts().lines == 0 {
+        if self.explainer.counts().read == 0 {
             self.progress.restart(self.rt);
         }
         if self.greets {
@@ -150,6 +165,7 @@ impl<'a, R: Eprint + Clock + AllocGlobal> Watch<'a, R> {
     /// These bytes of the input were read, and none at its end.
     pub fn end_read(&mut self, bytes: &[u8]) {
         self.explainer.read(bytes);
+        self.say_misspelt(bytes.len().saturating_add(1));
         self.renew();
     }
 
@@ -160,31 +176,42 @@ impl<'a, R: Eprint + Clock + AllocGlobal> Watch<'a, R> {
         }
     }
 
-    // Says why a line was refused.
+    // Says why a line or a frame was refused.
     fn say(&mut self, explained: &Explained) {
+        if !self.explains {
+            return;
+        }
         self.clear();
-        let (number, name, reason) = (
+        let (one, number, word, reason) = (
+            explained.unit.one(),
             explained.number,
-            explained.refusal.text(),
+            explained.word,
             explained.reason.as_str(),
         );
-        self.print(format!(in self.rt.alloc(); "line {number}: {name}: {reason}\n"));
+        self.print(format!(in self.rt.alloc(); "{one} {number}: {word}: {reason}\n"));
+    }
+
+    // Says why lines are refused by themselves, where nothing is replied to them and there are at most so many.
+    fn say_misspelt(&mut self, most: usize) {
+        for _ in 0..most {
+            match self.explainer.misspelt() {
+                Some(explained) => self.say(&explained),
+                None => break,
+            }
+        }
     }
 
     // So many bytes of a line of a reply were written, or of the rest of one. A line is heard with its first bytes.
     fn end_line(&mut self, line: &[u8], count: usize) {
         let is_first = !self.is_inside;
         self.is_inside = count < line.len();
-        if is_first
-            && let Some(explained) = self.explainer.reply(line)
-            && self.explains
-        {
+        if is_first && let Some(explained) = self.explainer.reply(line) {
             self.say(&explained);
         }
     }
 
-    /// So many bytes of a piece of the report were written, which has one line or several.
-    pub fn end_put(&mut self, piece: &[u8], count: usize) {
+    // Takes that so many bytes of the lines of a piece of the report were written.
+    fn end_lines(&mut self, piece: &[u8], count: usize) {
         let (mut left, mut written) = (piece, count);
         for _ in 0..piece.len() {
             if written == 0 || left.is_empty() {
@@ -194,6 +221,15 @@ impl<'a, R: Eprint + Clock + AllocGlobal> Watch<'a, R> {
             self.end_line(line, written);
             written = written.saturating_sub(line.len());
             left = rest;
+        }
+    }
+
+    /// So many bytes of a piece of the report were written, which has one line or several, or a frame or several.
+    pub fn end_put(&mut self, piece: &[u8], count: usize) {
+        if self.form == Form::Frames {
+            self.explainer.write(count);
+        } else {
+            self.end_lines(piece, count);
         }
         self.renew();
     }
@@ -215,9 +251,12 @@ impl<'a, R: Eprint + Clock + AllocGlobal> Watch<'a, R> {
         self.renew();
     }
 
-    /// Says at the end how many lines were refused, and answers it.
-    pub fn finish(&mut self) -> u64 {
+    /// Says at the end how many lines or frames were refused, and answers it. The run was done, or something ended it before.
+    pub fn finish(&mut self, is_done: bool) -> u64 {
         self.clear();
+        if is_done {
+            self.explainer.finish();
+        }
         let counts = self.explainer.counts();
         if counts.refused > 0 && self.explains {
             let more = counts.refused.saturating_sub(self.explainer.most());

@@ -15,5 +15,8 @@ returns-clause-checks g c =
     checks-seen c.args.query.now c.args.end c.args.w.now c.in_ok-seen.seen c.shows.result c.shows.ensures {before = g.D.Disk.seen c.args.disk.now}
     c.args.store.now c.requires.one_disk runs c.in_ok-seen.ensures.sees
 
+pub returns-clause-right : goal.returns-clause-right
+returns-clause-right g c is = (c.in_ok-seen.seen, c.shows.ensures.0 is)
+
 pub returns-clause-refused : goal.returns-clause-refused
 returns-clause-refused g c runs r = none-same c.in_ok-seen.seen c.shows.result (Refused r) _ (c.in_ok-seen.ensures.refused runs r)
