@@ -1,5 +1,5 @@
 -- What a line brings, by what it means, and what sending it leaves.
-use Rattle.std.proofs.Common.{⊎_elim, ◌≡◌, ℕ, ◌<◌, Bool, ◌++◌, ◌↔◌, List, [], ◌∷◌, length, Option, Some, None, IsSome, Ok, Err, Result}
+use Rattle.std.proofs.Common.{⊎_elim, ◌≡◌, ℕ, ◌<◌, Bool, ◌++◌, ◌↔◌, List, [], ◌∷◌, length, Option, Some, None, IsSome, Ok, Err, Result, false}
 use Rattle.std.proofs.Common.{IfErr, refl, sym, ap, ◌∙◌, subst, arith, inl, inr}
 use Rattle.std.proofs.lemmas.Bool.{cases_lt, cond-true, cond-false, le-leb, lt-leb, lt-ltb}
 use Rattle.std.proofs.lemmas.List.{append-nil, length-append}
@@ -49,24 +49,7 @@ use Rattle.ss_store.proofs.AskedStreams.{refuses_query_held-is}
 use Rattle.ss_store.proofs.Calls.{Turns-reads, Turns-weaker}
 use Rattle.ss_store.proofs.KeptStates.{AllAgree-recovered}
 use Rattle.ss_program.specs.Answer.{Adds, IsOpen, Replies, at_sink}
-use Rattle.ss_program.specs.Line.{
-  Brought,
-  History,
-  accepted_event,
-  answer_replies,
-  brings,
-  command_brings,
-  history_after,
-  kept_brings,
-  line_text,
-  meaning_brings,
-  refused,
-  only_replies,
-  text_said,
-  the_event,
-  unless_refused,
-  window_rows,
-}
+use Rattle.ss_program.specs.Line.{accepted_in, command_in, framed_replies, answer_replies, brings, brings_in, Brought, command_brings, History, history_after, kept_in, line_text, meaning_in, only_replies, refused, text_said, the_event, unless_refused, window_rows}
 use Rattle.ss_program.specs.Sent.{appended, AppendsLess, Sends}
 use Rattle.ss_program.specs.Progress.{StandsAround}
 use Rattle.ss_program.specs.Status.{IsApplyStop, IsDiskStop, IsShowStop, IsStop}
@@ -90,14 +73,14 @@ pub history-still : (history : History) (brought : Brought) → brought.event �
 history-still history brought none = ap (λ e. history ++ the_event e) none ∙ append-nil history
 
 -- an event that is refused brings its refusal, and no event
-pub brings-refused : (history : History) (event : Event) (refusal : Refusal) → refuses (state history) event ≡ Some refusal →
-    command_brings history (Do event) ≡ refused refusal
-brings-refused history event refusal is = ap (λ r. unless_refused r (accepted_event history event)) is
+pub brings-refused : (framed : Bool) (history : History) (event : Event) (refusal : Refusal) → refuses (state history) event ≡ Some refusal →
+    command_in framed history (Do event) ≡ refused refusal
+brings-refused framed history event refusal is = ap (λ r. unless_refused r (accepted_in framed history event)) is
 
 -- and one that isn't brings itself
-pub brings-accepted : (history : History) (event : Event) → refuses (state history) event ≡ None →
-    command_brings history (Do event) ≡ accepted_event history event
-brings-accepted history event is = ap (λ r. unless_refused r (accepted_event history event)) is
+pub brings-accepted : (framed : Bool) (history : History) (event : Event) → refuses (state history) event ≡ None →
+    command_in framed history (Do event) ≡ accepted_in framed history event
+brings-accepted framed history event is = ap (λ r. unless_refused r (accepted_in framed history event)) is
 
 -- which of the two it is, by what the store answers
 pub not_refused : (result : Result Ack ApplyError) (refusal : Option Refusal) →
@@ -107,8 +90,9 @@ not_refused result None why other = refl
 not_refused result (Some r) why other = absurd (other r ((why r).1 refl))
 
 -- an event that was accepted is one
-pub IsSome-accepted : (history : History) (event : Event) → refuses (state history) event ≡ None → IsSome (command_brings history (Do event)).event
-IsSome-accepted history event is = subst (λ b. IsSome b.event) (sym (brings-accepted history event is)) refl
+pub IsSome-accepted : (framed : Bool) (history : History) (event : Event) → refuses (state history) event ≡ None →
+    IsSome (command_in framed history (Do event)).event
+IsSome-accepted framed history event is = subst (λ b. IsSome b.event) (sym (brings-accepted framed history event is)) refl
 
 -- a command that only reads brings no event
 unless_refused-event : (refusal : Option Refusal) (rows : List Reply) → (unless_refused refusal (only_replies rows)).event ≡ None
@@ -195,9 +179,10 @@ line-kept kept line some = elim (cases_lt LONGEST_LINE (length line)) [
 ]
 
 -- so what a line brings as it is kept is what it brings
-pub kept-brings : (history : History) (o : Option (List ℕ)) (line : List ℕ) → o ≡ unless_long line → kept_brings history o ≡ brings history line
-kept-brings history None line is = sym (ap (λ m. meaning_brings history m) (meaning-long line is))
-kept-brings history (Some bytes) line is = ap (λ l. brings history l) (line-kept bytes line is)
+pub kept-brings : (framed : Bool) (history : History) (o : Option (List ℕ)) (line : List ℕ) → o ≡ unless_long line →
+    kept_in framed history o ≡ brings_in framed history line
+kept-brings framed history None line is = sym (ap (λ m. meaning_in framed history m) (meaning-long line is))
+kept-brings framed history (Some bytes) line is = ap (λ l. brings_in framed history l) (line-kept bytes line is)
 
 -- what sending a reply answers
 pub Sends-at_sink : (before after : Option (List ℕ)) (text : List ℕ) (sent : Result Unit Failed) → Sends before after text sent →
@@ -275,12 +260,16 @@ module _ (speaker : Option ℕ) where
   Replies-stopped tells brought held InputLimit stop event some = absurd stop
 
   -- an event has a reply
-  pub event-some : (history : History) (event : Event) (refusal : Option Refusal) → IsSome (unless_refused refusal (accepted_event history event)).event →
-      0 < length (text_said speaker (unless_refused refusal (accepted_event history event)))
-  event-some history event None some =
+  pub event-some : (framed : Bool) (history : History) (event : Event) (refusal : Option Refusal) → IsSome (unless_refused refusal (accepted_in framed history event)).event →
+      0 < length (text_said speaker (unless_refused refusal (accepted_in framed history event)))
+  event-some framed history event None some =
       let reply = AckLine (ack_of (event_name event) (state (history ++ added event ∷ []))) in
-      omega (arith, said_line-some speaker reply, length-append (said_line speaker reply) [])
-  event-some history event (Some r) some = cc
+      omega (
+        arith,
+        said_line-some speaker reply,
+        length-append (said_line speaker reply) (flat_map (said_line speaker) (framed_replies framed history event)),
+      )
+  event-some framed history event (Some r) some = cc
 
   -- and so has a query
   pub one_reply-some : (reply : Reply) → 0 < length (text_said speaker (only_replies (reply ∷ [])))
@@ -296,21 +285,21 @@ module _ (speaker : Option ℕ) where
   ask-some history query =
       answer-some (refuses_query (state history) query) (outcome_of (state history) query) (answer-known (state history) query)
 
-  pub meaning-some : (history : History) (means : Result (Option Command) Refusal) → IsSome (meaning_brings history means).event →
-      0 < length (text_said speaker (meaning_brings history means))
-  meaning-some history (Err refusal) some = cc
-  meaning-some history (Ok None) some = cc
-  meaning-some history (Ok (Some (Do event))) some = event-some history event (refuses (state history) event) some
-  meaning-some history (Ok (Some (Ask query))) some = let none = ask-event history query in cc
-  meaning-some history (Ok (Some (Certify query end))) some = let none = certify-event history query end in cc
-  meaning-some history (Ok (Some (AskRows series))) some = let none = series-event history series in cc
-  meaning-some history (Ok (Some (Last name))) some = let none = last-event history name in cc
-  meaning-some history (Ok (Some (Values name from to))) some = let none = values-event history name from to in cc
-  meaning-some history (Ok (Some (Windows name))) some = let none = windows-event history name in cc
-  meaning-some history (Ok (Some ListAll)) some = cc
+  pub meaning-some : (framed : Bool) (history : History) (means : Result (Option Command) Refusal) → IsSome (meaning_in framed history means).event →
+      0 < length (text_said speaker (meaning_in framed history means))
+  meaning-some framed history (Err refusal) some = cc
+  meaning-some framed history (Ok None) some = cc
+  meaning-some framed history (Ok (Some (Do event))) some = event-some framed history event (refuses (state history) event) some
+  meaning-some framed history (Ok (Some (Ask query))) some = let none = ask-event history query in cc
+  meaning-some framed history (Ok (Some (Certify query end))) some = let none = certify-event history query end in cc
+  meaning-some framed history (Ok (Some (AskRows series))) some = let none = series-event history series in cc
+  meaning-some framed history (Ok (Some (Last name))) some = let none = last-event history name in cc
+  meaning-some framed history (Ok (Some (Values name from to))) some = let none = values-event history name from to in cc
+  meaning-some framed history (Ok (Some (Windows name))) some = let none = windows-event history name in cc
+  meaning-some framed history (Ok (Some ListAll)) some = cc
 
 pub text-some : (history : History) (line : List ℕ) → IsSome (brings history line).event → 0 < length (line_text history line)
-text-some history line some = meaning-some None history (meaning line) some
+text-some history line some = meaning-some None false history (meaning line) some
 
 -- A call that only reads adds nothing, where the line brings no event.
 pub Adds-reads : {T : Type 0} (history : History) (brought : Brought) (old new : Told) (result : Result T Status) →
@@ -333,7 +322,7 @@ pub Adds-applied : {T : Type 0} (history : History) (event : Event) (old new : T
     Adds history (command_brings history (Do event)) old new result
 Adds-applied history event old new result accepted turns =
     let brought = command_brings history (Do event) in
-    let after = λ (has : Stands history old.content). ap (λ (b : Brought). history_after history b) (sym (brings-accepted history event (accepted has))) in
+    let after = λ (has : Stands history old.content). ap (λ (b : Brought). history_after history b) (sym (brings-accepted false history event (accepted has))) in
     Turns-weaker (Stands history) (Stands history) (StandsForEither history event) (StandsAround history brought) (Stands (history ++ added event ∷ []))
     (Stands (history_after history brought)) old new result (λ has. has)
     (λ has image either. ⊎_elim (λ is. inl is) (λ is. inr (subst (λ h. Stands h image) (after has) is)) either)

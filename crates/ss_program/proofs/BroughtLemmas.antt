@@ -1,28 +1,6 @@
 -- A line of a session, by what it brings.
-use Rattle.std.proofs.Common.{
-  ◌⊎◌,
-  ◌≡◌,
-  ℕ,
-  ◌<◌,
-  ◌++◌,
-  List,
-  [],
-  ◌∷◌,
-  length,
-  Option,
-  Some,
-  None,
-  IsSome,
-  Result,
-  Ok,
-  Err,
-  refl,
-  sym,
-  ap,
-  ◌∙◌,
-  subst,
-  arith,
-}
+use Rattle.std.proofs.Common.{◌⊎◌, ◌≡◌, ℕ, Bool, ◌<◌, ◌++◌, List, [], ◌∷◌, length, Option, Some, None, IsSome, Result, Ok, Err, refl, sym, ap}
+use Rattle.std.proofs.Common.{◌∙◌, subst, arith}
 use Rattle.std.proofs.lemmas.List.{append-nil}
 use Rattle.std.specs.List.{flat_map}
 use Rattle.std.specs.Prelude.{IsTrue, OnOk}
@@ -30,7 +8,7 @@ use Rattle.ss_catalog.specs.declared.event.Event.{Event}
 use Rattle.ss_command.specs.declared.command.Command.TheVariants.{Do}
 use Rattle.ss_model.specs.Refusals.{refuses}
 use Rattle.ss_model.specs.State.{state}
-use Rattle.ss_outside.proofs.CrashLemmas.{now, of_content, reads-none}
+use Rattle.ss_outside.proofs.CrashLemmas.{of_content, reads-none}
 use Rattle.ss_outside.specs.Crash.{KnowsNow}
 use Rattle.ss_journal.proofs.ShownLemmas.{shown-sealed}
 use Rattle.ss_outside.specs.Disk.{DiskView, Told}
@@ -42,11 +20,11 @@ use Rattle.ss_store.specs.Kept.{StoreState}
 use Rattle.ss_store.specs.Recover.{Stands}
 use Rattle.ss_program.specs.Amid.{Amid, GoesAmid, IsAmid, Owed, StagesBrought, TakesBrought, TakesNone, TakesTurn, amid, owed_by, with_text}
 use Rattle.ss_program.specs.Answer.{IsOpen}
-use Rattle.ss_program.specs.Line.{Brought, History, command_brings, nothing, text_said}
-use Rattle.ss_program.specs.Progress.{IsAlone, StandsWithin, StopsIn}
+use Rattle.ss_program.specs.Line.{Brought, History, command_in, history_after, nothing, text_said}
+use Rattle.ss_program.specs.Progress.{IsAlone, StandsAround, StandsWithin, StopsIn}
 use Rattle.ss_program.specs.Sent.{appended}
 use Rattle.ss_program.specs.Session.{after_line, after_lines, text_of}
-use Rattle.ss_program.specs.Talk.{Talk, Turn, after_turn, turn_brought, turn_of}
+use Rattle.ss_program.specs.Talk.{Talk, Turn, after_turn, silent, turn_brought, turn_of}
 use Rattle.ss_sessions.specs.Cursors.{Cursors}
 use Rattle.ss_arguments.specs.declared.mode.Sealing.{Sealing}
 use Rattle.ss_arguments.specs.declared.mode.Sealing.TheVariants.{Each, Shared}
@@ -131,27 +109,42 @@ module _ (turn : Talk → Turn) (was is : RecordsState) (waiting : Option (List 
         (subst (λ (t : Turn). 0 < length t.says) (sym known) (some here at.shown)));
   }
 
+-- the same by what it brings
+abbrev pub Bringing : (History → Brought) → RecordsState → RecordsState → {T : Type 0} → Result T Status → Told → Told → Type 0
+Bringing brought was is result old new = (history : History) →
+    TurnsHistory was is history (StandsAround history (brought history)) (history_after history (brought history)) old new result
+
 module _ (speaker : Option ℕ) (brought : History → Brought) (was is : RecordsState) (waiting : Option (List ℕ)) (held : Option (List ℕ)) (old new : Told)
     (knows : KnowsNow new) where
-  -- what the line brings is staged, and its one reply is owed
+  -- what the line brings is staged, and what is said to it is owed
+  pub TakesBrought-text : {T : Type 0} (value : T) (text : List ℕ) (u : Unit {0}) → Bringing brought was is (given value) old new →
+      ((history : History) → Stands history (shown_by was old.content) → text_said speaker (brought history) ≡ text) →
+      TakesBrought speaker brought (amid was (owed_by waiting) held) (amid is (with_text (owed_by waiting) text) held) (Ok u) old new
+  TakesBrought-text value text u turns says cursors =
+      TakesTurn-owed (λ talk. turn_brought speaker talk (brought talk.history)) was is waiting held cursors old new knows value cursors text u
+      (λ here. turns here.history) (λ here same stands. (says here.history stands, same))
+
+  -- which is its one reply
   pub TakesBrought-owed : (reply : Reply) (u : Unit {0}) → StagesBrought brought was is (Ok reply) old new →
       TakesBrought speaker brought (amid was (owed_by waiting) held) (amid is (with_text (owed_by waiting) (said_line speaker reply)) held) (Ok u) old new
-  TakesBrought-owed reply u stages cursors =
-      TakesTurn-owed (λ talk. turn_brought speaker talk (brought talk.history)) was is waiting held cursors old new knows reply cursors
-      (said_line speaker reply) u (λ here. stages.turns here.history)
-      (λ here same stands. (
-        ap (λ rs. flat_map (said_line speaker) rs) (stages.reply here.history stands) ∙ append-nil (said_line speaker reply),
-        same,
-      ))
+  TakesBrought-owed reply u stages =
+      TakesBrought-text reply (said_line speaker reply) u stages.turns (λ history stands.
+      ap (λ rs. flat_map (said_line speaker) rs) (stages.reply history stands) ∙ append-nil (said_line speaker reply))
 
   -- the run stops at the line, to which something is said
+  pub TakesBrought-halted : {T : Type 0} (left : Owed) (status : Status) → (status ≡ OutOfMemory → ⊥) →
+      ((history : History) → Stands history (shown_by was old.content) → 0 < length (text_said speaker (brought history))) →
+      Bringing brought was is (halted {T = T} status) old new →
+      TakesBrought speaker brought (amid was (owed_by waiting) held) (amid is left held) (Err status) old new
+  TakesBrought-halted {T = T} left status other some turns cursors =
+      TakesTurn-stopped (λ talk. turn_brought speaker talk (brought talk.history)) was is waiting held cursors old new knows {T = T}
+      (amid is left held cursors) status refl other (λ here stands. some here.history stands) (λ here. turns here.history)
+
   pub TakesBrought-stopped : (left : Owed) (status : Status) → (status ≡ OutOfMemory → ⊥) →
       ((history : History) → Stands history (shown_by was old.content) → 0 < length (text_said speaker (brought history))) →
       StagesBrought brought was is (Err status) old new →
       TakesBrought speaker brought (amid was (owed_by waiting) held) (amid is left held) (Err status) old new
-  TakesBrought-stopped left status other some stages cursors =
-      TakesTurn-stopped (λ talk. turn_brought speaker talk (brought talk.history)) was is waiting held cursors old new knows {T = Reply}
-      (amid is left held cursors) status refl other (λ here stands. some here.history stands) (λ here. stages.turns here.history)
+  TakesBrought-stopped left status other some stages = TakesBrought-halted {T = Reply} left status other some stages.turns
 
 -- a line at which nothing is done: it is owed one reply
 pub TakesBrought-still : {was : RecordsState} (speaker : Option ℕ) (brought : Brought) (waiting : Option (List ℕ)) (held : Option (List ℕ)) (disk : Told)
@@ -226,6 +219,16 @@ pub TakesBrought-silent : (speaker : Option ℕ) (was : RecordsState) (waiting :
     KnowsNow disk → TakesBrought speaker (λ history. nothing) (amid was (owed_by waiting) held) (amid was (owed_by waiting) held) (Ok u) disk disk
 TakesBrought-silent speaker was waiting held disk u knows cursors sealing talk ls before line turn =
     record { goes = λ at. silent-goes speaker was held cursors disk knows talk ls line before turn sealing waiting at; stops = tt }
+
+-- the same of a line whose turn is silent after the history that records show
+pub TakesTurn-silent : (turn : Talk → Turn) (was : RecordsState) (waiting : Option (List ℕ)) (held : Option (List ℕ)) (cursors : Cursors) (disk : Told)
+    (u : Unit {0}) → KnowsNow disk → ((here : Talk) → Stands here.history (shown_by was disk.content) → turn here ≡ silent here) →
+    TakesTurn turn (amid was (owed_by waiting) held cursors) (amid was (owed_by waiting) held cursors) (Ok u) disk disk
+TakesTurn-silent turn was waiting held cursors disk u knows none sealing talk ls before line is = record {
+  goes = λ at.
+      silent-goes None was held cursors disk knows talk ls line before (is ∙ none (after_lines talk ls) at.shown) sealing waiting at;
+  stops = tt;
+}
 
 module _ {was is : RecordsState} {owed left : Owed} {held after : Option (List ℕ)} {old new : Told} (cursors : Cursors) (turn : Talk → Turn) where
   -- what was brought to the disk before a line failed, or was cut off
@@ -305,16 +308,16 @@ module _ {was mid is : RecordsState} {owed between left : Owed} {held middle aft
       TakesTurn-next cursors (λ talk. turn_brought speaker talk (brought talk.history)) u result first (second cursors)
 
 -- memory ran out at an event
-pub TakesBrought-starved : {was is : RecordsState} {owed left : Owed} {held after : Option (List ℕ)} {old new : Told} {u : Unit {0}} (speaker : Option ℕ)
-    (event : Event) → KnowsNow new → left.text ≡ [] → shown_by is new.content ≡ new.content →
-    ((history : History) → Stands history (shown_by was old.content) → IsSome (command_brings history (Do event)).event) →
+pub TakesBrought-starved : {was is : RecordsState} {owed left : Owed} {held after : Option (List ℕ)} {old new : Told} {u : Unit {0}}
+    (framed : Bool) (speaker : Option ℕ) (event : Event) → KnowsNow new → left.text ≡ [] → shown_by is new.content ≡ new.content →
+    ((history : History) → Stands history (shown_by was old.content) → IsSome (command_in framed history (Do event)).event) →
     TakesNone (amid was owed held) (amid is left after) (Ok u) old new →
-    TakesBrought speaker (λ history. command_brings history (Do event)) (amid was owed held) (amid is left after) (Err OutOfMemory) old new
-TakesBrought-starved speaker event knows none sealed accepted takes cursors =
-    TakesTurn-starved cursors (λ talk. turn_brought speaker talk (command_brings talk.history (Do event))) knows none sealed
+    TakesBrought speaker (λ history. command_in framed history (Do event)) (amid was owed held) (amid is left after) (Err OutOfMemory) old new
+TakesBrought-starved framed speaker event knows none sealed accepted takes cursors =
+    TakesTurn-starved cursors (λ talk. turn_brought speaker talk (command_in framed talk.history (Do event))) knows none sealed
     (λ here same stands. (
       accepted here.history stands,
-      event-some speaker here.history event (refuses (state here.history) event) (accepted here.history stands),
+      event-some speaker framed here.history event (refuses (state here.history) event) (accepted here.history stands),
     )) takes
 
 -- where nothing is staged, what records show is the content

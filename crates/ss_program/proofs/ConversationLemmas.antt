@@ -3,15 +3,26 @@ use Rattle.std.proofs.Common.{◌≡◌, ◌∙◌, ◌++◌, ℕ, List, [], ◌
 use Rattle.std.proofs.lemmas.List.{append-nil}
 use Rattle.std.specs.Prelude.{codes, if◌then◌else◌, option_map}
 use Rattle.ss_arguments.specs.declared.mode.Form.{Form}
-use Rattle.ss_arguments.specs.declared.mode.Form.TheVariants.{Lines, Sessions}
+use Rattle.ss_arguments.specs.declared.mode.Form.TheVariants.{Lines, Sessions, Frames, Follow}
 use Rattle.ss_catalog.specs.declared.event.Event.{Event}
+use Rattle.ss_catalog.specs.declared.event.Event.TheVariants.{Create, Value, Open, Close, Drop}
 use Rattle.ss_catalog.specs.declared.refusal.Refusal.{Refusal}
 use Rattle.ss_catalog.specs.declared.refusal.Refusal.TheVariants as refusals
 use Rattle.ss_command.specs.Grammar.{◌>>=◌, meaning, name_of}
 use Rattle.ss_command.specs.LineState.{unless_long}
 use Rattle.ss_command.specs.Words.{first_word, is_word, rest_of, words}
+use Rattle.ss_command.specs.Printed.{IsSayable}
+use Rattle.ss_command.proofs.SayLemmas.{meant-sayable}
 use Rattle.ss_command.specs.declared.command.Command.{Command}
-use Rattle.ss_model.specs.Refusals.{IsHistory}
+use Rattle.ss_command.specs.declared.command.Command.TheVariants.{Do, Ask, Certify, Series as AskRows, Last, Values, Windows, List as ListAll}
+use Rattle.ss_frames.proofs.FrameLemmas.{SpellsFrame-frame_in}
+use Rattle.ss_frames.specs.Frame.{FrameState, IsValidFrame, frame_in}
+use Rattle.ss_model.specs.History.{CanBeSaid}
+use Rattle.ss_model.specs.Refusals.{IsHistory, refuses}
+use Rattle.ss_model.specs.State.{state}
+use Rattle.ss_replica.specs.Offers.{due_in}
+use Rattle.ss_replica.specs.declared.judging.Due.{Due}
+use Rattle.ss_replica.specs.declared.judging.Due.TheVariants.{Next, Old as OldFrame, Gap}
 use Rattle.ss_sessions.specs.Cursors.{Cursors}
 use Rattle.ss_sessions.specs.Grammar.{asked_of, close_of, form_of, next_of, open_of, said_of, spoken_of}
 use Rattle.ss_sessions.specs.declared.order.Order.{Order}
@@ -19,13 +30,13 @@ use Rattle.ss_sessions.specs.declared.order.Order.TheVariants as orders
 use Rattle.ss_sessions.specs.declared.order.Spoken.{Spoken}
 use Rattle.ss_sessions.specs.declared.order.Spoken.TheVariants.{Nothing, Unaddressed, To}
 use Rattle.ss_program.specs.Asked.{IsAsked}
-use Rattle.ss_program.specs.Cursor.{order_brings}
-use Rattle.ss_program.specs.Line.{History, brings, command_brings, meaning_brings, the_event}
+use Rattle.ss_program.specs.Cursor.{order_in}
+use Rattle.ss_program.specs.Line.{History, accepted_frame, brings, brings_in, command_brings, command_in, due_brings, frame_brings, meaning_in, the_event}
 use Rattle.ss_program.specs.Session.{after_line, after_lines}
-use Rattle.ss_program.specs.Talk.{Talk, kept_spoken, turn_brought, turn_in, turn_of, turn_spoken}
+use Rattle.ss_program.specs.Talk.{Talk, is_framed, kept_spoken, meant_turn, turn_brought, turn_in, turn_of, turn_spoken, writing}
 use Rattle.ss_program.proofs.CursorLemmas.{close-event, next-event, open-event}
 use Rattle.ss_program.proofs.HeardLemmas.{kept-heard, kept-to}
-use Rattle.ss_program.proofs.LawLemmas.{lines-leave}
+use Rattle.ss_program.proofs.LawLemmas.{event-leaves, meaning-leaves, sayable-said}
 
 -- ---- a session's command is what a line by itself means
 
@@ -79,30 +90,41 @@ said-command rest command is =
 
 -- so what it brings is what a plain line of the same meaning would
 in-plain : (form : Form) (talk : Talk) (speaker : Option ℕ) (command : Command) (line : List ℕ) → IsAsked form speaker command line →
-    (rest : List ℕ) × (meaning rest ≡ Ok (Some command)) × (turn_in form talk line ≡ turn_brought speaker talk (brings talk.history rest))
-in-plain Lines talk speaker command line asked =
-    (line, asked.1, ap (λ who. turn_brought who talk (brings talk.history line)) (sym asked.0))
-in-plain Sessions talk speaker command line asked =
+    (rest : List ℕ) × (meaning rest ≡ Ok (Some command)) × (turn_in form talk line ≡ turn_brought speaker talk (brings_in (is_framed form) talk.history rest))
+in-plain (Lines framed) talk speaker command line asked =
+    (line, asked.1, ap (λ who. turn_brought who talk (brings_in framed talk.history line)) (sym asked.0))
+in-plain (Sessions framed) talk speaker command line asked =
     let session = asked.0 in
     let order = Ok (Some (orders.Command command)) in
     let said = (kept-to (unless_long line) session order asked.2).1 in
     let means = said-command said.0 command said.1 in (
       said.0,
       means,
-      kept-heard talk (unless_long line) (To session order) asked.2
-          ∙ ap (λ m. turn_brought (Some session) talk (meaning_brings talk.history m)) (sym means)
-          ∙ ap (λ who. turn_brought who talk (brings talk.history said.0)) (sym asked.1),
+      kept-heard framed talk (unless_long line) (To session order) asked.2
+          ∙ ap (λ m. turn_brought (Some session) talk (meaning_in framed talk.history m)) (sym means)
+          ∙ ap (λ who. turn_brought who talk (brings_in framed talk.history said.0)) (sym asked.1),
+    )
+in-plain Frames talk speaker command line asked = absurd asked
+in-plain Follow talk speaker command line asked = absurd asked
+
+-- a command that is no event brings the same, whether or not frames are said
+pub asked-plain : (talk : Talk) (speaker : Option ℕ) (command : Command) (line : List ℕ) → IsAsked talk.form speaker command line →
+    ((framed : Bool) → command_in framed talk.history command ≡ command_brings talk.history command) →
+    (rest : List ℕ) × (meaning rest ≡ Ok (Some command)) × (turn_of talk line ≡ turn_brought speaker talk (brings talk.history rest))
+asked-plain talk speaker command line asked alike =
+    let framed = is_framed talk.form in
+    let it = in-plain talk.form talk speaker command line asked in (
+      it.0,
+      it.1,
+      it.2 ∙ ap (turn_brought speaker talk)
+          (ap (meaning_in framed talk.history) it.1 ∙ alike framed ∙ sym (ap (meaning_in false talk.history) it.1)),
     )
 
-pub asked-plain : (talk : Talk) (speaker : Option ℕ) (command : Command) (line : List ℕ) → IsAsked talk.form speaker command line →
-    (rest : List ℕ) × (meaning rest ≡ Ok (Some command)) × (turn_of talk line ≡ turn_brought speaker talk (brings talk.history rest))
-asked-plain talk speaker command line asked = in-plain talk.form talk speaker command line asked
-
 pub asked-brings : (talk : Talk) (speaker : Option ℕ) (command : Command) (line : List ℕ) → IsAsked talk.form speaker command line →
-    turn_of talk line ≡ turn_brought speaker talk (command_brings talk.history command)
+    turn_of talk line ≡ turn_brought speaker talk (command_in (is_framed talk.form) talk.history command)
 asked-brings talk speaker command line asked =
-    let it = asked-plain talk speaker command line asked in
-    it.2 ∙ ap (λ m. turn_brought speaker talk (meaning_brings talk.history m)) it.1
+    let it = in-plain talk.form talk speaker command line asked in
+    it.2 ∙ ap (λ m. turn_brought speaker talk (meaning_in (is_framed talk.form) talk.history m)) it.1
 
 -- ---- what lines leave of a history
 
@@ -110,44 +132,94 @@ stays : (history : History) (event : Option Event) → event ≡ None → IsHist
 stays history event none whole =
     subst (λ e. IsHistory (history ++ the_event e)) (sym none) (subst (λ h. IsHistory h) (sym (append-nil history)) whole)
 
-plain-leaves : (history : History) (line : List ℕ) → IsHistory history → IsHistory (history ++ the_event (brings history line).event)
-plain-leaves history line whole = lines-leave history (line ∷ []) whole
+plain-leaves : (framed : Bool) (history : History) (line : List ℕ) → IsHistory history →
+    IsHistory (history ++ the_event (brings_in framed history line).event)
+plain-leaves framed history line whole = meaning-leaves framed history (meaning line) (meant-sayable line) whole
 
-order-leaves : (history : History) (cursors : Cursors) (session : ℕ) (order : Order) →
+order-leaves : (framed : Bool) (history : History) (cursors : Cursors) (session : ℕ) (order : Order) →
     ((command : Command) → order ≡ orders.Command command → (rest : List ℕ) × (meaning rest ≡ Ok (Some command))) → IsHistory history →
-    IsHistory (history ++ the_event (order_brings history cursors session order).brought.event)
-order-leaves history cursors session (orders.Command command) means whole =
+    IsHistory (history ++ the_event (order_in framed history cursors session order).brought.event)
+order-leaves framed history cursors session (orders.Command command) means whole =
     let it = means command refl in
-    subst (λ m. IsHistory (history ++ the_event (meaning_brings history m).event)) it.1 (plain-leaves history it.0 whole)
-order-leaves history cursors session (orders.Open name) means whole =
-    stays history (order_brings history cursors session (orders.Open name)).brought.event (open-event history cursors session name) whole
-order-leaves history cursors session (orders.Next count) means whole =
-    stays history (order_brings history cursors session (orders.Next count)).brought.event (next-event cursors session count) whole
-order-leaves history cursors session orders.Close means whole =
-    stays history (order_brings history cursors session orders.Close).brought.event (close-event cursors session) whole
+    subst (λ m. IsHistory (history ++ the_event (meaning_in framed history m).event)) it.1 (plain-leaves framed history it.0 whole)
+order-leaves framed history cursors session (orders.Open name) means whole =
+    stays history (order_in framed history cursors session (orders.Open name)).brought.event (open-event history cursors session name) whole
+order-leaves framed history cursors session (orders.Next count) means whole =
+    stays history (order_in framed history cursors session (orders.Next count)).brought.event (next-event cursors session count) whole
+order-leaves framed history cursors session orders.Close means whole =
+    stays history (order_in framed history cursors session orders.Close).brought.event (close-event cursors session) whole
 
-spoken-leaves : (talk : Talk) (spoken : Spoken) →
+spoken-leaves : (framed : Bool) (talk : Talk) (spoken : Spoken) →
     ((session : ℕ) (said : Result (Option Order) Refusal) → spoken ≡ To session said → (rest : List ℕ) × (said_of rest ≡ said)) →
-    IsHistory talk.history → IsHistory (talk.history ++ the_event (turn_spoken talk spoken).event)
-spoken-leaves talk Nothing says whole = stays talk.history None refl whole
-spoken-leaves talk Unaddressed says whole = stays talk.history None refl whole
-spoken-leaves talk (To session (Err refusal)) says whole = stays talk.history None refl whole
-spoken-leaves talk (To session (Ok None)) says whole = stays talk.history None refl whole
-spoken-leaves talk (To session (Ok (Some order))) says whole =
-    order-leaves talk.history talk.cursors session order (λ command is.
+    IsHistory talk.history → IsHistory (talk.history ++ the_event (turn_spoken framed talk spoken).event)
+spoken-leaves framed talk Nothing says whole = stays talk.history None refl whole
+spoken-leaves framed talk Unaddressed says whole = stays talk.history None refl whole
+spoken-leaves framed talk (To session (Err refusal)) says whole = stays talk.history None refl whole
+spoken-leaves framed talk (To session (Ok None)) says whole = stays talk.history None refl whole
+spoken-leaves framed talk (To session (Ok (Some order))) says whole =
+    order-leaves framed talk.history talk.cursors session order (λ command is.
     let it = says session (Ok (Some order)) refl in
     (it.0, said-command it.0 command (it.1 ∙ ap (λ (o : Order). Ok (Some o)) is))) whole
 
-kept-leaves : (talk : Talk) (line : Option (List ℕ)) → IsHistory talk.history →
-    IsHistory (talk.history ++ the_event (kept_spoken talk line).event)
-kept-leaves talk None whole = stays talk.history None refl whole
-kept-leaves talk (Some line) whole =
-    spoken-leaves talk (spoken_of line) (λ session said is. (kept-to (Some line) session said (ap (λ s. Some s) is)).1) whole
+kept-leaves : (framed : Bool) (talk : Talk) (line : Option (List ℕ)) → IsHistory talk.history →
+    IsHistory (talk.history ++ the_event (kept_spoken framed talk line).event)
+kept-leaves framed talk None whole = stays talk.history None refl whole
+kept-leaves framed talk (Some line) whole =
+    spoken-leaves framed talk (spoken_of line) (λ session said is. (kept-to (Some line) session said (ap (λ s. Some s) is)).1) whole
+
+-- what a valid frame says can be said
+valid-said : (number : ℕ) (event : Event) → IsValidFrame number event → CanBeSaid event
+valid-said number (Create name params) valid = tt
+valid-said number (Value name t v) valid = (valid.2, valid.3)
+valid-said number (Open name t) valid = valid.2
+valid-said number (Close name t) valid = valid.2
+valid-said number (Drop name) valid = absurd valid
+
+-- an event whose frame is written is one that is accepted
+written-leaves : (talk : Talk) (event : Event) (refusal : Option Refusal) → refuses (state talk.history) event ≡ refusal → CanBeSaid event →
+    IsHistory talk.history → IsHistory (talk.history ++ the_event (writing talk event (accepted_frame refusal talk.history event)).event)
+written-leaves talk event (Some refusal) is said whole = stays talk.history None refl whole
+written-leaves talk (Drop name) None is said whole = stays talk.history None refl whole
+written-leaves talk (Create name params) None is said whole = event-leaves false talk.history (Create name params) None is said whole
+written-leaves talk (Value name t v) None is said whole = event-leaves false talk.history (Value name t v) None is said whole
+written-leaves talk (Open name t) None is said whole = event-leaves false talk.history (Open name t) None is said whole
+written-leaves talk (Close name t) None is said whole = event-leaves false talk.history (Close name t) None is said whole
+
+meant-leaves : (talk : Talk) (meant : Result (Option Command) Refusal) → ((command : Command) → meant ≡ Ok (Some command) → IsSayable command) →
+    IsHistory talk.history → IsHistory (talk.history ++ the_event (meant_turn talk meant).event)
+meant-leaves talk (Err refusal) sayable whole = stays talk.history None refl whole
+meant-leaves talk (Ok None) sayable whole = stays talk.history None refl whole
+meant-leaves talk (Ok (Some (Do event))) sayable whole =
+    written-leaves talk event (refuses (state talk.history) event) refl (sayable-said event (sayable (Do event) refl)) whole
+meant-leaves talk (Ok (Some (Ask query))) sayable whole = stays talk.history None refl whole
+meant-leaves talk (Ok (Some (Certify query end))) sayable whole = stays talk.history None refl whole
+meant-leaves talk (Ok (Some (AskRows series))) sayable whole = stays talk.history None refl whole
+meant-leaves talk (Ok (Some (Last name))) sayable whole = stays talk.history None refl whole
+meant-leaves talk (Ok (Some (Values name from to))) sayable whole = stays talk.history None refl whole
+meant-leaves talk (Ok (Some (Windows name))) sayable whole = stays talk.history None refl whole
+meant-leaves talk (Ok (Some ListAll)) sayable whole = stays talk.history None refl whole
+
+-- the event of a frame can be said
+frame-said : (piece : List ℕ) (frame : FrameState) → frame_in piece ≡ Some frame → CanBeSaid frame.event
+frame-said piece frame is = valid-said frame.number frame.event (SpellsFrame-frame_in piece frame is).valid
+
+due-leaves : (history : History) (frame : FrameState) (due : Due) → CanBeSaid frame.event → IsHistory history →
+    IsHistory (history ++ the_event (due_brings history frame due).event)
+due-leaves history frame Next said whole = event-leaves false history frame.event (refuses (state history) frame.event) refl said whole
+due-leaves history frame OldFrame said whole = stays history None refl whole
+due-leaves history frame (Gap last) said whole = stays history None refl whole
+
+frame-leaves : (history : History) (frame : Option FrameState) → ((f : FrameState) → frame ≡ Some f → CanBeSaid f.event) → IsHistory history →
+    IsHistory (history ++ the_event (frame_brings history frame).event)
+frame-leaves history None said whole = stays history None refl whole
+frame-leaves history (Some frame) said whole = due-leaves history frame (due_in history frame) (said frame refl) whole
 
 in-leaves : (form : Form) (talk : Talk) (line : List ℕ) → IsHistory talk.history →
     IsHistory (talk.history ++ the_event (turn_in form talk line).event)
-in-leaves Lines talk line whole = plain-leaves talk.history line whole
-in-leaves Sessions talk line whole = kept-leaves talk (unless_long line) whole
+in-leaves (Lines framed) talk line whole = plain-leaves framed talk.history line whole
+in-leaves (Sessions framed) talk line whole = kept-leaves framed talk (unless_long line) whole
+in-leaves Frames talk line whole = meant-leaves talk (meaning line) (meant-sayable line) whole
+in-leaves Follow talk piece whole = frame-leaves talk.history (frame_in piece) (frame-said piece) whole
 
 pub talk-leaves : (talk : Talk) (ls : List (List ℕ)) → IsHistory talk.history → IsHistory (after_lines talk ls).history
 talk-leaves talk [] whole = whole

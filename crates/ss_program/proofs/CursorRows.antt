@@ -9,7 +9,7 @@ use Rattle.ss_model.specs.History.{Happened, added}
 use Rattle.ss_model.specs.Refusals.{refuses}
 use Rattle.ss_model.specs.State.{state}
 use Rattle.ss_windowing.specs.Windowing.{window_index}
-use Rattle.ss_sessions.specs.Cursors.{Cursors, cursor_of, no_cursors, refuses_cursor}
+use Rattle.ss_sessions.specs.Cursors.{cursor_of, no_cursors, refuses_cursor}
 use Rattle.ss_sessions.specs.declared.order.Order.TheVariants.{Command, Open, Next, Close}
 use Rattle.ss_program.specs.Cursor.{Ordered, order_brings}
 use Rattle.ss_program.specs.Line.{History, history_after, text_said}

@@ -7,14 +7,15 @@ use Rattle.ss_arguments.specs.declared.mode.Mode.{Mode}
 use Rattle.ss_arguments.specs.declared.mode.Mode.TheVariants.{Serve, Check, Gen}
 use Rattle.ss_arguments.proofs.ModeLemmas.{mode_of-gen}
 use Rattle.ss_model.specs.State.{Stream}
-use Rattle.ss_outside.proofs.StepLemmas.{step-then}
+use Rattle.ss_outside.proofs.CrashLemmas.{reads-none}
+use Rattle.ss_outside.proofs.StepLemmas.{step-none, step-then}
 use Rattle.ss_outside.specs.Crash.{OnlyReads}
 use Rattle.ss_outside.specs.Disk.{DiskView, Told}
 use Rattle.ss_outside.specs.Step.{Step}
 use Rattle.ss_outside.specs.Verdict.{Counted, Rose, fine}
 use Rattle.ss_store.specs.Causes.{OpensAs}
 use Rattle.ss_store.specs.Errors.{verdict_of_opening}
-use Rattle.ss_store.specs.Recover.{Recovered, Recovers, recover, recovers}
+use Rattle.ss_store.specs.Recover.{Recovered, Recovers, damaged_entry, damaged_slot, damaged_stream, no_store, recover, recovers}
 use Rattle.ss_store.specs.Surveyed.{SurveysAs}
 use Rattle.ss_store.specs.declared.error.OpenError.{OpenError}
 use Rattle.ss_store.specs.declared.error.OpenError.TheVariants as opening
@@ -77,12 +78,12 @@ open-refuses (opening.BadStream id) old new before after had has opens reads sai
 }
 open-refuses (opening.Changed slot) old new before after had has opens reads said = absurd opens
 
-Ends-refused : (error : OpenError) (line : List ℕ) (old new : DiskView) (before after : Option (List ℕ)) (had has : ℕ) → new.tells ≡ old.tells →
+Ends-refused : (error : OpenError) (found : Recovered) (line : List ℕ) → refusal_line found ≡ Some line → (old new : DiskView) (before after : Option (List ℕ)) (had has : ℕ) → new.tells ≡ old.tells →
     new.faults ≡ old.faults → (IsTrue old.tells → OpensAs old.told.content (Err error)) →
     (IsTrue old.tells → IsRefusedContent old.told.content → OnlyReads old.told new.told) → AsRefused error before after had has →
     (IsTrue old.tells → refusal_line (recover old.told.content) ≡ Some line) → SaysLine line before after had has →
     status_of_open error ≡ RefusedStore → Ends (over old before had) (over new after has) RefusedStore
-Ends-refused error line old new before after had has tells counted opens reads said is_line says status =
+Ends-refused error found line is_found old new before after had has tells counted opens reads said is_line says status =
     let refused = λ (told : IsTrue old.tells). subst (λ o. IsSome o) (sym (is_line told)) refl in
     record {
       known = λ w. cc;
@@ -95,6 +96,7 @@ Ends-refused error line old new before after had has tells counted opens reads s
       };
       sink = λ other. absurd (other refl);
       refused = λ _ told. record { line = line; is_line = is_line told; said = says; unwritten = reads told (refused told) };
+      said = λ _. record { found = found; line = line; is_line = is_found; said = says };
       firm = λ w. cc;
     }
 
@@ -113,6 +115,7 @@ Ends-unopened T opening.Disk old new before after had has tells counted opens re
   };
   sink = λ _. said.1;
   refused = λ w. cc;
+  said = λ w. cc;
   firm = λ w. cc;
 }
 Ends-unopened T opening.OutOfMemory old new before after had has tells counted opens reads said = record {
@@ -125,6 +128,7 @@ Ends-unopened T opening.OutOfMemory old new before after had has tells counted o
   };
   sink = λ _. said.1;
   refused = λ w. cc;
+  said = λ w. cc;
   firm = λ w. cc;
 }
 Ends-unopened T (opening.Changed slot) old new before after had has tells counted opens reads said = record {
@@ -132,16 +136,17 @@ Ends-unopened T (opening.Changed slot) old new before after had has tells counte
   disk = record { tells = tells; counted = counted; told = λ told. absurd (opens told) };
   sink = λ _. said.1;
   refused = λ w. cc;
+  said = λ w. cc;
   firm = λ _ told. opens told;
 }
 Ends-unopened T opening.NotAStore old new before after had has tells counted opens reads said =
-    Ends-refused opening.NotAStore _ old new before after had has tells counted opens reads said (λ told. ap (λ f. refusal_line f) (opens told)) said refl
+    Ends-refused opening.NotAStore no_store _ refl old new before after had has tells counted opens reads said (λ told. ap (λ f. refusal_line f) (opens told)) said refl
 Ends-unopened T (opening.BadEntry n) old new before after had has tells counted opens reads said =
-    Ends-refused (opening.BadEntry n) _ old new before after had has tells counted opens reads said (λ told. ap (λ f. refusal_line f) (opens told)) said refl
+    Ends-refused (opening.BadEntry n) (damaged_entry n) _ refl old new before after had has tells counted opens reads said (λ told. ap (λ f. refusal_line f) (opens told)) said refl
 Ends-unopened T (opening.BadSlot n) old new before after had has tells counted opens reads said =
-    Ends-refused (opening.BadSlot n) _ old new before after had has tells counted opens reads said (λ told. ap (λ f. refusal_line f) (opens told)) said refl
+    Ends-refused (opening.BadSlot n) (damaged_slot n) _ refl old new before after had has tells counted opens reads said (λ told. ap (λ f. refusal_line f) (opens told)) said refl
 Ends-unopened T (opening.BadStream id) old new before after had has tells counted opens reads said =
-    Ends-refused (opening.BadStream id) _ old new before after had has tells counted opens reads said
+    Ends-refused (opening.BadStream id) (damaged_stream id) _ refl old new before after had has tells counted opens reads said
     (λ told. ap (λ f. refusal_line f) (opens told)) said refl
 
 -- how a run ends whose store was opened
@@ -181,6 +186,18 @@ unfed-stop tells held RefusedStore stop = absurd stop
 unfed-stop tells held SourceFault stop = absurd stop
 unfed-stop tells held InputLimit stop = absurd stop
 
+-- there was no memory, and no device was called
+pub Ends-starved : (disk : DiskView) (held : Option (List ℕ)) (faults : ℕ) → Ends (over disk held faults) (over disk held faults) OutOfMemory
+Ends-starved disk held faults = record {
+  known = λ w. cc;
+  disk = step-none disk (λ a b. IsRefusedContent a.content → Refuses held held OutOfMemory a b) (λ _ _.
+      record { how = inr (inr refl); unwritten = reads-none disk.told; silent = λ _. refl });
+  sink = λ _. refl;
+  refused = λ w. cc;
+  said = λ w. cc;
+  firm = λ w. cc;
+}
+
 pub Ends-opened : {R Q : Told → Told → Type 0} (old mid new : DiskView) (before after : Option (List ℕ)) (had has : ℕ) (status : Status) →
     Step fine old mid R → (R old.told mid.told → (streams : List Stream) × Recovers streams old.told.content) → Step (disk_verdict status) mid new Q →
     EndsServing old.tells status → Counted (sink_verdict status) had has → Ends (over old before had) (over new after has) status
@@ -191,6 +208,7 @@ Ends-opened old mid new before after had has status first found second ends coun
       disk = step-then first second (λ opened served refused. let some = found opened in absurd (not-refused old.told.content some.0 some.1 refused));
       sink = λ _. counted;
       refused = λ is. absurd (other.1 is);
+      said = λ is. absurd (other.1 is);
       firm = other.2;
     }
 

@@ -1,9 +1,9 @@
 -- What each field of the records of a run says, in fixed form, and bounds that are false just past them.
-use Rattle.std.proofs.Common.{◌≡◌, ◌⊎◌, ℕ, ◌+◌, ◌<◌, ◌≤◌, ◌++◌, List, [], ◌∷◌, length, take, drop}
+use Rattle.std.proofs.Common.{false, true, ◌≡◌, ◌⊎◌, ℕ, ◌+◌, ◌<◌, ◌≤◌, ◌++◌, List, [], ◌∷◌, length, take, drop}
 use Rattle.std.proofs.Common.{Option, Some, None, refl, arith}
 use Rattle.std.specs.Prelude.{IsTrue}
 use Rattle.ss_arguments.specs.declared.mode.Mode.{Mode}
-use Rattle.ss_arguments.specs.declared.mode.Form.TheVariants.{Lines, Sessions}
+use Rattle.ss_arguments.specs.declared.mode.Form.TheVariants.{Lines, Sessions, Frames, Follow}
 use Rattle.ss_arguments.specs.declared.mode.Mode.TheVariants.{Serve, Check, Gen}
 use Rattle.ss_model.specs.State.{Stream}
 use Rattle.ss_outside.specs.Crash.{LeavesOnly, OnlyReads}
@@ -13,18 +13,17 @@ use Rattle.ss_store.specs.Recover.{Stands, recover}
 use Rattle.ss_store.specs.Surveyed.{survey_of}
 use Rattle.ss_program.specs.Checked.{Checks, survey_line}
 use Rattle.ss_program.specs.Devices.{Devices}
-use Rattle.ss_program.specs.Ending.{Completes, Ends, IsRefusedContent, IsUnfed, Refuses, Rejects, served_by, serving}
+use Rattle.ss_program.specs.Ending.{Ends, IsRefusedContent, Refuses, served_by, serving}
 use Rattle.ss_program.specs.Generated.{Generates, StandsForAll, StandsForGenerated, summary}
 use Rattle.ss_program.specs.Held.{HoldsAcked, StandsForFirst, acks}
 use Rattle.ss_program.specs.Line.{History}
 use Rattle.ss_program.specs.Outcome.{NotBegun, Reads, Reports, Stopped, Took}
 use Rattle.ss_program.specs.Progress.{NoneWait, sealing_by}
 use Rattle.ss_program.specs.Promises.{BeginsOver}
-use Rattle.ss_program.specs.Refused.{RefusesStore, refusal_line}
+use Rattle.ss_program.specs.Refused.{RefusesStore, SaysRefusal, refusal_line}
 use Rattle.ss_program.specs.Sent.{appended, AppendsFront, SaysLine}
 use Rattle.ss_program.specs.Session.{accepted, report, report_so_far}
 use Rattle.ss_program.specs.Talk.{Talk}
-use Rattle.ss_program.specs.Words.{usage}
 use Rattle.ss_program.specs.declared.running.TheConstants.{LONGEST_INPUT}
 use Rattle.ss_arguments.specs.declared.mode.Form.{Form}
 use Rattle.ss_arguments.specs.declared.mode.Sealing.{Sealing}
@@ -190,6 +189,9 @@ module _ (old new : Devices) where
       RefusesStore old.disk.told new.disk.told old.held new.held old.faults new.faults
   ends-refused e = e.refused refl
 
+  ends-said : Ends old new RefusedStore → SaysRefusal old.held new.held old.faults new.faults
+  ends-said e = e.said refl
+
   ends-refuses : (status : Status) → Ends old new status → IsTrue old.disk.tells → IsRefusedContent old.disk.told.content →
       Refuses old.held new.held status old.disk.told new.disk.told
   ends-refuses status e told refused = e.disk.told told refused
@@ -228,38 +230,6 @@ module _ (line : List ℕ) (before after : Option (List ℕ)) (had has : ℕ) wh
   says-whole : SaysLine line before after had has → (Rose had has → ⊥) → after ≡ appended before line
   says-whole s = s.whole
 
--- statuses with which a run doesn't end
-rejects-disk : (old new : Devices) → Rejects old new DiskFault → ⊥
-rejects-disk old new r = r
-
-rejects-starved : (old new : Devices) → Rejects old new OutOfMemory → (new.held ≡ old.held) × (new.faults ≡ old.faults)
-rejects-starved old new r = r
-
-completes-disk : Completes DiskFault → ⊥
-completes-disk c = c
-
-completes-changed : Completes RecordChanged → ⊥
-completes-changed c = c
-
-module _ (before after : Option (List ℕ)) where
-  unfed-source : IsUnfed before after SourceFault → ⊥
-  unfed-source u = u
-
-  unfed-limit : IsUnfed before after InputLimit → ⊥
-  unfed-limit u = u
-
-  unfed-disk : IsUnfed before after DiskFault → after ≡ before
-  unfed-disk u = u
-
-  unfed-starved : IsUnfed before after OutOfMemory → after ≡ before
-  unfed-starved u = u
-
-  unfed-changed : IsUnfed before after RecordChanged → after ≡ before
-  unfed-changed u = u
-
-rejects-usage : (old new : Devices) → Rejects old new Usage → SaysLine usage old.held new.held old.faults new.faults
-rejects-usage old new r = r
-
 -- a promise begins wherever a run over a source does
 begins-run : (form : Form) (sealing : Sealing) (mode : Option Mode) (disk : DiskView) (left : Option (List ℕ)) (history : History) (input : List ℕ) →
     served_by mode ≡ Some (serving form sealing) → IsTrue disk.tells → NothingPending disk.told → Stands history disk.told.content →
@@ -268,17 +238,23 @@ begins-run form sealing mode disk left history input asked tells durable stands 
     record { asked = asked; tells = tells; durable = durable; stands = stands; source = source }
 
 -- which modes are runs over a source, what form their input has, and how each seals
-served-run : served_by (Some (Serve Lines Each)) ≡ Some (serving Lines Each)
+served-run : served_by (Some (Serve (Lines false) Each)) ≡ Some (serving (Lines false) Each)
 served-run = refl
 
-served-batch : served_by (Some (Serve Lines Shared)) ≡ Some (serving Lines Shared)
+served-batch : served_by (Some (Serve (Lines true) Shared)) ≡ Some (serving (Lines true) Shared)
 served-batch = refl
 
-served-sessions : served_by (Some (Serve Sessions Each)) ≡ Some (serving Sessions Each)
+served-sessions : served_by (Some (Serve (Sessions false) Each)) ≡ Some (serving (Sessions false) Each)
 served-sessions = refl
 
-served-sessions_batch : served_by (Some (Serve Sessions Shared)) ≡ Some (serving Sessions Shared)
+served-sessions_batch : served_by (Some (Serve (Sessions true) Shared)) ≡ Some (serving (Sessions true) Shared)
 served-sessions_batch = refl
+
+served-frames : served_by (Some (Serve Frames Each)) ≡ Some (serving Frames Each)
+served-frames = refl
+
+served-follow : served_by (Some (Serve Follow Shared)) ≡ Some (serving Follow Shared)
+served-follow = refl
 
 served-check : served_by (Some Check) ≡ None
 served-check = refl

@@ -7,13 +7,17 @@ use Rattle.std.proofs.lemmas.List.Elements.{All-head, All-tail}
 use Rattle.std.proofs.lemmas.Option.{cond_some}
 use Rattle.std.specs.Prelude.{◌==◌, ◌&&◌, if◌then◌else◌, is_some, nat_le, nat_lt, option_map}
 use Rattle.ss_arguments.specs.declared.mode.Form.{Form}
-use Rattle.ss_arguments.specs.declared.mode.Form.TheVariants.{Lines, Sessions}
+use Rattle.ss_arguments.specs.declared.mode.Form.TheVariants.{Lines, Sessions, Frames, Follow}
+use Rattle.ss_catalog.specs.declared.event.Event.{Event}
 use Rattle.ss_catalog.specs.declared.refusal.Refusal.{Refusal}
-use Rattle.ss_command.specs.Grammar.{is_comment}
+use Rattle.ss_command.specs.Grammar.{is_comment, meaning}
+use Rattle.ss_command.specs.declared.command.Command.{Command}
+use Rattle.ss_command.specs.declared.command.Command.TheVariants.{Do, Ask, Certify, Series as AskRows, Last, Values, Windows, List as ListAll}
+use Rattle.ss_frames.specs.Frame.{FrameState}
 use Rattle.ss_command.specs.LineState.{unless_long}
 use Rattle.ss_command.specs.Words.{first_word, rest_of}
 use Rattle.ss_line.proofs.IndexLemmas.{slice_get-set_other}
-use Rattle.ss_model.specs.Refusals.{first_that_applies}
+use Rattle.ss_model.specs.Refusals.{first_that_applies, refuses}
 use Rattle.ss_model.specs.Shown.{placed_of}
 use Rattle.ss_model.specs.State.{Stream, state, stream_named}
 use Rattle.ss_model.specs.declared.types.Placed.{Placed}
@@ -28,10 +32,10 @@ use Rattle.ss_sessions.specs.declared.order.Order.TheVariants as orders
 use Rattle.ss_sessions.specs.declared.order.Spoken.{Spoken}
 use Rattle.ss_sessions.specs.declared.order.Spoken.TheVariants.{Nothing, Unaddressed, To}
 use Rattle.ss_program.specs.Asked.{IsOrder, NoneCloses, heard_of, rows_asked, rows_asked_by, rows_asked_in}
-use Rattle.ss_program.specs.Cursor.{Ordered, close_brings, closing, next_brings, open_brings, opening, order_brings, placed_rows, showing, unless_unopened}
-use Rattle.ss_program.specs.Line.{History, only_replies, text_said, window_rows}
+use Rattle.ss_program.specs.Cursor.{Ordered, close_brings, closing, next_brings, open_brings, opening, order_in, placed_rows, showing, unless_unopened}
+use Rattle.ss_program.specs.Line.{History, accepted_frame, only_replies, text_said, window_rows}
 use Rattle.ss_program.specs.Session.{after_line, after_lines}
-use Rattle.ss_program.specs.Talk.{Talk, Turn, begun, kept_spoken, turn_in, turn_of, turn_spoken, turn_to}
+use Rattle.ss_program.specs.Talk.{Talk, Turn, begun, kept_spoken, meant_turn, turn_in, turn_of, turn_spoken, turn_to, writing}
 use Rattle.ss_program.proofs.CursorLemmas.{cursor_of-with, next-shown}
 use Rattle.ss_program.proofs.SessionLemmas.{after_lines-form}
 
@@ -51,31 +55,49 @@ count-closing : (cursors : Cursors) (session : ℕ) (o : Option (List Placed)) �
 count-closing cursors session None = refl
 count-closing cursors session (Some rows) = length-set cursors session None
 
-count-ordered : (history : History) (cursors : Cursors) (session : ℕ) (order : Order) →
-    length (order_brings history cursors session order).cursors ≡ length cursors
-count-ordered history cursors session (orders.Command command) = refl
-count-ordered history cursors session (orders.Open name) =
+count-ordered : (framed : Bool) (history : History) (cursors : Cursors) (session : ℕ) (order : Order) →
+    length (order_in framed history cursors session order).cursors ≡ length cursors
+count-ordered framed history cursors session (orders.Command command) = refl
+count-ordered framed history cursors session (orders.Open name) =
     count-opening (refuses_cursor (state history) name (cursor_of cursors session)) cursors session (stream_named name (state history))
-count-ordered history cursors session (orders.Next count) = count-showing cursors session count (cursor_of cursors session)
-count-ordered history cursors session orders.Close = count-closing cursors session (cursor_of cursors session)
+count-ordered framed history cursors session (orders.Next count) = count-showing cursors session count (cursor_of cursors session)
+count-ordered framed history cursors session orders.Close = count-closing cursors session (cursor_of cursors session)
 
-count-to : (session : ℕ) (talk : Talk) (said : Result (Option Order) Refusal) → length (turn_to session talk said).cursors ≡ length talk.cursors
-count-to session talk (Err refusal) = refl
-count-to session talk (Ok None) = refl
-count-to session talk (Ok (Some order)) = count-ordered talk.history talk.cursors session order
+count-to : (framed : Bool) (session : ℕ) (talk : Talk) (said : Result (Option Order) Refusal) → length (turn_to framed session talk said).cursors ≡ length talk.cursors
+count-to framed session talk (Err refusal) = refl
+count-to framed session talk (Ok None) = refl
+count-to framed session talk (Ok (Some order)) = count-ordered framed talk.history talk.cursors session order
 
-count-spoken : (talk : Talk) (spoken : Spoken) → length (turn_spoken talk spoken).cursors ≡ length talk.cursors
-count-spoken talk Nothing = refl
-count-spoken talk Unaddressed = refl
-count-spoken talk (To session said) = count-to session talk said
+count-spoken : (framed : Bool) (talk : Talk) (spoken : Spoken) → length (turn_spoken framed talk spoken).cursors ≡ length talk.cursors
+count-spoken framed talk Nothing = refl
+count-spoken framed talk Unaddressed = refl
+count-spoken framed talk (To session said) = count-to framed session talk said
 
-count-kept : (talk : Talk) (line : Option (List ℕ)) → length (kept_spoken talk line).cursors ≡ length talk.cursors
-count-kept talk None = refl
-count-kept talk (Some line) = count-spoken talk (spoken_of line)
+count-kept : (framed : Bool) (talk : Talk) (line : Option (List ℕ)) → length (kept_spoken framed talk line).cursors ≡ length talk.cursors
+count-kept framed talk None = refl
+count-kept framed talk (Some line) = count-spoken framed talk (spoken_of line)
+
+count-writing : (talk : Talk) (event : Event) (frame : Option FrameState) → length (writing talk event frame).cursors ≡ length talk.cursors
+count-writing talk event None = refl
+count-writing talk event (Some frame) = refl
+
+count-meant : (talk : Talk) (meant : Result (Option Command) Refusal) → length (meant_turn talk meant).cursors ≡ length talk.cursors
+count-meant talk (Err refusal) = refl
+count-meant talk (Ok None) = refl
+count-meant talk (Ok (Some (Do event))) = count-writing talk event (accepted_frame (refuses (state talk.history) event) talk.history event)
+count-meant talk (Ok (Some (Ask query))) = refl
+count-meant talk (Ok (Some (Certify query end))) = refl
+count-meant talk (Ok (Some (AskRows series))) = refl
+count-meant talk (Ok (Some (Last name))) = refl
+count-meant talk (Ok (Some (Values name from to))) = refl
+count-meant talk (Ok (Some (Windows name))) = refl
+count-meant talk (Ok (Some ListAll)) = refl
 
 count-in : (form : Form) (talk : Talk) (line : List ℕ) → length (turn_in form talk line).cursors ≡ length talk.cursors
-count-in Lines talk line = refl
-count-in Sessions talk line = count-kept talk (unless_long line)
+count-in (Lines framed) talk line = refl
+count-in (Sessions framed) talk line = count-kept framed talk (unless_long line)
+count-in Frames talk line = count-meant talk (meaning line)
+count-in Follow talk piece = refl
 
 count-after : (talk : Talk) (ls : List (List ℕ)) → length (after_lines talk ls).cursors ≡ length talk.cursors
 count-after talk [] = refl
@@ -84,14 +106,14 @@ count-after talk (l ∷ ls) = count-after (after_line talk l) ls ∙ count-in ta
 -- ---- what is heard of a line
 
 -- what a line brings by what is heard of it
-pub kept-heard : (talk : Talk) (line : Option (List ℕ)) (spoken : Spoken) → option_map spoken_of line ≡ Some spoken →
-    kept_spoken talk line ≡ turn_spoken talk spoken
-kept-heard talk None spoken heard = cc
-kept-heard talk (Some line) spoken heard = let is : spoken_of line ≡ spoken = cc in ap (turn_spoken talk) is
+pub kept-heard : (framed : Bool) (talk : Talk) (line : Option (List ℕ)) (spoken : Spoken) → option_map spoken_of line ≡ Some spoken →
+    kept_spoken framed talk line ≡ turn_spoken framed talk spoken
+kept-heard framed talk None spoken heard = cc
+kept-heard framed talk (Some line) spoken heard = let is : spoken_of line ≡ spoken = cc in ap (turn_spoken framed talk) is
 
-pub turn-heard : (talk : Talk) (line : List ℕ) (spoken : Spoken) → talk.form ≡ Sessions → heard_of line ≡ Some spoken →
-    turn_of talk line ≡ turn_spoken talk spoken
-turn-heard talk line spoken form heard = ap (λ f. turn_in f talk line) form ∙ kept-heard talk (unless_long line) spoken heard
+pub turn-heard : (framed : Bool) (talk : Talk) (line : List ℕ) (spoken : Spoken) → talk.form ≡ Sessions framed → heard_of line ≡ Some spoken →
+    turn_of talk line ≡ turn_spoken framed talk spoken
+turn-heard framed talk line spoken form heard = ap (λ f. turn_in f talk line) form ∙ kept-heard framed talk (unless_long line) spoken heard
 
 three_tests : (a b c : Bool) → (a && b && c) ≡ true → (a ≡ true) × (b ≡ true) × (c ≡ true)
 three_tests true true true is = (refl, refl, refl)
@@ -204,39 +226,39 @@ module _ (session : ℕ) (rows : List Placed) (cursors : Cursors) (has : cursor_
     | inr differ ↦ closing-other other (cursor_of cursors other) differ
   ]
 
-  order-keeps : (history : History) (other : ℕ) (order : Order) → To other (Ok (Some order)) ≢ To session (Ok (Some orders.Close)) →
-      cursor_of (order_brings history cursors other order).cursors session ≡ Some (drop (rows_asked_by session (To other (Ok (Some order)))) rows)
-  order-keeps history other (orders.Command command) spared = has
-  order-keeps history other (orders.Open name) spared = open-keeps history other name
-  order-keeps history other (orders.Next count) spared = next-keeps other count
-  order-keeps history other orders.Close spared = close-keeps other (λ same. spared (ap (λ k. To k (Ok (Some orders.Close))) same))
+  order-keeps : (framed : Bool) (history : History) (other : ℕ) (order : Order) → To other (Ok (Some order)) ≢ To session (Ok (Some orders.Close)) →
+      cursor_of (order_in framed history cursors other order).cursors session ≡ Some (drop (rows_asked_by session (To other (Ok (Some order)))) rows)
+  order-keeps framed history other (orders.Command command) spared = has
+  order-keeps framed history other (orders.Open name) spared = open-keeps history other name
+  order-keeps framed history other (orders.Next count) spared = next-keeps other count
+  order-keeps framed history other orders.Close spared = close-keeps other (λ same. spared (ap (λ k. To k (Ok (Some orders.Close))) same))
 
 module _ (session : ℕ) where
   -- whatever is said but its close, as many rows are taken off as are asked for
-  spoken-keeps : (talk : Talk) (rows : List Placed) (spoken : Spoken) → cursor_of talk.cursors session ≡ Some rows →
+  spoken-keeps : (framed : Bool) (talk : Talk) (rows : List Placed) (spoken : Spoken) → cursor_of talk.cursors session ≡ Some rows →
       spoken ≢ To session (Ok (Some orders.Close)) →
-      cursor_of (turn_spoken talk spoken).cursors session ≡ Some (drop (rows_asked_by session spoken) rows)
-  spoken-keeps talk rows Nothing has spared = has
-  spoken-keeps talk rows Unaddressed has spared = has
-  spoken-keeps talk rows (To other (Err refusal)) has spared = has
-  spoken-keeps talk rows (To other (Ok None)) has spared = has
-  spoken-keeps talk rows (To other (Ok (Some order))) has spared = order-keeps session rows talk.cursors has talk.history other order spared
+      cursor_of (turn_spoken framed talk spoken).cursors session ≡ Some (drop (rows_asked_by session spoken) rows)
+  spoken-keeps framed talk rows Nothing has spared = has
+  spoken-keeps framed talk rows Unaddressed has spared = has
+  spoken-keeps framed talk rows (To other (Err refusal)) has spared = has
+  spoken-keeps framed talk rows (To other (Ok None)) has spared = has
+  spoken-keeps framed talk rows (To other (Ok (Some order))) has spared = order-keeps session rows talk.cursors has framed talk.history other order spared
 
-  kept-keeps : (talk : Talk) (rows : List Placed) (line : Option (List ℕ)) → cursor_of talk.cursors session ≡ Some rows →
+  kept-keeps : (framed : Bool) (talk : Talk) (rows : List Placed) (line : Option (List ℕ)) → cursor_of talk.cursors session ≡ Some rows →
       option_map spoken_of line ≢ Some (To session (Ok (Some orders.Close))) →
-      cursor_of (kept_spoken talk line).cursors session ≡ Some (drop (rows_asked_in session (option_map spoken_of line)) rows)
-  kept-keeps talk rows None has spared = has
-  kept-keeps talk rows (Some line) has spared = spoken-keeps talk rows (spoken_of line) has (λ is. spared (ap (λ s. Some s) is))
+      cursor_of (kept_spoken framed talk line).cursors session ≡ Some (drop (rows_asked_in session (option_map spoken_of line)) rows)
+  kept-keeps framed talk rows None has spared = has
+  kept-keeps framed talk rows (Some line) has spared = spoken-keeps framed talk rows (spoken_of line) has (λ is. spared (ap (λ s. Some s) is))
 
-  lines-keep : (talk : Talk) (rows : List Placed) (ls : List (List ℕ)) → talk.form ≡ Sessions → cursor_of talk.cursors session ≡ Some rows →
+  lines-keep : (framed : Bool) (talk : Talk) (rows : List Placed) (ls : List (List ℕ)) → talk.form ≡ Sessions framed → cursor_of talk.cursors session ≡ Some rows →
       NoneCloses session ls → cursor_of (after_lines talk ls).cursors session ≡ Some (drop (rows_asked session ls) rows)
-  lines-keep talk rows [] form has spared = has
-  lines-keep talk rows (l ∷ ls) form has spared =
+  lines-keep framed talk rows [] form has spared = has
+  lines-keep framed talk rows (l ∷ ls) form has spared =
       let first = All-head (λ line. heard_of line ≢ Some (To session (Ok (Some orders.Close)))) l ls spared in
       let rest = All-tail (λ line. heard_of line ≢ Some (To session (Ok (Some orders.Close)))) l ls spared in
       let asked = rows_asked_in session (heard_of l) in
-      let now = ap (λ f. cursor_of (turn_in f talk l).cursors session) form ∙ kept-keeps talk rows (unless_long l) has first in
-      lines-keep (after_line talk l) (drop asked rows) ls form now rest
+      let now = ap (λ f. cursor_of (turn_in f talk l).cursors session) form ∙ kept-keeps framed talk rows (unless_long l) has first in
+      lines-keep framed (after_line talk l) (drop asked rows) ls form now rest
       ∙ ap (λ (left : List Placed). Some left) (drop-drop (rows_asked session ls) asked rows)
 
 -- ---- what a cursor shows
@@ -284,36 +306,36 @@ opened-over history cursors session name inside none =
     )
 
 -- the reply to its opening
-pub cursor-opens : (talk : Talk) (line name : List ℕ) (session : ℕ) → talk.form ≡ Sessions → IsOrder session (orders.Open name) line →
+pub cursor-opens : (framed : Bool) (talk : Talk) (line name : List ℕ) (session : ℕ) → talk.form ≡ Sessions framed → IsOrder session (orders.Open name) line →
     refuses_cursor (state talk.history) name (cursor_of talk.cursors session) ≡ None →
     (s : Stream) × (stream_named name (state talk.history) ≡ Some s)
     × ((turn_of talk line).says ≡ text_said (Some session) (only_replies (Cursor (length s.windows) ∷ [])))
-cursor-opens talk line name session form opens none =
+cursor-opens framed talk line name session form opens none =
     let s = unrefused-stands (state talk.history) name (cursor_of talk.cursors session) none in (
       s.0,
       s.1,
-      ap (λ (t : Turn). t.says) (turn-heard talk line (To session (Ok (Some (orders.Open name)))) form opens)
+      ap (λ (t : Turn). t.says) (turn-heard framed talk line (To session (Ok (Some (orders.Open name)))) form opens)
           ∙ ap (λ r. text_said (Some session)
           (unless_unopened r talk.cursors (opening talk.cursors session (stream_named name (state talk.history)))).brought) none
           ∙ ap (λ o. text_said (Some session) (opening talk.cursors session o).brought) s.1,
     )
 
-pub cursor-shows : (talk : Talk) (between : List (List ℕ)) (start line name : List ℕ) (session count : ℕ) → talk.form ≡ Sessions →
+pub cursor-shows : (framed : Bool) (talk : Talk) (between : List (List ℕ)) (start line name : List ℕ) (session count : ℕ) → talk.form ≡ Sessions framed →
     length talk.cursors ≡ SESSIONS → IsOrder session (orders.Open name) start →
     refuses_cursor (state talk.history) name (cursor_of talk.cursors session) ≡ None → NoneCloses session between →
     IsOrder session (orders.Next count) line →
     (s : Stream) × (stream_named name (state talk.history) ≡ Some s)
     × (let rows = take count (drop (rows_asked session between) (window_rows s)) in
     (turn_of (after_lines talk (start ∷ between)) line).says ≡ text_said (Some session) (only_replies (Rows (length rows) ∷ rows)))
-cursor-shows talk between start line name session count form all opens none spared asks =
+cursor-shows framed talk between start line name session count form all opens none spared asks =
     let below = (kept-to (unless_long start) session (Ok (Some (orders.Open name))) opens).0 in
     let over = opened-over talk.history talk.cursors session name (omega (arith, below, all)) none in
     let s = over.0 in
     let given = rows_asked session between in
-    let first = ap (λ (t : Turn). cursor_of t.cursors session) (turn-heard talk start (To session (Ok (Some (orders.Open name)))) form opens) ∙ over.2 in
+    let first = ap (λ (t : Turn). cursor_of t.cursors session) (turn-heard framed talk start (To session (Ok (Some (orders.Open name)))) form opens) ∙ over.2 in
     let next = after_lines talk (start ∷ between) in
-    let left = lines-keep session (after_line talk start) (cursor_rows s) between form first spared in
-    let turn = turn-heard next line (To session (Ok (Some (orders.Next count)))) (after_lines-form talk (start ∷ between) ∙ form) asks in (
+    let left = lines-keep session framed (after_line talk start) (cursor_rows s) between form first spared in
+    let turn = turn-heard framed next line (To session (Ok (Some (orders.Next count)))) (after_lines-form talk (start ∷ between) ∙ form) asks in (
       s,
       over.1,
       ap (λ (t : Turn). t.says) turn
@@ -321,5 +343,5 @@ cursor-shows talk between start line name session count form all opens none spar
           ∙ ap (λ rows. text_said (Some session) (only_replies (Rows (length rows) ∷ rows))) (shown-rows s count given),
     )
 
-pub cursor-shows-begun : (history : History) (before : List (List ℕ)) → length (after_lines (begun Sessions history) before).cursors ≡ SESSIONS
-cursor-shows-begun history before = count-after (begun Sessions history) before
+pub cursor-shows-begun : (framed : Bool) (history : History) (before : List (List ℕ)) → length (after_lines (begun (Sessions framed) history) before).cursors ≡ SESSIONS
+cursor-shows-begun framed history before = count-after (begun (Sessions framed) history) before

@@ -28,19 +28,18 @@ use Rattle.std.proofs.Common.{
 }
 use Rattle.std.proofs.lemmas.List.{append-nil, length-append}
 use Rattle.ss_catalog.specs.declared.event.Event.{Event}
-use Rattle.ss_command.specs.Lines.{lines}
 use Rattle.ss_outside.specs.Disk.{Told}
 use Rattle.ss_store.specs.Recover.{Stands}
 use Rattle.ss_model.specs.History.{Happened}
 use Rattle.ss_program.specs.Held.{HoldsAcked, acks}
 use Rattle.ss_program.specs.Line.{the_event}
-use Rattle.ss_program.specs.Outcome.{HoldsReported, lines_within}
+use Rattle.ss_program.specs.Outcome.{HoldsReported, steps_within}
 use Rattle.ss_program.specs.Progress.{IsAlone, StopsAmong}
 use Rattle.ss_program.specs.Sent.{appended}
 use Rattle.ss_program.specs.Session.{accepted, after_line, after_lines, text_of}
 use Rattle.ss_program.specs.Talk.{Talk, turn_of}
 use Rattle.ss_arguments.specs.declared.mode.Sealing.{Sealing}
-use Rattle.ss_arguments.specs.declared.mode.Sealing.TheVariants.{Each, Shared}
+use Rattle.ss_arguments.specs.declared.mode.Sealing.TheVariants.{Each}
 use Rattle.ss_program.specs.declared.status.Status.{Status}
 use Rattle.ss_program.specs.declared.status.Status.TheVariants.{
   Done,
@@ -57,6 +56,7 @@ use Rattle.ss_program.proofs.SendLemmas.{appended-appended, appended-nil}
 use Rattle.ss_program.proofs.SessionLemmas.{after_lines-append, text_of-append, text_of-one}
 use Rattle.ss_program.proofs.HeldLemmas.{Cuts, acks-done, acks-few, accepted-append, few-events, first-events, new_bytes, none-cut}
 use Rattle.ss_program.proofs.ReadLemmas.{AreRead}
+use Rattle.ss_program.specs.Steps.{steps}
 
 -- the image stands for the history after some first lines, to which all was sent, and nothing to others
 HoldsAcked-done : (sealing : Sealing) (talk : Talk) (ls read done others more : List (List ℕ)) (bytes : ℕ) (status : Status) (image : List ℕ) →
@@ -95,7 +95,7 @@ HoldsAcked-beyond sealing talk ls read done others more bytes status image are r
 -- all lines before some others were answered
 pub HoldsReported-done : (sealing : Sealing) (talk : Talk) (input : List ℕ) (left before after : Option (List ℕ)) (disk : Told) (status : Status)
     (done others : List (List ℕ)) →
-    lines input ≡ done ++ others → AreRead input left done → after ≡ appended before (text_of talk done) →
+    steps talk.form input ≡ done ++ others → AreRead talk.form input left done → after ≡ appended before (text_of talk done) →
     ((image : List ℕ) → disk.may_leave image → Stands (after_lines talk done).history image) → (status ≡ Done → others ≡ []) →
     HoldsReported sealing talk input left before after disk status
 HoldsReported-done sealing talk input left before after disk status done others are read sent each end had has is_had is_has image may =
@@ -106,7 +106,7 @@ HoldsReported-done sealing talk input left before after disk status done others 
       read.rest,
       read.all,
       read.others,
-      HoldsAcked-done sealing talk (lines input) (lines_within read.read read.rest) done others read.more (length has - length had) status image are
+      HoldsAcked-done sealing talk (steps talk.form input) (steps_within talk.form read.read read.rest) done others read.more (length has - length had) status image are
           read.are (omega (arith, bytes)) (each image may) end,
     )
 
@@ -202,13 +202,13 @@ HoldsAcked-among sealing talk all ls read others more before after disk status b
 
 pub HoldsReported-stop : (sealing : Sealing) (talk : Talk) (input : List ℕ) (left before after : Option (List ℕ)) (disk : Told) (status : Status)
     (ls others : List (List ℕ)) →
-    lines input ≡ ls ++ others → AreRead input left ls → StopsAmong sealing talk ls before after disk status → (status ≡ Done → ⊥) →
+    steps talk.form input ≡ ls ++ others → AreRead talk.form input left ls → StopsAmong sealing talk ls before after disk status → (status ≡ Done → ⊥) →
     HoldsReported sealing talk input left before after disk status
 HoldsReported-stop sealing talk input left before after disk status ls others are read at going had has is_had is_has image may = (
   read.read,
   read.rest,
   read.all,
   read.others,
-  HoldsAcked-among sealing talk (lines input) ls (lines_within read.read read.rest) others read.more before after disk status (length has - length had) image
+  HoldsAcked-among sealing talk (steps talk.form input) ls (steps_within talk.form read.read read.rest) others read.more before after disk status (length has - length had) image
       at are read.are (among_bytes talk ls before after disk status had has at is_had is_has) may going (is_starved status),
 )

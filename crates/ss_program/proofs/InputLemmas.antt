@@ -1,42 +1,11 @@
 -- Lines of a session and the bytes of its input.
-use Rattle.std.proofs.Common.{
-  ◌≡◌,
-  ℕ,
-  ◌+◌,
-  ◌-◌,
-  ◌≤◌,
-  ◌++◌,
-  List,
-  [],
-  ◌∷◌,
-  length,
-  map,
-  take,
-  drop,
-  Option,
-  Some,
-  None,
-  IfSome,
-  Result,
-  Ok,
-  Err,
-  refl,
-  sym,
-  ap,
-  ◌∙◌,
-  subst,
-  append_assoc,
-  inl,
-  inr,
-}
+use Rattle.std.proofs.Common.{◌≡◌, ℕ, ◌+◌, ◌-◌, ◌++◌, List, [], ◌∷◌, length, take, drop, Option, Some, None, Result, Ok, Err, refl, sym, ap, ◌∙◌, subst, append_assoc}
 use Rattle.std.proofs.Math.Seq.{take-add}
-use Rattle.std.proofs.lemmas.Bool.{cond-true, cond-false, cases_lt, le-leb, lt-leb}
-use Rattle.std.proofs.lemmas.List.{append-nil, map-append, take-append-drop}
-use Rattle.std.specs.Prelude.{OnOk, nat_le}
-use Rattle.ss_command.proofs.LineLemmas.{ended_lines-append}
-use Rattle.ss_command.specs.Lines.{lines, lines_so_far, unended, without_return}
-use Rattle.ss_command.specs.LineState.{Kept, ended_line, kept, unless_long}
-use Rattle.ss_command.specs.declared.TheConstants.{LONGEST_LINE}
+use Rattle.std.proofs.lemmas.List.{append-nil, take-append-drop}
+use Rattle.std.specs.Prelude.{OnOk}
+use Rattle.ss_command.specs.Grammar.{meaning}
+use Rattle.ss_command.specs.declared.line_reader.Ended.{Ended}
+use Rattle.ss_command.specs.LineState.{Kept, kept, unless_long}
 use Rattle.ss_outside.specs.Disk.{Told}
 use Rattle.ss_records.specs.Kept.{RecordsState, shown_by}
 use Rattle.ss_store.specs.Kept.{StoreState}
@@ -45,82 +14,89 @@ use Rattle.ss_program.specs.Amid.{Amid, GoesAmid, IsAmid, OfAmid, Owed, Takes, T
 use Rattle.ss_program.specs.Progress.{EndsSession, HasReplied, HasTaken, NoneWait, SessionState, StopsIn, TakesPiece}
 use Rattle.ss_program.specs.Session.{after_lines}
 use Rattle.ss_program.specs.Line.{Brought}
-use Rattle.ss_program.specs.Talk.{Talk, kept_spoken, kept_turn, turn_brought, turn_in, turn_of}
+use Rattle.ss_program.specs.Talk.{Talk, kept_framed, kept_offered, kept_spoken, kept_turn, meant_turn, turn_brought, turn_in, turn_of}
 use Rattle.ss_sessions.specs.Cursors.{Cursors}
 use Rattle.ss_arguments.specs.declared.mode.Form.{Form}
-use Rattle.ss_arguments.specs.declared.mode.Form.TheVariants.{Lines, Sessions}
+use Rattle.ss_arguments.specs.declared.mode.Form.TheVariants.{Lines, Sessions, Frames, Follow}
 use Rattle.ss_arguments.specs.declared.mode.Sealing.{Sealing}
 use Rattle.ss_program.specs.declared.status.Status.{Status}
 use Rattle.ss_program.specs.declared.status.Status.TheVariants.{Done}
 use Rattle.ss_program.proofs.AmidLemmas.{AreOwed-none, GoesAmid-then, IsAmid-begin, StopsIn-after, owed-nothing, said-all, sealing-owed}
-use Rattle.ss_program.proofs.AnswerLemmas.{kept-brings}
+use Rattle.ss_program.proofs.AnswerLemmas.{kept-brings, line-kept, meaning-long}
 use Rattle.ss_program.proofs.SendLemmas.{rest-slice}
+use Rattle.ss_program.proofs.StepsLemmas.{steps-more}
 use Rattle.ss_program.proofs.SessionLemmas.{StopsIn-more, after_lines-form}
+use Rattle.ss_program.specs.Reading.{StepState, TellsStep}
+use Rattle.ss_program.specs.Steps.{kept_so_far, kept_step, steps, steps_so_far}
 
--- a line that has ended and is kept isn't too long
-unless_long-short : (line : List ℕ) → IfSome (unless_long line) (λ bytes. length bytes ≤ LONGEST_LINE)
-unless_long-short line = elim (cases_lt LONGEST_LINE (length line)) [
-  | inl long ↦ (let none = cond-false (nat_le (length line) LONGEST_LINE) (Some line) None (lt-leb (length line) LONGEST_LINE long) in
-      subst (λ (o : Option (List ℕ)). IfSome o (λ bytes. length bytes ≤ LONGEST_LINE)) (sym none) tt)
-  | inr fits ↦ (let some = cond-true (nat_le (length line) LONGEST_LINE) (Some line) None (le-leb (length line) LONGEST_LINE fits) in
-      subst (λ (o : Option (List ℕ)). IfSome o (λ bytes. length bytes ≤ LONGEST_LINE)) (sym some) fits)
-]
+-- what an event brings whose frame is written, as its line is kept
+frames-kept : (talk : Talk) (o : Option (List ℕ)) (line : List ℕ) → o ≡ unless_long line → meant_turn talk (meaning line) ≡ kept_framed talk o
+frames-kept talk None line is = ap (λ m. meant_turn talk m) (meaning-long line is)
+frames-kept talk (Some bytes) line is = sym (ap (λ l. meant_turn talk (meaning l)) (line-kept bytes line is))
 
-pub ended_line-short : (line : Kept) → IfSome (ended_line line) (λ bytes. length bytes ≤ LONGEST_LINE)
-ended_line-short None = tt
-ended_line-short (Some bytes) = unless_long-short (without_return bytes)
+-- what a step brings as it is kept is what it brings
+turn-kept : (form : Form) (talk : Talk) (o : Option (List ℕ)) (step : List ℕ) → form ≡ talk.form → o ≡ kept_step form step →
+    turn_of talk step ≡ kept_turn form o talk
+turn-kept (Lines framed) talk o step same is =
+    ap (λ (form : Form). turn_in form talk step) (sym same)
+    ∙ ap (λ (b : Brought). turn_brought None talk b) (sym (kept-brings framed talk.history o step is))
+turn-kept (Sessions framed) talk o step same is =
+    ap (λ (form : Form). turn_in form talk step) (sym same) ∙ ap (λ (k : Option (List ℕ)). kept_spoken framed talk k) (sym is)
+turn-kept Frames talk o step same is = ap (λ (form : Form). turn_in form talk step) (sym same) ∙ frames-kept talk o step is
+turn-kept Follow talk o step same is =
+    ap (λ (form : Form). turn_in form talk step) (sym same) ∙ ap (λ (k : Option (List ℕ)). kept_offered talk k) (sym is)
 
--- what a line brings as it is kept is what it brings
-turn-kept : (form : Form) (talk : Talk) (o : Option (List ℕ)) (line : List ℕ) → form ≡ talk.form → o ≡ unless_long line →
-    turn_of talk line ≡ kept_turn form o talk
-turn-kept Lines talk o line same is =
-    ap (λ (form : Form). turn_in form talk line) (sym same) ∙ ap (λ (b : Brought). turn_brought None talk b) (sym (kept-brings talk.history o line is))
-turn-kept Sessions talk o line same is =
-    ap (λ (form : Form). turn_in form talk line) (sym same) ∙ ap (λ (k : Option (List ℕ)). kept_spoken talk k) (sym is)
+-- a step is taken as it is kept
+pub Takes-kept : {from to : Amid} {result : Result (Unit {0}) Status} {old new : Told} (form : Form) (o : Option (List ℕ)) (step : List ℕ) →
+    TakesTurn (kept_turn form o) from to result old new → o ≡ kept_step form step → (sealing : Sealing) (talk : Talk) (ls : List (List ℕ))
+    (before : Option (List ℕ)) → form ≡ talk.form → Takes sealing talk ls (step ∷ []) before from to result old new
+Takes-kept form o step takes is sealing talk ls before same =
+    takes sealing talk ls before step (turn-kept form (after_lines talk ls) o step (same ∙ sym (after_lines-form talk ls)) is)
 
--- a line is taken as it is kept
-pub Takes-kept : {from to : Amid} {result : Result (Unit {0}) Status} {old new : Told} (form : Form) (o : Option (List ℕ)) (line : List ℕ) →
-    TakesTurn (kept_turn form o) from to result old new → o ≡ unless_long line → (sealing : Sealing) (talk : Talk) (ls : List (List ℕ))
-    (before : Option (List ℕ)) → form ≡ talk.form → Takes sealing talk ls (line ∷ []) before from to result old new
-Takes-kept form o line takes is sealing talk ls before same =
-    takes sealing talk ls before line (turn-kept form (after_lines talk ls) o line (same ∙ sym (after_lines-form talk ls)) is)
+-- what a reader tells of the steps that have ended, in a conversation of its form
+pub advance-told : (input more : List ℕ) {form other : Form} (ended : Ended) (next : StepState) → form ≡ other → next.form ≡ form →
+    TellsStep (steps_so_far form input) (steps_so_far form more) (Some ended) next →
+    (step : List ℕ) × (steps_so_far other more ≡ steps_so_far other input ++ step ∷ []) × (next.step ≡ kept_step form step)
+advance-told input more ended next same kept (step, grew, has) =
+    (step, subst (λ f. steps_so_far f more ≡ steps_so_far f input ++ step ∷ []) same grew, subst (λ f. next.step ≡ kept_step f step) kept has)
 
--- the lines of more input go on from those of an input
-pub lines-more : (taken more : List ℕ) → (rest : List (List ℕ)) × (lines_so_far (taken ++ more) ≡ lines_so_far taken ++ rest)
-lines-more taken more =
-    let front = ended_lines-append taken more in
-    (map without_return front.0, ap (λ ls. map without_return ls) front.1 ∙ map-append without_return _ front.0)
+-- and of all steps, where the input has ended
+pub last-told : (input : List ℕ) {form other : Form} (ended : Ended) (next : StepState) → form ≡ other → next.form ≡ form →
+    TellsStep (steps_so_far form input) (steps form input) (Some ended) next →
+    (step : List ℕ) × (steps other input ≡ steps_so_far other input ++ step ∷ []) × (next.step ≡ kept_step form step)
+last-told input ended next same kept (step, grew, has) =
+    (step, subst (λ f. steps f input ≡ steps_so_far f input ++ step ∷ []) same grew, subst (λ f. next.step ≡ kept_step f step) kept has)
 
 -- a line of a piece at which the run stopped
 pub Stops-piece : (sealing : Sealing) (talk : Talk) (old new : Told) (before after : Option (List ℕ)) (status : Status) (input piece line : List ℕ)
-    (count : ℕ) → lines_so_far (input ++ take count piece) ≡ lines_so_far input ++ line ∷ [] →
-    StopsIn sealing talk (lines_so_far input ++ line ∷ []) old new before after status →
-    StopsIn sealing talk (lines_so_far (input ++ piece)) old new before after status
+    (count : ℕ) → steps_so_far talk.form (input ++ take count piece) ≡ steps_so_far talk.form input ++ line ∷ [] →
+    StopsIn sealing talk (steps_so_far talk.form input ++ line ∷ []) old new before after status →
+    StopsIn sealing talk (steps_so_far talk.form (input ++ piece)) old new before after status
 Stops-piece sealing talk old new before after status input piece line count one stops =
-    let more = lines-more (input ++ take count piece) (drop count piece) in
+    let more = steps-more talk.form (input ++ take count piece) (drop count piece) in
     let whole : (input ++ take count piece) ++ drop count piece ≡ input ++ piece =
     append_assoc input (take count piece) (drop count piece) ∙ ap (λ bs. input ++ bs) (take-append-drop count piece) in
     subst (λ ls. StopsIn sealing talk ls old new before after status)
-    (ap (λ ls. ls ++ more.0) (sym one) ∙ sym more.1 ∙ ap (λ bs. lines_so_far bs) whole)
-    (StopsIn-more sealing talk (lines_so_far input ++ line ∷ []) more.0 old new before after status stops)
+    (ap (λ ls. ls ++ more.0) (sym one) ∙ sym more.1 ∙ ap (λ bs. steps_so_far talk.form bs) whole)
+    (StopsIn-more sealing talk (steps_so_far talk.form input ++ line ∷ []) more.0 old new before after status stops)
 
 module _ (sealing : Sealing) (talk : Talk) (before : Option (List ℕ)) (first : Amid) (old mid new : Told) (taken more : List ℕ) where
   -- bytes are taken after others, or the run stops after these
-  pub GoesAmid-input : (second : Amid) → GoesAmid sealing talk (lines_so_far taken) before first old mid →
-      GoesAmid sealing talk (lines_so_far (taken ++ more)) before second mid new → GoesAmid sealing talk (lines_so_far (taken ++ more)) before second old new
+  pub GoesAmid-input : (second : Amid) → GoesAmid sealing talk (steps_so_far talk.form taken) before first old mid →
+      GoesAmid sealing talk (steps_so_far talk.form (taken ++ more)) before second mid new → GoesAmid sealing talk (steps_so_far talk.form (taken ++ more)) before second old new
   GoesAmid-input second one two =
-      let rest = lines-more taken more in
+      let rest = steps-more talk.form taken more in
       subst (λ ls. GoesAmid sealing talk ls before second old new) (sym rest.1)
-      (GoesAmid-then sealing talk (lines_so_far taken) rest.0 before first old mid new second one
+      (GoesAmid-then sealing talk (steps_so_far talk.form taken) rest.0 before first old mid new second one
       (subst (λ ls. GoesAmid sealing talk ls before second mid new) rest.1 two))
 
-  pub Stops-input : (after : Option (List ℕ)) (status : Status) → GoesAmid sealing talk (lines_so_far taken) before first old mid →
-      StopsIn sealing talk (lines_so_far (taken ++ more)) mid new before after status →
-      StopsIn sealing talk (lines_so_far (taken ++ more)) old new before after status
+  pub Stops-input : (after : Option (List ℕ)) (status : Status) → GoesAmid sealing talk (steps_so_far talk.form taken) before first old mid →
+      StopsIn sealing talk (steps_so_far talk.form (taken ++ more)) mid new before after status →
+      StopsIn sealing talk (steps_so_far talk.form (taken ++ more)) old new before after status
   Stops-input after status one two =
-      let rest = lines-more taken more in
+      let rest = steps-more talk.form taken more in
       subst (λ ls. StopsIn sealing talk ls old new before after status) (sym rest.1)
-      (StopsIn-after sealing talk (lines_so_far taken) rest.0 before first old mid new after status one
+      (StopsIn-after sealing talk (steps_so_far talk.form taken) rest.0 before first old mid new after status one
       (subst (λ ls. StopsIn sealing talk ls mid new before after status) rest.1 two))
 
 -- a piece that was taken in part, and more of the rest of it
@@ -140,35 +116,35 @@ taken-rest input piece done =
     ∙ ap (λ bs. input ++ bs) (take-append-drop done piece)
 
 -- more bytes are taken of a piece
-pub OfAmid-more : (form : Form) (line next last : Kept) (from mid to : Amid) (old between new : Told) (piece : List ℕ) (done k : ℕ) →
-    OfAmid form line from old (λ sealing talk before input. (next ≡ kept (unended (input ++ take done piece)))
-    × GoesAmid sealing talk (lines_so_far (input ++ take done piece)) before mid old between) →
-    OfAmid form next mid between (λ sealing talk before input. (last ≡ kept (unended (input ++ take k (take (length piece - done) (drop done piece)))))
-    × GoesAmid sealing talk (lines_so_far (input ++ take k (take (length piece - done) (drop done piece)))) before to between new) →
-    OfAmid form line from old (λ sealing talk before input. (last ≡ kept (unended (input ++ take (done + k) piece)))
-    × GoesAmid sealing talk (lines_so_far (input ++ take (done + k) piece)) before to old new)
-OfAmid-more form line next last from mid to old between new piece done k first second sealing talk before input same under at =
+pub OfAmid-more : (form other : Form) → other ≡ form → (line next last : Kept) (from mid to : Amid) (old between new : Told) (piece : List ℕ) (done k : ℕ) →
+    OfAmid form line from old (λ sealing talk before input. (next ≡ kept_so_far talk.form (input ++ take done piece))
+    × GoesAmid sealing talk (steps_so_far talk.form (input ++ take done piece)) before mid old between) →
+    OfAmid other next mid between (λ sealing talk before input. (last ≡ kept_so_far talk.form (input ++ take k (take (length piece - done) (drop done piece))))
+    × GoesAmid sealing talk (steps_so_far talk.form (input ++ take k (take (length piece - done) (drop done piece)))) before to between new) →
+    OfAmid form line from old (λ sealing talk before input. (last ≡ kept_so_far talk.form (input ++ take (done + k) piece))
+    × GoesAmid sealing talk (steps_so_far talk.form (input ++ take (done + k) piece)) before to old new)
+OfAmid-more form other alike line next last from mid to old between new piece done k first second sealing talk before input same under at =
     let one = first sealing talk before input same under at in
-    let two = second sealing talk before (input ++ take done piece) same one.0 one.1.amid in
-    subst (λ bs. (last ≡ kept (unended bs)) × GoesAmid sealing talk (lines_so_far bs) before to old new) (taken-more input piece done k) (
+    let two = second sealing talk before (input ++ take done piece) (alike ∙ same) one.0 one.1.amid in
+    subst (λ bs. (last ≡ kept_so_far talk.form bs) × GoesAmid sealing talk (steps_so_far talk.form bs) before to old new) (taken-more input piece done k) (
       two.0,
       GoesAmid-input sealing talk before mid old between new (input ++ take done piece) (take k (take (length piece - done) (drop done piece))) to one.1
           two.1,
     )
 
 -- or the run stops in them
-pub OfAmid-stops : (form : Form) (line next : Kept) (from mid : Amid) (after : Option (List ℕ)) (status : Status) (old between new : Told)
+pub OfAmid-stops : (form other : Form) → other ≡ form → (line next : Kept) (from mid : Amid) (after : Option (List ℕ)) (status : Status) (old between new : Told)
     (piece : List ℕ) (done : ℕ) →
-    OfAmid form line from old (λ sealing talk before input. (next ≡ kept (unended (input ++ take done piece)))
-    × GoesAmid sealing talk (lines_so_far (input ++ take done piece)) before mid old between) →
-    OfAmid form next mid between (λ sealing talk before input.
-    StopsIn sealing talk (lines_so_far (input ++ take (length piece - done) (drop done piece))) between new before after status) →
-    OfAmid form line from old (λ sealing talk before input. StopsIn sealing talk (lines_so_far (input ++ piece)) old new before after status)
-OfAmid-stops form line next from mid after status old between new piece done first second sealing talk before input same under at =
+    OfAmid form line from old (λ sealing talk before input. (next ≡ kept_so_far talk.form (input ++ take done piece))
+    × GoesAmid sealing talk (steps_so_far talk.form (input ++ take done piece)) before mid old between) →
+    OfAmid other next mid between (λ sealing talk before input.
+    StopsIn sealing talk (steps_so_far talk.form (input ++ take (length piece - done) (drop done piece))) between new before after status) →
+    OfAmid form line from old (λ sealing talk before input. StopsIn sealing talk (steps_so_far talk.form (input ++ piece)) old new before after status)
+OfAmid-stops form other alike line next from mid after status old between new piece done first second sealing talk before input same under at =
     let one = first sealing talk before input same under at in
-    subst (λ bs. StopsIn sealing talk (lines_so_far bs) old new before after status) (taken-rest input piece done)
+    subst (λ bs. StopsIn sealing talk (steps_so_far talk.form bs) old new before after status) (taken-rest input piece done)
     (Stops-input sealing talk before mid old between new (input ++ take done piece) (take (length piece - done) (drop done piece)) after status one.1
-    (second sealing talk before (input ++ take done piece) same one.0 one.1.amid))
+    (second sealing talk before (input ++ take done piece) (alike ∙ same) one.0 one.1.amid))
 
 -- the state of a session by its parts
 abbrev pub session_of : Form → Cursors → StoreState → Kept → Option (List ℕ) → SessionState
@@ -179,9 +155,9 @@ module _ (form : Form) (cursors : Cursors) (store : StoreState) (line : Kept) (w
   -- before a piece nothing waits, and nothing is staged
   begins : (sealing : Sealing) (talk : Talk) (before : Option (List ℕ)) (input : List ℕ) →
       HasTaken sealing talk old (session_of form cursors store line waiting) input →
-      HasReplied talk before held input → IsAmid sealing talk (lines_so_far input) before (amid store.records (owed_by waiting) held cursors) old
+      HasReplied talk before held input → IsAmid sealing talk (steps_so_far talk.form input) before (amid store.records (owed_by waiting) held cursors) old
   begins sealing talk before input at replied =
-      IsAmid-begin sealing talk (lines_so_far input) before (amid store.records (owed_by waiting) held cursors) old (owed-nothing waiting at.unsaid)
+      IsAmid-begin sealing talk (steps_so_far talk.form input) before (amid store.records (owed_by waiting) held cursors) old (owed-nothing waiting at.unsaid)
       (AreOwed-none sealing waiting at.seals) nothing_staged at.stands at.durable replied at.cursors
 
   module _ (now : Cursors) (next : StoreState) (after_line : Kept) (left : Option (List ℕ)) (after : Option (List ℕ)) (piece : List ℕ) (new : Told) where
@@ -194,7 +170,7 @@ module _ (form : Form) (cursors : Cursors) (store : StoreState) (line : Kept) (w
         (session_of form now next after_line left) held after result old new
     TakesPiece-sealed mid between (Ok v) bytes none_more sealed none = record {
       goes = λ sealing talk before input at replied.
-          let taken = lines_so_far (input ++ piece) in
+          let taken = steps_so_far talk.form (input ++ piece) in
           let to = amid next.records (owed_by left) after now in
           let one = bytes.goes sealing talk before input at.form at.line (begins sealing talk before input at replied) in
           let has = subst (λ ls. GoesAmid sealing talk ls before to old new) (append-nil taken)
@@ -217,7 +193,7 @@ module _ (form : Form) (cursors : Cursors) (store : StoreState) (line : Kept) (w
     TakesPiece-sealed mid between (Err status) bytes none_more sealed none = record {
       goes = tt;
       stops = λ sealing talk before input at replied.
-          let taken = lines_so_far (input ++ piece) in
+          let taken = steps_so_far talk.form (input ++ piece) in
           let one = bytes.goes sealing talk before input at.form at.line (begins sealing talk before input at replied) in
           subst (λ ls. StopsIn sealing talk ls old new before after status) (append-nil taken)
           (StopsIn-after sealing talk taken [] before (mid now) old between new after status one.1
@@ -226,7 +202,7 @@ module _ (form : Form) (cursors : Cursors) (store : StoreState) (line : Kept) (w
 
     -- or the run stopped in the piece
     pub TakesPiece-stopped : (status : Status) → OfAmid form line (amid store.records (owed_by waiting) held cursors) old (λ sealing talk before input.
-        StopsIn sealing talk (lines_so_far (input ++ piece)) old new before after status) →
+        StopsIn sealing talk (steps_so_far talk.form (input ++ piece)) old new before after status) →
         TakesPiece (λ (w : Unit {0}). piece) piece (session_of form cursors store line waiting)
         (session_of form now next after_line left) held after (Err status) old new
     TakesPiece-stopped status takes = record {
@@ -243,9 +219,9 @@ module _ (form : Form) (cursors : Cursors) (store : StoreState) (line : Kept) (w
       done = λ _ sealing talk before input at replied.
           let has = takes.goes sealing talk before input at.form at.line (begins sealing talk before input at replied) in
           record {
-            stands = subst (Stands (after_lines talk (lines input)).history) sealed has.amid.shown;
+            stands = subst (Stands (after_lines talk (steps talk.form input)).history) sealed has.amid.shown;
             durable = has.amid.durable;
-            replied = said-all sealing talk (lines input) before (amid records (owed_by left) after now) new (owed-nothing left none) has.amid;
+            replied = said-all sealing talk (steps talk.form input) before (amid records (owed_by left) after now) new (owed-nothing left none) has.amid;
             any_moment = has.any_moment;
           };
       stops = λ going. absurd (going refl);
@@ -262,21 +238,22 @@ module _ (form : Form) (cursors : Cursors) (store : StoreState) (line : Kept) (w
 
 module _ (form : Form) (line : Kept) {from to : Amid} {old new : Told} where
   -- the last line of the input is taken
-  pub TakesLast-line : (result : Result (Unit {0}) Status) → ((input : List ℕ) → line ≡ kept (unended input) →
-      (last : List ℕ) × (lines input ≡ lines_so_far input ++ last ∷ []) × ((sealing : Sealing) (talk : Talk) (before : Option (List ℕ)) →
-      form ≡ talk.form → Takes sealing talk (lines_so_far input) (last ∷ []) before from to result old new)) →
+  pub TakesLast-line : (result : Result (Unit {0}) Status) → ((sealing : Sealing) (talk : Talk) (before : Option (List ℕ)) (input : List ℕ) →
+      form ≡ talk.form → line ≡ kept_so_far talk.form input →
+      (last : List ℕ) × (steps talk.form input ≡ steps_so_far talk.form input ++ last ∷ [])
+      × Takes sealing talk (steps_so_far talk.form input) (last ∷ []) before from to result old new) →
       TakesLast form line from to result old new
   TakesLast-line (Ok u) takes = record {
     goes = λ sealing talk before input same is at.
-        let last = takes input is in
-        subst (λ ls. GoesAmid sealing talk ls before to old new) (sym last.1) ((last.2 sealing talk before same).goes at);
+        let last = takes sealing talk before input same is in
+        subst (λ ls. GoesAmid sealing talk ls before to old new) (sym last.1) (last.2.goes at);
     stops = tt;
   }
   TakesLast-line (Err status) takes = record {
     goes = tt;
     stops = λ sealing talk before input same is at.
-        let last = takes input is in
-        subst (λ ls. StopsIn sealing talk ls old new before to.held status) (sym last.1) ((last.2 sealing talk before same).stops at);
+        let last = takes sealing talk before input same is in
+        subst (λ ls. StopsIn sealing talk ls old new before to.held status) (sym last.1) (last.2.stops at);
   }
 
 module _ (form : Form) (line : Kept) {from : Amid} {was is : RecordsState} {owed left : Owed} {held after : Option (List ℕ)} {old between new : Told}
@@ -288,16 +265,16 @@ module _ (form : Form) (line : Kept) {from : Amid} {was is : RecordsState} {owed
     goes = λ sealing talk before input same line at.
         let one = first.goes sealing talk before input same line at in
         let to = amid is left after cursors in
-        subst (λ ls. GoesAmid sealing talk ls before to old new) (append-nil (lines input))
-        (GoesAmid-then sealing talk (lines input) [] before (amid was owed held cursors) old between new to one
-        ((second cursors sealing talk (lines input) before).goes one.amid));
+        subst (λ ls. GoesAmid sealing talk ls before to old new) (append-nil (steps talk.form input))
+        (GoesAmid-then sealing talk (steps talk.form input) [] before (amid was owed held cursors) old between new to one
+        ((second cursors sealing talk (steps talk.form input) before).goes one.amid));
     stops = tt;
   }
   TakesLast-then (Err status) first second = record {
     goes = tt;
     stops = λ sealing talk before input same line at.
         let one = first.goes sealing talk before input same line at in
-        subst (λ ls. StopsIn sealing talk ls old new before after status) (append-nil (lines input))
-        (StopsIn-after sealing talk (lines input) [] before (amid was owed held cursors) old between new after status one
-        ((second cursors sealing talk (lines input) before).stops one.amid));
+        subst (λ ls. StopsIn sealing talk ls old new before after status) (append-nil (steps talk.form input))
+        (StopsIn-after sealing talk (steps talk.form input) [] before (amid was owed held cursors) old between new after status one
+        ((second cursors sealing talk (steps talk.form input) before).stops one.amid));
   }

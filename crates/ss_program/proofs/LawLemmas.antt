@@ -1,9 +1,10 @@
 -- What a session makes of a history: another one, over which its queries are answered.
-use Rattle.std.proofs.Common.{◌≡◌, ◌∙◌, ◌++◌, List, [], ◌∷◌, ℕ, ℤ, map, Option, Some, None, IsSome, true, Result, Ok, Err, refl, sym, ap, subst}
+use Rattle.std.proofs.Common.{◌≡◌, ◌∙◌, ◌++◌, List, [], ◌∷◌, ℕ, ℤ, map, Option, Some, None, IsSome, true, Result, Ok, Err, refl, sym, ap, subst, Bool, false}
+use Rattle.std.specs.Prelude.{◌≤ℤ◌}
 use Rattle.std.proofs.lemmas.List.{append-nil}
 use Rattle.ss_catalog.specs.declared.event.Event.{Event}
 use Rattle.ss_catalog.specs.declared.event.Event.TheVariants.{Create, Value, Open, Close, Drop}
-use Rattle.ss_catalog.specs.Queries.{adds_up}
+use Rattle.ss_catalog.specs.Queries.{adds_up, is_guess}
 use Rattle.ss_catalog.specs.declared.query.End.{End}
 use Rattle.ss_catalog.specs.declared.query.Kind.{Kind}
 use Rattle.ss_catalog.specs.declared.query.Kind.TheVariants as kinds
@@ -20,17 +21,17 @@ use Rattle.ss_command.specs.Grammar.{meaning}
 use Rattle.ss_command.specs.Printed.{IsSayable}
 use Rattle.ss_command.specs.declared.command.Command.{Command}
 use Rattle.ss_command.specs.declared.command.Command.TheVariants.{Do, Ask, Certify, Series as AskRows, Last, Values, Windows, List as ListAll}
-use Rattle.ss_model.proofs.AnswerLemmas.{answer-exact, answer-holds, answer-kind, answer-known}
+use Rattle.ss_model.proofs.AnswerLemmas.{answer-ends, answer-exact, answer-holds, answer-kind, answer-known}
 use Rattle.ss_model.proofs.HistoryLemmas.{IsHistory_push, IsState-state}
 use Rattle.ss_model.proofs.RowLemmas.{row-answered}
-use Rattle.ss_model.specs.Answers.{HoldsPresence, HoldsTruth, IsExactOutcome, IsOfKind, outcome_of, refuses_query, split_by}
+use Rattle.ss_model.specs.Answers.{HasEnds, HoldsPresence, HoldsTruth, IsExactOutcome, IsOfKind, interval_query, outcome_of, refuses_query, split_by}
 use Rattle.ss_model.specs.History.{CanBeSaid, added, marked_of, values_of}
 use Rattle.ss_model.specs.Refusals.{IsHistory, refuses}
 use Rattle.ss_model.specs.Series.{AnswersRow, refuses_series}
 use Rattle.ss_model.specs.State.{state}
 use Rattle.ss_model.specs.Truth.{true_presence}
 use Rattle.ss_model.specs.declared.outcome.Outcome.{Outcome}
-use Rattle.ss_model.specs.declared.outcome.Outcome.TheVariants.{Count, Sum, Min, Max, Has}
+use Rattle.ss_model.specs.declared.outcome.Outcome.TheVariants.{Count, Sum, Min, Max, Has, Estimate}
 use Rattle.ss_model.specs.declared.outcome.Presence.{Presence}
 use Rattle.ss_report.specs.declared.reply.Reply.{Reply}
 use Rattle.ss_report.specs.declared.reply.Reply.TheVariants.{Answered, SeriesHead, Row}
@@ -38,7 +39,9 @@ use Rattle.ss_program.specs.Certifying.{IsSharp}
 use Rattle.ss_program.specs.Line.{
   Brought,
   History,
-  accepted_event,
+  accepted_in,
+  command_in,
+  meaning_in,
   brings,
   command_brings,
   history_after,
@@ -56,7 +59,7 @@ use Rattle.ss_program.proofs.SeriesLemmas.{brings-series, series_rows-map}
 use Rattle.ss_program.proofs.SessionLemmas.{replies-append}
 
 -- an event of a command that a line can say
-sayable-said : (event : Event) → IsSayable (Do event) → CanBeSaid event
+pub sayable-said : (event : Event) → IsSayable (Do event) → CanBeSaid event
 sayable-said (Create name params) sayable = tt
 sayable-said (Value name t v) sayable = (sayable.1, sayable.2)
 sayable-said (Open name t) sayable = sayable.1
@@ -67,36 +70,36 @@ sayable-said (Drop name) sayable = tt
 still : (history : History) (brought : Brought) → brought.event ≡ None → IsHistory history → IsHistory (history_after history brought)
 still history brought none whole = subst (λ h. IsHistory h) (sym (history-still history brought none)) whole
 
-event-leaves : (history : History) (event : Event) (refusal : Option Refusal) → refuses (state history) event ≡ refusal → CanBeSaid event →
-    IsHistory history → IsHistory (history_after history (unless_refused refusal (accepted_event history event)))
-event-leaves history event None none said whole = IsHistory_push history (added event) (record { before = whole; said = said; accepted = none })
-event-leaves history event (Some refusal) is said whole = still history (refused refusal) refl whole
+pub event-leaves : (framed : Bool) (history : History) (event : Event) (refusal : Option Refusal) → refuses (state history) event ≡ refusal → CanBeSaid event →
+    IsHistory history → IsHistory (history_after history (unless_refused refusal (accepted_in framed history event)))
+event-leaves framed history event None none said whole = IsHistory_push history (added event) (record { before = whole; said = said; accepted = none })
+event-leaves framed history event (Some refusal) is said whole = still history (refused refusal) refl whole
 
-command-leaves : (history : History) (command : Command) → IsSayable command → IsHistory history →
-    IsHistory (history_after history (command_brings history command))
-command-leaves history (Do event) sayable whole =
-    event-leaves history event (refuses (state history) event) refl (sayable-said event sayable) whole
-command-leaves history (Ask query) sayable whole = still history (command_brings history (Ask query)) (ask-event history query) whole
-command-leaves history (Certify query end) sayable whole =
+command-leaves : (framed : Bool) (history : History) (command : Command) → IsSayable command → IsHistory history →
+    IsHistory (history_after history (command_in framed history command))
+command-leaves framed history (Do event) sayable whole =
+    event-leaves framed history event (refuses (state history) event) refl (sayable-said event sayable) whole
+command-leaves framed history (Ask query) sayable whole = still history (command_brings history (Ask query)) (ask-event history query) whole
+command-leaves framed history (Certify query end) sayable whole =
     still history (command_brings history (Certify query end)) (certify-event history query end) whole
-command-leaves history (AskRows series) sayable whole = still history (command_brings history (AskRows series)) (series-event history series) whole
-command-leaves history (Last name) sayable whole = still history (command_brings history (Last name)) (last-event history name) whole
-command-leaves history (Values name from to) sayable whole =
+command-leaves framed history (AskRows series) sayable whole = still history (command_brings history (AskRows series)) (series-event history series) whole
+command-leaves framed history (Last name) sayable whole = still history (command_brings history (Last name)) (last-event history name) whole
+command-leaves framed history (Values name from to) sayable whole =
     still history (command_brings history (Values name from to)) (values-event history name from to) whole
-command-leaves history (Windows name) sayable whole = still history (command_brings history (Windows name)) (windows-event history name) whole
-command-leaves history ListAll sayable whole = still history (command_brings history ListAll) refl whole
+command-leaves framed history (Windows name) sayable whole = still history (command_brings history (Windows name)) (windows-event history name) whole
+command-leaves framed history ListAll sayable whole = still history (command_brings history ListAll) refl whole
 
-meaning-leaves : (history : History) (meant : Result (Option Command) Refusal) →
+pub meaning-leaves : (framed : Bool) (history : History) (meant : Result (Option Command) Refusal) →
     ((command : Command) → meant ≡ Ok (Some command) → IsSayable command) → IsHistory history →
-    IsHistory (history_after history (meaning_brings history meant))
-meaning-leaves history (Err refusal) sayable whole = still history (refused refusal) refl whole
-meaning-leaves history (Ok None) sayable whole = still history nothing refl whole
-meaning-leaves history (Ok (Some command)) sayable whole = command-leaves history command (sayable command refl) whole
+    IsHistory (history_after history (meaning_in framed history meant))
+meaning-leaves framed history (Err refusal) sayable whole = still history (refused refusal) refl whole
+meaning-leaves framed history (Ok None) sayable whole = still history nothing refl whole
+meaning-leaves framed history (Ok (Some command)) sayable whole = command-leaves framed history command (sayable command refl) whole
 
 pub lines-leave : (history : History) (ls : List (List ℕ)) → IsHistory history → IsHistory (plain_after history ls)
 lines-leave history [] whole = whole
 lines-leave history (line ∷ ls) whole =
-    lines-leave (history_after history (brings history line)) ls (meaning-leaves history (meaning line) (meant-sayable line) whole)
+    lines-leave (history_after history (brings history line)) ls (meaning-leaves false history (meaning line) (meant-sayable line) whole)
 
 -- what a query brings that has an answer
 answered-query : (history : History) (query : Query) (o : Option Outcome) → IsHistory history → refuses_query (state history) query ≡ None →
@@ -131,6 +134,7 @@ presence-of_kind kind value (Sum lo hi) asked of = cc
 presence-of_kind kind value (Min extreme) asked of = cc
 presence-of_kind kind value (Max extreme) asked of = cc
 presence-of_kind kind value (Has presence) asked of = (presence, refl)
+presence-of_kind kind value (Estimate lo guess hi) asked of = (let wrong : false ≡ true = sym (ap is_guess asked) ∙ of in cc)
 
 some-outcome : (o : Option Outcome) → IsSome o → (outcome : Outcome) × (o ≡ Some outcome)
 some-outcome None some = cc
@@ -152,18 +156,50 @@ presence-line history line query value whole means asked none =
       subst (λ v. HoldsPresence it.0 (true_presence v query.from query.to (values_of history query.name) (marked_of history query.name))) same holds.2,
     )
 
+-- what is answered to where the likeliest value is asked for
+estimate-of_kind : (kind : Kind) (outcome : Outcome) → is_guess kind ≡ true → IsOfKind kind outcome →
+    (lo : ℤ) × (guess : ℤ) × (hi : ℤ) × (outcome ≡ Estimate lo guess hi)
+estimate-of_kind kind (Count lo hi) asked of = (let wrong : true ≡ false = sym asked ∙ ap is_guess of in cc)
+estimate-of_kind kind (Sum lo hi) asked of = (let wrong : true ≡ false = sym asked ∙ ap is_guess of in cc)
+estimate-of_kind kind (Min extreme) asked of = (let wrong : true ≡ false = sym asked ∙ ap is_guess of in cc)
+estimate-of_kind kind (Max extreme) asked of = (let wrong : true ≡ false = sym asked ∙ ap is_guess of in cc)
+estimate-of_kind kind (Has presence) asked of = (let wrong : true ≡ false = sym asked ∙ ap is_guess of.1 in cc)
+estimate-of_kind kind (Estimate lo guess hi) asked of = (lo, guess, hi, refl)
+
+pub estimate-line : (history : History) (line : List ℕ) (query : Query) → IsHistory history → meaning line ≡ Ok (Some (Ask query)) →
+    is_guess query.kind ≡ true → refuses_query (state history) query ≡ None →
+    (lo : ℤ) × (guess : ℤ) × (hi : ℤ) × (brings history line ≡ only_replies (Answered (Estimate lo guess hi) ∷ []))
+    × (lo ≤ℤ guess) × (guess ≤ℤ hi)
+    × (answer : Outcome) × (outcome_of (state history) (interval_query query) ≡ Some answer) × HasEnds (Estimate lo guess hi) answer
+estimate-line history line query whole means asked none =
+    let answered = some-outcome (outcome_of (state history) query) (answer-known (state history) query none) in
+    let it = estimate-of_kind query.kind answered.0 asked (answer-kind (state history) query answered.0 answered.1) in
+    let is : outcome_of (state history) query ≡ Some (Estimate it.0 it.1 it.2) = answered.1 ∙ ap Some it.3 in
+    let holds = answer-holds history query (Estimate it.0 it.1 it.2) whole is in
+    let ends = answer-ends (state history) query (Estimate it.0 it.1 it.2) asked is in (
+      it.0,
+      it.1,
+      it.2,
+      ap (λ m. meaning_brings history m) means ∙ brings-answer_replies history query (Estimate it.0 it.1 it.2) none is,
+      holds.2,
+      holds.3,
+      ends.0,
+      ends.1,
+      ends.2,
+    )
+
 -- and so does a series, row by row
 pub answered-series : (history : History) (line : List ℕ) (series : Series) → IsHistory history → meaning line ≡ Ok (Some (AskRows series)) →
     refuses_series (state history) series ≡ None →
     (answers : ℕ → Outcome)
-    × (brings history line ≡ only_replies (SeriesHead (row_count series) ∷ map (λ row. Row (row_start series row) (answers row)) (rows_of series)))
+    × (brings history line ≡ only_replies (SeriesHead series.kind (row_count series) ∷ map (λ row. Row (row_start series row) (answers row)) (rows_of series)))
     × ((row : ℕ) → AnswersRow history series row (answers row))
 answered-series history line series whole means none =
     let answers = λ (row : ℕ). (row-answered history series row whole none).0 in
     let each = λ (row : ℕ). (row-answered history series row whole none).1 in (
       answers,
       ap (λ m. meaning_brings history m) means ∙ brings-series history series none
-          ∙ ap (λ rows. only_replies (SeriesHead (row_count series) ∷ rows)) (series_rows-map (state history) series answers (λ row. (each row).is)),
+          ∙ ap (λ rows. only_replies (SeriesHead series.kind (row_count series) ∷ rows)) (series_rows-map (state history) series answers (λ row. (each row).is)),
       each,
     )
 

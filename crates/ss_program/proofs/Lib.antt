@@ -1,6 +1,9 @@
 pub mod StepLemmas
 pub mod SendLemmas
 pub mod SessionLemmas
+pub mod StepsLemmas
+pub mod SpelledLemmas
+pub mod WrittenLemmas
 pub mod TakeLemmas
 pub mod TextLemmas
 pub mod AnswerLemmas
@@ -27,6 +30,7 @@ pub mod Rows
 pub mod SaidRows
 pub mod NewestRows
 pub mod FieldRows
+pub mod EndRows
 pub mod AmidRows
 pub mod AmidLemmas
 pub mod SealLemmas
@@ -42,3 +46,13 @@ pub mod CertifyRows
 pub mod PresenceRows
 pub mod CursorRows
 pub mod SessionRows
+pub mod FrameLemmas
+pub mod FollowedLemmas
+pub mod ChainLemmas
+pub mod ChainRows
+pub mod NameRows
+pub mod AnewLemmas
+pub mod NeededLemmas
+pub mod OldLemmas
+pub mod AlikeLemmas
+pub mod AlikeText

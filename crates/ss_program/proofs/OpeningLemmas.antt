@@ -1,6 +1,5 @@
 -- What opening the store has to do with what a run leaves.
 use Rattle.std.proofs.Common.{◌≡◌, ◌⊎◌, inl, inr, ℕ, List, [], Option, Some, Ok, Err, refl, sym, ap, ◌∙◌, arith}
-use Rattle.ss_command.specs.Lines.{lines}
 use Rattle.ss_outside.proofs.CrashLemmas.{joined, now, weaker}
 use Rattle.ss_outside.specs.Crash.{KnowsNow, LeavesOnly}
 use Rattle.ss_outside.specs.Disk.{Told}
@@ -22,6 +21,7 @@ use Rattle.ss_program.proofs.HoldsLemmas.{HoldsReported-done}
 use Rattle.ss_program.proofs.ReadLemmas.{AreRead-none}
 use Rattle.ss_program.proofs.ReadLemmas.{Reads-stop}
 use Rattle.ss_program.proofs.SendLemmas.{appended-nil}
+use Rattle.ss_program.specs.Steps.{steps}
 
 -- What opening the store left comes before what serving leaves.
 pub Serves-opened : (sealing : Sealing) (talk : Talk) (input : List ℕ) (left before after : Option (List ℕ)) (old mid new : Told) (status : Status) →
@@ -30,8 +30,8 @@ pub Serves-opened : (sealing : Sealing) (talk : Talk) (input : List ℕ) (left b
 Serves-opened sealing talk input left before after old mid new status opened serves = record {
   report = serves.report;
   kept = serves.kept;
-  any_moment = joined old mid new (StandsWithin talk (lines input))
-      (weaker old mid (Stands talk.history) (StandsWithin talk (lines input)) (λ image is. ([], lines input, refl, is)) opened) serves.any_moment;
+  any_moment = joined old mid new (StandsWithin talk (steps talk.form input))
+      (weaker old mid (Stands talk.history) (StandsWithin talk (steps talk.form input)) (λ image is. ([], steps talk.form input, refl, is)) opened) serves.any_moment;
   whole = serves.whole;
 }
 
@@ -57,9 +57,9 @@ Serves-unopened sealing talk input left before after old new status how still sa
         starved = λ _. inl (still, same);
         limited = λ is. unopened-other InputLimit (λ w. cc) (λ w. cc) how is;
       };
-      kept = HoldsReported-done sealing talk input left before after new status [] (lines input) refl (AreRead-none input left still) held
+      kept = HoldsReported-done sealing talk input left before after new status [] (steps talk.form input) refl (AreRead-none talk.form input left still) held
           (now old new (Stands talk.history) knows opened) (λ is. unopened-other Done (λ w. cc) (λ w. cc) how is);
-      any_moment = weaker old new (Stands talk.history) (StandsWithin talk (lines input)) (λ image is. ([], lines input, refl, is)) opened;
+      any_moment = weaker old new (Stands talk.history) (StandsWithin talk (steps talk.form input)) (λ image is. ([], steps talk.form input, refl, is)) opened;
       whole = λ is. unopened-other Done (λ w. cc) (λ w. cc) how is;
     }
 

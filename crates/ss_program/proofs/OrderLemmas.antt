@@ -1,5 +1,5 @@
 -- What the cursor forms of a session do between two lines.
-use Rattle.std.proofs.Common.{◌≡◌, ◌∙◌, ◌++◌, ◌∷◌, [], List, ℕ, Option, Some, None, Result, Ok, Err, refl, sym, ap, subst}
+use Rattle.std.proofs.Common.{◌≡◌, ◌∙◌, ◌∷◌, [], List, ℕ, Option, Some, Result, Ok, Err, refl, sym, ap, subst}
 use Rattle.std.proofs.lemmas.List.{append-nil}
 use Rattle.std.proofs.lemmas.Result.{on_ok_weaker}
 use Rattle.std.specs.List.{flat_map}
@@ -13,18 +13,15 @@ use Rattle.ss_records.specs.Kept.{RecordsState, shown_by}
 use Rattle.ss_report.specs.declared.reply.Reply.{Reply}
 use Rattle.ss_sessions.specs.Cursors.{Cursors}
 use Rattle.ss_store.specs.Recover.{Stands}
-use Rattle.ss_arguments.specs.declared.mode.Form.{Form}
-use Rattle.ss_arguments.specs.declared.mode.Form.TheVariants.{Lines, Sessions}
-use Rattle.ss_catalog.specs.declared.refusal.Refusal.TheVariants.{Line}
-use Rattle.ss_program.specs.Amid.{Amid, Owed, TakesNone, TakesOrdered, TakesTurn, amid, owed_by, with_text}
+use Rattle.ss_program.specs.Amid.{Owed, TakesNone, TakesOrdered, amid, owed_by, with_text}
 use Rattle.ss_program.specs.Answer.{at_sink}
 use Rattle.ss_program.specs.Cursor.{Ordered, close_brings, next_brings, open_brings}
-use Rattle.ss_program.specs.Line.{Brought, History, only_replies, refused, text_said}
+use Rattle.ss_program.specs.Line.{Brought, History, only_replies, text_said}
 use Rattle.ss_program.specs.Opened.{OpensBrought}
 use Rattle.ss_program.specs.Progress.{NoneWait}
 use Rattle.ss_report.specs.Text.{said_line}
 use Rattle.ss_program.specs.Sent.{Sends}
-use Rattle.ss_program.specs.Talk.{Talk, kept_turn, turn_brought, turn_said}
+use Rattle.ss_program.specs.Talk.{Talk, turn_said}
 use Rattle.ss_program.specs.declared.status.Status.{Status}
 use Rattle.ss_program.specs.declared.status.Status.TheVariants.{OutOfMemory}
 use Rattle.ss_program.proofs.BroughtLemmas.{TakesTurn-owed, TakesTurn-starved, TakesTurn-stopped, given, halted}
@@ -117,9 +114,3 @@ TakesClosed session was waiting held before after disk reply u knows brings goes
     subst (λ cs. (text_said (Some session) (close_brings cs session).brought ≡ said_line (Some session) reply)
     × ((close_brings cs session).cursors ≡ after)) (sym there)
     (one-text session (close_brings before session).brought reply (ap (λ (b : Brought). b.replies) brings), sym goes))
-
--- a line that is too long is refused, whatever the form of the input
-pub TakesTurn-long : {from to : Amid} {old new : Told} (form : Form) (result : Result (Unit {0}) Status) →
-    TakesTurn (λ talk. turn_brought None talk (refused Line)) from to result old new → TakesTurn (kept_turn form None) from to result old new
-TakesTurn-long Lines result takes = takes
-TakesTurn-long Sessions result takes = takes

@@ -1,46 +1,19 @@
 -- What was read of an input, and the lines that had ended within it.
-use Rattle.std.proofs.Common.{
-  ◌≡◌,
-  ◌⊎◌,
-  inl,
-  inr,
-  length-drop,
-  ℕ,
-  ◌+◌,
-  ◌<◌,
-  ◌≤◌,
-  ◌++◌,
-  List,
-  [],
-  ◌∷◌,
-  length,
-  take,
-  drop,
-  map,
-  Bool,
-  Option,
-  Some,
-  None,
-  Ok,
-  Err,
-  refl,
-  sym,
-  ap,
-  ◌∙◌,
-  subst,
-  append_assoc,
-  arith,
-}
+use Rattle.std.proofs.Common.{◌≡◌, ◌⊎◌, inl, inr, length-drop, ℕ, ◌+◌, ◌<◌, ◌≤◌, ◌++◌, List, [], ◌∷◌, length, take, drop, Bool, Option, Some, None, Ok, Err, refl, sym, ap, ◌∙◌, subst, append_assoc, arith}
 use Rattle.std.proofs.Math.Seq.{take-add}
-use Rattle.std.proofs.lemmas.List.{append-nil, drop-drop, drop_all, length-take-le, map-append, take-append-drop}
-use Rattle.ss_command.specs.Lines.{lines, lines_so_far, unended, unless_empty, without_return}
-use Rattle.ss_command.proofs.LineLemmas.{ended_lines-append, lines-front}
+use Rattle.std.proofs.lemmas.List.{append-nil, drop-drop, drop_all, length-take-le, take-append-drop}
+use Rattle.ss_arguments.specs.declared.mode.Form.{Form}
+use Rattle.ss_arguments.specs.declared.mode.Sealing.{Sealing}
+use Rattle.ss_arguments.specs.declared.mode.Sealing.TheVariants.{Each, Shared}
 use Rattle.ss_outside.specs.Source.{Moves}
 use Rattle.ss_outside.specs.declared.source.Failed.{Failed}
-use Rattle.ss_program.specs.Outcome.{Moved, Reads, Took, lines_within}
+use Rattle.ss_program.specs.Reading.{most_read}
+use Rattle.ss_program.specs.Outcome.{Moved, Reads, Took, steps_within}
 use Rattle.ss_program.specs.Status.{IsStop}
 use Rattle.ss_program.specs.declared.running.TheConstants.{LONGEST_INPUT}
 use Rattle.ss_program.specs.declared.status.Status.{Status}
+use Rattle.ss_program.specs.Steps.{steps, steps_so_far}
+use Rattle.ss_program.proofs.StepsLemmas.{steps-all, steps-front, steps-more}
 use Rattle.ss_program.specs.declared.status.Status.TheVariants.{
   Done,
   Usage,
@@ -54,17 +27,17 @@ use Rattle.ss_program.specs.declared.status.Status.TheVariants.{
 }
 
 -- some first bytes of the input were read, and these lines had ended within them
-pub record AreRead (input : List ℕ) (left : Option (List ℕ)) (ls : List (List ℕ)) : Type 0 where
+pub record AreRead (form : Form) (input : List ℕ) (left : Option (List ℕ)) (ls : List (List ℕ)) : Type 0 where
   pub read : List ℕ
   pub rest : List ℕ
   pub all : read ++ rest ≡ input
   pub others : left ≡ Some rest
   pub more : List (List ℕ)
-  pub are : lines_within read rest ≡ ls ++ more
+  pub are : steps_within form read rest ≡ ls ++ more
 
 -- none were
-pub AreRead-none : (input : List ℕ) (left : Option (List ℕ)) → left ≡ Some input → AreRead input left []
-AreRead-none input left is = record { read = []; rest = input; all = refl; others = is; more = lines_within [] input; are = refl }
+pub AreRead-none : (form : Form) (input : List ℕ) (left : Option (List ℕ)) → left ≡ Some input → AreRead form input left []
+AreRead-none form input left is = record { read = []; rest = input; all = refl; others = is; more = steps_within form [] input; are = refl }
 
 -- what a read moved
 pub moved : (before after : Option (List ℕ)) (count : ℕ) (into left : List ℕ) → Moves before after (Ok count) into → before ≡ Some left →
@@ -109,54 +82,52 @@ Took-at input left n within few is = record {
 }
 
 -- the lines so far are a front of those of the input
-lines_within-front : (taken rest : List ℕ) → (more : List (List ℕ)) × (lines (taken ++ rest) ≡ lines_within taken rest ++ more)
-lines_within-front taken [] = ([], ap (λ bs. lines bs) (append-nil taken) ∙ sym (append-nil (lines taken)))
-lines_within-front taken (b ∷ rest) = lines-front taken (b ∷ rest)
+steps_within-front : (form : Form) (taken rest : List ℕ) → (more : List (List ℕ)) × (steps form (taken ++ rest) ≡ steps_within form taken rest ++ more)
+steps_within-front form taken [] = ([], ap (λ bs. steps form bs) (append-nil taken) ∙ sym (append-nil (steps form taken)))
+steps_within-front form taken (b ∷ rest) = steps-front form taken (b ∷ rest)
 
 -- and those within fewer bytes are a front of those within more
-lines_within-so_far : (taken rest : List ℕ) → (more : List (List ℕ)) × (lines_within taken rest ≡ lines_so_far taken ++ more)
-lines_within-so_far taken [] = (map without_return (unless_empty (unended taken)), refl)
-lines_within-so_far taken (b ∷ rest) = ([], sym (append-nil (lines_so_far taken)))
+steps_within-so_far : (form : Form) (taken rest : List ℕ) → (more : List (List ℕ)) × (steps_within form taken rest ≡ steps_so_far form taken ++ more)
+steps_within-so_far form taken [] = steps-all form taken
+steps_within-so_far form taken (b ∷ rest) = ([], sym (append-nil (steps_so_far form taken)))
 
-lines_within-more : (taken next rest : List ℕ) → (more : List (List ℕ)) × (lines_within (taken ++ next) rest ≡ lines_so_far taken ++ more)
-lines_within-more taken next rest =
-    let front = ended_lines-append taken next in
-    let first : lines_so_far (taken ++ next) ≡ lines_so_far taken ++ map without_return front.0 =
-    ap (λ ls. map without_return ls) front.1 ∙ map-append without_return _ front.0 in
-    let within = lines_within-so_far (taken ++ next) rest in (
-      map without_return front.0 ++ within.0,
-      within.1 ∙ ap (λ ls. ls ++ within.0) first ∙ append_assoc (lines_so_far taken) (map without_return front.0) within.0,
+steps_within-more : (form : Form) (taken next rest : List ℕ) → (more : List (List ℕ)) × (steps_within form (taken ++ next) rest ≡ steps_so_far form taken ++ more)
+steps_within-more form taken next rest =
+    let first = steps-more form taken next in
+    let within = steps_within-so_far form (taken ++ next) rest in (
+      first.0 ++ within.0,
+      within.1 ∙ ap (λ ls. ls ++ within.0) first.1 ∙ append_assoc (steps_so_far form taken) first.0 within.0,
     )
 
 -- so many bytes of the input were read: the lines that ended within the first of them are among those that ended then
-pub AreRead-front : (input : List ℕ) (left : Option (List ℕ)) (n k : ℕ) → left ≡ Some (drop (n + k) input) → AreRead input left (lines_so_far (take n input))
-AreRead-front input left n k is =
+pub AreRead-front : (form : Form) (input : List ℕ) (left : Option (List ℕ)) (n k : ℕ) → left ≡ Some (drop (n + k) input) → AreRead form input left (steps_so_far form (take n input))
+AreRead-front form input left n k is =
     let both : take (n + k) input ≡ take n input ++ take k (drop n input) = take-add n k input in
-    let within = lines_within-more (take n input) (take k (drop n input)) (drop (n + k) input) in
+    let within = steps_within-more form (take n input) (take k (drop n input)) (drop (n + k) input) in
     record {
       read = take (n + k) input;
       rest = drop (n + k) input;
       all = take-append-drop (n + k) input;
       others = is;
       more = within.0;
-      are = ap (λ bs. lines_within bs (drop (n + k) input)) both ∙ within.1;
+      are = ap (λ bs. steps_within form bs (drop (n + k) input)) both ∙ within.1;
     }
 
 -- the lines that ended within the bytes taken
-pub AreRead-took : (input : List ℕ) (left : Option (List ℕ)) (taken rest : List ℕ) → Took input left taken rest → AreRead input left (lines_within taken rest)
-AreRead-took input left taken rest took = record {
+pub AreRead-took : (form : Form) (input : List ℕ) (left : Option (List ℕ)) (taken rest : List ℕ) → Took input left taken rest → AreRead form input left (steps_within form taken rest)
+AreRead-took form input left taken rest took = record {
   read = taken;
   rest = rest;
   all = took.all;
   others = took.others;
   more = [];
-  are = sym (append-nil (lines_within taken rest));
+  are = sym (append-nil (steps_within form taken rest));
 }
 
 -- the lines within the bytes taken are the first of all
-pub lines-all : (input taken rest : List ℕ) → taken ++ rest ≡ input → (more : List (List ℕ)) × (lines input ≡ lines_within taken rest ++ more)
-lines-all input taken rest all =
-    let more = lines_within-front taken rest in (more.0, ap (λ bs. lines bs) (sym all) ∙ more.1)
+pub steps-read : (form : Form) (input taken rest : List ℕ) → taken ++ rest ≡ input → (more : List (List ℕ)) × (steps form input ≡ steps_within form taken rest ++ more)
+steps-read form input taken rest all =
+    let more = steps_within-front form taken rest in (more.0, ap (λ bs. steps form bs) (sym all) ∙ more.1)
 
 -- its status isn't that of a run that is done, nor that of an input that is too long
 pub stop-other : (tells : Bool) (status : Status) → IsStop tells status →
@@ -225,3 +196,8 @@ Reads-limit input left n last some is =
       whole = λ wrong. cc;
       limit = λ _. (longer, all);
     }
+
+-- a read of the input takes some bytes at the most, whatever shares a seal
+pub most_read-some : (sealing : Sealing) {n : ℕ} → n ≡ most_read sealing → 0 < n
+most_read-some Each is = omega (arith, is)
+most_read-some Shared is = omega (arith, is)

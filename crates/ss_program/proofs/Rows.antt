@@ -1,5 +1,5 @@
 -- Worked rows of the session, and the numbers of its rules.
-use Rattle.std.proofs.Common.{◌≡◌, ◌∙◌, ◌^◌, ◌++◌, [], ◌∷◌, ap, arith, lit≤, refl, sym}
+use Rattle.std.proofs.Common.{false, ◌≡◌, ◌∙◌, ◌^◌, ◌++◌, [], ◌∷◌, ap, arith, lit≤, refl, sym}
 use Rattle.std.specs.Prelude.{◌≢◌, ℕ, true, false, List, Option, Some, None, Result, Ok, codes, map, pos, negsuc, flat_map}
 use Rattle.std.specs.Fmt.{digits}
 use Rattle.std.proofs.lemmas.List.Elements.{All-cons, All-nil}
@@ -16,6 +16,7 @@ use Rattle.ss_command.specs.declared.command.Command.{Command}
 use Rattle.ss_command.specs.declared.command.Command.TheVariants.{Do}
 use Rattle.ss_fields.specs.Words.{is_number, number_of, number_up_to, signed_of}
 use Rattle.ss_bounds.specs.Split.{sum_interval}
+use Rattle.ss_bounds.specs.declared.extreme.Extreme.TheVariants.{Nothing}
 use Rattle.ss_model.specs.History.{Happened, added}
 use Rattle.ss_model.specs.Answers.{outcome_of, refuses_query}
 use Rattle.ss_model.specs.Refusals.{refuses, refuses_reading}
@@ -23,18 +24,21 @@ use Rattle.ss_model.specs.State.{state}
 use Rattle.ss_power.specs.Power.{power_length}
 use Rattle.ss_windowing.specs.Windowing.{window_index}
 use Rattle.ss_store.specs.Recover.{no_store, damaged_entry, damaged_slot, damaged_stream, recovers}
-use Rattle.ss_report.specs.declared.reply.Reply.TheVariants.{Done as AckLine, Refused, ListHead}
+use Rattle.ss_model.specs.declared.outcome.Outcome.TheVariants.{Count, Sum, Min, Max}
+use Rattle.ss_report.specs.declared.reply.Reply.TheVariants.{Done as AckLine, Answered, Refused, ListHead}
 use Rattle.ss_store.specs.declared.error.OpenError.TheVariants as opening
 use Rattle.ss_program.specs.Checked.{survey_line}
 use Rattle.ss_program.specs.Generated.{summary_lines}
 use Rattle.ss_program.specs.Held.{acks}
-use Rattle.ss_program.specs.Outcome.{lines_within}
+use Rattle.ss_arguments.specs.declared.mode.Form.TheVariants.{Lines}
+use Rattle.ss_program.specs.Outcome.{steps_within}
 use Rattle.ss_program.specs.Refused.{refusal_line, status_of_open}
 use Rattle.ss_program.specs.Session.{NoneCreates, accepted, plain_after, report}
 use Rattle.ss_program.specs.Status.{exit_number}
 use Rattle.ss_program.specs.Talk.{plain, turn_of}
+use Rattle.ss_program.specs.Words.{usage}
 use Rattle.ss_sessions.specs.Cursors.{no_cursors}
-use Rattle.ss_program.specs.declared.running.TheConstants.{BUFFER, LONGEST_INPUT}
+use Rattle.ss_program.specs.declared.running.TheConstants.{LONGEST_INPUT}
 use Rattle.ss_program.specs.declared.status.Status.TheVariants.{
   Done,
   Usage,
@@ -49,9 +53,6 @@ use Rattle.ss_program.specs.declared.status.Status.TheVariants.{
 
 longest_input : LONGEST_INPUT ≡ 2 ^ 36
 longest_input = refl
-
-buffer : BUFFER ≡ 4096
-buffer = refl
 
 -- lines, each with its line end
 abbrev text : List (List ℕ) → List ℕ
@@ -197,13 +198,13 @@ unfolding ended_lines unended meaning words is_number number_of number_up_to sig
 report-close_times = refl
 
 -- the last line has ended where nothing is left
-lines_within-rest : lines_within (codes "ab" ++ 10 ∷ codes "c") (codes "d") ≡ codes "ab" ∷ []
+steps_within-rest : steps_within (Lines false) (codes "ab" ++ 10 ∷ codes "c") (codes "d") ≡ codes "ab" ∷ []
 unfolding ended_lines unended
-lines_within-rest = refl
+steps_within-rest = refl
 
-lines_within-end : lines_within (codes "ab" ++ 10 ∷ codes "c") [] ≡ codes "ab" ∷ codes "c" ∷ []
+steps_within-end : steps_within (Lines false) (codes "ab" ++ 10 ∷ codes "c") [] ≡ codes "ab" ∷ codes "c" ∷ []
 unfolding ended_lines unended
-lines_within-end = refl
+steps_within-end = refl
 
 -- each reply to the readings has 7 bytes: an event is acknowledged with the last of them
 acks-none : acks (plain []) (lines readings) 6 ≡ 0
@@ -271,3 +272,16 @@ summary-replies : summary_lines 1 2 3
     ∷ codes "list 3" ∷ codes "list 4" ∷ codes "ok 7 3" ∷ codes "refused TIME" ∷ [])
 unfolding digits
 summary-replies = refl
+
+-- answers that are none of the last six are neither accepted nor refused, and those that are are shown
+summary-answers : summary_lines 1 2 3
+    (Answered (Count 9 9) ∷ AckLine (record { n = 7; k = 3 }) ∷ Answered (Count 1 2) ∷ Answered (Sum (negsuc 2) (pos 5)) ∷ Answered (Count 0 0)
+    ∷ Answered (Sum (pos 0) (pos 0)) ∷ Answered (Min Nothing) ∷ Answered (Max Nothing) ∷ [])
+    ≡ text (codes "gen 1 2" ∷ codes "lines 3" ∷ codes "ok 1" ∷ codes "refused 0" ∷ codes "count 1 2" ∷ codes "sum -3 5" ∷ codes "count 0 0"
+    ∷ codes "sum 0 0" ∷ codes "min none" ∷ codes "max none" ∷ [])
+unfolding digits
+summary-answers = refl
+
+-- what is said where the arguments aren't known
+usage-line : usage ≡ text (codes "usage: summarystore STORE [run | check | gen SEED COUNT | sessions | frames | follow]" ∷ [])
+usage-line = refl

@@ -1,43 +1,12 @@
 -- What a run leaves, by how it ends.
-use Rattle.std.proofs.Common.{
-  ◌≡◌,
-  ◌⊎◌,
-  inl,
-  inr,
-  take_all,
-  length-drop,
-  ℕ,
-  ◌+◌,
-  ◌≤◌,
-  ◌++◌,
-  List,
-  [],
-  ◌∷◌,
-  length,
-  take,
-  drop,
-  map,
-  Bool,
-  true,
-  IsTrue,
-  Option,
-  Some,
-  refl,
-  sym,
-  ap,
-  ◌∙◌,
-  subst,
-  arith,
-}
+use Rattle.std.proofs.Common.{◌≡◌, ◌⊎◌, inl, inr, take_all, length-drop, ℕ, ◌+◌, ◌≤◌, ◌++◌, List, [], ◌∷◌, length, take, drop, Bool, true, IsTrue, Option, Some, refl, sym, ap, ◌∙◌, subst, arith}
 use Rattle.std.proofs.Math.Seq.{take-add}
 use Rattle.std.proofs.lemmas.List.{append-nil, drop-drop, take-append-drop}
-use Rattle.ss_command.specs.Lines.{lines, lines_so_far, unended, unless_empty, without_return}
-use Rattle.ss_command.proofs.LineLemmas.{lines-front}
 use Rattle.ss_outside.proofs.CrashLemmas.{joined, of_content}
 use Rattle.ss_outside.specs.Crash.{KnowsNow, LeavesOnly}
 use Rattle.ss_outside.specs.Disk.{Told}
 use Rattle.ss_store.specs.Recover.{Stands}
-use Rattle.ss_program.specs.Outcome.{Reports, Serves, Stopped, Took, lines_within}
+use Rattle.ss_program.specs.Outcome.{Reports, Serves, Stopped, Took, steps_within}
 use Rattle.ss_program.specs.Progress.{EndsWell, GoesOn, HasReplied, HasTaken, SessionState, StandsWithin, StopsIn}
 use Rattle.ss_program.specs.Sent.{appended, AppendsFront}
 use Rattle.ss_program.specs.Session.{after_lines, report, report_so_far, text_of}
@@ -60,8 +29,10 @@ use Rattle.ss_program.specs.declared.status.Status.TheVariants.{
 use Rattle.ss_program.proofs.SendLemmas.{AppendsFront-all}
 use Rattle.ss_program.proofs.SessionLemmas.{StopsAmong-front, StopsAmong-more, StopsIn-more, after_lines-accepted, front-report, moments-more}
 use Rattle.ss_program.proofs.TakeLemmas.{GoesOn-start, GoesOn-then, StopsIn-then}
-use Rattle.ss_program.proofs.ReadLemmas.{AreRead, AreRead-front, AreRead-took, Took-at, lines-all, stop-other}
+use Rattle.ss_program.proofs.ReadLemmas.{AreRead, AreRead-front, AreRead-took, Took-at, steps-read, stop-other}
+use Rattle.ss_program.proofs.StepsLemmas.{steps-all, steps-front}
 use Rattle.ss_program.proofs.HoldsLemmas.{HoldsReported-done, HoldsReported-stop}
+use Rattle.ss_program.specs.Steps.{steps, steps_so_far}
 
 -- so many bytes of the input were taken since a moment, and the lines that end in them are answered
 pub record IsThrough (sealing : Sealing) (talk : Talk) (start now : Told) (session : SessionState) (before held left : Option (List ℕ)) (input : List ℕ)
@@ -115,10 +86,12 @@ IsThrough-end {sealing = sealing} {talk = talk} {start = start} {now = now} {ses
 
 -- a line that a line end ended within the bytes taken is one of those so far
 StopsIn-within : (sealing : Sealing) (talk : Talk) (old new : Told) (before after : Option (List ℕ)) (status : Status) (taken rest : List ℕ) →
-    StopsIn sealing talk (lines_so_far taken) old new before after status →
-    StopsIn sealing talk (lines_within taken rest) old new before after status
+    StopsIn sealing talk (steps_so_far talk.form taken) old new before after status →
+    StopsIn sealing talk (steps_within talk.form taken rest) old new before after status
 StopsIn-within sealing talk old new before after status taken [] stops =
-    StopsIn-more sealing talk (lines_so_far taken) (map without_return (unless_empty (unended taken))) old new before after status stops
+    let all = steps-all talk.form taken in
+    subst (λ ls. StopsIn sealing talk ls old new before after status) (sym all.1)
+    (StopsIn-more sealing talk (steps_so_far talk.form taken) all.0 old new before after status stops)
 StopsIn-within sealing talk old new before after status taken (b ∷ rest) stops = stops
 
 -- a run stopped at a line that had ended within the bytes taken
@@ -127,14 +100,14 @@ pub record HasStopped (sealing : Sealing) (talk : Talk) (input : List ℕ) (left
     pub taken : List ℕ
     pub rest : List ℕ
     pub took : Took input left taken rest
-    pub stops : StopsIn sealing talk (lines_within taken rest) old new before after status
+    pub stops : StopsIn sealing talk (steps_within talk.form taken rest) old new before after status
 
 -- it stopped at a line of the piece that came next
 pub HasStopped-piece : (sealing : Sealing) (talk : Talk) (start mid new : Told) (session : SessionState) (input : List ℕ)
     (old_left left before held after : Option (List ℕ)) (status : Status)
     (n room : ℕ) → IsThrough sealing talk start mid session before held old_left input n → n + room ≤ LONGEST_INPUT →
     (count : ℕ) × (count ≤ room) × (count ≤ length (drop n input)) × (left ≡ Some (drop count (drop n input)))
-    × StopsIn sealing talk (lines_so_far (take n input ++ take count (drop n input))) mid new before after status →
+    × StopsIn sealing talk (steps_so_far talk.form (take n input ++ take count (drop n input))) mid new before after status →
     HasStopped sealing talk input left before after start new status
 HasStopped-piece sealing talk start mid new session input old_left left before held after status n room through few piece =
     let m = n + piece.0 in
@@ -145,20 +118,21 @@ HasStopped-piece sealing talk start mid new session input old_left left before h
       took = Took-at input left m (omega (arith, through.within, piece.2, length-drop n input)) (omega (arith, few, piece.1))
           (piece.3 ∙ ap (λ bs. Some bs) (drop-drop piece.0 n input));
       stops = StopsIn-within sealing talk start new before after status (take m input) (drop m input)
-          (subst (λ bs. StopsIn sealing talk (lines_so_far bs) start new before after status) (sym (take-add n piece.0 input)) stops);
+          (subst (λ bs. StopsIn sealing talk (steps_so_far talk.form bs) start new before after status) (sym (take-add n piece.0 input)) stops);
     }
 
 -- what was left in a crash of a session before its last line is a front of all lines
-any_moment-lines : (talk : Talk) (old new : Told) (input : List ℕ) → LeavesOnly old new (StandsWithin talk (lines_so_far input)) →
-    LeavesOnly old new (StandsWithin talk (lines input))
+any_moment-lines : (talk : Talk) (old new : Told) (input : List ℕ) → LeavesOnly old new (StandsWithin talk (steps_so_far talk.form input)) →
+    LeavesOnly old new (StandsWithin talk (steps talk.form input))
 any_moment-lines talk old new input run =
-    moments-more talk old new (lines_so_far input) (map without_return (unless_empty (unended input))) run
+    let all = steps-all talk.form input in
+    subst (λ ls. LeavesOnly old new (StandsWithin talk ls)) (sym all.1) (moments-more talk old new (steps_so_far talk.form input) all.0 run)
 
 -- or at the last line of the input
 pub HasStopped-end : (sealing : Sealing) {talk : Talk} {start mid : Told} {session : SessionState} {before held left : Option (List ℕ)} {input : List ℕ}
     (new : Told)
     (after : Option (List ℕ))
-    (status : Status) → IsAtEnd sealing talk start mid session before held left input → StopsIn sealing talk (lines input) mid new before after status →
+    (status : Status) → IsAtEnd sealing talk start mid session before held left input → StopsIn sealing talk (steps talk.form input) mid new before after status →
     HasStopped sealing talk input left before after start new status
 HasStopped-end sealing {talk = talk} {start = start} {mid = mid} {input = input} new after status end stops = record {
   taken = input;
@@ -166,7 +140,7 @@ HasStopped-end sealing {talk = talk} {start = start} {mid = mid} {input = input}
   took = record { all = append-nil input; others = end.source; few = end.fits };
   stops = record {
     at = stops.at;
-    any_moment = joined start mid new (StandsWithin talk (lines input)) (any_moment-lines talk start mid input end.on.any_moment) stops.any_moment;
+    any_moment = joined start mid new (StandsWithin talk (steps talk.form input)) (any_moment-lines talk start mid input end.on.any_moment) stops.any_moment;
   };
 }
 
@@ -216,14 +190,14 @@ pub Serves-stop : (sealing : Sealing) (talk : Talk) (input : List ℕ) (left bef
     (status : Status) → IsTrue tells → IsStop tells status → HasStopped sealing talk input left before after old new status →
     Serves sealing talk input left before after old new status
 Serves-stop sealing talk input left before after old new tells status told stop has =
-    let all = lines-all input has.taken has.rest has.took.all in
-    let ls = lines_within has.taken has.rest in
+    let all = steps-read talk.form input has.taken has.rest has.took.all in
+    let ls = steps_within talk.form has.taken has.rest in
     record {
       report = Reports-stop sealing talk input left before after old new status
           (subst (λ l. AppendsFront before after (text_of talk l)) (sym all.1) (StopsAmong-front (StopsAmong-more all.0 has.stops.at))) has
           (subst (λ b. IsStop b status) told stop);
       kept = HoldsReported-stop sealing talk input left before after new status ls all.0 all.1
-          (AreRead-took input left has.taken has.rest has.took) has.stops.at (stop-other tells status stop).0;
+          (AreRead-took talk.form input left has.taken has.rest has.took) has.stops.at (stop-other tells status stop).0;
       any_moment = subst (λ l. LeavesOnly old new (StandsWithin talk l)) (sym all.1) (moments-more talk old new ls all.0 has.stops.any_moment);
       whole = λ is. absurd ((stop-other tells status stop).0 is);
     }
@@ -232,7 +206,7 @@ Serves-stop sealing talk input left before after old new tells status told stop 
 pub Serves-done : (sealing : Sealing) {talk : Talk} {start mid : Told} {session : SessionState} {before held left : Option (List ℕ)} {input : List ℕ}
     (new : Told)
     (after : Option (List ℕ)) →
-    IsAtEnd sealing talk start mid session before held left input → EndsWell talk (lines input) mid new before after →
+    IsAtEnd sealing talk start mid session before held left input → EndsWell talk (steps talk.form input) mid new before after →
     Serves sealing talk input left before after start new Done
 Serves-done sealing {talk = talk} {start = start} {mid = mid} {before = before} {left = left} {input = input} new after end ends = record {
   report = record {
@@ -244,11 +218,11 @@ Serves-done sealing {talk = talk} {start = start} {mid = mid} {before = before} 
     starved = λ is. cc;
     limited = λ is. cc;
   };
-  kept = HoldsReported-done sealing talk input left before after new Done (lines input) [] (sym (append-nil (lines input)))
-      (AreRead-took input left input [] (record { all = append-nil input; others = end.source; few = end.fits })) ends.replied
-      (of_content new (Stands (after_lines talk (lines input)).history) ends.durable ends.stands) (λ _. refl);
-  any_moment = joined start mid new (StandsWithin talk (lines input)) (any_moment-lines talk start mid input end.on.any_moment) ends.any_moment;
-  whole = λ _. subst (λ h. Stands h new.content) (after_lines-accepted talk (lines input)) ends.stands;
+  kept = HoldsReported-done sealing talk input left before after new Done (steps talk.form input) [] (sym (append-nil (steps talk.form input)))
+      (AreRead-took talk.form input left input [] (record { all = append-nil input; others = end.source; few = end.fits })) ends.replied
+      (of_content new (Stands (after_lines talk (steps talk.form input)).history) ends.durable ends.stands) (λ _. refl);
+  any_moment = joined start mid new (StandsWithin talk (steps talk.form input)) (any_moment-lines talk start mid input end.on.any_moment) ends.any_moment;
+  whole = λ _. subst (λ h. Stands h new.content) (after_lines-accepted talk (steps talk.form input)) ends.stands;
 }
 
 -- the session was finished
@@ -257,8 +231,8 @@ pub Serves-finish : (sealing : Sealing) {talk : Talk} {start mid : Told} {sessio
     (after : Option (List ℕ))
     (tells : Bool) (status : Status) → IsTrue tells → IsAtEnd sealing talk start mid session before held left input →
     (status ≡ Done) ⊎ IsStop tells status →
-    (status ≡ Done → EndsWell talk (lines input) mid new before after) →
-    (IsStop tells status → StopsIn sealing talk (lines input) mid new before after status) →
+    (status ≡ Done → EndsWell talk (steps talk.form input) mid new before after) →
+    (IsStop tells status → StopsIn sealing talk (steps talk.form input) mid new before after status) →
     Serves sealing talk input left before after start new status
 Serves-finish sealing {talk = talk} {start = start} {before = before} {left = left} {input = input} new after tells status told end (inl is) done stops =
     subst (λ s. Serves sealing talk input left before after start new s) (sym is) (Serves-done sealing new after end (done is))
@@ -288,11 +262,11 @@ pub record IsPast (input : List ℕ) (left : Option (List ℕ)) (n : ℕ) : Type
   pub all : n ≡ LONGEST_INPUT
   pub source : left ≡ Some (drop 1 (drop n input))
 
-part-read : {status : Status} (input : List ℕ) (left after_left : Option (List ℕ)) (n : ℕ) → left ≡ Some (drop n input) →
-    Partly status (after_left ≡ left) (IsPast input after_left n) → AreRead input after_left (lines_so_far (take n input))
-part-read input left after_left n is (inl how) =
-    AreRead-front input after_left n 0 (how.1 ∙ is ∙ ap (λ (m : ℕ). Some (drop m input)) (omega arith))
-part-read input left after_left n is (inr how) = AreRead-front input after_left n 1 (how.1.source ∙ ap (λ bs. Some bs) (drop-drop 1 n input))
+part-read : {status : Status} (talk : Talk) (input : List ℕ) (left after_left : Option (List ℕ)) (n : ℕ) → left ≡ Some (drop n input) →
+    Partly status (after_left ≡ left) (IsPast input after_left n) → AreRead talk.form input after_left (steps_so_far talk.form (take n input))
+part-read talk input left after_left n is (inl how) =
+    AreRead-front talk.form input after_left n 0 (how.1 ∙ is ∙ ap (λ (m : ℕ). Some (drop m input)) (omega arith))
+part-read talk input left after_left n is (inr how) = AreRead-front talk.form input after_left n 1 (how.1.source ∙ ap (λ bs. Some bs) (drop-drop 1 n input))
 
 -- the source failed, or more is left than an input may have
 pub Serves-part : (sealing : Sealing) {talk : Talk} {start now : Told} {session : SessionState} {before held left : Option (List ℕ)} {input : List ℕ}
@@ -303,9 +277,9 @@ pub Serves-part : (sealing : Sealing) {talk : Talk} {start now : Told} {session 
     Serves sealing talk input after_left before held start now status
 Serves-part sealing {talk = talk} {start = start} {now = now} {before = before} {held = held} {left = left} {input = input} {n = n} status after_left
     through few how =
-    let more = lines-front (take n input) (drop n input) in
-    let all : lines input ≡ lines_so_far (take n input) ++ more.0 = ap (λ bs. lines bs) (sym (take-append-drop n input)) ∙ more.1 in
-    let ls = lines_so_far (take n input) in
+    let more = steps-front talk.form (take n input) (drop n input) in
+    let all : steps talk.form input ≡ steps_so_far talk.form (take n input) ++ more.0 = ap (λ bs. steps talk.form bs) (sym (take-append-drop n input)) ∙ more.1 in
+    let ls = steps_so_far talk.form (take n input) in
     record {
       report = record {
         front = subst (λ bs. AppendsFront before held (report talk bs)) (take-append-drop n input)
@@ -318,7 +292,7 @@ Serves-part sealing {talk = talk} {start = start} {now = now} {before = before} 
         starved = λ is. part-other OutOfMemory (λ w. cc) (λ w. cc) how is;
         limited = λ is. through.on.replied ∙ ap (λ m. appended before (report_so_far talk (take m input))) (part-limit how is).all;
       };
-      kept = HoldsReported-done sealing talk input after_left before held now status ls more.0 all (part-read input left after_left n through.source how)
+      kept = HoldsReported-done sealing talk input after_left before held now status ls more.0 all (part-read talk input left after_left n through.source how)
           through.on.replied
           (of_content now (Stands (after_lines talk ls).history) through.on.at.durable through.on.at.stands) (λ is. part-other Done (λ w. cc) (λ w. cc) how is);
       any_moment = subst (λ l. LeavesOnly start now (StandsWithin talk l)) (sym all) (moments-more talk start now ls more.0 through.on.any_moment);

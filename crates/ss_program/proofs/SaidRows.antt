@@ -1,5 +1,5 @@
 -- Worked rows of what is said to sessions, and the numbers of its rules.
-use Rattle.std.proofs.Common.{◌≡◌, ◌+◌, ◌^◌, ◌++◌, [], ◌∷◌, arith, lit≤, refl}
+use Rattle.std.proofs.Common.{◌*◌, ◌≡◌, ◌+◌, ◌^◌, ◌++◌, [], ◌∷◌, arith, lit≤, refl}
 use Rattle.std.specs.Prelude.{ℕ, List, Some, None, codes, flat_map, map, pos, negsuc}
 use Rattle.std.specs.Fmt.{digits}
 use Rattle.ss_catalog.specs.Names.{is_name}
@@ -12,14 +12,23 @@ use Rattle.ss_model.specs.Refusals.{refuses, refuses_reading}
 use Rattle.ss_model.specs.State.{state}
 use Rattle.ss_windowing.specs.Windowing.{window_index}
 use Rattle.ss_program.specs.Line.{IsSpeaker, brings, text_said}
+use Rattle.ss_arguments.specs.declared.mode.Sealing.TheVariants.{Each, Shared}
+use Rattle.ss_program.specs.Reading.{most_read}
 use Rattle.ss_program.specs.declared.replies.TheConstants.{LONGEST_REPLY, MOST_WAITING_BYTES}
 
--- a line of at most 256 bytes, behind at most four that say to which session it is said
-longest_reply : LONGEST_REPLY ≡ 256 + 4
+-- two lines of at most 256 bytes, each behind at most four that say to which session it is said
+longest_reply : LONGEST_REPLY ≡ 2 * (256 + 4)
 longest_reply = refl
 
 most_waiting : MOST_WAITING_BYTES ≡ 2 ^ 16
 most_waiting = refl
+
+-- how much one read of the input takes at the most: in batches what may share a seal
+most_read-each : most_read Each ≡ 2 ^ 12
+most_read-each = refl
+
+most_read-shared : most_read Shared ≡ 2 ^ 16
+most_read-shared = refl
 
 -- a reply is said to one of eight sessions
 speaker-last : IsSpeaker (Some 7)

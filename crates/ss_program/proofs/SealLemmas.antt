@@ -1,34 +1,5 @@
 -- What bringing all to the disk makes of a session between two lines, and what a line does that is taken in memory.
-use Rattle.std.proofs.Common.{
-  inl,
-  inr,
-  ◌⊎◌,
-  ⊎_elim,
-  ◌≡◌,
-  ℕ,
-  ◌+◌,
-  ◌<◌,
-  ◌≤◌,
-  ◌++◌,
-  List,
-  [],
-  ◌∷◌,
-  length,
-  take,
-  Option,
-  Some,
-  None,
-  Result,
-  Ok,
-  Err,
-  refl,
-  sym,
-  ap,
-  ◌∙◌,
-  subst,
-  append_assoc,
-  arith,
-}
+use Rattle.std.proofs.Common.{inl, inr, ◌⊎◌, ⊎_elim, ◌≡◌, ℕ, ◌<◌, ◌≤◌, ◌++◌, List, [], ◌∷◌, length, take, Option, Some, None, Result, Ok, Err, refl, sym, ap, ◌∙◌, subst, append_assoc, arith}
 use Rattle.std.proofs.lemmas.List.{append-nil, length-append}
 use Rattle.std.specs.Prelude.{⊤}
 use Rattle.ss_outside.proofs.CrashLemmas.{now, of_content, weaker}

@@ -102,31 +102,31 @@ module _ (streams : List Stream) (series : Series) (none : refuses_series stream
 pub brings-refused_series : (history : History) (series : Series) (refusal : Refusal) → refuses_series (state history) series ≡ Some refusal →
     command_brings history (AskRows series) ≡ refused refusal
 brings-refused_series history series refusal is =
-    ap (λ r. unless_refused r (only_replies (SeriesHead (row_count series) ∷ series_rows (state history) series))) is
+    ap (λ r. unless_refused r (only_replies (SeriesHead series.kind (row_count series) ∷ series_rows (state history) series))) is
 
 -- and one that isn't brings its head and its rows
 pub brings-series : (history : History) (series : Series) → refuses_series (state history) series ≡ None →
-    command_brings history (AskRows series) ≡ only_replies (SeriesHead (row_count series) ∷ series_rows (state history) series)
+    command_brings history (AskRows series) ≡ only_replies (SeriesHead series.kind (row_count series) ∷ series_rows (state history) series)
 brings-series history series none =
-    ap (λ r. unless_refused r (only_replies (SeriesHead (row_count series) ∷ series_rows (state history) series))) none
+    ap (λ r. unless_refused r (only_replies (SeriesHead series.kind (row_count series) ∷ series_rows (state history) series))) none
 
 module _ (speaker : Option ℕ) where
   -- less than the head was sent
   pub series-head : (history : History) (series : Series) (before after : Option (List ℕ)) → refuses_series (state history) series ≡ None →
-      AppendsLess before after (said_line speaker (SeriesHead (row_count series))) →
+      AppendsLess before after (said_line speaker (SeriesHead series.kind (row_count series))) →
       AppendsLess before after (text_said speaker (command_brings history (AskRows series)))
   series-head history series before after none less =
       subst (λ b. AppendsLess before after (text_said speaker b)) (sym (brings-series history series none))
-      (AppendsLess-head speaker before after (SeriesHead (row_count series)) (series_rows (state history) series) less)
+      (AppendsLess-head speaker before after (SeriesHead series.kind (row_count series)) (series_rows (state history) series) less)
 
   -- or the head, and the rows after it
   pub series-sent : (history : History) (series : Series) (before held after : Option (List ℕ)) {E : Type 0} (sent : Result (Unit {0}) E) →
-      refuses_series (state history) series ≡ None → held ≡ appended before (said_line speaker (SeriesHead (row_count series))) →
+      refuses_series (state history) series ≡ None → held ≡ appended before (said_line speaker (SeriesHead series.kind (row_count series))) →
       Sends held after (flat_map (said_line speaker) (series_rows (state history) series)) sent →
       Sends before after (text_said speaker (command_brings history (AskRows series))) sent
   series-sent history series before held after sent none first rows =
       subst (λ b. Sends before after (text_said speaker b) sent) (sym (brings-series history series none))
-      (Sends-head speaker before held after (SeriesHead (row_count series)) (series_rows (state history) series) sent first rows)
+      (Sends-head speaker before held after (SeriesHead series.kind (row_count series)) (series_rows (state history) series) sent first rows)
 
 -- a row of a series that isn't refused isn't either, by what is held
 pub row-taken_held : (store : StoreState) (series : Series) (row : ℕ) → 0 < series.step → row < row_count series →

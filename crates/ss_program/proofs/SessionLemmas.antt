@@ -1,60 +1,111 @@
 -- How a session goes on with further lines, and where it stops. Of what a line brings this rests only on that an event is never silent.
-use Rattle.std.proofs.Common.{Some, None, Ok, Err, Result, inl, inr, ◌≡◌, ℕ, ◌+◌, ◌<◌, ◌≤◌, ◌++◌, List, [], ◌∷◌, length, take, Option}
-use Rattle.std.proofs.Common.{IsSome, refl, sym, ap, ◌∙◌, subst, append_assoc, arith}
+use Rattle.std.proofs.Common.{Bool, false, Some, None, Ok, Err, Result, ◌≡◌, ℕ, ◌+◌, ◌<◌, ◌++◌, List, [], ◌∷◌, length, take, Option}
+use Rattle.std.proofs.Common.{IsSome, refl, sym, ap, ◌∙◌, subst, append_assoc}
 use Rattle.std.proofs.Math.Seq.{take-append-add}
 use Rattle.std.specs.List.{flat_map}
 use Rattle.std.proofs.lemmas.Grind.{flat_map-append}
-use Rattle.std.proofs.lemmas.List.{append-nil, length-append, take-append-le}
+use Rattle.std.proofs.lemmas.List.{append-nil}
 use Rattle.ss_arguments.specs.declared.mode.Form.{Form}
-use Rattle.ss_arguments.specs.declared.mode.Form.TheVariants.{Lines, Sessions}
+use Rattle.ss_arguments.specs.declared.mode.Form.TheVariants.{Lines, Sessions, Frames, Follow}
+use Rattle.ss_catalog.specs.declared.event.Event.{Event}
+use Rattle.ss_catalog.specs.declared.event.Event.TheVariants.{Create, Value, Open, Close, Drop}
 use Rattle.ss_catalog.specs.declared.refusal.Refusal.{Refusal}
+use Rattle.ss_command.specs.Grammar.{meaning}
+use Rattle.ss_command.specs.declared.command.Command.{Command}
+use Rattle.ss_command.specs.declared.command.Command.TheVariants.{Do, Ask, Certify, Series as AskRows, Last, Values, Windows, List as ListAll}
+use Rattle.ss_frames.specs.Frame.{FrameState, frame_in}
+use Rattle.ss_model.specs.Refusals.{refuses}
+use Rattle.ss_model.specs.State.{state}
+use Rattle.ss_replica.specs.Offers.{due_in}
+use Rattle.ss_replica.specs.Own.{frame_of}
+use Rattle.ss_replica.specs.declared.judging.Due.{Due}
+use Rattle.ss_replica.specs.declared.judging.Due.TheVariants.{Next, Old as OldFrame, Gap}
 use Rattle.ss_command.specs.LineState.{unless_long}
 use Rattle.ss_sessions.specs.Grammar.{spoken_of}
 use Rattle.ss_sessions.specs.declared.order.Order.{Order}
 use Rattle.ss_sessions.specs.declared.order.Order.TheVariants as orders
 use Rattle.ss_sessions.specs.declared.order.Spoken.{Spoken}
 use Rattle.ss_sessions.specs.declared.order.Spoken.TheVariants.{Nothing, Unaddressed, To}
-use Rattle.ss_command.specs.Lines.{lines_so_far}
-use Rattle.ss_command.proofs.LineLemmas.{lines-front}
+use Rattle.ss_program.proofs.SpelledLemmas.{some-frame_spelled}
+use Rattle.ss_program.proofs.StepsLemmas.{steps-front}
 use Rattle.ss_report.specs.Text.{reply_line}
 use Rattle.ss_report.specs.declared.reply.Reply.{Reply}
-use Rattle.ss_program.specs.Line.{History, brings, history_after, the_event}
+use Rattle.ss_program.specs.Line.{History, accepted_frame, brings, due_brings, frame_brings, history_after, text_said, the_event}
 use Rattle.ss_outside.specs.Crash.{LeavesOnly}
 use Rattle.ss_outside.specs.Disk.{Told}
 use Rattle.ss_outside.proofs.CrashLemmas.{weaker}
 use Rattle.ss_store.specs.Recover.{Stands}
-use Rattle.ss_program.specs.Progress.{StandsBeyond, StandsWithin, StopsAmong, StopsIn}
+use Rattle.ss_program.specs.Progress.{StandsWithin, StopsAmong, StopsIn}
 use Rattle.ss_program.specs.Sent.{appended, AppendsFront}
 use Rattle.ss_program.specs.Session.{accepted, after_line, after_lines, plain_after, replies, report, report_so_far, text_of}
-use Rattle.ss_program.specs.Talk.{Talk, after_turn, kept_spoken, plain, turn_in, turn_of, turn_spoken, turn_to}
+use Rattle.ss_program.specs.Talk.{Talk, kept_spoken, meant_turn, plain, turn_in, turn_of, turn_spoken, turn_to, writing}
 use Rattle.ss_arguments.specs.declared.mode.Sealing.{Sealing}
 use Rattle.ss_program.specs.declared.status.Status.{Status}
-use Rattle.ss_program.proofs.AnswerLemmas.{meaning-some, text-some}
+use Rattle.ss_program.proofs.AnswerLemmas.{event-some, meaning-some}
 use Rattle.ss_program.proofs.CursorLemmas.{close-event, next-event, open-event}
 use Rattle.ss_program.proofs.SendLemmas.{AppendsFront-longer}
+use Rattle.ss_program.specs.Steps.{steps_so_far}
 
 -- something is said to a line that brings an event
-to-some : (session : ℕ) (talk : Talk) (said : Result (Option Order) Refusal) → IsSome (turn_to session talk said).event →
-    0 < length (turn_to session talk said).says
-to-some session talk (Err refusal) some = cc
-to-some session talk (Ok None) some = cc
-to-some session talk (Ok (Some (orders.Command command))) some = meaning-some (Some session) talk.history (Ok (Some command)) some
-to-some session talk (Ok (Some (orders.Open name))) some = let none = open-event talk.history talk.cursors session name in cc
-to-some session talk (Ok (Some (orders.Next count))) some = let none = next-event talk.cursors session count in cc
-to-some session talk (Ok (Some orders.Close)) some = let none = close-event talk.cursors session in cc
+to-some : (framed : Bool) (session : ℕ) (talk : Talk) (said : Result (Option Order) Refusal) → IsSome (turn_to framed session talk said).event →
+    0 < length (turn_to framed session talk said).says
+to-some framed session talk (Err refusal) some = cc
+to-some framed session talk (Ok None) some = cc
+to-some framed session talk (Ok (Some (orders.Command command))) some = meaning-some (Some session) framed talk.history (Ok (Some command)) some
+to-some framed session talk (Ok (Some (orders.Open name))) some = let none = open-event talk.history talk.cursors session name in cc
+to-some framed session talk (Ok (Some (orders.Next count))) some = let none = next-event talk.cursors session count in cc
+to-some framed session talk (Ok (Some orders.Close)) some = let none = close-event talk.cursors session in cc
 
-spoken-some : (talk : Talk) (spoken : Spoken) → IsSome (turn_spoken talk spoken).event → 0 < length (turn_spoken talk spoken).says
-spoken-some talk Nothing some = cc
-spoken-some talk Unaddressed some = cc
-spoken-some talk (To session said) some = to-some session talk said some
+spoken-some : (framed : Bool) (talk : Talk) (spoken : Spoken) → IsSome (turn_spoken framed talk spoken).event →
+    0 < length (turn_spoken framed talk spoken).says
+spoken-some framed talk Nothing some = cc
+spoken-some framed talk Unaddressed some = cc
+spoken-some framed talk (To session said) some = to-some framed session talk said some
 
-kept-some : (talk : Talk) (line : Option (List ℕ)) → IsSome (kept_spoken talk line).event → 0 < length (kept_spoken talk line).says
-kept-some talk None some = cc
-kept-some talk (Some line) some = spoken-some talk (spoken_of line) some
+kept-some : (framed : Bool) (talk : Talk) (line : Option (List ℕ)) → IsSome (kept_spoken framed talk line).event →
+    0 < length (kept_spoken framed talk line).says
+kept-some framed talk None some = cc
+kept-some framed talk (Some line) some = spoken-some framed talk (spoken_of line) some
+
+-- the frame of an event that is accepted isn't empty
+written-some : (talk : Talk) (event : Event) (refusal : Option Refusal) → IsSome (writing talk event (accepted_frame refusal talk.history event)).event →
+    0 < length (writing talk event (accepted_frame refusal talk.history event)).says
+written-some talk event (Some refusal) some = cc
+written-some talk (Drop name) None some = cc
+written-some talk (Create name params) None some = some-frame_spelled (frame_of talk.history (Create name params)) (λ other is. cc)
+written-some talk (Value name t v) None some = some-frame_spelled (frame_of talk.history (Value name t v)) (λ other is. cc)
+written-some talk (Open name t) None some = some-frame_spelled (frame_of talk.history (Open name t)) (λ other is. cc)
+written-some talk (Close name t) None some = some-frame_spelled (frame_of talk.history (Close name t)) (λ other is. cc)
+
+meant-some : (talk : Talk) (meant : Result (Option Command) Refusal) → IsSome (meant_turn talk meant).event → 0 < length (meant_turn talk meant).says
+meant-some talk (Err refusal) some = cc
+meant-some talk (Ok None) some = cc
+meant-some talk (Ok (Some (Do event))) some = written-some talk event (refuses (state talk.history) event) some
+meant-some talk (Ok (Some (Ask query))) some = cc
+meant-some talk (Ok (Some (Certify query end))) some = cc
+meant-some talk (Ok (Some (AskRows series))) some = cc
+meant-some talk (Ok (Some (Last name))) some = cc
+meant-some talk (Ok (Some (Values name from to))) some = cc
+meant-some talk (Ok (Some (Windows name))) some = cc
+meant-some talk (Ok (Some ListAll)) some = cc
+
+-- and what is said to a frame that is the next
+due-some : (history : History) (frame : FrameState) (due : Due) → IsSome (due_brings history frame due).event →
+    0 < length (text_said None (due_brings history frame due))
+due-some history frame Next some = event-some None false history frame.event (refuses (state history) frame.event) some
+due-some history frame OldFrame some = cc
+due-some history frame (Gap last) some = cc
+
+offered-some : (history : History) (frame : Option FrameState) → IsSome (frame_brings history frame).event →
+    0 < length (text_said None (frame_brings history frame))
+offered-some history None some = cc
+offered-some history (Some frame) some = due-some history frame (due_in history frame) some
 
 in-some : (form : Form) (talk : Talk) (line : List ℕ) → IsSome (turn_in form talk line).event → 0 < length (turn_in form talk line).says
-in-some Lines talk line some = text-some talk.history line some
-in-some Sessions talk line some = kept-some talk (unless_long line) some
+in-some (Lines framed) talk line some = meaning-some None framed talk.history (meaning line) some
+in-some (Sessions framed) talk line some = kept-some framed talk (unless_long line) some
+in-some Frames talk line some = meant-some talk (meaning line) some
+in-some Follow talk piece some = offered-some talk.history (frame_in piece) some
 
 pub says-some : (talk : Talk) (line : List ℕ) → IsSome (turn_of talk line).event → 0 < length (turn_of talk line).says
 says-some talk line some = in-some talk.form talk line some
@@ -126,8 +177,8 @@ front-lines talk before after ls ms part =
 pub front-report : (talk : Talk) (before after : Option (List ℕ)) (xs ys : List ℕ) → AppendsFront before after (report_so_far talk xs) →
     AppendsFront before after (report talk (xs ++ ys))
 front-report talk before after xs ys part =
-    let more = lines-front xs ys in
-    subst (λ ls. AppendsFront before after (text_of talk ls)) (sym more.1) (front-lines talk before after (lines_so_far xs) more.0 part)
+    let more = steps-front talk.form xs ys in
+    subst (λ ls. AppendsFront before after (text_of talk ls)) (sym more.1) (front-lines talk before after (steps_so_far talk.form xs) more.0 part)
 
 -- what was sent of what is said to the lines at which a run stopped is a front of what is said to all
 pub StopsAmong-front : {sealing : Sealing} {talk : Talk} {ls : List (List ℕ)} {before after : Option (List ℕ)} {disk : Told} {status : Status} →

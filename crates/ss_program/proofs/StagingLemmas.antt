@@ -1,5 +1,5 @@
 -- What staging an event and asking a query make of the history that records show.
-use Rattle.std.proofs.Common.{inl, inr, ◌⊎◌, ⊎_elim, ◌≡◌, ◌∙◌, ◌++◌, ◌∷◌, [], List, ℕ, Some, None, Result, Ok, Err, sym, ap, subst}
+use Rattle.std.proofs.Common.{inl, inr, ◌⊎◌, ⊎_elim, ◌≡◌, ◌∙◌, ◌++◌, ◌∷◌, [], List, ℕ, Some, None, Result, Ok, Err, sym, ap, subst, false}
 use Rattle.std.proofs.lemmas.Result.{on_ok_weaker}
 use Rattle.std.specs.Prelude.{◌↔◌, IsTrue, OnOk}
 use Rattle.ss_catalog.specs.declared.event.Event.{Event}
@@ -48,7 +48,7 @@ module _ (was is : RecordsState) (history : History) (old new : Told) where
   Turns-staged event step result keeps accepted turns =
       let brought = command_brings history (Do event) in
       let after = λ (has : Stands history (shown_by was old.content)).
-      ap (λ (b : Brought). history_after history b) (sym (brings-accepted history event (accepted has))) in
+      ap (λ (b : Brought). history_after history b) (sym (brings-accepted false history event (accepted has))) in
       record {
         content = λ has. keeps (Stands (history_after history brought) (shown_by is new.content))
             (on_ok_weaker step (λ stands. subst (λ h. Stands h (shown_by is new.content)) (after has) stands) (turns.content has));

@@ -1,7 +1,6 @@
 -- How a session goes on from piece to piece of its input.
 use Rattle.std.proofs.Common.{◌++◌, List, [], ℕ, Option, sym, subst}
 use Rattle.std.proofs.lemmas.List.{append-nil}
-use Rattle.ss_command.specs.Lines.{lines_so_far}
 use Rattle.ss_outside.proofs.CrashLemmas.{at_start, joined, of_content}
 use Rattle.ss_outside.specs.Crash.{KnowsNow, LeavesOnly}
 use Rattle.ss_outside.specs.Disk.{Told}
@@ -9,15 +8,16 @@ use Rattle.ss_program.specs.Progress.{GoesOn, HasReplied, HasTaken, SessionState
 use Rattle.ss_program.specs.Talk.{Talk}
 use Rattle.ss_arguments.specs.declared.mode.Sealing.{Sealing}
 use Rattle.ss_program.specs.declared.status.Status.{Status}
-use Rattle.ss_program.proofs.InputLemmas.{lines-more}
+use Rattle.ss_program.proofs.StepsLemmas.{steps-more}
 use Rattle.ss_program.proofs.SessionLemmas.{StandsWithin-all, moments-more}
+use Rattle.ss_program.specs.Steps.{steps_so_far}
 
 -- the lines of more input
-any_moment-input : (talk : Talk) (old new : Told) (taken more : List ℕ) → LeavesOnly old new (StandsWithin talk (lines_so_far taken)) →
-    LeavesOnly old new (StandsWithin talk (lines_so_far (taken ++ more)))
+any_moment-input : (talk : Talk) (old new : Told) (taken more : List ℕ) → LeavesOnly old new (StandsWithin talk (steps_so_far talk.form taken)) →
+    LeavesOnly old new (StandsWithin talk (steps_so_far talk.form (taken ++ more)))
 any_moment-input talk old new taken more run =
-    let rest = lines-more taken more in
-    subst (λ ls. LeavesOnly old new (StandsWithin talk ls)) (sym rest.1) (moments-more talk old new (lines_so_far taken) rest.0 run)
+    let rest = steps-more talk.form taken more in
+    subst (λ ls. LeavesOnly old new (StandsWithin talk ls)) (sym rest.1) (moments-more talk old new (steps_so_far talk.form taken) rest.0 run)
 
 -- a session that took no more bytes yet
 pub GoesOn-start : (sealing : Sealing) (talk : Talk) (disk : Told) (session : SessionState) (before held : Option (List ℕ)) (input : List ℕ) →
@@ -27,8 +27,8 @@ GoesOn-start sealing talk disk session before held input knows at replied =
     subst (λ bs. GoesOn sealing talk disk disk session before held bs) (sym (append-nil input)) (record {
       at = at;
       replied = replied;
-      any_moment = at_start disk (StandsWithin talk (lines_so_far input)) knows
-          (of_content disk (StandsWithin talk (lines_so_far input)) at.durable (StandsWithin-all talk (lines_so_far input) disk.content at.stands));
+      any_moment = at_start disk (StandsWithin talk (steps_so_far talk.form input)) knows
+          (of_content disk (StandsWithin talk (steps_so_far talk.form input)) at.durable (StandsWithin-all talk (steps_so_far talk.form input) disk.content at.stands));
     })
 
 module _ (sealing : Sealing) (talk : Talk) (old mid new : Told) (first : SessionState) (before held after : Option (List ℕ)) (taken more : List ℕ) where
@@ -38,16 +38,16 @@ module _ (sealing : Sealing) (talk : Talk) (old mid new : Told) (first : Session
   GoesOn-then second one two = record {
     at = two.at;
     replied = two.replied;
-    any_moment = joined old mid new (StandsWithin talk (lines_so_far (taken ++ more))) (any_moment-input talk old mid taken more one.any_moment)
+    any_moment = joined old mid new (StandsWithin talk (steps_so_far talk.form (taken ++ more))) (any_moment-input talk old mid taken more one.any_moment)
         two.any_moment;
   }
 
   -- or stops after it
   pub StopsIn-then : (status : Status) → GoesOn sealing talk old mid first before held taken →
-      StopsIn sealing talk (lines_so_far (taken ++ more)) mid new before after status →
-      StopsIn sealing talk (lines_so_far (taken ++ more)) old new before after status
+      StopsIn sealing talk (steps_so_far talk.form (taken ++ more)) mid new before after status →
+      StopsIn sealing talk (steps_so_far talk.form (taken ++ more)) old new before after status
   StopsIn-then status one two = record {
     at = two.at;
-    any_moment = joined old mid new (StandsWithin talk (lines_so_far (taken ++ more))) (any_moment-input talk old mid taken more one.any_moment)
+    any_moment = joined old mid new (StandsWithin talk (steps_so_far talk.form (taken ++ more))) (any_moment-input talk old mid taken more one.any_moment)
         two.any_moment;
   }

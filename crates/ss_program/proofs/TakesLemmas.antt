@@ -1,5 +1,5 @@
 -- What a line does to the devices: what is shown, and what is added and replied.
-use Rattle.std.proofs.Common.{◌≡◌, ℕ, Bool, List, Option, None, Ok, Err, Result, IfErr, refl, sym, subst}
+use Rattle.std.proofs.Common.{◌≡◌, ℕ, Bool, List, Option, None, Ok, Err, Result, IfErr, refl, sym, subst, false}
 use Rattle.std.specs.Prelude.{IsErr}
 use Rattle.ss_catalog.specs.declared.event.Event.{Event}
 use Rattle.ss_command.specs.declared.command.Command.TheVariants.{Do}
@@ -210,7 +210,7 @@ TakesLine-stopped speaker event old new store held n status applies stop = recor
   untouched = λ memory told. (applies.told told).does.untouched memory;
   replies = λ told history stands.
       let some = (applies.told told).accepted history stands in
-      Replies-stopped speaker old.tells (command_brings history (Do event)) held status stop some (event-some speaker history event
+      Replies-stopped speaker old.tells (command_brings history (Do event)) held status stop some (event-some speaker false history event
       (refuses (state history) event) some);
   counted = apply-counted old.tells n status stop;
   opens = tt;

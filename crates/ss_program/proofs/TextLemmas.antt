@@ -3,13 +3,14 @@ use Rattle.std.proofs.Common.{codes, ℕ, ◌<◌, ◌++◌, List, [], ◌∷◌
 use Rattle.std.proofs.lemmas.List.{length-append}
 use Rattle.std.specs.Fmt.{decimal, signed_decimal}
 use Rattle.std.specs.Prelude.{if◌then◌else◌}
+use Rattle.ss_catalog.specs.Queries.{series_verb}
 use Rattle.ss_catalog.specs.Refusal.{refusal_name}
 use Rattle.ss_command.specs.Printed.{spaced, target_words}
 use Rattle.ss_command.specs.declared.TheConstants.{LINE_END}
-use Rattle.ss_report.specs.Text.{answer_kind, answer_words, newest_words, reply_line, run_words, said_line, spaced_line}
+use Rattle.ss_report.specs.Text.{answer_kind, answer_words, frame_word, newest_words, reply_line, run_words, said_line, spaced_line}
 use Rattle.ss_report.specs.declared.reply.Reply.{Reply}
 use Rattle.ss_report.specs.declared.reply.Reply.TheVariants.{Done as AckLine, Answered, Refused, SeriesHead, Row, WindowsHead, Window, ListHead}
-use Rattle.ss_report.specs.declared.reply.Reply.TheVariants.{Stream as StreamRow, CertifyHead, Side, Last, ValuesHead, Value, Cursor, Rows, Closed}
+use Rattle.ss_report.specs.declared.reply.Reply.TheVariants.{Stream as StreamRow, CertifyHead, Side, Last, ValuesHead, Value, Cursor, Rows, Closed, Old, Gap, Framed}
 
 -- a line of words isn't empty
 spaced_line-some : (first : List ℕ) (rest : List (List ℕ)) → 0 < length (spaced_line first rest)
@@ -19,7 +20,7 @@ pub reply_line-some : (reply : Reply) → 0 < length (reply_line reply)
 reply_line-some (AckLine ack) = spaced_line-some (codes "ok") (decimal ack.n ∷ decimal ack.k ∷ [])
 reply_line-some (Answered outcome) = spaced_line-some (answer_kind outcome) (answer_words outcome)
 reply_line-some (Refused refusal) = spaced_line-some (codes "refused") (refusal_name refusal ∷ [])
-reply_line-some (SeriesHead count) = spaced_line-some (codes "series") (decimal count ∷ [])
+reply_line-some (SeriesHead kind count) = spaced_line-some (series_verb kind) (decimal count ∷ [])
 reply_line-some (Row at outcome) = spaced_line-some (decimal at) (answer_words outcome)
 reply_line-some (WindowsHead count) = spaced_line-some (codes "windows") (decimal count ∷ [])
 reply_line-some (Window w) = spaced_line-some (decimal w.first)
@@ -39,6 +40,9 @@ reply_line-some (Value at value) = spaced_line-some (decimal at) (signed_decimal
 reply_line-some (Cursor count) = spaced_line-some (codes "cursor") (decimal count ∷ [])
 reply_line-some (Rows count) = spaced_line-some (codes "rows") (decimal count ∷ [])
 reply_line-some Closed = spaced_line-some (codes "closed") []
+reply_line-some Old = spaced_line-some (codes "old") []
+reply_line-some (Gap events) = spaced_line-some (codes "gap") (decimal events ∷ [])
+reply_line-some (Framed frame) = spaced_line-some (codes "frame") (frame_word frame ∷ [])
 
 -- so a line that is said to a session or to none isn't either
 pub said_line-some : (speaker : Option ℕ) (reply : Reply) → 0 < length (said_line speaker reply)

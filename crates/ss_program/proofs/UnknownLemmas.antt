@@ -29,7 +29,7 @@ use Rattle.ss_summary.specs.Points.{New}
 use Rattle.ss_program.specs.Line.{
   Brought,
   History,
-  accepted_event,
+  accepted_in,
   brings,
   command_brings,
   history_after,
@@ -75,7 +75,7 @@ unknown-still name history brought none unknown = subst (λ h. IsUnknown name h)
 
 unknown-event : (name : List ℕ) (history : History) (event : Event) (refusal : Option Refusal) → refuses (state history) event ≡ refusal →
     ((params : Params) → event ≢ Create name params) → IsUnknown name history →
-    IsUnknown name (history_after history (unless_refused refusal (accepted_event history event)))
+    IsUnknown name (history_after history (unless_refused refusal (accepted_in false history event)))
 unknown-event name history event None accepted spared unknown =
     ap (stands name) (state-push history event New accepted) ∙ unknown-stepped name (state history) event unknown spared accepted
 unknown-event name history event (Some refusal) is spared unknown = unknown-still name history (refused refusal) refl unknown
@@ -117,7 +117,7 @@ unknown-lines name history (line ∷ ls) spared unknown =
 
 -- a stream that is dropped doesn't stand, and one that couldn't be didn't before
 dropped-unknown : (name : List ℕ) (history : History) (refusal : Option Refusal) → refuses (state history) (Drop name) ≡ refusal →
-    IsUnknown name (history_after history (unless_refused refusal (accepted_event history (Drop name))))
+    IsUnknown name (history_after history (unless_refused refusal (accepted_in false history (Drop name))))
 unfolding stepped_from
 dropped-unknown name history None accepted =
     ap (stands name) (state-push history (Drop name) New accepted) ∙ ap is_some (stream_named-dropped name (state history))
@@ -128,21 +128,25 @@ dropped-unknown name history (Some refusal) is =
       | inr unknown ↦ unknown
     ])
 
--- so after a line that drops it, until a line creates it, a query of it is refused
+-- so after a line that drops it, until a line creates it, it doesn't
+pub lines-dropped : (history : History) (before between : List (List ℕ)) (dropping name : List ℕ) → meaning dropping ≡ Ok (Some (Do (Drop name))) →
+    NoneCreates name between → stands name (state (plain_after history (before ++ dropping ∷ between))) ≡ false
+lines-dropped history before between dropping name drops spared =
+    let here = plain_after history before in
+    let dropped : IsUnknown name (history_after here (brings here dropping)) =
+    subst (λ b. IsUnknown name (history_after here b)) (sym (ap (λ m. meaning_brings here m) drops))
+    (dropped-unknown name here (refuses (state here) (Drop name)) refl) in
+    subst (λ h. IsUnknown name h) (sym (plain_after-append history before (dropping ∷ between)))
+    (unknown-lines name (history_after here (brings here dropping)) between spared dropped)
+
+-- and a query of it is refused
 pub query-dropped : (history : History) (before between : List (List ℕ)) (dropping line : List ℕ) (query : Query) →
     meaning dropping ≡ Ok (Some (Do (Drop query.name))) → NoneCreates query.name between → meaning line ≡ Ok (Some (Ask query)) →
     brings (plain_after history (before ++ dropping ∷ between)) line ≡ refused Unknown
 unfolding refuses_query
 query-dropped history before between dropping line query drops spared means =
-    let name = query.name in
-    let here = plain_after history before in
-    let dropped : IsUnknown name (history_after here (brings here dropping)) =
-    subst (λ b. IsUnknown name (history_after here b)) (sym (ap (λ m. meaning_brings here m) drops))
-    (dropped-unknown name here (refuses (state here) (Drop name)) refl) in
-    let unknown : IsUnknown name (plain_after history (before ++ dropping ∷ between)) =
-    subst (λ h. IsUnknown name h) (sym (plain_after-append history before (dropping ∷ between)))
-    (unknown-lines name (history_after here (brings here dropping)) between spared dropped) in
     let there = plain_after history (before ++ dropping ∷ between) in
+    let unknown : IsUnknown query.name there = lines-dropped history before between dropping query.name drops spared in
     ap (λ m. meaning_brings there m) means ∙ brings-unanswered there query Unknown (rw unknown refl)
 
 -- a stream that was created holds no value

@@ -1,8 +1,12 @@
 -- Between two lines of a session: what is true there, and what taking some lines does.
-use Rattle.std.specs.Prelude.{◌≡◌, ℕ, suc, ◌+◌, ◌≤◌, ◌++◌, List, ◌∷◌, [], length, Option, Some, None, Result, IfOk, IfErr, OnOk, IsSome, ⊤}
-use Rattle.ss_command.specs.Lines.{lines, lines_so_far, unended}
-use Rattle.ss_command.specs.LineState.{Kept, kept}
+use Rattle.std.specs.Prelude.{◌≡◌, ℕ, ◌+◌, Bool, true, ◌≤◌, ◌++◌, List, ◌∷◌, [], length, Option, Some, None, Result, IfOk, IfErr, OnOk, IsSome, ⊤}
+use Rattle.ss_catalog.specs.declared.event.Event.{Event}
+use Rattle.ss_command.specs.LineState.{Kept}
+use Rattle.ss_command.specs.declared.command.Command.TheVariants.{Do}
+use Rattle.ss_frames.specs.Frame.{FrameState, frame_spelled}
 use Rattle.ss_journal.specs.Kept.{IsSealed}
+use Rattle.ss_model.specs.Refusals.{refuses}
+use Rattle.ss_model.specs.State.{state}
 use Rattle.ss_outside.specs.Crash.{LeavesOnly}
 use Rattle.ss_outside.specs.Disk.{DiskView, NothingPending, OfContent, Told}
 use Rattle.ss_records.specs.Kept.{RecordsState, shown_by}
@@ -11,9 +15,10 @@ use Rattle.ss_store.specs.Calls.{TurnsHistory}
 use Rattle.ss_store.specs.Kept.{StoreState}
 use Rattle.ss_store.specs.Recover.{Stands}
 use Rattle.ss_program.specs.Answer.{IsServing}
-use Rattle.ss_program.specs.Line.{Brought, History, history_after}
+use Rattle.ss_program.specs.Line.{Brought, History, accepted_frame, command_in, frame_replies, history_after}
 use Rattle.ss_program.specs.Progress.{StandsAround, StandsWithin, StopsIn}
 use Rattle.ss_program.specs.Sent.{appended}
+use Rattle.ss_program.specs.Steps.{kept_so_far, steps, steps_so_far}
 use Rattle.ss_program.specs.Session.{after_lines, text_of}
 use Rattle.ss_program.specs.Cursor.{Ordered}
 use Rattle.ss_program.specs.Talk.{Talk, Turn, turn_brought, turn_of, turn_said}
@@ -22,6 +27,7 @@ use Rattle.ss_program.specs.declared.replies.TheConstants.{LONGEST_REPLY, MOST_W
 use Rattle.ss_arguments.specs.declared.mode.Form.{Form}
 use Rattle.ss_arguments.specs.declared.mode.Sealing.{Sealing}
 use Rattle.ss_arguments.specs.declared.mode.Sealing.TheVariants.{Each, Shared}
+use Rattle.ss_program.specs.declared.staging.Staged.{Staged}
 use Rattle.ss_program.specs.declared.status.Status.{Status}
 
 -- what is owed of the text that is said, and where each event is sealed by itself to how many lines: to none between two lines, and to
@@ -114,6 +120,25 @@ pub record StagesBrought (brought : History → Brought) (was is : RecordsState)
       TurnsHistory was is history (StandsAround history (brought history)) (history_after history (brought history)) old new result
   pub reply : (history : History) → Stands history (shown_by was old.content) → IfOk result (λ reply. (brought history).replies ≡ reply ∷ [])
 
+-- what is replied to an event that is staged: its frame behind, where it has one
+abbrev pub staged_replies : Staged → List Reply
+staged_replies staged = staged.reply ∷ frame_replies staged.frame
+
+-- the bytes of a frame, or none
+abbrev pub frame_bytes : Option FrameState → List ℕ
+frame_bytes None = []
+frame_bytes (Some frame) = frame_spelled frame
+
+-- An event is taken in memory, where frames are said or not: it comes after the history that records show, wholly or not at all, and its
+-- replies are answered. Its frame is answered where frames are said and it isn't refused.
+pub record StagesFramed (framed : Bool) (event : Event) (was is : RecordsState) (result : Result Staged Status) (old new : Told) : Type 0 where
+  pub turns : (history : History) → let brought = command_in framed history (Do event) in
+      TurnsHistory was is history (StandsAround history brought) (history_after history brought) old new result
+  pub replies : (history : History) → Stands history (shown_by was old.content) →
+      IfOk result (λ staged. (command_in framed history (Do event)).replies ≡ staged_replies staged)
+  pub frame : framed ≡ true → (history : History) → Stands history (shown_by was old.content) →
+      IfOk result (λ staged. staged.frame ≡ accepted_frame (refuses (state history) event) history event)
+
 -- a line brings an event, after each history that records show over the content of a disk
 abbrev pub BringsEvent : (History → Brought) → RecordsState → DiskView → Type 0
 BringsEvent brought was disk =
@@ -136,18 +161,18 @@ HasRoom (Some replies) = length replies + LONGEST_REPLY ≤ MOST_WAITING_BYTES
 -- what a call says between two lines of an input of this form, of which these bytes were taken
 abbrev pub OfAmid : Form → Kept → Amid → Told → (Sealing → Talk → Option (List ℕ) → List ℕ → Type 0) → Type 0
 OfAmid form line from disk P = (sealing : Sealing) (talk : Talk) (before : Option (List ℕ)) (input : List ℕ) → form ≡ talk.form →
-    line ≡ kept (unended input) → IsAmid sealing talk (lines_so_far input) before from disk → P sealing talk before input
+    line ≡ kept_so_far talk.form input → IsAmid sealing talk (steps_so_far talk.form input) before from disk → P sealing talk before input
 
 -- Bytes of a piece of the input are taken, by the answer so many, or the run stops among the lines that end in the piece.
 pub record TakesBytes {T : Type 0} (moved : T → List ℕ) (piece : List ℕ) (form : Form) (line next : Kept) (from to : Amid) (result : Result T Status)
     (old new : Told) : Type 0 where
   pub goes : IfOk result (λ value. OfAmid form line from old (λ sealing talk before input.
-      (next ≡ kept (unended (input ++ moved value))) × GoesAmid sealing talk (lines_so_far (input ++ moved value)) before to old new))
+      (next ≡ kept_so_far talk.form (input ++ moved value)) × GoesAmid sealing talk (steps_so_far talk.form (input ++ moved value)) before to old new))
   pub stops : IfErr result (λ status. OfAmid form line from old (λ sealing talk before input.
-      StopsIn sealing talk (lines_so_far (input ++ piece)) old new before to.held status))
+      StopsIn sealing talk (steps_so_far talk.form (input ++ piece)) old new before to.held status))
 
 -- A last line that no line end ended is taken, if it has bytes, or the run stops among the lines.
 pub record TakesLast (form : Form) (line : Kept) (from to : Amid) (result : Result Unit Status) (old new : Told) : Type 0 where
-  pub goes : OnOk result (OfAmid form line from old (λ sealing talk before input. GoesAmid sealing talk (lines input) before to old new))
+  pub goes : OnOk result (OfAmid form line from old (λ sealing talk before input. GoesAmid sealing talk (steps talk.form input) before to old new))
   pub stops : IfErr result (λ status. OfAmid form line from old (λ sealing talk before input.
-      StopsIn sealing talk (lines input) old new before to.held status))
+      StopsIn sealing talk (steps talk.form input) old new before to.held status))

@@ -1,7 +1,7 @@
 -- What a line asks of a conversation, whichever form its input has, and how many rows of a cursor some lines ask for.
 use Rattle.std.specs.Prelude.{◌≡◌, ◌≢◌, ℕ, ◌+◌, ◌==◌, if◌then◌else◌, List, [], ◌∷◌, All, Option, Some, None, option_map, Ok}
 use Rattle.ss_arguments.specs.declared.mode.Form.{Form}
-use Rattle.ss_arguments.specs.declared.mode.Form.TheVariants.{Lines, Sessions}
+use Rattle.ss_arguments.specs.declared.mode.Form.TheVariants.{Lines, Sessions, Frames, Follow}
 use Rattle.ss_command.specs.Grammar.{meaning}
 use Rattle.ss_command.specs.LineState.{unless_long}
 use Rattle.ss_command.specs.declared.command.Command.{Command}
@@ -21,8 +21,10 @@ IsOrder session order line = heard_of line ≡ Some (To session (Ok (Some order)
 
 -- a line asks for a command in a form of input, and the reply to it is said to a session, or to none
 abbrev pub IsAsked : Form → Option ℕ → Command → List ℕ → Type 0
-IsAsked Lines speaker command line = (speaker ≡ None) × (meaning line ≡ Ok (Some command))
-IsAsked Sessions speaker command line = (session : ℕ) × (speaker ≡ Some session) × IsOrder session (orders.Command command) line
+IsAsked (Lines framed) speaker command line = (speaker ≡ None) × (meaning line ≡ Ok (Some command))
+IsAsked (Sessions framed) speaker command line = (session : ℕ) × (speaker ≡ Some session) × IsOrder session (orders.Command command) line
+IsAsked Frames speaker command line = ⊥
+IsAsked Follow speaker command line = ⊥
 
 -- none of some lines closes the cursor of a session
 abbrev pub NoneCloses : ℕ → List (List ℕ) → Type 0

@@ -1,9 +1,11 @@
 -- What showing a certificate does, and what is said of its evidence.
-use Rattle.std.specs.Prelude.{◌≡◌, ℕ, List, IfOk, Result, Some}
+use Rattle.std.specs.Prelude.{◌≡◌, ◌⊎◌, ℕ, List, IfOk, IsErr, Option, Result, Some, flat_map}
 use Rattle.ss_catalog.specs.declared.query.End.{End}
+use Rattle.ss_catalog.specs.declared.query.Kind.{Kind}
 use Rattle.ss_catalog.specs.declared.query.Query.{Query}
 use Rattle.ss_certify.specs.Called.{evidence_in}
-use Rattle.ss_certify.specs.Evidence.{end_asked, IsEvidence}
+use Rattle.ss_certify.specs.Evidence.{end_asked, IsEvidence, IsRight}
+use Rattle.ss_certify.specs.Told.{told}
 use Rattle.ss_certify.specs.declared.evidence.Evidence.{Evidence}
 use Rattle.ss_contents.specs.Attained.{IsTruthOfLike}
 use Rattle.ss_contents.specs.Contents.{contents_of}
@@ -13,8 +15,10 @@ use Rattle.ss_model.specs.declared.outcome.Outcome.{Outcome}
 use Rattle.ss_outside.specs.Crash.{OnlyReads}
 use Rattle.ss_outside.specs.Disk.{Told}
 use Rattle.ss_query.specs.Asked.{seen_of}
+use Rattle.ss_report.specs.Text.{said_line}
 use Rattle.ss_store.specs.Recover.{Recovers}
 use Rattle.ss_program.specs.Line.{History}
+use Rattle.ss_program.specs.Sent.{Sends}
 use Rattle.ss_program.specs.declared.status.Status.{Status}
 
 -- the content has this evidence: it is that of each state to which it recovers
@@ -25,6 +29,11 @@ HasEvidence query end w content = (streams : List Stream) → Recovers streams c
 pub record FindsEvidence (query : Query) (end : End) (result : Result Evidence Status) (old new : Told) : Type 0 where
   pub evidence : IfOk result (λ w. HasEvidence query end w old.content)
   pub reads : OnlyReads old new
+
+-- Over every disk: the lines of evidence that is right are sent, or less than all of them; or the run stops before any byte of them.
+abbrev pub SendsRight : Option ℕ → Kind → End → Option (List ℕ) → Option (List ℕ) → Result Unit Status → Type 0
+SendsRight speaker kind end before after result =
+    ((after ≡ before) × IsErr result) ⊎ ((w : Evidence) × IsRight kind end w × Sends before after (flat_map (said_line speaker) (told w)) result)
 
 -- After a history, evidence shows of a stream that this end of the answer can't be narrower: contents like those of the stream have
 -- it as their true answer.

@@ -2,6 +2,8 @@
 use Rattle.std.specs.Prelude.{◌≡◌, ℕ, List, [], ◌∷◌, ◌++◌, codes, Option}
 use Rattle.std.specs.Fmt.{decimal}
 use Rattle.ss_model.specs.State.{Stream}
+use Rattle.ss_outside.specs.Crash.{OnlyReads}
+use Rattle.ss_outside.specs.Disk.{Told}
 use Rattle.ss_store.specs.Recover.{Recovers}
 use Rattle.ss_store.specs.Surveyed.{survey_of}
 use Rattle.ss_store.specs.declared.surveying.Survey.{Survey}
@@ -33,3 +35,8 @@ pub record Checks (streams : List Stream) (before after : Option (List ℕ)) (st
 -- for the streams that the content recovers to
 abbrev pub ChecksContent : Option (List ℕ) → Option (List ℕ) → Status → List ℕ → Type 0
 ChecksContent before after status content = (streams : List Stream) → Recovers streams content → Checks streams before after status
+
+-- A check writes nothing, and says what the content holds.
+pub record ChecksStore (before after : Option (List ℕ)) (status : Status) (old new : Told) : Type 0 where
+  pub unwritten : OnlyReads old new
+  pub says : ChecksContent before after status old.content

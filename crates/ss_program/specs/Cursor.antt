@@ -9,7 +9,7 @@ use Rattle.ss_report.specs.declared.reply.Reply.TheVariants.{Window, Cursor, Row
 use Rattle.ss_sessions.specs.Cursors.{Cursors, cursor_of, cursor_rows, refuses_cursor, with_cursor}
 use Rattle.ss_sessions.specs.declared.order.Order.{Order}
 use Rattle.ss_sessions.specs.declared.order.Order.TheVariants as orders
-use Rattle.ss_program.specs.Line.{Brought, History, command_brings, nothing, only_replies, refused}
+use Rattle.ss_program.specs.Line.{Brought, History, command_in, nothing, only_replies, refused}
 
 -- what an order brings: the replies to it and the event that it adds, or none, the cursors after it, and whether it may take memory
 pub record Ordered : Type 0 where
@@ -70,9 +70,13 @@ closing cursors session (Some rows) = record {
 abbrev pub close_brings : Cursors → ℕ → Ordered
 close_brings cursors session = closing cursors session (cursor_of cursors session)
 
--- what an order of a session brings
+-- what an order of a session brings, where frames are said or not
+abbrev pub order_in : Bool → History → Cursors → ℕ → Order → Ordered
+order_in framed history cursors session (orders.Command command) = leaves_cursors cursors (command_in framed history command)
+order_in framed history cursors session (orders.Open name) = open_brings history cursors session name
+order_in framed history cursors session (orders.Next count) = next_brings cursors session count
+order_in framed history cursors session orders.Close = close_brings cursors session
+
+-- and where no frames are said
 abbrev pub order_brings : History → Cursors → ℕ → Order → Ordered
-order_brings history cursors session (orders.Command command) = leaves_cursors cursors (command_brings history command)
-order_brings history cursors session (orders.Open name) = open_brings history cursors session name
-order_brings history cursors session (orders.Next count) = next_brings cursors session count
-order_brings history cursors session orders.Close = close_brings cursors session
+order_brings history cursors session order = order_in false history cursors session order

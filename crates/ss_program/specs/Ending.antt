@@ -9,9 +9,9 @@ use Rattle.ss_outside.specs.Step.{Step}
 use Rattle.ss_outside.specs.Verdict.{Counted}
 use Rattle.ss_store.specs.Recover.{recover}
 use Rattle.ss_program.specs.Devices.{Devices}
-use Rattle.ss_program.specs.Refused.{RefusesStore, refusal_line}
+use Rattle.ss_program.specs.Refused.{RefusesStore, SaysRefusal, refusal_line}
 use Rattle.ss_program.specs.Sent.{SaysLine}
-use Rattle.ss_program.specs.Status.{disk_verdict, sink_verdict}
+use Rattle.ss_program.specs.Status.{disk_verdict, sink_verdict, source_verdict}
 use Rattle.ss_program.specs.Words.{usage}
 use Rattle.ss_arguments.specs.declared.mode.Form.{Form}
 use Rattle.ss_arguments.specs.declared.mode.Sealing.{Sealing}
@@ -37,7 +37,9 @@ pub record Ends (old new : Devices) (status : Status) : Type 0 where
   pub disk : Step (disk_verdict status) old.disk new.disk (λ a b. IsRefusedContent a.content → Refuses old.held new.held status a b)
   -- and so is the sink, but for the line that is said of a refused store, which may have failed to go out
   pub sink : (status ≡ RefusedStore → ⊥) → Counted (sink_verdict status) old.faults new.faults
+  -- the line is that of what the definition finds first, and over a disk that tells nothing one of the four
   pub refused : status ≡ RefusedStore → Between old.disk new.disk (λ a b. RefusesStore a b old.held new.held old.faults new.faults)
+  pub said : status ≡ RefusedStore → SaysRefusal old.held new.held old.faults new.faults
   -- no record has changed on a disk that tells
   pub firm : status ≡ RecordChanged → IsTrue old.disk.tells → ⊥
 
@@ -61,6 +63,16 @@ IsUnfed before after DiskFault = after ≡ before
 IsUnfed before after OutOfMemory = after ≡ before
 IsUnfed before after RecordChanged = after ≡ before
 IsUnfed before after status = ⊤
+
+-- What a run leaves of its source: its count of faults rose exactly where it is blamed, and where the store is refused it is as it was.
+pub record Feeds (same : Type 0) (faults_before faults : ℕ) (status : Status) : Type 0 where
+  pub counted : Counted (source_verdict status) faults_before faults
+  pub unserved : status ≡ RefusedStore → same
+
+-- A run that reads no input leaves its source as it was.
+pub record Unfed (same : Type 0) (before after : Option (List ℕ)) (status : Status) : Type 0 where
+  pub unread : same
+  pub silent : IsUnfed before after status
 
 -- the numbers of a generated file are those that a mode may have
 abbrev pub HasNumbers : Mode → Type 0

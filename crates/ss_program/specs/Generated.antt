@@ -8,7 +8,7 @@ use Rattle.ss_outside.specs.Disk.{NothingPending, Told}
 use Rattle.ss_report.specs.Text.{reply_line}
 use Rattle.ss_report.specs.declared.reply.Reply.{Reply}
 use Rattle.ss_report.specs.declared.reply.Reply.TheVariants.{Done as AckLine, Answered, Refused, SeriesHead, Row, WindowsHead, Window}
-use Rattle.ss_report.specs.declared.reply.Reply.TheVariants.{ListHead, Stream, CertifyHead, Side, Last, ValuesHead, Value as MarkedValue, Cursor, Rows, Closed}
+use Rattle.ss_report.specs.declared.reply.Reply.TheVariants.{ListHead, Stream, CertifyHead, Side, Last, ValuesHead, Value as MarkedValue, Cursor, Rows, Closed, Old, Gap, Framed}
 use Rattle.ss_store.specs.Recover.{Stands}
 use Rattle.ss_program.specs.Held.{StandsForFirst}
 use Rattle.ss_program.specs.Line.{History}
@@ -27,7 +27,7 @@ abbrev pub is_done : Reply → Bool
 is_done (AckLine ack) = true
 is_done (Answered outcome) = false
 is_done (Refused refusal) = false
-is_done (SeriesHead count) = false
+is_done (SeriesHead kind count) = false
 is_done (Row at outcome) = false
 is_done (WindowsHead count) = false
 is_done (Window placed) = false
@@ -41,12 +41,15 @@ is_done (MarkedValue at value) = false
 is_done (Cursor count) = false
 is_done (Rows count) = false
 is_done Closed = false
+is_done Old = false
+is_done (Gap events) = false
+is_done (Framed frame) = false
 
 abbrev pub is_refused : Reply → Bool
 is_refused (AckLine ack) = false
 is_refused (Answered outcome) = false
 is_refused (Refused refusal) = true
-is_refused (SeriesHead count) = false
+is_refused (SeriesHead kind count) = false
 is_refused (Row at outcome) = false
 is_refused (WindowsHead count) = false
 is_refused (Window placed) = false
@@ -60,6 +63,9 @@ is_refused (MarkedValue at value) = false
 is_refused (Cursor count) = false
 is_refused (Rows count) = false
 is_refused Closed = false
+is_refused Old = false
+is_refused (Gap events) = false
+is_refused (Framed frame) = false
 
 -- a line of a word and a number
 abbrev pub counted_line : List ℕ → ℕ → List ℕ

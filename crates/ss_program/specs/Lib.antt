@@ -3,6 +3,7 @@ pub mod Cursor
 pub mod Talk
 pub mod Session
 pub mod Asked
+pub mod Followed
 pub mod Sent
 pub mod Devices
 pub mod Progress
@@ -13,7 +14,9 @@ pub mod Amid
 pub mod Opened
 pub mod Words
 pub mod Status
+pub mod Steps
 pub mod Held
+pub mod Reading
 pub mod Refused
 pub mod Outcome
 pub mod Checked
@@ -21,3 +24,6 @@ pub mod Generated
 pub mod Tally
 pub mod Ending
 pub mod Promises
+pub mod Chained
+pub mod Needed
+pub mod Alike

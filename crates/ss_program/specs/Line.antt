@@ -1,10 +1,10 @@
 -- What one line brings: the one place that says what a line does to the history before it.
-use Rattle.std.specs.Prelude.{ℕ, ◌<◌, List, [], ◌∷◌, ◌++◌, length, map, flat_map, Option, Some, None, IfSome, Result, Ok, Err}
+use Rattle.std.specs.Prelude.{ℕ, ◌<◌, Bool, true, false, List, [], ◌∷◌, ◌++◌, length, map, flat_map, Option, Some, None, IfSome, Result, Ok, Err}
 use Rattle.ss_catalog.specs.Events.{event_name}
 use Rattle.ss_catalog.specs.Series.{row_count, row_query, row_start, rows_of}
 use Rattle.ss_catalog.specs.declared.event.Event.{Event}
 use Rattle.ss_catalog.specs.declared.refusal.Refusal.{Refusal}
-use Rattle.ss_catalog.specs.declared.refusal.Refusal.TheVariants.{Line}
+use Rattle.ss_catalog.specs.declared.refusal.Refusal.TheVariants.{Frame, Line}
 use Rattle.ss_catalog.specs.declared.series.Series.{Series}
 use Rattle.ss_certify.specs.Called.{evidence_in}
 use Rattle.ss_certify.specs.Told.{told}
@@ -13,6 +13,7 @@ use Rattle.ss_command.specs.Grammar.{meaning}
 use Rattle.ss_command.specs.declared.TheConstants.{MOST_SESSIONS}
 use Rattle.ss_command.specs.declared.command.Command.{Command}
 use Rattle.ss_command.specs.declared.command.Command.TheVariants.{Do, Ask, Certify, Series as AskRows, Last, Values, Windows, List as ListAll}
+use Rattle.ss_frames.specs.Frame.{FrameState}
 use Rattle.ss_landmarks.specs.Landmark.{LandmarkValue}
 use Rattle.ss_landmarks.specs.ValuesIn.{values_between}
 use Rattle.ss_model.specs.History.{Happened, added}
@@ -25,10 +26,14 @@ use Rattle.ss_model.specs.State.{Stream, state, stream_named}
 use Rattle.ss_model.specs.Steps.{ack_of}
 use Rattle.ss_model.specs.declared.newest.Newest.{Newest}
 use Rattle.ss_model.specs.declared.outcome.Outcome.{Outcome}
+use Rattle.ss_replica.specs.Offers.{due_in}
+use Rattle.ss_replica.specs.Own.{event_frame}
+use Rattle.ss_replica.specs.declared.judging.Due.{Due}
+use Rattle.ss_replica.specs.declared.judging.Due.TheVariants.{Next, Old, Gap}
 use Rattle.ss_report.specs.Text.{reply_line, said_line}
 use Rattle.ss_report.specs.declared.reply.Reply.{Reply}
 use Rattle.ss_report.specs.declared.reply.Reply.TheVariants.{Done, Answered, Refused, SeriesHead, Row, WindowsHead, Window, ListHead, Stream as StreamRow}
-use Rattle.ss_report.specs.declared.reply.Reply.TheVariants.{Last as LastLine, ValuesHead, Value as ValueRow}
+use Rattle.ss_report.specs.declared.reply.Reply.TheVariants.{Last as LastLine, ValuesHead, Value as ValueRow, Framed, Old as OldFrame, Gap as GapBehind}
 
 -- a history: the events that were accepted, oldest first
 abbrev pub History : Type 0
@@ -56,10 +61,36 @@ abbrev pub unless_refused : Option Refusal → Brought → Brought
 unless_refused None brought = brought
 unless_refused (Some refusal) brought = refused refusal
 
--- an event that is accepted: the reply says what its stream has then
-abbrev pub accepted_event : History → Event → Brought
-accepted_event history event = record {
-  replies = Done (ack_of (event_name event) (state (history ++ added event ∷ []))) ∷ [];
+-- the event that a command asks for, if it asks for one
+abbrev pub event_in : Command → Option Event
+event_in (Do event) = Some event
+event_in (Ask query) = None
+event_in (Certify query end) = None
+event_in (AskRows series) = None
+event_in (Last name) = None
+event_in (Values name from to) = None
+event_in (Windows name) = None
+event_in ListAll = None
+
+-- the frame of an event that comes after a history, where the event isn't refused
+abbrev pub accepted_frame : Option Refusal → History → Event → Option FrameState
+accepted_frame (Some refusal) history event = None
+accepted_frame None history event = event_frame history event
+
+-- the reply that has the frame of an accepted event
+abbrev pub frame_replies : Option FrameState → List Reply
+frame_replies None = []
+frame_replies (Some frame) = Framed frame ∷ []
+
+-- the same, where frames are said
+abbrev pub framed_replies : Bool → History → Event → List Reply
+framed_replies false history event = []
+framed_replies true history event = frame_replies (event_frame history event)
+
+-- an event that is accepted: the reply says what its stream has then, and where frames are said its frame comes behind
+abbrev pub accepted_in : Bool → History → Event → Brought
+accepted_in framed history event = record {
+  replies = Done (ack_of (event_name event) (state (history ++ added event ∷ []))) ∷ framed_replies framed history event;
   event = Some event;
 }
 
@@ -110,38 +141,63 @@ values_shown from to (Some s) =
 abbrev pub stream_rows : List Stream → List Reply
 stream_rows streams = map (λ s. StreamRow (row_of s)) streams
 
--- what a command brings
-abbrev pub command_brings : History → Command → Brought
-command_brings history (Do event) = unless_refused (refuses (state history) event) (accepted_event history event)
-command_brings history (Ask query) =
+-- what a command brings, where frames are said or not
+abbrev pub command_in : Bool → History → Command → Brought
+command_in framed history (Do event) = unless_refused (refuses (state history) event) (accepted_in framed history event)
+command_in framed history (Ask query) =
     unless_refused (refuses_query (state history) query) (only_replies (answer_replies (outcome_of (state history) query)))
-command_brings history (Certify query end) =
+command_in framed history (Certify query end) =
     unless_refused (refuses_query (state history) query) (only_replies (certified (evidence_in (state history) query end)))
-command_brings history (AskRows series) =
-    unless_refused (refuses_series (state history) series) (only_replies (SeriesHead (row_count series) ∷ series_rows (state history) series))
-command_brings history (Windows name) =
+command_in framed history (AskRows series) =
+    unless_refused (refuses_series (state history) series) (only_replies (SeriesHead series.kind (row_count series) ∷ series_rows (state history) series))
+command_in framed history (Windows name) =
     unless_refused (refuses_reading (state history) name) (only_replies (windows_shown (stream_named name (state history))))
-command_brings history (Last name) =
+command_in framed history (Last name) =
     unless_refused (refuses_reading (state history) name) (only_replies (newest_replies (newest_in (state history) name)))
-command_brings history (Values name from to) =
+command_in framed history (Values name from to) =
     unless_refused (refuses_values (state history) name from to)
     (only_replies (values_shown from to (stream_named name (state history))))
-command_brings history ListAll = only_replies (ListHead (length (state history)) ∷ stream_rows (state history))
+command_in framed history ListAll = only_replies (ListHead (length (state history)) ∷ stream_rows (state history))
+
+-- and where they aren't
+abbrev pub command_brings : History → Command → Brought
+command_brings history command = command_in false history command
 
 -- what a line brings that means this
-abbrev pub meaning_brings : History → Result (Option Command) Refusal → Brought
-meaning_brings history (Err refusal) = refused refusal
-meaning_brings history (Ok None) = nothing
-meaning_brings history (Ok (Some command)) = command_brings history command
+abbrev pub meaning_in : Bool → History → Result (Option Command) Refusal → Brought
+meaning_in framed history (Err refusal) = refused refusal
+meaning_in framed history (Ok None) = nothing
+meaning_in framed history (Ok (Some command)) = command_in framed history command
 
 -- what a line brings as it is kept: one that is too long isn't kept
-abbrev pub kept_brings : History → Option (List ℕ) → Brought
-kept_brings history None = refused Line
-kept_brings history (Some line) = meaning_brings history (meaning line)
+abbrev pub kept_in : Bool → History → Option (List ℕ) → Brought
+kept_in framed history None = refused Line
+kept_in framed history (Some line) = meaning_in framed history (meaning line)
 
 -- what a line brings after a history
+abbrev pub brings_in : Bool → History → List ℕ → Brought
+brings_in framed history line = meaning_in framed history (meaning line)
+
+-- the same of lines to which no frames are said
+abbrev pub meaning_brings : History → Result (Option Command) Refusal → Brought
+meaning_brings history meant = meaning_in false history meant
+
+abbrev pub kept_brings : History → Option (List ℕ) → Brought
+kept_brings history line = kept_in false history line
+
 abbrev pub brings : History → List ℕ → Brought
-brings history line = meaning_brings history (meaning line)
+brings history line = brings_in false history line
+
+-- What a frame brings: the refusal of its event or the event, where it is the next of its stream. One that the stream has is old, and one
+-- behind a gap says which is the last that the stream has.
+abbrev pub due_brings : History → FrameState → Due → Brought
+due_brings history frame Next = command_brings history (Do frame.event)
+due_brings history frame Old = only_replies (OldFrame ∷ [])
+due_brings history frame (Gap last) = only_replies (GapBehind last ∷ [])
+
+abbrev pub frame_brings : History → Option FrameState → Brought
+frame_brings history None = refused Frame
+frame_brings history (Some frame) = due_brings history frame (due_in history frame)
 
 -- who a reply is said to: one of the eight sessions, or none
 abbrev pub IsSpeaker : Option ℕ → Type 0

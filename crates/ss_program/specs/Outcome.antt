@@ -1,7 +1,6 @@
 -- What a run over an input leaves, by its status.
 use Rattle.std.specs.Prelude.{◌≡◌, ◌⊎◌, ℕ, ◌+◌, ◌-◌, ◌<◌, ◌≤◌, ◌++◌, ◌∷◌, List, [], take, drop}
 use Rattle.std.specs.Prelude.{length, IfOk, IfErr, Option, Some, Result}
-use Rattle.ss_command.specs.Lines.{lines, lines_so_far}
 use Rattle.ss_outside.specs.Crash.{LeavesOnly}
 use Rattle.ss_outside.specs.Disk.{NothingPending, Told}
 use Rattle.ss_store.specs.Recover.{Stands}
@@ -15,6 +14,7 @@ use Rattle.ss_program.specs.Line.{History}
 use Rattle.ss_program.specs.Progress.{GoesOn, OfTaken, SessionState, StandsWithin, StopsAmong, StopsIn}
 use Rattle.ss_program.specs.Sent.{appended, AppendsFront}
 use Rattle.ss_program.specs.Session.{accepted, report, report_so_far}
+use Rattle.ss_program.specs.Steps.{steps, steps_so_far}
 use Rattle.ss_program.specs.Talk.{Talk, begun}
 
 -- some bytes of the input were taken, at most as many as an input may have, and the others are left
@@ -23,15 +23,15 @@ pub record Took (input : List ℕ) (left : Option (List ℕ)) (taken rest : List
   pub others : left ≡ Some rest
   pub few : length taken ≤ LONGEST_INPUT
 
--- the lines that have ended within the bytes taken: where none are left, the last one has too
-abbrev pub lines_within : List ℕ → List ℕ → List (List ℕ)
-lines_within taken [] = lines taken
-lines_within taken (b ∷ rest) = lines_so_far taken
+-- the steps that have ended within the bytes taken: where none are left, the last one has too
+abbrev pub steps_within : Form → List ℕ → List ℕ → List (List ℕ)
+steps_within form taken [] = steps form taken
+steps_within form taken (b ∷ rest) = steps_so_far form taken
 
 -- a run stopped among the lines that had ended within the bytes taken
 abbrev pub Stopped : Sealing → Talk → List ℕ → Option (List ℕ) → Option (List ℕ) → Option (List ℕ) → Told → Status → Type 0
 Stopped sealing talk input left before after disk status =
-    (taken : List ℕ) × (rest : List ℕ) × Took input left taken rest × StopsAmong sealing talk (lines_within taken rest) before after disk status
+    (taken : List ℕ) × (rest : List ℕ) × Took input left taken rest × StopsAmong sealing talk (steps_within talk.form taken rest) before after disk status
 
 -- a run ended where its store wasn't open yet
 abbrev pub NotBegun : List ℕ → Option (List ℕ) → Option (List ℕ) → Option (List ℕ) → Type 0
@@ -68,7 +68,7 @@ pub record Reads (input : List ℕ) (left : Option (List ℕ)) (status : Status)
 abbrev pub HoldsBy : Sealing → Talk → List ℕ → Option (List ℕ) → ℕ → Status → List ℕ → Type 0
 HoldsBy sealing talk input left bytes status image =
     (read : List ℕ) × (rest : List ℕ) × (read ++ rest ≡ input) × (left ≡ Some rest)
-    × HoldsAcked sealing talk (lines input) (lines_within read rest) bytes status image
+    × HoldsAcked sealing talk (steps talk.form input) (steps_within talk.form read rest) bytes status image
 
 -- each image does, by the sink's new bytes
 abbrev pub HoldsReported : Sealing → Talk → List ℕ → Option (List ℕ) → Option (List ℕ) → Option (List ℕ) → Told → Status → Type 0
@@ -81,8 +81,8 @@ pub record Serves (sealing : Sealing) (talk : Talk) (input : List ℕ) (left bef
     (status : Status) : Type 0 where
   pub report : Reports sealing talk input left before after new status
   pub kept : HoldsReported sealing talk input left before after new status
-  pub any_moment : LeavesOnly old new (StandsWithin talk (lines input))
-  pub whole : status ≡ Done → Stands (talk.history ++ accepted talk (lines input)) new.content
+  pub any_moment : LeavesOnly old new (StandsWithin talk (steps talk.form input))
+  pub whole : status ≡ Done → Stands (talk.history ++ accepted talk (steps talk.form input)) new.content
 
 -- A run over an input: what it leaves for each history for which the content stands, with nothing pending.
 abbrev pub ServesInput : Form → Sealing → List ℕ → Option (List ℕ) → Option (List ℕ) → Option (List ℕ) → Status → Told → Told → Type 0
@@ -97,4 +97,4 @@ pub record ReadsPiece (room : ℕ) (from to : SessionState) (left rest held afte
       GoesOn sealing talk old new to before after (input ++ take count bytes)))
   pub stops : IfErr result (λ status. (status ≡ SourceFault → ⊥) → (bytes : List ℕ) → left ≡ Some bytes →
       OfTaken from held old (λ sealing talk before input. (count : ℕ) × (count ≤ room) × (count ≤ length bytes)
-      × (rest ≡ Some (drop count bytes)) × StopsIn sealing talk (lines_so_far (input ++ take count bytes)) old new before after status))
+      × (rest ≡ Some (drop count bytes)) × StopsIn sealing talk (steps_so_far talk.form (input ++ take count bytes)) old new before after status))

@@ -1,13 +1,12 @@
 -- How far a session has come, and where it stops.
 use Rattle.std.specs.Prelude.{◌≡◌, ◌⊎◌, ℕ, ◌<◌, ◌≤◌, ◌++◌, List, [], ◌∷◌, length, take, Option, Some, None, IsSome, IsTrue, IfOk, IfErr, Result, ⊤}
-use Rattle.ss_command.specs.Lines.{lines, lines_so_far, unended}
-use Rattle.ss_command.specs.LineState.{kept}
 use Rattle.ss_outside.specs.Crash.{LeavesOnly}
 use Rattle.ss_outside.specs.Disk.{Told, NothingPending}
 use Rattle.ss_store.specs.Kept.{StoreState}
 use Rattle.ss_store.specs.Recover.{Stands}
 use Rattle.ss_program.specs.Line.{Brought, History, history_after, text_brought}
 use Rattle.ss_program.specs.Sent.{appended, StopsSaying}
+use Rattle.ss_program.specs.Steps.{kept_so_far, steps, steps_so_far}
 use Rattle.ss_program.specs.Session.{after_lines, text_of, report_so_far}
 use Rattle.ss_program.specs.Talk.{Talk, turn_of}
 use Rattle.ss_sessions.specs.Cursors.{Cursors}
@@ -39,13 +38,13 @@ NoneWait (Some replies) = replies ≡ []
 -- After a conversation began the session has taken these bytes: the disk stands for the history before with the events accepted since,
 -- with nothing pending, and the line under way is what no line end has ended.
 pub record HasTaken (sealing : Sealing) (talk : Talk) (disk : Told) (session : SessionState) (taken : List ℕ) : Type 0 where
-  pub stands : Stands (after_lines talk (lines_so_far taken)).history disk.content
+  pub stands : Stands (after_lines talk (steps_so_far talk.form taken)).history disk.content
   pub durable : NothingPending disk
-  pub line : session.line ≡ kept (unended taken)
+  pub line : session.line ≡ kept_so_far talk.form taken
   pub unsaid : NoneWait session.waiting
   pub seals : sealing_by session.waiting ≡ sealing
   pub form : session.form ≡ talk.form
-  pub cursors : session.cursors ≡ (after_lines talk (lines_so_far taken)).cursors
+  pub cursors : session.cursors ≡ (after_lines talk (steps_so_far talk.form taken)).cursors
 
 -- and the sink got what is said to all lines that have ended
 abbrev pub HasReplied : Talk → Option (List ℕ) → Option (List ℕ) → List ℕ → Type 0
@@ -65,7 +64,7 @@ pub record GoesOn (sealing : Sealing) (talk : Talk) (old new : Told) (session : 
   where
     pub at : HasTaken sealing talk new session taken
     pub replied : HasReplied talk before held taken
-    pub any_moment : LeavesOnly old new (StandsWithin talk (lines_so_far taken))
+    pub any_moment : LeavesOnly old new (StandsWithin talk (steps_so_far talk.form taken))
 
 -- What is left in the sink of what a line brings at which a run stops. Where the sink or the disk failed, it got less than
 -- the text of it. Memory runs out before any reply to the line, and only at one that brings an event.
@@ -133,10 +132,10 @@ pub record TakesPiece {T : Type 0} (moved : T → List ℕ) (piece : List ℕ) (
   pub goes : IfOk result (λ value. OfTaken from held old (λ sealing talk before input.
       GoesOn sealing talk old new to before after (input ++ moved value)))
   pub stops : IfErr result (λ status. OfTaken from held old (λ sealing talk before input.
-      StopsIn sealing talk (lines_so_far (input ++ piece)) old new before after status))
+      StopsIn sealing talk (steps_so_far talk.form (input ++ piece)) old new before after status))
 
 -- A session ends its input: all lines are answered, or the run stops among the last ones.
 pub record EndsSession (from : SessionState) (held after : Option (List ℕ)) (status : Status) (old new : Told) : Type 0 where
-  pub done : status ≡ Done → OfTaken from held old (λ sealing talk before input. EndsWell talk (lines input) old new before after)
+  pub done : status ≡ Done → OfTaken from held old (λ sealing talk before input. EndsWell talk (steps talk.form input) old new before after)
   pub stops : (status ≡ Done → ⊥) → OfTaken from held old (λ sealing talk before input.
-      StopsIn sealing talk (lines input) old new before after status)
+      StopsIn sealing talk (steps talk.form input) old new before after status)

@@ -29,6 +29,13 @@ pub record RefusesStore (old new : Told) (before after : Option (List ℕ)) (fau
   pub said : SaysLine line before after faults_before faults
   pub unwritten : OnlyReads old new
 
+-- One of the four lines is said, whole unless the sink's count of faults rose: that of something for which a content is refused.
+pub record SaysRefusal (before after : Option (List ℕ)) (faults_before faults : ℕ) : Type 0 where
+  pub found : Recovered
+  pub line : List ℕ
+  pub is_line : refusal_line found ≡ Some line
+  pub said : SaysLine line before after faults_before faults
+
 -- the status of a run whose store was not opened
 abbrev pub status_of_open : OpenError → Status
 status_of_open opening.Disk = DiskFault

@@ -4,10 +4,10 @@ use Rattle.ss_catalog.specs.declared.event.Event.TheVariants.{Create}
 use Rattle.ss_catalog.specs.declared.params.Params.{Params}
 use Rattle.ss_command.specs.Grammar.{meaning}
 use Rattle.ss_command.specs.declared.command.Command.TheVariants.{Do}
-use Rattle.ss_command.specs.Lines.{lines, lines_so_far}
 use Rattle.ss_report.specs.declared.reply.Reply.{Reply}
 use Rattle.ss_model.specs.History.{Happened}
 use Rattle.ss_program.specs.Line.{History, brings, history_after, the_event}
+use Rattle.ss_program.specs.Steps.{steps, steps_so_far}
 use Rattle.ss_program.specs.Talk.{Talk, after_turn, plain, turn_of}
 
 -- the conversation after a line
@@ -31,11 +31,11 @@ text_of talk (line ∷ ls) = (turn_of talk line).says ++ text_of (after_line tal
 
 -- the report of an input
 abbrev pub report : Talk → List ℕ → List ℕ
-report talk input = text_of talk (lines input)
+report talk input = text_of talk (steps talk.form input)
 
--- the report of the lines that a line end ends
+-- the report of the steps that have ended
 abbrev pub report_so_far : Talk → List ℕ → List ℕ
-report_so_far talk input = text_of talk (lines_so_far input)
+report_so_far talk input = text_of talk (steps_so_far talk.form input)
 
 -- the history after some plain lines
 abbrev pub plain_after : History → List (List ℕ) → History

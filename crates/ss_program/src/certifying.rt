@@ -1,6 +1,7 @@
 // Shows why an end of an answer can't be narrower: the evidence is made and checked, and then sent.
-ghost use Rattle.std.specs.Prelude.{◌≡◌, true, IsTrue, IfErr, None, OnOk};
+ghost use Rattle.std.specs.Prelude.{◌≡◌, true, IsTrue, IfOk, IfErr, None, OnOk};
 ghost use Rattle.ss_catalog.specs.Queries.{adds_up};
+ghost use Rattle.ss_certify.specs.Evidence.{IsRight};
 ghost use Rattle.ss_certify.specs.Told.{told};
 ghost use Rattle.ss_command.specs.declared.command.Command.TheVariants.{Certify};
 ghost use Rattle.ss_outside.specs.Crash.{OnlyReads};
@@ -8,7 +9,7 @@ ghost use Rattle.ss_outside.specs.Disk.{OfContent};
 ghost use Rattle.ss_outside.specs.Step.{Step};
 ghost use Rattle.ss_store.specs.Asked.{refuses_query_held};
 ghost use Rattle.ss_program.specs.Answer.{IsOpen, IsTextBrought, Shows};
-ghost use Rattle.ss_program.specs.Certifying.{FindsEvidence, HasEvidence};
+ghost use Rattle.ss_program.specs.Certifying.{FindsEvidence, HasEvidence, SendsRight};
 ghost use Rattle.ss_program.specs.Devices.{over};
 ghost use Rattle.ss_program.specs.Line.{IsSpeaker};
 ghost use Rattle.ss_program.specs.Status.{disk_verdict, ended, IsDiskStop};
@@ -50,7 +51,7 @@ fn make_evidence<D: Disk>(
     }
 }
 
-// Checks the evidence that was made. Only on a disk that doesn't tell its content it may be wrong.
+// Checks the evidence that was made. Only on a disk that doesn't tell its content it may be wrong: then a record has changed.
 fn check_evidence<D: Disk>(
     store: &mut Store,
     query: &Query,
@@ -63,6 +64,7 @@ fn check_evidence<D: Disk>(
     requires taken { refuses_query_held store.old.streams query.now ≡ None }
     requires made { OfContent (D.seen disk.old) (HasEvidence query.now end evidence.now) }
     ensures reads { Step (disk_verdict (ended result)) (D.seen disk.old) (D.seen disk.new) OnlyReads }
+    ensures right { OnOk result (IsRight query.now.kind end evidence.now) }
     ensures open { OnOk result (IsOpen (D.seen disk.new) store.new) }
     ensures status { IfErr result (IsDiskStop (D.seen disk.old).tells) }
 {
@@ -87,6 +89,7 @@ fn find_evidence<D: Disk>(
     requires open { IsOpen (D.seen disk.old) store.old }
     requires taken { refuses_query_held store.old.streams query.now ≡ None }
     ensures finds { Step (disk_verdict (ended result)) (D.seen disk.old) (D.seen disk.new) (FindsEvidence query.now end result) }
+    ensures right { IfOk result (IsRight query.now.kind end) }
     ensures open { OnOk result (IsOpen (D.seen disk.new) store.new) }
     ensures status { IfErr result (IsDiskStop (D.seen disk.old).tells) }
 {
@@ -108,7 +111,8 @@ fn lines_of(evidence: &Evidence) -> ArrayVec<Reply, MOST_LINES>
     lines
 }
 
-/// Shows an end of the answer to a query and why it can't be narrower, or why the query is refused.
+/// Shows an end of the answer to a query and why it can't be narrower, or why the query is refused. No line of evidence is sent that
+/// a check didn't find right.
 pub fn show_certificate<D: Disk, K: Sink>(
     speaker: Option<u8>,
     store: &mut Store,
@@ -120,8 +124,9 @@ pub fn show_certificate<D: Disk, K: Sink>(
     requires speaker { IsSpeaker speaker }
     requires kind { IsTrue (adds_up query.now.kind) }
     requires open { IsOpen (D.seen disk.old) store.old }
-    ensures { Shows (IsTextBrought speaker (Certify query.now end)) (over (D.seen disk.old) (K.held sink.old) (K.faults sink.old))
+    ensures shows { Shows (IsTextBrought speaker (Certify query.now end)) (over (D.seen disk.old) (K.held sink.old) (K.faults sink.old))
         (over (D.seen disk.new) (K.held sink.new) (K.faults sink.new)) store.new result }
+    ensures right { refuses_query_held store.old.streams query.now ≡ None → SendsRight speaker query.now.kind end (K.held sink.old) (K.held sink.new) result }
 {
     if let Some(refusal) = refusal_of(store, query) {
         return at_sink(send_reply(speaker, &Reply::Refused(refusal), sink));

@@ -1,5 +1,6 @@
 // Laws of what lines bring, each the contract of a function that does nothing.
-ghost use Rattle.std.specs.Prelude.{◌≡◌, ◌++◌, ◌&&◌, [], ◌∷◌, ℕ, ℤ, List, filter, flat_map, length, map, nat_le, Some, None, Ok};
+ghost use Rattle.std.specs.Prelude.{◌≡◌, ◌++◌, ◌&&◌, [], ◌∷◌, ℕ, ℤ, ◌≤ℤ◌, true, List, filter, flat_map, length, map, nat_le, Some, None, Ok};
+ghost use Rattle.ss_catalog.specs.Queries.{is_guess};
 ghost use Rattle.ss_catalog.specs.Series.{row_count, row_start, rows_of};
 ghost use Rattle.ss_catalog.specs.declared.event.Event.TheVariants.{Create, Drop};
 ghost use Rattle.ss_catalog.specs.declared.params.Params.{Params};
@@ -13,7 +14,8 @@ ghost use Rattle.ss_certify.specs.declared.evidence.Evidence.{Evidence};
 ghost use Rattle.ss_command.specs.Grammar.{meaning};
 ghost use Rattle.ss_command.specs.declared.command.Command.TheVariants.{Do, Ask, Certify, Last, Series as AskRows, Values};
 ghost use Rattle.ss_landmarks.specs.Landmark.{LandmarkValue};
-ghost use Rattle.ss_model.specs.Answers.{HoldsPresence, HoldsTruth, IsExactOutcome, IsOfKind, refuses_query, split_by};
+ghost use Rattle.ss_model.specs.Answers.{HasEnds, HoldsPresence, HoldsTruth, IsExactOutcome, IsOfKind, interval_query, outcome_of, refuses_query};
+ghost use Rattle.ss_model.specs.Answers.{split_by};
 ghost use Rattle.ss_model.specs.History.{added, landmarks_of, marked_of, values_of};
 ghost use Rattle.ss_model.specs.Marks.{later, latest_of};
 ghost use Rattle.ss_model.specs.Newest.{refuses_values};
@@ -25,7 +27,7 @@ ghost use Rattle.ss_model.specs.Truth.{true_presence};
 ghost use Rattle.ss_model.specs.Windows.{time_of_last};
 ghost use Rattle.ss_model.specs.declared.newest.Newest.{Newest};
 ghost use Rattle.ss_model.specs.declared.outcome.Outcome.{Outcome};
-ghost use Rattle.ss_model.specs.declared.outcome.Outcome.TheVariants.{Has};
+ghost use Rattle.ss_model.specs.declared.outcome.Outcome.TheVariants.{Estimate, Has};
 ghost use Rattle.ss_model.specs.declared.outcome.Presence.{Presence};
 ghost use Rattle.ss_report.specs.Text.{reply_line};
 ghost use Rattle.ss_report.specs.declared.reply.Reply.TheVariants.{Answered, Last as LastLine, Refused, SeriesHead, Row, ValuesHead};
@@ -73,6 +75,20 @@ pub fn presence_holds_the_truth()
         (marked_of (plain_after history before) query.name)) }
 {}
 
+/// Each line of a session that asks for the likeliest value, and isn't refused then, has one reply, in its place among the others. The
+/// value that it guesses lies between its ends, and these are those of the answer to the same query without a guess. So a guess of
+/// what is known exactly is that.
+pub fn guesses_lie_between_the_ends()
+    ensures { (history : History) (ls before after : List (List ℕ)) (line : List ℕ) (query : Query) → IsHistory history →
+        ls ≡ before ++ line ∷ after → meaning line ≡ Ok (Some (Ask query)) → is_guess query.kind ≡ true →
+        refuses_query (state (plain_after history before)) query ≡ None →
+        (lo : ℤ) × (guess : ℤ) × (hi : ℤ)
+        × (replies history ls ≡ replies history before ++ Answered (Estimate lo guess hi) ∷ replies (plain_after history before) after)
+        × (lo ≤ℤ guess) × (guess ≤ℤ hi)
+        × (answer : Outcome) × (outcome_of (state (plain_after history before)) (interval_query query) ≡ Some answer)
+        × HasEnds (Estimate lo guess hi) answer }
+{}
+
 /// Each line of a session that asks a series which isn't refused then has its head and its rows as replies, in their place
 /// among the others. Each row has the time at which it begins, and an answer that holds the truth over all values that the
 /// stream has of the history and of the lines before, with nothing left open where the row splits no window.
@@ -82,7 +98,7 @@ pub fn series_hold_the_truth()
         refuses_series (state (plain_after history before)) series ≡ None →
         (answers : ℕ → Outcome)
         × (replies history ls ≡ replies history before
-        ++ (SeriesHead (row_count series) ∷ map (λ row. Row (row_start series row) (answers row)) (rows_of series))
+        ++ (SeriesHead series.kind (row_count series) ∷ map (λ row. Row (row_start series row) (answers row)) (rows_of series))
         ++ replies (plain_after history before) after)
         × ((row : ℕ) → AnswersRow (plain_after history before) series row (answers row)) }
 {}

@@ -12,7 +12,8 @@ use ss_command::put_number;
 use ss_outside::Sink;
 use ss_store::OpenError;
 
-const USAGE: &str = "usage: summarystore STORE [run | check | gen SEED COUNT | sessions]\n";
+const USAGE: &str =
+    "usage: summarystore STORE [run | check | gen SEED COUNT | sessions | frames | follow]\n";
 
 // Says a line. A sink that fails at it changes no status.
 fn say<K: Sink>(line: &[u8], sink: &mut K)

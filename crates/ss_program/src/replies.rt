@@ -1,11 +1,9 @@
 // Replies that wait until what they speak of is on the disk.
-use arrayvec::ArrayString;
-use ss_report::{Reply, said_text};
 use std::alloc::{AllocError, Global};
 use std::marker::Model;
 
-/// The longest line of a reply, in bytes, with the session that it is said to and its line end.
-pub const LONGEST_REPLY: usize = 260;
+/// The longest text that is said at once, in bytes: two lines of a reply, each with the session that it is said to and its line end.
+pub const LONGEST_REPLY: usize = 520;
 
 /// So many bytes of replies may wait.
 pub const MOST_WAITING_BYTES: usize = 65_536;
@@ -30,8 +28,6 @@ impl Model for Replies {
 
 impl Replies {
     ghost use Rattle.std.specs.Prelude.{◌≡◌, ◌+◌, ◌≤◌, ◌↔◌, [], ◌++◌, length, IfOk, IsTrue};
-    ghost use Rattle.ss_program.specs.Line.{IsSpeaker};
-    ghost use Rattle.ss_report.specs.Text.{said_line};
 
     /// None, with room for all that may wait. It takes memory.
     pub fn new(alloc: Global) -> Result<Replies, AllocError>
@@ -48,15 +44,13 @@ impl Replies {
         self.bytes.len() <= MOST_WAITING_BYTES - LONGEST_REPLY
     }
 
-    /// Adds a reply after those that wait, said to a session or to none. It takes no memory.
-    pub fn hold(&mut self, speaker: Option<u8>, reply: &Reply)
-        requires speaker { IsSpeaker speaker }
+    /// Adds a text after those that wait. It takes no memory.
+    pub fn hold(&mut self, text: &[u8])
+        requires short { length text.now ≤ LONGEST_REPLY }
         requires room { length self.old + LONGEST_REPLY ≤ MOST_WAITING_BYTES }
-        ensures { self.new ≡ self.old ++ said_line speaker reply.now }
+        ensures { self.new ≡ self.old ++ text.now }
     {
-        let mut text = ArrayString::new();
-        said_text(speaker, reply, &mut text);
-        let _ = self.bytes.extend_from_slice(text.as_str().as_bytes());
+        let _ = self.bytes.extend_from_slice(text);
     }
 
     /// The text of those that wait.

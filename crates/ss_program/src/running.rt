@@ -23,8 +23,6 @@ ghost use Rattle.std.specs.Prelude.{
   OnOk,
   OnErr,
 };
-ghost use Rattle.ss_command.specs.Lines.{unended};
-ghost use Rattle.ss_command.specs.LineState.{kept};
 ghost use Rattle.ss_outside.specs.Crash.{OnlyReads};
 ghost use Rattle.ss_outside.specs.Disk.{Between, OfContent};
 ghost use Rattle.ss_outside.specs.Step.{Step};
@@ -34,16 +32,19 @@ ghost use Rattle.ss_arguments.specs.Modes.{are_refused_at_once, mode_of, words_o
 ghost use Rattle.ss_program.specs.Answer.{IsOpen};
 ghost use Rattle.ss_program.specs.Checked.{ChecksContent};
 ghost use Rattle.ss_program.specs.Devices.{over};
-ghost use Rattle.ss_program.specs.Ending.{Completes, Ends, HasNumbers, IsRefusedContent, IsUnfed, Rejects, served_by, serving};
+ghost use Rattle.ss_program.specs.Ending.{Completes, Ends, Feeds, HasNumbers, IsRefusedContent, IsUnfed, Unfed, served_by, serving};
 ghost use Rattle.ss_program.specs.Generated.{GeneratesFrom};
 ghost use Rattle.ss_program.specs.Line.{History};
 ghost use Rattle.ss_program.specs.Outcome.{Moved, Reads, ReadsPiece, ServesInput};
 ghost use Rattle.ss_program.specs.Progress.{NoneWait, sealing_by};
+ghost use Rattle.ss_program.specs.Promises.{ChecksBy, EndsBy, GeneratesBy, RejectsBy, ServesBy};
 ghost use Rattle.ss_sessions.specs.Cursors.{no_cursors};
 ghost use Rattle.ss_arguments.specs.declared.mode.Form.{Form};
 ghost use Rattle.ss_arguments.specs.declared.mode.Sealing.{Sealing};
+ghost use Rattle.ss_program.specs.Steps.{kept_so_far};
 ghost use Rattle.ss_program.specs.Status.{EndsAs, EndsServing, disk_verdict, ended, sink_verdict, source_verdict, IsStop};
 
+use crate::buffer::buffer_for;
 use crate::check::check;
 use crate::generate::generate;
 use crate::refuse::{refuse, say_usage};
@@ -57,17 +58,17 @@ use std::alloc::Global;
 /// An input has at most this many bytes.
 pub const LONGEST_INPUT: u64 = 1 << 36;
 
-// How many bytes a read asks for at the most.
-const BUFFER: usize = 4096;
-
-// Reads at most `room` bytes, answers each line that ends in them, and says how many there were: 0 at the end of the input.
+// Reads at most `room` bytes, as many as the buffer holds, answers each line that ends in them, and says how many there were: 0 at
+// the end of the input.
 fn read_piece<D: Disk, S: Source, K: Sink>(
     session: &mut Session,
+    buffer: &mut [u8],
     room: u64,
     disk: &mut D,
     source: &mut S,
     sink: &mut K,
 ) -> Result<u64, Status>
+    requires buffer { 0 < length buffer.old }
     requires room { 0 < room }
     requires open { IsOpen (D.seen disk.old) session.old.store }
     ensures reads { Step (disk_verdict (ended result)) (D.seen disk.old) (D.seen disk.new) (ReadsPiece room session.old session.new
@@ -75,7 +76,8 @@ fn read_piece<D: Disk, S: Source, K: Sink>(
     ensures moves { IfOk result (λ count. (left : List ℕ) → S.left source.old ≡ Some left → (count ≤ length left)
         × (count ≡ 0 → left ≡ []) × (S.left source.new ≡ Some (drop count left))) }
     ensures stopped { OnErr result ((left : List ℕ) → S.left source.old ≡ Some left → Moved room left (S.left source.new)) }
-    ensures count { IfOk result (λ count. count ≤ room) }
+    ensures count { IfOk result (λ count. (count ≤ room) × (count ≤ length buffer.old)) }
+    ensures same { length buffer.new ≡ length buffer.old }
     ensures fault { ended result ≡ Status.SourceFault → (S.left source.new ≡ S.left source.old)
         × (session.new ≡ session.old) × (K.held sink.new ≡ K.held sink.old) × (disk.new ≡ disk.old) }
     ensures open { OnOk result (IsOpen (D.seen disk.new) session.new.store) }
@@ -83,8 +85,7 @@ fn read_piece<D: Disk, S: Source, K: Sink>(
     ensures source { Counted (source_verdict (ended result)) (S.faults source.old) (S.faults source.new) }
     ensures sink { Counted (sink_verdict (ended result)) (K.faults sink.old) (K.faults sink.new) }
 {
-    let mut buffer = [0u8; BUFFER];
-    let want = room.min(BUFFER as u64) as usize;
+    let want = room.min(buffer.len() as u64) as usize;
     let into = &mut buffer[..want];
     match source.read(into) {
         Err(_) => Err(Status::SourceFault),
@@ -114,12 +115,14 @@ fn is_at_end<S: Source>(source: &mut S) -> Result<bool, Failed>
 // Reads the source to its end, and answers each of its lines.
 fn serve<D: Disk, S: Source, K: Sink>(
     session: &mut Session,
+    buffer: &mut [u8],
     disk: &mut D,
     source: &mut S,
     sink: &mut K,
 ) -> Status
+    requires buffer { 0 < length buffer.old }
     requires open { IsOpen (D.seen disk.old) session.old.store }
-    requires front { session.old.line ≡ kept (unended []) }
+    requires front { session.old.line ≡ kept_so_far session.old.form [] }
     requires unsaid { NoneWait session.old.waiting }
     requires cursors { session.old.cursors ≡ no_cursors }
     ensures known { EndsServing (D.seen disk.old).tells result }
@@ -131,7 +134,7 @@ fn serve<D: Disk, S: Source, K: Sink>(
 {
     let mut done = 0;
     while done < LONGEST_INPUT {
-        match read_piece(session, LONGEST_INPUT - done, disk, source, sink) {
+        match read_piece(session, buffer, LONGEST_INPUT - done, disk, source, sink) {
             Ok(0) => return session.finish(disk, sink),
             Ok(count) => done += count,
             Err(status) => return status,
@@ -145,6 +148,33 @@ fn serve<D: Disk, S: Source, K: Sink>(
 }
 
 // Opens the store, and answers each line of the source.
+fn serve_store<D: Disk, S: Source, K: Sink>(
+    alloc: Global,
+    form: Form,
+    sealing: Sealing,
+    buffer: &mut [u8],
+    disk: &mut D,
+    source: &mut S,
+    sink: &mut K,
+) -> Status
+    requires { 0 < length buffer.old }
+    ensures ends { Ends (over (D.seen disk.old) (K.held sink.old) (K.faults sink.old)) (over (D.seen disk.new) (K.held sink.new) (K.faults sink.new)) result }
+    ensures source { Counted (source_verdict result) (S.faults source.old) (S.faults source.new) }
+    ensures unserved { result ≡ Status.RefusedStore → source.new ≡ source.old }
+    ensures reads { (input : List ℕ) → S.left source.old ≡ Some input → Reads input (S.left source.new) result }
+    ensures serves { (input : List ℕ) → S.left source.old ≡ Some input → Between (D.seen disk.old) (D.seen disk.new)
+        (ServesInput form sealing input (S.left source.new) (K.held sink.old) (K.held sink.new) result) }
+{
+    match Store::open(alloc, disk) {
+        Ok(store) => match Session::start(alloc, store, form, sealing) {
+            Ok(mut session) => serve(&mut session, buffer, disk, source, sink),
+            Err(_) => Status::OutOfMemory,
+        },
+        Err(error) => refuse(error, sink),
+    }
+}
+
+// Takes the memory for a read, opens the store, and answers each line of the source.
 fn run_source<D: Disk, S: Source, K: Sink>(
     alloc: Global,
     form: Form,
@@ -160,12 +190,17 @@ fn run_source<D: Disk, S: Source, K: Sink>(
     ensures serves { (input : List ℕ) → S.left source.old ≡ Some input → Between (D.seen disk.old) (D.seen disk.new)
         (ServesInput form sealing input (S.left source.new) (K.held sink.old) (K.held sink.new) result) }
 {
-    match Store::open(alloc, disk) {
-        Ok(store) => match Session::start(alloc, store, form, sealing) {
-            Ok(mut session) => serve(&mut session, disk, source, sink),
-            Err(_) => Status::OutOfMemory,
-        },
-        Err(error) => refuse(error, sink),
+    match buffer_for(alloc, sealing) {
+        Ok(mut buffer) => serve_store(
+            alloc,
+            form,
+            sealing,
+            buffer.as_mut_slice(),
+            disk,
+            source,
+            sink,
+        ),
+        Err(_) => Status::OutOfMemory,
     }
 }
 
@@ -213,41 +248,31 @@ pub fn run<D: Disk, S: Source, K: Sink>(
     // No number but that of a status is answered.
     ensures known { (status : Status) × EndsAs result status }
 
-    // Arguments that aren't known: the usage line is said, or memory ran out. The disk and the source are then not called.
-    ensures rejects { mode_of (words_of words.now) ≡ None → (status : Status) → EndsAs result status → Rejects
-        (over (D.seen disk.old) (K.held sink.old) (K.faults sink.old)) (over (D.seen disk.new) (K.held sink.new) (K.faults sink.new)) status }
-    // Those that are refused at a glance want no memory.
+    // Arguments that aren't known: the usage line is said, or memory ran out. Those that are refused at a glance want none. The disk is
+    // then not called.
+    ensures rejects { RejectsBy (mode_of (words_of words.now))
+        (over (D.seen disk.old) (K.held sink.old) (K.faults sink.old)) (over (D.seen disk.new) (K.held sink.new) (K.faults sink.new)) result }
     ensures at_once { are_refused_at_once (words_of words.now) ≡ true → EndsAs result Status.Usage }
     ensures undone { mode_of (words_of words.now) ≡ None → disk.new ≡ disk.old }
-    ensures unread { served_by (mode_of (words_of words.now)) ≡ None → source.new ≡ source.old }
 
     // Arguments that are known, whatever they ask for: which device is blamed, and what becomes of a store that is refused. No fault
-    // of a device is passed over, and none is blamed without one. The source is not called where the store is refused.
-    ensures ends { IsSome (mode_of (words_of words.now)) → (status : Status) → EndsAs result status → Ends
-        (over (D.seen disk.old) (K.held sink.old) (K.faults sink.old)) (over (D.seen disk.new) (K.held sink.new) (K.faults sink.new)) status }
-    ensures source { (status : Status) → EndsAs result status → Counted (source_verdict status) (S.faults source.old) (S.faults source.new) }
-    ensures unserved { EndsAs result Status.RefusedStore → source.new ≡ source.old }
+    // of a device is passed over, and none is blamed without one.
+    ensures ends { EndsBy (mode_of (words_of words.now))
+        (over (D.seen disk.old) (K.held sink.old) (K.faults sink.old)) (over (D.seen disk.new) (K.held sink.new) (K.faults sink.new)) result }
+    ensures source { (status : Status) → EndsAs result status → Feeds (source.new ≡ source.old) (S.faults source.old) (S.faults source.new) status }
 
     // A run over the source: what is read of it, and what is written to the sink and left on the disk, also by a crash.
     ensures reads { IsSome (served_by (mode_of (words_of words.now))) → (status : Status) → EndsAs result status →
         (input : List ℕ) → S.left source.old ≡ Some input → Reads input (S.left source.new) status }
-    ensures serves { (form : Form) (sealing : Sealing) →
-        served_by (mode_of (words_of words.now)) ≡ Some (serving form sealing) → (status : Status) → EndsAs result status →
-        (input : List ℕ) → S.left source.old ≡ Some input → Between (D.seen disk.old) (D.seen disk.new)
-        (ServesInput form sealing input (S.left source.new) (K.held sink.old) (K.held sink.new) status) }
+    ensures serves { ServesBy (mode_of (words_of words.now)) (D.seen disk.old) (D.seen disk.new)
+        (S.left source.old) (S.left source.new) (K.held sink.old) (K.held sink.new) result }
 
-    // A check: nothing is written to the disk, and what is written to the sink.
-    ensures unwritten { mode_of (words_of words.now) ≡ Some Mode.Check → Between (D.seen disk.old) (D.seen disk.new) OnlyReads }
-    ensures checks { mode_of (words_of words.now) ≡ Some Mode.Check → (status : Status) → EndsAs result status →
-        OfContent (D.seen disk.old) (ChecksContent (K.held sink.old) (K.held sink.new) status) }
-
-    // A run over a generated file: what is written to the sink and left on the disk, also by a crash.
-    ensures generates { (seed count : ℕ) → mode_of (words_of words.now) ≡ Some (Mode.Gen seed count) → (status : Status) → EndsAs result status →
-        Between (D.seen disk.old) (D.seen disk.new) (GeneratesFrom seed count (K.held sink.old) (K.held sink.new) status) }
-
-    // A check and a run over a generated file read no input, and say nothing before they are done.
+    // Any other reads no input, and says nothing before it is done: a check, which writes nothing, and a run over a generated file,
+    // with what it leaves on the disk, also by a crash.
     ensures unfed { served_by (mode_of (words_of words.now)) ≡ None → (status : Status) → EndsAs result status →
-        IsUnfed (K.held sink.old) (K.held sink.new) status }
+        Unfed (source.new ≡ source.old) (K.held sink.old) (K.held sink.new) status }
+    ensures checks { ChecksBy (mode_of (words_of words.now)) (D.seen disk.old) (D.seen disk.new) (K.held sink.old) (K.held sink.new) result }
+    ensures generates { GeneratesBy (mode_of (words_of words.now)) (D.seen disk.old) (D.seen disk.new) (K.held sink.old) (K.held sink.new) result }
 
     // A run that no device failed is done, or memory ran out: over a content that isn't refused, and within the limit of an input.
     ensures completes { IsSome (mode_of (words_of words.now)) → (status : Status) → EndsAs result status → IsTrue (D.seen disk.old).tells →

@@ -105,6 +105,13 @@ pub fn show_series<D: Disk, K: Sink>(
     if let Some(refusal) = refusal_of(store, &whole_query(series)) {
         return at_sink(send_reply(speaker, &Reply::Refused(refusal), sink));
     }
-    at_sink(send_reply(speaker, &Reply::SeriesHead(series.rows()), sink))?;
+    at_sink(send_reply(
+        speaker,
+        &Reply::SeriesHead {
+            kind: series.kind,
+            count: series.rows(),
+        },
+        sink,
+    ))?;
     send_rows(speaker, store, series, disk, sink)
 }

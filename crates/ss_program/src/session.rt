@@ -1,19 +1,18 @@
 // One run over an input: bytes come in, and each line that ends is answered.
 ghost use Rattle.std.specs.Prelude.{◌≡◌, ◌⊎◌, [], IfOk, IfErr, OnOk, OnErr};
-ghost use Rattle.ss_command.specs.Lines.{unended};
-ghost use Rattle.ss_command.specs.LineState.{kept};
 ghost use Rattle.ss_outside.specs.Step.{Step};
 ghost use Rattle.ss_outside.specs.Verdict.{Counted};
 ghost use Rattle.ss_program.specs.Answer.{IsOpen};
 ghost use Rattle.ss_program.specs.Progress.{EndsSession, NoneWait, TakesPiece, sealing_by};
+ghost use Rattle.ss_program.specs.Steps.{kept_so_far};
 ghost use Rattle.ss_program.specs.Status.{disk_verdict, ended, sink_verdict, IsStop};
 ghost use Rattle.ss_sessions.specs.Cursors.{no_cursors};
 
 use crate::replies::Replies;
 use crate::status::Status;
+use crate::step_reader::StepReader;
 use crate::taking::{finish_lines, take_piece};
 use ss_arguments::{Form, Sealing};
-use ss_command::LineReader;
 use ss_outside::{Disk, Sink};
 use ss_sessions::Sessions;
 use ss_store::Store;
@@ -23,21 +22,20 @@ use std::marker::Model;
 /// The form of the input, the cursors of its sessions, the store, and the line that is under way.
 #[derive(Drop)]
 pub struct Session {
-    form: Form,
     sessions: Sessions,
     store: Store,
-    reader: LineReader,
+    reader: StepReader,
     // Where events share seals, the replies that wait for one.
     waiting: Option<Replies>,
 }
 
 impl Model for Session {
-    ghost use Rattle.ss_command.specs.LineState.{under_way};
     ghost use Rattle.ss_program.specs.Progress.{SessionState};
+    ghost use Rattle.ss_program.specs.Reading.{under_way};
 
     ghost Value = { SessionState };
 
-    ghost view = { λ s. record { form = s.form; store = s.store; line = under_way s.reader; cursors = s.sessions; waiting = s.waiting } };
+    ghost view = { λ s. record { form = s.reader.form; store = s.store; line = under_way s.reader; cursors = s.sessions; waiting = s.waiting } };
 }
 
 impl Session {
@@ -49,7 +47,7 @@ impl Session {
         sealing: Sealing,
     ) -> Result<Session, AllocError>
         ensures store { IfOk result (λ session. session.store ≡ store) }
-        ensures line { IfOk result (λ session. session.line ≡ kept (unended [])) }
+        ensures line { IfOk result (λ session. session.line ≡ kept_so_far form []) }
         ensures form { IfOk result (λ session. (session.form ≡ form) × (session.cursors ≡ no_cursors)) }
         ensures sealing { IfOk result (λ session. (sealing_by session.waiting ≡ sealing) × NoneWait session.waiting) }
         ensures each { sealing ≡ Sealing.Each → OnErr result ⊥ }
@@ -59,10 +57,9 @@ impl Session {
             Sealing::Shared => Some(Replies::new(alloc)?),
         };
         Ok(Session {
-            form,
             sessions: Sessions::new(alloc),
             store,
-            reader: LineReader::new(),
+            reader: StepReader::new(form),
             waiting,
         })
     }
@@ -83,7 +80,6 @@ impl Session {
         ensures counted { Counted (sink_verdict (ended result)) (K.faults sink.old) (K.faults sink.new) }
     {
         take_piece(
-            self.form,
             &mut self.sessions,
             &mut self.store,
             &mut self.reader,
@@ -103,7 +99,6 @@ impl Session {
         ensures counted { Counted (sink_verdict result) (K.faults sink.old) (K.faults sink.new) }
     {
         finish_lines(
-            self.form,
             &mut self.sessions,
             &mut self.store,
             &mut self.reader,

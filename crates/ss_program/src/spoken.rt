@@ -4,17 +4,19 @@ ghost use Rattle.std.specs.Option.{option_copied};
 ghost use Rattle.ss_command.specs.Grammar.{meaning};
 ghost use Rattle.ss_outside.specs.Step.{Step};
 ghost use Rattle.ss_outside.specs.Verdict.{Counted};
+ghost use Rattle.ss_sessions.specs.Cursors.{Cursors};
 ghost use Rattle.ss_sessions.specs.Grammar.{spoken_of};
 ghost use Rattle.ss_sessions.specs.Said.{IsOrderInTime};
 ghost use Rattle.ss_sessions.specs.declared.TheConstants.{SESSIONS};
 ghost use Rattle.ss_program.specs.Amid.{HasRoom, IsReady, TakesBrought, TakesOrdered, TakesTurn, amid, owed_by};
-ghost use Rattle.ss_program.specs.Cursor.{close_brings, next_brings, open_brings, order_brings};
-ghost use Rattle.ss_program.specs.Line.{meaning_brings};
+ghost use Rattle.ss_program.specs.Cursor.{close_brings, next_brings, open_brings, order_in};
+ghost use Rattle.ss_program.specs.Line.{meaning_in};
 ghost use Rattle.ss_program.specs.Status.{disk_verdict, ended, sink_verdict, IsStop};
 ghost use Rattle.ss_program.specs.Talk.{kept_turn, turn_spoken, turn_to};
 
 use crate::answer::at_sink;
 use crate::cursors::{close_cursor, open_cursor, show_next};
+use crate::frames::{take_offered, write_line_frame};
 use crate::replies::Replies;
 use crate::staging::{flush, make_room, say, say_refusal, take_command};
 use crate::status::Status;
@@ -109,6 +111,7 @@ fn take_close<D: Disk, K: Sink>(
 
 // Does what a session orders, and says what that brings.
 fn take_order<D: Disk, K: Sink>(
+    framed: bool,
     sessions: &mut Sessions,
     session: u8,
     store: &mut Store,
@@ -122,7 +125,7 @@ fn take_order<D: Disk, K: Sink>(
     requires ready { IsReady (D.seen disk.old) store.old waiting.old }
     requires room { HasRoom waiting.old }
     ensures takes { Step (disk_verdict (ended result)) (D.seen disk.old) (D.seen disk.new)
-        (TakesOrdered session (λ history cursors. order_brings history cursors session order.now)
+        (TakesOrdered session (λ history cursors. order_in framed history cursors session order.now)
         (amid store.old.records (owed_by waiting.old) (K.held sink.old) sessions.old)
         (amid store.new.records (owed_by waiting.new) (K.held sink.new) sessions.new) result) }
     ensures ready { OnOk result (IsReady (D.seen disk.new) store.new waiting.new) }
@@ -131,7 +134,7 @@ fn take_order<D: Disk, K: Sink>(
 {
     match order {
         Order::Command(command) => {
-            take_command(Some(session), store, waiting, command, disk, sink)
+            take_command(framed, Some(session), store, waiting, command, disk, sink)
         }
         Order::Open(name) => take_open(sessions, session, store, waiting, name, disk, sink),
         Order::Next(count) => take_next(sessions, session, store, waiting, *count, disk, sink),
@@ -141,6 +144,7 @@ fn take_order<D: Disk, K: Sink>(
 
 // Does what is said to a session.
 fn take_said<D: Disk, K: Sink>(
+    framed: bool,
     sessions: &mut Sessions,
     session: u8,
     store: &mut Store,
@@ -153,7 +157,7 @@ fn take_said<D: Disk, K: Sink>(
     requires in_time { IfOk said (λ order. IfSome order IsOrderInTime) }
     requires ready { IsReady (D.seen disk.old) store.old waiting.old }
     requires room { HasRoom waiting.old }
-    ensures takes { Step (disk_verdict (ended result)) (D.seen disk.old) (D.seen disk.new) (TakesTurn (λ talk. turn_to session talk said)
+    ensures takes { Step (disk_verdict (ended result)) (D.seen disk.old) (D.seen disk.new) (TakesTurn (λ talk. turn_to framed session talk said)
         (amid store.old.records (owed_by waiting.old) (K.held sink.old) sessions.old)
         (amid store.new.records (owed_by waiting.new) (K.held sink.new) sessions.new) result) }
     ensures ready { OnOk result (IsReady (D.seen disk.new) store.new waiting.new) }
@@ -163,12 +167,15 @@ fn take_said<D: Disk, K: Sink>(
     match said {
         Err(refusal) => say_refusal(Some(session), store, waiting, refusal, disk, sink),
         Ok(None) => Ok(()),
-        Ok(Some(order)) => take_order(sessions, session, store, waiting, &order, disk, sink),
+        Ok(Some(order)) => take_order(
+            framed, sessions, session, store, waiting, &order, disk, sink,
+        ),
     }
 }
 
 // Does what a line of sessions says.
 fn take_spoken<D: Disk, K: Sink>(
+    framed: bool,
     sessions: &mut Sessions,
     store: &mut Store,
     waiting: &mut Option<Replies>,
@@ -179,7 +186,7 @@ fn take_spoken<D: Disk, K: Sink>(
     requires short { length line.now ≤ LONGEST_LINE }
     requires ready { IsReady (D.seen disk.old) store.old waiting.old }
     requires room { HasRoom waiting.old }
-    ensures takes { Step (disk_verdict (ended result)) (D.seen disk.old) (D.seen disk.new) (TakesTurn (λ talk. turn_spoken talk (spoken_of line.now))
+    ensures takes { Step (disk_verdict (ended result)) (D.seen disk.old) (D.seen disk.new) (TakesTurn (λ talk. turn_spoken framed talk (spoken_of line.now))
         (amid store.old.records (owed_by waiting.old) (K.held sink.old) sessions.old)
         (amid store.new.records (owed_by waiting.new) (K.held sink.new) sessions.new) result) }
     ensures ready { OnOk result (IsReady (D.seen disk.new) store.new waiting.new) }
@@ -190,13 +197,14 @@ fn take_spoken<D: Disk, K: Sink>(
         Spoken::Nothing => Ok(()),
         Spoken::Unaddressed => say_refusal(None, store, waiting, Refusal::Syntax, disk, sink),
         Spoken::To { session, said } => {
-            take_said(sessions, session, store, waiting, said, disk, sink)
+            take_said(framed, sessions, session, store, waiting, said, disk, sink)
         }
     }
 }
 
 // Does what a plain line says.
 fn take_plain<D: Disk, K: Sink>(
+    framed: bool,
     store: &mut Store,
     waiting: &mut Option<Replies>,
     line: &[u8],
@@ -207,7 +215,7 @@ fn take_plain<D: Disk, K: Sink>(
     requires ready { IsReady (D.seen disk.old) store.old waiting.old }
     requires room { HasRoom waiting.old }
     ensures takes { Step (disk_verdict (ended result)) (D.seen disk.old) (D.seen disk.new)
-        (TakesBrought None (λ history. meaning_brings history (meaning line.now)) (amid store.old.records (owed_by waiting.old) (K.held sink.old))
+        (TakesBrought None (λ history. meaning_in framed history (meaning line.now)) (amid store.old.records (owed_by waiting.old) (K.held sink.old))
         (amid store.new.records (owed_by waiting.new) (K.held sink.new)) result) }
     ensures ready { OnOk result (IsReady (D.seen disk.new) store.new waiting.new) }
     ensures status { IfErr result (IsStop (D.seen disk.old).tells) }
@@ -216,7 +224,32 @@ fn take_plain<D: Disk, K: Sink>(
     match parse(line) {
         Err(refusal) => say_refusal(None, store, waiting, refusal, disk, sink),
         Ok(None) => Ok(()),
-        Ok(Some(command)) => take_command(None, store, waiting, &command, disk, sink),
+        Ok(Some(command)) => take_command(framed, None, store, waiting, &command, disk, sink),
+    }
+}
+
+// A line that is too long: it is refused, but where frames alone are written.
+fn take_long<D: Disk, K: Sink>(
+    form: Form,
+    store: &mut Store,
+    waiting: &mut Option<Replies>,
+    disk: &mut D,
+    sink: &mut K,
+) -> Result<(), Status>
+    requires ready { IsReady (D.seen disk.old) store.old waiting.old }
+    requires room { HasRoom waiting.old }
+    ensures takes { (cursors : Cursors) → Step (disk_verdict (ended result)) (D.seen disk.old) (D.seen disk.new) (TakesTurn (kept_turn form None)
+        (amid store.old.records (owed_by waiting.old) (K.held sink.old) cursors)
+        (amid store.new.records (owed_by waiting.new) (K.held sink.new) cursors) result) }
+    ensures ready { OnOk result (IsReady (D.seen disk.new) store.new waiting.new) }
+    ensures status { IfErr result (IsStop (D.seen disk.old).tells) }
+    ensures counted { Counted (sink_verdict (ended result)) (K.faults sink.old) (K.faults sink.new) }
+{
+    match form {
+        Form::Lines { .. } | Form::Sessions { .. } => {
+            say_refusal(None, store, waiting, Refusal::Line, disk, sink)
+        }
+        Form::Frames | Form::Follow => Ok(()),
     }
 }
 
@@ -241,11 +274,15 @@ fn take_line<D: Disk, K: Sink>(
     ensures counted { Counted (sink_verdict (ended result)) (K.faults sink.old) (K.faults sink.new) }
 {
     let Some(line) = line else {
-        return say_refusal(None, store, waiting, Refusal::Line, disk, sink);
+        return take_long(form, store, waiting, disk, sink);
     };
     match form {
-        Form::Lines => take_plain(store, waiting, line, disk, sink),
-        Form::Sessions => take_spoken(sessions, store, waiting, line, disk, sink),
+        Form::Lines { framed } => take_plain(framed, store, waiting, line, disk, sink),
+        Form::Sessions { framed } => {
+            take_spoken(framed, sessions, store, waiting, line, disk, sink)
+        }
+        Form::Frames => write_line_frame(store, waiting, line, disk, sink),
+        Form::Follow => take_offered(store, waiting, line, disk, sink),
     }
 }
 

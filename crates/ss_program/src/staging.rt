@@ -1,26 +1,31 @@
 // Lines that are done in memory: what they do is staged, and their replies wait until all of it is on the disk. Where each event is
 // sealed by itself, what a line does is brought to the disk at once, and then its reply is sent.
-ghost use Rattle.std.specs.Prelude.{◌≡◌, ◌≤◌, [], length, None, Some, IsTrue, IfErr, OnOk, OnErr};
+ghost use Rattle.std.specs.Prelude.{◌≡◌, ◌<◌, ◌≤◌, List, [], flat_map, length, None, Some, IsTrue, IfOk, IfErr, OnOk, OnErr};
 ghost use Rattle.ss_catalog.specs.Events.{IsInTime};
+ghost use Rattle.ss_catalog.specs.declared.refusal.Refusal.{Refusal};
 ghost use Rattle.ss_command.specs.Printed.{IsCommandInTime};
 ghost use Rattle.ss_command.specs.declared.command.Command.TheVariants.{Do, Ask, Last};
 ghost use Rattle.ss_outside.specs.Step.{Step};
 ghost use Rattle.ss_outside.specs.Verdict.{Counted};
 ghost use Rattle.ss_report.specs.Text.{said_line};
-ghost use Rattle.ss_program.specs.Amid.{BringsEvent, HasRoom, IsReady, StagesBrought, TakesBrought, TakesNone, amid, owed_by, with_text};
+ghost use Rattle.ss_program.specs.Amid.{BringsEvent, HasRoom, IsReady, StagesBrought, StagesFramed, TakesBrought, TakesNone};
+ghost use Rattle.ss_program.specs.Amid.{amid, owed_by, staged_replies, with_text};
 ghost use Rattle.ss_program.specs.Answer.{IsOpen, IsServing};
-ghost use Rattle.ss_program.specs.Line.{History, command_brings, refused, IsSpeaker};
+ghost use Rattle.ss_program.specs.Line.{History, command_brings, command_in, refused, IsSpeaker};
 ghost use Rattle.ss_program.specs.Progress.{NoneWait};
 ghost use Rattle.ss_program.specs.Status.{disk_verdict, ended, sink_verdict, IsApplyStop, IsShowStop, IsStop};
 
-use crate::answer::{ask, at_sink, newest, obey, send_reply};
-use crate::replies::Replies;
+use crate::answer::{ask, at_sink, newest, obey};
+use crate::replies::{LONGEST_REPLY, Replies};
 use crate::sending::send;
 use crate::status::Status;
+use arrayvec::ArrayString;
 use ss_catalog::{Event, Name, Query, Refusal};
 use ss_command::Command;
+use ss_frames::Frame;
 use ss_outside::{Disk, Sink};
-use ss_report::Reply;
+use ss_replica::frame_after;
+use ss_report::{Reply, said_text};
 use ss_store::{ApplyError, Store};
 
 // Brings all staged events to the disk, and then sends the replies that wait, so that no reply is sent before what it speaks of is
@@ -104,18 +109,17 @@ pub fn make_room<D: Disk, K: Sink>(
     flush(store, waiting, disk, sink)
 }
 
-// Brings what a line did to the disk, and then sends the reply to it.
+// Brings what a line did to the disk, and then sends what is said to it.
 fn send_sealed<D: Disk, K: Sink>(
-    speaker: Option<u8>,
     store: &mut Store,
-    reply: &Reply,
+    text: &[u8],
     disk: &mut D,
     sink: &mut K,
 ) -> Result<(), Status>
-    requires speaker { IsSpeaker speaker }
+    requires some { 0 < length text.now }
     requires serves { IsServing (D.seen disk.old) store.old }
     ensures takes { Step (disk_verdict (ended result)) (D.seen disk.old) (D.seen disk.new)
-        (TakesNone (amid store.old.records (with_text (owed_by None) (said_line speaker reply.now)) (K.held sink.old))
+        (TakesNone (amid store.old.records (with_text (owed_by None) text.now) (K.held sink.old))
         (amid store.new.records (owed_by None) (K.held sink.new)) result) }
     ensures open { OnOk result (IsOpen (D.seen disk.new) store.new) }
     ensures status { IfErr result (IsShowStop (D.seen disk.old).tells) }
@@ -123,11 +127,39 @@ fn send_sealed<D: Disk, K: Sink>(
 {
     match store.seal(disk) {
         Err(_) => Err(Status::DiskFault),
-        Ok(()) => at_sink(send_reply(speaker, reply, sink)),
+        Ok(()) => at_sink(send(sink, text)),
     }
 }
 
-/// Says the reply to a line that is done in memory: it waits, or what the line did is brought to the disk and the reply is sent.
+/// Says a text to a line that is done in memory: it waits, or what the line did is brought to the disk and the text is sent.
+pub fn say_text<D: Disk, K: Sink>(
+    store: &mut Store,
+    waiting: &mut Option<Replies>,
+    text: &[u8],
+    disk: &mut D,
+    sink: &mut K,
+) -> Result<(), Status>
+    requires some { 0 < length text.now }
+    requires short { length text.now ≤ LONGEST_REPLY }
+    requires serves { IsServing (D.seen disk.old) store.old }
+    requires room { HasRoom waiting.old }
+    ensures takes { Step (disk_verdict (ended result)) (D.seen disk.old) (D.seen disk.new)
+        (TakesNone (amid store.old.records (with_text (owed_by waiting.old) text.now) (K.held sink.old))
+        (amid store.new.records (owed_by waiting.new) (K.held sink.new)) result) }
+    ensures ready { OnOk result (IsReady (D.seen disk.new) store.new waiting.new) }
+    ensures status { IfErr result (IsShowStop (D.seen disk.old).tells) }
+    ensures counted { Counted (sink_verdict (ended result)) (K.faults sink.old) (K.faults sink.new) }
+{
+    match waiting {
+        None => send_sealed(store, text, disk, sink),
+        Some(replies) => {
+            replies.hold(text);
+            Ok(())
+        }
+    }
+}
+
+/// Says the reply to a line that is done in memory, to a session or to none.
 pub fn say<D: Disk, K: Sink>(
     speaker: Option<u8>,
     store: &mut Store,
@@ -146,13 +178,9 @@ pub fn say<D: Disk, K: Sink>(
     ensures status { IfErr result (IsShowStop (D.seen disk.old).tells) }
     ensures counted { Counted (sink_verdict (ended result)) (K.faults sink.old) (K.faults sink.new) }
 {
-    match waiting {
-        None => send_sealed(speaker, store, reply, disk, sink),
-        Some(replies) => {
-            replies.hold(speaker, reply);
-            Ok(())
-        }
-    }
+    let mut text = ArrayString::new();
+    said_text(speaker, reply, &mut text);
+    say_text(store, waiting, text.as_str().as_bytes(), disk, sink)
 }
 
 // Stages an event, and answers the reply to it. Where memory runs out the store can still be called, and shows what it did.
@@ -161,6 +189,8 @@ fn stage<D: Disk>(store: &mut Store, event: &Event, disk: &mut D) -> Result<Repl
     requires serves { IsServing (D.seen disk.old) store.old }
     ensures stages { Step (disk_verdict (ended result)) (D.seen disk.old) (D.seen disk.new)
         (StagesBrought (λ history. command_brings history (Do event.now)) store.old.records store.new.records result) }
+    // At one that is refused nothing is done.
+    ensures idle { IfOk result (λ reply. (refusal : Refusal) → reply ≡ Reply.Refused refusal → (store.new ≡ store.old) × (disk.new ≡ disk.old)) }
     // The run stops only at an event that isn't refused.
     ensures accepted { OnErr result (BringsEvent (λ history. command_brings history (Do event.now)) store.old.records (D.seen disk.old)) }
     ensures serves { OnOk result (IsServing (D.seen disk.new) store.new) }
@@ -178,8 +208,75 @@ fn stage<D: Disk>(store: &mut Store, event: &Event, disk: &mut D) -> Result<Repl
     }
 }
 
-// Stages an event, and says the reply to it. Where memory runs out, all that waits is brought to the disk and sent before the run stops.
-fn take_event<D: Disk, K: Sink>(
+/// What is staged of an event: the reply to it, and its frame where one is to be said and the event was accepted.
+#[derive(Clone, Copy)]
+pub struct Staged {
+    pub reply: Reply,
+    pub frame: Option<Frame>,
+}
+
+/// Stages an event, and answers what is said of it.
+pub fn stage_framed<D: Disk>(
+    framed: bool,
+    store: &mut Store,
+    event: &Event,
+    disk: &mut D,
+) -> Result<Staged, Status>
+    requires in_time { IsInTime event.now }
+    requires serves { IsServing (D.seen disk.old) store.old }
+    ensures stages { Step (disk_verdict (ended result)) (D.seen disk.old) (D.seen disk.new)
+        (StagesFramed framed event.now store.old.records store.new.records result) }
+    ensures idle { IfOk result (λ staged. (refusal : Refusal) → staged.reply ≡ Reply.Refused refusal → (store.new ≡ store.old) × (disk.new ≡ disk.old)) }
+    ensures accepted { OnErr result (BringsEvent (λ history. command_brings history (Do event.now)) store.old.records (D.seen disk.old)) }
+    ensures serves { OnOk result (IsServing (D.seen disk.new) store.new) }
+    ensures status { IfErr result (IsApplyStop (D.seen disk.old).tells) }
+    ensures starved { IfErr result (λ status. status ≡ Status.OutOfMemory →
+        (disk.new ≡ disk.old) × (store.new.records ≡ store.old.records) × IsServing (D.seen disk.new) store.new) }
+{
+    let reply = stage(store, event, disk)?;
+    let frame = match reply {
+        Reply::Done(_) if framed => frame_after(store, event),
+        _ => None,
+    };
+    Ok(Staged { reply, frame })
+}
+
+// Says the reply to an event that is staged, and its frame behind it where it has one.
+fn say_staged<D: Disk, K: Sink>(
+    speaker: Option<u8>,
+    store: &mut Store,
+    waiting: &mut Option<Replies>,
+    staged: &Staged,
+    disk: &mut D,
+    sink: &mut K,
+) -> Result<(), Status>
+    requires speaker { IsSpeaker speaker }
+    requires serves { IsServing (D.seen disk.old) store.old }
+    requires room { HasRoom waiting.old }
+    ensures takes { Step (disk_verdict (ended result)) (D.seen disk.old) (D.seen disk.new)
+        (TakesNone (amid store.old.records (with_text (owed_by waiting.old) (flat_map (said_line speaker) (staged_replies staged.now))) (K.held sink.old))
+        (amid store.new.records (owed_by waiting.new) (K.held sink.new)) result) }
+    ensures ready { OnOk result (IsReady (D.seen disk.new) store.new waiting.new) }
+    ensures status { IfErr result (IsShowStop (D.seen disk.old).tells) }
+    ensures counted { Counted (sink_verdict (ended result)) (K.faults sink.old) (K.faults sink.new) }
+{
+    let Some(frame) = staged.frame else {
+        return say(speaker, store, waiting, &staged.reply, disk, sink);
+    };
+    let mut line = ArrayString::new();
+    said_text(speaker, &staged.reply, &mut line);
+    let mut behind = ArrayString::new();
+    said_text(speaker, &Reply::Framed(frame), &mut behind);
+    let mut text: ArrayString<LONGEST_REPLY> = ArrayString::new();
+    text.push_str(line.as_str());
+    text.push_str(behind.as_str());
+    say_text(store, waiting, text.as_str().as_bytes(), disk, sink)
+}
+
+/// Stages an event, and says the reply to it, with its frame where frames are said. Where memory runs out, all that waits is brought to
+/// the disk and sent before the run stops.
+pub fn take_event<D: Disk, K: Sink>(
+    framed: bool,
     speaker: Option<u8>,
     store: &mut Store,
     waiting: &mut Option<Replies>,
@@ -192,14 +289,14 @@ fn take_event<D: Disk, K: Sink>(
     requires ready { IsReady (D.seen disk.old) store.old waiting.old }
     requires room { HasRoom waiting.old }
     ensures takes { Step (disk_verdict (ended result)) (D.seen disk.old) (D.seen disk.new)
-        (TakesBrought speaker (λ history. command_brings history (Do event.now)) (amid store.old.records (owed_by waiting.old) (K.held sink.old))
+        (TakesBrought speaker (λ history. command_in framed history (Do event.now)) (amid store.old.records (owed_by waiting.old) (K.held sink.old))
         (amid store.new.records (owed_by waiting.new) (K.held sink.new)) result) }
     ensures ready { OnOk result (IsReady (D.seen disk.new) store.new waiting.new) }
     ensures status { IfErr result (IsStop (D.seen disk.old).tells) }
     ensures counted { Counted (sink_verdict (ended result)) (K.faults sink.old) (K.faults sink.new) }
 {
-    match stage(store, event, disk) {
-        Ok(reply) => say(speaker, store, waiting, &reply, disk, sink),
+    match stage_framed(framed, store, event, disk) {
+        Ok(staged) => say_staged(speaker, store, waiting, &staged, disk, sink),
         Err(status) => match status {
             Status::OutOfMemory => {
                 flush(store, waiting, disk, sink)?;
@@ -282,6 +379,7 @@ fn show_rows<D: Disk, K: Sink>(
 
 /// Does what a command says, and says what it brings.
 pub fn take_command<D: Disk, K: Sink>(
+    framed: bool,
     speaker: Option<u8>,
     store: &mut Store,
     waiting: &mut Option<Replies>,
@@ -294,14 +392,14 @@ pub fn take_command<D: Disk, K: Sink>(
     requires ready { IsReady (D.seen disk.old) store.old waiting.old }
     requires room { HasRoom waiting.old }
     ensures takes { Step (disk_verdict (ended result)) (D.seen disk.old) (D.seen disk.new)
-        (TakesBrought speaker (λ history. command_brings history command.now) (amid store.old.records (owed_by waiting.old) (K.held sink.old))
+        (TakesBrought speaker (λ history. command_in framed history command.now) (amid store.old.records (owed_by waiting.old) (K.held sink.old))
         (amid store.new.records (owed_by waiting.new) (K.held sink.new)) result) }
     ensures ready { OnOk result (IsReady (D.seen disk.new) store.new waiting.new) }
     ensures status { IfErr result (IsStop (D.seen disk.old).tells) }
     ensures counted { Counted (sink_verdict (ended result)) (K.faults sink.old) (K.faults sink.new) }
 {
     match command {
-        Command::Do(event) => take_event(speaker, store, waiting, event, disk, sink),
+        Command::Do(event) => take_event(framed, speaker, store, waiting, event, disk, sink),
         Command::Ask(query) => take_query(speaker, store, waiting, query, disk, sink),
         Command::Last(name) => take_newest(speaker, store, waiting, name, disk, sink),
         Command::Certify { .. }

@@ -2,8 +2,8 @@
 use Rattle.std.proofs.Common.{◌≡◌, ℕ, Bool, true, false, List, [], ◌∷◌, Some, None, map, refl}
 use Rattle.std.specs.Prelude.{codes}
 use Rattle.ss_arguments.specs.declared.mode.Form.{Form}
-use Rattle.ss_arguments.specs.declared.mode.Form.TheVariants.{Lines, Sessions}
-use Rattle.summarystore.specs.Plan.{Asked, Planned, Prints, Runs, notice_of, path_of, planned, status_with}
+use Rattle.ss_arguments.specs.declared.mode.Form.TheVariants.{Lines, Sessions, Frames, Follow}
+use Rattle.summarystore.specs.Plan.{Planned, Prints, Runs, notice_of, path_of, planned, status_with}
 use Rattle.summarystore.specs.declared.notice.Notice.TheVariants.{Help, Version}
 use Rattle.summarystore.specs.declared.opening.Missing.{Missing}
 use Rattle.summarystore.specs.declared.opening.Missing.TheVariants.{Make, Fail, ReadEmpty, ReadFail}
@@ -31,7 +31,7 @@ runs_nothing missing explains is_strict = Runs (record {
   missing = missing;
   explains = explains;
   is_strict = is_strict;
-  form = Lines;
+  form = Lines false;
 })
 
 -- notices
@@ -52,74 +52,113 @@ planned-help : planned (codes "p" ∷ codes "--help" ∷ []) ≡ Prints Help
 planned-help = refl
 
 -- no option
-planned-path : planned (over_s []) ≡ runs [] Make false false Lines
+planned-path : planned (over_s []) ≡ runs [] Make false false (Lines false)
 planned-path = refl
 
-planned-run : planned (over_s (codes "run" ∷ [])) ≡ runs (codes "run" ∷ []) Make false false Lines
+planned-run : planned (over_s (codes "run" ∷ [])) ≡ runs (codes "run" ∷ []) Make false false (Lines false)
 planned-run = refl
 
-planned-check : planned (over_s (codes "check" ∷ [])) ≡ runs (codes "check" ∷ []) ReadEmpty false false Lines
+planned-check : planned (over_s (codes "check" ∷ [])) ≡ runs (codes "check" ∷ []) ReadEmpty false false (Lines false)
 planned-check = refl
 
-planned-sessions : planned (over_s (codes "sessions" ∷ [])) ≡ runs (codes "sessions" ∷ []) Make false false Sessions
+planned-sessions : planned (over_s (codes "sessions" ∷ [])) ≡ runs (codes "sessions" ∷ []) Make false false (Sessions false)
 planned-sessions = refl
 
-planned-no_words : planned [] ≡ Runs (record { words = []; path = []; missing = Make; explains = false; is_strict = false; form = Lines })
+planned-no_words : planned [] ≡ Runs (record { words = []; path = []; missing = Make; explains = false; is_strict = false; form = Lines false })
 planned-no_words = refl
 
 planned-no_path : planned (codes "p" ∷ []) ≡ runs_nothing Make false false
 planned-no_path = refl
 
 -- one option, before the path
-planned-explain : planned (codes "p" ∷ codes "--explain" ∷ codes "s" ∷ []) ≡ runs [] Make true false Lines
+planned-explain : planned (codes "p" ∷ codes "--explain" ∷ codes "s" ∷ []) ≡ runs [] Make true false (Lines false)
 planned-explain = refl
 
-planned-batch : planned (codes "p" ∷ codes "--batch" ∷ codes "s" ∷ []) ≡ runs (codes "batch" ∷ []) Make false false Lines
+planned-batch : planned (codes "p" ∷ codes "--batch" ∷ codes "s" ∷ []) ≡ runs (codes "batch" ∷ []) Make false false (Lines false)
 planned-batch = refl
 
-planned-strict : planned (codes "p" ∷ codes "--strict" ∷ codes "s" ∷ []) ≡ runs [] Make true true Lines
+planned-strict : planned (codes "p" ∷ codes "--strict" ∷ codes "s" ∷ []) ≡ runs [] Make true true (Lines false)
 planned-strict = refl
 
-planned-existing : planned (codes "p" ∷ codes "--existing" ∷ codes "s" ∷ []) ≡ runs [] Fail false false Lines
+planned-existing : planned (codes "p" ∷ codes "--existing" ∷ codes "s" ∷ []) ≡ runs [] Fail false false (Lines false)
 planned-existing = refl
 
-planned-existing_check : planned (codes "p" ∷ codes "--existing" ∷ codes "s" ∷ codes "check" ∷ []) ≡ runs (codes "check" ∷ []) ReadFail false false Lines
+planned-existing_check :
+    planned (codes "p" ∷ codes "--existing" ∷ codes "s" ∷ codes "check" ∷ []) ≡ runs (codes "check" ∷ []) ReadFail false false (Lines false)
 planned-existing_check = refl
 
 -- all of them, in two orders, and one twice
 planned-all :
-    planned (codes "p" ∷ codes "--explain" ∷ codes "--batch" ∷ codes "--strict" ∷ codes "--existing" ∷ codes "s" ∷ [])
-    ≡ runs (codes "batch" ∷ []) Fail true true Lines
+    planned (codes "p" ∷ codes "--explain" ∷ codes "--batch" ∷ codes "--framed" ∷ codes "--strict" ∷ codes "--existing" ∷ codes "s" ∷ [])
+    ≡ runs (codes "framed" ∷ codes "batch" ∷ []) Fail true true (Lines true)
 planned-all = refl
 
 planned-all_but_one :
     planned (codes "p" ∷ codes "--existing" ∷ codes "--batch" ∷ codes "--batch" ∷ codes "--explain" ∷ codes "s" ∷ codes "run" ∷ [])
-    ≡ runs (codes "batch" ∷ []) Fail true false Lines
+    ≡ runs (codes "batch" ∷ []) Fail true false (Lines false)
 planned-all_but_one = refl
 
 -- `--batch` stands for the mode in place of `run`, and after `sessions`; after others it is a word too many
-planned-batch_run : planned (codes "p" ∷ codes "--batch" ∷ codes "s" ∷ codes "run" ∷ []) ≡ runs (codes "batch" ∷ []) Make false false Lines
+planned-batch_run : planned (codes "p" ∷ codes "--batch" ∷ codes "s" ∷ codes "run" ∷ []) ≡ runs (codes "batch" ∷ []) Make false false (Lines false)
 planned-batch_run = refl
 
 planned-batch_sessions :
     planned (codes "p" ∷ codes "--batch" ∷ codes "s" ∷ codes "sessions" ∷ [])
-    ≡ runs (codes "sessions" ∷ codes "batch" ∷ []) Make false false Sessions
+    ≡ runs (codes "sessions" ∷ codes "batch" ∷ []) Make false false (Sessions false)
 planned-batch_sessions = refl
 
 planned-batch_check :
-    planned (codes "p" ∷ codes "--batch" ∷ codes "s" ∷ codes "check" ∷ []) ≡ runs (codes "check" ∷ codes "batch" ∷ []) Make false false Lines
+    planned (codes "p" ∷ codes "--batch" ∷ codes "s" ∷ codes "check" ∷ []) ≡ runs (codes "check" ∷ codes "batch" ∷ []) Make false false (Lines false)
 planned-batch_check = refl
 
 planned-batch_run_and_more :
     planned (codes "p" ∷ codes "--batch" ∷ codes "s" ∷ codes "run" ∷ codes "x" ∷ [])
-    ≡ runs (codes "run" ∷ codes "x" ∷ codes "batch" ∷ []) Make false false Lines
+    ≡ runs (codes "run" ∷ codes "x" ∷ codes "batch" ∷ []) Make false false (Lines false)
 planned-batch_run_and_more = refl
 
 planned-batch_without_path : planned (codes "p" ∷ codes "--batch" ∷ []) ≡ runs_nothing Make false false
 planned-batch_without_path = refl
 
+-- `--framed` stands for the word `framed`, before `batch`
+planned-framed : planned (codes "p" ∷ codes "--framed" ∷ codes "s" ∷ []) ≡ runs (codes "framed" ∷ []) Make false false (Lines true)
+planned-framed = refl
+
+planned-framed_run : planned (codes "p" ∷ codes "--framed" ∷ codes "s" ∷ codes "run" ∷ []) ≡ runs (codes "framed" ∷ []) Make false false (Lines true)
+planned-framed_run = refl
+
+planned-framed_and_batch :
+    planned (codes "p" ∷ codes "--batch" ∷ codes "--framed" ∷ codes "s" ∷ codes "run" ∷ [])
+    ≡ runs (codes "framed" ∷ codes "batch" ∷ []) Make false false (Lines true)
+planned-framed_and_batch = refl
+
+planned-framed_sessions :
+    planned (codes "p" ∷ codes "--framed" ∷ codes "--batch" ∷ codes "s" ∷ codes "sessions" ∷ [])
+    ≡ runs (codes "sessions" ∷ codes "framed" ∷ codes "batch" ∷ []) Make false false (Sessions true)
+planned-framed_sessions = refl
+
+planned-framed_follow :
+    planned (codes "p" ∷ codes "--framed" ∷ codes "s" ∷ codes "follow" ∷ [])
+    ≡ runs (codes "follow" ∷ codes "framed" ∷ []) Make false false (Lines false)
+planned-framed_follow = refl
+
+planned-frames : planned (over_s (codes "frames" ∷ [])) ≡ runs (codes "frames" ∷ []) Make false false Frames
+planned-frames = refl
+
+planned-batch_frames :
+    planned (codes "p" ∷ codes "--batch" ∷ codes "s" ∷ codes "frames" ∷ [])
+    ≡ runs (codes "frames" ∷ codes "batch" ∷ []) Make false false Frames
+planned-batch_frames = refl
+
+planned-follow : planned (over_s (codes "follow" ∷ [])) ≡ runs (codes "follow" ∷ []) Make false false Follow
+planned-follow = refl
+
+planned-batch_follow :
+    planned (codes "p" ∷ codes "--batch" ∷ codes "s" ∷ codes "follow" ∷ [])
+    ≡ runs (codes "follow" ∷ codes "batch" ∷ []) Make false false Follow
+planned-batch_follow = refl
+
 -- an option after the path is a word like others, and so is one that isn't known; before it such a word takes all away
-planned-option_after : planned (over_s (codes "--batch" ∷ [])) ≡ runs (codes "--batch" ∷ []) Make false false Lines
+planned-option_after : planned (over_s (codes "--batch" ∷ [])) ≡ runs (codes "--batch" ∷ []) Make false false (Lines false)
 planned-option_after = refl
 
 planned-unknown : planned (codes "p" ∷ codes "-x" ∷ codes "s" ∷ []) ≡ runs_nothing Make false false

@@ -4,16 +4,18 @@ use Rattle.std.specs.Option.{option_map_or}
 use Rattle.std.specs.Prelude.{string_bytes}
 use Rattle.std.specs.Str.{bytes_eq}
 use Rattle.std.specs.Str.Parse.{starts_with_minus}
-use Rattle.ss_arguments.specs.Modes.{words_of}
+use Rattle.ss_arguments.specs.Modes.{mode_of, words_of}
 use Rattle.ss_arguments.specs.declared.mode.Form.{Form}
-use Rattle.ss_arguments.specs.declared.mode.Form.TheVariants.{Lines, Sessions}
+use Rattle.ss_arguments.specs.declared.mode.Form.TheVariants.{Lines}
+use Rattle.ss_arguments.specs.declared.mode.Mode.{Mode}
+use Rattle.ss_arguments.specs.declared.mode.Mode.TheVariants.{Serve}
 use Rattle.summarystore.specs.Opening.{missing_for}
 use Rattle.summarystore.specs.declared.notice.Notice.{Notice}
 use Rattle.summarystore.specs.declared.notice.Notice.TheVariants.{Help, Version}
 use Rattle.summarystore.specs.declared.opening.Missing.{Missing}
 use Rattle.summarystore.specs.declared.options.Options.{Options}
 use Rattle.summarystore.specs.declared.options.Switch.{Switch}
-use Rattle.summarystore.specs.declared.options.Switch.TheVariants.{Explain, Batch, Strict, Existing}
+use Rattle.summarystore.specs.declared.options.Switch.TheVariants.{Explain, Batch, Framed, Strict, Existing}
 use Rattle.summarystore.specs.declared.plan.Plan.{Plan}
 use Rattle.summarystore.specs.declared.plan.Plan.TheVariants as plan
 use Rattle.summarystore.specs.declared.plan.Run.{Run}
@@ -35,9 +37,10 @@ abbrev pub switch_of : List ℕ → Option Switch
 switch_of word =
     if bytes_eq word (codes "--explain") then Some Explain
     else (if bytes_eq word (codes "--batch") then Some Batch
+    else (if bytes_eq word (codes "--framed") then Some Framed
     else (if bytes_eq word (codes "--strict") then Some Strict
     else (if bytes_eq word (codes "--existing") then Some Existing
-    else None)))
+    else None))))
 
 -- the option in the place of the path
 abbrev pub first_switch : List (List ℕ) → Option Switch
@@ -46,12 +49,13 @@ first_switch _ = None
 
 -- no option
 abbrev pub no_options : Options
-no_options = record { explains = false; batches = false; is_strict = false; has_to_exist = false }
+no_options = record { explains = false; batches = false; is_framed = false; is_strict = false; has_to_exist = false }
 
 -- options with one more
 abbrev pub with_switch : Options → Switch → Options
 with_switch options Explain = record options { explains = true }
 with_switch options Batch = record options { batches = true }
+with_switch options Framed = record options { is_framed = true }
 with_switch options Strict = record options { is_strict = true }
 with_switch options Existing = record options { has_to_exist = true }
 
@@ -91,19 +95,25 @@ names_run _ = false
 abbrev pub without_run : List (List ℕ) → List (List ℕ)
 without_run words = if names_run words then take 2 words else words
 
--- words that ask for the same in batches, where a path is among them
-abbrev pub in_batches : List (List ℕ) → List (List ℕ)
-in_batches words = if nat_lt (length words) 2 then words else without_run words ++ codes "batch" ∷ []
+-- words that ask for the same with one more word, in place of that of a plain run, where a path is among them
+abbrev pub with_word : List ℕ → List (List ℕ) → List (List ℕ)
+with_word word words = if nat_lt (length words) 2 then words else without_run words ++ word ∷ []
+
+-- words with those that the options stand for: `framed`, and last `batch`
+abbrev pub asked_words : Options → List (List ℕ) → List (List ℕ)
+asked_words options words =
+    let framed = if options.is_framed then with_word (codes "framed") words else words in
+    if options.batches then with_word (codes "batch") framed else framed
 
 -- the store's path: the word after the program's name, or the empty path
 abbrev pub path_of : List (List ℕ) → List ℕ
 path_of (program ∷ path ∷ arguments) = path
 path_of _ = []
 
--- the form of the input that words ask for, where they ask for any
-abbrev pub form_of : List (List ℕ) → Form
-form_of (program ∷ path ∷ mode ∷ arguments) = if bytes_eq mode (codes "sessions") then Sessions else Lines
-form_of _ = Lines
+-- the form of the input of a mode, where it reads one
+abbrev pub form_in : Option Mode → Form
+form_in (Some (Serve form sealing)) = form
+form_in _ = Lines false
 
 -- A run over the file of a store: the words that it gets, the path, what is done where there is no file, whether standard error
 -- says why lines are refused, whether a refused line shows in the exit status, and the form of the input.
@@ -128,7 +138,7 @@ run_of options words = record {
   missing = missing_for options.has_to_exist words;
   explains = options.explains || options.is_strict;
   is_strict = options.is_strict;
-  form = form_of words;
+  form = form_in (mode_of words);
 }
 
 -- what the program does by the words of the command line, its name first
@@ -136,7 +146,7 @@ abbrev pub planned : List (List ℕ) → Planned
 planned words =
     let options = options_of words in
     let rest = without_options words in
-    option_map_or Prints (notice_of words) (Runs (run_of options (if options.batches then in_batches rest else rest)))
+    option_map_or Prints (notice_of words) (Runs (run_of options (asked_words options rest)))
 
 -- the same, of what the code answers
 abbrev pub asked_by : Run → Asked

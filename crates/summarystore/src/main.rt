@@ -27,7 +27,8 @@ use adapters::{StdSink, StdSource};
 use file_disk::FileDisk;
 use host_system::HostSystem;
 use plan::{Plan, Run, plan_of, status_with};
-use ss_program::{Status, exit_code, run_store};
+use ss_arguments::Form;
+use ss_program::{Status, exit_code};
 use ss_watch::{Terminals, Watch, Watched};
 use std::cell::RefCell;
 use std::fs::{self, File};
@@ -35,7 +36,7 @@ use std::io::{ErrorKind, IsTerminal};
 use std::process::ExitCode;
 use std::rt::{Clock, Env, Files};
 use std::{env, io};
-use telling::{print_notice, tell, tell_run, tell_usage};
+use telling::{print_notice, tell, tell_run, tell_terminal, tell_usage};
 
 // The arguments of the command line, the program's name first.
 fn read_words<R: Env + AllocGlobal>(rt: &R) -> io::Result<Vec<String>> {
@@ -55,7 +56,7 @@ fn run_over<R: AllocGlobal + Input + Print + Eprint + Files<File = File>>(rt: &R
     let mut disk = FileDisk::new(HostSystem::new(rt), run.path, run.missing);
     let mut source = StdSource::new(rt);
     let mut sink = StdSink::new(rt);
-    let number = run_store(rt.alloc(), &run.words, &mut disk, &mut source, &mut sink);
+    let number = ss_program::run(rt.alloc(), &run.words, &mut disk, &mut source, &mut sink);
     tell_run(rt, number, &disk, source.why().or(sink.why()))
 }
 
@@ -70,9 +71,9 @@ fn run_watched<R: AllocGlobal + Input + Print + Eprint + Clock + Files<File = Fi
     let mut disk = Watched::new(disk, &watch);
     let mut source = Watched::new(StdSource::new(rt), &watch);
     let mut sink = Watched::new(StdSink::new(rt), &watch);
-    let number = run_store(rt.alloc(), &run.words, &mut disk, &mut source, &mut sink);
+    let number = ss_program::run(rt.alloc(), &run.words, &mut disk, &mut source, &mut sink);
     let has_refused = match watch.try_borrow_mut() {
-        Ok(mut watch) => watch.finish() > 0,
+        Ok(mut watch) => watch.finish(number == Status::Done.number()) > 0,
         Err(_) => false,
     };
     let why = source.device().why().or(sink.device().why());
@@ -141,6 +142,7 @@ fn run_program<R: Env + AllocGlobal + Input + Print + Eprint + Clock + Files<Fil
             let number = print_notice(&mut sink, notice.text());
             tell(rt, number, sink.why())
         }
+        Ok(Plan::Run(run)) if run.form == Form::Frames && terminals.output => tell_terminal(rt),
         Ok(Plan::Run(run)) => run_asked(rt, run, terminals),
         Err(_) => tell(rt, Status::OutOfMemory.number(), None),
     }

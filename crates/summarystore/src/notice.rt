@@ -5,7 +5,7 @@ ghost use Rattle.summarystore.specs.Plan.{notice_named, notice_of};
 
 /// The help text.
 pub const HELP: &str = "\
-usage: summarystore STORE [run | check | gen SEED COUNT | sessions]
+usage: summarystore STORE [run | check | gen SEED COUNT | sessions | frames | follow]
 
 Reads commands from standard input, one a line, and replies to each on standard
 output. STORE is the file that keeps the streams. It is made where there is none,
@@ -22,6 +22,14 @@ is on the disk before it is printed. One program at a time can use a store.
          pieces, as they are now, whatever comes after: @1 cursor open NAME says
          how many there are, @1 cursor next C shows the next C of them, at most
          1000, and @1 cursor close ends it
+  frames
+         does the events, and writes a frame of 64 bytes for each that is
+         accepted, in place of the replies: the event, and its number in its
+         stream. Nothing is written to any other line, and drop isn't done
+  follow
+         reads such frames, and does the event of each that is the next of its
+         stream: ok N K. The event of old is there already, and gap E says that
+         the stream has E events, and that frames behind these are missing
 
   create NAME exp B R S  a new stream: R windows of each of the lengths S, S*B,
                          S*B*B and so on, the longer ones for older values
@@ -42,6 +50,10 @@ is on the disk before it is printed. One program at a time can use a store.
   series NAME count|sum|min|max T1 T2 STEP
                          the same in rows of STEP times each, at most 100000:
                          the first time of a row, and what is known of it
+  estimate NAME count|sum T1 T2
+                         the same ends, and between them the likeliest answer
+  estimates NAME count|sum T1 T2 STEP
+                         the same in rows, as series has them
   certify NAME count|sum lo|hi T1 T2
                          values that the windows may have had, by which the
                          answer is just the lo, or the hi, that query prints
@@ -71,9 +83,12 @@ Exit statuses:
 With --batch before STORE, commands that arrive together come to the disk
 together, and their replies after that. That is faster where many arrive at once.
 Each ok is on the disk all the same.
+With --framed before STORE, each ok of an event but a drop has a line behind it:
+frame, and its frame as 128 hexadecimal digits.
 With --explain before STORE, or at a terminal, standard error says why lines are
-refused, for the first 20 of them. With --strict before STORE it does so too, and
-the status is 1 where a line was refused and 0 otherwise would be.
+refused, for the first 20 of them, and in follow also what a gap lacks. With
+--strict before STORE it does so too, and the status is 1 where a line was
+refused, or a gap was left, and 0 otherwise would be.
 With --existing before STORE, STORE isn't made where there is none: status 4.
 A store whose name begins with - is ./-NAME.
 Documents: README.md, docs/GUIDE.md.

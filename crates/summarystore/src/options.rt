@@ -2,8 +2,8 @@
 ghost use Rattle.std.specs.Prelude.{◌≡◌, ◌≤◌, drop, length, IsSome, OnOk};
 ghost use Rattle.std.specs.Str.Parse.{starts_with_minus};
 ghost use Rattle.ss_arguments.specs.Modes.{words_of};
-ghost use Rattle.summarystore.specs.Plan.{first_switch, has_hyphen, in_batches, names_run, no_options, options_of, switch_of};
-ghost use Rattle.summarystore.specs.Plan.{with_switch, without_options, without_run, without_unknown};
+ghost use Rattle.summarystore.specs.Plan.{first_switch, has_hyphen, names_run, no_options, options_of, switch_of};
+ghost use Rattle.summarystore.specs.Plan.{with_switch, with_word, without_options, without_run, without_unknown};
 
 use std::alloc::{AllocError, Global};
 
@@ -12,6 +12,7 @@ use std::alloc::{AllocError, Global};
 pub enum Switch {
     Explain,
     Batch,
+    Framed,
     Strict,
     Existing,
 }
@@ -23,6 +24,8 @@ pub struct Options {
     pub explains: bool,
     /// Whether events whose lines come together come to the disk together.
     pub batches: bool,
+    /// Whether the frame of each accepted event stands behind the reply to it.
+    pub is_framed: bool,
     /// Whether a run that is done ends with status 1 where a line was refused.
     pub is_strict: bool,
     /// Whether the store has to be there.
@@ -36,6 +39,7 @@ fn no_options() -> Options
     Options {
         explains: false,
         batches: false,
+        is_framed: false,
         is_strict: false,
         has_to_exist: false,
     }
@@ -48,6 +52,7 @@ pub fn switch_of(word: &str) -> Option<Switch>
     match word {
         "--explain" => Some(Switch::Explain),
         "--batch" => Some(Switch::Batch),
+        "--framed" => Some(Switch::Framed),
         "--strict" => Some(Switch::Strict),
         "--existing" => Some(Switch::Existing),
         _ => None,
@@ -74,6 +79,7 @@ impl Options {
         match switch {
             Switch::Explain => options.explains = true,
             Switch::Batch => options.batches = true,
+            Switch::Framed => options.is_framed = true,
             Switch::Strict => options.is_strict = true,
             Switch::Existing => options.has_to_exist = true,
         }
@@ -142,15 +148,15 @@ fn drop_run(words: &mut Vec<String>)
     }
 }
 
-/// Puts the mode that `--batch` stands for after the words, where a store's path is among them, in place of `run`. After
-/// `sessions` it asks for these in batches, and after another mode it is a word too many.
-pub fn name_batch(alloc: Global, words: &mut Vec<String>) -> Result<(), AllocError>
-    ensures { OnOk result (words_of words.new.items ≡ in_batches (words_of words.old.items)) }
+/// Puts the word that `--batch` or `--framed` stands for after the words, where a store's path is among them, in place of `run`.
+/// After the word of a form it asks for more of that, and where a mode takes no such word it is one too many.
+pub fn put_word(alloc: Global, words: &mut Vec<String>, word: &str) -> Result<(), AllocError>
+    ensures { OnOk result (words_of words.new.items ≡ with_word word.now (words_of words.old.items)) }
 {
     if words.len() < 2 {
         return Ok(());
     }
     drop_run(words);
-    let mode = String::from_str(alloc, "batch")?;
-    Ok(words.push(mode)?)
+    let last = String::from_str(alloc, word)?;
+    Ok(words.push(last)?)
 }

@@ -1,12 +1,13 @@
 // What the program does, by the words of the command line.
-ghost use Rattle.std.specs.Prelude.{◌≡◌, string_bytes, IfOk};
+ghost use Rattle.std.specs.Prelude.{◌≡◌, string_bytes, IfOk, OnOk};
 ghost use Rattle.ss_arguments.specs.Modes.{words_of};
-ghost use Rattle.summarystore.specs.Plan.{asked_by, form_of, path_of, planned, planned_by, run_of, status_with};
+ghost use Rattle.ss_arguments.specs.Modes.{mode_of};
+ghost use Rattle.summarystore.specs.Plan.{asked_by, asked_words, form_in, path_of, planned, planned_by, run_of, status_with};
 
 use crate::notice::{Notice, notice_of};
 use crate::opening::{Missing, missing_for};
-use crate::options::{Options, name_batch, take_options};
-use ss_arguments::Form;
+use crate::options::{Options, put_word, take_options};
+use ss_arguments::{Form, Mode, mode_of};
 use std::alloc::{AllocError, Global};
 
 /// A run over the file of a store.
@@ -42,13 +43,13 @@ fn path_of(alloc: Global, words: &[String]) -> Result<String, AllocError>
     }
 }
 
-// The form of the input that words ask for, where they ask for any.
-fn form_of(words: &[String]) -> Form
-    ensures { result ≡ form_of (words_of words.now) }
+// The form of the input of a mode, where it reads one.
+fn form_in(mode: Option<Mode>) -> Form
+    ensures { result ≡ form_in mode }
 {
-    match words {
-        [_, _, mode, ..] if mode.as_str() == "sessions" => Form::Sessions,
-        _ => Form::Lines,
+    match mode {
+        Some(Mode::Serve { form, .. }) => form,
+        _ => Form::Lines { framed: false },
     }
 }
 
@@ -58,7 +59,7 @@ fn run_of(alloc: Global, options: Options, words: Vec<String>) -> Result<Run, Al
 {
     let path = path_of(alloc, &words)?;
     let missing = missing_for(options.has_to_exist, &words);
-    let form = form_of(&words);
+    let form = form_in(mode_of(alloc, &words)?);
     Ok(Run {
         words,
         path,
@@ -67,6 +68,19 @@ fn run_of(alloc: Global, options: Options, words: Vec<String>) -> Result<Run, Al
         is_strict: options.is_strict,
         form,
     })
+}
+
+// Puts the words that options stand for behind the others.
+fn put_words(alloc: Global, options: Options, words: &mut Vec<String>) -> Result<(), AllocError>
+    ensures { OnOk result (words_of words.new.items ≡ asked_words options (words_of words.old.items)) }
+{
+    if options.is_framed {
+        put_word(alloc, words, "framed")?;
+    }
+    if options.batches {
+        put_word(alloc, words, "batch")?;
+    }
+    Ok(())
 }
 
 /// What the program does by the words of the command line, its name first.
@@ -78,9 +92,7 @@ pub fn plan_of(alloc: Global, words: Vec<String>) -> Result<Plan, AllocError>
         return Ok(Plan::Notice(notice));
     }
     let options = take_options(&mut words);
-    if options.batches {
-        name_batch(alloc, &mut words)?;
-    }
+    put_words(alloc, options, &mut words)?;
     Ok(Plan::Run(run_of(alloc, options, words)?))
 }
 

@@ -78,6 +78,16 @@ pub fn tell_usage<R: Eprint + AllocGlobal>(
     number
 }
 
+/// Says on standard error that frames aren't written to a terminal, where no file was touched. Answers the status.
+pub fn tell_terminal<R: Eprint>(rt: &R) -> u8
+    ensures { result ≡ 2 }
+{
+    let _ = eprintln!(rt;
+        "summarystore: frames are bytes, and standard output is a terminal: send them elsewhere, as in summarystore STORE frames > FILE"
+    );
+    Status::Usage.number()
+}
+
 /// Says the same as `tell` after a run over a store, with what is wrong with its file. Where there is none, and none was to be made, this
 /// is said too.
 pub fn tell_run<R: Eprint, S: System>(

@@ -1,4 +1,4 @@
-use Rattle.std.proofs.Common.{◌≡◌, ◌∙◌, ◌++◌, ◌∷◌, [], Err, Ok, Result, Some, None, inl, refl, sym, ap, subst}
+use Rattle.std.proofs.Common.{◌≡◌, ◌∙◌, ◌++◌, ◌∷◌, [], Err, Ok, Result, Some, None, inl, refl, sym, ap, subst, false}
 use Rattle.std.specs.Prelude.{◌↔◌, IsTrue}
 use Rattle.ss_catalog.specs.Events.{event_name}
 use Rattle.ss_catalog.specs.declared.event.Event.{Event}
@@ -62,7 +62,7 @@ returns-in-Ok-clause-applies g c =
               let said = said-kept c.apply.new.self new.content (history ++ added event ∷ []) (event_name event)
               (StoreIsIn-sealed c.apply.new.self new.content (c.in-Ok.ensures.sealed (applies.stops ∙ runs))
               (applies.stands (applies.stops ∙ runs) (applies.step.tells ∙ told))) ((turns told history).content stands) in
-              ap (λ (b : Brought). b.replies) (brings-accepted history event (fits told history stands))
+              ap (λ (b : Brought). b.replies) (brings-accepted false history event (fits told history stands))
               ∙ ap (λ ack. Done ack ∷ []) (sym (applies.ack ∙ said));
           untouched = λ memory. cc;
         };
@@ -85,9 +85,9 @@ returns-in-Err-Refused-clause-applies g c =
     (step-none disk (AppliesEvent event result) (λ told. record {
       does = record {
         adds = λ history. Adds-none history (command_brings history (Do event)) disk.told result
-            (λ stands. ap (λ (b : Brought). b.event) (brings-refused history event r (refused told history stands)))
+            (λ stands. ap (λ (b : Brought). b.event) (brings-refused false history event r (refused told history stands)))
             (g.met.D.Disk.knows_now c.args.disk.now told);
-        reply = λ history stands. ap (λ (b : Brought). b.replies) (brings-refused history event r (refused told history stands));
+        reply = λ history stands. ap (λ (b : Brought). b.replies) (brings-refused false history event r (refused told history stands));
         untouched = λ _. reads-none disk.told;
       };
       accepted = λ history stands. tt;
@@ -111,7 +111,7 @@ returns-in-Err-OutOfMemory-clause-applies g c =
         reply = λ history stands. tt;
         untouched = λ _. reads-none disk.told;
       };
-      accepted = λ history stands. IsSome-accepted history event (accepted event c.args.store.now disk (Err c.in-Err-OutOfMemory.field-0) c.requires.open
+      accepted = λ history stands. IsSome-accepted false history event (accepted event c.args.store.now disk (Err c.in-Err-OutOfMemory.field-0) c.requires.open
           (c.in-Err-OutOfMemory.ensures.applies c.requires.open.serves.runs).refused (λ r is. cc) told history stands);
     }))
 
@@ -138,6 +138,6 @@ returns-in-Err-Disk-clause-applies g c =
           reply = λ history stands. tt;
           untouched = λ memory. cc;
         };
-        accepted = λ history stands. IsSome-accepted history event (fits told history stands);
+        accepted = λ history stands. IsSome-accepted false history event (fits told history stands);
       };
     }

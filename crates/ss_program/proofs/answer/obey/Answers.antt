@@ -26,7 +26,7 @@ returns-in-Certify g c = rw c.in-Certify.is
     c.show_certificate.new.store c.show_certificate.result (g.met.D.Disk.knows_now c.args.disk.now)
     (λ history. certify-event history c.in-Certify.query c.in-Certify.end)
     (λ history. refl)
-    c.show_certificate.ensures)
+    c.show_certificate.ensures.shows)
 
 pub returns-in-Series : goal.returns-in-Series
 returns-in-Series g c = rw c.in-Series.is

@@ -1,4 +1,5 @@
-use Rattle.std.proofs.Common.{◌≡◌, ◌∙◌, Err, refl, sym, ap, subst, rules}
+use Rattle.std.proofs.Common.{◌≡◌, ◌∙◌, Err, inl, inr, refl, sym, ap, subst, rules}
+use Rattle.std.specs.Prelude.{IsErr}
 use Rattle.std.proofs.lemmas.List.{append-nil}
 use Rattle.std.specs.List.{flat_map}
 use Rattle.ss_command.specs.declared.command.Command.TheVariants.{Certify}
@@ -14,14 +15,15 @@ use Rattle.ss_program.specs.Devices.{over}
 use Rattle.ss_program.specs.Line.{command_brings, text_said}
 use Rattle.ss_program.specs.Sent.{AppendsLess, Sends}
 use Rattle.ss_program.specs.Status.{disk_verdict}
-use Rattle.ss_program.proofs.AnswerLemmas.{StoreIsIn-open, refuses_query-kept}
+use Rattle.ss_certify.specs.Told.{told}
+use Rattle.ss_program.proofs.AnswerLemmas.{Sends-at_sink, StoreIsIn-open, refuses_query-kept}
 use Rattle.ss_program.proofs.CertifyLemmas.{brings-certified, brings-refused_certify, certified-some}
 use Rattle.ss_program.proofs.SendLemmas.{AppendsLess-none}
 use Rattle.ss_program.proofs.TakesLemmas.{Shows-reply, Shows-sent, Shows-stopped, still}
 use Rattle.ss_program.proofs.certifying.show_certificate.Goals as goal
 
-pub returns-in-Some : goal.returns-in-Some
-returns-in-Some g c =
+pub returns-in-Some-clause-shows : goal.returns-in-Some-clause-shows
+returns-in-Some-clause-shows g c =
     let store = c.args.store.now in
     let query = c.args.query.now in
     let disk = g.D.Disk.seen c.args.disk.now in
@@ -35,8 +37,8 @@ returns-in-Some g c =
     (refuses_query-kept store disk.told.content history query (StoreIsIn-open disk store c.requires.open told) stands ∙ sym c.in-Some.ensures))
     ∙ append-nil (said_line c.args.speaker (Refused c.in-Some.refusal))))
 
-pub returns-in_err-evidence : goal.returns-in_err-evidence
-returns-in_err-evidence g c =
+pub returns-in_err-evidence-clause-shows : goal.returns-in_err-evidence-clause-shows
+returns-in_err-evidence-clause-shows g c =
     let store = c.args.store.now in
     let query = c.args.query.now in
     let old = g.D.Disk.seen c.args.disk.now in
@@ -54,8 +56,8 @@ returns-in_err-evidence g c =
     (certified-some c.args.speaker history query c.args.end
     (refuses_query-kept store old.told.content history query (StoreIsIn-open old store c.requires.open told) stands ∙ sym c.in_default.ensures)))))
 
-pub returns : goal.returns
-returns g c =
+pub returns-clause-shows : goal.returns-clause-shows
+returns-clause-shows g c =
     let store = c.args.store.now in
     let query = c.args.query.now in
     let old = g.D.Disk.seen c.args.disk.now in
@@ -74,3 +76,28 @@ returns g c =
     (refuses_query-kept store old.told.content history query (StoreIsIn-open old store c.requires.open told) stands ∙ sym c.in_default.ensures)
     ((found.finds.told told).evidence (state history) stands.state))) ∙ sym is)
     c.send_replies.ensures.sends))
+
+-- a query that is refused has no evidence
+pub returns-in-Some-clause-right : goal.returns-in-Some-clause-right
+returns-in-Some-clause-right g c taken =
+    let refused = c.in-Some.ensures in cc
+
+pub returns-in_err-evidence-clause-right : goal.returns-in_err-evidence-clause-right
+returns-in_err-evidence-clause-right g c taken =
+    let same : c.from_residual.result ≡ Err c.in_err-evidence.field-0.0 = search rules in
+    inl (refl, subst (λ r. IsErr r) (sym same) refl)
+
+pub returns-clause-right : goal.returns-clause-right
+returns-clause-right g c taken =
+    let before = g.K.Sink.held c.args.sink.now in
+    let after = g.K.Sink.held c.send_replies.new.sink in
+    let w = c.in_ok-evidence.evidence in
+    let text = flat_map (said_line c.args.speaker) (told w) in
+    inr (
+      w,
+      c.in_ok-evidence.ensures.right,
+      subst (λ r. Sends before after text r) (sym c.at_sink-2.ensures)
+          (Sends-at_sink before after text c.send_replies.result
+          (subst (λ rs. Sends before after (flat_map (said_line c.args.speaker) rs) c.send_replies.result)
+          (c.as_slice.ensures.value ∙ c.lines_of.ensures) c.send_replies.ensures.sends)),
+    )

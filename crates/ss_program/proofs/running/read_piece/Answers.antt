@@ -1,12 +1,12 @@
 use Rattle.std.proofs.Common.{◌≤◌, ◌++◌, Err, rules, refl, subst, arith}
 use Rattle.std.proofs.lemmas.Grind.{common_steps}
-use Rattle.ss_command.specs.Lines.{lines_so_far}
 use Rattle.ss_outside.proofs.StepLemmas.{step-as, step-none}
 use Rattle.ss_program.specs.Outcome.{ReadsPiece}
 use Rattle.ss_program.specs.Progress.{GoesOn, StopsIn}
 use Rattle.ss_program.specs.declared.status.Status.TheVariants.{SourceFault}
 use Rattle.ss_program.proofs.ReadLemmas.{moved, stop-other, unmoved}
 use Rattle.ss_program.proofs.running.read_piece.Goals as goal
+use Rattle.ss_program.specs.Steps.{steps_so_far}
 
 pub returns-in-Err-clause-reads : goal.returns-in-Err-clause-reads
 returns-in-Err-clause-reads g c =
@@ -52,7 +52,7 @@ returns-in-Err-take-clause-reads g c =
             small,
             move.0,
             move.2,
-            subst (λ bs. StopsIn sealing talk (lines_so_far (input ++ bs)) old new before
+            subst (λ bs. StopsIn sealing talk (steps_so_far talk.form (input ++ bs)) old new before
                 (g.K.Sink.held c.take.new.sink) status)
                 move.1 (takes.stops sealing talk before input at replied),
           );

@@ -3,12 +3,12 @@ use Rattle.ss_arguments.specs.Modes.{mode_of, words_of}
 use Rattle.ss_arguments.specs.declared.mode.Mode.{Mode}
 use Rattle.ss_arguments.specs.declared.mode.Mode.TheVariants.{Check, Gen}
 use Rattle.ss_outside.proofs.CrashLemmas.{at_start, of_content}
-use Rattle.ss_outside.specs.Disk.{Between, OfContent}
+use Rattle.ss_outside.specs.Disk.{Between}
 use Rattle.ss_outside.specs.Verdict.{Counted}
 use Rattle.ss_store.specs.Recover.{Stands}
-use Rattle.ss_program.specs.Checked.{ChecksContent}
+use Rattle.ss_program.specs.Checked.{ChecksStore}
 use Rattle.ss_program.specs.Devices.{over}
-use Rattle.ss_program.specs.Ending.{Ends, IsUnfed, served_by, serving}
+use Rattle.ss_program.specs.Ending.{Ends, Feeds, IsUnfed, Unfed, served_by, serving}
 use Rattle.ss_program.specs.Generated.{GeneratesFrom}
 use Rattle.ss_program.specs.Outcome.{Reads, Serves, ServesInput}
 use Rattle.ss_program.specs.Status.{source_verdict}
@@ -33,9 +33,9 @@ returns-in-Ok-Some-clause-ends g c _ status is =
 
 pub returns-in-Ok-Some-clause-source : goal.returns-in-Ok-Some-clause-source
 returns-in-Ok-Some-clause-source g c status is =
-    by-number (λ s. Counted (source_verdict s) (g.S.Source.faults c.args.source.now) (g.S.Source.faults c.run_mode.new.source)) c.number.result
-    c.run_mode.result
-    c.number.ensures c.run_mode.ensures.source status is
+    by-number (λ s. Feeds (c.run_mode.new.source ≡ c.args.source.now) (g.S.Source.faults c.args.source.now) (g.S.Source.faults c.run_mode.new.source) s)
+    c.number.result c.run_mode.result c.number.ensures
+    (record { counted = c.run_mode.ensures.source; unserved = c.run_mode.ensures.unserved }) status is
 
 pub returns-in-Ok-Some-clause-reads : goal.returns-in-Ok-Some-clause-reads
 returns-in-Ok-Some-clause-reads g c asked status is input left =
@@ -55,8 +55,10 @@ pub returns-in-Ok-Some-clause-checks : goal.returns-in-Ok-Some-clause-checks
 returns-in-Ok-Some-clause-checks g c asked status is =
     let mode = one_mode c.in-Ok-Some.field-0 (mode_of (words_of c.args.words.now)) c.in-Ok-Some.mode Check c.in-Ok-Some.ensures.mode
     c.in-Ok-Some.field-0-is asked in
-    by-number (λ s. OfContent (g.D.Disk.seen c.args.disk.now) (ChecksContent (g.K.Sink.held c.args.sink.now) (g.K.Sink.held c.run_mode.new.sink) s))
-    c.number.result c.run_mode.result c.number.ensures (c.run_mode.ensures.checks mode) status is
+    by-number (λ s. Between (g.D.Disk.seen c.args.disk.now) (g.D.Disk.seen c.run_mode.new.disk)
+    (ChecksStore (g.K.Sink.held c.args.sink.now) (g.K.Sink.held c.run_mode.new.sink) s))
+    c.number.result c.run_mode.result c.number.ensures
+    (λ told. record { unwritten = c.run_mode.ensures.unwritten mode told; says = c.run_mode.ensures.checks mode told }) status is
 
 pub returns-in-Ok-Some-clause-generates : goal.returns-in-Ok-Some-clause-generates
 returns-in-Ok-Some-clause-generates g c seed count asked status is =
@@ -69,8 +71,10 @@ returns-in-Ok-Some-clause-generates g c seed count asked status is =
 pub returns-in-Ok-Some-clause-unfed : goal.returns-in-Ok-Some-clause-unfed
 returns-in-Ok-Some-clause-unfed g c asked status is =
     let known : mode_of (words_of c.args.words.now) ≡ Some c.in-Ok-Some.mode = sym c.in-Ok-Some.ensures.mode ∙ c.in-Ok-Some.field-0-is in
-    by-number (λ s. IsUnfed (g.K.Sink.held c.args.sink.now) (g.K.Sink.held c.run_mode.new.sink) s) c.number.result c.run_mode.result c.number.ensures
-    (c.run_mode.ensures.unfed (subst (λ m. served_by m ≡ None) known asked)) status is
+    let other = subst (λ m. served_by m ≡ None) known asked in
+    by-number (λ s. Unfed (c.run_mode.new.source ≡ c.args.source.now) (g.K.Sink.held c.args.sink.now) (g.K.Sink.held c.run_mode.new.sink) s)
+    c.number.result c.run_mode.result c.number.ensures
+    (record { unread = c.run_mode.ensures.unread other; silent = c.run_mode.ensures.unfed other }) status is
 
 pub returns-in-Ok-Some-clause-completes : goal.returns-in-Ok-Some-clause-completes
 returns-in-Ok-Some-clause-completes g c _ status is told fits limit calm_disk calm_source calm_sink =
@@ -96,8 +100,8 @@ returns-in-Ok-Some-clause-at_once g c refused =
 
 pub returns-in-Err-clause-unfed : goal.returns-in-Err-clause-unfed
 returns-in-Err-clause-unfed g c other status is =
-    by-number (λ s. IsUnfed (g.K.Sink.held c.args.sink.now) (g.K.Sink.held c.args.sink.now) s) c.number-in-Err.result OutOfMemory c.number-in-Err.ensures refl
-    status is
+    by-number (λ s. Unfed (c.args.source.now ≡ c.args.source.now) (g.K.Sink.held c.args.sink.now) (g.K.Sink.held c.args.sink.now) s)
+    c.number-in-Err.result OutOfMemory c.number-in-Err.ensures (record { unread = refl; silent = refl }) status is
 
 -- memory ran out before the disk was called
 pub returns-in-Err-clause-serves : goal.returns-in-Err-clause-serves

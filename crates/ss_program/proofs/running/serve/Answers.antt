@@ -1,11 +1,12 @@
-use Rattle.std.proofs.Common.{◌≡◌, ◌-◌, ◌+◌, ◌≤◌, ◌++◌, List, ℕ, Some, length, take, drop, refl, sym, ◌∙◌, subst, arith, inl, inr}
-use Rattle.ss_command.specs.Lines.{ended_lines, lines, lines_so_far}
+use Rattle.std.proofs.Common.{◌≡◌, ◌-◌, ◌+◌, List, ℕ, Some, take, drop, refl, sym, ap, ◌∙◌, subst, arith, inl, inr}
 use Rattle.ss_outside.proofs.StepLemmas.{step-as, step-none, step-then}
 use Rattle.ss_outside.specs.Disk.{NothingPending}
 use Rattle.ss_store.specs.Recover.{Stands}
 use Rattle.ss_program.specs.Line.{History}
 use Rattle.ss_program.specs.Outcome.{Serves}
 use Rattle.ss_program.specs.Progress.{sealing_by}
+use Rattle.ss_program.specs.Sent.{appended}
+use Rattle.ss_program.specs.Session.{after_lines, text_of}
 use Rattle.ss_program.specs.Talk.{begun}
 use Rattle.ss_program.specs.declared.status.Status.TheVariants.{InputLimit, SourceFault}
 use Rattle.ss_program.proofs.SendLemmas.{appended-nil}
@@ -13,10 +14,10 @@ use Rattle.ss_program.proofs.StepLemmas.{step-told}
 use Rattle.ss_program.proofs.RunLemmas.{HasStopped-piece, IsThrough, IsThrough-end, IsThrough-more, IsThrough-start, Serves-finish, Serves-part, Serves-stop}
 use Rattle.ss_program.proofs.ReadLemmas.{end-other, IsLeft-more, Moved-at, Moved-piece, Reads-end, Reads-limit, Reads-stop, left-none, length_of-none}
 use Rattle.ss_program.proofs.ReadLemmas.{stop-other}
+use Rattle.ss_program.proofs.StepsLemmas.{steps-none}
 use Rattle.ss_program.proofs.running.serve.Goals as goal
 
 pub loop-done-init : goal.loop-done-init
-unfolding ended_lines
 loop-done-init g c =
     let disk = g.D.Disk.seen c.args.disk.now in
     let before = g.K.Sink.held c.args.sink.now in
@@ -32,15 +33,18 @@ loop-done-init g c =
           IsThrough-start (sealing_by c.args.session.now.waiting) (begun c.args.session.now.form history) disk.told c.args.session.now before left input
           (g.met.D.Disk.knows_now c.args.disk.now told)
           (record {
-            stands = stands;
+            stands = subst (λ ls. Stands (after_lines (begun c.args.session.now.form history) ls).history disk.told.content)
+                (sym (steps-none c.args.session.now.form)) stands;
             durable = none;
             line = c.requires.front;
             unsaid = c.requires.unsaid;
             seals = refl;
             form = refl;
-            cursors = c.requires.cursors;
+            cursors = c.requires.cursors
+                ∙ ap (λ ls. (after_lines (begun c.args.session.now.form history) ls).cursors) (sym (steps-none c.args.session.now.form));
           })
-          (sym (appended-nil before)) is);
+          (sym (appended-nil before)
+          ∙ ap (λ ls. appended before (text_of (begun c.args.session.now.form history) ls)) (sym (steps-none c.args.session.now.form))) is);
       source = refl;
       sink = refl;
     }

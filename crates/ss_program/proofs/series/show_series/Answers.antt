@@ -54,8 +54,8 @@ returns-in_err-at_sink g c =
     (sends-less before after (text_said c.args.speaker (command_brings history (AskRows series))) sent failed
     (series-head c.args.speaker history series before after
     (refuses_query-kept store disk.told.content history (whole_query series) (StoreIsIn-open disk store c.requires.open told) stands ∙ sym judged)
-    (subst (λ n. AppendsLess before after (said_line c.args.speaker (SeriesHead n))) c.rows.ensures
-    (less-sent before after (said_line c.args.speaker (SeriesHead c.rows.result)) sent failed c.send_reply-2.ensures.sends))))))
+    (subst (λ n. AppendsLess before after (said_line c.args.speaker (SeriesHead series.kind n))) c.rows.ensures
+    (less-sent before after (said_line c.args.speaker (SeriesHead series.kind c.rows.result)) sent failed c.send_reply-2.ensures.sends))))))
 
 pub returns : goal.returns
 returns g c =
@@ -74,7 +74,7 @@ returns g c =
       sends = λ told history stands bytes is. subst (λ bs. Sends before after bs result) (sym is)
           (series-sent c.args.speaker history series before held after result
           (refuses_query-kept store disk.told.content history (whole_query series) (StoreIsIn-open disk store c.requires.open told) stands ∙ sym judged)
-          (subst (λ n. held ≡ appended before (said_line c.args.speaker (SeriesHead n))) c.rows.ensures sent.0)
+          (subst (λ n. held ≡ appended before (said_line c.args.speaker (SeriesHead series.kind n))) c.rows.ensures sent.0)
           (shows.sends told history stands (flat_map (said_line c.args.speaker) (series_rows (state history) series)) refl));
       counted = subst (λ n. Counted (sink_verdict (ended result)) n (g.K.Sink.faults c.send_rows.new.sink)) sent.1 shows.counted;
       opens = shows.opens;

@@ -6,10 +6,10 @@ use Rattle.ss_program.proofs.SessionLemmas.{after_lines-form}
 use Rattle.ss_program.proofs.session_laws.cursors_show_the_history_at_their_opening.Goals as goal
 
 pub returns-clause-opened : goal.returns-clause-opened
-returns-clause-opened c history before opening name session =
-    cursor-opens (after_lines (begun Sessions history) before) opening name session (after_lines-form (begun Sessions history) before)
+returns-clause-opened c framed history before opening name session =
+    cursor-opens framed (after_lines (begun (Sessions framed) history) before) opening name session (after_lines-form (begun (Sessions framed) history) before)
 
 pub returns-clause-shown : goal.returns-clause-shown
-returns-clause-shown c history before between opening line name session count =
-    cursor-shows (after_lines (begun Sessions history) before) between opening line name session count
-    (after_lines-form (begun Sessions history) before) (cursor-shows-begun history before)
+returns-clause-shown c framed history before between opening line name session count =
+    cursor-shows framed (after_lines (begun (Sessions framed) history) before) between opening line name session count
+    (after_lines-form (begun (Sessions framed) history) before) (cursor-shows-begun framed history before)

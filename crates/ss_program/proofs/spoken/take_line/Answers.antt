@@ -1,11 +1,10 @@
-use Rattle.std.proofs.Common.{None, sym, subst}
+use Rattle.std.proofs.Common.{sym, subst}
 use Rattle.std.specs.Option.{option_copied}
-use Rattle.ss_outside.proofs.StepLemmas.{step-as}
+use Rattle.ss_arguments.specs.declared.mode.Form.TheVariants.{Frames}
 use Rattle.ss_outside.specs.Step.{Step}
 use Rattle.ss_program.specs.Amid.{TakesTurn, amid, owed_by}
 use Rattle.ss_program.specs.Status.{disk_verdict, ended}
 use Rattle.ss_program.specs.Talk.{kept_turn}
-use Rattle.ss_program.proofs.OrderLemmas.{TakesTurn-long}
 use Rattle.ss_program.proofs.spoken.take_line.Goals as goal
 
 pub returns-in_default-clause-takes : goal.returns-in_default-clause-takes
@@ -13,7 +12,18 @@ returns-in_default-clause-takes g c =
     let form = c.args.form in
     let cursors = c.args.sessions.now in
     let from = amid c.args.store.now.records (owed_by c.args.waiting.now) (g.K.Sink.held c.args.sink.now) cursors in
-    let to = amid c.say_refusal.new.store.records (owed_by c.say_refusal.new.waiting) (g.K.Sink.held c.say_refusal.new.sink) cursors in
-    subst (λ o. Step (disk_verdict (ended c.say_refusal.result)) (g.D.Disk.seen c.args.disk.now) (g.D.Disk.seen c.say_refusal.new.disk)
-    (TakesTurn (kept_turn form (option_copied o)) from to c.say_refusal.result)) (sym c.in_default.is)
-    (step-as c.say_refusal.ensures.takes (λ takes. TakesTurn-long form c.say_refusal.result (takes cursors)))
+    let to = amid c.take_long.new.store.records (owed_by c.take_long.new.waiting) (g.K.Sink.held c.take_long.new.sink) cursors in
+    subst (λ o. Step (disk_verdict (ended c.take_long.result)) (g.D.Disk.seen c.args.disk.now) (g.D.Disk.seen c.take_long.new.disk)
+    (TakesTurn (kept_turn form (option_copied o)) from to c.take_long.result)) (sym c.in_default.is) (c.take_long.ensures.takes cursors)
+
+pub returns-in-Frames-clause-takes : goal.returns-in-Frames-clause-takes
+returns-in-Frames-clause-takes g c =
+    let cursors = c.args.sessions.now in
+    let result = c.write_line_frame.result in
+    let old = g.D.Disk.seen c.args.disk.now in
+    let new = g.D.Disk.seen c.write_line_frame.new.disk in
+    let from = amid c.args.store.now.records (owed_by c.args.waiting.now) (g.K.Sink.held c.args.sink.now) cursors in
+    let to = amid c.write_line_frame.new.store.records (owed_by c.write_line_frame.new.waiting) (g.K.Sink.held c.write_line_frame.new.sink) cursors in
+    subst (λ f. Step (disk_verdict (ended result)) old new (TakesTurn (kept_turn f (option_copied c.args.line)) from to result)) (sym c.in-Frames.is)
+    (subst (λ o. Step (disk_verdict (ended result)) old new (TakesTurn (kept_turn Frames (option_copied o)) from to result)) (sym c.in-Some.is)
+    (c.write_line_frame.ensures.takes cursors))

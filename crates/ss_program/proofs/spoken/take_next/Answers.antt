@@ -1,4 +1,4 @@
-use Rattle.std.proofs.Common.{◌≡◌, ◌∙◌, Err, Some, sym, subst, rules}
+use Rattle.std.proofs.Common.{◌≡◌, Err, Some, sym, subst, rules}
 use Rattle.ss_journal.proofs.ShownLemmas.{shown-sealed}
 use Rattle.ss_outside.proofs.StepLemmas.{step-as}
 use Rattle.ss_outside.specs.Step.{Step}

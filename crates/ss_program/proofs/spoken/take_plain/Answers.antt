@@ -3,7 +3,7 @@ use Rattle.ss_outside.proofs.StepLemmas.{step-none}
 use Rattle.ss_outside.specs.Step.{Step}
 use Rattle.ss_outside.specs.Verdict.{fine}
 use Rattle.ss_program.specs.Amid.{TakesBrought, amid, owed_by}
-use Rattle.ss_program.specs.Line.{meaning_brings, nothing}
+use Rattle.ss_program.specs.Line.{meaning_in, nothing}
 use Rattle.ss_program.proofs.BroughtLemmas.{TakesBrought-silent}
 use Rattle.ss_program.proofs.spoken.take_plain.Goals as goal
 
@@ -14,6 +14,6 @@ returns-in-Ok-None-clause-takes g c =
     let was = c.args.store.now.records in
     let at = amid was (owed_by c.args.waiting.now) held in
     let meaning = rw c.in-Ok-None.field-0-is at c.in-Ok-None.ensures.meaning in
-    subst (λ m. Step fine disk disk (TakesBrought None (λ history. meaning_brings history m) at at (Ok tt))) meaning
+    subst (λ m. Step fine disk disk (TakesBrought None (λ history. meaning_in c.args.framed history m) at at (Ok tt))) meaning
     (step-none disk (TakesBrought None (λ history. nothing) at at (Ok tt)) (λ told.
     TakesBrought-silent None was c.args.waiting.now held disk.told tt (g.met.D.Disk.knows_now c.args.disk.now told)))

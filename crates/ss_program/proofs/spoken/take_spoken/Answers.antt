@@ -16,6 +16,6 @@ returns-in-Nothing-clause-takes g c =
     let held = g.K.Sink.held c.args.sink.now in
     let was = c.args.store.now.records in
     let at = amid was (owed_by c.args.waiting.now) held cursors in
-    subst (λ (s : Spoken). Step fine disk disk (TakesTurn (λ talk. turn_spoken talk s) at at (Ok tt))) c.in-Nothing.ensures.meaning
+    subst (λ (s : Spoken). Step fine disk disk (TakesTurn (λ talk. turn_spoken c.args.framed talk s) at at (Ok tt))) c.in-Nothing.ensures.meaning
     (step-none disk (TakesTurn (λ talk. turn_brought None talk nothing) at at (Ok tt)) (λ told.
     TakesBrought-silent None was c.args.waiting.now held disk.told tt (g.met.D.Disk.knows_now c.args.disk.now told) cursors))

@@ -1,5 +1,4 @@
-use Rattle.std.proofs.Common.{Ok, refl}
-use Rattle.ss_outside.proofs.StepLemmas.{step-none}
+use Rattle.std.proofs.Common.{refl}
 use Rattle.ss_report.specs.declared.reply.Reply.TheVariants.{Refused}
 use Rattle.ss_program.specs.Line.{refused}
 use Rattle.ss_program.proofs.BroughtLemmas.{TakesBrought-said, TakesBrought-still}

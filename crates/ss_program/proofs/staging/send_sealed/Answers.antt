@@ -1,9 +1,7 @@
 use Rattle.std.proofs.Common.{◌∙◌, None, refl}
 use Rattle.ss_journal.proofs.ShownLemmas.{shown-sealed}
-use Rattle.ss_report.specs.Text.{said_line}
 use Rattle.ss_program.specs.Amid.{TakesNone, amid, owed_by, with_text}
 use Rattle.ss_program.specs.Answer.{at_sink}
-use Rattle.ss_program.proofs.TextLemmas.{said_line-some}
 use Rattle.ss_program.proofs.SealLemmas.{TakesNone-sent, TakesNone-unsealed, each-sent, step-sink}
 use Rattle.ss_program.proofs.staging.send_sealed.Goals as goal
 
@@ -13,13 +11,13 @@ returns-in-Err-clause-takes g c =
     let new = (g.D.Disk.seen c.seal.new.disk).told in
     let seals = c.in-Err.ensures.seals in
     let held = g.K.Sink.held c.args.sink.now in
-    let owed = with_text (owed_by None) (said_line c.args.speaker c.args.reply.now) in
+    let owed = with_text (owed_by None) c.args.text.now in
     record {
       tells = seals.tells;
       counted = seals.counted;
       told = λ told. TakesNone-unsealed c.args.store.now.records c.seal.new.self.records owed (owed_by None) held old new
           c.in-Err.field-0 (g.met.D.Disk.knows_now c.seal.new.disk (seals.tells ∙ told)) (seals.told told).history
-          (refl, said_line-some c.args.speaker c.args.reply.now);
+          (refl, c.requires.some);
     }
 
 pub returns-in-Ok-clause-takes : goal.returns-in-Ok-clause-takes
@@ -29,15 +27,15 @@ returns-in-Ok-clause-takes g c =
     let seals = c.in-Ok.ensures.seals in
     let is = c.seal.new.self.records in
     let held = g.K.Sink.held c.args.sink.now in
-    let after = g.K.Sink.held c.send_reply.new.sink in
+    let after = g.K.Sink.held c.send.new.sink in
     let was = c.args.store.now.records in
-    let owed = with_text (owed_by None) (said_line c.args.speaker c.args.reply.now) in
+    let owed = with_text (owed_by None) c.args.text.now in
     let same = shown-sealed is.journal new.content c.in-Ok.ensures.sealed.sealed in
     rw c.at_sink.ensures
-    (step-sink {S = TakesNone (amid was owed held) (amid is (owed_by None) after) (at_sink c.send_reply.result)} c.send_reply.result (record {
+    (step-sink {S = TakesNone (amid was owed held) (amid is (owed_by None) after) (at_sink c.send.result)} c.send.result (record {
       tells = seals.tells;
       counted = seals.counted;
-      told = λ told. TakesNone-sent was is owed (owed_by None) held after old new c.in-Ok.field-0 c.send_reply.result
+      told = λ told. TakesNone-sent was is owed (owed_by None) held after old new c.in-Ok.field-0 c.send.result
           (g.met.D.Disk.knows_now c.seal.new.disk (seals.tells ∙ told)) same (seals.told told).history refl (each-sent 1)
-          (λ bytes less. (refl, less)) c.send_reply.ensures.sends;
+          (λ bytes less. (refl, less)) c.send.ensures.sends;
     }))

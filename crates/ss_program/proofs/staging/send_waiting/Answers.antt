@@ -1,4 +1,4 @@
-use Rattle.std.proofs.Common.{◌∙◌, Some, refl, subst}
+use Rattle.std.proofs.Common.{◌∙◌, Some, subst}
 use Rattle.ss_journal.proofs.ShownLemmas.{shown-sealed}
 use Rattle.ss_program.specs.Amid.{TakesNone, amid, owed_by}
 use Rattle.ss_program.specs.Answer.{at_sink}

@@ -1,4 +1,4 @@
-use Rattle.std.proofs.Common.{◌≡◌, ◌∙◌, ◌++◌, ◌∷◌, [], Err, Ok, Result, Some, refl, sym, ap, subst}
+use Rattle.std.proofs.Common.{◌≡◌, ◌∙◌, ◌++◌, ◌∷◌, [], Err, Ok, Result, Some, refl, sym, ap, subst, false}
 use Rattle.std.specs.Prelude.{IsTrue}
 use Rattle.ss_catalog.specs.Events.{event_name}
 use Rattle.ss_command.specs.declared.command.Command.TheVariants.{Do}
@@ -42,7 +42,7 @@ returns-in-Ok-clause-stages g c =
         reply = λ history stands.
             let said = said-kept c.stage.new.self (shown_by c.stage.new.self.records new.content) (history ++ added event ∷ []) (event_name event)
             (applies.stands (applies.stops ∙ runs) (applies.step.tells ∙ told)).shown ((turns told history).content stands) in
-            ap (λ (b : Brought). b.replies) (brings-accepted history event (fits told history stands))
+            ap (λ (b : Brought). b.replies) (brings-accepted false history event (fits told history stands))
             ∙ ap (λ ack. Done ack ∷ []) (sym (applies.ack ∙ said));
       };
     }
@@ -70,22 +70,22 @@ returns-in-Err-Refused-clause-stages g c =
           (g.met.D.Disk.knows_now c.args.disk.now told)
           (reads-none disk.told)
           (λ stands. shown-still store.records store.records history (command_brings history (Do event)) disk.told.content disk.told.content
-          (ap (λ (b : Brought). b.event) (brings-refused history event r (refused told history stands))) refl stands);
-      reply = λ history stands. ap (λ (b : Brought). b.replies) (brings-refused history event r (refused told history stands));
+          (ap (λ (b : Brought). b.event) (brings-refused false history event r (refused told history stands))) refl stands);
+      reply = λ history stands. ap (λ (b : Brought). b.replies) (brings-refused false history event r (refused told history stands));
     })))
 
 pub returns-in-Err-OutOfMemory-clause-accepted : goal.returns-in-Err-OutOfMemory-clause-accepted
 returns-in-Err-OutOfMemory-clause-accepted g c told history stands =
     let event = c.args.event.now in
     let applies = c.in-Err-OutOfMemory.ensures.applies c.requires.serves.runs in
-    IsSome-accepted history event (accepted-shown event c.args.store.now (g.D.Disk.seen c.args.disk.now) (Err c.in-Err-OutOfMemory.field-0) c.requires.serves
-    applies.refused (λ r is. cc) told history stands)
+    IsSome-accepted false history event (accepted-shown event c.args.store.now (g.D.Disk.seen c.args.disk.now) (Err c.in-Err-OutOfMemory.field-0)
+    c.requires.serves applies.refused (λ r is. cc) told history stands)
 
 pub returns-in-Err-Disk-clause-accepted : goal.returns-in-Err-Disk-clause-accepted
 returns-in-Err-Disk-clause-accepted g c told history stands =
     let event = c.args.event.now in
     let applies = c.in-Err-Disk.ensures.applies c.requires.serves.runs in
-    IsSome-accepted history event (accepted-shown event c.args.store.now (g.D.Disk.seen c.args.disk.now) (Err c.in-Err-Disk.field-0) c.requires.serves
+    IsSome-accepted false history event (accepted-shown event c.args.store.now (g.D.Disk.seen c.args.disk.now) (Err c.in-Err-Disk.field-0) c.requires.serves
     applies.refused (λ r is. cc) told history stands)
 
 pub returns-in-Err-Disk-clause-stages : goal.returns-in-Err-Disk-clause-stages

@@ -1,4 +1,4 @@
-use Rattle.std.proofs.Common.{◌≡◌, ◌∙◌, None, Err, Ok, refl, sym, subst, rules}
+use Rattle.std.proofs.Common.{◌≡◌, ◌∙◌, Err, Ok, sym, subst, rules}
 use Rattle.ss_command.specs.declared.command.Command.TheVariants.{Ask}
 use Rattle.ss_outside.specs.Step.{Step}
 use Rattle.ss_program.specs.Amid.{TakesBrought, amid, owed_by}

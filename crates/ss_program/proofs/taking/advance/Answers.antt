@@ -1,31 +1,31 @@
-use Rattle.std.proofs.Common.{◌≡◌, ◌≤◌, ◌++◌, Ok, Err, IfSome, length, take, sym, ◌∙◌, subst, rules}
-use Rattle.std.specs.List.{before_first}
+use Rattle.std.proofs.Common.{◌≡◌, ◌++◌, Ok, Err, take, ap, sym, ◌∙◌, subst, rules}
 use Rattle.std.specs.Option.{option_copied}
-use Rattle.ss_command.specs.Lines.{is_line_end, lines_so_far}
-use Rattle.ss_command.specs.LineState.{TellsLine, extended, under_way}
-use Rattle.ss_command.specs.declared.TheConstants.{LONGEST_LINE}
+use Rattle.ss_program.specs.Reading.{TellsStep, under_way}
 use Rattle.ss_outside.proofs.StepLemmas.{step-as, step-none}
 use Rattle.ss_outside.specs.Step.{Step}
 use Rattle.ss_program.specs.Amid.{GoesAmid, TakesBytes, amid, owed_by}
 use Rattle.ss_program.specs.Status.{disk_verdict, ended}
 use Rattle.ss_program.proofs.AmidLemmas.{GoesAmid-none}
-use Rattle.ss_program.proofs.InputLemmas.{Stops-piece, Takes-kept, ended_line-short}
+use Rattle.ss_program.proofs.InputLemmas.{Stops-piece, Takes-kept, advance-told}
 use Rattle.ss_program.proofs.taking.advance.Goals as goal
+use Rattle.ss_program.specs.Steps.{kept_so_far, kept_step, steps_so_far}
 
 pub returns-in-None-clause-takes : goal.returns-in-None-clause-takes
 returns-in-None-clause-takes g c =
     let view = g.D.Disk.seen c.args.disk.now in
     let piece = c.args.piece.now in
     let at = amid c.args.store.now.records (owed_by c.args.waiting.now) (g.K.Sink.held c.args.sink.now) c.args.sessions.now in
-    step-none view (TakesBytes (λ count. take count piece) piece c.args.form (under_way c.args.reader.now) (under_way c.feed-count.new.self) at at
+    step-none view (TakesBytes (λ count. take count piece) piece c.args.reader.now.form (under_way c.args.reader.now) (under_way c.feed-count.new.self) at at
     (Ok c.feed-count.result.0)) (λ told. record {
       goes = λ sealing talk before input form line is.
           let more = input ++ take c.feed-count.result.0 piece in
-          let same = subst (λ o. TellsLine (lines_so_far input) (lines_so_far more) o c.feed-count.new.self) c.in-None.is
-          (c.feed-count.ensures.lines input line) in (
-            c.feed-count.ensures.taken input line,
+          let read = subst (λ f. under_way c.args.reader.now ≡ kept_so_far f input) (sym form) line in
+          let same = subst (λ f. steps_so_far f more ≡ steps_so_far f input) form
+          (subst (λ o. TellsStep (steps_so_far c.args.reader.now.form input) (steps_so_far c.args.reader.now.form more) o c.feed-count.new.self) c.in-None.is
+          (c.feed-count.ensures.steps input read)) in (
+            subst (λ f. under_way c.feed-count.new.self ≡ kept_so_far f more) (c.feed-count.ensures.form ∙ form) (c.feed-count.ensures.taken input read),
             subst (λ ls. GoesAmid sealing talk ls before at view.told view.told) (sym same)
-                (GoesAmid-none sealing talk (lines_so_far input) before at view.told (g.met.D.Disk.knows_now c.args.disk.now told) is),
+                (GoesAmid-none sealing talk (steps_so_far talk.form input) before at view.told (g.met.D.Disk.knows_now c.args.disk.now told) is),
           );
       stops = tt;
     })
@@ -42,16 +42,19 @@ returns-in_err-stage_line-in-Some-clause-takes g c =
     let to = amid c.stage_line.new.store.records (owed_by c.stage_line.new.waiting) after c.stage_line.new.sessions in
     let status = c.in_err-stage_line-in-Some.field-0.0 in
     let same : c.from_residual.result ≡ Err status = search rules in
-    subst (λ r. Step (disk_verdict (ended r)) old new (TakesBytes (λ count. take count piece) piece c.args.form (under_way c.args.reader.now)
+    subst (λ r. Step (disk_verdict (ended r)) old new (TakesBytes (λ count. take count piece) piece c.args.reader.now.form (under_way c.args.reader.now)
     (under_way c.feed-count.new.self) from to r)) (sym same)
     (step-as c.in_err-stage_line-in-Some.ensures.takes (λ takes. record {
       goes = tt;
       stops = λ sealing talk before input form line is.
           let more = input ++ take count piece in
-          let ls = lines_so_far input in
-          let told = subst (λ o. TellsLine ls (lines_so_far more) o c.feed-count.new.self) c.in-Some.is (c.feed-count.ensures.lines input line) in
+          let ls = steps_so_far talk.form input in
+          let read = subst (λ f. under_way c.args.reader.now ≡ kept_so_far f input) (sym form) line in
+          let shape = c.form.ensures ∙ c.feed-count.ensures.form in
+          let told = advance-told input more c.in-Some.ended c.feed-count.new.self form c.feed-count.ensures.form (subst (λ o. TellsStep (steps_so_far c.args.reader.now.form input)
+          (steps_so_far c.args.reader.now.form more) o c.feed-count.new.self) c.in-Some.is (c.feed-count.ensures.steps input read)) in
           Stops-piece sealing talk old.told new.told before after status input piece told.0 count told.1
-          ((Takes-kept c.args.form o told.0 takes (c.line_of.ensures ∙ told.2) sealing talk ls before form).stops is);
+          ((Takes-kept c.form.result o told.0 takes (c.line_of.ensures ∙ told.2 ∙ ap (λ f. kept_step f told.0) (sym shape)) sealing talk ls before (shape ∙ form)).stops is);
     }))
 
 pub returns-in_ok-stage_line-in-Some-clause-takes : goal.returns-in_ok-stage_line-in-Some-clause-takes
@@ -65,11 +68,14 @@ returns-in_ok-stage_line-in-Some-clause-takes g c =
     step-as c.in_ok-stage_line-in-Some.ensures.takes (λ takes. record {
       goes = λ sealing talk before input form line is.
           let more = input ++ take count piece in
-          let ls = lines_so_far input in
-          let told = subst (λ o. TellsLine ls (lines_so_far more) o c.feed-count.new.self) c.in-Some.is (c.feed-count.ensures.lines input line) in (
-            c.feed-count.ensures.taken input line,
+          let ls = steps_so_far talk.form input in
+          let read = subst (λ f. under_way c.args.reader.now ≡ kept_so_far f input) (sym form) line in
+          let shape = c.form.ensures ∙ c.feed-count.ensures.form in
+          let told = advance-told input more c.in-Some.ended c.feed-count.new.self form c.feed-count.ensures.form (subst (λ o. TellsStep (steps_so_far c.args.reader.now.form input)
+          (steps_so_far c.args.reader.now.form more) o c.feed-count.new.self) c.in-Some.is (c.feed-count.ensures.steps input read)) in (
+            subst (λ f. under_way c.feed-count.new.self ≡ kept_so_far f more) (c.feed-count.ensures.form ∙ form) (c.feed-count.ensures.taken input read),
             subst (λ l. GoesAmid sealing talk l before to old.told new.told) (sym told.1)
-                ((Takes-kept c.args.form o told.0 takes (c.line_of.ensures ∙ told.2) sealing talk ls before form).goes is),
+                ((Takes-kept c.form.result o told.0 takes (c.line_of.ensures ∙ told.2 ∙ ap (λ f. kept_step f told.0) (sym shape)) sealing talk ls before (shape ∙ form)).goes is),
           );
       stops = tt;
     })

@@ -1,4 +1,4 @@
-use Rattle.ss_command.specs.LineState.{under_way}
+use Rattle.ss_program.specs.Reading.{under_way}
 use Rattle.ss_outside.proofs.StepLemmas.{step-then}
 use Rattle.ss_program.proofs.InputLemmas.{TakesLast-then}
 use Rattle.ss_program.proofs.taking.end_lines.Goals as goal
@@ -6,4 +6,4 @@ use Rattle.ss_program.proofs.taking.end_lines.Goals as goal
 pub returns-clause-takes : goal.returns-clause-takes
 returns-clause-takes g c =
     step-then c.in_ok-take_last.ensures.takes c.flush.ensures.takes (λ first second.
-    TakesLast-then c.args.form (under_way c.args.reader.now) c.take_last.new.sessions c.flush.result first second)
+    TakesLast-then c.args.reader.now.form (under_way c.args.reader.now) c.take_last.new.sessions c.flush.result first second)

@@ -1,7 +1,6 @@
 use Rattle.std.proofs.Common.{◌≡◌, ◌++◌, Err, take, take_all, refl, sym, subst, ◌∙◌, arith, rules}
 use Rattle.std.proofs.lemmas.List.{append-nil}
-use Rattle.ss_command.specs.Lines.{lines_so_far, unended}
-use Rattle.ss_command.specs.LineState.{kept, under_way}
+use Rattle.ss_program.specs.Reading.{under_way}
 use Rattle.ss_outside.proofs.StepLemmas.{step-as, step-none, step-then}
 use Rattle.ss_outside.specs.Step.{Step}
 use Rattle.ss_program.specs.Amid.{GoesAmid, OfAmid, TakesBytes, amid, owed_by}
@@ -10,6 +9,7 @@ use Rattle.ss_program.proofs.SendLemmas.{fits_more}
 use Rattle.ss_program.proofs.InputLemmas.{OfAmid-more, OfAmid-stops}
 use Rattle.ss_program.proofs.AmidLemmas.{GoesAmid-none}
 use Rattle.ss_program.proofs.taking.take_lines.Goals as goal
+use Rattle.ss_program.specs.Steps.{kept_so_far, steps_so_far}
 
 pub loop-done-init : goal.loop-done-init
 loop-done-init g c =
@@ -19,10 +19,11 @@ loop-done-init g c =
     record {
       fits = omega arith;
       ready = c.requires;
-      on = step-none disk (λ old now. OfAmid c.args.form line at old (λ sealing talk before input. (line ≡ kept (unended (input ++ take 0 c.args.piece.now)))
-          × GoesAmid sealing talk (lines_so_far (input ++ take 0 c.args.piece.now)) before at old now)) (λ told sealing talk before input form under is.
-          subst (λ bs. (line ≡ kept (unended bs)) × GoesAmid sealing talk (lines_so_far bs) before at disk.told disk.told) (sym (append-nil input))
-          (under, GoesAmid-none sealing talk (lines_so_far input) before at disk.told (g.met.D.Disk.knows_now c.args.disk.now told) is));
+      on = step-none disk (λ old now. OfAmid c.args.reader.now.form line at old (λ sealing talk before input. (line ≡ kept_so_far talk.form (input ++ take 0 c.args.piece.now))
+          × GoesAmid sealing talk (steps_so_far talk.form (input ++ take 0 c.args.piece.now)) before at old now)) (λ told sealing talk before input form under is.
+          subst (λ bs. (line ≡ kept_so_far talk.form bs) × GoesAmid sealing talk (steps_so_far talk.form bs) before at disk.told disk.told) (sym (append-nil input))
+          (under, GoesAmid-none sealing talk (steps_so_far talk.form input) before at disk.told (g.met.D.Disk.knows_now c.args.disk.now told) is));
+      form = refl;
       faults = refl;
     }
 
@@ -36,12 +37,13 @@ loop-done-preserved g c =
       fits = fits_more piece done count inv.fits c.in_ok-done.ensures.count.1;
       ready = c.in_ok-done.ensures.ready;
       on = step-then inv.on c.in_ok-done.ensures.takes (λ first second.
-          OfAmid-more c.args.form (under_way c.args.reader.now) (under_way c.loop-done.reader) (under_way c.advance.new.reader)
+          OfAmid-more c.args.reader.now.form c.loop-done.reader.form inv.form (under_way c.args.reader.now) (under_way c.loop-done.reader) (under_way c.advance.new.reader)
           (amid c.args.store.now.records (owed_by c.args.waiting.now) (g.K.Sink.held c.args.sink.now) c.args.sessions.now)
           (amid c.loop-done.store.records (owed_by c.loop-done.waiting) (g.K.Sink.held c.loop-done.sink) c.loop-done.sessions)
           (amid c.advance.new.store.records (owed_by c.advance.new.waiting) (g.K.Sink.held c.advance.new.sink) c.advance.new.sessions)
           (g.D.Disk.seen c.args.disk.now).told (g.D.Disk.seen c.loop-done.disk).told (g.D.Disk.seen c.advance.new.disk).told piece done count first
           second.goes);
+      form = c.in_ok-done.ensures.form ∙ inv.form;
       faults = c.in_ok-done.ensures.counted ∙ inv.faults;
     }
 
@@ -60,10 +62,10 @@ returns-in_err-done-clause-takes g c =
     let to = amid c.advance.new.store.records (owed_by c.advance.new.waiting) after c.advance.new.sessions in
     let status = c.in_err-done.field-0.0 in
     let same : c.from_residual.result ≡ Err status = search rules in
-    subst (λ r. Step (disk_verdict (ended r)) old new (TakesBytes (λ _. piece) piece c.args.form line next from to r)) (sym same)
+    subst (λ r. Step (disk_verdict (ended r)) old new (TakesBytes (λ _. piece) piece c.args.reader.now.form line next from to r)) (sym same)
     (step-then inv.on c.in_err-done.ensures.takes (λ first second. record {
       goes = tt;
-      stops = OfAmid-stops c.args.form line (under_way c.loop-done.reader) from
+      stops = OfAmid-stops c.args.reader.now.form c.loop-done.reader.form inv.form line (under_way c.loop-done.reader) from
           (amid c.loop-done.store.records (owed_by c.loop-done.waiting) (g.K.Sink.held c.loop-done.sink) c.loop-done.sessions)
           after status old.told mid.told new.told piece done first second.stops;
     }))
@@ -77,7 +79,7 @@ returns-clause-takes g c =
     let at = amid c.loop-done.store.records (owed_by c.loop-done.waiting) (g.K.Sink.held c.loop-done.sink) c.loop-done.sessions in
     step-as c.loop-done.invariant.on (λ on. record {
       goes = λ sealing talk before input form line is.
-          subst (λ bs. (under_way c.loop-done.reader ≡ kept (unended (input ++ bs))) × GoesAmid sealing talk (lines_so_far (input ++ bs)) before at old mid)
+          subst (λ bs. (under_way c.loop-done.reader ≡ kept_so_far talk.form (input ++ bs)) × GoesAmid sealing talk (steps_so_far talk.form (input ++ bs)) before at old mid)
           (take_all done piece (omega (arith, c.loop-done-test.false)))
           (on sealing talk before input form line is);
       stops = tt;

@@ -1,10 +1,10 @@
 use Rattle.std.proofs.Common.{◌≡◌, ◌-◌, ◌≤◌, ◌++◌, length, take}
-use Rattle.ss_command.specs.Lines.{lines_so_far, unended}
-use Rattle.ss_command.specs.LineState.{kept, under_way}
+use Rattle.ss_program.specs.Reading.{under_way}
 use Rattle.ss_outside.specs.Step.{Step}
 use Rattle.ss_outside.specs.Verdict.{fine}
 use Rattle.ss_program.specs.Amid.{GoesAmid, IsReady, OfAmid, amid, owed_by}
 use Rattle.ss_program.proofs.taking.take_lines.Given as goal
+use Rattle.ss_program.specs.Steps.{kept_so_far, steps_so_far}
 
 -- so many bytes of the piece were taken
 abbrev pub invariant-loop-done : goal.invariant-loop-done
@@ -12,11 +12,12 @@ invariant-loop-done g l = record {
   fits : l.done ≤ length l.piece;
   ready : IsReady (g.D.Disk.seen l.disk) l.store l.waiting;
   on : Step fine (g.D.Disk.seen l.fn.disk) (g.D.Disk.seen l.disk) (λ old now.
-      OfAmid l.fn.form (under_way l.fn.reader)
+      OfAmid l.fn.reader.form (under_way l.fn.reader)
       (amid l.fn.store.records (owed_by l.fn.waiting) (g.K.Sink.held l.fn.sink) l.fn.sessions) old (λ sealing talk before input.
-      (under_way l.reader ≡ kept (unended (input ++ take l.done l.piece)))
-      × GoesAmid sealing talk (lines_so_far (input ++ take l.done l.piece)) before
+      (under_way l.reader ≡ kept_so_far talk.form (input ++ take l.done l.piece))
+      × GoesAmid sealing talk (steps_so_far talk.form (input ++ take l.done l.piece)) before
       (amid l.store.records (owed_by l.waiting) (g.K.Sink.held l.sink) l.sessions) old now));
+  form : l.reader.form ≡ l.fn.reader.form;
   faults : g.K.Sink.faults l.sink ≡ g.K.Sink.faults l.fn.sink;
 }
 

@@ -1,5 +1,5 @@
 use Rattle.std.proofs.Common.{◌≡◌, Err, sym, subst, rules}
-use Rattle.ss_command.specs.LineState.{under_way}
+use Rattle.ss_program.specs.Reading.{under_way}
 use Rattle.ss_journal.proofs.ShownLemmas.{shown-sealed}
 use Rattle.ss_outside.proofs.StepLemmas.{step-as, step-then}
 use Rattle.ss_outside.specs.Step.{Step}
@@ -23,9 +23,9 @@ returns-in_err-take_lines-clause-takes g c =
     let next = under_way c.take_lines.new.reader in
     let status = c.in_err-take_lines.field-0.0 in
     let same : c.from_residual.result ≡ Err status = search rules in
-    subst (λ r. Step (disk_verdict (ended r)) old new (TakesPiece (λ _. piece) piece (session_of c.args.form c.args.sessions.now store line c.args.waiting.now)
-    (session_of c.args.form c.take_lines.new.sessions is next c.take_lines.new.waiting) held after r)) (sym same)
-    (step-as c.in_err-take_lines.ensures.takes (λ takes. TakesPiece-stopped c.args.form c.args.sessions.now store line c.args.waiting.now held old.told
+    subst (λ r. Step (disk_verdict (ended r)) old new (TakesPiece (λ _. piece) piece (session_of c.args.reader.now.form c.args.sessions.now store line c.args.waiting.now)
+    (session_of c.args.reader.now.form c.take_lines.new.sessions is next c.take_lines.new.waiting) held after r)) (sym same)
+    (step-as c.in_err-take_lines.ensures.takes (λ takes. TakesPiece-stopped c.args.reader.now.form c.args.sessions.now store line c.args.waiting.now held old.told
     (shown-sealed store.records.journal old.told.content c.requires.sealed) c.take_lines.new.sessions is next c.take_lines.new.waiting
     after piece new.told status takes.stops))
 
@@ -38,7 +38,7 @@ returns-clause-takes g c =
     let mid = amid c.take_lines.new.store.records (owed_by c.take_lines.new.waiting) (g.K.Sink.held c.take_lines.new.sink) in
     let is = c.flush.new.store in
     step-then c.in_ok-take_lines.ensures.takes c.flush.ensures.takes (λ first second.
-    TakesPiece-sealed c.args.form c.args.sessions.now store (under_way c.args.reader.now) c.args.waiting.now (g.K.Sink.held c.args.sink.now) old
+    TakesPiece-sealed c.args.reader.now.form c.args.sessions.now store (under_way c.args.reader.now) c.args.waiting.now (g.K.Sink.held c.args.sink.now) old
     (shown-sealed store.records.journal old.content c.requires.sealed) c.take_lines.new.sessions is (under_way c.take_lines.new.reader) c.flush.new.waiting
     (g.K.Sink.held c.flush.new.sink) c.args.piece.now view.told mid between c.flush.result first second
     (shown-opened view is c.flush.result c.flush.ensures.open) c.flush.ensures.none)

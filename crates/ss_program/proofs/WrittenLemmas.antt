@@ -1,0 +1,74 @@
+-- What frames bring that are written of lines, and what frames bring that are offered.
+use Rattle.std.proofs.Common.{◌≡◌, ◌∙◌, List, ℕ, Option, Some, None, Result, Ok, Err, refl, sym, ap}
+use Rattle.ss_catalog.specs.declared.event.Event.{Event}
+use Rattle.ss_command.specs.declared.command.Command.{Command}
+use Rattle.ss_command.specs.declared.command.Command.TheVariants.{Do, Ask, Certify, Series as AskRows, Last, Values, Windows, List as ListAll}
+use Rattle.ss_frames.specs.Frame.{FrameState}
+use Rattle.ss_model.specs.Refusals.{IsHistory}
+use Rattle.ss_model.specs.State.{state}
+use Rattle.ss_outside.specs.Disk.{Told}
+use Rattle.ss_records.specs.Kept.{RecordsState, shown_by}
+use Rattle.ss_recover.specs.Held.{AllAgree}
+use Rattle.ss_replica.specs.Offers.{due_in}
+use Rattle.ss_replica.specs.declared.judging.Due.{Due}
+use Rattle.ss_sessions.specs.Cursors.{Cursors}
+use Rattle.ss_store.proofs.KeptStates.{AllAgree-recovered}
+use Rattle.ss_store.specs.Kept.{StoreIsIn, StoreState}
+use Rattle.ss_store.specs.Recover.{Stands}
+use Rattle.ss_program.specs.Amid.{Amid, Owed, TakesTurn, amid}
+use Rattle.ss_program.specs.Line.{History, due_brings, event_in, frame_brings}
+use Rattle.ss_program.specs.Session.{after_lines}
+use Rattle.ss_program.specs.Talk.{Talk, Turn, event_turn, meant_turn, silent, turn_brought}
+use Rattle.ss_program.specs.declared.status.Status.{Status}
+
+-- a command that asks for an event brings its frame
+pub meant-event : (talk : Talk) (command : Command) (event : Event) → Some event ≡ event_in command →
+    meant_turn talk (Ok (Some command)) ≡ event_turn talk event
+meant-event talk (Do other) event is = let same : other ≡ event = cc in ap (event_turn talk) same
+meant-event talk (Ask query) event is = cc
+meant-event talk (Certify query end) event is = cc
+meant-event talk (AskRows series) event is = cc
+meant-event talk (Last name) event is = cc
+meant-event talk (Values name from to) event is = cc
+meant-event talk (Windows name) event is = cc
+meant-event talk ListAll event is = cc
+
+-- and any other brings nothing
+pub meant-none : (talk : Talk) (command : Command) → None ≡ event_in command → meant_turn talk (Ok (Some command)) ≡ silent talk
+meant-none talk (Do other) is = cc
+meant-none talk (Ask query) is = refl
+meant-none talk (Certify query end) is = refl
+meant-none talk (AskRows series) is = refl
+meant-none talk (Last name) is = refl
+meant-none talk (Values name from to) is = refl
+meant-none talk (Windows name) is = refl
+meant-none talk ListAll is = refl
+
+-- a line is taken by any name of its turn
+pub TakesTurn-alike : {from to : Amid} {result : Result (Unit {0}) Status} {old new : Told} (turn other : Talk → Turn) →
+    ((talk : Talk) → other talk ≡ turn talk) → TakesTurn turn from to result old new → TakesTurn other from to result old new
+TakesTurn-alike turn other alike takes sealing talk ls before line known =
+    takes sealing talk ls before line (known ∙ alike (after_lines talk ls))
+
+-- or by one that it has after each history that is shown
+pub TakesTurn-where : {was : RecordsState} {owed : Owed} {held : Option (List ℕ)} {to : Amid} {old new : Told} (cursors : Cursors)
+    (result : Result (Unit {0}) Status) (turn other : Talk → Turn) →
+    ((talk : Talk) → Stands talk.history (shown_by was old.content) → other talk ≡ turn talk) →
+    TakesTurn turn (amid was owed held cursors) to result old new → TakesTurn other (amid was owed held cursors) to result old new
+TakesTurn-where cursors (Ok u) turn other alike takes sealing talk ls before line known = record {
+  goes = λ at. (takes sealing talk ls before line (known ∙ alike (after_lines talk ls) at.shown)).goes at;
+  stops = tt;
+}
+TakesTurn-where cursors (Err status) turn other alike takes sealing talk ls before line known = record {
+  goes = tt;
+  stops = λ at. (takes sealing talk ls before line (known ∙ alike (after_lines talk ls) at.shown)).stops at;
+}
+
+-- what a frame brings that has this place beside what a store shows
+pub frame-due : (frame now : FrameState) (due : Due) (store : StoreState) (image : List ℕ) (talk : Talk) → frame ≡ now → StoreIsIn store image →
+    Stands talk.history image → ((history : History) → IsHistory history → AllAgree store.streams (state history) → due ≡ due_in history now) →
+    turn_brought None talk (frame_brings talk.history (Some now)) ≡ turn_brought None talk (due_brings talk.history frame due)
+frame-due frame now due store image talk same kept stands is =
+    let agree = (AllAgree-recovered store image (state talk.history) kept stands.state).0 in
+    ap (λ d. turn_brought None talk (due_brings talk.history now d)) (sym (is talk.history stands.is_history agree))
+    ∙ ap (λ f. turn_brought None talk (due_brings talk.history f due)) (sym same)

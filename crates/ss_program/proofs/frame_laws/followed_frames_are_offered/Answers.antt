@@ -1,0 +1,16 @@
+use Rattle.std.proofs.Common.{◌∙◌, ap, refl}
+use Rattle.ss_arguments.specs.declared.mode.Form.TheVariants.{Follow}
+use Rattle.ss_frames.proofs.PieceLemmas.{pieces-frames}
+use Rattle.ss_program.specs.Session.{after_lines, text_of}
+use Rattle.ss_program.specs.Talk.{begun}
+use Rattle.ss_program.proofs.FollowedLemmas.{followed}
+use Rattle.ss_program.proofs.frame_laws.followed_frames_are_offered.Goals as goal
+
+pub returns-clause-said : goal.returns-clause-said
+returns-clause-said c history frames valid =
+    ap (text_of (begun Follow history)) (pieces-frames frames valid) ∙ (followed (begun Follow history) history frames refl refl valid).0
+
+pub returns-clause-history : goal.returns-clause-history
+returns-clause-history c history frames valid =
+    ap (λ ps. (after_lines (begun Follow history) ps).history) (pieces-frames frames valid)
+    ∙ (followed (begun Follow history) history frames refl refl valid).1

@@ -1,0 +1,35 @@
+use Rattle.std.proofs.Common.{◌∙◌, [], ◌∷◌, ◌++◌, sym, ap, subst}
+use Rattle.std.proofs.lemmas.List.{append-nil}
+use Rattle.ss_arguments.specs.declared.mode.Form.TheVariants.{Sessions}
+use Rattle.ss_catalog.specs.declared.refusal.Refusal.TheVariants.{Unknown}
+use Rattle.ss_report.specs.declared.reply.Reply.TheVariants.{Refused}
+use Rattle.ss_program.specs.Asked.{IsAsked}
+use Rattle.ss_program.specs.Line.{history_after}
+use Rattle.ss_program.specs.Session.{after_lines, plain_after, replies}
+use Rattle.ss_program.specs.Talk.{begun}
+use Rattle.ss_program.proofs.LawLemmas.{replies-around}
+use Rattle.ss_program.proofs.NeededLemmas.{cursor-unknown, form-lines, line-unknown, turn-unknown, unknown-lines}
+use Rattle.ss_program.proofs.UnknownLemmas.{lines-dropped}
+use Rattle.ss_program.proofs.name_laws.dropped_names_are_unknown.Goals as goal
+
+pub returns-clause-plain : goal.returns-clause-plain
+returns-clause-plain c history ls before between after dropping line name command are drops spared means needs =
+    let at = plain_after history (before ++ dropping ∷ between) in
+    let is = line-unknown at line command name means needs (lines-dropped history before between dropping name drops spared) in (
+      ap (λ l. replies history l) are ∙ replies-around history (before ++ dropping ∷ between) after line (Refused Unknown) is,
+      ap (λ b. history_after at b) is ∙ append-nil at,
+    )
+
+pub returns-clause-asked : goal.returns-clause-asked
+returns-clause-asked c talk before between dropping line name speaker command drops spared asked needs =
+    let dropped = before ++ dropping ∷ [] in
+    turn-unknown (after_lines (after_lines talk dropped) between) speaker command line name
+    (subst (λ form. IsAsked form speaker command line) (sym (form-lines talk dropped between)) asked) needs
+    (unknown-lines talk before between dropping name drops spared)
+
+pub returns-clause-cursors : goal.returns-clause-cursors
+returns-clause-cursors c framed history before between dropping opening name session drops spared opens =
+    let talk = begun (Sessions framed) history in
+    let dropped = before ++ dropping ∷ [] in
+    cursor-unknown framed (after_lines (after_lines talk dropped) between) session opening name (form-lines talk dropped between) opens
+    (unknown-lines talk before between dropping name drops spared)

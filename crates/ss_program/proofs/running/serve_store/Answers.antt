@@ -1,0 +1,78 @@
+use Rattle.std.proofs.Common.{◌∙◌, inr, refl, subst}
+use Rattle.ss_store.specs.Kept.{StoreState}
+use Rattle.ss_program.specs.Outcome.{Serves}
+use Rattle.ss_program.specs.Progress.{sealing_by}
+use Rattle.ss_program.specs.Talk.{begun}
+use Rattle.ss_program.specs.Status.{EndsServing}
+use Rattle.ss_program.specs.declared.status.Status.TheVariants.{OutOfMemory}
+use Rattle.ss_program.proofs.TakesLemmas.{still}
+use Rattle.ss_program.proofs.EndLemmas.{Ends-opened, Ends-unopened, judged-refused}
+use Rattle.ss_program.proofs.OpeningLemmas.{Reads-none, Reads-refused, Serves-opened, Serves-refused, Serves-unopened}
+use Rattle.ss_program.proofs.running.serve_store.Goals as goal
+
+pub returns-in-Ok-start-clause-ends : goal.returns-in-Ok-start-clause-ends
+returns-in-Ok-start-clause-ends g c =
+    Ends-opened (g.D.Disk.seen c.args.disk.now) (g.D.Disk.seen c.open.new.disk) (g.D.Disk.seen c.serve.new.disk) (g.K.Sink.held c.args.sink.now)
+    (g.K.Sink.held c.serve.new.sink) (g.K.Sink.faults c.args.sink.now) (g.K.Sink.faults c.serve.new.sink) c.serve.result c.in-Ok.ensures.opens
+    (λ opened. (opened.opens.0, opened.opens.1)) c.serve.ensures.serves (subst (λ b. EndsServing b c.serve.result) c.in-Ok.ensures.opens.tells
+    c.serve.ensures.known)
+    c.serve.ensures.sink
+
+pub returns-in-Ok-start-clause-serves : goal.returns-in-Ok-start-clause-serves
+returns-in-Ok-start-clause-serves g c input is told none history stands =
+    let opens = c.in-Ok.ensures.opens in
+    let opened = (opens.told told).history history in
+    let session = c.in-Ok-start.session in
+    let left = g.S.Source.left c.serve.new.source in
+    let before = g.K.Sink.held c.args.sink.now in
+    let after = g.K.Sink.held c.serve.new.sink in
+    let old = (g.D.Disk.seen c.args.disk.now).told in
+    let new = (g.D.Disk.seen c.serve.new.disk).told in
+    subst (λ f. Serves c.args.sealing (begun f history) input left before after old new c.serve.result) c.in-Ok-start.ensures.form.0
+    (subst (λ s. Serves s (begun session.form history) input left before after old new c.serve.result) c.in-Ok-start.ensures.sealing.0
+    (Serves-opened (sealing_by session.waiting) (begun session.form history) input left before after old (g.D.Disk.seen c.open.new.disk).told new
+    c.serve.result (opened.any_moment none stands)
+    (c.serve.ensures.serves.told (opens.tells ∙ told) input is (opened.durable none) history (opened.content stands))))
+
+-- there was no memory for a session
+pub returns-in-Err-start-clause-ends : goal.returns-in-Err-start-clause-ends
+returns-in-Err-start-clause-ends g c =
+    let mid = g.D.Disk.seen c.open.new.disk in
+    let held = g.K.Sink.held c.args.sink.now in
+    let faults = g.K.Sink.faults c.args.sink.now in
+    Ends-opened (g.D.Disk.seen c.args.disk.now) mid mid held held faults faults OutOfMemory c.in-Ok.ensures.opens
+    (λ opened. (opened.opens.0, opened.opens.1)) (still mid) tt refl
+
+pub returns-in-Err-start-clause-reads : goal.returns-in-Err-start-clause-reads
+returns-in-Err-start-clause-reads g c input is = Reads-none input (g.S.Source.left c.args.source.now) is
+
+pub returns-in-Err-start-clause-serves : goal.returns-in-Err-start-clause-serves
+returns-in-Err-start-clause-serves g c input is told none history stands =
+    let opens = c.in-Ok.ensures.opens in
+    let before = g.K.Sink.held c.args.sink.now in
+    Serves-unopened c.args.sealing (begun c.args.form history) input (g.S.Source.left c.args.source.now) before before (g.D.Disk.seen c.args.disk.now).told
+    (g.D.Disk.seen c.open.new.disk).told OutOfMemory (inr refl) is refl (g.met.D.Disk.knows_now c.open.new.disk (opens.tells ∙ told))
+    (((opens.told told).history history).any_moment none stands)
+
+pub returns-in-Err-clause-ends : goal.returns-in-Err-clause-ends
+returns-in-Err-clause-ends g c =
+    let old = g.D.Disk.seen c.args.disk.now in
+    let opens = c.in-Err.ensures.opens in
+    rw c.refuse.ensures.status
+    (Ends-unopened StoreState c.in-Err.error old (g.D.Disk.seen c.open.new.disk) (g.K.Sink.held c.args.sink.now) (g.K.Sink.held c.refuse.new.sink)
+    (g.K.Sink.faults c.args.sink.now) (g.K.Sink.faults c.refuse.new.sink) opens.tells opens.counted (λ told. (opens.told told).opens)
+    (λ told refused. (opens.told told).judged (judged-refused old.told.content refused)) c.refuse.ensures.says)
+
+pub returns-in-Err-clause-reads : goal.returns-in-Err-clause-reads
+returns-in-Err-clause-reads g c input is = rw c.refuse.ensures.status (Reads-refused input (g.S.Source.left c.args.source.now) c.in-Err.error is)
+
+pub returns-in-Err-clause-serves : goal.returns-in-Err-clause-serves
+returns-in-Err-clause-serves g c input is told none history stands =
+    let opens = c.in-Err.ensures.opens in
+    rw c.refuse.ensures.status
+    (Serves-refused c.args.sealing (begun c.args.form history) input (g.S.Source.left c.args.source.now) (g.K.Sink.held c.args.sink.now)
+    (g.K.Sink.held c.refuse.new.sink)
+    (g.K.Sink.faults c.args.sink.now) (g.K.Sink.faults c.refuse.new.sink) (g.D.Disk.seen c.args.disk.now).told (g.D.Disk.seen c.open.new.disk).told
+    c.in-Err.error
+    (opens.told told).opens stands c.refuse.ensures.says is (g.met.D.Disk.knows_now c.open.new.disk (opens.tells ∙ told))
+    (((opens.told told).history history).any_moment none stands))

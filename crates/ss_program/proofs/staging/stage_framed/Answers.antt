@@ -1,0 +1,105 @@
+use Rattle.std.proofs.Common.{◌≡◌, ◌∙◌, ◌++◌, ◌∷◌, [], true, false, None, Err, Ok, Result, sym, ap, subst, rules}
+use Rattle.std.specs.Prelude.{IsTrue}
+use Rattle.ss_command.specs.declared.command.Command.TheVariants.{Do}
+use Rattle.ss_model.specs.History.{added}
+use Rattle.ss_model.specs.Refusals.{refuses}
+use Rattle.ss_model.specs.State.{state}
+use Rattle.ss_outside.specs.Step.{Step}
+use Rattle.ss_records.specs.Kept.{shown_by}
+use Rattle.ss_report.specs.declared.reply.Reply.{Reply}
+use Rattle.ss_store.proofs.KeptStates.{AllAgree-recovered}
+use Rattle.ss_store.specs.Recover.{Stands}
+use Rattle.ss_program.specs.Amid.{StagesFramed}
+use Rattle.ss_program.specs.Line.{Brought, History, accepted_frame, command_brings, command_in, history_after}
+use Rattle.ss_program.specs.Status.{disk_verdict, ended}
+use Rattle.ss_program.specs.declared.staging.Staged.{Staged}
+use Rattle.ss_program.specs.declared.status.Status.{Status}
+use Rattle.ss_program.proofs.AnswerLemmas.{brings-accepted}
+use Rattle.ss_program.proofs.FrameLemmas.{Turns-answered, frame-done, frame-other, replies-framed, same-event}
+use Rattle.ss_program.proofs.staging.stage_framed.Goals as goal
+use Rattle.ss_program.proofs.staging.stage_framed.Goals.{in-Done, in_default, in_default-via-in-Done+else-framed, in_default-via-in_default}
+
+pub returns-in_err-reply-clause-stages : goal.returns-in_err-reply-clause-stages
+returns-in_err-reply-clause-stages g c =
+    let old = g.D.Disk.seen c.args.disk.now in
+    let new = g.D.Disk.seen c.stage.new.disk in
+    let framed = c.args.framed in
+    let event = c.args.event.now in
+    let was = c.args.store.now.records in
+    let is = c.stage.new.store.records in
+    let status = c.in_err-reply.field-0.0 in
+    let same : c.from_residual.result ≡ Err status = search rules in
+    let stages = c.in_err-reply.ensures.stages in
+    let before : Result Reply Status = Err status in
+    let after : Result Staged Status = Err status in
+    subst (λ r. Step (disk_verdict (ended r)) old new (StagesFramed framed event was is r)) (sym same) (record {
+      tells = stages.tells;
+      counted = stages.counted;
+      told = λ told. record {
+        turns = λ history. Turns-answered was is history old.told new.told (command_brings history (Do event)).event
+            (command_in framed history (Do event)).event before after (same-event framed history event) (λ X has. tt) ((stages.told told).turns history);
+        replies = λ history stands. tt;
+        frame = λ says history stands. tt;
+      };
+    })
+
+-- the frame of an event that is acknowledged
+found : (g : _) → (c : goal.Joined-reply g) → c.args.framed ≡ true → IsTrue (g.D.Disk.seen c.args.disk.now).tells → (history : History) →
+    Stands history (shown_by c.args.store.now.records (g.D.Disk.seen c.args.disk.now).told.content) →
+    c.match-reply.frame ≡ accepted_frame (refuses (state history) c.args.event.now) history c.args.event.now
+found g c says told history stands =
+    let event = c.args.event.now in
+    let stages = c.in_ok-reply.ensures.stages in
+    let reply = c.in_ok-reply.reply in
+    let frame = c.match-reply.frame in
+    let refusal = refuses (state history) event in
+    let one = (stages.told told).reply history stands in
+    elim c.match-reply.branch [
+      | in-Done w ↦ (
+          frame-done history event refusal w.in-Done.field-0 frame
+          (one ∙ ap (λ (r : Reply). r ∷ []) w.in-Done.is)
+          (λ none.
+          let store = c.stage.new.store in
+          let image = shown_by store.records (g.D.Disk.seen c.stage.new.disk).told.content in
+          let after : Stands (history ++ added event ∷ []) image =
+          subst (λ (b : Brought). Stands (history_after history b) image) (brings-accepted false history event none)
+          (((stages.told told).turns history).content stands) in
+          let kept = (c.in_ok-reply.ensures.serves.kept (stages.tells ∙ told)).shown in
+          w.frame-is ∙ w.frame_after-frame.ensures history after.is_history
+          (AllAgree-recovered store image (state (history ++ added event ∷ [])) kept after.state).0))
+      | in_default w ↦ elim w.in_default.branch [
+        | in_default-via-in-Done+else-framed w' ↦ (let wrong = sym says ∙ w'.if-framed.false in cc)
+        | in_default-via-in_default w' ↦
+            frame-other history event refusal reply frame one (λ ack is. w'.in_default.not-Done ack is) w.frame-is
+      ]
+    ]
+
+none : (g : _) → (c : goal.Joined-reply g) → c.args.framed ≡ false → c.match-reply.frame ≡ None
+none g c silent = elim c.match-reply.branch [
+  | in-Done w ↦ (let wrong = sym silent ∙ w.if-framed.true in cc)
+  | in_default w ↦ w.frame-is
+]
+
+pub returns-clause-stages : goal.returns-clause-stages
+returns-clause-stages g c =
+    let old = g.D.Disk.seen c.args.disk.now in
+    let new = g.D.Disk.seen c.stage.new.disk in
+    let framed = c.args.framed in
+    let event = c.args.event.now in
+    let was = c.args.store.now.records in
+    let is = c.stage.new.store.records in
+    let reply = c.in_ok-reply.reply in
+    let stages = c.in_ok-reply.ensures.stages in
+    let before : Result Reply Status = Ok reply in
+    let after : Result Staged Status = Ok (record { reply = reply; frame = c.match-reply.frame }) in
+    record {
+      tells = stages.tells;
+      counted = stages.counted;
+      told = λ told. record {
+        turns = λ history. Turns-answered was is history old.told new.told (command_brings history (Do event)).event
+            (command_in framed history (Do event)).event before after (same-event framed history event) (λ X has. has) ((stages.told told).turns history);
+        replies = λ history stands. replies-framed framed history event (refuses (state history) event) reply c.match-reply.frame
+            ((stages.told told).reply history stands) (λ says. found g c says told history stands) (none g c);
+        frame = λ says history stands. found g c says told history stands;
+      };
+    }
