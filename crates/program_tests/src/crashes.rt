@@ -191,7 +191,7 @@ fn shows_windows(alloc: Global, disk: &MemDisk) -> Result<bool, AllocError> {
 // Birth, 54 streams and the seven events before it: so many syncs come before the seventh append.
 const BEFORE: u64 = 3 + 2 * (54 + 7);
 
-// How many of its calls are stopped safely, and how many syncs it takes with room made in its middle: two for the value, three to
+// How many of its calls are stopped safely, and how many syncs it takes with room made in its middle: two for the value, two to
 // settle and two for the merges.
 fn stopped_in_the_middle(alloc: Global) -> Result<(bool, u64), AllocError> {
     let input = crowded(alloc)?;
@@ -210,6 +210,6 @@ fn stopped_in_the_middle(alloc: Global) -> Result<(bool, u64), AllocError> {
 fn an_append_whose_merges_find_no_room_is_stopped_at_each_call(
     rt: HostRuntime,
 ) -> Result<(), Fail> {
-    assert_eq!(rt; stopped_in_the_middle(rt.alloc())?, (true, 7));
+    assert_eq!(rt; stopped_in_the_middle(rt.alloc())?, (true, 6));
     Ok(())
 }

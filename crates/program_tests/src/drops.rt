@@ -32,8 +32,8 @@ const BEFORE_CROWDED: u64 = BEFORE + 4 * PASSING;
 // The drop that then has one entry left, after two syncs more.
 const DECIDED: u64 = BEFORE_CROWDED + 2;
 
-// All entries are in their slots after three more. The stream's own record says then that it was dropped, and all others are there.
-const SETTLED: u64 = DECIDED + 3;
+// All entries are in their slots after two more. The stream's own record says then that it was dropped, and all others are there.
+const SETTLED: u64 = DECIDED + 2;
 
 // The first stop after so many good syncs after which an opening that is stopped too shows something else.
 fn first_opening_after(

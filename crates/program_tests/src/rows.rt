@@ -80,6 +80,28 @@ const SERIES_REPORT: &str = "ok 0 0\nok 1 1\nok 2 2\nok 3 2\nok 4 3\nok 5 3\nok 
     series 2\n15 -3 8 maybe-none\n16 -3 8 maybe-none\n\
     refused RANGE\nrefused UNKNOWN\nrefused SYNTAX\nrefused NUMBER\nrefused NUMBER\nrefused NAME\nrefused SYNTAX\n";
 
+// The likeliest values of the same readings, where the range splits two windows, one or none, then row by row, and each refusal;
+// and two guesses of one and a half, and halves of sums.
+const ESTIMATES: &str =
+    "create a exp 2 1 1\nappend a 10 5\nappend a 20 -3\nappend a 30 8\nappend a 40 1\n\
+    append a 50 9\nappend a 60 2\nappend a 70 7\n\
+    estimate a count 10 25\nestimate a sum 10 25\nestimate a count 25 55\nestimate a sum 25 55\nestimate a sum 45 55\n\
+    estimate a sum 0 100\nestimate a count 71 80\nestimates a sum 10 70 25\nestimates a count 10 70 25\n\
+    estimate a min 0 9\nestimate a sum x! 9\nestimate a! sum 9 4\nestimate x sum 9 4\nestimate a sum 9 4\n\
+    estimates a max 0 9 1\nestimates x! sum 0 100000 1\nestimates x sum 9 0 1\nestimates a sum 9 0 1\n\
+    create g power 1 0 1 3\nappend g 10 1\nappend g 12 2\nappend g 15 3\nappend g 20 4\nappend g 21 5\nappend g 25 6\n\
+    estimate g count 13 22\nestimate g sum 13 22\ncreate h power 1 0 1 2\nappend h 10 -4\nappend h 11 -1\n\
+    estimate h sum 10 10\nestimate h count 10 10\nlandmark h open 12\nappend h 12 -2\nestimate h sum 11 12\n";
+
+const ESTIMATES_REPORT: &str = "ok 0 0\nok 1 1\nok 2 2\nok 3 2\nok 4 3\nok 5 3\nok 6 4\nok 7 3\n\
+    estimate 1 2 3\nestimate -5 6 16\nestimate 2 3 4\nestimate -3 11 25\nestimate 2 6 9\n\
+    estimate 29 29 29\nestimate 0 0 0\nestimates 3\n10 -5 7 16\n35 -3 9 25\n60 9 12 16\n\
+    estimates 3\n10 1 3 3\n35 2 2 4\n60 2 2 2\n\
+    refused SYNTAX\nrefused NUMBER\nrefused NAME\nrefused UNKNOWN\nrefused RANGE\n\
+    refused SYNTAX\nrefused NUMBER\nrefused UNKNOWN\nrefused RANGE\n\
+    ok 0 0\nok 1 1\nok 2 1\nok 3 1\nok 4 2\nok 5 2\nok 6 2\nestimate 2 3 4\nestimate 5 10 16\n\
+    ok 0 0\nok 1 1\nok 2 1\nestimate -4 -2 -1\nestimate 1 1 1\nok 2 1\nok 2 1\nestimate -6 -4 -3\n";
+
 // The edges of numbers.
 const EDGES: &str =
     "create a exp 2 1 1\nappend a 4611686018427387905 1\nappend a 0080 9223372036854775808\n\
@@ -120,7 +142,8 @@ const DROPS_REPORT: &str = "ok 0 0\nok 1 1\nok 2 2\nok 3 2\nok 4 3\nok 5 3\nok 6
     refused SYNTAX\nrefused SYNTAX\nrefused NAME\nrefused UNKNOWN\nrefused SYNTAX\n\
     list 1\na exp 2 1 1 1 1 0 0\n";
 
-const USAGE: &str = "usage: summarystore STORE [run | check | gen SEED COUNT | sessions]\n";
+const USAGE: &str =
+    "usage: summarystore STORE [run | check | gen SEED COUNT | sessions | frames | follow]\n";
 
 // Whether an input in pieces has this report.
 fn has_report(
@@ -148,11 +171,12 @@ fn is_reported(alloc: Global, input: &str, report: &str) -> Result<bool, AllocEr
     Ok(true)
 }
 
-const ROWS: [(&str, &str); 9] = [
+const ROWS: [(&str, &str); 10] = [
     (READINGS, REPORT),
     (ORDER, ORDER_REPORT),
     (QUERIES, QUERIES_REPORT),
     (SERIES, SERIES_REPORT),
+    (ESTIMATES, ESTIMATES_REPORT),
     (EDGES, EDGES_REPORT),
     (LINES, LINES_REPORT),
     (MARKED, MARKED_REPORT),

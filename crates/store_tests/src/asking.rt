@@ -7,7 +7,7 @@ use crate::steps::Step::{self, Crowd, Play, Reopen, Stop, Tell, Untold};
 use crate::steps::first_wrong;
 use ss_bounds::Extreme::{Maybe, Nothing, Sure};
 use ss_catalog::{Kind, Params, Refusal};
-use ss_model::Outcome::{self, Count, Max, Min, Sum};
+use ss_model::Outcome::{self, Count, Estimate, Max, Min, Sum};
 use ss_store::ApplyError;
 use ss_store::AskError::{self, Disk, Refused, Stopped};
 use std::test::Fail;
@@ -60,7 +60,7 @@ pub const OTHERS: [Row; 31] = [
 
 // Of `a` the first eight split none of its three windows, the next ones one, and the next ones two.
 // Of `b` and `c` a landmark's values are counted beside the windows.
-const QUERIES: [(Question, Outcome); 38] = [
+const QUERIES: [(Question, Outcome); 45] = [
     ((b'b', Kind::Sum, 100, 100), Sum { lo: 7, hi: 7 }),
     ((b'c', Kind::Count, 20, 40), Count { lo: 2, hi: 2 }),
     ((b'c', Kind::Sum, 20, 40), Sum { lo: 300, hi: 300 }),
@@ -82,6 +82,63 @@ const QUERIES: [(Question, Outcome); 38] = [
     ((b'a', Kind::Sum, 25, 55), Sum { lo: -3, hi: 25 }),
     ((b'a', Kind::Min, 25, 55), Min(Sure { lo: -3, hi: 8 })),
     ((b'a', Kind::Max, 25, 55), Max(Sure { lo: 2, hi: 9 })),
+    // the likeliest, of none, one and two split windows
+    (
+        (b'a', Kind::SumGuess, 0, 100),
+        Estimate {
+            lo: 29,
+            guess: 29,
+            hi: 29,
+        },
+    ),
+    (
+        (b'a', Kind::CountGuess, 71, 80),
+        Estimate {
+            lo: 0,
+            guess: 0,
+            hi: 0,
+        },
+    ),
+    (
+        (b'a', Kind::CountGuess, 10, 25),
+        Estimate {
+            lo: 1,
+            guess: 2,
+            hi: 3,
+        },
+    ),
+    (
+        (b'a', Kind::SumGuess, 10, 25),
+        Estimate {
+            lo: -5,
+            guess: 6,
+            hi: 16,
+        },
+    ),
+    (
+        (b'a', Kind::SumGuess, 45, 55),
+        Estimate {
+            lo: 2,
+            guess: 6,
+            hi: 9,
+        },
+    ),
+    (
+        (b'a', Kind::CountGuess, 25, 55),
+        Estimate {
+            lo: 2,
+            guess: 3,
+            hi: 4,
+        },
+    ),
+    (
+        (b'a', Kind::SumGuess, 25, 55),
+        Estimate {
+            lo: -3,
+            guess: 11,
+            hi: 25,
+        },
+    ),
     ((b'd', Kind::Count, 10, 11), Count { lo: 2, hi: 2 }),
     ((b'd', Kind::Sum, 10, 11), Sum { lo: 8, hi: 12 }),
     (

@@ -1,7 +1,11 @@
-// The laws of stores, and of what queries answer.
+// The laws of stores, of what queries answer and of replicas.
 use ss_model::{
     answers_hold_the_truth, answers_hold_the_truth_of_histories, outcomes_hold_the_truth,
     unsplit_answers_are_exact,
+};
+use ss_replica::{
+    events_have_the_next_frames, frames_are_refused_for_room_alone,
+    replicas_own_fronts_of_their_primary, streams_own_their_events_since_their_create,
 };
 use ss_store::{
     few_windows_stand, query_refusals_of_what_is_held, refusals_of_what_is_held,
@@ -22,4 +26,8 @@ fn laws_are_called() {
     answers_hold_the_truth_of_histories();
     unsplit_answers_are_exact();
     outcomes_hold_the_truth();
+    streams_own_their_events_since_their_create();
+    events_have_the_next_frames();
+    replicas_own_fronts_of_their_primary();
+    frames_are_refused_for_room_alone();
 }

@@ -29,6 +29,8 @@ mod passing;
 #[cfg(test)]
 mod rebuilding;
 #[cfg(test)]
+mod replicas;
+#[cfg(test)]
 mod running;
 #[cfg(test)]
 mod seeing;

@@ -1,5 +1,5 @@
 // A store with its disk, and what it is asked. Each call of the store stands here once.
-ghost use Rattle.std.specs.Prelude.{IfSome};
+ghost use Rattle.std.specs.Prelude.{◌≡◌, false, IfSome, IsTrue};
 ghost use Rattle.ss_catalog.specs.Events.{IsInTime};
 
 use crate::silent::Silent;
@@ -77,7 +77,21 @@ pub fn reopen(alloc: Global, running: &mut Running) -> Result<(), OpenError> {
     Ok(())
 }
 
-fn event_of(letter: u8, asked: Asked) -> Option<Event>
+/// Whether the store hasn't stopped. No stream has this name, so that the disk isn't called.
+pub fn runs(running: &mut Running) -> bool
+    ensures { IsTrue result → running.new.store.stopped ≡ false }
+{
+    let Some(name) = Name::of(b"none") else {
+        return false;
+    };
+    match running.store.newest(&mut running.disk, &name) {
+        Err(AskError::Refused(_)) => true,
+        _ => false,
+    }
+}
+
+/// The event of the stream whose name is a letter, if it is one.
+pub fn event_of(letter: u8, asked: Asked) -> Option<Event>
     ensures { IfSome result IsInTime }
 {
     let name = Name::of(&[letter])?;

@@ -1,17 +1,15 @@
 // The cursors of sessions.
-ghost use Rattle.std.specs.Prelude.{◌≡◌, false, IsTrue};
-
 use crate::applying::READINGS;
 use crate::changed::Taken::Spread;
 use crate::passing::pass;
 use crate::running::Asked::{self, Create, Value};
-use crate::running::{DOUBLING, Running, fresh, reopen};
+use crate::running::{DOUBLING, Running, fresh, reopen, runs};
 use crate::steps::Step::{self, Apply, Clear, Play, Reopen, Settled, Stop};
 use crate::steps::comes;
 use ss_catalog::{Name, Refusal};
 use ss_model::Placed;
 use ss_sessions::{CursorError, CursorRefusal, SESSIONS, Sessions};
-use ss_store::{AskError, OpenError};
+use ss_store::OpenError;
 use std::alloc::Global;
 use std::test::Fail;
 
@@ -36,19 +34,6 @@ enum Turn {
 }
 
 use Turn::{Closes, Does, Fails, Left, Opens, Takes};
-
-// Whether the store hasn't stopped. No stream has this name, so that the disk isn't called.
-fn runs(running: &mut Running) -> bool
-    ensures { IsTrue result → running.new.store.stopped ≡ false }
-{
-    let Some(name) = Name::of(b"none") else {
-        return false;
-    };
-    match running.store.newest(&mut running.disk, &name) {
-        Err(AskError::Refused(_)) => true,
-        _ => false,
-    }
-}
 
 // Opens a cursor. `None` is for what is no session or name, for a store that has stopped, and for a call of the disk where the cursor
 // is refused.

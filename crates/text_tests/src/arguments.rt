@@ -9,7 +9,7 @@ use std::alloc::{AllocError, Global};
 use std::test::Fail;
 
 // Right words, wrong ones, numbers at the ends of their ranges and past them, with signs, and of 20 and 21 digits.
-const WORDS: [&'static str; 24] = [
+const WORDS: [&'static str; 27] = [
     "run",
     "gen",
     "1",
@@ -34,6 +34,9 @@ const WORDS: [&'static str; 24] = [
     "00000000000000000000",
     "batch",
     "sessions",
+    "framed",
+    "frames",
+    "follow",
 ];
 
 // The number that a word spells in at most 20 digits.
@@ -55,12 +58,24 @@ fn served(form: Form, sealing: Sealing) -> Option<Mode> {
     Some(Mode::Serve { form, sealing })
 }
 
+// Lines without frames behind their replies, and with them, and the same of sessions.
+const LINES: Form = Form::Lines { framed: false };
+
+const FRAMED_LINES: Form = Form::Lines { framed: true };
+
+const SESSIONS: Form = Form::Sessions { framed: false };
+
+const FRAMED_SESSIONS: Form = Form::Sessions { framed: true };
+
 // The mode that one word asks for.
 fn mode_of_word(word: &str) -> Option<Mode> {
     match word {
-        "run" => served(Form::Lines, Sealing::Each),
-        "batch" => served(Form::Lines, Sealing::Shared),
-        "sessions" => served(Form::Sessions, Sealing::Each),
+        "run" => served(LINES, Sealing::Each),
+        "batch" => served(LINES, Sealing::Shared),
+        "framed" => served(FRAMED_LINES, Sealing::Each),
+        "sessions" => served(SESSIONS, Sealing::Each),
+        "frames" => served(Form::Frames, Sealing::Each),
+        "follow" => served(Form::Follow, Sealing::Each),
         "check" => Some(Mode::Check),
         _ => None,
     }
@@ -68,10 +83,23 @@ fn mode_of_word(word: &str) -> Option<Mode> {
 
 // The mode that two words ask for.
 fn mode_of_two(mode: &str, second: &str) -> Option<Mode> {
-    if mode == "sessions" && second == "batch" {
-        return served(Form::Sessions, Sealing::Shared);
+    match (mode, second) {
+        ("framed", "batch") => served(FRAMED_LINES, Sealing::Shared),
+        ("sessions", "framed") => served(FRAMED_SESSIONS, Sealing::Each),
+        ("sessions", "batch") => served(SESSIONS, Sealing::Shared),
+        ("frames", "batch") => served(Form::Frames, Sealing::Shared),
+        ("follow", "batch") => served(Form::Follow, Sealing::Shared),
+        _ => None,
     }
-    None
+}
+
+// The mode that three words ask for.
+fn mode_of_three(mode: &str, second: &str, third: &str) -> Option<Mode> {
+    match (mode, second, third) {
+        ("sessions", "framed", "batch") => served(FRAMED_SESSIONS, Sealing::Shared),
+        ("gen", seed, count) => mode_of_numbers(number_of(seed), number_of(count)),
+        _ => None,
+    }
 }
 
 // The mode of a seed and a count: a count is from 1 to 100,000.
@@ -93,15 +121,14 @@ fn mode_of_numbers(seed: Option<u64>, count: Option<u64>) -> Option<Mode> {
 // The mode that all the words ask for, by the table of modes.
 fn expected(words: &[String]) -> Option<Mode> {
     match words {
-        [_, _] => served(Form::Lines, Sealing::Each),
+        [_, _] => served(LINES, Sealing::Each),
         [_, _, word] => mode_of_word(word.as_str()),
         [_, _, mode, second] => mode_of_two(mode.as_str(), second.as_str()),
-        [_, _, name, seed, count] => {
-            if name.as_str() == "gen" {
-                return mode_of_numbers(number_of(seed.as_str()), number_of(count.as_str()));
-            }
-            None
-        }
+        [_, _, mode, second, third] => mode_of_three(
+            mode.as_str(),
+            second.as_str(),
+            third.as_str(),
+        ),
         _ => None,
     }
 }
@@ -112,7 +139,7 @@ fn push(alloc: Global, words: &mut Vec<String>, word: &str) -> Result<(), AllocE
 }
 
 fn push_nth(alloc: Global, words: &mut Vec<String>, place: u32) -> Result<(), AllocError> {
-    if place >= 24 {
+    if place >= 27 {
         return Ok(());
     }
     push(alloc, words, WORDS[place as usize])
@@ -198,7 +225,7 @@ fn first_wrong_of_all(alloc: Global, base: u32, most: u32) -> Result<Option<u32>
 
 #[test]
 fn up_to_three_words(rt: HostRuntime) -> Result<(), Fail> {
-    pass(first_wrong_of_all(rt.alloc(), 24, 3)?)
+    pass(first_wrong_of_all(rt.alloc(), 27, 3)?)
 }
 
 #[test]

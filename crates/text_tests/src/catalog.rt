@@ -101,7 +101,8 @@ fn refusal_at(place: u64) -> Refusal {
         13 => Refusal::StreamFull,
         14 => Refusal::StoreFull,
         15 => Refusal::Busy,
-        _ => Refusal::NoCursor,
+        16 => Refusal::NoCursor,
+        _ => Refusal::Frame,
     }
 }
 
@@ -132,7 +133,8 @@ fn refusals_have_numbers_and_names() -> Result<(), Fail> {
         13=13 STREAM_FULL\n\
         14=14 STORE_FULL\n\
         15=15 BUSY\n\
-        16=16 NO_CURSOR\n"
+        16=16 NO_CURSOR\n\
+        17=17 FRAME\n"
             .as_bytes(),
     )
 }

@@ -1,8 +1,8 @@
-// Lines of an input with the replies to them, and why the refused ones were refused.
+// Lines and frames of an input with the replies to them, and why the refused ones were refused.
 use crate::tables::{Text, cut, pass, write, write_number};
 use arrayvec::ArrayVec;
 use ss_arguments::Form;
-use ss_watch::Explainer;
+use ss_watch::{Explained, Explainer};
 use std::alloc::Global;
 use std::test::Fail;
 
@@ -16,12 +16,58 @@ fn meant(signs: &[u8], out: &mut Text) {
     }
 }
 
+// So many zeros.
+fn write_zeros(count: u8, out: &mut Text) {
+    for _ in 0..count {
+        write(&[0], out);
+    }
+}
+
+// Bytes in which a 'z' and the byte behind it stand for as many zeros as this says.
+fn meant_bytes(signs: &[u8], out: &mut Text) {
+    let mut counts = false;
+    for sign in signs {
+        if counts {
+            write_zeros(*sign, out);
+            counts = false;
+        } else if *sign == b'z' {
+            counts = true;
+        } else {
+            write(&[*sign], out);
+        }
+    }
+}
+
 // Takes an input to its end.
-fn read(explainer: &mut Explainer, signs: &[u8]) {
+fn read(explainer: &mut Explainer, form: Form, signs: &[u8]) {
     let mut input = ArrayVec::new();
-    meant(signs, &mut input);
+    if form == Form::Follow {
+        meant_bytes(signs, &mut input);
+    } else {
+        meant(signs, &mut input);
+    }
     explainer.read(input.as_slice());
     explainer.read(&[]);
+}
+
+// Writes what is explained.
+fn write_explained(explained: &Explained, out: &mut Text) {
+    write_number(explained.number, out);
+    write(b" ", out);
+    write(explained.word.as_bytes(), out);
+    write(b": ", out);
+    write(explained.reason.as_str().as_bytes(), out);
+    write(b";", out);
+}
+
+// Writes what is explained of lines that are refused by themselves, where nothing is replied.
+fn misspelt(explainer: &mut Explainer, out: &mut Text) {
+    for _ in 0..10 {
+        match explainer.misspelt() {
+            Some(explained) => write_explained(&explained, out),
+            None => break,
+        }
+    }
 }
 
 // Takes a line of a reply, and writes what is explained.
@@ -30,12 +76,7 @@ fn reply(explainer: &mut Explainer, line: &[u8], out: &mut Text) {
     write(line, &mut text);
     write(b"\n", &mut text);
     if let Some(explained) = explainer.reply(text.as_slice()) {
-        write_number(explained.number, out);
-        write(b" ", out);
-        write(explained.refusal.text().as_bytes(), out);
-        write(b": ", out);
-        write(explained.reason.as_str().as_bytes(), out);
-        write(b";", out);
+        write_explained(&explained, out);
     }
 }
 
@@ -51,20 +92,21 @@ fn reply_all(explainer: &mut Explainer, signs: &[u8], out: &mut Text) {
     }
 }
 
-// A row has the lines of an input, '>', the replies to them, '=', and what is explained. At most two lines are.
+// A row has the lines or the frames of an input, '>', the replies to them, '=', and what is explained. At most two lines are.
 fn is_right(alloc: Global, form: Form, row: &[u8]) -> bool {
     let (session, want) = cut(row, b'=');
     let (input, replies) = cut(session, b'>');
     let mut explainer = Explainer::new(alloc, 2, form);
     let mut out = ArrayVec::new();
-    read(&mut explainer, input);
+    read(&mut explainer, form, input);
+    misspelt(&mut explainer, &mut out);
     reply_all(&mut explainer, replies, &mut out);
     out.as_slice() == want
 }
 
 // The first row that is wrong of a table of lines.
 fn first_wrong(alloc: Global, table: &[u8]) -> Option<u32> {
-    first_wrong_of(alloc, Form::Lines, table)
+    first_wrong_of(alloc, Form::Lines { framed: false }, table)
 }
 
 // The first row that is wrong.
@@ -122,6 +164,10 @@ fn forms(rt: HostRuntime) -> Result<(), Fail> {
         and this line has 5;\n\
         series a avg 1 2 3/>refused SYNTAX/=1 SYNTAX: \"avg\" is none of count, sum, min and max: a mean is a sum divided by a count;\n\
         series a has 1 2 3/>refused SYNTAX/=1 SYNTAX: \"has\" is none of count, sum, min and max;\n\
+        estimate a sum 1/>refused SYNTAX/=1 SYNTAX: estimate NAME count T1 T2, or sum, has 5 words, and this line has 4;\n\
+        estimate a min 1 2/>refused SYNTAX/=1 SYNTAX: \"min\" is neither count nor sum;\n\
+        estimates a avg 1 2 3/>refused SYNTAX/=1 SYNTAX: \"avg\" is neither count nor sum: a mean is a sum divided by a count;\n\
+        estimates a sum 1 2/>refused SYNTAX/=1 SYNTAX: estimates NAME count T1 T2 STEP, or sum, has 6 words, and this line has 5;\n\
         certify a sum lo 1/>refused SYNTAX/=1 SYNTAX: certify NAME count lo T1 T2, or sum, or hi, has 6 words, \
         and this line has 5;\n\
         certify a min lo 1 2/>refused SYNTAX/=1 SYNTAX: \"min\" is neither count nor sum;\n\
@@ -136,6 +182,10 @@ fn forms(rt: HostRuntime) -> Result<(), Fail> {
         that is asked for by a query, as in query NAME sum T1 T2;\n\
         query sum a 1 5/>refused SYNTAX/=1 SYNTAX: \"a\" is none of count, sum, min, max and has: \
         the name stands before what is asked for;\n\
+        frame 0200/>refused SYNTAX/=1 SYNTAX: no command begins with \"frame\": \
+        the bytes that its digits spell are read by the mode follow;\n\
+        \x02\0\x01/>refused SYNTAX/=1 SYNTAX: no command begins with \"\\x02\\x00\\x01\": \
+        these bytes are frames, which the mode follow reads;\n\
         @1 list/>refused SYNTAX/=1 SYNTAX: no command begins with \"@1\": lines of sessions are read where the mode is sessions;\n\
         last/>refused SYNTAX/=1 SYNTAX: last NAME has 2 words, and this line has 1;\n\
         values a 1/>refused SYNTAX/=1 SYNTAX: values NAME T1 T2 has 4 words, and this line has 3;\n",
@@ -175,6 +225,9 @@ fn words(rt: HostRuntime) -> Result<(), Fail> {
         series a sum 1 2 0/>refused NUMBER/=1 NUMBER: 0 isn't within 1 to 4611686018427387904, as steps are;\n\
         series a sum 0 100000 1/>refused NUMBER/=1 NUMBER: \
         from 0 to 100000 there are more than 100000 rows of the step 1;\n\
+        estimate a sum 1 -2/>refused NUMBER/=1 NUMBER: -2 isn't within 0 to 4611686018427387904, as times are;\n\
+        estimates a sum 0 200000 2/>refused NUMBER/=1 NUMBER: \
+        from 0 to 200000 there are more than 100000 rows of the step 2;\n\
         certify a sum lo 1 now/>refused NUMBER/=1 NUMBER: now isn't a whole number: \
         times are whole numbers, as the seconds that date +%s prints;\n\
         certify a count hi -1 now/>refused NUMBER/=1 NUMBER: -1 isn't within 0 to 4611686018427387904, as times are;\n\
@@ -209,6 +262,8 @@ fn states(rt: HostRuntime) -> Result<(), Fail> {
         query rom has 9 4 5/>refused UNKNOWN/=1 UNKNOWN: no stream is named rom;\n\
         series a sum 5 4 1/>refused RANGE/=1 RANGE: the range ends before it begins: 5 is later than 4;\n\
         series rom sum 4 5 1/>refused UNKNOWN/=1 UNKNOWN: no stream is named rom;\n\
+        estimate a sum 5 4/>refused RANGE/=1 RANGE: the range ends before it begins: 5 is later than 4;\n\
+        estimates a sum 5 4 1/>refused RANGE/=1 RANGE: the range ends before it begins: 5 is later than 4;\n\
         certify a sum lo 5 4/>refused RANGE/=1 RANGE: the range ends before it begins: 5 is later than 4;\n\
         certify rom sum lo 4 5/>refused UNKNOWN/=1 UNKNOWN: no stream is named rom;\n\
         append a 1 1/>refused STREAM_FULL/=1 STREAM_FULL: a takes no more values outside landmarks;\n\
@@ -231,7 +286,7 @@ fn states(rt: HostRuntime) -> Result<(), Fail> {
 fn sessions(rt: HostRuntime) -> Result<(), Fail> {
     pass(first_wrong_of(
         rt.alloc(),
-        Form::Sessions,
+        Form::Sessions { framed: true },
         b"list/>refused SYNTAX/=1 SYNTAX: \"list\" is no session: a line begins with @0 to @7, as in @0 list;\n\
         @8 list/>refused SYNTAX/=1 SYNTAX: \"@8\" is no session: a line begins with @0 to @7, as in @0 list;\n\
         @12 list/>refused SYNTAX/=1 SYNTAX: \"@12\" is no session: a line begins with @0 to @7, as in @0 list;\n\
@@ -255,8 +310,69 @@ fn sessions(rt: HostRuntime) -> Result<(), Fail> {
         @1 cursor close/@2 windows rom/>@1 closed/@2 refused UNKNOWN/=2 UNKNOWN: no stream is named rom;\n\
         @1 append a 70 1/@2 append a 50 1/>@1 ok 1 1/@2 refused TIME/=\
         2 TIME: 50 isn't later than the last time of a, 70;\n\
+        @1 append a 1 1/@2 x/>@1 ok 1 1/@1 frame 02/@2 refused SYNTAX/=2 SYNTAX: no command begins with \"x\";\n\
         @1 windows a/list/>@1 windows 1/@1 1 1 1 1 1 1 1 1/refused SYNTAX/=\
         2 SYNTAX: \"list\" is no session: a line begins with @0 to @7, as in @0 list;\n",
+    ))
+}
+
+// Bytes that are no frames, and frames that come too early or aren't taken.
+#[test]
+fn frames(rt: HostRuntime) -> Result<(), Fail> {
+    pass(first_wrong_of(
+        rt.alloc(),
+        Form::Follow,
+        b"\t\x01\x01z\x05z\x07\x01az\x1fz\x03\x02z\x03\x01z\x03\x01z\x04>refused FRAME/=\
+        1 FRAME: it begins with the byte 9, and frames begin with 1 to 4: these bytes aren't frames, or some are lost;\n\
+        z\x40>refused FRAME/=1 FRAME: it begins with the byte 0, and frames begin with 1 to 4: these bytes aren't frames, or some are lost;\n\
+        \x01\x03\x01z\x05z\x07\x01az\x1fz\x03\x02z\x03\x01z\x03\x01z\x04>refused FRAME/=\
+        1 FRAME: a target of the family 3 isn't known: 1 is exp, and 2 is power;\n\
+        \x02\x01\x01z\x05z\x07\x02az\x1fz\x07\x0bz\x07\x05>refused FRAME/=1 FRAME: it has the family 1, and only the frame of a create has one;\n\
+        \x02z\x02z\x05z\x07\x02az\x1fz\x07\x0bz\x07\x05>refused FRAME/=1 FRAME: its name has 0 letters, and a name has 1 to 32;\n\
+        \x02\0!z\x05z\x07\x02az\x1fz\x07\x0bz\x07\x05>refused FRAME/=1 FRAME: its name has 33 letters, and a name has 1 to 32;\n\
+        \x02\0\x01z\x05z\x07\x02!z\x1fz\x07\x0bz\x07\x05>refused FRAME/=1 FRAME: its name has more in it than letters, digits, _, - and .;\n\
+        \x02\0\x01z\x05z\x07\x02abz\x1ez\x07\x0bz\x07\x05>refused FRAME/=\
+        1 FRAME: bytes that belong to no field of it are zeros in a frame, and here they aren't;\n\
+        \x02\0\x01\x01z\x04z\x07\x02az\x1fz\x07\x0bz\x07\x05>refused FRAME/=\
+        1 FRAME: bytes that belong to no field of it are zeros in a frame, and here they aren't;\n\
+        \x02\0\x01z\x05z\x08az\x1fz\x07\x0bz\x07\x05>refused FRAME/=1 FRAME: its number is 0, and the events of a stream count from 1;\n\
+        \x01\x01\x01z\x05z\x07\x02az\x1fz\x03\x02z\x03\x01z\x03\x01z\x04>refused FRAME/=\
+        1 FRAME: it is a create with the number 2, and each create has the number 1;\n\
+        \x02\0\x01z\x05z\x07\x01az\x1fz\x07\x0bz\x07\x05>refused FRAME/=1 FRAME: its number is 1, and that is the number of a create;\n\
+        \x01\x01\x01z\x05z\x07\x01az\x1fz\x03\x01z\x03\x01z\x03\x01z\x04>refused FRAME/=1 FRAME: B is 1, and can be 2 to 16;\n\
+        \x01\x01\x01z\x05z\x07\x01az\x1fz\x03\x02z\x03\x01z\x03\x01z\x03\x01>refused FRAME/=\
+        1 FRAME: the target exp has three parameters, and its last four bytes aren't zeros;\n\
+        \x01\x02\x01z\x05z\x07\x01az\x1fz\x03\x05z\x04z\x03\x01z\x03\x01>refused FRAME/=1 FRAME: P is 5, and can be 1 to 4;\n\
+        \x02\0\x01z\x05z\x07\x02az\x1f@z\x06\x01z\x07\x05>refused FRAME/=\
+        1 FRAME: its time is 4611686018427387905, and times are 0 to 4611686018427387904;\n\
+        \x03\0\x01z\x05z\x07\x02az\x1fz\x07\x0bz\x07\x05>refused FRAME/=1 FRAME: its last eight bytes aren't zeros, and a landmark has no value;\n\
+        z\t>refused FRAME/=1 FRAME: the input ends after 9 of the 64 bytes of a frame;\n\
+        append a 1 2\r>refused FRAME/=1 FRAME: these bytes aren't frames but text: the mode frames makes frames of commands;\n\
+        frame 01020304050607\r>refused FRAME/=1 FRAME: these are the digits of frames, and not their bytes: xxd -r -p makes bytes of digits;\n\
+        01020304050607080910111213141516>refused FRAME/=\
+        1 FRAME: these are the digits of frames, and not their bytes: xxd -r -p makes bytes of digits;\n\
+        \x02\0\x01z\x05z\x07\x05az\x1fz\x07\x0bz\x07\x05>gap 2/=\
+        1 gap: event 3 of a is missing, and this is event 5: send its frames again from event 3 on;\n\
+        \x02\0\x01z\x05z\x07\x02az\x1fz\x07\x0bz\x07\x05>gap 0/=\
+        1 gap: event 1 of a is missing, and this is event 2: send its frames again from event 1 on;\n\
+        \x01\x01\x01z\x05z\x07\x01az\x1fz\x03\x02z\x03\x01z\x03\x01z\x04\x02\0\x01z\x05z\x07\x02az\x1fz\x07\x0bz\x07\x05\
+        \x02\0\x01z\x05z\x07\x02az\x1fz\x07\x0bz\x07\x05z\t>ok 0 0/ok 1 1/old/refused FRAME/=\
+        4 FRAME: the input ends after 9 of the 64 bytes of a frame;\n\
+        \x02\0\x01z\x05z\x07\x02az\x1fz\x07\x0bz\x07\x05\x02\0\x01z\x05z\x07\x03az\x1fz\x07\x0bz\x07\x05>ok 1 1/refused TIME/=\
+        2 TIME: 11 isn't later than the last time of a, 11;\n\
+        \x01\x01\x01z\x05z\x07\x01az\x1fz\x03\x02z\x03\x01z\x03\x01z\x04>refused STREAMS/=1 STREAMS: the store takes no more than 4096 streams;\n",
+    ))
+}
+
+// Where frames stand in the place of replies, lines are explained that are refused by themselves.
+#[test]
+fn lines_without_replies(rt: HostRuntime) -> Result<(), Fail> {
+    pass(first_wrong_of(
+        rt.alloc(),
+        Form::Frames,
+        b"list/append a 1/# x/append a 1 2/x/>=2 SYNTAX: append NAME T V has 4 words, and this line has 3;\
+        5 SYNTAX: no command begins with \"x\";\n\
+        append a 1 2/drop a/append x! 1 1>=3 NAME: the name x! has more in it than letters, digits, _, - and .;\n",
     ))
 }
 
@@ -271,10 +387,12 @@ fn lines_and_replies(rt: HostRuntime) -> Result<(), Fail> {
         1 SYNTAX: no command begins with \"x\";2 SYNTAX: no command begins with \"y\";\n\
         list/x>list 0/refused SYNTAX/=2 SYNTAX: no command begins with \"x\";\n\
         series a sum 1 9 5/x>series 2/1 0 4/6 refused SYNTAX/refused SYNTAX/=2 SYNTAX: no command begins with \"x\";\n\
+        estimates a sum 1 9 5/x>estimates 2/1 0 2 4/6 refused SYNTAX/refused SYNTAX/=2 SYNTAX: no command begins with \"x\";\n\
         certify a sum lo 1 9/x>certify -5 0 1/inside 1 4 2 -3*1 -2*1/outside 1 4 2 8*2/refused SYNTAX/=\
         2 SYNTAX: no command begins with \"x\";\n\
         certify a count lo 1 9/x>certify 4 4 0/refused SYNTAX/=2 SYNTAX: no command begins with \"x\";\n\
         query a has 8 1 9/x>has maybe/refused SYNTAX/=2 SYNTAX: no command begins with \"x\";\n\
+        append a 1 1/x>ok 1 1/frame 02/refused SYNTAX/=2 SYNTAX: no command begins with \"x\";\n\
         >sum 1 1/refused SYNTAX/=\n",
     ))
 }

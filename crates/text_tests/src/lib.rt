@@ -1,4 +1,4 @@
-//! Tests of names, numbers, arguments, commands and replies as text. A crate with tests is proved twice, so they stand here, and
+//! Tests of names, numbers, arguments, commands, frames and replies as text. A crate with tests is proved twice, so they stand here, and
 //! call the crates below as one above them does.
 #![tactic(auto)]
 
@@ -8,6 +8,8 @@ mod arguments;
 mod catalog;
 #[cfg(test)]
 mod explained;
+#[cfg(test)]
+mod frames;
 #[cfg(test)]
 mod generator;
 #[cfg(test)]

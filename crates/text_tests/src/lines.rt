@@ -80,6 +80,13 @@ fn lines_without_a_command() -> Result<(), Fail> {
         series a sum 1 2 3 4=SYNTAX\n\
         series a mean 1 2 3=SYNTAX\n\
         series x! Sum y 2 0=SYNTAX\n\
+        estimate a sum 1=SYNTAX\n\
+        estimate a sum 1 2 3=SYNTAX\n\
+        estimate a min 0 9=SYNTAX\n\
+        estimate a has 5 0 9=SYNTAX\n\
+        estimates a max 0 9 1=SYNTAX\n\
+        estimates x! Sum y 2 0=SYNTAX\n\
+        estimates a sum 0 9=SYNTAX\n\
         certify a sum lo 1=SYNTAX\n\
         certify a sum lo 1 2 3=SYNTAX\n\
         certify a min lo 1 2=SYNTAX\n\
@@ -117,6 +124,10 @@ fn lines_without_a_command() -> Result<(), Fail> {
         series a sum 1 2 4611686018427387905=NUMBER\n\
         series a sum 0 100000 1=NUMBER\n\
         series x! sum 0 200000 2=NUMBER\n\
+        estimate x! sum y 9=NUMBER\n\
+        estimate a count 0 4611686018427387905=NUMBER\n\
+        estimates a sum 0 200000 2=NUMBER\n\
+        estimates x! sum 9 0 0=NUMBER\n\
         certify x! sum lo 1 y=NUMBER\n\
         certify a sum hi -1 2=NUMBER\n\
         certify a count hi 0 4611686018427387905=NUMBER\n\
@@ -141,6 +152,8 @@ fn lines_without_a_command() -> Result<(), Fail> {
         query x! has -5 2 1=NAME\n\
         query abcdefghijklmnopqrstuvwxyz0123456 has 5 1 2=NAME\n\
         series x! sum 0 199999 2=NAME\n\
+        estimate x! sum 9 4=NAME\n\
+        estimates x! count 0 199999 2=NAME\n\
         certify x! count lo 1 2=NAME\n\
         last e!=NAME\n\
         values f! 5 4=NAME\n\
@@ -195,6 +208,10 @@ fn commands_are_printed() -> Result<(), Fail> {
         series a sum 0 4611686018427387904 4611686018427387904\n\
         series a min 5 4 1=series a min 5 4 1\n\
         series a max 0 99999 1=series a max 0 99999 1\n\
+        estimate a count 10 040=estimate a count 10 40\n\
+        \x20estimate\tabcdefghijklmnopqrstuvwxyz012345 sum 5 4=estimate abcdefghijklmnopqrstuvwxyz012345 sum 5 4\n\
+        estimates a count 0 99999 01=estimates a count 0 99999 1\n\
+        estimates a sum 5 4 4611686018427387904=estimates a sum 5 4 4611686018427387904\n\
         certify a count lo 10 040=certify a count lo 10 40\n\
         \x20certify\ta sum hi 0 4611686018427387904=certify a sum hi 0 4611686018427387904\n\
         certify abcdefghijklmnopqrstuvwxyz012345 sum lo 5 4=certify abcdefghijklmnopqrstuvwxyz012345 sum lo 5 4\n\

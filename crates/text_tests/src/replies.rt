@@ -2,7 +2,8 @@
 use crate::tables::{Subject, Text, numbers_of, show, test};
 use arrayvec::ArrayString;
 use ss_bounds::Extreme;
-use ss_catalog::{LAST_TIME, Name, Params, Refusal, StreamId};
+use ss_catalog::{Event, Kind, LAST_TIME, Name, Params, Refusal, StreamId};
+use ss_frames::Frame;
 use ss_model::{Ack, Newest, Outcome, Placed, Presence, Run, StreamRow};
 use ss_report::{Reply, Side, reply_text, said_text};
 use ss_summary::Summary;
@@ -87,6 +88,16 @@ fn outcome_at(row: u64) -> Outcome {
         36 => Outcome::Has(Presence::Absent),
         37 => Outcome::Has(Presence::Present),
         38 => Outcome::Has(Presence::Maybe),
+        55 => Outcome::Estimate {
+            lo: -5,
+            guess: 6,
+            hi: 16,
+        },
+        56 => Outcome::Estimate {
+            lo: i128::MIN,
+            guess: -1,
+            hi: i128::MAX,
+        },
         _ => Outcome::Max(Extreme::Nothing),
     }
 }
@@ -192,6 +203,47 @@ fn write_cursor(row: u64, out: &mut Text) {
     }
 }
 
+// A frame, as it is said or not.
+fn write_framed(is_said: bool, number: u64, event: Event, out: &mut Text) {
+    if let Some(frame) = Frame::of(number, event) {
+        if is_said {
+            write_said(&Reply::Framed(frame), out);
+        } else {
+            write_reply(&Reply::Framed(frame), out);
+        }
+    }
+}
+
+// The frames of a stream with a short name, and one with the longest name and the greatest numbers.
+fn write_frame(row: u64, out: &mut Text) {
+    let name = if row == 54 {
+        Name::of(b"abcdefghijklmnopqrstuvwxyz012345")
+    } else {
+        Name::of(b"a")
+    };
+    let Some(name) = name else {
+        return;
+    };
+    match row {
+        51 => {
+            let params = Params::Exp { b: 2, r: 1, s: 1 };
+            write_framed(false, 1, Event::Create { name, params }, out);
+        }
+        52 => write_framed(false, 2, Event::Value { name, t: 10, v: 5 }, out),
+        53 => write_framed(false, 3, Event::Value { name, t: 20, v: -3 }, out),
+        _ => write_framed(true, u64::MAX, Event::Close { name, t: LAST_TIME }, out),
+    }
+}
+
+// What is said of frames that are passed over.
+fn write_passed(row: u64, out: &mut Text) {
+    match row {
+        48 => write_reply(&Reply::Old, out),
+        49 => write_reply(&Reply::Gap(0), out),
+        _ => write_reply(&Reply::Gap(u64::MAX), out),
+    }
+}
+
 fn write_row(row: u64, out: &mut Text) {
     match row {
         1 => write_reply(&Reply::Done(Ack { n: 7, k: 3 }), out),
@@ -202,11 +254,27 @@ fn write_row(row: u64, out: &mut Text) {
         6 => write_short_stream(out),
         7 => write_longest_stream(out),
         8 => write_window(out),
-        19 => write_reply(&Reply::SeriesHead(100_000), out),
+        19 => write_reply(
+            &Reply::SeriesHead {
+                kind: Kind::Max,
+                count: 100_000,
+            },
+            out,
+        ),
         20..=29 => write_series_row(row - 11, out),
         30..=35 => write_certificate(row, out),
         39..=43 => write_newest(row, out),
         44..=47 => write_cursor(row, out),
+        48..=50 => write_passed(row, out),
+        51..=54 => write_frame(row, out),
+        57 => write_reply(
+            &Reply::SeriesHead {
+                kind: Kind::SumGuess,
+                count: 100_000,
+            },
+            out,
+        ),
+        58 => write_series_row(56, out),
         _ => write_reply(&Reply::Answered(outcome_at(row)), out),
     }
 }
@@ -269,7 +337,22 @@ fn each_reply_has_its_line() -> Result<(), Fail> {
         44=@7 cursor 1048576/\n\
         45=@7 rows 1000/\n\
         46=@7 closed/\n\
-        47=@7 refused NO_CURSOR/\n"
+        47=@7 refused NO_CURSOR/\n\
+        48=old/\n\
+        49=gap 0/\n\
+        50=gap 18446744073709551615/\n\
+        51=frame 0101010000000000000000000000000161000000000000000000000000000000\
+        0000000000000000000000000000000000000002000000010000000100000000/\n\
+        52=frame 0200010000000000000000000000000261000000000000000000000000000000\
+        00000000000000000000000000000000000000000000000a0000000000000005/\n\
+        53=frame 0200010000000000000000000000000361000000000000000000000000000000\
+        000000000000000000000000000000000000000000000014fffffffffffffffd/\n\
+        54=@7 frame 0400200000000000ffffffffffffffff\
+        6162636465666768696a6b6c6d6e6f707172737475767778797a30313233343540000000000000000000000000000000/\n\
+        55=estimate -5 6 16/\n\
+        56=estimate -170141183460469231731687303715884105728 -1 170141183460469231731687303715884105727/\n\
+        57=estimates 100000/\n\
+        58=56 -170141183460469231731687303715884105728 -1 170141183460469231731687303715884105727/\n"
             .as_bytes(),
     )
 }

@@ -1,5 +1,5 @@
 // Tables of worked rows as text: a row is an input, '=', what it gives, and a line end.
-use crate::{catalog, generator, lines, numbers, replies, sessions};
+use crate::{catalog, frames, generator, lines, numbers, replies, sessions};
 use arrayvec::{ArrayString, ArrayVec};
 use ss_fields::{print_u64, read_u64};
 use std::test::Fail;
@@ -27,6 +27,11 @@ pub enum Subject {
     CommandCount,
     Reply,
     Spoken,
+    Frame,
+    FrameBytes,
+    ChangedFrame,
+    FramePieces,
+    Framed,
 }
 
 fn give(subject: Subject, input: &[u8], out: &mut Text) {
@@ -48,6 +53,11 @@ fn give(subject: Subject, input: &[u8], out: &mut Text) {
         Subject::CommandCount => generator::command_count(input, out),
         Subject::Reply => replies::reply(input, out),
         Subject::Spoken => sessions::spoken(input, out),
+        Subject::Frame => frames::frame(input, out),
+        Subject::FrameBytes => frames::frame_bytes(input, out),
+        Subject::ChangedFrame => frames::changed_frame(input, out),
+        Subject::FramePieces => frames::frame_pieces(input, out),
+        Subject::Framed => frames::framed(input, out),
     }
 }
 
