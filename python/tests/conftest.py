@@ -9,15 +9,18 @@ from collections.abc import Callable, Iterator
 from pathlib import Path
 
 import pytest
-from hypothesis import settings
+from hypothesis import HealthCheck, settings
 
 import summarystore
 from summarystore.errors import ProgramMissingError
 from summarystore.program import find_program
 from summarystore.store import Store
 
-# A busy machine is no failure, and nothing is written beside the sources.
-settings.register_profile("summarystore", deadline=None, database=None)
+# A busy machine is no failure, and nothing is written beside the sources. Each run tries the same examples,
+# so what fails was changed. Others are looked for in long runs, and where somebody asks for that.
+RANDOM = bool(os.environ.get("SUMMARYSTORE_LONG") or os.environ.get("SUMMARYSTORE_TEST_RANDOM"))
+settings.register_profile("summarystore", deadline=None, database=None, derandomize=not RANDOM,
+                          suppress_health_check=[HealthCheck.too_slow])
 settings.load_profile("summarystore")
 
 ROWS = int(os.environ.get("SUMMARYSTORE_TEST_ROWS", "20000"))

@@ -10,6 +10,7 @@ from pathlib import Path
 
 import pytest
 
+import summarystore
 from summarystore import Interval, Presence, aio, errors
 from summarystore.program import Process
 
@@ -55,6 +56,25 @@ def test_all_calls(path: Path) -> None:
         with pytest.raises(errors.StoreClosedError):
             await store.list()
     run(work())
+
+
+def test_a_landmark_in_two_places(path: Path) -> None:
+    async def work() -> None:
+        async with await aio.open(path) as store:
+            await store.create("a", "exp 2 4 1", scale="0.1")
+            await store.open_landmark("a", 10)
+            with pytest.raises(errors.LandmarkOpenError):
+                await store.open_landmark("a")
+            await store.append("a", 11, "2.5")
+            await store.close_landmark("a", 12)
+            with pytest.raises(errors.LandmarkNotOpenError):
+                await store.close_landmark("a")
+            assert len(await store.values("a")) == 1
+    run(work())
+    with summarystore.open(path) as store:
+        store.open_landmark("a")
+        store.close_landmark("a")
+        assert store.list()[0].landmarks == 2
 
 
 def test_a_hundred_tasks(path: Path) -> None:
@@ -139,16 +159,20 @@ def test_a_crash(path: Path) -> None:
     async def work() -> None:
         async with await aio.open(path) as store:
             await store.create("a", "exp 2 4 1")
-            appends = [asyncio.create_task(store.append("a", time, 1)) for time in range(1, 501)]
-            await appends[10]
+            appends = [asyncio.create_task(store.append("a", time, 1)) for time in range(1, 12)]
+            await asyncio.gather(*appends)
             assert store.pid is not None
+            os.kill(store.pid, signal.SIGSTOP)      # so that what comes now has no reply when it is killed
+            appends += [asyncio.create_task(store.append("a", time, 1)) for time in range(12, 501)]
+            for _ in range(5000):       # turns of the loop: each task is sent in a few of them
+                await asyncio.sleep(0)
             os.kill(store.pid, signal.SIGKILL)
             found = await asyncio.gather(*appends, return_exceptions=True)
             acknowledged = sum(not isinstance(each, BaseException) for each in found)
             unknown = sum(len(each.unknown) for each in found if isinstance(each, errors.ProcessEndedError))
             with pytest.warns(errors.ReopenedWarning):
                 count = await store.query("a", "count")
-            assert acknowledged >= 11 and acknowledged <= count.lo <= acknowledged + unknown
+            assert acknowledged == 11 and unknown == 489 and 11 <= count.lo <= 500
     run(work())
 
 

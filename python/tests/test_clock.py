@@ -8,7 +8,7 @@ import zoneinfo
 import numpy
 import pandas
 import pytest
-from hypothesis import given
+from hypothesis import example, given
 from hypothesis import strategies as st
 
 import summarystore
@@ -103,10 +103,41 @@ def test_days_before_1970() -> None:
 
 @given(st.datetimes(datetime.datetime(1970, 1, 1), datetime.datetime(9999, 12, 31),
                     timezones=st.just(UTC)))
+@example(datetime.datetime(1983, 9, 25, tzinfo=UTC))    # Berlin shows it twice: so `==` of two zones is False
+@example(datetime.datetime(1983, 9, 25, 1, 59, 59, 999999, tzinfo=UTC))
 def test_there_and_back(moment: datetime.datetime) -> None:
     clock = Clock("us", EPOCH, BERLIN)
-    assert clock.back(clock.time(moment)) == moment
+    back = clock.back(clock.time(moment))
+    assert isinstance(back, datetime.datetime) and back.tzinfo is BERLIN
+    assert back.astimezone(UTC) == moment and clock.time(back) == clock.time(moment)
     assert Clock("ns", EPOCH, None).back(5) == 5
+
+
+@pytest.mark.parametrize("moment,shown,fold", [
+    ("2026-10-25T00:30Z", "2026-10-25T02:30:00+02:00", 0),
+    ("2026-10-25T01:30Z", "2026-10-25T02:30:00+01:00", 1),
+    ("2026-10-25T02:00Z", "2026-10-25T03:00:00+01:00", 0),
+    ("1983-09-25T00:00Z", "1983-09-25T02:00:00+02:00", 0),
+    ("1983-09-25T01:00Z", "1983-09-25T02:00:00+01:00", 1),
+    ("2026-03-29T00:59:59Z", "2026-03-29T01:59:59+01:00", 0),
+    ("2026-03-29T01:00Z", "2026-03-29T03:00:00+02:00", 0),
+])
+def test_a_zone_goes_back_and_forward(moment: str, shown: str, fold: int) -> None:
+    """Of an hour that the clock shows twice each has its own form, and no time is shown within the gap."""
+    count = LOCAL.time(moment)
+    back = LOCAL.back(count)
+    assert isinstance(back, datetime.datetime) and (back.isoformat(), back.fold) == (shown, fold)
+    assert back.astimezone(UTC) == datetime.datetime.fromisoformat(moment) and LOCAL.time(back) == count
+    assert LOCAL.time(shown) == SECONDS.time(back) == count
+
+
+@pytest.mark.parametrize("zone", [BERLIN, "Europe/Berlin", "dateutil/Europe/Berlin"])
+def test_pandas_has_each_of_two_hours(zone: object) -> None:
+    """Also where its own zones lose which of them it is when a timestamp becomes a datetime."""
+    counts = [SECONDS.time("2026-10-25T00:00Z") + 1800 * at for at in range(6)]
+    moments = pandas.to_datetime(counts, unit="s", utc=True).tz_convert(zone)
+    assert [SECONDS.time(moment) for moment in moments] == counts
+    assert [LOCAL.time(moment) for moment in moments] == counts
 
 
 @given(st.integers(0, 2**62))
@@ -125,6 +156,24 @@ def test_nanoseconds_are_kept() -> None:
     assert clock.time(numpy.datetime64("2026-11-29T10:00:00.123456789")) % 10**9 == 123456789
     with pytest.raises(TimeError):
         clock.time(numpy.datetime64("9999-01-01"))
+
+
+def test_digits_as_text_count_seconds() -> None:
+    """As a table of text has them. A whole number counts the steps of the stream."""
+    ms, minutes, days = (Clock(unit, EPOCH, BERLIN) for unit in ("ms", "minute", "day"))
+    assert ms.time("1700000000") == ms.time("2023-11-14T22:13:20Z") == 1700000000000
+    assert ms.begin("1700000000") == ms.end("1700000000") == 1700000000000
+    assert ms.time(1700000000) == 1700000000 and SECONDS.time("1700000000") == 1700000000
+    assert minutes.time("1700000040") == 28333334 and minutes.end("1700000059") == 28333334
+    assert days.time("86400") == 1 and Clock("s", datetime.date(1958, 1, 1), None).time("0") == 378691200
+    for odd in ("20261129", "202611291000", "20261129100000", "1700000000000", "1700000000000000000"):
+        for clock in (SECONDS, ms, Clock("ns", EPOCH, None)):
+            with pytest.raises(TimeError, match="digits"):
+                clock.time(odd)
+            with pytest.raises(TimeError, match="digits"):
+                clock.begin(odd)
+    with pytest.raises(TimeError):
+        minutes.time("1700000001")
 
 
 def test_spans() -> None:

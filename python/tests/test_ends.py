@@ -247,15 +247,16 @@ def small_disk(folder: Path) -> Iterator[Path]:
 def test_a_full_disk(small_disk: Path, program: str) -> None:
     store = summarystore.open(small_disk / "a.store")
     store.create("a", "exp 2 65536 1", unit="W")
+    first = 100     # what is taken at once after them may be more than there is room for
+    assert store.append_many("a", ((time, 7) for time in range(1, first + 1))) == first
     with pytest.raises(errors.DiskFullError) as ended:
-        store.append_many("a", ((time, 7) for time in range(1, 100000)))
+        store.append_many("a", ((time, 7) for time in range(first + 1, 100000)))
     told = ended.value
-    assert told.acknowledged > 0
     store.close()
     subprocess.run(["mount", "-o", "remount,size=20m", str(small_disk)], check=True)
     with summarystore.open(small_disk / "a.store") as again:
         count = again.query("a", "count").lo
-        assert told.acknowledged <= count <= told.acknowledged + len(told.unknown)
+        assert first + told.acknowledged <= count <= first + told.acknowledged + len(told.unknown)
         assert again.query("a", "sum") == 7 * count
         description = again.description("a")
         assert description is not None and description.unit == "W"
@@ -297,7 +298,7 @@ def test_another_folder_and_a_store_that_is_gone(folder: Path, program: str,
     with pytest.raises(errors.KilledError):
         store.list()
     (folder / "a.store").rename(folder / "b.store")
-    with pytest.raises(errors.StoreClosedError, match="is gone"):
+    with pytest.raises(errors.NoStoreError):
         store.list()
     assert not (folder / "a.store").exists()
     store.close()

@@ -6,6 +6,7 @@ import importlib.util
 import json
 from pathlib import Path
 
+import pandas
 import pytest
 
 import summarystore
@@ -48,14 +49,41 @@ def test_parquet(room: str, folder: Path) -> None:
     assert main(words) == (0 if engines else 3)
 
 
+def test_parquet_has_each_of_two_hours(room: str, folder: Path, monkeypatch: pytest.MonkeyPatch) -> None:
+    """What is given to the engine, whichever there is."""
+    given: list[pandas.DataFrame] = []
+    monkeypatch.setattr(pandas.DataFrame, "to_parquet", lambda frame, _path: given.append(frame))
+    with summarystore.open(room) as store:
+        store.create("twice", "exp 2 1 1", time="minute")
+        store.append_many("twice", [(f"2026-10-25T0{hour}:30Z", hour) for hour in range(3)])
+    words = [room, "twice", "--series", "sum", "--from", "2026-10-25T00:30Z", "--step", "1h",
+             "--zone", "Europe/Berlin", "--format", "parquet", "-o", str(folder / "w.parquet")]
+    assert main(words) == 0
+    assert [each.isoformat()[11:] for each in given[0]["start"]] == [
+        "02:30:00+02:00", "02:30:00+01:00", "03:30:00+01:00"]
+
+
 def test_a_picture(room: str, folder: Path) -> None:
     assert main([room, "home/room", "--series", "mean", "--plot", str(folder / "a.png")]) == 0
     assert (folder / "a.png").stat().st_size > 1000
 
 
+def test_ranges_of_whole_numbers(path: Path, room: str, capsys: pytest.CaptureFixture[str]) -> None:
+    with summarystore.open(path, existing=True) as store:
+        store.create("plain", "exp 2 1 1")
+        store.append_many("plain", [(time, time) for time in range(10, 20)])
+    assert main([room, "plain", "--series", "sum", "--from", "18", "--to", "19", "--step", "1"]) == 0
+    assert capsys.readouterr().out.splitlines()[1:] == ["18,18,18,18,false", "19,19,19,19,false"]
+    assert main([room, "plain", "--series", "sum", "--from", "2026-11-29", "--step", "1"]) == 3
+
+
 def test_mistakes(room: str, folder: Path, capsys: pytest.CaptureFixture[str]) -> None:
     assert main([room, "cellar/x", "--windows"]) == 3 and "UNKNOWN" in capsys.readouterr().err
     assert main([room, "home/room", "--series", "max", "--step", "1.5h"]) == 3
+    assert main([room, "home/room", "--series", "max", "--plot", str(folder / "a.unknown")]) == 3
+    capsys.readouterr()
+    assert main([room, "home/room", "--series", "max", "--from", "2030-01-01T00:00Z"]) == 3
+    assert "RANGE" in capsys.readouterr().err
     for words in ([room, "home/room"], [room, "home/room", "--windows", "--plot", "x.png"],
                   [room, "home/room", "--windows", "--format", "parquet"]):
         with pytest.raises(SystemExit):

@@ -4,10 +4,11 @@ from __future__ import annotations
 
 import contextlib
 import os
-import shutil
+import signal
 import sqlite3
 import subprocess
 import sys
+import time
 from pathlib import Path
 
 import pytest
@@ -18,6 +19,7 @@ from summarystore.importing import main
 from summarystore.store import Store
 
 from .conftest import HOME, IMPORTED
+from .waiting import ended, until
 
 UTC = "2026-11-29T10:0{}:00Z"
 
@@ -137,6 +139,9 @@ def test_sqlite(folder: Path, program: str, capsys: pytest.CaptureFixture[str]) 
     words = [str(folder / "s"), str(folder / "log.db")]
     assert main(words) == 3
     assert main([*words, "--query", "select nothing"]) == 3
+    odd = "select 1764406800, 1e300 union select 1764406801, 0.5 union select 1764406802, x'00ff'"
+    assert main([str(folder / "odd"), *words[1:], "--query", odd, "--name", "odd"]) == 1
+    assert "odd: 1 rows stored, 0 there before, 2 refused" in capsys.readouterr().out
     assert main([*words, "--query", "select t, v as power from r order by t"]) == 0
     assert "5 rows stored, 0 there before, 0 refused, 1 without a value" in capsys.readouterr().out
     words += ["--query", "select t, v, n from r order by t", "--stream", "n", "--name", "all"]
@@ -145,23 +150,23 @@ def test_sqlite(folder: Path, program: str, capsys: pytest.CaptureFixture[str]) 
         assert str(store.query("all/a", "sum")) == "117.5"
 
 
-@pytest.mark.skipif(shutil.which("rrdtool") is None, reason="rrdtool isn't installed")
-def test_rrd(folder: Path, program: str) -> None:
-    file = str(folder / "a.rrd")
-    subprocess.run(["rrdtool", "create", file, "--start", "1764406800", "--step", "60",
-                    "DS:temp:GAUGE:120:U:U", "DS:load:GAUGE:120:U:U", "RRA:AVERAGE:0.5:1:100"], check=True)
-    subprocess.run(["rrdtool", "update", file, *(f"{1764406800 + 60 * at}:{at}.5:U" for at in range(1, 11))],
-                   check=True, capture_output=True)
-    assert main([str(folder / "s"), file, "--value", "temp", "--scale", "0.1"]) == 0
-    with summarystore.open(folder / "s") as store:
-        assert str(store.query("temp", "max")) == "10.5" and store.query("temp", "count") == 10
+@pytest.mark.parametrize("words,reason", [
+    (["--since", "monday"], "a day is written as"), (["--scale", "-1"], "a scale is more than 0"),
+    (["--unit", "\udc80"], "a unit and labels are text"),
+])
+def test_words_that_cannot_be_are_told_before_a_store_is_made(
+        folder: Path, program: str, capsys: pytest.CaptureFixture[str], words: list[str],
+        reason: str) -> None:
+    (folder / "a.csv").write_text(f"{UTC.format(0)},1\n")
+    assert main([str(folder / "s"), str(folder / "a.csv"), *words]) == 3
+    assert reason in capsys.readouterr().err
+    assert not (folder / "s").exists() and not (folder / "s.names.json").exists()
 
 
 def test_whisper(folder: Path, program: str) -> None:
     whisper = pytest.importorskip("whisper")
     file = str(folder / "load.wsp")
     whisper.create(file, [(60, 60), (300, 300)])
-    import time
     now = int(time.time()) // 300 * 300
     whisper.update_many(file, [(now - 60 * at, float(at)) for at in range(1, 30)])
     assert main([str(folder / "s"), file, "--rounding", "half-even"]) == 0
@@ -178,12 +183,13 @@ def test_files_that_cannot_be_read(folder: Path, program: str) -> None:
     late = b"".join(b"%d,1\n" % (1764406800 + at) for at in range(2000)) + b"1764409000,\xff\n"
     (folder / "late.csv").write_bytes(late)
     assert main([str(folder / "s"), str(folder / "late.csv")]) == 3
-    with pytest.raises(tables.SourceError):
+    with pytest.raises(errors.SourceError):
         tables.whisper_table(str(folder / "latin.csv"))
     with pytest.raises(errors.TimeError):
         timeforms.guess([], None)
-    with pytest.raises(SystemExit):
-        main([])
+    for words in list[list[str]](([], ["s", "f.csv", "--delimiter", ";;"])):
+        with pytest.raises(SystemExit):
+            main(words)
 
 
 def test_a_stream_of_whole_numbers_that_stands(path: Path, folder: Path) -> None:
@@ -194,6 +200,35 @@ def test_a_stream_of_whole_numbers_that_stands(path: Path, folder: Path) -> None
     assert main([str(path), str(folder / "a.csv"), "--name", "a"]) == 1
     with Store(path) as store:
         assert store.query("a", "sum") == 11
+
+
+def test_an_interrupt(folder: Path, program: str) -> None:
+    """Ctrl-C ends an import in order, and the same command goes on from there."""
+    lines = b"".join(b"%d,%d.5\n" % (1764406800 + at, at) for at in range(12_000))
+    # Where the tests run in the background of a shell, the signal is passed over without a handler.
+    script = "import signal, sys; signal.signal(signal.SIGINT, signal.default_int_handler); " \
+             "from summarystore.importing import main; sys.exit(main())"
+    words = [sys.executable, "-c", script, str(folder / "s"), "-", "--name", "n"]
+    child = subprocess.Popen(words, env={**os.environ, "PYTHONPATH": str(HOME / "src")},
+                             stdin=subprocess.PIPE, stdout=subprocess.DEVNULL, stderr=subprocess.PIPE)
+    assert child.stdin is not None and child.stderr is not None
+    child.stdin.write(lines[:len(lines) * 2 // 3])
+    child.stdin.flush()
+
+    def has_begun() -> bool:
+        assert child.poll() is None
+        return (folder / "s").exists() and (folder / "s").stat().st_size >= 40_000
+    until(has_begun)
+    child.send_signal(signal.SIGINT)
+    assert ended(child) == 130
+    child.stdin.close()
+    assert b"the same command goes on from here" in child.stderr.read()
+    child.stderr.close()
+    (folder / "all.csv").write_bytes(lines)
+    assert main([str(folder / "s"), str(folder / "all.csv"), "--name", "n", "--quiet"]) == 0
+    with summarystore.open(folder / "s", existing=True) as store:
+        assert store.query("n", "count") == 12_000
+        assert str(store.query("n", "sum")) == str(sum(range(12_000)) + 6_000) + ".0"
 
 
 def test_killed_ten_times(folder: Path, program: str) -> None:

@@ -101,6 +101,12 @@ def test_what_has_no_value_has_no_ends(use: str) -> None:
     assert (Interval(1, maybe_none=True) + 1).maybe_none
 
 
+def test_floats_are_equal_as_to_a_decimal() -> None:
+    assert Interval("21.5") == 21.5 and 21.5 == Interval("21.5") and 21.5 in {Interval("21.5")}
+    assert Interval("0.1") != 0.1 and Interval("0.1") != float("nan") and Interval(1, 2) != 1.0
+    assert Interval(1, maybe_none=True) != 1.0 and Interval.nothing() != 0.0
+
+
 def test_what_is_not_exact_is_refused() -> None:
     for wrong in (0.1, True, "x", None, float("nan"), Decimal("nan"), "inf"):
         with pytest.raises((TypeError, ValueError)):

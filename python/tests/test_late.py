@@ -11,13 +11,13 @@ from hypothesis import given
 from hypothesis import strategies as st
 
 from summarystore import errors
-from summarystore.late import ReorderBuffer, in_order
+from summarystore.late import InOrder, ReorderBuffer
 from summarystore.store import Store
 
 
 @given(st.lists(st.integers(0, 200), max_size=100), st.integers(0, 50))
 def test_order(times: list[int], lateness: int) -> None:
-    given_times = list(in_order(times, lambda time: time, lateness))
+    given_times = list(InOrder(times, lambda time: time, lateness))
     assert sorted(given_times) == sorted(times)
     newest = late = -1
     behind = []

@@ -4,6 +4,7 @@ from __future__ import annotations
 
 import datetime
 import json
+import stat
 from decimal import Decimal
 from pathlib import Path
 
@@ -129,6 +130,34 @@ def test_a_damaged_file_is_left(path: Path, text: str) -> None:
     summarystore.check(path)
 
 
+@pytest.mark.parametrize("mode", [0o600, 0o640, 0o664])
+def test_whoever_may_read_the_store_may_read_its_names(path: Path, mode: int) -> None:
+    with summarystore.open(path) as store:
+        path.chmod(mode)
+        for name in ("a/b", "a/c"):     # made, and replaced
+            store.create(name, "exp 2 1 1", unit="W")
+            assert stat.S_IMODE(Path(f"{path}.names.json").stat().st_mode) == mode
+
+
+def test_what_cannot_be_written_is_refused_before(store: Store, path: Path) -> None:
+    """A file of names that can't be read again would shut its store."""
+    for words in ({"unit": 5}, {"unit": "a\ud800"}, {"labels": {"a": 5}}, {"labels": {5: "a"}}):
+        with pytest.raises(errors.DescriptionError):
+            store.create("a/b", "exp 2 1 1", **words)      # type: ignore[arg-type]
+    for name in (5, "a\ud800", None):
+        with pytest.raises(errors.StreamNameError):
+            store.create(name, "exp 2 1 1", unit="W")       # type: ignore[arg-type]
+    with pytest.raises(TypeError):
+        store.create("a/c", None, unit="W")                 # type: ignore[arg-type]
+    store.create("a/d", "exp 2 1 1", since="0001-01-01")
+    assert list(json.loads(Path(f"{path}.names.json").read_text())["streams"]) == ["a/d"]
+    store.append("a/d", "0001-01-02T00:00Z", 5)
+    store.close()
+    with summarystore.open(path, existing=True) as again:
+        last = again.last("a/d")
+        assert last is not None and last.time == datetime.datetime(1, 1, 2, tzinfo=datetime.timezone.utc)
+
+
 def test_a_description_without_its_stream(path: Path) -> None:
     """As a crash leaves it between the two: the stream can be made, also otherwise."""
     described(path)
@@ -208,7 +237,7 @@ def test_now_is_now(store: Store) -> None:
 
 @given(st.text(min_size=1, max_size=80).filter(lambda text: text.isprintable()),
        st.integers(1, 999), st.integers(-18, 9), st.sampled_from(sorted(NANOSECONDS)),
-       st.one_of(st.none(), st.dates(datetime.date(1000, 1, 1))))
+       st.one_of(st.none(), st.dates()))
 def test_short_names_say_what_numbers_mean(name: str, digits: int, exponent: int, time: str,
                                            since: datetime.date | None) -> None:
     scale = Decimal(digits).scaleb(exponent)

@@ -31,6 +31,32 @@ def test_what_may_be_two_things_is_asked(program: str, folder: Path, text: str, 
         assert store.list()[0].values == 2
 
 
+@pytest.mark.parametrize("text, delimiter, total", [
+    ("2026-01-01T00:00Z;21,5\n2026-01-02T00:00Z;-0,5\n", ";", "21.0"),
+    ("1764406800;21,5\n1764406801;-0,25\n", ";", "21.25"),
+    ("01.01.2026 00:00;21,5\r\n01.01.2026 00:01;7\r\n", ";", "28.5"),
+    ("1764406800\t21,5\n1764406801\t0,5\n", "\\t", "22.0"),
+    ("1764406800;5\n1764406801;6\n", ";", "11"),
+    ("1764406800;1;21,5\n1764406801;2;22,5\n", ";", None),
+    ("t;v\n1764406800;21,5\n1764406801;0,5\n", ";", "22.0"),
+    ("2026-01-01 00:00,5\n2026-01-01 00:01,6\n", ",", "11"),
+    ('1764406800,5,"a;b"\n1764406801,6,"c;d"\n', ",", "11"),
+    ("time;v\n1764406800;21,5\n\n1764406801;;\n1764406802;1,5\n", ";", "23.0"),
+])
+def test_delimiters_and_decimal_commas_without_heads(program: str, folder: Path, text: str, delimiter: str,
+                                                     total: str | None,
+                                                     capsys: pytest.CaptureFixture[str]) -> None:
+    (folder / "t.csv").write_text(text, newline="")
+    assert importing.main([str(folder / "s"), str(folder / "t.csv"), "--zone", "UTC", "--name", "n"]) == 0
+    assert f"delimiter '{delimiter}'" in capsys.readouterr().out
+    with summarystore.open(folder / "s") as store:
+        streams = [stream.name for stream in store.list()]
+        if total is None:
+            assert [str(store.query(name, "sum")) for name in streams] == ["3", "44.0"]
+        else:
+            assert [str(store.query(name, "sum")) for name in streams] == [total]
+
+
 def test_commas_that_are_surely_decimal(program: str, folder: Path) -> None:
     assert run(folder, "t;v\n2026-01-01T00:00Z;1,234\n2026-01-02T00:00Z;0,345\n") == 0
 

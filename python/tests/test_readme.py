@@ -28,7 +28,8 @@ def test_python(folder: Path, program: str, monkeypatch: pytest.MonkeyPatch) -> 
 
 def test_shell(folder: Path, program: str) -> None:
     """What is shown of both streams comes, line for line."""
-    for name, module in (("summarystore-import", "importing"), ("summarystore-export", "exporting")):
+    for name, module in (("summarystore-import", "importing"), ("summarystore-export", "exporting"),
+                         ("summarystore-plan", "plan")):
         script = folder / name
         script.write_text(f"#!/bin/sh\nexec {sys.executable} -m summarystore.{module} \"$@\"\n")
         script.chmod(0o755)

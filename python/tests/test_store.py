@@ -2,8 +2,10 @@
 
 from __future__ import annotations
 
+import datetime
 from decimal import Decimal
 from pathlib import Path
+from typing import cast
 
 import numpy
 import pandas
@@ -11,6 +13,7 @@ import pytest
 
 import summarystore
 from summarystore import Interval, Presence, errors
+from summarystore.series import index_of
 from summarystore.store import Store
 
 SEVEN = list(zip(range(10, 80, 10), (5, -3, 8, 1, 9, 2, 7)))
@@ -46,6 +49,21 @@ def test_series_and_frames(seven: Store) -> None:
     assert exact["mid"][10] == Decimal("2.75")
 
 
+def test_frames_of_an_hour_that_a_clock_shows_twice(path: Path) -> None:
+    """Each row has its own time in pandas, too, as it has in its datetime."""
+    starts = [f"2026-10-25T0{hour}:{minute}Z" for hour in range(3) for minute in ("00", "30")]
+    with summarystore.open(path, zone="Europe/Berlin") as store:
+        store.create("a", "exp 2 60 1", time="minute")
+        store.append_many("a", [(start, at) for at, start in enumerate(starts)])
+        rows = store.series("a", "sum", starts[0], starts[-1], "30 min")
+    index = rows.to_frame().index
+    assert [each.isoformat() for each in index] == [
+        cast(datetime.datetime, row.start).isoformat() for row in rows]
+    assert list(index.tz_convert("UTC").strftime("%Y-%m-%dT%H:%MZ")) == starts
+    far = datetime.datetime(9000, 1, 1, tzinfo=datetime.timezone.utc)      # beyond what 64 bits of ns count
+    assert list(index_of([far])) == [far] and list(index_of([far, 5])) == [far, 5]
+
+
 def test_windows_last_and_list(seven: Store) -> None:
     windows = list(seven.windows("a"))
     assert [(w.first, w.last, w.count, w.sum, w.least, w.greatest, w.start, w.end) for w in windows] == [
@@ -79,6 +97,9 @@ def test_landmarks(seven: Store) -> None:
                 pass
     last = seven.last("a")
     assert last is not None and last.time == 200
+    with pytest.raises(errors.RangeError):
+        with seven.landmark("a", 300, 299):     # it isn't opened
+            pass
     with pytest.raises(ValueError):
         with seven.landmark("a", 300, 310):
             raise ValueError("closed all the same")
@@ -236,6 +257,8 @@ def test_whole_store_check(seven: Store, folder: Path) -> None:
     seven.close()
     assert summarystore.check(seven.path).windows == 3
     assert summarystore.check(folder / "missing.store") == (0, 0, 0, 0)
+    with pytest.raises(errors.NoStoreError):
+        summarystore.check(folder / "missing.store", existing=True)
 
 
 def test_pictures(seven: Store, folder: Path) -> None:

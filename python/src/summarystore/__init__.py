@@ -9,33 +9,34 @@ from .certificate import Certificate
 from .clock import Clock
 from .description import EPOCH, Description
 from .errors import (CertificateError, CommandError, CursorBusyError, DamagedStoreError,
-                     DescriptionError, DiskFullError, InputFaultError, InputTooLongError, KilledError,
-                     LandmarkNotOpenError, LandmarkOpenError, LateError, LineTooLongError, LockedError,
-                     NamesFileError, NoCursorError, NotANumberError, NoValueError, NumberError,
-                     OutOfMemoryError, OutputFaultError, ProcessEndedError, ProgramMissingError,
-                     ProtocolError, RangeError, RecordChangedError, RefusedError, ReopenedWarning,
-                     RowsRefusedError, ScaleError, StoreClosedError, StoreFileError, StoreFullError,
-                     StreamExistsError, StreamFullError, StreamNameError, SummaryStoreError,
-                     TargetError, TimeError, TooManyStreamsError, UnexpectedEndError,
-                     UnknownStreamError, UsageError)
+                     DescriptionError, DiskFullError, InputFaultError, InputTooLongError,
+                     KilledError, LandmarkNotOpenError, LandmarkOpenError, LateError,
+                     LineTooLongError, LockedError, NamesFileError, NoCursorError, NoStoreError,
+                     NotANumberError, NoValueError, NumberError, Outcome, OutOfMemoryError,
+                     OutputFaultError, ProcessEndedError, ProgramMissingError, ProtocolError,
+                     RangeError, RecordChangedError, RefusedError, ReopenedWarning,
+                     RowsRefusedError, ScaleError, SourceError, StoreClosedError, StoreFileError,
+                     StoreFullError, StreamExistsError, StreamFullError, StreamNameError,
+                     SummaryStoreError, TargetError, TimeError, TooManyStreamsError,
+                     UnexpectedEndError, UnknownStreamError, UsageError, outcome_of)
 from .interval import Interval, Presence, mean_of
 from .names import Names
-from .program import check
-from .records import Last, Reading, Row, Soundness, Stored, Stream, Window
+from .program import StorePath, check
+from .records import Estimate, EstimateRow, Last, Reading, Row, Soundness, Stored, Stream, Window
 from .series import Series
 from .store import Store
 
 __version__ = "0.1.0"
 
 
-def open(path: str | os.PathLike[str], *, zone: str | datetime.tzinfo | None = None,
+def open(path: StorePath, *, zone: str | datetime.tzinfo | None = None, existing: bool = False,
          program: str | os.PathLike[str] | None = None) -> Store:
-    """Opens a store, and makes it where there is none.
+    """Opens a store, and makes it where there is none: with `existing` that raises NoStoreError.
 
     Its streams may have long names, scales and clock times. Times without a zone are those of `zone`,
     where it is given, such as Europe/Berlin.
     """
-    return Store(path, program=program, translator=Names(path, zone))
+    return Store(path, program=program, translator=Names(path, zone), existing=existing)
 
 
 def now(resolution: str = "s") -> datetime.datetime:
@@ -49,14 +50,16 @@ def now(resolution: str = "s") -> datetime.datetime:
 
 __all__ = [
     "Certificate", "CertificateError", "CommandError", "CursorBusyError", "DamagedStoreError",
-    "Description", "DescriptionError", "DiskFullError", "InputFaultError", "InputTooLongError",
+    "Description", "DescriptionError", "DiskFullError", "Estimate", "EstimateRow", "InputFaultError",
+    "InputTooLongError",
     "Interval", "KilledError", "LandmarkNotOpenError", "LandmarkOpenError", "Last", "LateError",
-    "LineTooLongError", "LockedError", "NamesFileError", "NoCursorError", "NoValueError",
-    "NotANumberError", "NumberError", "OutOfMemoryError", "OutputFaultError", "Presence",
-    "ProcessEndedError", "ProgramMissingError", "ProtocolError", "RangeError", "Reading",
-    "RecordChangedError", "RefusedError", "ReopenedWarning", "Row", "RowsRefusedError", "ScaleError",
-    "Series", "Soundness", "Store", "StoreClosedError", "StoreFileError", "StoreFullError", "Stored",
-    "Stream", "StreamExistsError", "StreamFullError", "StreamNameError", "SummaryStoreError",
-    "TargetError", "TimeError", "TooManyStreamsError", "UnexpectedEndError", "UnknownStreamError",
-    "UsageError", "Window", "check", "mean_of", "now", "open",
+    "LineTooLongError", "LockedError", "NamesFileError", "NoCursorError", "NoStoreError",
+    "NotANumberError", "NoValueError", "NumberError", "Outcome", "OutOfMemoryError",
+    "OutputFaultError", "Presence", "ProcessEndedError", "ProgramMissingError", "ProtocolError",
+    "RangeError", "Reading", "RecordChangedError", "RefusedError", "ReopenedWarning", "Row",
+    "RowsRefusedError", "ScaleError", "Series", "Soundness", "SourceError", "Store",
+    "StoreClosedError", "Stored", "StoreFileError", "StoreFullError", "Stream", "StreamExistsError",
+    "StreamFullError", "StreamNameError", "SummaryStoreError", "TargetError", "TimeError",
+    "TooManyStreamsError", "UnexpectedEndError", "UnknownStreamError", "UsageError", "Window",
+    "check", "mean_of", "now", "open", "outcome_of",
 ]

@@ -10,85 +10,85 @@ import asyncio
 import datetime
 import os
 import warnings
-from collections import deque
 from collections.abc import AsyncIterator, Mapping, Sequence
 from contextlib import asynccontextmanager
 from types import TracebackType
 from typing import Self, TypeVar
 
 from . import calls
-from . import program as programs
+from .base import Base
 from .calls import Call
 from .certificate import Certificate
-from .codec import Codec, Plain, Translator
-from .connection import RENEW_AT, Connection, connect
+from .codec import Codec, Translator
+from .combining import Part
+from .connection import RENEW_AT, Connection
 from .description import Description, changed, description_of
 from .errors import (CursorBusyError, LateError, RefusedError, ReopenedWarning, StoreClosedError,
-                     SummaryStoreError)
+                     SummaryStoreError, tell)
 from .interval import Interval, Presence
 from .names import Names
-from .pipeline import Appends, Commands, Request
-from .records import Last, Reading, Soundness, Stored, Stream, Time, Window
-from .sending import OPEN, OnRefused, Sending
+from .pipeline import Commands, Request
+from .program import StorePath
+from .records import Estimate, EstimateRow, Last, Reading, Soundness, Stored, Stream, Window
+from .sending import OnRefused, Sending
 from .series import Series
-from .sessions import Sessions
-from .wire import MOST_ROWS
+from .wire import MOST_ROWS, NOTHING
 
 T = TypeVar("T")
 
 
-class Store:
+class Store(Base):
     """A store for one event loop. `aio.open` makes it."""
 
-    def __init__(self, path: str | os.PathLike[str], *, program: str | os.PathLike[str] | None = None,
-                 translator: Translator | None = None, renew_at: int = RENEW_AT) -> None:
-        self.path = os.path.abspath(os.fsdecode(path))
-        self._program = programs.find_program(program)
-        self._translator: Translator = Plain() if translator is None else translator
-        self._renew_at = renew_at
-        self._sessions = Sessions()
+    def __init__(self, path: StorePath, *, program: str | os.PathLike[str] | None = None,
+                 translator: Translator | None = None, existing: bool = False,
+                 renew_at: int = RENEW_AT) -> None:
+        super().__init__(path, program=program, translator=translator, existing=existing,
+                         renew_at=renew_at)
         self._opening = asyncio.Lock()
         self._changed = asyncio.Condition()
-        self._connection: Connection | None = None
-        self._opened = self._closed = self._flushing = False
-        self._waiting: set[asyncio.Future[None]] = set()
-        self._sending = 0
+        self._opened = self._flushing = False
 
     # ---- the process --------------------------------------------------------------------
 
     async def _up(self) -> Connection:
         """The process that is up. One that has ended is started again, once, and that is said."""
         async with self._opening:
-            if self._closed:
-                raise StoreClosedError(f"{self.path} is closed")
-            if self._connection is None:
-                self._connection = await self._connect()
-                if self._opened:
-                    warnings.warn(ReopenedWarning(f"{self.path}: the program had ended; opened again"),
-                                  stacklevel=4)
-                self._opened = True
-            elif self._is_old(self._connection):
+            return await self._running()
+
+    async def _running(self) -> Connection:
+        """`_up` for whoever holds the lock."""
+        if self._closed:
+            raise StoreClosedError(f"{self.path} is closed")
+        await self._renew()
+        if self._connection is None:
+            self._connection = await self._begin()
+            if self._opened:
+                warnings.warn(ReopenedWarning(f"{self.path}: the program had ended; opened again"),
+                              stacklevel=5)
+            self._opened = True
+        return self._connection
+
+    async def _renew(self) -> None:
+        """Lets another process take the place of one that has taken much. What is under way is answered
+        before, and whoever wants to send more meanwhile waits for the lock."""
+        old = self._outlived()
+        if old is not None:
+            await self._answered(old)
+            if self._outlived() is old:     # no cursor was opened meanwhile
                 await self._put_down()
-                self._connection = await self._connect()
-            return self._connection
+                self._connection = old.successor = await self._begin()
 
-    def _is_old(self, connection: Connection) -> bool:
-        pipeline = connection.pipeline
-        idle = pipeline.idle and not self._sessions.cursors and not self._sending
-        return pipeline.sent > self._renew_at and idle
-
-    async def _connect(self) -> Connection:
-        self._sessions.forget_cursors()
-        if self._opened and not os.path.exists(self.path):
-            raise StoreClosedError(f"{self.path} is gone")
-        connection = await asyncio.to_thread(connect, self._program, self.path, self._translator)
+    async def _begin(self) -> Connection:
+        connection = await asyncio.to_thread(self._start)
         asyncio.get_running_loop().add_reader(connection.process.output, self._readable, connection)
         return connection
 
-    @property
-    def pid(self) -> int | None:
-        """The number of the process, if one is up."""
-        return None if self._connection is None else self._connection.process.pid
+    async def _answered(self, connection: Connection) -> None:
+        """Waits for all that is under way: replies come in order, so for that to one more line."""
+        last = Commands(0, [NOTHING])
+        self._hand_over(connection, last)
+        await self._wait(last)
 
     async def _put_down(self) -> None:
         """Lets the process end in order. Nothing may be under way."""
@@ -137,16 +137,22 @@ class Store:
             loop.remove_writer(connection.process.input)
 
     async def _submit(self, request: Request, only: Connection | None = None) -> Connection:
-        """Sends a request: where a process is named, to that one or to none."""
-        connection = only if only is not None else await self._up()
-        if connection is not self._connection:
-            request.finish(request.interrupted(connection.failure()))
+        """Sends a request: where a process is named, to that one or its successor, or to none."""
+        async with self._opening:
+            await self._renew()
+            if only is not None and only.newest() is not self._connection:
+                request.finish(request.interrupted(only.failure()))
+                return only
+            connection = await self._running()
+            self._hand_over(connection, request)
             return connection
+
+    def _hand_over(self, connection: Connection, request: Request) -> None:
+        """Queues a request. What is queued in one turn of the loop is written together."""
         connection.pipeline.add(request)
         if not self._flushing:
             self._flushing = True
             asyncio.get_running_loop().call_soon(self._flush)
-        return connection
 
     async def _wait(self, request: Request) -> None:
         """Waits for the replies."""
@@ -154,11 +160,7 @@ class Store:
             return
         future: asyncio.Future[None] = asyncio.get_running_loop().create_future()
         request.when_done = lambda: None if future.done() else future.set_result(None)
-        self._waiting.add(future)
-        try:
-            await future
-        finally:
-            self._waiting.discard(future)
+        await future
 
     async def _do(self, call: Call[T], session: int = 0, only: Connection | None = None) -> T:
         request = Commands(session, call.lines)
@@ -168,14 +170,11 @@ class Store:
             raise request.error
         return call.answer(request.replies)
 
-    async def _idle(self) -> None:
-        while self._waiting:
-            await asyncio.wait(self._waiting)
-
     async def close(self) -> None:
         """Lets the program end in order, after all that is under way. Twice does no harm."""
-        await self._idle()
         async with self._opening:
+            if self._connection is not None:
+                await self._answered(self._connection)
             self._closed = True
             await self._put_down()
 
@@ -199,15 +198,11 @@ class Store:
         codec = self._translator.declare(name, description)
         try:
             made = await self._do(calls.create(codec, target, within))
-        except RefusedError:
+        except (RefusedError, TypeError, ValueError):
             self._translator.unmade(name, codec)
             raise
         self._translator.made(name, codec)
         return made
-
-    def description(self, name: str) -> Description | None:
-        """How a stream is read. None where it takes and gives whole numbers."""
-        return self._translator.codec(name).description
 
     def describe(self, name: str, *, unit: str | None = None, labels: Mapping[str, str] | None = None,
                  rounding: str | None = None) -> None:
@@ -216,11 +211,6 @@ class Store:
             raise StoreClosedError(f"{self.path} is closed, or its program has ended")
         known = self.description(name) or Description()
         self._translator.describe(name, changed(known, unit, labels, rounding))
-
-    def now(self, name: str) -> Time:
-        """The present time of a described stream."""
-        codec = self._translator.codec(name)
-        return codec.time_back(codec.now())
 
     async def append(self, name: str, time: object, value: object) -> Stored:
         """Takes a value at a time later than all before. It is on the disk when this returns."""
@@ -244,48 +234,57 @@ class Store:
                           lateness: object | None = None) -> int:
         """Takes rows of a time and a value, as `Store.append_many` does."""
         codec = self._translator.codec(name)
-        sending = Sending(codec, 0, rows, refused, lateness)
-        self._sending += 1
+        sending = Sending(codec, rows, refused, lateness)
         try:
             await self._send_all(sending)
-        finally:
-            self._sending -= 1
-            async with self._changed:
-                self._changed.notify_all()
+        except BaseException as error:
+            await self._cut_off(sending, error)
+            raise
         await self._tell_newest(codec, sending.late())
         return sending.end()
 
     async def _send_all(self, sending: Sending) -> None:
-        under_way: deque[Appends[tuple[object, object]]] = deque()
-        connection = None
+        for request in sending.requests(0):
+            sending.connection = await self._submit(request, sending.connection)
+            for oldest in sending.due():
+                await self._wait(oldest)
+        for oldest in sending.due(0):
+            await self._wait(oldest)
+
+    async def _cut_off(self, sending: Sending, error: BaseException) -> None:
+        """An exception came, or the task was cancelled: what isn't written yet is taken back, and what
+        became of the rows is told with it."""
         try:
-            for request in sending.requests():
-                connection = await self._submit(request, connection)
-                under_way.append(request)
-                if len(under_way) == OPEN:
-                    await self._wait(under_way[0])
-                    sending.answered(under_way.popleft())
-        finally:
-            for request in under_way:
+            self._call_off(sending.under_way)
+            for request in sending.under_way:
                 await self._wait(request)
-                sending.answered(request)
+        finally:
+            tell(error, sending.outcome())
 
     @asynccontextmanager
     async def landmark(self, name: str, start: object | None = None, end: object | None = None
                        ) -> AsyncIterator[None]:
         """Keeps the values that are appended meanwhile one by one, as `Store.landmark` does."""
         codec = self._translator.codec(name)
-        begun = codec.now() if start is None else codec.time(start)
+        begun, ended = calls.landmark_span(codec, start, end)
         await self._do(calls.landmark_open(codec, begun))
         try:
             yield
         finally:
-            if end is not None:
-                closed = codec.time(end)
-            else:
+            if ended is None:
                 newest = (await self._do(calls.last_numbers(codec)))[0]
-                closed = max(newest, codec.now()) if start is None else newest
-            await self._do(calls.landmark_close(codec, closed))
+                ended = max(newest, codec.now()) if start is None else newest
+            await self._do(calls.landmark_close(codec, ended))
+
+    async def open_landmark(self, name: str, time: object | None = None) -> Stored:
+        """Opens a landmark at a time, or now, for one that ends in another place of the program."""
+        codec = self._translator.codec(name)
+        return await self._do(calls.landmark_open(codec, codec.now() if time is None else codec.time(time)))
+
+    async def close_landmark(self, name: str, time: object | None = None) -> Stored:
+        """Closes the landmark that is open."""
+        codec = self._translator.codec(name)
+        return await self._do(calls.landmark_close(codec, codec.now() if time is None else codec.time(time)))
 
     async def drop(self, name: str) -> None:
         """Removes a stream with all that it holds. It can't be undone."""
@@ -312,6 +311,21 @@ class Store:
                      ) -> Series:
         """The answers to `query` for each step from t1 to t2: at most 100,000 rows."""
         return await self._do(calls.series(name, self._translator.codec(name), kind, t1, t2, step))
+
+    async def estimate(self, name: str, kind: str, t1: object | None = None, t2: object | None = None
+                       ) -> Estimate:
+        """`count` or `sum` of the values from t1 to t2, and the likeliest number in its interval."""
+        return await self._do(calls.estimate(self._translator.codec(name), kind, t1, t2))
+
+    async def estimates(self, name: str, kind: str, t1: object | None, t2: object | None, step: object
+                        ) -> Sequence[EstimateRow]:
+        """The answers to `estimate` for each step from t1 to t2: at most 100,000 rows."""
+        return await self._do(calls.estimates(self._translator.codec(name), kind, t1, t2, step))
+
+    async def figures(self, name: str, kinds: Sequence[str], t1: object | None = None,
+                      t2: object | None = None, step: object | None = None) -> Sequence[Part]:
+        """The answers to `query` of several kinds, all of one moment; with a step, one for each row."""
+        return await self._do(calls.figures(self._translator.codec(name), kinds, t1, t2, step))
 
     async def last(self, name: str) -> Last | None:
         """The last time and the newest value. None where the stream took nothing yet."""
@@ -380,21 +394,20 @@ class Store:
 
     async def check(self) -> Soundness:
         """Looks the store over. The process is ended for that, and started again."""
-        if self._sessions.cursors:
-            raise CursorBusyError("BUSY", "check", "an iterator over windows is open")
-        async with self._changed:
-            await self._changed.wait_for(lambda: not self._sending)
-        await self._idle()
         async with self._opening:
+            old = await self._running()
+            await self._answered(old)
+            if self._sessions.cursors:
+                raise CursorBusyError("BUSY", "check", "an iterator over windows is open")
             await self._put_down()
-            found = await asyncio.to_thread(programs.check, self.path, self._program)
-            self._connection = await self._connect()
+            found = await asyncio.to_thread(self._look_over)
+            self._connection = old.successor = await self._begin()
             return found
 
 
-async def open(path: str | os.PathLike[str], *, zone: str | datetime.tzinfo | None = None,
+async def open(path: StorePath, *, zone: str | datetime.tzinfo | None = None, existing: bool = False,
                program: str | os.PathLike[str] | None = None) -> Store:
     """Opens a store, and makes it where there is none, as `summarystore.open` does."""
-    store = Store(path, program=program, translator=Names(path, zone))
+    store = Store(path, program=program, translator=Names(path, zone), existing=existing)
     await store._up()
     return store

@@ -9,14 +9,14 @@ from typing import Generic, TypeVar
 from . import certificate, wire
 from .certificate import Certificate
 from .codec import Codec, Translator, streams_of
+from .combining import KINDS, Part
 from .errors import CertificateError, refusal_of
 from .interval import Interval, Presence, mean_of
-from .records import Last, Reading, Row, Stored, Stream, Window
+from .records import Estimate, EstimateRow, Last, Reading, Row, Stored, Stream, Window
 from .series import Series
 from .wire import Reply
 
 T = TypeVar("T")
-KINDS = ("count", "sum", "min", "max")
 
 
 @dataclass(frozen=True)
@@ -46,6 +46,15 @@ def create(codec: Codec, target: str | Sequence[object], within: int | None) -> 
 def append(codec: Codec, time: object, value: object) -> Call[Stored]:
     """Takes a value."""
     return Call([wire.append(codec.short, codec.time(time), codec.value(value))], _stored)
+
+
+def landmark_span(codec: Codec, start: object | None, end: object | None) -> tuple[int, int | None]:
+    """When a landmark begins, and when it is to end, if that is told."""
+    begun = codec.now() if start is None else codec.time(start)
+    ended = None if end is None else codec.time(end)
+    if ended is not None and ended < begun:
+        raise refusal_of("RANGE", f"landmark {codec.short} from {begun} to {ended}")
+    return begun, ended
 
 
 def landmark_open(codec: Codec, time: int) -> Call[Stored]:
@@ -113,6 +122,26 @@ def mean(codec: Codec, first: object, last_time: object) -> Call[Interval]:
     return Call(lines, result)
 
 
+def figures(codec: Codec, kinds: Sequence[str], first: object, last_time: object, step: object | None
+            ) -> Call[Sequence[Part]]:
+    """The answers of several kinds, all of one moment: their lines go to the program together. With a
+    step there is one for each of its rows, and otherwise one."""
+    here = codec.begin(first), codec.end(last_time)
+    if step is None:
+        lines = [wire.query(codec.short, wire.name_word(kind), *here) for kind in kinds]
+    else:
+        lines = [wire.series(codec.short, wire.name_word(kind), *here, codec.step(step)) for kind in kinds]
+
+    def column(kind: str, reply: Reply) -> Sequence[Interval]:
+        if step is None:
+            return [_interval(codec, kind, reply)]
+        return [_row(codec, kind, row)[1] for row in wire.rows_of(reply, "series")]
+
+    def result(replies: Sequence[Reply]) -> Sequence[Part]:
+        return [dict(zip(kinds, row)) for row in zip(*map(column, kinds, replies))]
+    return Call(lines, result)
+
+
 def has(codec: Codec, value: object, first: object, last_time: object) -> Call[Presence]:
     """Whether a value is there."""
     line = wire.has(codec.short, codec.value(value), codec.begin(first), codec.end(last_time))
@@ -145,6 +174,29 @@ def _row(codec: Codec, kind: str, row: str) -> tuple[int, Interval]:
     return wire.numbers(start, 1)[0], codec.interval_back(kind, wire.interval_of(text))
 
 
+def estimate(codec: Codec, kind: str, first: object, last_time: object) -> Call[Estimate]:
+    """The interval of a count or a sum, and the likeliest number in it."""
+    line = wire.estimate(codec.short, wire.name_word(kind), codec.begin(first), codec.end(last_time))
+    return Call([line], lambda replies: _estimate(codec, kind, wire.after(replies[0].head, "estimate")))
+
+
+def _estimate(codec: Codec, kind: str, text: str) -> Estimate:
+    interval, guess = wire.estimate_of(text)
+    return Estimate(codec.interval_back(kind, interval), codec.interval_back(kind, Interval(guess)).lo)
+
+
+def estimates(codec: Codec, kind: str, first: object, last_time: object, step: object
+              ) -> Call[Sequence[EstimateRow]]:
+    """The same in rows."""
+    here = codec.begin(first), codec.end(last_time), codec.step(step)
+
+    def result(replies: Sequence[Reply]) -> Sequence[EstimateRow]:
+        rows = [row.partition(" ") for row in wire.rows_of(replies[0], "estimates")]
+        return [EstimateRow(codec.time_back(wire.numbers(start, 1)[0]), *_estimate(codec, kind, text))
+                for start, _, text in rows]
+    return Call([wire.estimates(codec.short, wire.name_word(kind), *here)], result)
+
+
 def values(codec: Codec, first: object, last_time: object) -> Call[Sequence[Reading]]:
     """The values of landmarks."""
     def result(replies: Sequence[Reply]) -> Sequence[Reading]:
@@ -157,7 +209,7 @@ def listed(translator: Translator) -> Call[Sequence[Stream]]:
     """All streams."""
     def result(replies: Sequence[Reply]) -> Sequence[Stream]:
         rows = streams_of(wire.rows_of(replies[0], "list"))
-        return [Stream(translator.name_of(row), *row[1:], row.name) for row in rows]
+        return [row._replace(name=translator.name_of(row.short_name)) for row in rows]
     return Call([wire.LIST], result)
 
 

@@ -11,54 +11,44 @@ from contextlib import contextmanager, suppress
 from typing import TypeVar
 
 from . import calls
-from . import program as programs
+from .base import Base
 from .calls import Call
-from .codec import Codec, Plain, Translator
-from .connection import RENEW_AT, Connection, connect
+from .codec import Codec, Translator
+from .connection import RENEW_AT, Connection
 from .errors import CursorBusyError, ProcessEndedError, ReopenedWarning, StoreClosedError
 from .pipeline import Commands, Request
+from .program import StorePath
 from .records import Window
-from .sessions import Sessions
 from .wire import MOST_ROWS
 
 T = TypeVar("T")
 LOOK_AGAIN = 0.1
 
 
-class Channel:
+class Channel(Base):
     """A store's process, its sessions, and its cursors."""
 
-    def __init__(self, path: str | os.PathLike[str], *, program: str | os.PathLike[str] | None = None,
-                 translator: Translator | None = None, renew_at: int = RENEW_AT) -> None:
-        self.path = os.path.abspath(os.fsdecode(path))
-        self._program = programs.find_program(program)
-        self._translator: Translator = Plain() if translator is None else translator
-        self._renew_at = renew_at
-        self._sessions = Sessions()
+    def __init__(self, path: StorePath, *, program: str | os.PathLike[str] | None = None,
+                 translator: Translator | None = None, existing: bool = False,
+                 renew_at: int = RENEW_AT) -> None:
+        super().__init__(path, program=program, translator=translator, existing=existing,
+                         renew_at=renew_at)
         self._changed = threading.Condition()
         self._mine = threading.local()
         self._let_go: deque[tuple[int, Connection]] = deque()
         self._pumping = False
-        self._closed = False
         self._owner = os.getpid()
-        self._connection: Connection | None = self._connect()
+        self._connection = self._start()
 
-    def _connect(self) -> Connection:
-        return connect(self._program, self.path, self._translator)
-
-    def _connect_again(self) -> Connection:
-        """A new process for the same store. One that is gone isn't made anew."""
-        if not os.path.exists(self.path):
-            raise StoreClosedError(f"{self.path} is gone")
-        self._sessions.forget_cursors()
+    def _start(self) -> Connection:
         self._let_go.clear()
-        return self._connect()
+        return super()._start()
 
     def _up(self) -> Connection:
         """The process that is up. One that has ended is started again, once, and that is said."""
         self._must_be_mine()
         if self._connection is None:
-            self._connection = self._connect_again()
+            self._connection = self._start()
             warnings.warn(ReopenedWarning(f"{self.path}: the program had ended; opened again"),
                           stacklevel=6)
         return self._connection
@@ -74,11 +64,14 @@ class Channel:
             raise StoreClosedError(f"{self.path} is closed, or was opened by another process")
 
     def _renew(self) -> None:
-        """Replaces a process that has taken much, where nothing is under way."""
-        connection = self._connection
-        if connection is not None and connection.pipeline.sent > self._renew_at and self._sessions.idle:
-            self._put_down(connection)
-            self._connection = self._connect_again()
+        """Lets another process take the place of one that has taken much. What is under way is answered
+        before, and whoever wants to send more meanwhile waits here."""
+        while (old := self._outlived()) is not None:
+            if old.pipeline.idle:
+                self._put_down(old)
+                self._connection = old.successor = self._start()
+            else:
+                self._pump()
 
     def _put_down(self, connection: Connection) -> None:
         """Lets a process end in order."""
@@ -94,7 +87,6 @@ class Channel:
             return
         self._must_be_mine()    # before the lock, which another thread may have held at a fork
         with self._changed:
-            self._renew()
             while (session := self._sessions.take()) is None:
                 self._changed.wait()
         self._mine.session = session
@@ -111,9 +103,10 @@ class Channel:
         return getattr(self._mine, "session", None) is not None
 
     def _submit(self, request: Request, only: Connection | None = None) -> Connection:
-        """Sends a request: where a process is named, to that one or to none."""
+        """Sends a request: where a process is named, to that one or its successor, or to none."""
         with self._changed:
-            if only is not None and only is not self._connection:
+            self._renew()
+            if only is not None and only.newest() is not self._connection:
                 request.finish(request.interrupted(only.failure()))
                 return only
             connection = self._up()
@@ -167,12 +160,6 @@ class Channel:
         """Gives a process up: what it has been told, or what it says, isn't known any more."""
         self._connection = None
         connection.abandon()
-
-    @property
-    def pid(self) -> int | None:
-        """The number of the process, if one is up."""
-        connection = self._connection
-        return None if connection is None else connection.process.pid
 
     def send(self, lines: Sequence[str]) -> Commands:
         """Sends commands of the program as they are, and waits for their replies."""

@@ -5,6 +5,7 @@ from __future__ import annotations
 import datetime
 import re
 import zoneinfo
+from contextlib import suppress
 
 from .description import NANOSECONDS
 from .errors import TimeError
@@ -15,6 +16,7 @@ UTC = datetime.timezone.utc
 START = datetime.datetime(1970, 1, 1, tzinfo=UTC)
 DAY = re.compile(r"[0-9]{4}-[0-9]{2}-[0-9]{2}")
 COUNT = re.compile(r"[0-9]+")
+COMPACT = {8: "%Y%m%d", 12: "%Y%m%d%H%M", 14: "%Y%m%d%H%M%S"}
 SPAN = re.compile(r"([0-9]+) ?(ns|us|ms|s|min|minutes?|h|hours?|d|days?|w|weeks?)")
 _SPANS = {"ns": 1, "us": 10**3, "ms": 10**6, "s": 10**9, "m": 60 * 10**9, "h": 3600 * 10**9,
           "d": 86400 * 10**9, "w": 7 * 86400 * 10**9, "D": 86400 * 10**9, "W": 7 * 86400 * 10**9}
@@ -33,6 +35,9 @@ def nanoseconds(moment: datetime.datetime, zone: datetime.tzinfo | None) -> int:
     if type(moment) is not datetime.datetime:
         fine = getattr(moment, "nanosecond", 0)
         plain = getattr(moment, "to_pydatetime", None)      # of a pandas Timestamp
+        if plain is not None and moment.tzinfo is not None:
+            with suppress(OverflowError):   # not as a datetime: that may be of the first of two such hours
+                return int(getattr(moment, "value"))
         if plain is not None:
             moment = plain(warn=False)
     if moment.tzinfo is None or moment.utcoffset() is None:
@@ -82,6 +87,28 @@ def moment_of(text: str, zone: datetime.tzinfo | None) -> int:
         raise
     except ValueError:
         raise TimeError(f"not a time: {text[:60]!r}") from None
+
+
+def digits_of(text: str) -> int:
+    """Nanoseconds since 1970 of digits alone: they count seconds since then, as tables have them.
+
+    What may be a date, or is no such count before the year 5138, is refused.
+    """
+    if len(text) > 11 or is_compact(text):
+        raise TimeError(f"digits alone count seconds since 1970: {text[:40]!r} may be something else; give "
+                        "a whole number, which counts the stream's own steps, or a time as ISO 8601")
+    return int(text) * 10**9
+
+
+def is_compact(text: str) -> bool:
+    """Whether digits may be those of a date, or of a date and a clock, one after the other."""
+    form = COMPACT.get(len(text))
+    if form is None:
+        return False
+    try:
+        return 1850 <= datetime.datetime.strptime(text, form).year <= 2150
+    except ValueError:
+        return False
 
 
 def day_of(given: object) -> datetime.date | None:
@@ -134,9 +161,7 @@ class Clock:
     def time(self, given: object) -> int:
         """The count of a time. One between two counts, or before the first, is refused."""
         if isinstance(given, str):
-            if COUNT.fullmatch(given):
-                return int(given)
-            if len(given) > 10:
+            if len(given) > 11 and not COUNT.fullmatch(given):
                 return self.of(moment_of(given, self._zone), given)
         count = self._count(given)
         if count is not None:
@@ -172,8 +197,6 @@ class Clock:
     def _end_of_range(self, given: object, otherwise: int, is_end: bool) -> int:
         if given is None:
             return otherwise
-        if isinstance(given, str) and COUNT.fullmatch(given):
-            return int(given)
         count = self._count(given)
         if count is not None:
             return count
@@ -229,7 +252,7 @@ class Clock:
                 raise TimeError(f"{given} is a day, and the stream counts in {self.resolution}")
             return self._midnight(day)
         if isinstance(given, str):
-            return moment_of(given, self._zone)
+            return digits_of(given) if COUNT.fullmatch(given) else moment_of(given, self._zone)
         if getattr(getattr(given, "dtype", None), "kind", "") == "M":
             return _numpy_count(given)
         raise TimeError(f"not a time: {given!r}")

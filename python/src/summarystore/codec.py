@@ -10,8 +10,8 @@ from .decimals import Number
 from .description import Description
 from .errors import DescriptionError
 from .interval import Interval
-from .records import Time
-from .wire import LAST_TIME, StreamRow, stream_of, whole
+from .records import Stream, Time
+from .wire import LAST_TIME, stream_of, whole
 
 
 class Codec(Protocol):
@@ -78,8 +78,8 @@ class Translator(Protocol):
     def describe(self, name: str, description: Description) -> None:
         """Changes what isn't the meaning of a stream's numbers."""
 
-    def name_of(self, row: StreamRow) -> str:
-        """The name that people use for a stream of `list`."""
+    def name_of(self, short: str) -> str:
+        """The name that people use for one of the program's."""
 
 
 class PlainCodec:
@@ -111,9 +111,7 @@ class PlainCodec:
         return whole(given)
 
     def rows(self, given: Sequence[tuple[object, object]]) -> Sequence[tuple[int, int]]:
-        """Whole numbers."""
-        if {type(number) for row in given for number in row} - {int}:
-            return [(whole(time), whole(value)) for time, value in given]
+        """As they are: whoever writes the lines sees whether they are whole numbers."""
         return cast("Sequence[tuple[int, int]]", given)
 
     def now(self) -> int:
@@ -164,9 +162,9 @@ class Plain:
         """Takes no description."""
         self.declare(name, description)
 
-    def name_of(self, row: StreamRow) -> str:
+    def name_of(self, short: str) -> str:
         """The name."""
-        return row.name
+        return short
 
 
 def pairs(rows: object) -> Iterable[tuple[object, object]]:
@@ -178,6 +176,6 @@ def pairs(rows: object) -> Iterable[tuple[object, object]]:
     return found
 
 
-def streams_of(rows: Sequence[str]) -> list[StreamRow]:
+def streams_of(rows: Sequence[str]) -> list[Stream]:
     """The rows of `list`."""
     return [stream_of(row) for row in rows]

@@ -10,22 +10,31 @@ from .pipeline import Commands, Pipeline, Request
 from .program import Process
 from .wire import CURSOR_CLOSE, LIST
 
-# A process takes at most 2^36 bytes of input. Long before that it is replaced, where nothing is open.
+# A process takes at most 2^36 bytes of input. Long before that another takes its place.
 RENEW_AT = 1 << 35
 
 
 class Connection:
     """A process that is up, and the requests that are open with it."""
 
-    def __init__(self, program: str, path: str) -> None:
-        self.process = Process(program, path)
+    def __init__(self, program: str, path: str, existing: bool) -> None:
+        self.process = Process(program, path, existing)
         self.pipeline = Pipeline()
+        self.successor: Connection | None = None
+        """The process that took its place, in order: who speaks with this one goes on with that."""
         self._ended = False
         self._status = 0
         self._text = ""
         self._poll = select.poll()
         self._poll.register(self.process.output, select.POLLIN)
         self._poll.register(self.process.input, 0)
+
+    def newest(self) -> Connection:
+        """The process that takes what is for this one: itself, or the last of its successors."""
+        found = self
+        while found.successor is not None:
+            found = found.successor
+        return found
 
     def add(self, request: Request) -> None:
         """Queues a request, and writes what the pipe takes."""
@@ -90,9 +99,9 @@ class Connection:
             raise self.failure()
 
 
-def connect(program: str, path: str, translator: Translator) -> Connection:
+def connect(program: str, path: str, translator: Translator, existing: bool) -> Connection:
     """Starts a process and waits until the store is open. Tells the streams, where they are asked for."""
-    connection = Connection(program, path)
+    connection = Connection(program, path, existing)
     request = Commands(0, [LIST if translator.lists else CURSOR_CLOSE])
     try:
         connection.add(request)

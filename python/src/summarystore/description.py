@@ -45,7 +45,19 @@ def description_of(*, scale: object | None = None, time: str | None = None,
         raise DescriptionError(f"no resolution of times: {time}; there are {', '.join(NANOSECONDS)}")
     if rounding is not None and rounding not in ROUNDINGS:
         raise DescriptionError(f"no rounding: {rounding}; there are {', '.join(ROUNDINGS)}")
+    texts = [unit or "", *(text for label in (labels or {}).items() for text in label)]
+    if not all(isinstance(text, str) and is_text(text) for text in texts):
+        raise DescriptionError(f"a unit and labels are text: {unit!r}, {labels!r}")
     return Description(found, time or "s", _day(since), unit, dict(labels or {}), rounding)
+
+
+def is_text(text: str) -> bool:
+    """Whether it can be written to a file: half of a pair of UTF-16 can't."""
+    try:
+        text.encode("utf-8")
+    except UnicodeEncodeError:
+        return False
+    return True
 
 
 def changed(known: Description, unit: str | None, labels: Mapping[str, str] | None,

@@ -2,11 +2,19 @@
 
 from __future__ import annotations
 
+import errno
 from collections.abc import Sequence
+from typing import NamedTuple
 
 
 class SummaryStoreError(Exception):
     """All that this package raises by itself."""
+
+
+def _first_sentence(kind: type, otherwise: str) -> str:
+    """What the docstring of a class says first, to stand within a sentence."""
+    text = (kind.__doc__ or otherwise).partition("\n")[0].rstrip(".")   # python -OO has no docstrings
+    return text[0].lower() + text[1:]
 
 
 # ---- a line was refused ----------------------------------------------------------------
@@ -20,6 +28,12 @@ class RefusedError(SummaryStoreError):
 
     reason = "the line was refused"
 
+    def __init_subclass__(cls, word: str | None = None) -> None:
+        super().__init_subclass__()
+        cls.reason = _first_sentence(cls, cls.reason)
+        if word is not None:
+            REFUSALS[word] = cls
+
     def __init__(self, refusal: str, line: str, reason: str | None = None) -> None:
         super().__init__(refusal, line, reason)
         self.refusal = refusal
@@ -31,70 +45,62 @@ class RefusedError(SummaryStoreError):
         return f"{self.refusal}: {self.reason}: {self.line}"
 
 
-class LineTooLongError(RefusedError):
+REFUSALS: dict[str, type[RefusedError]] = {}
+"""The class of each word behind `refused`."""
+
+
+class LineTooLongError(RefusedError, word="LINE"):
     """The line has more than 256 bytes."""
 
-    reason = "the line has more than 256 bytes"
+
+class CommandError(RefusedError, word="SYNTAX"):
+    """The program doesn't know this command.
+
+    Another version of it may.
+    """
 
 
-class CommandError(RefusedError):
-    """The program doesn't know the command. Another version of it may."""
+class NumberError(RefusedError, ValueError, word="NUMBER"):
+    """A number is out of range, or there would be more than 100,000 rows.
 
-    reason = "the program doesn't know this command"
-
-
-class NumberError(RefusedError, ValueError):
-    """A number is misspelt or out of range: a value beyond 64 bits, a time beyond 2^62."""
-
-    reason = "a number is out of range, or there would be more than 100,000 rows"
+    Values have 64 bits, and times go up to 2^62.
+    """
 
 
-class StreamNameError(RefusedError, ValueError):
-    """The name isn't one: 1 to 32 letters, digits, `_`, `-` and `.`."""
-
-    reason = "a name has 1 to 32 letters, digits, _, - and ."
+class StreamNameError(RefusedError, ValueError, word="NAME"):
+    """A name has 1 to 32 letters, digits, `_`, `-` and `.`."""
 
 
-class TargetError(RefusedError, ValueError):
+class TargetError(RefusedError, ValueError, word="PARAM"):
     """A parameter of the target is out of its range."""
 
-    reason = "a parameter of the target is out of its range"
 
-
-class StreamExistsError(RefusedError):
+class StreamExistsError(RefusedError, word="EXISTS"):
     """A stream of that name stands."""
 
-    reason = "a stream of that name stands"
 
-
-class TooManyStreamsError(RefusedError):
+class TooManyStreamsError(RefusedError, word="STREAMS"):
     """4,096 streams stand."""
 
-    reason = "4,096 streams stand"
 
-
-class UnknownStreamError(RefusedError, LookupError):
+class UnknownStreamError(RefusedError, LookupError, word="UNKNOWN"):
     """No stream of that name stands."""
 
-    reason = "no stream of that name stands"
 
-
-class LandmarkOpenError(RefusedError):
+class LandmarkOpenError(RefusedError, word="OPEN"):
     """A landmark of the stream is open."""
 
-    reason = "a landmark of the stream is open"
 
-
-class LandmarkNotOpenError(RefusedError):
+class LandmarkNotOpenError(RefusedError, word="NOT_OPEN"):
     """No landmark of the stream is open."""
 
-    reason = "no landmark of the stream is open"
 
+class LateError(RefusedError, word="TIME"):
+    """The time isn't later than the last time of the stream.
 
-class LateError(RefusedError):
-    """The time isn't later than the last one that the stream took, which is `newest`."""
+    `newest` is that time, where it is known.
+    """
 
-    reason = "the time isn't later than the last time of the stream"
     newest: object | None = None
 
     def __str__(self) -> str:
@@ -102,54 +108,27 @@ class LateError(RefusedError):
         return f"{self.refusal}: {self.reason}{told}: {self.line}"
 
 
-class RangeError(RefusedError, ValueError):
+class RangeError(RefusedError, ValueError, word="RANGE"):
     """The range ends before it begins."""
 
-    reason = "the range ends before it begins"
 
-
-class StreamFullError(RefusedError):
+class StreamFullError(RefusedError, word="STREAM_FULL"):
     """The stream has taken 2^40 values."""
 
-    reason = "the stream has taken 2^40 values"
+
+class StoreFullError(RefusedError, word="STORE_FULL"):
+    """2^20 streams, windows, landmarks and their values stand."""
 
 
-class StoreFullError(RefusedError):
-    """2^20 streams, windows, landmarks and values of landmarks stand."""
+class CursorBusyError(RefusedError, word="BUSY"):
+    """A cursor is open.
 
-    reason = "2^20 streams, windows, landmarks and their values stand"
-
-
-class CursorBusyError(RefusedError):
-    """The session has a cursor already, or one thread holds all eight."""
-
-    reason = "a cursor is open"
+    Either the session has one already, or one thread holds all eight.
+    """
 
 
-class NoCursorError(RefusedError):
-    """The session has no cursor."""
-
-    reason = "no cursor is open"
-
-
-REFUSALS: dict[str, type[RefusedError]] = {
-    "LINE": LineTooLongError,
-    "SYNTAX": CommandError,
-    "NUMBER": NumberError,
-    "NAME": StreamNameError,
-    "PARAM": TargetError,
-    "EXISTS": StreamExistsError,
-    "STREAMS": TooManyStreamsError,
-    "UNKNOWN": UnknownStreamError,
-    "OPEN": LandmarkOpenError,
-    "NOT_OPEN": LandmarkNotOpenError,
-    "TIME": LateError,
-    "RANGE": RangeError,
-    "STREAM_FULL": StreamFullError,
-    "STORE_FULL": StoreFullError,
-    "BUSY": CursorBusyError,
-    "NO_CURSOR": NoCursorError,
-}
+class NoCursorError(RefusedError, word="NO_CURSOR"):
+    """No cursor is open."""
 
 
 def refusal_of(word: str, line: str) -> RefusedError:
@@ -157,17 +136,62 @@ def refusal_of(word: str, line: str) -> RefusedError:
     return REFUSALS.get(word, RefusedError)(word, line)
 
 
+# ---- what became of rows ----------------------------------------------------------------
+
+
+class Outcome(NamedTuple):
+    """What became of the rows of an `append_many` that was cut off.
+
+    `acknowledged` says how many are surely stored. `unknown` lists those that were sent without a reply,
+    and `not_stored` those that were drawn and surely aren't stored.
+    """
+
+    acknowledged: int
+    unknown: Sequence[object]
+    not_stored: Sequence[object]
+
+    def __str__(self) -> str:
+        return (f"{self.acknowledged} acknowledged, {len(self.not_stored)} not stored, "
+                f"{len(self.unknown)} unknown")
+
+
+def tell(error: BaseException, outcome: Outcome) -> None:
+    """Says with an exception what became of the rows of the `append_many` that it cut off."""
+    if isinstance(error, ProcessEndedError):
+        error.acknowledged, error.unknown, error.not_stored = outcome
+    else:
+        error.add_note(f"append_many was cut off: {outcome}; summarystore.outcome_of(error) has the rows")
+        vars(error)["_outcome"] = outcome
+
+
+def outcome_of(error: BaseException) -> Outcome | None:
+    """What became of the rows of the `append_many` that raised this, or let it through.
+
+    None where no `append_many` did.
+    """
+    found = vars(error).get("_outcome")
+    if isinstance(found, Outcome):
+        return found
+    if isinstance(error, ProcessEndedError):
+        return Outcome(error.acknowledged, error.unknown, error.not_stored)
+    if isinstance(error, RowsRefusedError):
+        return Outcome(error.stored, (), error.not_stored)
+    return None
+
+
 class RowsRefusedError(SummaryStoreError):
     """Of the rows that were sent together some were refused.
 
-    `refused` has those known by then, as (row, exception); `stored` says how many were stored.
-    Rows that weren't sent any more aren't counted in either.
+    `refused` has those known by then, as (row, exception); `stored` says how many were stored. Then no
+    more rows were sent: `not_stored` lists those that were drawn by then.
     """
 
-    def __init__(self, stored: int, refused: Sequence[tuple[tuple[object, object], Exception]]) -> None:
-        super().__init__(stored, refused)
+    def __init__(self, stored: int, refused: Sequence[tuple[tuple[object, object], Exception]],
+                 not_stored: Sequence[object] = ()) -> None:
+        super().__init__(stored, refused, not_stored)
         self.stored = stored
         self.refused = refused
+        self.not_stored = not_stored
 
     def __str__(self) -> str:
         row, first = self.refused[0]
@@ -187,6 +211,14 @@ class ProcessEndedError(SummaryStoreError):
     """
 
     reason = "the program ended"
+    said: tuple[str, ...] = ("",)
+
+    def __init_subclass__(cls, status: int | None = None, said: tuple[str, ...] = ("",)) -> None:
+        super().__init_subclass__()
+        cls.reason = _first_sentence(cls, cls.reason)
+        cls.said = said
+        if status is not None:
+            STATUSES.setdefault(status, []).append(cls)
 
     def __init__(self, status: int | None, text: str) -> None:
         super().__init__(status, text)
@@ -200,100 +232,85 @@ class ProcessEndedError(SummaryStoreError):
         told = f": {self.text}" if self.text else ""
         text = f"{self.reason} (status {self.status}){told}"
         if self.acknowledged or self.not_stored or self.unknown:
-            text += (f"; {self.acknowledged} acknowledged, {len(self.not_stored)} not stored, "
-                     f"{len(self.unknown)} unknown")
+            text += f"; {Outcome(self.acknowledged, self.unknown, self.not_stored)}"
         return text
 
 
-class UsageError(ProcessEndedError):
-    """Status 2: the program doesn't know its arguments, so it is an older one."""
-
-    reason = "the program doesn't know the mode `sessions`"
+STATUSES: dict[int, list[type[ProcessEndedError]]] = {}
+"""The classes of each status: the last one of which the program said what belongs to it is raised."""
 
 
-class DamagedStoreError(ProcessEndedError):
-    """Status 3: the file is no store, or is damaged. Nothing was written to it."""
-
-    reason = "the file is refused"
+class UsageError(ProcessEndedError, status=2):
+    """The program doesn't know the mode `sessions`, so it is an older one."""
 
 
-class StoreFileError(ProcessEndedError):
-    """Status 4: the file couldn't be opened, locked, read, written or synced."""
+class DamagedStoreError(ProcessEndedError, status=3):
+    """The file is no store, or is damaged.
 
-    reason = "the file of the store"
-
-
-class LockedError(StoreFileError):
-    """Status 4: another process uses the store."""
+    Nothing was written to it.
+    """
 
 
-class DiskFullError(StoreFileError):
-    """Status 4: no space is left on the device."""
+class StoreFileError(ProcessEndedError, status=4):
+    """The file of the store couldn't be opened, locked, read, written or synced."""
 
 
-class InputFaultError(ProcessEndedError):
-    """Status 5: the program couldn't read its input."""
-
-    reason = "a read of the input failed"
+class LockedError(StoreFileError, status=4, said=("another process uses it",)):
+    """Another process uses the store."""
 
 
-class OutputFaultError(ProcessEndedError):
-    """Status 6: the program couldn't write its report."""
-
-    reason = "a write of the report failed"
+class DiskFullError(StoreFileError, status=4, said=("no space left on the device",)):
+    """There is no room for the store."""
 
 
-class OutOfMemoryError(ProcessEndedError, MemoryError):
-    """Status 7: the program ran out of memory."""
+class NoStoreError(StoreFileError, FileNotFoundError, status=4, said=("no such file", "no such folder")):
+    """There is no store, and none was made."""
 
-    reason = "out of memory"
-
-
-class InputTooLongError(ProcessEndedError):
-    """Status 8: one process took more than 2^36 bytes."""
-
-    reason = "the input is too long"
+    def __init__(self, status: int | None, text: str) -> None:
+        super().__init__(status, text)
+        self.errno = errno.ENOENT
+        self.strerror = text
 
 
-class RecordChangedError(ProcessEndedError):
-    """Status 9: something else changed the file during the run."""
+class InputFaultError(ProcessEndedError, status=5):
+    """The program couldn't read its input."""
 
-    reason = "a record was changed"
+
+class OutputFaultError(ProcessEndedError, status=6):
+    """The program couldn't write its report."""
+
+
+class OutOfMemoryError(ProcessEndedError, MemoryError, status=7):
+    """The program ran out of memory."""
+
+
+class InputTooLongError(ProcessEndedError, status=8):
+    """One process took more than 2^36 bytes."""
+
+
+class RecordChangedError(ProcessEndedError, status=9):
+    """Something else changed the file during the run."""
 
 
 class KilledError(ProcessEndedError):
-    """A signal ended the program: `status` is its negative number."""
+    """The program was ended by a signal.
 
-    reason = "the program was ended by a signal"
+    `status` is its negative number.
+    """
 
 
 class UnexpectedEndError(ProcessEndedError):
-    """The program ended with a status that isn't one of these, or without having been asked to."""
-
-
-STATUSES: dict[int, type[ProcessEndedError]] = {
-    2: UsageError,
-    3: DamagedStoreError,
-    4: StoreFileError,
-    5: InputFaultError,
-    6: OutputFaultError,
-    7: OutOfMemoryError,
-    8: InputTooLongError,
-    9: RecordChangedError,
-}
+    """The program ended, and not with one of its statuses, or unasked."""
 
 
 def ending_of(status: int | None, text: str) -> ProcessEndedError:
     """The exception for a status of the program and what it said, on either of its streams."""
     if status is not None and status < 0:
         return KilledError(status, text)
-    kind = STATUSES.get(-1 if status is None else status, UnexpectedEndError)
-    if kind is StoreFileError:
-        if "another process uses it" in text:
-            kind = LockedError
-        elif "no space left on the device" in text:
-            kind = DiskFullError
-    return kind(status, text)
+    kinds = STATUSES.get(-1 if status is None else status, [UnexpectedEndError])
+    # What the program said last is the reason, perhaps with the system's own words in brackets.
+    said = text.rpartition(" [")[0] if text.endswith("]") else text
+    return [kind for kind in kinds if said.endswith(kind.said)][-1](status, text)
 
 
 # ---- told by this package ---------------------------------------------------------------
@@ -333,6 +350,10 @@ class DescriptionError(SummaryStoreError, ValueError):
 
 class NamesFileError(SummaryStoreError):
     """The file of the descriptions can't be understood. It is left as it is."""
+
+
+class SourceError(SummaryStoreError):
+    """A table can't be read, or may be read in two ways."""
 
 
 class CertificateError(SummaryStoreError):

@@ -6,15 +6,15 @@ import argparse
 import csv
 import datetime
 import json
-import os
 import sys
 from collections.abc import Iterable, Iterator, Sequence
 from decimal import Decimal
 from typing import TextIO
 
+from .clock import COUNT
 from .errors import SummaryStoreError
 from .names import Names
-from .series import Series
+from .series import Series, index_of
 from .store import Store
 
 WINDOWS = ("first", "last", "count", "sum", "least", "greatest", "start", "end")
@@ -73,7 +73,9 @@ def write_parquet(path: str, heads: Sequence[str], rows: Iterable[Cells]) -> int
     frame = pandas.DataFrame(list(rows), columns=list(heads), dtype=object)
     for head in heads:
         found = [cell for cell in frame[head] if cell is not None]
-        if head in ("start", "end") or all(isinstance(cell, bool) for cell in found):
+        if head in ("start", "end"):
+            frame[head] = index_of(found)
+        elif all(isinstance(cell, bool) for cell in found):
             frame[head] = frame[head].infer_objects()
         elif all(isinstance(cell, int) and abs(cell) < 2**63 for cell in found):
             frame[head] = frame[head].astype("Int64")
@@ -116,15 +118,21 @@ def main(given: Sequence[str] | None = None) -> int:
     if words.format == "parquet" and not words.output:
         parser.error("Parquet goes to a file: --output")
     try:
-        if not os.path.exists(words.store):
-            raise SummaryStoreError(f"no store {words.store}")
-        with Store(words.store, program=words.program, translator=Names(words.store, words.zone)) as store:
+        with Store(words.store, program=words.program, translator=Names(words.store, words.zone),
+                   existing=True) as store:
             return export(store, words)
     except BrokenPipeError:
         return 3
-    except (SummaryStoreError, OSError) as error:
+    except (SummaryStoreError, OSError, ValueError) as error:      # of a kind of picture that isn't known
         print(f"summarystore-export: {error}", file=sys.stderr)
         return 3
+
+
+def as_told(store: Store, name: str, word: str | None) -> object:
+    """A time or a span of the command line. For a stream of whole numbers digits are one."""
+    if word is not None and store.description(name) is None and COUNT.fullmatch(word):
+        return int(word)
+    return word
 
 
 def export(store: Store, words: argparse.Namespace) -> int:
@@ -132,7 +140,8 @@ def export(store: Store, words: argparse.Namespace) -> int:
     if words.windows:
         write(words, WINDOWS, window_cells(store, words.name))
         return 0
-    series, last = store.whole_series(words.name, words.series, words.first, words.last, words.step)
+    told = [as_told(store, words.name, word) for word in (words.first, words.last, words.step)]
+    series, last = store.whole_series(words.name, words.series, *told)
     if words.plot:
         from .plotting import draw
         draw(series, store.ends(words.name, last)).figure.savefig(words.plot)

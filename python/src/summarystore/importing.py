@@ -4,30 +4,48 @@ from __future__ import annotations
 
 import argparse
 import csv
+import gc
 import os
 import sqlite3
 import sys
-from collections.abc import Callable, Sequence
+from collections.abc import Callable, Iterator, Sequence
+from contextlib import contextmanager
 from dataclasses import dataclass, field
 from itertools import islice
+from operator import itemgetter
 from pathlib import Path
+from typing import cast
 
 from . import clock, tables, timeforms, wire
 from .codec import Codec, PlainCodec
-from .description import NANOSECONDS, ROUNDINGS, description_of
-from .errors import LateError, NotANumberError, SummaryStoreError
+from .description import NANOSECONDS, ROUNDINGS, Description, description_of
+from .errors import LateError, NotANumberError, SourceError, SummaryStoreError
 from .late import ReorderBuffer
 from .names import DescribedCodec, Names, short_name
 from .progress import Progress
+from .records import Record
 from .scale import Scale, decimal_places
+from .sending import Sending
 from .store import Store
-from .tables import Record, Table
+from .tables import Table
 from .timeforms import TimeForm
 
 BATCH = 5000
 MOST_WAITING = 100_000
 SHOWN = 20
 DEFAULT_TARGET = "power 1 1 4 1"
+
+
+Numbers = tuple[int, int, int]
+"""A time, a value, and the line of the table that has them."""
+
+
+class NumberedCodec(PlainCodec):
+    """Whole numbers, and behind them the line of the table."""
+
+    def rows(self, given: Sequence[tuple[object, object]]) -> Sequence[tuple[int, int]]:
+        """Without the lines."""
+        return [row[:2] for row in cast("Sequence[Numbers]", given)]
 
 
 @dataclass
@@ -40,12 +58,13 @@ class Into:
     name: str
     codec: Codec
     exists: bool
-    time_of: Callable[[str], int]
-    value_of: Callable[[object], int]
+    times_of: Callable[[Sequence[str]], Sequence[int]]
+    scale: Scale
+    sending: Sending
     before_that: int = -1
     newest: int = -1
     span: tuple[int, int] = (wire.LAST_TIME, 0)
-    buffer: ReorderBuffer[tuple[int, int, int]] | None = None
+    buffer: ReorderBuffer[Numbers] | None = None
     waiting: list[tuple[int, str, str]] = field(default_factory=list)
     stored: int = 0
     before: int = 0
@@ -76,11 +95,13 @@ class Import:
         self._values = self._value_columns()
         self._form = self._time_form()
         self._lateness = words.lateness
+        for column in self._values:
+            self._description(column)       # what can't be is told before a store is made
         columns = self._values if self._name_column is None else ()
         names = [self._name(column, "") for column in columns]
         if len(names) != len(set(names)):
             both = max(names, key=names.count)
-            raise tables.SourceError(f"two columns are the stream {both}: give --value")
+            raise SourceError(f"two columns are the stream {both}: give --value")
 
     # ---- what is guessed ------------------------------------------------------------------
 
@@ -94,7 +115,7 @@ class Import:
                  and any(tables.is_number(_cell(record, at), table.decimal_comma)
                          for record in table.sample)]
         if not found:
-            raise tables.SourceError("no column holds numbers: give --value")
+            raise SourceError("no column holds numbers: give --value")
         return found
 
     def _time_form(self) -> TimeForm:
@@ -113,7 +134,7 @@ class Import:
         cells = [_cell(record, column) for record in self._table.sample]
         if self._table.decimal_comma:
             cells = [_number(cell) for cell in cells if "." not in cell]
-        places = max((decimal_places(cell) for cell in cells if tables.is_number(cell)), default=0)
+        places = max((_places(cell) for cell in cells if tables.is_number(cell)), default=0)
         return "0." + "0" * (places - 1) + "1" if places else "1"
 
     def guessed(self) -> list[str]:
@@ -127,6 +148,14 @@ class Import:
         if others:
             lines.append(f"not read: {', '.join(others)}; --stream takes a column that names streams")
         return lines
+
+    def _description(self, column: int) -> Description:
+        """How a stream that this column makes is read."""
+        words = self._words
+        found = description_of(scale=self._scale(column), time=self._resolution(), unit=words.unit,
+                               since=words.since or self._form.since, rounding=words.rounding)
+        assert found is not None
+        return found
 
     def _resolution(self) -> str:
         return str(self._words.resolution or self._form.resolution)
@@ -150,13 +179,14 @@ class Import:
         self._store = store
         if store is not None:
             self._standing = {stream.name for stream in store.list()}
-        with Progress(self._table.size, self._table.read, self._words.quiet) as progress:
+        with Progress(self._table.size, self._table.read, self._words.quiet) as progress, _many_rows():
             while chunk := list(islice(self._table.records, BATCH)):
                 self._take(chunk)
                 progress.rows(len(chunk))
             for into in self._streams.values():
                 self._send(into)
                 self._flush(into)
+                self._finish(into)
         for into in self._streams.values():
             print(into.said(self._words.dry_run))
         missing = [into for into in self._streams.values() if into.before and not self._is_there(into)]
@@ -188,7 +218,7 @@ class Import:
         if not chunk:
             return
         time, most = self._time_column, max(self._time_column, column)
-        if min(len(cells) for _, cells in chunk) > most:
+        if min(_widths(chunk)) > most:
             rows = [(line, cells[time].strip(), cells[column].strip()) for line, cells in chunk]
         else:
             rows = [(record[0], _cell(record, time), _cell(record, column)) for record in chunk]
@@ -205,12 +235,12 @@ class Import:
     def _not_wider(self, into: Into, chunk: Sequence[Record]) -> Sequence[Record]:
         """Lines without those that have more cells than there are heads: of 21,5 the 21 is no reading."""
         width = self._table.width
-        if width is None or max(len(cells) for _, cells in chunk) <= width:
+        if width is None or max(_widths(chunk)) <= width:
             return chunk
         kept = []
         for line, cells in chunk:
             if any(cell.strip() for cell in cells[width:]):
-                self._refuse(into, line, tables.SourceError(f"{len(cells)} cells, and {width} heads"))
+                self._refuse(into, line, SourceError(f"{len(cells)} cells, and {width} heads"))
             else:
                 kept.append((line, cells))
         return kept
@@ -222,8 +252,12 @@ class Import:
         """The stream of a column or of a cell. One that doesn't stand is made."""
         name = self._name(column, names)
         codec = self._codec(name, column)
-        value_of = codec.value if codec.description else Scale(1, self._words.rounding).number
-        into = Into(name, codec, name in self._standing, self._form.reader(codec), value_of)
+        scale = codec.scale if isinstance(codec, DescribedCodec) else Scale(1, self._words.rounding)
+
+        def refused(row: tuple[object, object], error: Exception) -> None:
+            self._refuse(into, cast(Numbers, row)[2], error)
+        sending = Sending(NumberedCodec(codec.short), (), refused, None)
+        into = Into(name, codec, name in self._standing, self._form.column(codec), scale, sending)
         if self._store is not None and into.exists:
             found = self._store.last_count(name)
             into.newest = into.before_that = -1 if found is None else found
@@ -236,10 +270,7 @@ class Import:
         words = self._words
         if self._store is not None and name in self._standing:
             return self._store.codec(name)
-        since = words.since or self._form.since
-        description = description_of(scale=self._scale(column), time=self._resolution(), since=since,
-                                     unit=words.unit, rounding=words.rounding)
-        assert description is not None
+        description = self._description(column)
         if self._store is None or words.dry_run:
             return DescribedCodec(short_name(name, description), description, self._zone)
         self._store.create(name, words.target, words.within, scale=description.scale,
@@ -252,47 +283,53 @@ class Import:
         """Makes numbers of the rows that wait, and sends those that aren't there."""
         waiting, into.waiting = into.waiting, []
         self._waiting -= len(waiting)
-        comma, time_of, value_of = self._table.decimal_comma, into.time_of, into.value_of
-        rows: list[tuple[int, int, int]] = []
-        for line, time, text in waiting:
-            try:
-                row = time_of(time), value_of(_number(text) if comma else text), line
-            except SummaryStoreError as error:
-                self._refuse(into, line, error)
-                continue
-            if into.buffer is None:
-                rows.append(row)
-            else:
-                rows += into.buffer.put(row[0], row)
+        rows = self._numbers(into, waiting)
+        if into.buffer is not None:
+            rows = [ready for row in rows for ready in into.buffer.put(row[0], row)]
         self._store_rows(into, rows)
+
+    def _numbers(self, into: Into, waiting: Sequence[tuple[int, str, str]]) -> Sequence[Numbers]:
+        """Rows as numbers: all at once, or one by one where one of them is none."""
+        try:
+            return self._as_numbers(into, waiting)
+        except SummaryStoreError:
+            pass
+        rows: list[Numbers] = []
+        for row in waiting:
+            try:
+                rows += self._as_numbers(into, [row])
+            except SummaryStoreError as error:
+                self._refuse(into, row[0], error)
+        return rows
+
+    def _as_numbers(self, into: Into, waiting: Sequence[tuple[int, str, str]]) -> Sequence[Numbers]:
+        texts = [text for _, _, text in waiting]
+        if self._table.decimal_comma:
+            texts = list(map(_number, texts))
+        times = into.times_of([time for _, time, _ in waiting])
+        return list(zip(times, into.scale.numbers(texts), [line for line, _, _ in waiting]))
 
     def _flush(self, into: Into) -> None:
         if into.buffer is not None:
             self._store_rows(into, into.buffer.flush())
 
-    def _store_rows(self, into: Into, rows: Sequence[tuple[int, int, int]]) -> None:
+    def _finish(self, into: Into) -> None:
+        if self._store is not None and not self._words.dry_run:
+            into.stored = self._store.send_rest(into.sending)
+
+    def _store_rows(self, into: Into, rows: Sequence[Numbers]) -> None:
         kept = [row for row in rows if row[0] > into.before_that]
         if len(kept) < len(rows):
             times = [row[0] for row in rows if row[0] <= into.before_that]
             into.span = min(into.span[0], *times), max(into.span[1], *times)
-        new = [(time, value) for time, value, _ in kept]
-        into.before += len(rows) - len(new)
-        if not new:
-            return
-
-        lines: dict[int, int] = {}
-
-        def refused(row: tuple[object, object], error: Exception) -> None:
-            if not lines:   # by the rows themselves, since two of them may be equal
-                lines.update(zip(map(id, new), (line for _, _, line in kept)))
-            self._refuse(into, lines[id(row)], error)
-
+        into.before += len(rows) - len(kept)
         if self._store is None or self._words.dry_run:
             self._only_look(into, kept)
-        else:
-            into.stored += self._store.append_rows(PlainCodec(into.codec.short), new, refused)
+        elif kept:
+            into.sending.more(kept)
+            self._store.send_some(into.sending)
 
-    def _only_look(self, into: Into, rows: Sequence[tuple[int, int, int]]) -> None:
+    def _only_look(self, into: Into, rows: Sequence[Numbers]) -> None:
         """Counts what would be stored, and shows what would be refused as late."""
         for time, value, line in rows:
             if time > into.newest:
@@ -317,6 +354,30 @@ def _number(text: str) -> str:
     return text.replace(",", ".", 1)
 
 
+def _places(cell: str) -> int:
+    """How many decimals a cell has. One that is too large for any stream says nothing of the others."""
+    try:
+        return decimal_places(cell)
+    except NotANumberError:
+        return 0
+
+
+@contextmanager
+def _many_rows() -> Iterator[None]:
+    """Thousands of rows come and go, and none is part of a cycle: so cycles are looked for seldom."""
+    usual = gc.get_threshold()
+    gc.set_threshold(100 * BATCH, *usual[1:])
+    try:
+        yield
+    finally:
+        gc.set_threshold(*usual)
+
+
+def _widths(chunk: Sequence[Record]) -> set[int]:
+    """How many cells the lines have."""
+    return set(map(len, map(itemgetter(1), chunk)))
+
+
 def _cell(record: Record, column: int) -> str:
     return record[1][column].strip() if column < len(record[1]) else ""
 
@@ -330,7 +391,14 @@ def _column(table: Table, word: str | None, otherwise: int | None) -> int:
         return list(table.heads).index(word)
     if word.isdecimal() and int(word) >= 1:
         return int(word) - 1
-    raise tables.SourceError(f"no column {word}; there are {', '.join(table.heads) or 'no heads'}")
+    raise SourceError(f"no column {word}; there are {', '.join(table.heads) or 'no heads'}")
+
+
+def _character(word: str) -> str:
+    """A delimiter, as an argument."""
+    if len(word) != 1 or word in "\r\n\"":
+        raise argparse.ArgumentTypeError("one character is needed")
+    return word
 
 
 def arguments() -> argparse.ArgumentParser:
@@ -355,7 +423,7 @@ def arguments() -> argparse.ArgumentParser:
     add("--zone", help="of times without one, as Europe/Berlin")
     add("--time-format", metavar="FORMAT", help="as of strptime, or 'ISO 8601'")
     add("--time-unit", choices=list(NANOSECONDS), help="what times that are whole numbers count")
-    add("--delimiter", help="of CSV")
+    add("--delimiter", type=_character, help="of CSV: one character")
     add("--decimal", choices=[".", ","], help="of CSV")
     add("--query", metavar="SQL", help="of an SQLite file: time, value, and perhaps a name")
     add("--function", default="AVERAGE", help="of an RRD file (default: AVERAGE)")
@@ -379,11 +447,15 @@ def main(given: Sequence[str] | None = None) -> int:
             print("\n".join(work.guessed()))
         if words.dry_run and not os.path.exists(words.store):
             return 0 if work.run(None) else 1
-        with Store(words.store, program=words.program, translator=Names(words.store, words.zone)) as store:
+        with Store(words.store, program=words.program, translator=Names(words.store, words.zone),
+                   existing=words.dry_run) as store:
             return 0 if work.run(store) else 1
     except (SummaryStoreError, OSError, UnicodeError, csv.Error, sqlite3.Error) as error:
         print(f"summarystore-import: {error}", file=sys.stderr)
         return 3
+    except KeyboardInterrupt:
+        print("summarystore-import: interrupted; the same command goes on from here", file=sys.stderr)
+        return 130
 
 
 if __name__ == "__main__":

@@ -193,6 +193,8 @@ class Interval:
         return self if self.none or factor == 1 else self * factor
 
     def __eq__(self, other: object) -> bool:
+        if isinstance(other, float):    # as a Decimal: by what the float is, to its last digit
+            return self.exact and self._lo == other
         that = _interval(other)
         if that is None:
             return NotImplemented

@@ -3,7 +3,8 @@
 from __future__ import annotations
 
 import heapq
-from collections.abc import Callable, Iterable, Iterator
+from collections import deque
+from collections.abc import Callable, Iterable, Iterator, Sequence
 from typing import Generic, TypeVar
 
 T = TypeVar("T")
@@ -30,6 +31,11 @@ class ReorderBuffer(Generic[T]):
     def __len__(self) -> int:
         return len(self._held)
 
+    @property
+    def held(self) -> Sequence[T]:
+        """What is held, in the order of the times."""
+        return [item for _, _, item in sorted(self._held, key=lambda entry: entry[:2])]
+
     def put(self, time: int, item: T) -> list[T]:
         """Takes an item, and gives those that leave."""
         if time <= self._left:
@@ -53,18 +59,41 @@ class ReorderBuffer(Generic[T]):
         return item
 
 
-def in_order(rows: Iterable[T], time_of: Callable[[T], int], lateness: int,
-             most: int = MOST_HELD) -> Iterator[T]:
+class InOrder(Iterator[T]):
     """Rows in the order of their times, as far as none is more than `lateness` late.
 
     A row whose time can't be told goes through as it is.
     """
-    buffer: ReorderBuffer[T] = ReorderBuffer(lateness, most)
-    for row in rows:
+
+    def __init__(self, rows: Iterable[T], time_of: Callable[[T], int], lateness: int,
+                 most: int = MOST_HELD) -> None:
+        self._rows = iter(rows)
+        self._time_of = time_of
+        self._buffer: ReorderBuffer[T] = ReorderBuffer(lateness, most)
+        self._ready: deque[T] = deque()
+
+    def __next__(self) -> T:
+        while not self._ready:
+            self._take()
+        return self._ready.popleft()
+
+    def _take(self) -> None:
+        """Takes a row. At the end all that are held are ready."""
         try:
-            time = time_of(row)
-        except ValueError:
-            yield row
-            continue
-        yield from buffer.put(time, row)
-    yield from buffer.flush()
+            row = next(self._rows)
+        except StopIteration:
+            self._ready += self._buffer.flush()
+            if self._ready:
+                return
+            raise
+        try:
+            time = self._time_of(row)
+        except Exception:
+            self._ready.append(row)     # it is refused, with this reason, where it is sent
+        else:
+            self._ready += self._buffer.put(time, row)
+
+    @property
+    def held(self) -> Sequence[T]:
+        """The rows that were taken and not given, in the order of their times."""
+        return [*self._ready, *self._buffer.held]

@@ -20,12 +20,13 @@ from decimal import Decimal
 from .clock import Clock, zone_of
 from .codec import Codec, PlainCodec, streams_of
 from .decimals import EXACT, Number
-from .description import EPOCH, Description
-from .errors import DescriptionError, NamesFileError, UnknownStreamError
+from .description import EPOCH, Description, is_text
+from .errors import DescriptionError, NamesFileError, StreamNameError, UnknownStreamError
 from .interval import Interval
-from .namesfile import read_names, write_names
+from .namesfile import Described, read_names, write_names
+from .program import StorePath
 from .scale import Scale
-from .wire import NAME, StreamRow
+from .wire import NAME
 
 LONGEST = 32
 UNITS = {"ns": "ns", "us": "us", "ms": "ms", "s": "s", "minute": "m", "hour": "h", "day": "d"}
@@ -40,10 +41,10 @@ class DescribedCodec:
         self.short = short
         self.description: Description | None = description
         clock = self.clock = Clock(description.time, description.since, zone)
-        self._scale = Scale(description.scale, description.rounding)
+        scale = self.scale = Scale(description.scale, description.rounding)
         self.time, self.begin, self.end = clock.time, clock.begin, clock.end
         self.step, self.now, self.time_back = clock.step, clock.now, clock.back
-        self.value, self.value_back = self._scale.number, self._scale.value
+        self.value, self.value_back = scale.number, scale.value
 
     def rows(self, given: Sequence[tuple[object, object]]) -> Sequence[tuple[int, int]]:
         """Times and values together."""
@@ -52,7 +53,7 @@ class DescribedCodec:
 
     def interval_back(self, kind: str, interval: Interval) -> Interval:
         """A count as it is, and what is made of values in their unit."""
-        return interval if kind == "count" else self._scale.interval(interval)
+        return interval if kind == "count" else self.scale.interval(interval)
 
 
 def hash_of(name: str) -> str:
@@ -65,7 +66,7 @@ def short_name(name: str, description: Description) -> str:
     """The name of a described stream in the program."""
     sign, digits, exponent = Decimal(description.scale).normalize(EXACT).as_tuple()
     assert not sign and isinstance(exponent, int)
-    since = "" if description.since == EPOCH else f"{description.since:%Y%m%d}"
+    since = "" if description.since == EPOCH else description.since.isoformat().replace("-", "")
     step = f"{''.join(map(str, digits))}e{exponent}"
     rest = f".{hash_of(name)}.{step}{UNITS[description.time]}{since}"
     room = LONGEST - len(rest)
@@ -96,13 +97,13 @@ class Names:
 
     lists = True
 
-    def __init__(self, path: str | os.PathLike[str],
-                 zone: str | datetime.tzinfo | None = None) -> None:
-        self._file = f"{os.path.abspath(os.fsdecode(path))}.names.json"
+    def __init__(self, path: StorePath, zone: str | datetime.tzinfo | None = None) -> None:
+        self._store = os.path.abspath(os.fsdecode(path))
+        self._file = f"{self._store}.names.json"
         self._zone = zone_of(zone)
         self._lock = threading.RLock()
         self._read = False
-        self._described: dict[str, tuple[str, Description]] = {}
+        self._described: Described = {}
         self._standing: dict[str, str] = {}
         self._lost: dict[str, str] = {}
         self._codecs: dict[str, Codec] = {}
@@ -141,6 +142,8 @@ class Names:
 
     def _known(self, name: str) -> Codec | None:
         """None where a name that the program doesn't take isn't described."""
+        if not isinstance(name, str) or not is_text(name):
+            raise StreamNameError("NAME", repr(name), "a name is text")
         if name not in self._described:
             short = self._lost.get(hash_of(name))
             if short is None:
@@ -153,10 +156,9 @@ class Names:
         """The long name of a stream whose description was lost is used again."""
         _, description = self._described.pop(short)
         del self._lost[hash_of(name)]
-        self._described[name] = (short, description)
         self._standing[short] = name
         self._codecs.pop(short, None)
-        write_names(self._file, self._described)
+        self._keep({**self._described, name: (short, description)})
 
     def declare(self, name: str, description: Description | None) -> Codec:
         """Keeps a description before the stream is made. That of one that stands stays."""
@@ -171,10 +173,7 @@ class Names:
             codec = DescribedCodec(short_name(name, described), described, self._zone)
             if codec.short in self._standing:
                 raise DescriptionError(f"the short name of {name} is that of {self._standing[codec.short]}")
-            kept = dict(self._described)
-            kept[name] = (codec.short, described)
-            write_names(self._file, kept)
-            self._described = kept
+            self._keep({**self._described, name: (codec.short, described)})
             self._codecs[name] = codec
             return codec
 
@@ -201,13 +200,17 @@ class Names:
         if name in self._described:
             kept = dict(self._described)
             del kept[name]
-            write_names(self._file, kept)
-            self._described = kept
+            self._keep(kept)
 
-    def name_of(self, row: StreamRow) -> str:
+    def _keep(self, described: Described) -> None:
+        """Writes descriptions, and knows them when they are written."""
+        write_names(self._file, described, self._store)
+        self._described = described
+
+    def name_of(self, short: str) -> str:
         """The name that people use."""
         with self._lock:
-            return self._standing.get(row.name, row.name)
+            return self._standing.get(short, short)
 
     def describe(self, name: str, description: Description) -> None:
         """Changes the unit, the labels or the rounding of a stream. Its numbers keep their meaning."""
@@ -218,8 +221,5 @@ class Names:
             if description[:3] != known[:3]:
                 raise DescriptionError(f"the scale and the times of {name} can't be changed")
             short, _ = self._described[name]
-            kept = dict(self._described)
-            kept[name] = (short, description)
-            write_names(self._file, kept)
-            self._described = kept
+            self._keep({**self._described, name: (short, description)})
             self._codecs.pop(name, None)

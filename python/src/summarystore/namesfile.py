@@ -4,6 +4,7 @@ from __future__ import annotations
 
 import json
 import os
+import stat
 from collections.abc import Mapping
 
 from .description import Description, description_of
@@ -51,13 +52,17 @@ def _text(value: object) -> str | None:
     return value if isinstance(value, str) else None
 
 
-def write_names(file: str, described: Described) -> None:
-    """Replaces the file. After a crash it is the old one or the new one, whole."""
+def write_names(file: str, described: Described, store: str) -> None:
+    """Replaces the file. After a crash it is the old one or the new one, whole.
+
+    Whoever may read or write the store may do the same with it.
+    """
     streams = {name: _shown(short, description) for name, (short, description) in described.items()}
     text = json.dumps({"summarystore": FORMAT, "streams": streams}, ensure_ascii=False, indent=1)
     beside = f"{file}.new"
     try:
         with open(beside, "w", encoding="utf-8") as out:
+            os.fchmod(out.fileno(), stat.S_IMODE(os.stat(store).st_mode))
             out.write(text + "\n")
             out.flush()
             os.fsync(out.fileno())

@@ -240,6 +240,16 @@ class Pipeline:
             if request.done:
                 self._open.popleft()
 
+    def withdraw(self, request: Request) -> None:
+        """Takes back the lines of a request that aren't written yet, if it isn't done. They have no
+        reply then."""
+        self._pieces = deque(piece for piece in self._pieces if piece[2] is not request)
+        request.count = request.written
+        if request.answered == request.written and not request.done:
+            if request in self._open:
+                self._open.remove(request)
+            request.finish()
+
     def ended(self, error: Callable[[], ProcessEndedError]) -> None:
         """The process ended. Each open request is told what became of its lines."""
         self._pieces.clear()

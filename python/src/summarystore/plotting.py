@@ -5,6 +5,7 @@ from __future__ import annotations
 from collections.abc import Sequence
 from typing import TYPE_CHECKING
 
+from .errors import TimeError
 from .records import Row
 from .series import Series
 
@@ -29,6 +30,8 @@ def draw(series: Series, end: object, ax: Axes | None = None) -> Axes:
     if ax is None:
         _, ax = pyplot.subplots(figsize=(9.6, 4.0), layout="constrained")
     starts: list[object] = [row.start for row in series]
+    if len({isinstance(moment, int) for moment in [*starts, end]}) > 1:
+        raise TimeError(f"{series.name} reaches beyond the year 9999, which no axis of dates shows: give t2")
     edges = list(zip(starts, [*starts[1:], end]))
     for run in _runs(series):
         times = [time for at in run for time in edges[at]]

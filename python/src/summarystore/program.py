@@ -7,11 +7,14 @@ import shutil
 import subprocess
 import weakref
 from pathlib import Path
+from typing import Union
 
 from .errors import ProgramMissingError, ProtocolError, ending_of
 from .records import Soundness
 from .wire import soundness_of
 
+StorePath = Union[str, bytes, "os.PathLike[str]", "os.PathLike[bytes]"]
+"""The path of a store."""
 VARIABLE = "SUMMARYSTORE"
 CHUNK = 1 << 16
 
@@ -36,18 +39,22 @@ def find_program(program: str | os.PathLike[str] | None = None) -> str:
     return found
 
 
-def store_word(path: str | os.PathLike[str]) -> str:
+def store_word(path: StorePath) -> str:
     """The path of a store as an argument: one that begins with `-` stands in this folder."""
-    word = os.fspath(path)
+    word = os.fsdecode(path)
     return f"./{word}" if word.startswith("-") else word
 
 
 class Process:
-    """One run of the program in the mode `sessions`. Its pipes don't block."""
+    """One run of the program in the mode `sessions`. Its pipes don't block.
 
-    def __init__(self, program: str, path: str) -> None:
+    With `existing` the store has to be there.
+    """
+
+    def __init__(self, program: str, path: str, existing: bool) -> None:
+        options = ["--batch", "--existing"] if existing else ["--batch"]
         # A process group of its own: Ctrl-C at a terminal is for Python, which then ends it in order.
-        self._child = subprocess.Popen([program, "--batch", path, "sessions"], stdin=subprocess.PIPE,
+        self._child = subprocess.Popen([program, *options, path, "sessions"], stdin=subprocess.PIPE,
                                        stdout=subprocess.PIPE, stderr=subprocess.PIPE, bufsize=0,
                                        start_new_session=True)
         assert self._child.stdin and self._child.stdout and self._child.stderr
@@ -115,13 +122,16 @@ def _after_fork() -> None:
 os.register_at_fork(after_in_child=_after_fork)
 
 
-def check(path: str | os.PathLike[str], program: str | os.PathLike[str] | None = None) -> Soundness:
+def check(path: StorePath, program: str | os.PathLike[str] | None = None, *,
+          existing: bool = False) -> Soundness:
     """Looks a store over, as `summarystore STORE check` does. It must not be open elsewhere.
 
-    Raises DamagedStoreError where it isn't sound, and StoreFileError where it can't be read.
+    Raises DamagedStoreError where it isn't sound, and StoreFileError where it can't be read. Where there
+    is no store an empty one is told of: with `existing` that raises NoStoreError.
     """
-    done = subprocess.run([find_program(program), store_word(path), "check"], stdin=subprocess.DEVNULL,
-                          capture_output=True, text=True, check=False)
+    options = ["--existing"] if existing else []
+    done = subprocess.run([find_program(program), *options, store_word(path), "check"],
+                          stdin=subprocess.DEVNULL, capture_output=True, text=True, check=False)
     if done.returncode != 0:
         raise ending_of(done.returncode, (done.stderr.strip() or done.stdout.strip()))
     return soundness_of(done.stdout)

@@ -3,6 +3,7 @@
 from __future__ import annotations
 
 import datetime
+from collections.abc import Sequence
 from dataclasses import dataclass
 from typing import NamedTuple, Union
 
@@ -11,6 +12,10 @@ from .interval import Interval
 
 Time = Union[int, datetime.datetime]
 """A time: of a described stream a datetime where one can say it, and otherwise a whole number."""
+
+
+Record = tuple[int, Sequence[str]]
+"""A line of a table: where it stands, and its cells."""
 
 
 class Stored(NamedTuple):
@@ -70,6 +75,21 @@ class Row(NamedTuple):
 
     start: Time
     interval: Interval
+
+
+class Estimate(NamedTuple):
+    """The interval that a query is answered, and the likeliest number in it."""
+
+    interval: Interval
+    guess: Number
+
+
+class EstimateRow(NamedTuple):
+    """One row of estimates: where it begins, the interval of its times, and the likeliest number in it."""
+
+    start: Time
+    interval: Interval
+    guess: Number
 
 
 class Soundness(NamedTuple):

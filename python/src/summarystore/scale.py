@@ -3,6 +3,7 @@
 from __future__ import annotations
 
 import re
+from collections.abc import Sequence
 from decimal import Context, Decimal
 
 from .decimals import EXACT, Number, exact
@@ -27,6 +28,8 @@ class Scale:
         self._units = 10**places
         part = rf"(?:\.([0-9]{{1,{places}}}))?" if places else "(){0}"
         self._plain = re.compile(rf"(-?[0-9]{{1,40}}){part}")
+        point = rf"\.[0-9]{{{places}}}" if places else ""
+        self._column = re.compile(rf"(?:-?[0-9]{{1,40}}{point}\n)+")
 
     def number(self, given: object) -> int:
         """The whole number of a value."""
@@ -43,6 +46,15 @@ class Scale:
         if whole != count and self._rounding is None:
             raise ScaleError(f"{given} isn't a multiple of the scale {self._scale}")
         return int(whole)
+
+    def numbers(self, texts: Sequence[str]) -> Sequence[int]:
+        """The whole numbers of many texts. Those that all have the places of the scale are read at once."""
+        if self._places is None:
+            return list(map(self.number, texts))
+        together = "\n".join(texts) + "\n"
+        if not self._column.fullmatch(together):
+            return list(map(self.number, texts))
+        return list(map(int, together.replace(".", "").split()))
 
     def _of_text(self, text: str) -> int | None:
         """The number of plain text: digits, with at most the places of the scale behind a point."""

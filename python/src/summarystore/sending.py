@@ -1,4 +1,8 @@
-"""Many appends of one stream: rows into requests, and what became of them. Without any I/O."""
+"""Many appends of one stream: rows into requests, and what became of them. Without any I/O.
+
+An interrupt may come between any two calls. So whatever moves rows from one place to another is
+assigned at once, and at any moment a row that was drawn stands in exactly one place.
+"""
 
 from __future__ import annotations
 
@@ -7,8 +11,9 @@ from itertools import islice
 
 from . import wire
 from .codec import Codec, pairs
-from .errors import LateError, ProcessEndedError, RowsRefusedError, SummaryStoreError
-from .late import in_order
+from .connection import Connection
+from .errors import LateError, Outcome, ProcessEndedError, RowsRefusedError, tell
+from .late import InOrder
 from .pipeline import Appends
 
 Row = tuple[object, object]
@@ -21,60 +26,81 @@ OPEN = 4
 class Sending:
     """The rows of one `append_many`.
 
-    Who drives it sends each request of `requests`, and hands each to `answered` when it is done, in
-    order. At most OPEN of them are to be under way together.
+    Who drives it sends each of `requests`, and waits for those that are `due` after each of them, and
+    at the end. `connection` is the process that has what was sent.
     """
 
-    def __init__(self, codec: Codec, session: int, rows: object, refused: OnRefused | None,
+    def __init__(self, codec: Codec, rows: object, refused: OnRefused | None,
                  lateness: object | None) -> None:
-        self._codec = codec
-        self._session = session
+        self.codec = codec
+        self._session = 0
+        self.connection: Connection | None = None
         self._on_refused = refused
         self._refused: list[tuple[Row, Exception]] = []
         self._ended: ProcessEndedError | None = None
-        self.stored = 0
+        self._done = Outcome(0, (), ())
+        self.under_way: Sequence[Appends[Row]] = ()
+        self._drawn: list[Row] = []
         found: Iterable[Row] = pairs(rows)
-        if lateness is not None:
-            found = in_order(found, lambda row: codec.time(row[0]), codec.step(lateness))
-        self._rows = iter(found)
+        self._sorted = None if lateness is None else InOrder(
+            found, lambda row: codec.time(row[0]), codec.step(lateness))
+        self._rows = iter(found if self._sorted is None else self._sorted)
 
     @property
     def stopped(self) -> bool:
         """Whether no more rows are to be sent."""
         return bool(self._refused) or self._ended is not None
 
-    def requests(self) -> Iterator[Appends[Row]]:
-        """The requests, one after the other."""
-        while not self.stopped:
-            chunk = list(islice(self._rows, CHUNK))
-            if not chunk:
-                return
-            rows, data = self._coded(chunk)
-            if rows:
-                yield Appends(self._session, data, rows)
+    def more(self, rows: object) -> None:
+        """Further rows, where those that were given have been drawn."""
+        self._rows = iter(pairs(rows))
 
-    def _coded(self, chunk: list[Row]) -> tuple[Sequence[Row], bytes]:
-        """The rows of a chunk that are readings of the stream, and their lines."""
+    def requests(self, session: int) -> Iterator[Appends[Row]]:
+        """The requests, one after the other."""
+        self._session = session
+        while not self.stopped and self._draw():
+            rows, data, rest = self._coded(self._drawn)
+            if rows:
+                request = Appends(self._session, data, rows)
+                self.under_way, self._drawn = [*self.under_way, request], rest
+                yield request
+            else:
+                self._drawn = rest
+
+    def due(self, most: int = OPEN - 1) -> Iterator[Appends[Row]]:
+        """The oldest requests, each to be waited for, until no more than so many are under way."""
+        while len(self.under_way) > most:
+            yield self.under_way[0]
+            self._answered(self.under_way[0])
+
+    def _draw(self) -> bool:
+        drawn: list[Row] = []
+        self._drawn = drawn
+        drawn.extend(islice(self._rows, CHUNK))     # what comes before an exception stays in it
+        return bool(drawn)
+
+    def _coded(self, chunk: list[Row]) -> tuple[Sequence[Row], bytes, list[Row]]:
+        """The rows of a chunk that are readings of the stream, their lines, and those after a stop."""
         try:
-            return chunk, self._lines(chunk)
-        except (SummaryStoreError, ValueError, TypeError):
+            return chunk, self._lines(chunk), []
+        except Exception:
             pass    # one of them isn't: they are gone through one by one
         rows: list[Row] = []
         lines: list[bytes] = []
-        for row in chunk:
+        for at, row in enumerate(chunk, 1):
             try:
                 lines.append(self._lines([row]))
                 rows.append(row)
-            except (SummaryStoreError, ValueError, TypeError) as error:
+            except Exception as error:
                 self._refuse(row, error)
                 if self.stopped:
-                    break
-        return rows, b"".join(lines)
+                    return rows, b"".join(lines), chunk[at:]
+        return rows, b"".join(lines), []
 
     def _lines(self, rows: Sequence[Row]) -> bytes:
         if str in set(map(type, rows)):     # two characters would be taken for a time and a value
             raise TypeError("a row is a time and a value, and not a text")
-        return wire.appends(self._session, self._codec.short, self._codec.rows(rows))
+        return wire.appends(self._session, self.codec.short, self.codec.rows(rows))
 
     def _refuse(self, row: Row, error: Exception) -> None:
         if self._on_refused is None:
@@ -82,28 +108,43 @@ class Sending:
         else:
             self._on_refused(row, error)
 
-    def answered(self, request: Appends[Row]) -> None:
-        """Takes what became of a request."""
+    def _answered(self, request: Appends[Row]) -> None:
+        """Takes what became of the oldest request."""
         for row, error in request.refused:
             self._refuse(row, error)
-        if isinstance(request.error, ProcessEndedError):
-            if self._ended is None:
-                self._ended = request.error
-                self._ended.acknowledged += self.stored
-            else:
-                self._ended.unknown = [*self._ended.unknown, *request.error.unknown]
-                self._ended.not_stored = [*self._ended.not_stored, *request.error.not_stored]
-        else:
-            self.stored += request.stored
+        if self._ended is None and isinstance(request.error, ProcessEndedError):
+            self._ended = request.error
+        done = _with(self._done, request)
+        self._done, self.under_way = done, self.under_way[1:]
+
+    def outcome(self) -> Outcome:
+        """What became of the rows that were drawn, as far as it is known by now."""
+        found = self._done
+        for request in self.under_way:
+            found = _with(found, request)
+        held = [] if self._sorted is None else self._sorted.held
+        return found._replace(not_stored=[*found.not_stored, *self._drawn, *held])
 
     def end(self) -> int:
         """How many rows were stored. Raises where the program ended or rows were refused."""
+        outcome = self.outcome()
         if self._ended is not None:
+            tell(self._ended, outcome)
             raise self._ended
         if self._refused:
-            raise RowsRefusedError(self.stored, self._refused)
-        return self.stored
+            raise RowsRefusedError(outcome.acknowledged, self._refused, outcome.not_stored)
+        return outcome.acknowledged
 
     def late(self) -> list[LateError]:
         """The refusals that are to be told the newest time."""
         return [error for _, error in self._refused if isinstance(error, LateError)]
+
+
+def _with(outcome: Outcome, request: Appends[Row]) -> Outcome:
+    """What became of some rows, and of those of a request."""
+    rows, answered, written = request.rows, request.answered, request.written
+    if answered == len(rows):
+        return outcome._replace(acknowledged=outcome.acknowledged + request.stored)
+    return Outcome(outcome.acknowledged + request.stored,
+                   [*outcome.unknown, *rows[answered:written]],
+                   [*outcome.not_stored, *rows[written:]])

@@ -2,11 +2,13 @@
 
 from __future__ import annotations
 
+import datetime
 from collections.abc import Iterator, Sequence
+from contextlib import suppress
 from typing import TYPE_CHECKING, overload
 
 from .interval import Interval, outward
-from .records import Row
+from .records import Row, Time
 
 if TYPE_CHECKING:
     import pandas
@@ -49,11 +51,30 @@ class Series(Sequence[Row]):
         """
         import pandas
         ends = [_exact(row.interval) if exact else _floats(row.interval) for row in self._rows]
-        index = pandas.Index([row.start for row in self._rows], name="start")
+        index = index_of([row.start for row in self._rows]).rename("start")
         frame = pandas.DataFrame(ends, index=index, columns=["lo", "mid", "hi"],
                                  dtype=object if exact else float)
         frame["maybe_none"] = [row.interval.maybe_none for row in self._rows]
         return frame
+
+
+def index_of(times: Sequence[Time]) -> pandas.Index:
+    """Times as pandas has them, in their zone where all are datetimes that it can hold.
+
+    They go there as UTC: of an hour that a clock shows twice pandas 1.5 makes the first one.
+    """
+    import pandas
+    moments = [time for time in times if isinstance(time, datetime.datetime)]
+    if not moments or len(moments) < len(times):
+        return pandas.Index(times)
+    try:
+        index = pandas.DatetimeIndex([moment.astimezone(datetime.timezone.utc) for moment in moments])
+    except pandas.errors.OutOfBoundsDatetime:
+        return pandas.Index(times, dtype=object)
+    zone = moments[0].tzinfo
+    with suppress(LookupError):     # by its name, so that it is a zone that this pandas shows right
+        return index.tz_convert(str(getattr(zone, "key", None) or zone))
+    return index.tz_convert(zone)
 
 
 def _exact(interval: Interval) -> tuple[object, object, object]:

@@ -3,7 +3,6 @@
 from __future__ import annotations
 
 import threading
-from collections import deque
 from collections.abc import Iterator, Mapping, Sequence
 from contextlib import contextmanager
 from datetime import date
@@ -12,18 +11,17 @@ from types import TracebackType
 from typing import TYPE_CHECKING, Self
 
 from . import calls
-from . import program as programs
 from .certificate import Certificate
 from .channel import LOOK_AGAIN, Channel
 from .codec import Codec
+from .combining import Part
 from .cursor import Windows
 from .description import Description, changed, description_of
-from .errors import CursorBusyError, LateError, NoValueError, RefusedError, SummaryStoreError
+from .errors import CursorBusyError, LateError, NoValueError, RefusedError, SummaryStoreError, tell
 from .interval import Interval, Presence
 from .late import MOST_HELD
-from .pipeline import Appends
-from .records import Last, Reading, Soundness, Stored, Stream, Time
-from .sending import OPEN, OnRefused, Sending
+from .records import Estimate, EstimateRow, Last, Reading, Soundness, Stored, Stream, Time
+from .sending import OnRefused, Sending
 from .series import Series
 
 if TYPE_CHECKING:
@@ -64,15 +62,11 @@ class Store(Channel):
         codec = self._translator.declare(name, description)
         try:
             made = self._do(calls.create(codec, target, within))
-        except RefusedError:
+        except (RefusedError, TypeError, ValueError):
             self._translator.unmade(name, codec)
             raise
         self._translator.made(name, codec)
         return made
-
-    def description(self, name: str) -> Description | None:
-        """How a stream is read. None where it takes and gives whole numbers."""
-        return self._translator.codec(name).description
 
     def describe(self, name: str, *, unit: str | None = None, labels: Mapping[str, str] | None = None,
                  rounding: str | None = None) -> None:
@@ -80,11 +74,6 @@ class Store(Channel):
         self._ready()
         known = self.description(name) or Description()
         self._translator.describe(name, changed(known, unit, labels, rounding))
-
-    def now(self, name: str) -> Time:
-        """The present time of a described stream."""
-        codec = self._translator.codec(name)
-        return codec.time_back(codec.now())
 
     def append(self, name: str, time: object, value: object) -> Stored:
         """Takes a value at a time later than all before. It is on the disk when this returns.
@@ -115,30 +104,56 @@ class Store(Channel):
         Rows are pairs, or a dict, or a pandas Series. All are on the disk when this returns. With
         `refused` it is called with each row that is refused, and its exception. Without it no more rows
         are sent then, and RowsRefusedError is raised. With `lateness` rows that are late by at most so
-        much are sorted.
+        much are sorted. Where something else cuts it off, as an interrupt does, `outcome_of` that
+        exception says what became of the rows that were drawn.
         """
         return self.append_rows(self._translator.codec(name), rows, refused, lateness)
 
     def append_rows(self, codec: Codec, rows: object, refused: OnRefused | None = None,
                     lateness: object | None = None) -> int:
         """`append_many` for whoever has made the codec of the stream."""
-        with self._session() as session:
-            sending = Sending(codec, session, rows, refused, lateness)
-            under_way: deque[Appends[tuple[object, object]]] = deque()
-            connection = None
-            try:
-                for request in sending.requests():
-                    connection = self._submit(request, connection)
-                    under_way.append(request)
-                    if len(under_way) == OPEN:
-                        self._wait(under_way[0])
-                        sending.answered(under_way.popleft())
-            finally:
-                for request in under_way:
-                    self._wait(request)
-                    sending.answered(request)
-        self._tell_newest(codec, sending.late())
+        sending = Sending(codec, rows, refused, lateness)
+        self.send_some(sending)
+        return self.send_rest(sending)
+
+    def send_some(self, sending: Sending) -> None:
+        """Sends the rows of a `Sending`. The last of them are under way then."""
+        self._close_let_go()
+        with self._session() as session, self._telling(sending):
+            for request in sending.requests(session):
+                sending.connection = self._submit(request, sending.connection)
+                for oldest in sending.due():
+                    self._wait(oldest)
+        if sending.stopped:
+            self.send_rest(sending)
+
+    def send_rest(self, sending: Sending) -> int:
+        """Waits for all that is under way. Gives how many rows were stored, as `append_many` does."""
+        with self._session(), self._telling(sending):
+            for oldest in sending.due(0):
+                self._wait(oldest)
+        self._tell_newest(sending.codec, sending.late())
         return sending.end()
+
+    @contextmanager
+    def _telling(self, sending: Sending) -> Iterator[None]:
+        """An exception that comes within tells what became of the rows."""
+        try:
+            yield
+        except BaseException as error:
+            self._cut_off(sending, error)
+            raise
+
+    def _cut_off(self, sending: Sending, error: BaseException) -> None:
+        """An exception came: what isn't written yet is taken back, and what became of the rows is told
+        with it."""
+        try:
+            with self._changed:
+                self._call_off(sending.under_way)
+            for request in sending.under_way:
+                self._wait(request)
+        finally:
+            tell(error, sending.outcome())
 
     @contextmanager
     def landmark(self, name: str, start: object | None = None, end: object | None = None
@@ -149,18 +164,25 @@ class Store(Channel):
         `start` wasn't given either, now, if that is later.
         """
         codec = self._translator.codec(name)
-        begun = codec.now() if start is None else codec.time(start)
+        begun, ended = calls.landmark_span(codec, start, end)
         self._do(calls.landmark_open(codec, begun))
         try:
             yield
         finally:
-            self._do(calls.landmark_close(codec, self._end_of_landmark(codec, start, end)))
+            if ended is None:
+                newest = self._do(calls.last_numbers(codec))[0]
+                ended = max(newest, codec.now()) if start is None else newest
+            self._do(calls.landmark_close(codec, ended))
 
-    def _end_of_landmark(self, codec: Codec, start: object | None, end: object | None) -> int:
-        if end is not None:
-            return codec.time(end)
-        newest = self._do(calls.last_numbers(codec))[0]
-        return max(newest, codec.now()) if start is None else newest
+    def open_landmark(self, name: str, time: object | None = None) -> Stored:
+        """Opens a landmark at a time, or now, for one that ends in another place of the program."""
+        codec = self._translator.codec(name)
+        return self._do(calls.landmark_open(codec, codec.now() if time is None else codec.time(time)))
+
+    def close_landmark(self, name: str, time: object | None = None) -> Stored:
+        """Closes the landmark that is open."""
+        codec = self._translator.codec(name)
+        return self._do(calls.landmark_close(codec, codec.now() if time is None else codec.time(time)))
 
     def drop(self, name: str) -> None:
         """Removes a stream with all that it holds. It can't be undone."""
@@ -196,6 +218,21 @@ class Store(Channel):
                ) -> Series:
         """The answers to `query` for each step from t1 to t2: at most 100,000 rows."""
         return self._do(calls.series(name, self._translator.codec(name), kind, t1, t2, step))
+
+    def estimate(self, name: str, kind: str, t1: object | None = None, t2: object | None = None
+                 ) -> Estimate:
+        """`count` or `sum` of the values from t1 to t2, and the likeliest number in its interval."""
+        return self._do(calls.estimate(self._translator.codec(name), kind, t1, t2))
+
+    def estimates(self, name: str, kind: str, t1: object | None, t2: object | None, step: object
+                  ) -> Sequence[EstimateRow]:
+        """The answers to `estimate` for each step from t1 to t2: at most 100,000 rows."""
+        return self._do(calls.estimates(self._translator.codec(name), kind, t1, t2, step))
+
+    def figures(self, name: str, kinds: Sequence[str], t1: object | None = None,
+                t2: object | None = None, step: object | None = None) -> Sequence[Part]:
+        """The answers to `query` of several kinds, all of one moment; with a step, one for each row."""
+        return self._do(calls.figures(self._translator.codec(name), kinds, t1, t2, step))
 
     def last(self, name: str) -> Last | None:
         """The last time and the newest value. None where the stream took nothing yet."""
@@ -236,9 +273,13 @@ class Store(Channel):
                     raise CursorBusyError("BUSY", "check", "this thread has an iterator or a call open")
                 self._changed.wait(LOOK_AGAIN)
                 self._close_let_go()
-            self._put_down(self._up())
-            found = programs.check(self.path, self._program)
-            self._connection = self._connect_again()
+            old = self._up()
+            while not old.pipeline.idle:
+                self._pump()
+            if self._connection is old:
+                self._put_down(old)
+            found = self._look_over()
+            self._connection = old.successor = self._start()
             return found
 
     def plot(self, name: str, kind: str = "mean", t1: object | None = None, t2: object | None = None,
@@ -249,10 +290,6 @@ class Store(Channel):
         """
         from .plotting import plot_store
         return plot_store(self, name, kind, t1, t2, step, ax)
-
-    def codec(self, name: str) -> Codec:
-        """How a stream's times and values become whole numbers, and back."""
-        return self._translator.codec(name)
 
     def last_count(self, name: str) -> int | None:
         """The last time of a stream as a whole number."""
@@ -269,7 +306,7 @@ class Store(Channel):
                 raise NoValueError(f"{name} has no values yet")
             t1, t2 = (span[0] if t1 is None else t1), (span[1] if t2 is None else t2)
         if step is None:
-            step = (codec.end(t2) - codec.begin(t1)) // ROWS + 1
+            step = max(1, (codec.end(t2) - codec.begin(t1)) // ROWS + 1)
         return self.series(name, kind, t1, t2, step), t2
 
     def ends(self, name: str, last: object) -> Time:

@@ -6,7 +6,6 @@ import csv
 import io
 import re
 import sqlite3
-import subprocess
 import sys
 import time
 from collections.abc import Callable, Iterable, Iterator, Sequence
@@ -15,20 +14,14 @@ from itertools import chain, islice
 from pathlib import Path
 from typing import BinaryIO
 
+from . import rrd
 from .decimals import NUMBER
-from .errors import SummaryStoreError
+from .errors import SourceError
+from .records import Record
 
 SAMPLE = 1000
 THOUSANDS = re.compile(r"[+-]?[1-9][0-9]{0,2},[0-9]{3}")
 DELIMITERS = (",", ";", "\t", "|", " ")
-
-
-class SourceError(SummaryStoreError):
-    """What is to be read can't be."""
-
-
-Record = tuple[int, Sequence[str]]
-"""A line of a table: where it stands, and its cells."""
 
 
 @dataclass
@@ -79,7 +72,9 @@ def csv_table(path: str, delimiter: str | None, decimal: str | None) -> Table:
 
     def lines() -> Iterator[Record]:
         try:
-            yield from ((reader.line_num, cells) for cells in reader if cells)
+            for cells in reader:
+                if cells:
+                    yield reader.line_num, cells
         except csv.Error as error:
             raise SourceError(f"{path}, line {reader.line_num}: {error}; quotes come in pairs") from None
     table = _table((), lines(), "")
@@ -94,14 +89,25 @@ def csv_table(path: str, delimiter: str | None, decimal: str | None) -> Table:
 
 
 def guess_delimiter(lines: Sequence[str]) -> str:
-    """The delimiter that gives the same number of cells on most lines, at least two."""
-    best, most = ",", 0
+    """The delimiter that gives the same number of cells on most lines, at least two.
+
+    Where two do, as of `10:00;21,5`, it is the one that leaves fewer cells to be cut by another.
+    """
+    best, most = ",", (0, 0)
     for delimiter in DELIMITERS:
-        counts = [len(cells) for cells in csv.reader(lines[:100], delimiter=delimiter) if cells]
+        rows = [cells for cells in csv.reader(lines[:100], delimiter=delimiter) if cells]
+        counts = list(map(len, rows))
         width = max(set(counts), key=counts.count, default=0)
-        if width > 1 and counts.count(width) > most:
-            best, most = delimiter, counts.count(width)
+        fits = counts.count(width), -sum(_is_mixed(cell, delimiter) for cells in rows for cell in cells)
+        if width > 1 and fits > most:
+            best, most = delimiter, fits
     return best
+
+
+def _is_mixed(cell: str, delimiter: str) -> bool:
+    """Whether another delimiter stands in a cell, and not as the comma of a number."""
+    others = set(DELIMITERS) - {delimiter, " "}
+    return not others.isdisjoint(cell) and not is_number(cell.strip(), True)
 
 
 def _has_commas(sample: Sequence[Record]) -> bool:
@@ -135,31 +141,6 @@ def _text(cell: object) -> str:
     return "" if cell is None else str(cell)
 
 
-def rrd_table(path: str, function: str, start: str | None, end: str | None) -> Table:
-    """An RRD file, by `rrdtool fetch`. A value that isn't known is an empty cell."""
-    start = start or _run("rrdtool", "first", path).strip()
-    end = end or _run("rrdtool", "last", path).strip()
-    lines = _run("rrdtool", "fetch", path, function, "--start", start, "--end", end).splitlines()
-    heads = ["time", *lines[0].split()] if lines else []
-    rows = []
-    for at, line in enumerate(lines[1:], 2):
-        moment, colon, values = line.partition(":")
-        if colon:
-            cells = ["" if "nan" in cell.lower() else cell for cell in values.split()]
-            rows.append((at, [moment.strip(), *cells]))
-    return _table(heads, rows, f"rrdtool fetch {function}")
-
-
-def _run(*words: str) -> str:
-    try:
-        done = subprocess.run(words, capture_output=True, text=True, check=False)
-    except FileNotFoundError:
-        raise SourceError(f"{words[0]} isn't installed") from None
-    if done.returncode != 0:
-        raise SourceError(f"{' '.join(words)}: {done.stderr.strip()}")
-    return done.stdout
-
-
 def whisper_table(path: str) -> Table:
     """A Whisper file: what its archives hold, the finest first, in the order of their times."""
     try:
@@ -189,7 +170,7 @@ def table_of(path: str, query: str | None, delimiter: str | None, decimal: str |
     if path != "-":
         try:
             with open(path, "rb") as file:
-                magic = file.read(16)
+                magic = file.read(200)
         except OSError as error:
             raise SourceError(f"{path}: {error.strerror}") from None
         if magic.startswith(b"SQLite format 3\0"):
@@ -197,7 +178,9 @@ def table_of(path: str, query: str | None, delimiter: str | None, decimal: str |
                 raise SourceError("an SQLite file needs --query 'select time, value from .. order by time'")
             return sqlite_table(path, query)
         if magic.startswith(b"RRD\0"):
-            return rrd_table(path, function, start, end)
+            return _table(*rrd.fetched(path, function, start, end), f"rrdtool fetch {function}")
+        if rrd.is_xport(magic):
+            return _table(*rrd.exported(path), "rrdtool xport")
         if path.endswith(".wsp"):
             return whisper_table(path)
     return csv_table(path, delimiter, decimal)

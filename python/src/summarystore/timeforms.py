@@ -7,7 +7,7 @@ import re
 from collections.abc import Callable, Sequence
 from dataclasses import dataclass
 
-from .clock import COUNT, DAY, moment_of, nanoseconds
+from .clock import COUNT, DAY, is_compact, moment_of, nanoseconds
 from .codec import Codec
 from .description import EPOCH, NANOSECONDS
 from .errors import TimeError
@@ -16,7 +16,6 @@ from .names import DescribedCodec
 ISO, WHOLE = "ISO 8601", "whole numbers"
 DATES = ("%d.%m.%Y", "%d/%m/%Y", "%m/%d/%Y", "%Y/%m/%d", "%d-%m-%Y", "%m-%d-%Y", "%d.%m.%y")
 CLOCKS = (" %H:%M:%S", " %H:%M", " %H:%M:%S.%f", "")
-COMPACT = {8: "%Y%m%d", 12: "%Y%m%d%H%M", 14: "%Y%m%d%H%M%S"}
 FEW = 20
 FRACTION = re.compile(r":[0-9]{2}[.,]([0-9]+)")
 # Counts since 1970 by how many digits they have: seconds until 5138, and so on.
@@ -51,10 +50,26 @@ class TimeForm:
             return at(moment_in(text, form, zone), text)
         return moment
 
+    def column(self, codec: Codec) -> Callable[[Sequence[str]], Sequence[int]]:
+        """What gives the counts of many texts, for a stream. Whole numbers that are kept as they are
+        are read at once."""
+        one = self.reader(codec)
+
+        def counts(texts: Sequence[str]) -> Sequence[int]:
+            if COUNT.fullmatch("".join(texts)) and all(texts):
+                return list(map(int, texts))
+            return list(map(one, texts))
+        kept = self.form == WHOLE and self._is_kept(codec)
+        return counts if kept else lambda texts: list(map(one, texts))
+
+    def _is_kept(self, codec: Codec) -> bool:
+        """Whether a stream counts as the table does."""
+        description = codec.description
+        return description is None or (description.time, description.since) == (self.resolution, self.since)
+
     def _whole(self, codec: Codec) -> Callable[[str], int]:
         each = NANOSECONDS[self.resolution]
-        description = codec.description
-        same = description is None or (description.time, description.since) == (self.resolution, self.since)
+        same = self._is_kept(codec)
 
         def count(text: str) -> int:
             if not COUNT.fullmatch(text):
@@ -92,7 +107,7 @@ def guess(texts: Sequence[str], zone: datetime.tzinfo | None) -> TimeForm:
     """The form of these times. Where two forms fit, or none, it has to be told."""
     texts = [text for text in texts if text]
     if texts and all(COUNT.fullmatch(text) for text in texts):
-        if all(_is_compact(text) for text in texts):
+        if all(is_compact(text) for text in texts):
             raise TimeError(f"times such as {texts[0]!r}: digits of a date and a count both fit; give "
                             "--time-format, as %Y%m%d, or --time-unit")
         return TimeForm(WHOLE, _unit(texts))
@@ -119,17 +134,6 @@ def of_form(form: str, texts: Sequence[str], zone: datetime.tzinfo | None) -> Ti
     places = max((len(found[1]) for text in texts if (found := FRACTION.search(text))), default=0)
     resolution = "s" if not places else "ms" if places <= 3 else "us" if places <= 6 else "ns"
     return TimeForm(form, resolution, since, zone)
-
-
-def _is_compact(text: str) -> bool:
-    """Whether digits may be those of a date, or of a date and a clock, one after the other."""
-    form = COMPACT.get(len(text))
-    if form is None:
-        return False
-    try:
-        return 1850 <= datetime.datetime.strptime(text, form).year <= 2150
-    except ValueError:
-        return False
 
 
 def _unit(texts: Sequence[str]) -> str:

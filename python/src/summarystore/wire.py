@@ -8,12 +8,13 @@ from __future__ import annotations
 
 import re
 from collections.abc import Iterable, Sequence
+from itertools import chain
 from typing import NamedTuple
 
 from .decimals import is_truth_value
 from .errors import NumberError, ProtocolError, StreamNameError, refusal_of
 from .interval import Interval, Presence
-from .records import Soundness, Stored
+from .records import Soundness, Stored, Stream
 
 SESSIONS = 8
 LONGEST_LINE = 256
@@ -78,16 +79,24 @@ def append(name: str, time: int, value: int) -> str:
 
 def appends(session: int, name: str, rows: Sequence[tuple[int, int]]) -> bytes:
     """The tagged lines of many appends, each with its line end."""
-    if {type(number) for row in rows for number in row} - {int}:
-        rows = [(whole(time), whole(value)) for time, value in rows]
     head = f"@{session} append {name_word(name)}"
     if len(head) > LONGEST_SENT:
         raise refusal_of("LINE", f"{head[:LONGEST_LINE]}..")
-    lines = [f"{head} {time} {value}\n" for time, value in rows]
-    if max(map(len, lines), default=0) > LONGEST_LINE:
-        # A number or the name is too long: which one, and of which row, is told.
-        lines = [f"{head} {whole(time)} {whole(value)}\n" for time, value in rows]
-    return "".join(lines).encode("ascii")
+    numbers = _plain(rows)
+    if numbers is None:     # one by one, so that the row that isn't two whole numbers is told
+        numbers = [number for time, value in rows for number in (whole(time), whole(value))]
+    form = head.replace("%", "%%") + " %d %d\n"
+    return (form * len(rows) % tuple(numbers)).encode("ascii")
+
+
+def _plain(rows: Sequence[tuple[int, int]]) -> Sequence[int] | None:
+    """The numbers of rows that surely are pairs of `int` of 64 bits, one after the other."""
+    if set(map(type, rows)) - {tuple, list} or set(map(len, rows)) - {2}:
+        return None
+    found = tuple(chain.from_iterable(rows))
+    if set(map(type, found)) - {int}:
+        return None
+    return found if -2**64 < min(found, default=0) and max(found, default=0) < 2**64 else None
 
 
 def landmark_open(name: str, time: int) -> str:
@@ -118,6 +127,16 @@ def has(name: str, value: int, first: int, last: int) -> str:
 def series(name: str, kind: str, first: int, last: int, step: int) -> str:
     """`series NAME KIND T1 T2 STEP`."""
     return f"series {name_word(name)} {kind} {whole(first)} {whole(last)} {whole(step)}"
+
+
+def estimate(name: str, kind: str, first: int, last: int) -> str:
+    """`estimate NAME KIND T1 T2`."""
+    return f"estimate {name_word(name)} {kind} {whole(first)} {whole(last)}"
+
+
+def estimates(name: str, kind: str, first: int, last: int, step: int) -> str:
+    """`estimates NAME KIND T1 T2 STEP`."""
+    return f"estimates {name_word(name)} {kind} {whole(first)} {whole(last)} {whole(step)}"
 
 
 def certify(name: str, kind: str, end: str, first: int, last: int) -> str:
@@ -151,6 +170,8 @@ def cursor_next(count: int) -> str:
 
 
 LIST = "list"
+NOTHING = "nothing"
+"""A line that the program refuses, whatever stands: its reply says that all before it were taken."""
 CURSOR_CLOSE = "cursor close"
 
 
@@ -214,6 +235,14 @@ def interval_of(text: str) -> Interval:
     return Interval(_integer(words[0], text), _integer(words[1], text), maybe_none=maybe_none)
 
 
+def estimate_of(text: str) -> tuple[Interval, int]:
+    """`LO GUESS HI`."""
+    lo, guess, hi = numbers(text, 3)
+    if not lo <= guess <= hi:
+        raise ProtocolError(f"a number between two was to come: {text[:200]}")
+    return Interval(lo, hi), guess
+
+
 def presence_of(reply: Reply) -> Presence:
     """`has absent`, `has present` or `has maybe`."""
     word = after(reply.head, "has")
@@ -230,20 +259,8 @@ def rows_of(reply: Reply, first: str) -> Sequence[str]:
     return reply.rows
 
 
-class StreamRow(NamedTuple):
-    """A row of `list`, in whole numbers."""
-
-    name: str
-    target: str
-    within: int | None
-    values: int
-    windows: int
-    landmarks: int
-    landmark_values: int
-
-
-def stream_of(row: str) -> StreamRow:
-    """`NAME TARGET N K L M`, where `within E` may end TARGET."""
+def stream_of(row: str) -> Stream:
+    """`NAME TARGET N K L M`, where `within E` may end TARGET. Its name is the program's own."""
     words = row.split(" ")
     if len(words) < 7:
         raise ProtocolError(f"a row of `list` was to come: {row[:200]}")
@@ -251,7 +268,8 @@ def stream_of(row: str) -> StreamRow:
     if target[-2:-1] == ["within"]:
         within = _integer(target[-1], row)
         target = target[:-2]
-    return StreamRow(words[0], " ".join(target), within, *(_integer(word, row) for word in words[-4:]))
+    values, windows_, landmarks, marked = (_integer(word, row) for word in words[-4:])
+    return Stream(words[0], " ".join(target), within, values, windows_, landmarks, marked, words[0])
 
 
 def soundness_of(text: str) -> Soundness:

@@ -1,0 +1,78 @@
+"""What both faces of a store have: where it lies, its process, its sessions and its streams."""
+
+from __future__ import annotations
+
+import os
+from collections.abc import Sequence
+
+from . import program as programs
+from .codec import Codec, Plain, Translator
+from .connection import RENEW_AT, Connection, connect
+from .description import Description
+from .pipeline import Request
+from .program import StorePath
+from .records import Soundness, Time
+from .sessions import Sessions
+
+
+class Base:
+    """A store with at most one process. With `existing` it has to be there, and isn't made."""
+
+    def __init__(self, path: StorePath, *, program: str | os.PathLike[str] | None = None,
+                 translator: Translator | None = None, existing: bool = False,
+                 renew_at: int = RENEW_AT) -> None:
+        self.path = os.path.abspath(os.fsdecode(path))
+        self._program = programs.find_program(program)
+        self._translator: Translator = Plain() if translator is None else translator
+        self._existing = existing
+        self._renew_at = renew_at
+        self._sessions = Sessions()
+        self._connection: Connection | None = None
+        self._closed = False
+
+    def _start(self) -> Connection:
+        """A new process. A store that is gone by then isn't made anew."""
+        self._sessions.forget_cursors()
+        connection = connect(self._program, self.path, self._translator, self._existing)
+        self._existing = True
+        return connection
+
+    def _outlived(self) -> Connection | None:
+        """The process that is up, where it has taken so much that another is to take its place.
+
+        A cursor keeps it.
+        """
+        connection = self._connection
+        if connection is None or connection.pipeline.sent <= self._renew_at or self._sessions.cursors:
+            return None
+        return connection
+
+    def _call_off(self, requests: Sequence[Request]) -> None:
+        """Takes back what isn't written yet of requests that aren't done."""
+        for request in requests:
+            if self._connection is not None:
+                self._connection.pipeline.withdraw(request)
+            elif not request.done:      # it was never handed over
+                request.finish()
+
+    def _look_over(self) -> Soundness:
+        return programs.check(self.path, self._program, existing=True)
+
+    @property
+    def pid(self) -> int | None:
+        """The number of the process, if one is up."""
+        connection = self._connection
+        return None if connection is None else connection.process.pid
+
+    def codec(self, name: str) -> Codec:
+        """How a stream's times and values become whole numbers, and back."""
+        return self._translator.codec(name)
+
+    def description(self, name: str) -> Description | None:
+        """How a stream is read. None where it takes and gives whole numbers."""
+        return self.codec(name).description
+
+    def now(self, name: str) -> Time:
+        """The present time of a described stream."""
+        codec = self.codec(name)
+        return codec.time_back(codec.now())

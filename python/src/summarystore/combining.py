@@ -1,0 +1,76 @@
+"""What is known over several streams or stores together, from what is known of each.
+
+A part is what one of them says of the kinds that an answer needs, all of one moment. Parts are joined
+in any order and grouping: the parts of the streams of a store to one of the store, and those to one of
+all stores.
+"""
+
+from __future__ import annotations
+
+from collections.abc import Iterable, Mapping, Sequence
+
+from .interval import Interval, mean_of
+
+Part = Mapping[str, Interval]
+
+KINDS = ("count", "sum", "min", "max")
+
+
+def needed(kind: str) -> Sequence[str]:
+    """What has to be known of each for an answer of this kind."""
+    return KINDS if kind == "mean" else (kind,)
+
+
+def empty(kinds: Iterable[str]) -> Part:
+    """What is known of no streams, and of a stream without a value."""
+    return {kind: Interval.nothing() if kind in ("min", "max") else Interval(0) for kind in kinds}
+
+
+def joined(kinds: Sequence[str], parts: Iterable[Part]) -> Part:
+    """What is known of all of them."""
+    listed = list(parts)
+    return {kind: _joined(kind, [part[kind] for part in listed]) for kind in kinds}
+
+
+def answer(kind: str, part: Part) -> Interval:
+    """The answer of a kind."""
+    if kind == "mean":
+        return mean_of(part["sum"], part["count"], part["min"], part["max"])
+    return part[kind]
+
+
+def _joined(kind: str, intervals: Sequence[Interval]) -> Interval:
+    if kind == "min":
+        return least_of(intervals)
+    if kind == "max":
+        return greatest_of(intervals)
+    return total_of(intervals)
+
+
+def total_of(intervals: Iterable[Interval]) -> Interval:
+    """Holds the sum of the truths that the intervals hold."""
+    return sum(intervals, Interval(0))
+
+
+def least_of(intervals: Iterable[Interval]) -> Interval:
+    """Holds the least of the truths that the intervals hold, where some of them may have none.
+
+    It is at most the end of each that surely has a value. Where none surely has, one of them alone may
+    have it, so the greatest end bounds it.
+    """
+    some = [each for each in intervals if not each.none]
+    if not some:
+        return Interval.nothing()
+    sure = [each.hi for each in some if not each.maybe_none]
+    hi = min(sure) if sure else max(each.hi for each in some)
+    return Interval(min(each.lo for each in some), hi, maybe_none=not sure)
+
+
+def greatest_of(intervals: Iterable[Interval]) -> Interval:
+    """Holds the greatest of the truths, as `least_of` the least."""
+    some = [each for each in intervals if not each.none]
+    if not some:
+        return Interval.nothing()
+    sure = [each.lo for each in some if not each.maybe_none]
+    lo = max(sure) if sure else min(each.lo for each in some)
+    return Interval(lo, max(each.hi for each in some), maybe_none=not sure)

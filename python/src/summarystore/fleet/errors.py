@@ -1,0 +1,17 @@
+"""What is raised by the fleet."""
+
+from __future__ import annotations
+
+from ..errors import SummaryStoreError
+
+
+class FleetError(SummaryStoreError):
+    """All that the fleet raises by itself."""
+
+
+class SpoolError(FleetError):
+    """The folder of the spool can't be used."""
+
+
+class BrokerError(FleetError):
+    """The broker isn't there, or it refuses what it is asked."""

@@ -1,0 +1,107 @@
+"""What a client asks for: times, numbers and names, out of the words of a request."""
+
+from __future__ import annotations
+
+import re
+import time as clock
+from collections.abc import Mapping
+from decimal import Decimal, InvalidOperation
+
+from ..clock import moment_of, span_of
+from ..errors import TimeError
+from .endpoints import ApiError
+
+SECONDS = re.compile(r"[+-]?[0-9]{1,12}(?:\.([0-9]{1,9}))?")
+NOW = re.compile(r"now(?:([+-])([0-9]{1,9}) ?([a-z]{1,7}))?")
+# A plus sign in an address that wasn't escaped has become a blank.
+LOST_PLUS = re.compile(r"([0-9]{4}-?[0-9]{2}-?[0-9]{2}[T ][0-9:.]+) ([0-9]{2}:?[0-9]{2})")
+LONGEST = 64
+
+
+def bad(reason: str, code: str = "bad_request") -> ApiError:
+    """What a client asked can't be answered."""
+    return ApiError(400, code, reason)
+
+
+def one(words: Mapping[str, str], key: str) -> str:
+    """A word that has to be given."""
+    found = words.get(key)
+    if not found:
+        raise bad(f"`{key}` is missing")
+    return found
+
+
+def nanoseconds(given: object, key: str) -> int:
+    """A time: seconds since 1970, ISO 8601 with a zone, `now`, or `now-1h`."""
+    if isinstance(given, (int, Decimal)) and not isinstance(given, bool):
+        return _of_seconds(str(given) if isinstance(given, int) else _plain(given, key), key)
+    if not isinstance(given, str):
+        raise bad(f"`{key}`: a time is a number of seconds or a text, and not {type(given).__name__}")
+    text = given.strip()
+    if SECONDS.fullmatch(text):
+        return _of_seconds(text, key)
+    found = NOW.fullmatch(text)
+    try:
+        if found:
+            return clock.time_ns() + _offset(found)
+        lost = LOST_PLUS.fullmatch(text)
+        return moment_of(f"{lost[1]}+{lost[2]}" if lost else text[:LONGEST], None)
+    except (TimeError, OverflowError) as error:
+        raise bad(f"`{key}`: {error}; seconds since 1970, ISO 8601 with a zone, `now` and `now-1h` are "
+                  "times", "bad_time") from None
+
+
+def _plain(given: Decimal, key: str) -> str:
+    if not given.is_finite() or abs(given.adjusted()) > 20:
+        raise bad(f"`{key}`: not a time: {given}", "bad_time")
+    return f"{given:f}"
+
+
+def _of_seconds(text: str, key: str) -> int:
+    if not SECONDS.fullmatch(text):
+        raise bad(f"`{key}`: not a time: {text[:LONGEST]}; seconds have at most 12 digits, and 9 behind the "
+                  "point", "bad_time")
+    return int(Decimal(text).scaleb(9))
+
+
+def _offset(found: re.Match[str]) -> int:
+    if not found[1]:
+        return 0
+    unit = "min" if found[3] == "m" else found[3]
+    span = span_of(f"{found[2]}{unit}")
+    return span if found[1] == "+" else -span
+
+
+def span(given: str, key: str) -> int:
+    """A span of time in nanoseconds: seconds, or a text such as `15min`."""
+    if SECONDS.fullmatch(given):
+        found = _of_seconds(given, key)
+    else:
+        try:
+            found = span_of(given[:LONGEST])
+        except TimeError as error:
+            raise bad(f"`{key}`: {error}", "bad_time") from None
+    if found <= 0:
+        raise bad(f"`{key}`: a span of time is more than 0", "bad_time")
+    return found
+
+
+def whole(words: Mapping[str, str], key: str, most: int) -> int | None:
+    """A whole number from 1 to `most`, where one is given."""
+    given = words.get(key)
+    if given is None:
+        return None
+    if not re.fullmatch("[0-9]{1,9}", given) or not 1 <= int(given) <= most:
+        raise bad(f"`{key}`: a whole number from 1 to {most} is to be given, and not {given[:LONGEST]!r}")
+    return int(given)
+
+
+def decimal(given: str, key: str) -> Decimal:
+    """A decimal."""
+    try:
+        found = Decimal(given[:400])
+    except InvalidOperation:
+        found = Decimal("nan")
+    if not found.is_finite():
+        raise bad(f"`{key}`: not a number: {given[:LONGEST]!r}")
+    return found

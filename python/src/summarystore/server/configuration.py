@@ -1,0 +1,325 @@
+"""The configuration of the service: a TOML file as typed records.
+
+A file may be `/etc/summarystore/summarystored.toml`, and each of its tables may be left out:
+
+    [store]
+    path = "/var/lib/summarystore/readings.store"
+    program = "/usr/bin/summarystore"           # else the variable SUMMARYSTORE, or the one on PATH
+
+    [http]
+    listen = "127.0.0.1:8087"
+    hosts = ["readings.example"]                # the names under which a proxy serves it
+
+    [graphite]
+    listen = "127.0.0.1:2003"                   # without it nothing listens for Graphite's lines
+
+    [mqtt]
+    broker = "127.0.0.1:1883"                   # without it no broker is called
+    topics = ["home/#"]
+    client = "summarystored"
+    user = "readings"
+    password_file = "/etc/summarystore/mqtt"
+    certificates = "/etc/ssl/certs/ca.pem"      # with it the broker is called by TLS
+    receive_maximum = 65535                     # so many messages come without an acknowledgement
+
+    [tokens]
+    file = "/etc/summarystore/tokens"
+
+    [limits]
+    queue = 100000
+
+    [[mapping]]                                 # see mapping.py
+    match = "home/*/temperature"
+    stream = "home/{1}/temperature"
+    scale = 0.1
+    unit = "°C"
+    target = "power 1 1 4 1"
+"""
+
+from __future__ import annotations
+
+import re
+import tomllib
+from collections.abc import Mapping as Words
+from collections.abc import Sequence
+from dataclasses import dataclass, field, replace
+from decimal import Decimal, InvalidOperation
+
+from ..errors import SummaryStoreError
+from .errors import ConfigurationError
+from .globs import Glob, GlobError
+from .settings import SOURCES, Description, Mapping, described
+from .tables import Address, Table, rows_of
+
+LOOPBACK = "127.0.0.1"
+PORT = 8087
+TARGET = "power 1 1 4 1"
+TARGETS = re.compile(r"exp( [0-9]{1,19}){3}|power( [0-9]{1,19}){4}")
+PLACE = re.compile(r"\{([^{}]*)\}")
+
+
+@dataclass(frozen=True)
+class StoreSettings:
+    """The store: the path of its file, and the program, where it isn't the one that is found."""
+
+    path: str | None = None
+    program: str | None = None
+
+
+@dataclass(frozen=True)
+class HttpSettings:
+    """Where HTTP is served, and by which names besides that address."""
+
+    listen: Address = (LOOPBACK, PORT)
+    hosts: tuple[str, ...] = ()
+
+
+@dataclass(frozen=True)
+class GraphiteSettings:
+    """Where Graphite's lines are taken. None: nowhere."""
+
+    listen: Address | None = None
+
+
+@dataclass(frozen=True)
+class MqttSettings:
+    """The broker, where one is to be called, and what of it is taken."""
+
+    broker: Address | None = None
+    topics: tuple[str, ...] = ()
+    client: str = "summarystored"
+    user: str | None = None
+    password_file: str | None = None
+    certificates: str | None = None
+    receive_maximum: int = 65535
+
+
+@dataclass(frozen=True)
+class TokenSettings:
+    """The file of the tokens. None: everybody who reaches the service may read and write.
+
+    Where the service listens beyond this machine that has to be said: `anyone`.
+    """
+
+    file: str | None = None
+    anyone: bool = False
+
+
+@dataclass(frozen=True)
+class Limits:
+    """What the service takes at most. Each of them bounds memory or time."""
+
+    body: int = 4 << 20
+    """Bytes of a body, also of one that was packed."""
+    lines: int = 20_000
+    """Readings of one body."""
+    line: int = 65_536
+    """Bytes of one line of a protocol of lines."""
+    name: int = 512
+    """Characters of a name with its tags."""
+    queue: int = 100_000
+    """Readings that are under way."""
+    connections: int = 500
+    """Connections by HTTP, and as many by Graphite."""
+    subscribers: int = 100
+    """Connections that listen to events."""
+    rows: int = 2_000
+    """Rows of a series."""
+    unmatched: int = 1_000
+    """Names that match nothing and are listed. More of them are only counted."""
+    header_seconds: float = 10
+    """The time for a request to come, without its body."""
+    body_seconds: float = 30
+    """The time for a body to come."""
+    idle_seconds: float = 75
+    """How long a connection may say nothing, between two requests or two lines."""
+    write_seconds: float = 30
+    """How long a client may take nothing of its answer."""
+    answer_seconds: float = 30
+    """How long an answer waits for the store."""
+
+
+@dataclass(frozen=True)
+class Configuration:
+    """All of it. `file` is where it was read from."""
+
+    file: str | None = None
+    store: StoreSettings = StoreSettings()
+    http: HttpSettings = HttpSettings()
+    graphite: GraphiteSettings = GraphiteSettings()
+    mqtt: MqttSettings = MqttSettings()
+    tokens: TokenSettings = TokenSettings()
+    limits: Limits = Limits()
+    mappings: Sequence[Mapping] = field(default=())
+
+
+def read(file: str) -> Configuration:
+    """The configuration that stands in a file."""
+    return parse(text_of(file), file)
+
+
+def text_of(file: str) -> str:
+    """What stands in a file."""
+    try:
+        with open(file, "rb") as stream:
+            data = stream.read()
+    except (OSError, ValueError) as error:
+        raise ConfigurationError(file, "", str(getattr(error, "strerror", None) or error)) from None
+    try:
+        return data.decode("utf-8")
+    except UnicodeDecodeError as error:
+        raise ConfigurationError(file, "", f"byte {error.start} isn't UTF-8") from None
+
+
+def top_of(text: str, file: str) -> Table:
+    """The tables of a text of TOML."""
+    try:
+        given = tomllib.loads(text, parse_float=Decimal)
+    except (tomllib.TOMLDecodeError, InvalidOperation, RecursionError) as error:
+        raise ConfigurationError(file, "", f"not TOML: {error}") from None
+    except ValueError as error:     # a whole number of thousands of digits
+        raise ConfigurationError(file, "", f"not TOML: {error}") from None
+    return Table(file, "", given)
+
+
+def parse(text: str, file: str) -> Configuration:
+    """The configuration that a text says."""
+    top = top_of(text, file)
+    found = Configuration(file, _store(section(file, top, "store")), _http(section(file, top, "http")),
+                          _graphite(section(file, top, "graphite")), _mqtt(section(file, top, "mqtt")),
+                          tokens_of(section(file, top, "tokens")), limits_of(section(file, top, "limits")),
+                          [mapping_of(table) for table in rows_of(file, "mapping", top.take("mapping"))])
+    top.end()
+    return found
+
+
+def section(file: str, top: Table, name: str) -> Table:
+    """A table of a file. One that isn't there is empty."""
+    given = top.take(name)
+    return Table(file, f"[{name}]", {} if given is None else given)
+
+
+def _store(table: Table) -> StoreSettings:
+    found = StoreSettings(table.text("path"), table.text("program"))
+    table.end()
+    return found
+
+
+def _http(table: Table) -> HttpSettings:
+    found = HttpSettings(table.address("listen") or HttpSettings.listen, table.texts("hosts"))
+    table.end()
+    return found
+
+
+def _graphite(table: Table) -> GraphiteSettings:
+    found = GraphiteSettings(table.address("listen"))
+    table.end()
+    return found
+
+
+def _mqtt(table: Table) -> MqttSettings:
+    found = MqttSettings(table.address("broker"), table.texts("topics"),
+                         table.text("client") or MqttSettings.client, table.text("user"),
+                         table.text("password_file"), table.text("certificates"),
+                         table.whole("receive_maximum", 1, 65535) or MqttSettings.receive_maximum)
+    table.end()
+    if found.broker and not found.topics:
+        raise table.wrong("topics", "which topics are taken is to be said, such as [\"home/#\"]")
+    return found
+
+
+def tokens_of(table: Table) -> TokenSettings:
+    """The table `[tokens]`."""
+    found = TokenSettings(table.text("file"), table.truth("anyone"))
+    table.end()
+    return found
+
+
+_COUNTS = {"body": 1 << 30, "lines": 1_000_000, "line": 1 << 20, "name": 4096, "queue": 10_000_000,
+           "connections": 60_000, "subscribers": 60_000, "rows": 100_000, "unmatched": 100_000}
+_SECONDS = ("header_seconds", "body_seconds", "idle_seconds", "write_seconds", "answer_seconds")
+
+
+def limits_of(table: Table) -> Limits:
+    """The table `[limits]`."""
+    found = Limits()
+    for key, most in _COUNTS.items():
+        count = table.whole(key, 1, most)
+        if count is not None:
+            found = replace(found, **{key: count})
+    for key in _SECONDS:
+        seconds = table.seconds(key, 1, 86400)
+        if seconds is not None:
+            found = replace(found, **{key: seconds})
+    table.end()
+    if found.lines > found.queue:
+        raise table.wrong("lines", f"{found.lines} lines are more than the queue of {found.queue} takes")
+    return found
+
+
+def mapping_of(table: Table) -> Mapping:
+    """One entry `[[mapping]]`."""
+    match = table.text("match")
+    if match is None:
+        raise table.wrong("match", "a pattern of names is to stand here")
+    glob = _glob(table, "match", match)
+    source = table.text("source")
+    if source is not None and source not in SOURCES:
+        raise table.wrong("source", f"one of {', '.join(SOURCES)} is to stand here, and not {source!r}")
+    tags = {key: _glob(table, "tags", pattern) for key, pattern in table.words("tags").items()}
+    json, json_time = table.text("json"), table.text("json_time")
+    if json_time is not None and json is None:
+        raise table.wrong("json_time", "there is no time of a message without `json`")
+    found = Mapping(glob, source, tags, _stream(table, glob), table.text("target") or TARGET,
+                    table.whole("within", 1, 2**62), _description(table), _words(table), json, json_time,
+                    table.truth("ignore"))
+    table.end()
+    if not TARGETS.fullmatch(found.target):
+        raise table.wrong("target", f"`exp B R S` or `power P Q R S` is to stand here, and not "
+                                    f"{found.target!r}")
+    return found
+
+
+def _glob(table: Table, key: str, pattern: str) -> Glob:
+    try:
+        return Glob(pattern)
+    except GlobError as error:
+        raise table.wrong(key, str(error)) from None
+
+
+def _stream(table: Table, glob: Glob) -> str | None:
+    """The template of the stream's name, each of whose places is one that the pattern has."""
+    template = table.text("stream")
+    for place in PLACE.findall(template or ""):
+        if place.isdigit() and place not in map(str, range(1, glob.captures + 1)):
+            raise table.wrong("stream", f"{{{place}}}: the pattern has {glob.captures} stars")
+        if not place:
+            raise table.wrong("stream", "{}: a place is {1}, {name} or the name of a tag")
+    if template and re.search(r"[{}]", PLACE.sub("", template)):
+        raise table.wrong("stream", f"a brace has no other: {template!r}")
+    return template
+
+
+def _description(table: Table) -> Description:
+    scale, time, since = table.decimal("scale"), table.text("time"), table.take("since")
+    unit, labels, rounding = table.text("unit"), table.words("labels"), table.text("rounding")
+    try:
+        return described(scale, time, since, unit, labels, rounding)
+    except SummaryStoreError as error:
+        raise table.wrong("scale, time, since or rounding", str(error)) from None
+
+
+def _words(table: Table) -> Words[str, str]:
+    """The numbers that words such as ON stand for."""
+    given = table.take("words")
+    if given is None:
+        return {}
+    words = Table("", "", given) if isinstance(given, dict) else None
+    if words is None or not isinstance(given, dict):
+        raise table.wrong("words", "a table is to stand here, such as { ON = 1, OFF = 0 }")
+    found = {}
+    for word, number in given.items():
+        if isinstance(number, bool) or not isinstance(number, (int, Decimal)):
+            raise table.wrong("words", f"a number is to stand at {word!r}")
+        found[word] = str(number)
+    return found

@@ -1,0 +1,199 @@
+"""Readings by HTTP: InfluxDB's line protocol and JSON. And landmarks."""
+
+from __future__ import annotations
+
+import asyncio
+from collections.abc import Mapping, Sequence
+
+from aiohttp import web
+
+from . import asked, exactjson, lineprotocol
+from .answers import error_answer, json_answer
+from .app import Service
+from .bodies import body_of, text_of
+from .endpoints import Access, ApiError, Endpoint
+from .intake import Incoming, Outcome, Result
+from .lineprotocol import PRECISIONS, Mistake
+
+SLICE = 500
+"""After so many lines others have their turn."""
+SHOWN = 20
+"""So many refusals are told one by one."""
+VERSION = "1.8-summarystore"
+KEYS = ("stream", "time", "value")
+
+
+class HttpIn:
+    """The handlers."""
+
+    def __init__(self, service: Service) -> None:
+        self._service = service
+
+    async def write(self, request: web.Request) -> web.StreamResponse:
+        """`POST /write` and `POST /api/v2/write`: line protocol."""
+        limits = self._service.configuration.limits
+        precision = request.query.get("precision", "ns")
+        if precision not in PRECISIONS:
+            raise asked.bad(f"`precision`: {precision[:20]!r} isn't one of {', '.join(PRECISIONS)}")
+        text = text_of(await body_of(request, limits))
+        readings: list[Incoming] = []
+        lines: list[int] = []
+        mistakes: list[Mistake] = []
+        for count, found in enumerate(lineprotocol.parse(text, PRECISIONS[precision], limits.line)):
+            if isinstance(found, Mistake):
+                mistakes.append(found)
+            else:
+                readings += found[1]
+                lines += [found[0]] * len(found[1])
+            if len(readings) + len(mistakes) > limits.lines:
+                raise ApiError(413, "too_many", f"a body has at most {limits.lines} readings")
+            if count % SLICE == SLICE - 1:
+                await asyncio.sleep(0)
+        outcomes = await self._service.intake.append_many(readings)
+        return _written(lines, mistakes, outcomes)
+
+    async def append(self, request: web.Request) -> web.StreamResponse:
+        """`POST /api/append`: one reading, or a list of them."""
+        limits = self._service.configuration.limits
+        given = _object(await body_of(request, limits))
+        rows = given.get("readings", [given])
+        if not isinstance(rows, list):
+            raise asked.bad("`readings` is a list")
+        if "readings" in given and len(given) > 1:
+            raise asked.bad("beside `readings` there is nothing else")
+        if len(rows) > limits.lines:
+            raise ApiError(413, "too_many", f"a body has at most {limits.lines} readings")
+        readings = [_reading(row, at) for at, row in enumerate(rows)]
+        return _appended(await self._service.intake.append_many(readings))
+
+    async def landmark(self, request: web.Request) -> web.StreamResponse:
+        """`POST /api/landmark`: opens one, or closes the one that is open."""
+        given = _object(await body_of(request, self._service.configuration.limits))
+        stream, action, time = given.get("stream"), given.get("action"), given.get("time")
+        if not isinstance(stream, str) or not stream:
+            raise asked.bad("`stream` is the name of a stream")
+        if action not in ("open", "close"):
+            raise asked.bad("`action` is `open` or `close`")
+        at = None if time is None else asked.nanoseconds(time, "time")
+        told = await self._service.landmarks.mark(stream, action == "open", at)
+        return json_answer({"stream": stream, "action": action, "time": told})
+
+    async def ping(self, request: web.Request) -> web.StreamResponse:
+        """`/ping`, by which clients of InfluxDB look whether there is one."""
+        return web.Response(status=204, headers={"X-Influxdb-Version": VERSION, "X-Influxdb-Build": "OSS"})
+
+    async def health(self, request: web.Request) -> web.StreamResponse:
+        """`/health`, as InfluxDB 2 has it."""
+        store = self._service.supervisor
+        good = store.taking is not None
+        told = {"name": "summarystored", "status": "pass" if good else "fail", "message": store.why,
+                "version": VERSION}
+        return json_answer(told, 200 if good else 503)
+
+    async def query(self, request: web.Request) -> web.StreamResponse:
+        """`/query` of InfluxDB 1: clients make their database by it, and nothing else is understood."""
+        words = request.query.get("q", "")
+        if not words and request.method == "POST":
+            form = dict(_form(text_of(await body_of(request, self._service.configuration.limits))))
+            words = form.get("q", "")
+        if words.strip().upper().startswith("CREATE DATABASE "):
+            return json_answer({"results": [{"statement_id": 0}]})
+        raise ApiError(400, "no_influxql", "InfluxQL isn't understood here, but for CREATE DATABASE, which "
+                       "changes nothing: ask /api/query or /api/series")
+
+
+def endpoints(service: Service) -> Sequence[Endpoint]:
+    """The addresses."""
+    to = HttpIn(service)
+    return [Endpoint("POST", "/write", to.write, Access.WRITE),
+            Endpoint("POST", "/api/v2/write", to.write, Access.WRITE),
+            Endpoint("POST", "/api/append", to.append, Access.WRITE),
+            Endpoint("POST", "/api/landmark", to.landmark, Access.WRITE),
+            Endpoint("GET", "/ping", to.ping, Access.OPEN),
+            Endpoint("GET", "/health", to.health, Access.OPEN),
+            Endpoint("GET", "/query", to.query, Access.WRITE),
+            Endpoint("POST", "/query", to.query, Access.WRITE)]
+
+
+def _form(text: str) -> Sequence[tuple[str, str]]:
+    from urllib.parse import parse_qsl
+    try:
+        return parse_qsl(text, max_num_fields=20)
+    except ValueError:
+        raise asked.bad("the form has too many fields") from None
+
+
+def _object(data: bytes) -> Mapping[str, object]:
+    try:
+        given = exactjson.loads(data)
+    except ValueError as error:
+        raise asked.bad(str(error)) from None
+    if not isinstance(given, dict):
+        raise asked.bad("an object is to stand in the body")
+    return given
+
+
+def _reading(row: object, at: int) -> Incoming:
+    """A reading of the JSON. What can't be one refuses the whole body, before anything is taken."""
+    if not isinstance(row, dict) or not isinstance(row.get("stream"), str) or "value" not in row:
+        raise asked.bad(f"reading {at}: {{\"stream\", \"time\", \"value\"}} is to stand there")
+    other = [key for key in row if key not in KEYS]
+    if other:
+        raise asked.bad(f"reading {at}: there is no {other[0][:40]!r}")
+    time = row.get("time")
+    value = row["value"]
+    if isinstance(value, (dict, list)) or value is None:
+        value = exactjson.dumps(value)[:40]     # no number, and shown as it came
+    return Incoming(row["stream"], value, None if time is None else asked.nanoseconds(time, f"time of {at}"),
+                    {}, "http")
+
+
+def _appended(outcomes: Sequence[Outcome]) -> web.Response:
+    """What became of the readings of a request in JSON."""
+    told: dict[str, object] = {"stored": sum(outcome.result is Result.STORED for outcome in outcomes)}
+    there = sum(outcome.result is Result.THERE for outcome in outcomes)
+    refused = [{"index": at, "code": outcome.code, "reason": outcome.reason}
+               for at, outcome in enumerate(outcomes) if outcome.result is Result.REFUSED]
+    told.update(there=there, refused=refused)
+    ignored = sum(outcome.result is Result.IGNORED for outcome in outcomes)
+    if ignored:
+        told["ignored"] = ignored
+    open_ones = _open(outcomes)
+    if open_ones is not None:
+        told["not_stored"] = [at for at, each in enumerate(outcomes) if each.result is Result.NOT_STORED]
+        told["unknown"] = [at for at, each in enumerate(outcomes) if each.result is Result.UNKNOWN]
+        return error_answer(open_ones, told)
+    return json_answer(told, 422 if len(refused) == len(outcomes) > 0 else 200)
+
+
+def _open(outcomes: Sequence[Outcome]) -> ApiError | None:
+    """Where the fate of some isn't final: what is known of them."""
+    not_stored = sum(outcome.result is Result.NOT_STORED for outcome in outcomes)
+    unknown = [outcome for outcome in outcomes if outcome.result is Result.UNKNOWN]
+    if not not_stored and not unknown:
+        return None
+    good = sum(outcome.good for outcome in outcomes)
+    return ApiError(503, "interrupted", f"the store's program ended: {good} are stored, {not_stored} surely "
+                    f"aren't, and of {len(unknown)} it isn't known. Sent again, each is stored once", 1)
+
+
+def _written(lines: Sequence[int], mistakes: Sequence[Mistake], outcomes: Sequence[Outcome]) -> web.Response:
+    """What became of the lines, as clients of InfluxDB understand it."""
+    open_ones = _open(outcomes)
+    wrong = [(mistake.line, "syntax", mistake.reason) for mistake in mistakes]
+    wrong += [(line, outcome.code, outcome.reason) for line, outcome in zip(lines, outcomes)
+              if outcome.result is Result.REFUSED]
+    stored = sum(outcome.good for outcome in outcomes)
+    if not wrong and open_ones is None:
+        return web.Response(status=204, headers={"X-Influxdb-Version": VERSION})
+    wrong.sort()
+    refused = [{"line": line, "code": code, "reason": reason} for line, code, reason in wrong[:SHOWN]]
+    told: dict[str, object] = {"stored": stored, "refused": refused, "dropped": len(wrong)}
+    if open_ones is not None:
+        told["not_stored"] = sum(outcome.result is Result.NOT_STORED for outcome in outcomes)
+        told["unknown"] = sum(outcome.result is Result.UNKNOWN for outcome in outcomes)
+        return error_answer(open_ones, told)
+    line, _, reason = wrong[0]
+    text = f"{stored} readings are stored; line {line}: {reason} dropped={len(wrong)}"
+    told.update(code="invalid", message=f"partial write: {text}")
+    return error_answer(ApiError(400, "partial write", text), told)

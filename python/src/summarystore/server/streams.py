@@ -1,0 +1,125 @@
+"""The streams that stand, and what their numbers mean; and those that a mapping makes."""
+
+from __future__ import annotations
+
+import asyncio
+import logging
+import time
+from collections.abc import Sequence
+from weakref import WeakValueDictionary
+
+from .. import aio
+from ..errors import RefusedError, StreamExistsError, SummaryStoreError, UnknownStreamError
+from ..records import Stream
+from .mapping import Route
+from .meaning import Meaning
+from .settings import Mapping
+
+log = logging.getLogger("summarystored")
+AGAIN = 60.0
+"""After so many seconds a stream that couldn't be made is tried again."""
+
+
+class Streams:
+    """What is known of the streams of a store that is open."""
+
+    def __init__(self) -> None:
+        self._meanings: dict[str, Meaning] = {}
+        self._standing: set[str] = set()
+        self._failed: dict[str, tuple[float, SummaryStoreError]] = {}
+        self._newest: dict[str, int] = {}
+        self._locks: WeakValueDictionary[str, asyncio.Lock] = WeakValueDictionary()
+
+    def alone(self, name: str) -> asyncio.Lock:
+        """The lock of a stream: who writes to it has it, so that nobody else does meanwhile."""
+        found = self._locks.get(name)
+        if found is None:
+            found = self._locks[name] = asyncio.Lock()
+        return found
+
+    async def newest(self, store: aio.Store, name: str) -> int:
+        """The last time of a stream as a count, and -1 where it took nothing."""
+        found = self._newest.get(name)
+        if found is None:
+            last = await store.last(name)
+            found = -1 if last is None else self.meaning(store, name).count_of(last.time)
+            self._newest[name] = found
+        return found
+
+    def came_to(self, name: str, count: int) -> None:
+        """The last time of a stream is this one now."""
+        self._newest[name] = count
+
+    def forget_newest(self, name: str) -> None:
+        """The last time of a stream is to be asked for again."""
+        self._newest.pop(name, None)
+
+    def learn(self, streams: Sequence[Stream]) -> None:
+        """The store was opened, and these stand."""
+        self._meanings.clear()
+        self._failed.clear()
+        self._newest.clear()
+        self._standing = {stream.name for stream in streams}
+
+    def stands(self, name: str) -> bool:
+        """Whether a stream of that name stands, as far as is known."""
+        return name in self._standing
+
+    def try_again(self) -> None:
+        """The mapping was read anew: what couldn't be made may be made now."""
+        self._failed.clear()
+
+    def forget(self, name: str) -> None:
+        """A stream was dropped, or its description changed."""
+        self._meanings.pop(name, None)
+        self._newest.pop(name, None)
+        self._standing.discard(name)
+
+    def meaning(self, store: aio.Store, name: str) -> Meaning:
+        """What the numbers of a stream mean. Raises UnknownStreamError where none stands."""
+        found = self._meanings.get(name)
+        if found is None:
+            if name not in self._standing:
+                raise UnknownStreamError("UNKNOWN", name)
+            found = self._meanings[name] = Meaning.of(store.description(name))
+        return found
+
+    async def made(self, store: aio.Store, route: Route) -> Meaning:
+        """The same, of a stream that is made first where none stands and a mapping says how."""
+        if route.stream not in self._standing and route.mapping is not None:
+            await self._make(store, route.stream, route.mapping)
+        elif route.mapping is not None and route.stream not in self._meanings:
+            self._describe(store, route.stream, route.mapping)
+        return self.meaning(store, route.stream)
+
+    async def _make(self, store: aio.Store, name: str, mapping: Mapping) -> None:
+        failed = self._failed.get(name)
+        if failed is not None and time.monotonic() < failed[0]:
+            raise failed[1]
+        told = mapping.description
+        try:
+            await store.create(name, mapping.target, mapping.within, scale=told.scale, time=told.time,
+                               since=told.since, unit=told.unit, labels=told.labels,
+                               rounding=told.rounding)
+        except StreamExistsError:
+            pass    # it was made by another call
+        except (RefusedError, ValueError) as error:
+            found = error if isinstance(error, SummaryStoreError) else SummaryStoreError(str(error))
+            log.warning("stream not made: stream=%r reason=%s", name, found)
+            if len(self._failed) < 10_000:
+                self._failed[name] = time.monotonic() + AGAIN, found
+            raise found from None
+        else:
+            log.info("stream made: stream=%r target=%r", name, mapping.target)
+        self._standing.add(name)
+
+    def _describe(self, store: aio.Store, name: str, mapping: Mapping) -> None:
+        """Brings what a mapping says of a stream that stands to it, as far as it can be changed."""
+        known, told = store.description(name), mapping.description
+        if known is None:
+            return
+        if known[:3] != told[:3]:
+            log.warning("stream stands with another scale or time than its mapping has: stream=%r "
+                        "scale=%s time=%s", name, known.scale, known.time)
+        if (told.unit, dict(told.labels), told.rounding) != (known.unit, dict(known.labels), known.rounding):
+            store.describe(name, unit=told.unit, labels=told.labels or None, rounding=told.rounding)

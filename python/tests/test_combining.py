@@ -1,0 +1,79 @@
+"""What is known of several together holds the truth, however the parts are grouped."""
+
+from __future__ import annotations
+
+from collections.abc import Mapping, Sequence
+
+from hypothesis import given
+from hypothesis import strategies as st
+
+from summarystore import Interval
+from summarystore.combining import KINDS, Part, answer, empty, greatest_of, joined, least_of
+
+Values = Sequence[int]
+SLACK = st.integers(0, 5)
+
+
+def part_of(values: Values, sure: bool, slack: Mapping[str, tuple[int, int]]) -> Part:
+    """Intervals that hold the truths of some values, wider than they have to be."""
+    def around(kind: str, truth: int) -> Interval:
+        below, above = slack[kind]
+        return Interval(truth - below, truth + above, maybe_none=kind in ("min", "max") and not sure)
+    if not values:
+        part = dict(empty(KINDS))
+        if not sure:
+            part["count"], part["sum"] = Interval(0, slack["count"][1]), around("sum", 0)
+            part["min"], part["max"] = (around(kind, 0) for kind in ("min", "max"))
+        return part
+    below = min(slack["count"][0], len(values) - 1) if sure else len(values)
+    return {"count": Interval(len(values) - below, len(values) + slack["count"][1]),
+            "sum": around("sum", sum(values)), "min": around("min", min(values)),
+            "max": around("max", max(values))}
+
+
+PARTS = st.lists(st.tuples(st.lists(st.integers(-20, 20), max_size=4), st.booleans(),
+                           st.fixed_dictionaries({kind: st.tuples(SLACK, SLACK) for kind in KINDS})),
+                 max_size=6)
+
+
+def holds(kind: str, found: Interval, values: Values) -> bool:
+    """Whether an answer holds the truth of some values."""
+    if not values and kind not in ("count", "sum"):
+        return found.none or found.maybe_none
+    truth = {"count": len(values), "sum": sum(values)}.get(kind)
+    if truth is not None:
+        return truth in found
+    return (min(values) if kind == "min" else max(values)) in found
+
+
+@given(PARTS)
+def test_the_truth_is_held(given_parts: Sequence[tuple[Values, bool, Mapping[str, tuple[int, int]]]]) -> None:
+    parts = [part_of(*each) for each in given_parts]
+    values = [value for each in given_parts for value in each[0]]
+    whole = joined(KINDS, parts)
+    for kind in KINDS:
+        assert holds(kind, answer(kind, whole), values)
+    if values:
+        mean = answer("mean", whole)
+        assert mean.lo * len(values) <= sum(values) <= mean.hi * len(values)
+
+
+@given(PARTS, st.integers(0, 6))
+def test_grouping_changes_nothing(given_parts: Sequence[tuple[Values, bool, Mapping[str, tuple[int, int]]]],
+                                  at: int) -> None:
+    parts = [part_of(*each) for each in given_parts]
+    whole = joined(KINDS, parts)
+    assert joined(KINDS, [joined(KINDS, parts[:at]), joined(KINDS, parts[at:])]) == whole
+    assert joined(KINDS, reversed(parts)) == whole
+
+
+def test_the_least_and_the_greatest() -> None:
+    none, maybe, sure = Interval.nothing(), Interval(1, 9, maybe_none=True), Interval(4, 6)
+    assert least_of([]) == greatest_of([]) == least_of([none, none]) == none
+    assert least_of([none, maybe]) == maybe and greatest_of([none, maybe]) == maybe
+    assert least_of([maybe, sure, none]) == Interval(1, 6)
+    assert greatest_of([maybe, sure, none]) == Interval(4, 9)
+    assert least_of([maybe, Interval(5, 20, maybe_none=True)]) == Interval(1, 20, maybe_none=True)
+    assert greatest_of([maybe, Interval(5, 20, maybe_none=True)]) == Interval(1, 20, maybe_none=True)
+    assert least_of([Interval(2, 8), Interval(3, 5)]) == Interval(2, 5)
+    assert greatest_of([Interval(2, 8), Interval(3, 5)]) == Interval(3, 8)
