@@ -3,6 +3,7 @@ pieces, and what a store shows."""
 
 import fcntl
 import os
+import re
 import subprocess
 import sys
 import tempfile
@@ -13,8 +14,11 @@ BUILT = os.path.join(HERE, "..", "crates", "summarystore", "out", "summarystore"
 # A run that takes longer hangs.
 SECONDS = 60
 
-# The most that a run takes in one read of its input.
-MOST_READ = 4096
+# The most that a run takes in one read of its input, plain and in batches.
+MOST_READ, MOST_READ_SHARED = 4096, 65536
+
+# The most that a pipe hands on as one piece.
+MOST_PIECE = 4096
 
 BORN = b"\xa5SSTORE01"
 HEADER = 36864
@@ -23,22 +27,71 @@ LAST_SLOT_END = 134254592
 
 
 class Mode:
-    """How a run takes its commands: plain, by which each reply is written before the next line is read, or in batches, by which
-    events that came in one read share their syncs and are acknowledged together."""
+    """How a run takes its commands: plain, by which each reply is written before the next line is
+    read, or in batches, by which events that came in one read share their syncs and are
+    acknowledged together. They are lines by themselves."""
 
-    def __init__(self, name, options):
-        self.name, self.options = name, options
+    def __init__(self, name, options, after=()):
+        self.name, self.options, self.after = name, options, after
+        self.most_read = MOST_READ_SHARED if options else MOST_READ
 
     def words(self, program, store):
-        return [program, *self.options, store]
+        return [program, *self.options, store, *self.after]
 
     def may_leave(self, acknowledged, read):
         """For how many first events a store may stand after a crash, of so many acknowledged ones and so many in the lines read."""
         most = read if self.options else min(acknowledged + 1, read)
         return range(acknowledged, max(most, acknowledged) + 1)
 
+    def speech(self, story, low, rng):
+        """What takes the commands of a story from the one on that comes after so many."""
+        return Speech(story.lines[low:], story.said[low:])
+
+    def asked(self, lines):
+        """Lines that ask for what a store shows."""
+        return lines
+
+    def heard(self, report):
+        """The report on such lines, as of a plain run."""
+        return report
+
+
+class InSessions(Mode):
+    """The same of lines of eight sessions. Between the commands stand lines that add no event, most
+    of them of the cursors."""
+
+    def __init__(self, name, options):
+        super().__init__(name, options, ("sessions",))
+
+    def speech(self, story, low, rng):
+        return interleaved(story, low, rng)
+
+    def asked(self, lines):
+        return [f"@{ASKS} {line}" for line in lines]
+
+    def heard(self, report):
+        front = b"@%d " % ASKS
+        return b"".join(line[len(front):] if line.startswith(front) else b"in no session: " + line
+                        for line in report.splitlines(True))
+
 
 PLAIN, BATCH = Mode("plain", []), Mode("batch", ["--batch"])
+SESSIONS = InSessions("sessions", [])
+BATCH_SESSIONS = InSessions("batch-sessions", ["--batch"])
+MODES = (PLAIN, BATCH, SESSIONS, BATCH_SESSIONS)
+
+# The session that asks for what a store shows.
+ASKS = 7
+
+
+class Speech:
+    """Lines that a run is given, and its reply to each of them."""
+
+    def __init__(self, lines, replies):
+        self.lines, self.replies = lines, replies
+
+    def report(self):
+        return b"".join(self.replies)
 
 
 class Input:
@@ -52,8 +105,7 @@ class Input:
 
     def read_within(self, count):
         """How many commands end within the first bytes, so many."""
-        ended = self.data()[:count].split(b"\n")[:-1]
-        return sum(1 for line in ended if not line.startswith(b"#"))
+        return sum(1 for line in self.data()[:count].split(b"\n")[:-1] if COMMAND.match(line))
 
     def read_before(self, acknowledged):
         """How many commands a run may have read that acknowledged so many: those up to the end of the first piece of which a
@@ -68,13 +120,18 @@ class Input:
     def by_pipe(self):
         """The reading end of a pipe, of which each read gets one piece."""
         source, sink = os.pipe2(os.O_DIRECT | os.O_CLOEXEC)
-        room = fcntl.fcntl(sink, F_SETPIPE_SZ, 1 << 20) // MOST_READ
-        if len(self.pieces) > room or max(map(len, self.pieces), default=0) > MOST_READ:
+        room = fcntl.fcntl(sink, F_SETPIPE_SZ, 1 << 20) // MOST_PIECE
+        if len(self.pieces) > room or max(map(len, self.pieces), default=0) > MOST_PIECE:
             sys.exit("the pipe doesn't hold these pieces")
         for piece in self.pieces:
             os.write(sink, piece)
         os.close(sink)
         return source
+
+
+# A command, which adds an event, and the reply to one. In a session both stand behind its word.
+COMMAND = re.compile(rb"(@[0-7] )?(create|append|landmark|drop) ")
+ACKNOWLEDGED = re.compile(rb"(@[0-7] )?ok ")
 
 
 # Sets the room of a pipe; Python 3.10 has a name for it.
@@ -97,13 +154,13 @@ def in_pieces(lines, rng):
     return Input(pieces + [rest] * bool(rest))
 
 
-def in_blocks(lines, each):
+def in_blocks(lines, each, most):
     """An input as a file gives it to reads of as many bytes as they take: comments fill it so that each read gets so many lines."""
     pieces = []
     for at in range(0, len(lines), each):
         piece = spelled(lines[at : at + each])
-        while at + each < len(lines) and len(piece) < MOST_READ:
-            missing = MOST_READ - len(piece)
+        while at + each < len(lines) and len(piece) < most:
+            missing = most - len(piece)
             piece += b"#" * (missing - 1 if missing <= 200 else 99) + b"\n"
         pieces.append(piece)
     return Input(pieces)
@@ -148,9 +205,14 @@ def dropping():
     return [*lines, "append a 1 2", "drop b", "append e 60 -3", "drop e", "append a 2 3"], before
 
 
+NAMES = "abcde"
+
+# Most lines of sessions between two commands.
+MOST_TURNS = 3
+
 # A closing at 0 is never accepted: it is refused NOT_OPEN where no landmark is open, and TIME where one is.
 SHOW = ["list"]
-for name in "abcde":
+for name in NAMES:
     SHOW += [f"windows {name}", f"query {name} sum 0 1000000", f"query {name} max 0 1000000", f"landmark {name} close 0"]
     SHOW += [f"query {name} has {asked}" for asked in ("406 0 1000000", "151 105 345", "5 0 1000000")]
 
@@ -172,17 +234,23 @@ def call_by_pieces(words, given, **how):
 
 
 def replies(report):
-    """How many events the report acknowledges. Each reply but a last one that was cut is an ok."""
-    whole = report[: report.rfind(b"\n") + 1].splitlines()
-    if not all(line.startswith(b"ok ") for line in whole):
-        sys.exit(f"a reply that is no ok: {report!r}")
-    return len(whole)
+    """How many events the report acknowledges, which is a front of one without a refused command."""
+    return sum(1 for line in report.split(b"\n")[:-1] if ACKNOWLEDGED.match(line))
 
 
 def shown(program, store, mode=PLAIN):
     """What a store shows of all its streams: the status, and the report."""
-    status, report, complaint = call(mode.words(program, store), SHOW)
-    return status, report + complaint
+    status, report, complaint = call(mode.words(program, store), mode.asked(SHOW))
+    return status, mode.heard(report) + complaint
+
+
+class Story:
+    """Commands that are all accepted. So many of them come before the first run that is tried."""
+
+    def __init__(self, program, folder, lines, before=0):
+        self.lines, self.before = lines, before
+        # what a new store shows after the first j of them, None below `before`, and their replies
+        self.texts, self.said = shown_after_each(program, folder, lines, before)
 
 
 def shown_after_each(program, folder, lines, before=0):
@@ -198,6 +266,114 @@ def shown_after_each(program, folder, lines, before=0):
         *said, rest = report.split(b"\n", j)
         all.append((0, rest))
     return all, [line + b"\n" for line in said]
+
+
+def windows_in(text, name):
+    """The rows of a stream's windows in what a store shows, None where the stream isn't there."""
+    rest = iter(text[1].splitlines())
+    for line in SHOW:
+        head = next(rest).split()
+        rows = [next(rest) for _ in range(int(head[1]) if head[0] in (b"list", b"windows") else 0)]
+        if line == f"windows {name}":
+            return rows if head[0] == b"windows" else None
+    return None
+
+
+class Talk(Speech):
+    """What eight sessions say in turn, and the reply to each line, while the commands of a story are
+    done from the one on that comes after so many. Their cursors give the windows that the streams had
+    when they were opened."""
+
+    def __init__(self, story, done, rng):
+        super().__init__([], [])
+        self.story, self.done, self.rng, self.cursors = story, done, rng, {}
+
+    def put(self, session, line, *reply):
+        """A line of a session, and the lines of the reply."""
+        self.lines.append(f"@{session} {line}")
+        self.replies.append(b"".join(b"@%d %s\n" % (session, row) for row in reply))
+
+    def any(self):
+        return self.rng.randrange(8)
+
+    def take_command(self):
+        said = self.story.said[self.done].rstrip(b"\n")
+        self.put(self.any(), self.story.lines[self.done], said)
+        self.done += 1
+
+    def windows(self, name):
+        return windows_in(self.story.texts[self.done], name)
+
+    def open(self, session, name):
+        rows = self.windows(name)
+        if rows is None:
+            reply = b"refused UNKNOWN"
+        elif session in self.cursors:
+            reply = b"refused BUSY"
+        else:
+            self.cursors[session] = rows
+            reply = b"cursor %d" % len(rows)
+        self.put(session, f"cursor open {name}", reply)
+
+    def next(self, session, count):
+        reply = [b"refused NO_CURSOR"]
+        if session in self.cursors:
+            rows = self.cursors[session][:count]
+            self.cursors[session] = self.cursors[session][count:]
+            reply = [b"rows %d" % len(rows), *rows]
+        self.put(session, f"cursor next {count}", *reply)
+
+    def close(self, session):
+        had = self.cursors.pop(session, None) is not None
+        self.put(session, "cursor close", b"closed" if had else b"refused NO_CURSOR")
+
+    def show(self, session, name):
+        rows = self.windows(name)
+        head = b"refused UNKNOWN" if rows is None else b"windows %d" % len(rows)
+        self.put(session, f"windows {name}", head, *rows or [])
+
+    def stray(self):
+        """A line of no session."""
+        self.lines.append("list")
+        self.replies.append(b"refused SYNTAX\n")
+
+    def take_turn(self):
+        """A line that adds no event. Most of those that need a cursor are of a session with one, and most of those that
+        need a stream are of one that is there."""
+        speaker = self.rng.choice([*self.cursors, *self.cursors, self.any()])
+        standing = [name for name in NAMES if self.windows(name) is not None]
+        name = self.rng.choice([*standing, *standing, self.rng.choice(NAMES)])
+        kinds = ("open", "next", "close", "show", "number", "note", "stray")
+        kind = self.rng.choices(kinds, (12, 18, 3, 2, 1, 1, 1))[0]
+        if kind == "open":
+            self.open(self.any(), name)
+        elif kind == "next":
+            self.next(speaker, self.rng.choice((1, 2, 3, 5, 1000)))
+        elif kind == "close":
+            self.close(speaker)
+        elif kind == "show":
+            self.show(speaker, name)
+        elif kind == "number":
+            self.put(speaker, f"cursor next {self.rng.choice((0, 1001))}", b"refused NUMBER")
+        elif kind == "note":
+            self.put(speaker, "# a note")
+        else:
+            self.stray()
+
+    def take_turns(self, most):
+        """At most so many of these."""
+        for _ in range(self.rng.randint(0, most)):
+            self.take_turn()
+
+
+def interleaved(story, low, rng):
+    """Lines of eight sessions with the commands of a story, from the one on that comes after so many."""
+    talk = Talk(story, low, rng)
+    talk.take_turns(MOST_TURNS)
+    while talk.done < len(story.lines):
+        talk.take_command()
+        talk.take_turns(MOST_TURNS)
+    return talk
 
 
 def left_by(program, folder, lines):
@@ -223,18 +399,17 @@ def spoken(span):
 
 
 def modes_of(words):
-    """The modes that the words ask for, the program's path, and the further words. Where they name no mode, both are meant, and the
-    plain one alone of a program that knows no other."""
-    asked = [mode for mode in (PLAIN, BATCH) if "--" + mode.name in words]
-    rest = [word for word in words if word not in ("--plain", "--batch")]
+    """The modes that the words ask for, the program's path, and the further words. Where they name no mode all are meant that the
+    program knows."""
+    asked = [mode for mode in MODES if "--" + mode.name in words]
+    rest = [word for word in words if word not in ["--" + mode.name for mode in MODES]]
     program = program_of(rest)
-    if BATCH in asked or not asked:
-        if not knows(BATCH, program):
-            print(f"{sys.argv[0]}: the program doesn't know --batch" + (": plain runs alone" if not asked else ""), file=sys.stderr)
-            if asked:
-                sys.exit(2)
-            return [PLAIN], program, rest[1:]
-    return asked or [PLAIN, BATCH], program, rest[1:]
+    unknown = [mode for mode in asked or MODES if mode is not PLAIN and not knows(mode, program)]
+    for mode in unknown:
+        print(f"{sys.argv[0]}: the program doesn't know the mode {mode.name}", file=sys.stderr)
+    if asked and unknown:
+        sys.exit(2)
+    return [mode for mode in asked or MODES if mode not in unknown], program, rest[1:]
 
 
 def knows(mode, program):
