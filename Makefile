@@ -3,7 +3,7 @@ PROGRAM = crates/summarystore/out/summarystore
 BENCH = crates/calls_bench/out/calls_bench
 PREFIX = /usr/local
 
-.PHONY: build demo test faults python install bench help
+.PHONY: build demo fleet-demo test faults python install deb deb-test bench help
 
 build: ## proves and builds the program
 	@tools/build summarystore --version
@@ -13,6 +13,10 @@ demo: ## shows the first example, proves and builds the program, and runs it on 
 	@tools/build summarystore --version
 	@examples/demo $(PROGRAM)
 
+fleet-demo: ## brings up a broker, edges, shards and a gateway on this machine, and asks them: python/README.md
+	@test -x $(PROGRAM) || $(MAKE) build
+	@examples/fleet-demo $(PROGRAM)
+
 test: ## runs the whole gate: proofs, tests, must-fail edits, program runs
 	.ci/run
 
@@ -21,6 +25,7 @@ faults: ## tries the program that was built last on files while something goes w
 	@faults/foreign $(PROGRAM)
 	@faults/refuse $(PROGRAM)
 	@faults/kill $(PROGRAM)
+	@faults/frames $(PROGRAM)
 	@faults/images $(PROGRAM)
 	@faults/flips $(PROGRAM)
 	@faults/damage $(PROGRAM) 10000
@@ -35,6 +40,14 @@ install: ## installs the program that was built last, and its man page: make ins
 	install -D -m 755 $(PROGRAM) $(DESTDIR)$(PREFIX)/bin/summarystore
 	install -D -m 644 docs/summarystore.1 $(DESTDIR)$(PREFIX)/share/man/man1/summarystore.1
 
+deb: ## builds Debian's packages around the program that was built last, in out/deb: packaging/README.md
+	@test -x $(PROGRAM) || $(MAKE) build
+	@packaging/build $(PROGRAM)
+
+deb-test: ## builds them, and installs, upgrades and removes them in a new root of Debian 12, as root
+	@test -x $(PROGRAM) || $(MAKE) build
+	@packaging/test $(PROGRAM)
+
 bench: ## times the programs that were built last: bench/README.md
 	@test -x $(PROGRAM) || $(MAKE) build
 	@test -x $(BENCH) || tools/build calls_bench all
@@ -43,7 +56,9 @@ bench: ## times the programs that were built last: bench/README.md
 	@bench/drops $(PROGRAM)
 	@bench/queries $(PROGRAM)
 	@bench/presence $(PROGRAM)
+	@bench/guesses $(PROGRAM)
 	@bench/sessions $(PROGRAM)
+	@bench/frames $(PROGRAM)
 	@bench/python $(PROGRAM)
 	@bench/commits $(BENCH)
 	@bench/records $(BENCH)
@@ -51,4 +66,4 @@ bench: ## times the programs that were built last: bench/README.md
 	@bench/landmarks $(BENCH)
 
 help: ## lists the targets
-	@awk -F ':.*## ' '/^[a-z]+:.*## / { printf "make %-8s  %s\n", $$1, $$2 }' Makefile
+	@awk -F ':.*## ' '/^[a-z-]+:.*## / { printf "make %-10s  %s\n", $$1, $$2 }' Makefile
