@@ -1,7 +1,7 @@
 """Waiting for what others do: processes, servers, a browser. All of it goes through here.
 
 What doesn't come in time raises `TooLate`, and nothing else does. On a busy machine that is no fault of what
-is tested: the gate runs such a test again, and says so. A wrong result is any other exception, and stands.
+is tested. A wrong result is any other exception.
 """
 
 from __future__ import annotations
