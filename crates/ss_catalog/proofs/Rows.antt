@@ -3,14 +3,14 @@ use Rattle.std.proofs.Common.{◌≡◌, ℕ, ◌+◌, refl, ◌^◌, pos, List,
 use Rattle.ss_catalog.specs.Catalog.{id_of, without_name}
 use Rattle.ss_catalog.specs.Events.{IsInTime, event_name}
 use Rattle.ss_catalog.specs.Names.{is_name}
-use Rattle.ss_catalog.specs.Params.{in_range}
+use Rattle.ss_catalog.specs.Params.{exp as Exp, in_range, is_step, power as Power, step_for, step_number}
 use Rattle.ss_catalog.specs.Queries.{adds_up, end_name, is_guess, kind_name, query_verb, series_verb}
 use Rattle.ss_catalog.specs.Series.{IsSeriesInRange, numbers_from, row_query, rows_in, rows_of, whole_query}
 use Rattle.ss_catalog.specs.declared.TheConstants.{LAST_TIME, MOST_ROWS, MOST_STREAMS, LAST_STREAM}
 use Rattle.ss_catalog.specs.declared.event.Event.TheVariants as events
 use Rattle.ss_catalog.specs.declared.name.TheConstants.{LONGEST_NAME}
+use Rattle.ss_catalog.specs.declared.params.Params.{Params}
 use Rattle.ss_catalog.specs.declared.params.TheConstants.{GREATEST_BASE, GREATEST_POWER, GREATEST_WIDENING, GREATEST_SCALE}
-use Rattle.ss_catalog.specs.declared.params.Params.TheVariants.{Exp, Power}
 use Rattle.ss_catalog.specs.declared.query.End.TheVariants.{Lo, Hi}
 use Rattle.ss_catalog.specs.declared.query.Kind.TheVariants.{Count, Sum, Min, Max, Has, CountGuess, SumGuess}
 use Rattle.ss_catalog.specs.declared.series.Series.{Series}
@@ -66,6 +66,25 @@ params-power_greatest = refl
 
 params-power_0 : in_range (Power 0 0 1 1) ≡ false
 params-power_0 = refl
+
+params-steps : map is_step (None ∷ Some 0 ∷ Some 1 ∷ Some 4294967295 ∷ []) ≡ true ∷ false ∷ true ∷ true ∷ []
+params-steps = refl
+
+-- a good step makes no family good that isn't, and the other way round
+abbrev within : ℕ → Params → Params
+within step params = record params { within = Some step }
+
+params-within : map in_range
+    (within 0 (Exp 2 1 1) ∷ within 1 (Exp 2 1 1) ∷ within 1 (Exp 1 1 1) ∷ within 0 (Power 1 0 1 1) ∷ within 4294967295 (Power 1 0 1 1)
+    ∷ within 1 (Power 0 0 1 1) ∷ [])
+    ≡ false ∷ true ∷ false ∷ false ∷ true ∷ false ∷ []
+params-within = refl
+
+params-step_numbers : map step_number (None ∷ Some 0 ∷ Some 60 ∷ []) ≡ 0 ∷ 0 ∷ 60 ∷ []
+params-step_numbers = refl
+
+params-steps_for : map step_for (0 ∷ 1 ∷ 60 ∷ []) ≡ None ∷ Some 1 ∷ Some 60 ∷ []
+params-steps_for = refl
 
 kinds : map kind_name (Count ∷ Sum ∷ Min ∷ Max ∷ CountGuess ∷ SumGuess ∷ [])
     ≡ codes "count" ∷ codes "sum" ∷ codes "min" ∷ codes "max" ∷ codes "count" ∷ codes "sum" ∷ []

@@ -15,7 +15,9 @@ pub use catalog::{Catalog, CatalogError};
 pub use event::Event;
 pub use laws::rows_are_the_range;
 pub use name::{LONGEST_NAME, Name};
-pub use params::{GREATEST_BASE, GREATEST_POWER, GREATEST_SCALE, GREATEST_WIDENING, Params};
+pub use params::{
+    Family, GREATEST_BASE, GREATEST_POWER, GREATEST_SCALE, GREATEST_WIDENING, Params,
+};
 pub use query::{End, Kind, Query};
 pub use refusal::Refusal;
 pub use series::{Series, rows_in};

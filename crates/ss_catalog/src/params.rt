@@ -1,6 +1,6 @@
 // The parameters of a stream's target.
 ghost use Rattle.std.specs.Prelude.{◌≡◌};
-ghost use Rattle.ss_catalog.specs.Params.{in_range, is_scale};
+ghost use Rattle.ss_catalog.specs.Params.{in_range, is_family, is_scale, is_step};
 
 /// The greatest base of an exponential target; the least is 2.
 pub const GREATEST_BASE: u32 = 16;
@@ -14,14 +14,21 @@ pub const GREATEST_WIDENING: u32 = 3;
 /// The greatest number of windows in a first group, and the greatest length of a first window; the least is 1.
 pub const GREATEST_SCALE: u32 = 65536;
 
-/// The parameters of a target, as they were given: also those that no target has. docs/DEFINITIONS.md ("Targets") has
-/// the lengths that they give.
+/// A family of window lengths with its parameters. docs/DEFINITIONS.md ("Targets") has the lengths that they give.
 #[derive(Clone, Copy, Debug, PartialEq, Eq)]
-pub enum Params {
+pub enum Family {
     /// Group g = 0, 1, 2, .. has r windows of length s * b^g.
     Exp { b: u32, r: u32, s: u32 },
     /// Group g = 1, 2, 3, .. has r * g^(p-1) windows of length s * g^q.
     Power { p: u32, q: u32, r: u32, s: u32 },
+}
+
+/// The parameters of a target, as they were given: also those that no target has.
+#[derive(Clone, Copy, Debug, PartialEq, Eq)]
+pub struct Params {
+    pub family: Family,
+    /// The step of the clock, no boundary of which a window crosses, in the unit of the times. That of a target is at least 1.
+    pub within: Option<u32>,
 }
 
 // Whether a number of windows or a length is one that a first group can have.
@@ -31,14 +38,24 @@ fn is_scale(value: u32) -> bool
     1 <= value && value <= GREATEST_SCALE
 }
 
-impl Params {
-    /// Whether a target has these parameters.
-    pub fn in_range(&self) -> bool
-        ensures { result ≡ in_range self.now }
+// Whether windows can keep to a step.
+fn is_step(within: Option<u32>) -> bool
+    ensures { result ≡ is_step within }
+{
+    match within {
+        None => true,
+        Some(step) => 1 <= step,
+    }
+}
+
+impl Family {
+    // Whether a target has the lengths of this family.
+    fn in_range(&self) -> bool
+        ensures { result ≡ is_family self.now }
     {
         match *self {
-            Params::Exp { b, r, s } => 2 <= b && b <= GREATEST_BASE && is_scale(r) && is_scale(s),
-            Params::Power { p, q, r, s } => {
+            Family::Exp { b, r, s } => 2 <= b && b <= GREATEST_BASE && is_scale(r) && is_scale(s),
+            Family::Power { p, q, r, s } => {
                 1 <= p
                     && p <= GREATEST_POWER
                     && q <= GREATEST_WIDENING
@@ -46,5 +63,14 @@ impl Params {
                     && is_scale(s)
             }
         }
+    }
+}
+
+impl Params {
+    /// Whether a target has these parameters.
+    pub fn in_range(&self) -> bool
+        ensures { result ≡ in_range self.now }
+    {
+        is_step(self.within) && self.family.in_range()
     }
 }
