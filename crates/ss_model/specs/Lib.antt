@@ -1,4 +1,3 @@
-pub mod Rule
 pub mod Boundaries
 pub mod Windows
 pub mod Closed
@@ -21,3 +20,4 @@ pub mod Newest
 pub mod NewestTruth
 pub mod Answers
 pub mod Series
+pub mod WholeSteps

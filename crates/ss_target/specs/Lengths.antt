@@ -2,7 +2,8 @@
 use Rattle.std.specs.Prelude.{ℕ, Bool}
 use Rattle.ss_catalog.specs.Params.{in_range}
 use Rattle.ss_catalog.specs.declared.params.Params.{Params}
-use Rattle.ss_catalog.specs.declared.params.Params.TheVariants.{Exp, Power}
+use Rattle.ss_catalog.specs.declared.params.Family.{Family}
+use Rattle.ss_catalog.specs.declared.params.Family.TheVariants.{Exp, Power}
 use Rattle.ss_windowing.specs.Exp.{exp_length}
 use Rattle.ss_power.specs.Power.{power_length}
 
@@ -10,7 +11,11 @@ use Rattle.ss_power.specs.Power.{power_length}
 abbrev pub has_target : Params → Bool
 has_target params = in_range params
 
+-- the window lengths of a family
+abbrev pub family_lengths : Family → ℕ → ℕ
+family_lengths (Exp b r s) = exp_length b r s
+family_lengths (Power p q r s) = power_length p q r s
+
 -- the window lengths of the target of some parameters
 abbrev pub lengths_of : Params → ℕ → ℕ
-lengths_of (Exp b r s) = exp_length b r s
-lengths_of (Power p q r s) = power_length p q r s
+lengths_of params = family_lengths params.family

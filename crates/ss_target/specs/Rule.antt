@@ -1,6 +1,7 @@
 -- When two neighbours become one.
 use Rattle.std.specs.Prelude.{ℕ, zero, suc, ◌/◌, ◌==◌, ◌&&◌, Bool}
 use Rattle.ss_catalog.specs.declared.params.Params.{Params}
+use Rattle.ss_catalog.specs.Params.{step_number}
 use Rattle.ss_target.specs.Lengths.{lengths_of}
 use Rattle.ss_windowing.specs.Windowing.{fits}
 
@@ -15,7 +16,7 @@ without_step len = record { lengths = len; step = 0 }
 
 -- the merge rule of a target
 abbrev pub rule_of : Params → Rule
-rule_of params = without_step (lengths_of params)
+rule_of params = record { lengths = lengths_of params; step = step_number params.within }
 
 -- which step a time lies in. Without a step all times lie in one.
 abbrev pub step_of : ℕ → ℕ → ℕ
