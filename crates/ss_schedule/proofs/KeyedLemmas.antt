@@ -3,16 +3,17 @@ use Rattle.std.proofs.Common.{◌≡◌, ◌≢◌, ◌∙◌, ℕ, ◌+◌, ◌
 use Rattle.std.proofs.Common.{refl, take, set}
 use Rattle.std.proofs.Common.{sym, ap, subst, arith, append_assoc, length-append, Option, Some, None, inl, inr, IfSome}
 use Rattle.std.proofs.lemmas.Bool.{cases_Bool, cases_eq, both_ways, eq-eqb}
-use Rattle.std.proofs.lemmas.List.{get_or_past, get_or-set_other, get_or-set_same, length-set}
+use Rattle.std.proofs.lemmas.List.{get_or-set_other, get_or-set_same, length-set}
 use Rattle.ss_line.specs.Line.{StandsIn, entry_at, index_of, is_at}
 use Rattle.ss_line.specs.declared.entry.At.{At}
 use Rattle.ss_line.specs.declared.entry.Entry.{Entry}
+use Rattle.ss_target.specs.Rule.{Rule, in_step}
 use Rattle.ss_windowing.specs.Windowing.{ArePositive, Fits, fits}
 use Rattle.ss_windowing.specs.declared.decay.TheConstants.{MOST_VALUES}
 use Rattle.ss_windowing.proofs.WindowingLemmas.{fits-one_window}
 use Rattle.ss_schedule.specs.Held.{fit_of}
-use Rattle.ss_schedule.specs.Keyed.{TileUpTo, FollowUpTo, IsFirstKey, IsKeyOf, IsKeyed, NeverFit, PutsKey, ScheduleState, key_at, lengths}
-use Rattle.ss_schedule.specs.Pairs.{AreSideBySide, IsPairIn, IsSpan, NoPairFits, joined_entry, pair_at, pair_among, pair_of}
+use Rattle.ss_schedule.specs.Keyed.{AreBelow, AreInStep, TileUpTo, FollowUpTo, IsFirstKey, IsKeyOf, IsKeyed, PutsKey, ScheduleState, key_at, merge_rule}
+use Rattle.ss_schedule.specs.Pairs.{AreSideBySide, IsPairIn, IsSpan, NoPairFits, joined_entry, may_join, pair_at, pair_among, pair_of}
 use Rattle.ss_schedule.specs.declared.pair.Pair.{Pair}
 use Rattle.ss_schedule.proofs.PairLemmas.{pair_at-within, pair_among-absent, pair_among-here, some-same}
 use Rattle.ss_schedule.proofs.JoinLemmas.{entry-left, entry-right, stands-left, stands-right}
@@ -76,50 +77,33 @@ pub FollowUpTo-joined : (n : ℕ) (before : List (At × Entry)) (left right : At
 FollowUpTo-joined n [] left right w v rest follow = (follow.0, TileUpTo-joined n w.first [] left right w v rest follow.1)
 FollowUpTo-joined n (e ∷ es) left right w v rest follow = (follow.0, TileUpTo-joined n e.1.first (e ∷ es) left right w v rest follow.1)
 
--- the positions of two neighbours
-TileUpTo-seam : (n first : ℕ) (before : List (At × Entry)) (x y : At × Entry) (rest : List (At × Entry)) →
-    TileUpTo n first (before ++ x ∷ y ∷ rest) →
-    (x.1.first ≤ x.1.last) × (y.1.first ≡ x.1.last + 1) × (y.1.first ≤ y.1.last)
-TileUpTo-seam n first [] x y rest follow =
-    let start = follow.0 in
-    let order = follow.1 in
-    let next = follow.3.0 in
-    let next_order = follow.3.1 in
-    (omega arith, next, omega arith)
-TileUpTo-seam n first (e ∷ es) x y rest follow = TileUpTo-seam n (e.1.last + 1) es x y rest follow.3
-
-pub FollowUpTo-seam : (n : ℕ) (before : List (At × Entry)) (x y : At × Entry) (rest : List (At × Entry)) → FollowUpTo n (before ++ x ∷ y ∷ rest) →
-    (x.1.first ≤ x.1.last) × (y.1.first ≡ x.1.last + 1) × (y.1.first ≤ y.1.last)
-FollowUpTo-seam n [] x y rest follow = TileUpTo-seam n x.1.first [] x y rest follow.1
-FollowUpTo-seam n (e ∷ es) x y rest follow = TileUpTo-seam n e.1.first (e ∷ es) x y rest follow.1
-
--- positions among others that lie in one target window lie in it too
-Fits-among : (len : ℕ → ℕ) (l r a b n : ℕ) → a ≤ l → r ≤ b → Fits len a b n → Fits len l r n
-Fits-among len l r a b n first last fit =
-    let new = fit.1 in
-    let old = fit.2 in
-    (fit.0, omega arith, omega arith)
-
-pub NeverFit-among : (len : ℕ → ℕ) (l r a b n : ℕ) → a ≤ l → r ≤ b → NeverFit len l r n → NeverFit len a b n
-NeverFit-among len l r a b n first last never m le few fit = never m le few (Fits-among len l r a b m first last fit)
-
 -- no pair is due before its key
-unfit-before : (len : ℕ → ℕ) (n : ℕ) (pair : Pair) (key : Option (At × ℕ)) → n ≤ MOST_VALUES → IsKeyOf len n (Some pair) key →
-    n < fit_of key →
-    ¬ Fits len pair.first pair.last n
-unfit-before len n pair None few is less fit = is n (omega arith) few fit
-unfit-before len n pair (Some key) few is less fit = let least = is.first.least n (omega arith) fit in absurd (omega (arith, least, less))
+unfit-before : (rule : Rule) (n : ℕ) (pair : Pair) (key : Option (At × ℕ)) → n ≤ MOST_VALUES → IsKeyOf rule n (Some pair) key →
+    n < fit_of key → AreInStep rule pair → ¬ Fits rule.lengths pair.first pair.last n
+unfit-before rule n pair None few is less together fit = is together n (omega arith) few fit
+unfit-before rule n pair (Some key) few is less together fit =
+    let least = is.first.least n (omega arith) fit in absurd (omega (arith, least, less))
 
 unfit-false : (len : ℕ → ℕ) (l r n : ℕ) → ArePositive len → l ≤ r → ¬ Fits len l r n → fits len l r n ≡ false
 unfit-false len l r n full order unfit =
     elim (cases_Bool (fits len l r n)) [ inl is ↦ absurd (unfit ((fits-one_window len l r n full order).0 is)) | inr is ↦ is ]
 
-NoPairFits-behind : (len : ℕ → ℕ) (n : ℕ) (e : At × Entry) (entries : List (At × Entry)) → AreApart (e ∷ entries) →
-    ((at : At) (pair : Pair) → pair_among e entries at ≡ Some pair → fits len pair.first pair.last n ≡ false) → NoPairFits len n (e ∷ entries)
-NoPairFits-behind len n e [] apart none = tt
-NoPairFits-behind len n e (x ∷ xs) apart none = (
+may_join-before : (rule : Rule) (n : ℕ) (pair : Pair) (key : Option (At × ℕ)) → ArePositive rule.lengths → IsSpan n pair → n ≤ MOST_VALUES →
+    IsKeyOf rule n (Some pair) key → n < fit_of key → may_join rule n pair ≡ false
+may_join-before rule n pair key full span few is less =
+    elim (cases_Bool (in_step rule.step pair.t_first pair.t_last)) [
+      | inl together ↦ (
+          let unfit = unfit-false rule.lengths pair.first pair.last n full span.order (unfit-before rule n pair key few is less together) in
+          rw (together, unfit) refl)
+      | inr apart ↦ rw apart refl
+    ]
+
+NoPairFits-behind : (rule : Rule) (n : ℕ) (e : At × Entry) (entries : List (At × Entry)) → AreApart (e ∷ entries) →
+    ((at : At) (pair : Pair) → pair_among e entries at ≡ Some pair → may_join rule n pair ≡ false) → NoPairFits rule n (e ∷ entries)
+NoPairFits-behind rule n e [] apart none = tt
+NoPairFits-behind rule n e (x ∷ xs) apart none = (
   none x.0 (pair_of e x) (pair_among-here e x.0 x.1 xs),
-  NoPairFits-behind len n x xs (AreApart-tail e (x ∷ xs) apart) (λ at pair is. elim (cases_Bool (is_at at x)) [
+  NoPairFits-behind rule n x xs (AreApart-tail e (x ∷ xs) apart) (λ at pair is. elim (cases_Bool (is_at at x)) [
     | inl here ↦ (
         let same = same_place at x here in
         let tail = AreApart-tail e (x ∷ xs) apart in
@@ -129,52 +113,58 @@ NoPairFits-behind len n e (x ∷ xs) apart none = (
   ]),
 )
 
-pub NoPairFits-all : (len : ℕ → ℕ) (n : ℕ) (entries : List (At × Entry)) → AreApart entries →
-    ((at : At) (pair : Pair) → pair_at entries at ≡ Some pair → fits len pair.first pair.last n ≡ false) → NoPairFits len n entries
-NoPairFits-all len n [] apart none = tt
-NoPairFits-all len n (e ∷ es) apart none = NoPairFits-behind len n e es apart none
+pub NoPairFits-all : (rule : Rule) (n : ℕ) (entries : List (At × Entry)) → AreApart entries →
+    ((at : At) (pair : Pair) → pair_at entries at ≡ Some pair → may_join rule n pair ≡ false) → NoPairFits rule n entries
+NoPairFits-all rule n [] apart none = tt
+NoPairFits-all rule n (e ∷ es) apart none = NoPairFits-behind rule n e es apart none
 
 -- all keys are past n
-pub NoPairFits-keyed : (n : ℕ) (entries : List (At × Entry)) (schedule : ScheduleState) → ArePositive (lengths schedule) → AreApart entries →
-    IsKeyed n entries schedule → ((at : At) → n < fit_of (key_at schedule.keys at)) → NoPairFits (lengths schedule) n entries
+pub NoPairFits-keyed : (n : ℕ) (entries : List (At × Entry)) (schedule : ScheduleState) → ArePositive (merge_rule schedule).lengths → AreApart entries →
+    IsKeyed n entries schedule → ((at : At) → n < fit_of (key_at schedule.keys at)) → NoPairFits (merge_rule schedule) n entries
 NoPairFits-keyed n entries schedule full apart keyed past =
-    NoPairFits-all (lengths schedule) n entries apart
+    NoPairFits-all (merge_rule schedule) n entries apart
     (λ at pair is.
     let span = IsSpan-pair n entries at pair keyed.follow is in
-    let key = subst (λ o. IsKeyOf (lengths schedule) n o (key_at schedule.keys at)) is (keyed.keys at) in
-    unfit-false (lengths schedule) pair.first pair.last n full span.order
-    (unfit-before (lengths schedule) n pair (key_at schedule.keys at) keyed.few key (past at)))
+    let key = subst (λ o. IsKeyOf (merge_rule schedule) n o (key_at schedule.keys at)) is (keyed.keys at) in
+    may_join-before (merge_rule schedule) n pair (key_at schedule.keys at) full span keyed.few key (past at))
 
 -- the next count
-NoPairFits-at_behind : (len : ℕ → ℕ) (n : ℕ) (e : At × Entry) (entries : List (At × Entry)) (at : At) (pair : Pair) →
-    NoPairFits len n (e ∷ entries) →
-    pair_among e entries at ≡ Some pair → fits len pair.first pair.last n ≡ false
-NoPairFits-at_behind len n e [] at pair none is = absurd (cc)
-NoPairFits-at_behind len n e (x ∷ xs) at pair none is =
+NoPairFits-at_behind : (rule : Rule) (n : ℕ) (e : At × Entry) (entries : List (At × Entry)) (at : At) (pair : Pair) →
+    NoPairFits rule n (e ∷ entries) →
+    pair_among e entries at ≡ Some pair → may_join rule n pair ≡ false
+NoPairFits-at_behind rule n e [] at pair none is = absurd (cc)
+NoPairFits-at_behind rule n e (x ∷ xs) at pair none is =
     elim (cases_Bool (is_at at x)) [
       | inl here ↦ (
           let same : Some (pair_of e x) ≡ Some pair = rw here at is in
           let one : pair_of e x ≡ pair = cc in
-          subst (λ (p : Pair). fits len p.first p.last n ≡ false) one none.0)
-      | inr later ↦ (let rest : pair_among x xs at ≡ Some pair = rw later at is in NoPairFits-at_behind len n x xs at pair none.1 rest)
+          subst (λ (p : Pair). may_join rule n p ≡ false) one none.0)
+      | inr later ↦ (let rest : pair_among x xs at ≡ Some pair = rw later at is in NoPairFits-at_behind rule n x xs at pair none.1 rest)
     ]
 
-NoPairFits-at : (len : ℕ → ℕ) (n : ℕ) (entries : List (At × Entry)) (at : At) (pair : Pair) → NoPairFits len n entries →
+NoPairFits-at : (rule : Rule) (n : ℕ) (entries : List (At × Entry)) (at : At) (pair : Pair) → NoPairFits rule n entries →
     pair_at entries at ≡ Some pair →
-    fits len pair.first pair.last n ≡ false
-NoPairFits-at len n [] at pair none is = absurd (cc)
-NoPairFits-at len n (e ∷ es) at pair none is = NoPairFits-at_behind len n e es at pair none is
+    may_join rule n pair ≡ false
+NoPairFits-at rule n [] at pair none is = absurd (cc)
+NoPairFits-at rule n (e ∷ es) at pair none is = NoPairFits-at_behind rule n e es at pair none is
 
-IsKeyOf-next : (len : ℕ → ℕ) (n : ℕ) (found : Option Pair) (key : Option (At × ℕ)) →
-    ((pair : Pair) → found ≡ Some pair → ¬ Fits len pair.first pair.last n) →
-    IsKeyOf len n found key → IsKeyOf len (n + 1) found key
-IsKeyOf-next len n None key unfit is = is
-IsKeyOf-next len n (Some pair) None unfit is = λ m le few fit. is m (omega arith) few fit
-IsKeyOf-next len n (Some pair) (Some key) unfit is = record {
+-- a pair that lies in one step and in one target window may be one
+IsTrue-may_join : (rule : Rule) (n : ℕ) (pair : Pair) → ArePositive rule.lengths → IsSpan n pair → AreInStep rule pair →
+    Fits rule.lengths pair.first pair.last n → may_join rule n pair ≡ true
+IsTrue-may_join rule n pair full span together fit =
+    let lies = (fits-one_window rule.lengths pair.first pair.last n full span.order).1 fit in rw (together, lies) refl
+
+IsKeyOf-next : (rule : Rule) (n : ℕ) (found : Option Pair) (key : Option (At × ℕ)) →
+    ((pair : Pair) → found ≡ Some pair → AreInStep rule pair → ¬ Fits rule.lengths pair.first pair.last n) →
+    IsKeyOf rule n found key → IsKeyOf rule (n + 1) found key
+IsKeyOf-next rule n None key unfit is = is
+IsKeyOf-next rule n (Some pair) None unfit is = λ together m le few fit. is together m (omega arith) few fit
+IsKeyOf-next rule n (Some pair) (Some key) unfit is = record {
   left = is.left;
+  together = is.together;
   first = record {
     reached = elim (cases_eq key.1 n) [
-      | inl same ↦ absurd (unfit pair refl (subst (λ m. Fits len pair.first pair.last m) same is.first.fits))
+      | inl same ↦ absurd (unfit pair refl is.together (subst (λ m. Fits rule.lengths pair.first pair.last m) same is.first.fits))
       | inr other ↦ (let reached = is.first.reached in omega arith)
     ];
     fits = is.first.fits;
@@ -183,49 +173,78 @@ IsKeyOf-next len n (Some pair) (Some key) unfit is = record {
   few = is.few;
 }
 
-pub IsKeyed-next : (n : ℕ) (entries : List (At × Entry)) (schedule : ScheduleState) → ArePositive (lengths schedule) → n < MOST_VALUES →
-    IsKeyed n entries schedule → NoPairFits (lengths schedule) n entries → IsKeyed (n + 1) entries schedule
+pub IsKeyed-next : (n : ℕ) (entries : List (At × Entry)) (schedule : ScheduleState) → ArePositive (merge_rule schedule).lengths → n < MOST_VALUES →
+    IsKeyed n entries schedule → NoPairFits (merge_rule schedule) n entries → IsKeyed (n + 1) entries schedule
 IsKeyed-next n entries schedule full few keyed none = record {
   few = omega arith;
   follow = FollowUpTo-more n (n + 1) entries (omega arith) keyed.follow;
-  keys = λ at. IsKeyOf-next (lengths schedule) n (pair_at entries at) (key_at schedule.keys at)
-      (λ pair is fit.
+  room = keyed.room;
+  keys = λ at. IsKeyOf-next (merge_rule schedule) n (pair_at entries at) (key_at schedule.keys at)
+      (λ pair is together fit.
       let span = IsSpan-pair n entries at pair keyed.follow is in
-      both_ways _ (NoPairFits-at (lengths schedule) n entries at pair none is)
-      ((fits-one_window (lengths schedule) pair.first pair.last n full span.order).1 fit))
+      both_ways _ (NoPairFits-at (merge_rule schedule) n entries at pair none is)
+      (IsTrue-may_join (merge_rule schedule) n pair full span together fit))
       (keyed.keys at);
 }
 
 -- the pair of a key
-pub key-pair : (len : ℕ → ℕ) (n : ℕ) (found : Option Pair) (key : At × ℕ) → IsKeyOf len n found (Some key) →
-    (pair : Pair) × (found ≡ Some pair) × IsFirstKey len n pair key
-key-pair len n None key is = absurd (cc)
-key-pair len n (Some pair) key is = (pair, refl, is)
+pub key-pair : (rule : Rule) (n : ℕ) (found : Option Pair) (key : At × ℕ) → IsKeyOf rule n found (Some key) →
+    (pair : Pair) × (found ≡ Some pair) × IsFirstKey rule n pair key
+key-pair rule n None key is = absurd (cc)
+key-pair rule n (Some pair) key is = (pair, refl, is)
 
 -- a key that was put
 module _ (old new : ScheduleState) (n : ℕ) (at : At) (found : Option Pair) (put : PutsKey old new n at found) where
-  pub len-kept : lengths new ≡ lengths old
-  len-kept = ap (λ target. lengths (let s : ScheduleState = record { target = target; keys = [] } in s)) put.target
+  pub len-kept : merge_rule new ≡ merge_rule old
+  len-kept = ap (λ target. merge_rule (let s : ScheduleState = record { target = target; keys = [] } in s)) put.target
 
   pub put-here : (other : At) (entry : Entry) (pair : Option Pair) → is_at other (at, entry) ≡ true → pair ≡ found →
-      IsKeyOf (lengths new) n pair (key_at new.keys other)
+      IsKeyOf (merge_rule new) n pair (key_at new.keys other)
   put-here other entry pair here same =
       let place = same_place other (at, entry) here in
-      rw same (subst (λ (a : At). IsKeyOf (lengths new) n found (key_at new.keys a)) place put.here)
+      rw same (subst (λ (a : At). IsKeyOf (merge_rule new) n found (key_at new.keys a)) place put.here)
 
   pub put-other : (other : At) (entry : Entry) (pair : Option Pair) → is_at other (at, entry) ≡ false →
-      IsKeyOf (lengths old) n pair (key_at old.keys other) → IsKeyOf (lengths new) n pair (key_at new.keys other)
+      IsKeyOf (merge_rule old) n pair (key_at old.keys other) → IsKeyOf (merge_rule new) n pair (key_at new.keys other)
   put-other other entry pair later was =
       let apart : other.0 ≢ at.0 = λ same. both_ways (is_at other (at, entry)) later (eq-eqb at.0 other.0 (sym same)) in
-      subst (λ len. IsKeyOf len n pair (key_at new.keys other)) (sym len-kept) (rw (put.others other apart) was)
+      subst (λ rule. IsKeyOf rule n pair (key_at new.keys other)) (sym len-kept) (rw (put.others other apart) was)
+
+-- the places of entries
+pub AreBelow-append : (room : ℕ) (xs ys : List (At × Entry)) → AreBelow room xs → AreBelow room ys → AreBelow room (xs ++ ys)
+AreBelow-append room [] ys first second = second
+AreBelow-append room (x ∷ xs) ys first second = (first.0, AreBelow-append room xs ys first.1 second)
+
+pub AreBelow-parts : (room : ℕ) (xs ys : List (At × Entry)) → AreBelow room (xs ++ ys) → AreBelow room xs × AreBelow room ys
+AreBelow-parts room [] ys below = (tt, below)
+AreBelow-parts room (x ∷ xs) ys below = let rest = AreBelow-parts room xs ys below.1 in ((below.0, rest.0), rest.1)
+
+AreBelow-more : (room more : ℕ) (entries : List (At × Entry)) → room ≤ more → AreBelow room entries → AreBelow more entries
+AreBelow-more room more [] le below = tt
+AreBelow-more room more (e ∷ es) le below = let first = below.0 in (omega arith, AreBelow-more room more es le below.1)
+
+-- more room, and the same keys
+pub IsKeyed-room : (n : ℕ) (entries : List (At × Entry)) (old new : ScheduleState) → new.target ≡ old.target → length old.keys ≤ length new.keys →
+    ((at : At) → key_at new.keys at ≡ key_at old.keys at) → IsKeyed n entries old → IsKeyed n entries new
+IsKeyed-room n entries old new target more same keyed = record {
+  few = keyed.few;
+  follow = keyed.follow;
+  room = AreBelow-more (length old.keys) (length new.keys) entries more keyed.room;
+  keys = λ at.
+      let rule = ap (λ t. merge_rule (let s : ScheduleState = record { target = t; keys = [] } in s)) (sym target) in
+      subst (λ r. IsKeyOf r n (pair_at entries at) (key_at new.keys at)) rule
+      (subst (λ (k : Option (At × ℕ)). IsKeyOf (merge_rule old) n (pair_at entries at) k) (sym (same at)) (keyed.keys at));
+}
 
 -- one entry more at the end
 pub IsKeyed-more : (n : ℕ) (before : List (At × Entry)) (at : At) (entry : Entry) (old new : ScheduleState) → IsKeyed n before old →
-    PutsKey old new n at (pair_at (before ++ (at, entry) ∷ []) at) → FollowUpTo n (before ++ (at, entry) ∷ []) →
+    at.0 < length old.keys → PutsKey old new n at (pair_at (before ++ (at, entry) ∷ []) at) → FollowUpTo n (before ++ (at, entry) ∷ []) →
     IsKeyed n (before ++ (at, entry) ∷ []) new
-IsKeyed-more n before at entry old new keyed put follow = record {
+IsKeyed-more n before at entry old new keyed inside put follow = record {
   few = keyed.few;
   follow = follow;
+  room = subst (λ (room : ℕ). AreBelow room (before ++ (at, entry) ∷ [])) (sym put.room)
+      (AreBelow-append (length old.keys) before ((at, entry) ∷ []) keyed.room (inside, tt));
   keys = λ other. elim (cases_Bool (is_at other (at, entry))) [
     | inl here ↦ (
         let place = same_place other (at, entry) here in
@@ -299,41 +318,33 @@ module _ (entries : List (At × Entry)) (apart : AreApart entries) (at : At) (pa
         stands-right entries it.left.0 at side_by_side,
       )
 
-  pub IsPairIn-read : (left : At) (window entry : Entry) → left ≡ pair.left → entry_at entries left ≡ Some window →
-      entry_at entries at ≡ Some entry →
-      let read : Pair = record { left = left; right = at; first = window.first; last = entry.last } in IsPairIn entries read
+  abbrev pub read_of : At → Entry → Entry → Pair
+  read_of left window entry = pair_of (left, window) (at, entry)
+
+  -- the pair that was read is that of the line
+  pub read-is : (left : At) (window entry : Entry) → left ≡ pair.left → entry_at entries left ≡ Some window →
+      entry_at entries at ≡ Some entry → read_of left window entry ≡ pair
   unfolding side_by_side
-  IsPairIn-read left window entry same read_left read_at =
+  read-is left window entry same read_left read_at =
       let place : it.left.0 ≡ left = sym (same ∙ ap (λ (p : Pair). p.left) it.pair_is) in
       let first = some-same it.left.1 window (sym (entry-left entries it.left.0 at side_by_side) ∙ ap (entry_at entries) place ∙ read_left) in
       let last = some-same it.entry entry (sym (entry-right entries it.left.0 at side_by_side) ∙ read_at) in
-      let read : (a : At) → it.left.0 ≡ a →
-      IsPairIn entries (let p : Pair = record { left = a; right = at; first = window.first; last = entry.last } in p) =
-      λ a is. subst (λ (b : At). IsPairIn entries (let p : Pair = record { left = b; right = at; first = window.first; last = entry.last } in p)) is
-      (record { neighbours = side_by_side; first = ap (λ (e : Entry). e.first) (sym first); last = ap (λ (e : Entry). e.last) (sym last) }) in
-      read left place
+      sym (it.pair_is ∙ ap (λ (a : At). read_of a it.left.1 it.entry) place ∙ ap (λ (w : Entry). read_of left w it.entry) first ∙ ap (read_of left window) last)
 
-  -- the positions that were read are those of the pair
-  pub positions-read : (left : At) (window entry : Entry) → left ≡ pair.left → entry_at entries left ≡ Some window →
-      entry_at entries at ≡ Some entry →
-      (window.first ≡ pair.first) × (entry.last ≡ pair.last)
+  pub IsPairIn-read : (read : Pair) → read ≡ pair → IsPairIn entries read
   unfolding side_by_side
-  positions-read left window entry same read_left read_at =
-      let place : it.left.0 ≡ left = sym (same ∙ ap (λ (p : Pair). p.left) it.pair_is) in
-      let first = some-same it.left.1 window (sym (entry-left entries it.left.0 at side_by_side) ∙ ap (entry_at entries) place ∙ read_left) in
-      let last = some-same it.entry entry (sym (entry-right entries it.left.0 at side_by_side) ∙ read_at) in (
-        sym (ap (λ (p : Pair). p.first) it.pair_is ∙ ap (λ (e : Entry). e.first) first),
-        sym (ap (λ (p : Pair). p.last) it.pair_is ∙ ap (λ (e : Entry). e.last) last),
-      )
+  IsPairIn-read read same =
+      subst (λ (p : Pair). IsPairIn entries p) (sym (same ∙ it.pair_is))
+      (record { neighbours = side_by_side; first = refl; last = refl; t_first = refl; t_last = refl })
 
 -- a key that is at most n is of a pair that fits at n
-pub fits-by : (len : ℕ → ℕ) (n fit : ℕ) (pair : Pair) (key : At × ℕ) → ArePositive len → IsSpan n pair → fit ≤ n → key.1 ≡ fit →
-    IsFirstKey len n pair key →
-    fits len pair.first pair.last n ≡ true
-fits-by len n fit pair key full span le same is =
+pub fits-by : (rule : Rule) (n fit : ℕ) (pair : Pair) (key : At × ℕ) → ArePositive rule.lengths → IsSpan n pair → fit ≤ n → key.1 ≡ fit →
+    IsFirstKey rule n pair key →
+    may_join rule n pair ≡ true
+fits-by rule n fit pair key full span le same is =
     let reached = is.first.reached in
     let now : key.1 ≡ n = omega arith in
-    (fits-one_window len pair.first pair.last n full span.order).1 (subst (λ m. Fits len pair.first pair.last m) now is.first.fits)
+    IsTrue-may_join rule n pair full span is.together (subst (λ m. Fits rule.lengths pair.first pair.last m) now is.first.fits)
 
 -- the entries up to one of a line, and with it
 pub taken-before : (entries : List (At × Entry)) (at : At) (it : IsAt entries at) → take (index_of entries at) entries ≡ it.before
@@ -362,13 +373,14 @@ pair-with entries at it apart =
 -- the keys when the next entry of a line is taken up
 pub IsKeyed-added : (n : ℕ) (entries : List (At × Entry)) (at : At) (old new : ScheduleState) (found : Option Pair) → AreApart entries →
     StandsIn entries at →
-    found ≡ pair_at entries at → IsKeyed n (take (index_of entries at) entries) old → FollowUpTo n (take (index_of entries at + 1) entries) →
+    at.0 < length old.keys → found ≡ pair_at entries at → IsKeyed n (take (index_of entries at) entries) old →
+    FollowUpTo n (take (index_of entries at + 1) entries) →
     PutsKey old new n at found → IsKeyed n (take (index_of entries at + 1) entries) new
-IsKeyed-added n entries at old new found apart stands is keyed follow put =
+IsKeyed-added n entries at old new found apart stands inside is keyed follow put =
     let it = IsAt-stands entries at stands in
     subst (λ (es : List (At × Entry)). IsKeyed n es new) (sym (taken-with entries at it))
     (IsKeyed-more n it.before at it.entry old new (subst (λ (es : List (At × Entry)). IsKeyed n es old) (taken-before entries at it) keyed)
-    (subst (λ o. PutsKey old new n at o) (is ∙ pair-with entries at it apart) put)
+    inside (subst (λ o. PutsKey old new n at o) (is ∙ pair-with entries at it apart) put)
     (subst (λ (es : List (At × Entry)). FollowUpTo n es) (taken-with entries at it) follow))
 
 pub spans-added : (n : ℕ) (entries : List (At × Entry)) (at : At) (found : Option Pair) → AreApart entries → StandsIn entries at →
@@ -378,25 +390,16 @@ spans-added n entries at found apart stands is follow =
     spans n (it.before ++ (at, it.entry) ∷ []) at found (subst (λ (es : List (At × Entry)). FollowUpTo n es) (taken-with entries at it) follow)
     (is ∙ pair-with entries at it apart)
 
--- a key that has room, and one that has none
+-- a key that has room
 pub PutsKey-set : (old : ScheduleState) (keys : List (Option (At × ℕ))) (n : ℕ) (at : At) (pair : Option Pair) (key : Option (At × ℕ)) →
-    IsKeyOf (lengths old) n pair key →
+    IsKeyOf (merge_rule old) n pair key →
     at.0 < length old.keys → keys ≡ set old.keys at.0 key →
     PutsKey old (let s : ScheduleState = record { target = old.target; keys = keys } in s) n at pair
 PutsKey-set old keys n at pair key is inside set_is = record {
-  here = subst (λ (k : Option (At × ℕ)). IsKeyOf (lengths old) n pair k)
+  here = subst (λ (k : Option (At × ℕ)). IsKeyOf (merge_rule old) n pair k)
       (sym (ap (λ ks. key_at ks at) set_is ∙ get_or-set_same old.keys at.0 key None inside)) is;
   others = λ other apart. ap (λ ks. key_at ks other) set_is ∙ get_or-set_other old.keys at.0 other.0 key None apart;
   room = ap length set_is ∙ length-set old.keys at.0 key;
-  target = refl;
-}
-
-pub PutsKey-past : (old : ScheduleState) (n : ℕ) (at : At) (pair : Option Pair) → IsKeyOf (lengths old) n pair None → length old.keys ≤ at.0 →
-    PutsKey old old n at pair
-PutsKey-past old n at pair is past = record {
-  here = subst (λ (k : Option (At × ℕ)). IsKeyOf (lengths old) n pair k) (sym (get_or_past old.keys at.0 None past)) is;
-  others = λ other apart. refl;
-  room = refl;
   target = refl;
 }
 
@@ -404,14 +407,14 @@ PutsKey-past old n at pair is past = record {
 pub record IsPairOfKey (n : ℕ) (entries : List (At × Entry)) (schedule : ScheduleState) (right left : At) (fit : ℕ) : Type 0 where
   pub pair : Pair
   pub split : IsSplit entries right pair
-  pub key : IsFirstKey (lengths schedule) n pair (left, fit)
+  pub key : IsFirstKey (merge_rule schedule) n pair (left, fit)
   pub span : IsSpan n pair
 
 pub IsPairOfKey-keyed : (n : ℕ) (entries : List (At × Entry)) (schedule : ScheduleState) (right left : At) (fit : ℕ) → IsKeyed n entries schedule →
     key_at schedule.keys right ≡ Some (left, fit) → IsPairOfKey n entries schedule right left fit
 IsPairOfKey-keyed n entries schedule right left fit keyed key =
-    let found = key-pair (lengths schedule) n (pair_at entries right) (left, fit)
-    (subst (λ (k : Option (At × ℕ)). IsKeyOf (lengths schedule) n (pair_at entries right) k) key (keyed.keys right)) in
+    let found = key-pair (merge_rule schedule) n (pair_at entries right) (left, fit)
+    (subst (λ (k : Option (At × ℕ)). IsKeyOf (merge_rule schedule) n (pair_at entries right) k) key (keyed.keys right)) in
     record {
       pair = found.0;
       split = IsSplit-pair entries right found.0 found.1;

@@ -1,19 +1,18 @@
 -- The keys after two neighbours are joined.
-use Rattle.std.proofs.Common.{◌≡◌, ◌∙◌, ℕ, ◌+◌, ◌≤◌, Bool, true, false, List, [], ◌∷◌, ◌++◌, length, refl}
-use Rattle.std.proofs.Common.{sym, ap, subst, arith, append_assoc, Option, Some, None, IfSome, inl, inr}
+use Rattle.std.proofs.Common.{◌≡◌, ◌∙◌, ℕ, ◌+◌, ◌<◌, Bool, true, false, List, [], ◌∷◌, ◌++◌, length, refl}
+use Rattle.std.proofs.Common.{sym, ap, subst, append_assoc, Option, Some, None, IfSome, inl, inr}
 use Rattle.std.specs.List.{list_any}
 use Rattle.std.proofs.lemmas.Bool.{cases_Bool, both_ways, or_parts}
-use Rattle.std.proofs.lemmas.List.{get_or_past}
 use Rattle.std.proofs.lemmas.List.Folds.{list_any-append}
 use Rattle.ss_line.specs.Line.{index_of, is_at, place_at}
 use Rattle.ss_line.specs.declared.entry.At.{At}
 use Rattle.ss_line.specs.declared.entry.Entry.{Entry}
-use Rattle.ss_schedule.specs.Keyed.{FollowUpTo, IsKeyOf, IsKeyed, NeverFit, PutsKey, ScheduleState, key_at, lengths}
+use Rattle.ss_schedule.specs.Keyed.{AreBelow, FollowUpTo, IsKeyOf, IsKeyed, PutsKey, ScheduleState, key_at, merge_rule}
 use Rattle.ss_schedule.specs.Pairs.{AreSideBySide, IsSpan, joined_entry, pair_at, pair_among, pair_of}
 use Rattle.ss_schedule.specs.declared.pair.Pair.{Pair}
-use Rattle.ss_schedule.proofs.KeyedLemmas.{FollowUpTo-joined, FollowUpTo-seam, IsSpan-pair, NeverFit-among, len-kept, put-here, put-other, spans}
-use Rattle.ss_schedule.proofs.PairLemmas.{pair_at-neighbours, pair_at-past, pair_at-seam, pair_at-within, pair_among-absent, some-same}
-use Rattle.ss_schedule.proofs.Places.{AreApart, AreApart-seam, Ends, apart-behind, apart-parts, ends, with_last, without_last}
+use Rattle.ss_schedule.proofs.KeyedLemmas.{AreBelow-append, AreBelow-parts, FollowUpTo-joined, IsSpan-pair, put-here, put-other, spans}
+use Rattle.ss_schedule.proofs.PairLemmas.{pair_at-neighbours, pair_at-past, pair_at-within, some-same}
+use Rattle.ss_schedule.proofs.Places.{AreApart, AreApart-seam, apart-behind, apart-parts}
 use Rattle.ss_schedule.proofs.Places.{index-once, list_any-cons_false, none-first, place_at-behind, same_place, some-first}
 
 -- whether the first of these entries stands at the place
@@ -33,10 +32,6 @@ none_in_both xs ys at first second = list_any-append (is_at at) xs ys ∙ rw (fi
 
 none_in_front : (xs ys : List (At × Entry)) (at : At) → list_any (is_at at) (xs ++ ys) ≡ false → list_any (is_at at) xs ≡ false
 none_in_front xs ys at none = (or_parts (list_any (is_at at) xs) (list_any (is_at at) ys) (sym (list_any-append (is_at at) xs ys) ∙ none)).0
-
--- a place without room has no key
-key_at-past : (schedule : ScheduleState) (at : At) → length schedule.keys ≤ at.0 → key_at schedule.keys at ≡ None
-key_at-past schedule at past = get_or_past schedule.keys at.0 None past
 
 module _ (n : ℕ) (entries : List (At × Entry)) (left right : At) (it : AreSideBySide entries left right) (apart : AreApart entries)
     (old : ScheduleState) (keyed : IsKeyed n entries old) where
@@ -94,17 +89,32 @@ module _ (n : ℕ) (entries : List (At × Entry)) (left right : At) (it : AreSid
       (none_in_both it.before ((left, joined_entry it.window it.next) ∷ it.rest) right before
       (list_any-cons_false (is_at right) (left, joined_entry it.window it.next) it.rest at_left one))
 
+  -- there is room for both, and for those behind them
+  room-split : AreBelow (length old.keys) it.before × AreBelow (length old.keys) ((left, it.window) ∷ (right, it.next) ∷ it.rest)
+  room-split = AreBelow-parts (length old.keys) it.before _ (subst (λ (es : List (At × Entry)). AreBelow (length old.keys) es) it.is keyed.room)
+
+  pub room-right : right.0 < length old.keys
+  room-right = room-split.1.1.0
+
+  pub room-left : left.0 < length old.keys
+  room-left = room-split.1.0
+
   -- the key of the one behind, after the other two were put
   pub record IsNextPut (two three : ScheduleState) : Type 0 where
-    pub here : (at : At) → is_first at it.rest ≡ true → IsKeyOf (lengths three) n (pair_at joined at) (key_at three.keys at)
-    pub others : (at : At) (found : Option Pair) → is_first at it.rest ≡ false → IsKeyOf (lengths two) n found (key_at two.keys at) →
-        IsKeyOf (lengths three) n found (key_at three.keys at)
+    pub here : (at : At) → is_first at it.rest ≡ true → IsKeyOf (merge_rule three) n (pair_at joined at) (key_at three.keys at)
+    pub others : (at : At) (found : Option Pair) → is_first at it.rest ≡ false → IsKeyOf (merge_rule two) n found (key_at two.keys at) →
+        IsKeyOf (merge_rule three) n found (key_at three.keys at)
+    pub room : length three.keys ≡ length two.keys
 
   pub IsKeyed-joined : (one two three : ScheduleState) → PutsKey old one n right None → PutsKey one two n left (pair_at joined left) →
       IsNextPut two three → IsKeyed n joined three
   IsKeyed-joined one two three first second third = record {
     few = keyed.few;
     follow = follow-joined;
+    room =
+        let same : length three.keys ≡ length old.keys = third.room ∙ second.room ∙ first.room in
+        subst (λ (room : ℕ). AreBelow room joined) (sym same)
+        (AreBelow-append (length old.keys) it.before ((left, joined_entry it.window it.next) ∷ it.rest) room-split.0 (room-left, room-split.1.1.1));
     keys = λ at. elim (cases_Bool (is_first at it.rest)) [
       | inl is_next ↦ third.here at is_next
       | inr not_next ↦ third.others at (pair_at joined at) not_next (elim (cases_Bool (is_at at (left, it.window))) [
@@ -124,6 +134,7 @@ module _ (n : ℕ) (entries : List (At × Entry)) (left right : At) (it : AreSid
   IsNextPut-none two none = record {
     here = λ at is. absurd (both_ways (is_first at it.rest) (ap (is_first at) none) is);
     others = λ at found other is. is;
+    room = refl;
   }
 
   pub IsNextPut-some : (two three : ScheduleState) (x : At × Entry) (xs : List (At × Entry)) → it.rest ≡ x ∷ xs →
@@ -133,60 +144,8 @@ module _ (n : ℕ) (entries : List (At × Entry)) (left right : At) (it : AreSid
         let here : is_at at x ≡ true = sym (ap (is_first at) is) ∙ first in
         put-here two three n x.0 _ put at x.1 (pair_at joined at) here (ap (pair_at joined) (sym (same_place at x here)));
     others = λ at found other was. put-other two three n x.0 _ put at x.1 found (sym (ap (is_first at) is) ∙ other) was;
+    room = put.room;
   }
-
-  -- where there is no room for the key of the left one or of the one behind, its pair never fits
-  order-joined : (it.window.last ≤ it.next.last) × (it.window.first ≤ it.next.first)
-  order-joined =
-      let positions = FollowUpTo-seam n it.before (left, it.window) (right, it.next) it.rest follow-split in
-      let one = positions.0 in
-      let two = positions.1 in
-      let three = positions.2 in
-      (omega arith, omega arith)
-
-  never-left : (before : List (At × Entry)) → Ends before → before ≡ it.before → key_at old.keys left ≡ None →
-      IsKeyOf (lengths old) n (pair_at (before ++ (left, joined_entry it.window it.next) ∷ it.rest) left) None
-  never-left _ without_last is none =
-      let alone = apart-behind it.before left it.window ((right, it.next) ∷ it.rest) apart-split in
-      let rest = (or_parts (is_at left (right, it.next)) _ alone).1 in
-      pair-none rest
-    where
-      pair-none : list_any (is_at left) it.rest ≡ false → IsKeyOf (lengths old) n (pair_among (left, joined_entry it.window it.next) it.rest left) None
-      pair-none rest = rw (pair_among-absent (left, joined_entry it.window it.next) it.rest left rest) refl
-  never-left _ (with_last front x) is none =
-      let once : list_any (is_at left) (front ++ x ∷ []) ≡ false = ap (list_any (is_at left)) is ∙ it.left_once in
-      let was : pair_at entries left ≡ Some (pair_of x (left, it.window)) = ap (λ es. pair_at es left) it.is
-      ∙ ap (λ (es : List (At × Entry)). pair_at (es ++ (left, it.window) ∷ (right, it.next) ∷ it.rest) left) (sym is)
-      ∙ ap (λ es. pair_at es left) (append_assoc front (x ∷ []) ((left, it.window) ∷ (right, it.next) ∷ it.rest))
-      ∙ pair_at-seam front x left it.window ((right, it.next) ∷ it.rest) once in
-      let now : pair_at ((front ++ x ∷ []) ++ (left, joined_entry it.window it.next) ∷ it.rest) left ≡
-      Some (pair_of x (left, joined_entry it.window it.next)) =
-      ap (λ es. pair_at es left) (append_assoc front (x ∷ []) ((left, joined_entry it.window it.next) ∷ it.rest))
-      ∙ pair_at-seam front x left (joined_entry it.window it.next) it.rest once in
-      let key : IsKeyOf (lengths old) n (Some (pair_of x (left, it.window))) None =
-      subst (λ (k : Option (At × ℕ)). IsKeyOf (lengths old) n (Some (pair_of x (left, it.window))) k) none
-      (subst (λ (o : Option Pair). IsKeyOf (lengths old) n o (key_at old.keys left)) was (keyed.keys left)) in
-      rw now (NeverFit-among (lengths old) x.1.first it.window.last x.1.first it.next.last n (omega arith) order-joined.0 key)
-
-  pub no-room-left : (one : ScheduleState) → PutsKey old one n right None → length one.keys ≤ left.0 →
-      IsKeyOf (lengths one) n (pair_at joined left) None
-  no-room-left one first past =
-      subst (λ len. IsKeyOf len n (pair_at joined left) None) (sym (len-kept old one n right None first))
-      (never-left it.before (ends it.before) refl (key_at-past old left (omega (arith, past, first.room))))
-
-  pub no-room-next : (two : ScheduleState) (x : At × Entry) (xs : List (At × Entry)) → it.rest ≡ x ∷ xs → lengths two ≡ lengths old →
-      length two.keys ≡ length old.keys →
-      length two.keys ≤ x.0.0 → NeverFit (lengths two) (joined_entry it.window it.next).first x.1.last n
-  no-room-next two x xs is len room past =
-      let there : entries ≡ (it.before ++ (left, it.window) ∷ []) ++ (right, it.next) ∷ x ∷ xs = it.is
-      ∙ ap (λ (es : List (At × Entry)). it.before ++ (left, it.window) ∷ (right, it.next) ∷ es) is
-      ∙ sym (append_assoc it.before ((left, it.window) ∷ []) ((right, it.next) ∷ x ∷ xs)) in
-      let was = pair_at-neighbours entries apart (it.before ++ (left, it.window) ∷ []) (right, it.next) x.0 x.1 xs there in
-      let key : IsKeyOf (lengths old) n (Some (pair_of (right, it.next) x)) None =
-      subst (λ (k : Option (At × ℕ)). IsKeyOf (lengths old) n (Some (pair_of (right, it.next) x)) k) (key_at-past old x.0 (omega (arith, past, room)))
-      (subst (λ (o : Option Pair). IsKeyOf (lengths old) n o (key_at old.keys x.0)) was (keyed.keys x.0)) in
-      subst (λ len. NeverFit len it.window.first x.1.last n) (sym len)
-      (NeverFit-among (lengths old) it.next.first x.1.last it.window.first x.1.last n order-joined.1 (omega arith) key)
 
   -- the pair of the new entry and the one behind it
   pub pair-next : AreApart joined → (x : At × Entry) (xs : List (At × Entry)) → it.rest ≡ x ∷ xs →
@@ -197,12 +156,6 @@ module _ (n : ℕ) (entries : List (At × Entry)) (left right : At) (it : AreSid
 
   -- the line as the join leaves it
   module _ (line : List (At × Entry)) (line_is : line ≡ it.before ++ (left, joined_entry it.window it.next) ∷ it.rest) where
-    pub room-left : (one : ScheduleState) (found : Option Pair) → PutsKey old one n right None → found ≡ pair_at line left →
-        length one.keys ≤ left.0 →
-        IsKeyOf (lengths one) n found None
-    room-left one found first is past =
-        subst (λ (o : Option Pair). IsKeyOf (lengths one) n o None) (sym (is ∙ ap (λ es. pair_at es left) line_is)) (no-room-left one first past)
-
     pub span-left : (found : Option Pair) → found ≡ pair_at line left → IfSome found (IsSpan n)
     span-left found is = spans n joined left found follow-joined (is ∙ ap (λ es. pair_at es left) line_is)
 
@@ -247,13 +200,10 @@ module _ (n : ℕ) (entries : List (At × Entry)) (left right : At) (it : AreSid
         }
 
     module _ (pair : Pair) (next : IsNext pair) where
-      pub room-next : (one two : ScheduleState) (found : Option Pair) → PutsKey old one n right None → PutsKey one two n left found →
-          length two.keys ≤ pair.right.0 → NeverFit (lengths two) pair.first pair.last n
-      room-next one two found first second past =
-          let len = len-kept one two n left found second ∙ len-kept old one n right None first in
-          let never = no-room-next two next.entry next.further next.is len (second.room ∙ first.room)
-          (omega (arith, past, ap (λ (a : At). a.0) next.place)) in
-          subst (λ (p : Pair). NeverFit (lengths two) p.first p.last n) (sym next.pair_is) never
+      pub room-next : pair.right.0 < length old.keys
+      room-next =
+          let rest = subst (λ (es : List (At × Entry)). AreBelow (length old.keys) es) next.is room-split.1.1.1 in
+          subst (λ (a : At). a.0 < length old.keys) next.place rest.0
 
       pub span-next : pair_at line pair.right ≡ Some pair → IsSpan n pair
       span-next is = IsSpan-pair n joined pair.right pair follow-joined (sym (ap (λ es. pair_at es pair.right) line_is) ∙ is)

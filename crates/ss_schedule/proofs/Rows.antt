@@ -1,9 +1,9 @@
 -- Worked rows: a line of three, at the places 2, 0 and 1.
 use Rattle.std.proofs.Common.{◌≡◌, ◌-◌, ◌*◌, ◌^◌, ℕ, List, [], ◌∷◌, Option, Some, None, arith, refl, lit≤}
-use Rattle.ss_catalog.specs.declared.params.Params.TheVariants.{Exp}
+use Rattle.ss_catalog.specs.Params.{exp as Exp}
 use Rattle.ss_line.specs.declared.entry.At.{At}
 use Rattle.ss_line.specs.declared.entry.Entry.{Entry}
-use Rattle.ss_target.specs.Lengths.{lengths_of}
+use Rattle.ss_target.specs.Rule.{rule_of}
 use Rattle.ss_windowing.specs.Windowing.{window_index}
 use Rattle.std.proofs.lemmas.Bool.{both_ways}
 use Rattle.ss_schedule.specs.Keyed.{FollowUpTo, key_at}
@@ -22,10 +22,10 @@ line = (place 2, window 1 4 9) ∷ (place 0, window 5 6 3) ∷ (place 1, window 
 pub pair_at-first : pair_at line (place 2) ≡ None
 pair_at-first = refl
 
-pub pair_at-second : pair_at line (place 0) ≡ Some (record { left = place 2; right = place 0; first = 1; last = 6 })
+pub pair_at-second : pair_at line (place 0) ≡ Some (record { left = place 2; right = place 0; first = 1; last = 6; t_first = 10; t_last = 60 })
 pair_at-second = refl
 
-pub pair_at-last : pair_at line (place 1) ≡ Some (record { left = place 0; right = place 1; first = 5; last = 7 })
+pub pair_at-last : pair_at line (place 1) ≡ Some (record { left = place 0; right = place 1; first = 5; last = 7; t_first = 50; t_last = 70 })
 pair_at-last = refl
 
 pub pair_at-none : pair_at line (place 3) ≡ None
@@ -71,17 +71,29 @@ pub follow-empty : ¬ FollowUpTo 9 ((place 0, window 5 4 9) ∷ [])
 follow-empty h = let some = h.1.1 in omega arith
 
 -- windows of 1, 2 and 4 values are those of a doubling target, but not after one value more
-pub fits-none : NoPairFits (lengths_of (Exp 2 1 1)) 7 line
+pub fits-none : NoPairFits (rule_of (Exp 2 1 1)) 7 line
 unfolding window_index
 fits-none = (refl, (refl, tt))
 
-pub fits-second : ¬ NoPairFits (lengths_of (Exp 2 1 1)) 3 ((place 0, window 1 1 9) ∷ (place 1, window 2 2 9) ∷ (place 2, window 3 3 9) ∷ [])
+pub fits-second : ¬ NoPairFits (rule_of (Exp 2 1 1)) 3 ((place 0, window 1 1 9) ∷ (place 1, window 2 2 9) ∷ (place 2, window 3 3 9) ∷ [])
 unfolding window_index
 fits-second h = both_ways _ h.0 refl
 
-pub fits-last : ¬ NoPairFits (lengths_of (Exp 2 1 1)) 9 ((place 0, window 1 6 9) ∷ (place 1, window 7 7 9) ∷ (place 2, window 8 8 9) ∷ [])
+pub fits-last : ¬ NoPairFits (rule_of (Exp 2 1 1)) 9 ((place 0, window 1 6 9) ∷ (place 1, window 7 7 9) ∷ (place 2, window 8 8 9) ∷ [])
 unfolding window_index
 fits-last h = both_ways _ h.1.0 refl
+
+-- 50 and 60 lie in two steps of 60
+pub fits-apart : NoPairFits (rule_of (record { family = (Exp 2 1 1).family; within = Some 60 })) 7
+    ((place 0, window 1 4 9) ∷ (place 1, window 5 5 9) ∷ (place 2, window 6 6 9) ∷ [])
+unfolding window_index
+fits-apart = (refl, (refl, tt))
+
+-- and in one step of 61
+pub fits-together : ¬ NoPairFits (rule_of (record { family = (Exp 2 1 1).family; within = Some 61 })) 7
+    ((place 0, window 1 4 9) ∷ (place 1, window 5 5 9) ∷ (place 2, window 6 6 9) ∷ [])
+unfolding window_index
+fits-together h = both_ways _ h.1.0 refl
 
 -- the count that stands for none is past every count
 pub NEVER-is : NEVER ≡ 2 ^ 64 - 1

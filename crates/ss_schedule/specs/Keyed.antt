@@ -1,9 +1,9 @@
 -- When each pair of neighbours first fits, by the place of the right one.
-use Rattle.std.specs.Prelude.{◌≡◌, ◌≢◌, ℕ, ◌+◌, ◌≤◌, List, [], ◌∷◌, length, Option, Some, None, ⊤}
+use Rattle.std.specs.Prelude.{◌≡◌, ◌≢◌, ℕ, ◌+◌, ◌≤◌, ◌<◌, true, List, [], ◌∷◌, length, Option, Some, None, ⊤}
 use Rattle.std.specs.List.{slice_index_or}
 use Rattle.ss_line.specs.declared.entry.At.{At}
 use Rattle.ss_line.specs.declared.entry.Entry.{Entry}
-use Rattle.ss_target.specs.Lengths.{lengths_of}
+use Rattle.ss_target.specs.Rule.{Rule, in_step, rule_of}
 use Rattle.ss_target.specs.Targets.{params_of}
 use Rattle.ss_target.specs.declared.target.Target.{Target}
 use Rattle.ss_windowing.specs.FirstFit.{IsFirstFit}
@@ -26,21 +26,31 @@ key_at keys at = slice_index_or keys at.0 None
 abbrev pub NeverFit : (ℕ → ℕ) → ℕ → ℕ → ℕ → Type 0
 NeverFit len l r n = (m : ℕ) → n ≤ m → m ≤ MOST_VALUES → ¬ Fits len l r m
 
--- the key names the left neighbour, and the count from n on at which the two first lie in one target window
-pub record IsFirstKey (len : ℕ → ℕ) (n : ℕ) (pair : Pair) (key : At × ℕ) : Type 0 where
+-- the two lie in one step of the clock
+abbrev pub AreInStep : Rule → Pair → Type 0
+AreInStep rule pair = in_step rule.step pair.t_first pair.t_last ≡ true
+
+-- the key names the left neighbour, and the count from n on at which the two, which lie in one step, first lie in one target window
+pub record IsFirstKey (rule : Rule) (n : ℕ) (pair : Pair) (key : At × ℕ) : Type 0 where
   pub left : key.0 ≡ pair.left
-  pub first : IsFirstFit len pair.first pair.last n key.1
+  pub together : AreInStep rule pair
+  pub first : IsFirstFit rule.lengths pair.first pair.last n key.1
   pub few : key.1 ≤ MOST_VALUES
 
--- what the key has to be where this pair has its right one: there is none without a pair, and for a pair that never fits
-abbrev pub IsKeyOf : (ℕ → ℕ) → ℕ → Option Pair → Option (At × ℕ) → Type 0
-IsKeyOf len n None key = key ≡ None
-IsKeyOf len n (Some pair) None = NeverFit len pair.first pair.last n
-IsKeyOf len n (Some pair) (Some key) = IsFirstKey len n pair key
+-- what the key has to be where this pair has its right one: there is none without a pair, and for a pair that lies apart or never fits
+abbrev pub IsKeyOf : Rule → ℕ → Option Pair → Option (At × ℕ) → Type 0
+IsKeyOf rule n None key = key ≡ None
+IsKeyOf rule n (Some pair) None = AreInStep rule pair → NeverFit rule.lengths pair.first pair.last n
+IsKeyOf rule n (Some pair) (Some key) = IsFirstKey rule n pair key
 
--- the window lengths of the target of a schedule
-abbrev pub lengths : ScheduleState → ℕ → ℕ
-lengths schedule = lengths_of (params_of schedule.target)
+-- the merge rule of the target of a schedule
+abbrev pub merge_rule : ScheduleState → Rule
+merge_rule schedule = rule_of (params_of schedule.target)
+
+-- each entry stands at a place below this one
+abbrev pub AreBelow : ℕ → List (At × Entry) → Type 0
+AreBelow room [] = ⊤
+AreBelow room (entry ∷ entries) = (entry.0.0 < room) × AreBelow room entries
 
 -- the positions of entries follow one another from this one on, and end at or below n
 abbrev pub TileUpTo : ℕ → ℕ → List (At × Entry) → Type 0
@@ -53,16 +63,17 @@ abbrev pub FollowUpTo : ℕ → List (At × Entry) → Type 0
 FollowUpTo n [] = ⊤
 FollowUpTo n (entry ∷ entries) = (1 ≤ entry.1.first) × TileUpTo n entry.1.first (entry ∷ entries)
 
--- The schedule is keyed at n for these entries: their positions follow one another and end at or below n, and it has for each pair
--- of neighbours when it first fits, seen at n, and no other key.
+-- The schedule is keyed at n for these entries: their positions follow one another and end at or below n, it has room for their places,
+-- and for each pair of neighbours when it first fits, seen at n, and no other key.
 pub record IsKeyed (n : ℕ) (entries : List (At × Entry)) (schedule : ScheduleState) : Type 0 where
   pub few : n ≤ MOST_VALUES
   pub follow : FollowUpTo n entries
-  pub keys : (at : At) → IsKeyOf (lengths schedule) n (pair_at entries at) (key_at schedule.keys at)
+  pub room : AreBelow (length schedule.keys) entries
+  pub keys : (at : At) → IsKeyOf (merge_rule schedule) n (pair_at entries at) (key_at schedule.keys at)
 
 -- a key was put at a place: the one that it has to have where this pair has its right one
 pub record PutsKey (old new : ScheduleState) (n : ℕ) (at : At) (pair : Option Pair) : Type 0 where
-  pub here : IsKeyOf (lengths new) n pair (key_at new.keys at)
+  pub here : IsKeyOf (merge_rule new) n pair (key_at new.keys at)
   pub others : (other : At) → other.0 ≢ at.0 → key_at new.keys other ≡ key_at old.keys other
   pub room : length new.keys ≡ length old.keys
   pub target : new.target ≡ old.target

@@ -1,15 +1,15 @@
 -- Pairs of neighbours in a line.
-use Rattle.std.specs.Prelude.{◌≡◌, ℕ, ◌≤◌, false, if◌then◌else◌, List, [], ◌∷◌, ◌++◌, Option, Some, None, ⊤}
+use Rattle.std.specs.Prelude.{◌≡◌, ℕ, ◌≤◌, Bool, false, if◌then◌else◌, List, [], ◌∷◌, ◌++◌, Option, Some, None, ⊤}
 use Rattle.std.specs.List.{list_any}
 use Rattle.ss_line.specs.Line.{is_at}
 use Rattle.ss_line.specs.declared.entry.At.{At}
 use Rattle.ss_line.specs.declared.entry.Entry.{Entry}
-use Rattle.ss_windowing.specs.Windowing.{fits}
+use Rattle.ss_target.specs.Rule.{Rule, may_be_one}
 use Rattle.ss_schedule.specs.declared.pair.Pair.{Pair}
 
--- two neighbours: their places, and the positions that they have together
+-- two neighbours: their places, the positions that they have together, and the times of the first and the last
 abbrev pub pair_of : At × Entry → At × Entry → Pair
-pair_of left right = record { left = left.0; right = right.0; first = left.1.first; last = right.1.last }
+pair_of left right = record { left = left.0; right = right.0; first = left.1.first; last = right.1.last; t_first = left.1.t_first; t_last = right.1.t_last }
 
 -- the pair of neighbours whose right one stands at this place, among entries behind this one; none if none of them stands there
 abbrev pub pair_among : At × Entry → List (At × Entry) → At → Option Pair
@@ -27,11 +27,15 @@ pub record IsSpan (n : ℕ) (pair : Pair) : Type 0 where
   pub order : pair.first ≤ pair.last
   pub taken : pair.last ≤ n
 
--- of two neighbours none lie together in one target window at n
-abbrev pub NoPairFits : (ℕ → ℕ) → ℕ → List (At × Entry) → Type 0
-NoPairFits len n [] = ⊤
-NoPairFits len n (entry ∷ []) = ⊤
-NoPairFits len n (left ∷ right ∷ entries) = (fits len left.1.first right.1.last n ≡ false) × NoPairFits len n (right ∷ entries)
+-- whether a pair may be one window at n
+abbrev pub may_join : Rule → ℕ → Pair → Bool
+may_join rule n pair = may_be_one rule pair.first pair.last n pair.t_first pair.t_last
+
+-- of two neighbours none may be one window at n
+abbrev pub NoPairFits : Rule → ℕ → List (At × Entry) → Type 0
+NoPairFits rule n [] = ⊤
+NoPairFits rule n (entry ∷ []) = ⊤
+NoPairFits rule n (left ∷ right ∷ entries) = (may_join rule n (pair_of left right) ≡ false) × NoPairFits rule n (right ∷ entries)
 
 -- two entries stand side by side in a line, and no entry before them has a place of theirs
 pub record AreSideBySide (entries : List (At × Entry)) (left right : At) : Type 0 where
@@ -48,6 +52,8 @@ pub record IsPairIn (entries : List (At × Entry)) (pair : Pair) : Type 0 where
   pub neighbours : AreSideBySide entries pair.left pair.right
   pub first : pair.first ≡ neighbours.window.first
   pub last : pair.last ≡ neighbours.next.last
+  pub t_first : pair.t_first ≡ neighbours.window.t_first
+  pub t_last : pair.t_last ≡ neighbours.next.t_last
 
 -- two entries as one, in the slot of the first
 abbrev pub joined_entry : Entry → Entry → Entry

@@ -1,7 +1,7 @@
 // What an append does with a schedule.
 ghost use Rattle.std.specs.Prelude.{◌≡◌, ◌+◌, ◌*◌, ◌≤◌, ◌<◌, length, take};
 ghost use Rattle.ss_line.specs.Line.{StandsIn, index_of};
-ghost use Rattle.ss_schedule.specs.Keyed.{FollowUpTo, IsKeyed, lengths};
+ghost use Rattle.ss_schedule.specs.Keyed.{FollowUpTo, IsKeyed, merge_rule};
 ghost use Rattle.ss_schedule.specs.Pairs.{NoPairFits};
 
 use crate::Schedule;
@@ -19,7 +19,7 @@ pub fn merge_due<L: Ledger>(
 ) -> u32
     requires { IsKeyed n line.old.entries schedule.old }
     ensures keyed { IsKeyed n line.new.entries schedule.new }
-    ensures none { NoPairFits (lengths schedule.new) n line.new.entries }
+    ensures none { NoPairFits (merge_rule schedule.new) n line.new.entries }
     ensures fewer { length line.new.entries + result ≡ length line.old.entries }
     ensures target { schedule.new.target ≡ schedule.old.target }
     ensures looks { steps.new ≤ steps.old + 8 * result }
@@ -48,7 +48,7 @@ pub fn take_up_last<L: Ledger>(
     requires keyed { IsKeyed n (take (index_of line.old.entries at) line.old.entries) schedule.old }
     requires follow { FollowUpTo n line.old.entries }
     ensures keyed { IsKeyed n line.new.entries schedule.new }
-    ensures none { NoPairFits (lengths schedule.new) n line.new.entries }
+    ensures none { NoPairFits (merge_rule schedule.new) n line.new.entries }
     ensures fewer { length line.new.entries + result ≡ length line.old.entries }
     ensures target { schedule.new.target ≡ schedule.old.target }
     ensures looks { steps.new ≤ steps.old + 4 + 8 * result }

@@ -48,13 +48,6 @@ impl Keys {
         }
     }
 
-    /// How many places there is room for.
-    pub fn room(&self) -> u32
-        ensures { result ≡ length self.now }
-    {
-        self.keys.len() as u32
-    }
-
     // Room for one place more, which has no key.
     fn add_place(&mut self) -> Result<(), AllocError>
         requires { length self.old < MOST_PLACES }

@@ -4,13 +4,13 @@ ghost use Rattle.ss_line.specs.declared.entry.At.{At};
 ghost use Rattle.ss_line.specs.declared.entry.Entry.{Entry};
 ghost use Rattle.ss_line.specs.Line.{StandsIn, index_of};
 ghost use Rattle.ss_windowing.specs.declared.decay.TheConstants.{MOST_VALUES};
-ghost use Rattle.ss_schedule.specs.Keyed.{IsKeyed, ScheduleState, lengths};
+ghost use Rattle.ss_schedule.specs.Keyed.{IsKeyed, ScheduleState, merge_rule};
 ghost use Rattle.ss_schedule.specs.Pairs.{NoPairFits};
 
 /// A schedule that is keyed at a count at which no pair fits is keyed at the next count as well.
 pub fn keyed_at_the_next_count()
     ensures { (n : ℕ) (entries : List (At × Entry)) (schedule : ScheduleState) → n < MOST_VALUES → IsKeyed n entries schedule
-        → NoPairFits (lengths schedule) n entries → IsKeyed (n + 1) entries schedule }
+        → NoPairFits (merge_rule schedule) n entries → IsKeyed (n + 1) entries schedule }
 {}
 
 /// An entry that is pushed at a place that didn't stand in the line is the last one of the line.

@@ -7,14 +7,16 @@ use ss_line::{At, Entry, Line};
 use ss_steps::Steps;
 use std::sync::ledger::Ledger;
 
-/// Two neighbours in a line: the places of the left and of the right one, and the positions of the first and the last
-/// value that they have together, counted from 1.
+/// Two neighbours in a line: the places of the left and of the right one, and the positions, counted from 1, and the times
+/// of the first and the last value that they have together.
 #[derive(Clone, Copy, Debug, PartialEq, Eq)]
 pub struct Pair {
     pub left: At,
     pub right: At,
     pub first: u64,
     pub last: u64,
+    pub t_first: u64,
+    pub t_last: u64,
 }
 
 /// The pair of the entry before the one at a place and that one, if there is one before it.
@@ -34,12 +36,14 @@ pub fn pair_before<L: Ledger>(
 {
     let _len = line.len();
     let left = before?;
-    let first = line.get(left, steps).first;
+    let window = line.get(left, steps);
     Some(Pair {
         left,
         right: at,
-        first,
+        first: window.first,
         last: entry.last,
+        t_first: window.t_first,
+        t_last: entry.t_last,
     })
 }
 
@@ -61,12 +65,14 @@ pub fn pair_behind<L: Ledger>(
 {
     let _len = line.len();
     let right = behind?;
-    let last = line.get(right, steps).last;
+    let next = line.get(right, steps);
     Some(Pair {
         left: at,
         right,
         first: entry.first,
-        last,
+        last: next.last,
+        t_first: entry.t_first,
+        t_last: next.t_last,
     })
 }
 

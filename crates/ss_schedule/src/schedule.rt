@@ -10,9 +10,9 @@ use std::alloc::{AllocError, Global};
 use std::marker::Model;
 use std::sync::ledger::Ledger;
 
-/// For each pair of neighbours in a line, the count of values at which the two first lie in one target window. So whether
-/// some pair does at a count is known without a look at the line, and an entry more or two that are joined change at most
-/// three pairs. docs/DEFINITIONS.md ("First fits") says when a pair first fits.
+/// For each pair of neighbours in a line that lies in one step of the clock, the count of values at which the two first lie in one
+/// target window. So whether some pair may be one window at a count is known without a look at the line, and an entry more or two
+/// that are joined change at most three pairs. docs/DEFINITIONS.md ("First fits") says when a pair first fits.
 #[derive(Drop)]
 pub struct Schedule {
     target: Target,
@@ -34,11 +34,10 @@ impl Schedule {
     ghost use Rattle.ss_line.specs.declared.entry.At.{At};
     ghost use Rattle.ss_line.specs.declared.entry.Entry.{Entry};
     ghost use Rattle.ss_line.specs.Line.{StandsIn, index_of};
-    ghost use Rattle.ss_windowing.specs.Windowing.{fits};
     ghost use Rattle.ss_schedule.specs.declared.pair.Pair.{Pair};
     ghost use Rattle.ss_schedule.specs.Held.{fit_of};
-    ghost use Rattle.ss_schedule.specs.Keyed.{FollowUpTo, IsKeyOf, IsKeyed, PutsKey, key_at, lengths};
-    ghost use Rattle.ss_schedule.specs.Pairs.{AreSideBySide, IsPairIn, IsSpan, NoPairFits, joined_entry};
+    ghost use Rattle.ss_schedule.specs.Keyed.{FollowUpTo, IsKeyOf, IsKeyed, PutsKey, key_at, merge_rule};
+    ghost use Rattle.ss_schedule.specs.Pairs.{AreSideBySide, IsPairIn, IsSpan, NoPairFits, joined_entry, may_join};
 
     /// A schedule for this target, keyed for no entries, with no room.
     pub fn new(alloc: Global, target: Target) -> Schedule
@@ -66,29 +65,30 @@ impl Schedule {
         self.keys.reserve(places)
     }
 
-    // The key of a pair, seen at n; none without a pair.
+    // The key of a pair, seen at n; none without a pair, and for one that lies in two steps of the clock.
     fn key_of(&self, pair: Option<Pair>, n: u64) -> Option<(At, u64)>
         requires span { IfSome pair (IsSpan n) }
         requires few { n ≤ MOST_VALUES }
-        ensures key { IsKeyOf (lengths self.now) n pair result }
+        ensures key { IsKeyOf (merge_rule self.now) n pair result }
         ensures early { fit_of result ≤ NEVER }
     {
         let pair = pair?;
+        if !self.target.in_step(pair.t_first, pair.t_last) {
+            return None;
+        }
         let fit = self.target.first_fit(pair.first, pair.last, n)?;
         Some((pair.left, fit))
     }
 
-    // Puts the key of a pair, seen at n, at a place. There is room for it, or it has no key.
+    // Puts the key of a pair, seen at n, at a place.
     fn put(&mut self, at: At, pair: Option<Pair>, n: u64)
-        requires room { length self.old.keys ≤ at.0 → IsKeyOf (lengths self.old) n pair None }
+        requires room { at.0 < length self.old.keys }
         requires span { IfSome pair (IsSpan n) }
         requires few { n ≤ MOST_VALUES }
         ensures { PutsKey self.old self.new n at pair }
     {
         let key = self.key_of(pair, n);
-        if at.0 < self.keys.room() {
-            self.keys.set(at, key);
-        }
+        self.keys.set(at, key);
     }
 
     /// Takes up the entry at a place, when n values are held: it is the next one of the line after those that the schedule
@@ -110,32 +110,34 @@ impl Schedule {
         self.put(at, previous, n);
     }
 
-    /// A pair of neighbours that lies in one target window when n values are held. None says that there is none, without a
+    /// A pair of neighbours that may be one window when n values are held. None says that there is none, without a
     /// look at the line; otherwise there are at most 2.
     pub fn due<L: Ledger>(&self, line: &Line, n: u64, steps: &mut Steps<L>) -> Option<Pair>
         requires { IsKeyed n line.now.entries self.now }
         ensures pair { IfSome result (IsPairIn line.now.entries) }
-        ensures fits { IfSome result (λ pair. fits (lengths self.now) pair.first pair.last n ≡ true) }
-        ensures none { IfNone result (NoPairFits (lengths self.now) n line.now.entries) }
+        ensures fits { IfSome result (λ pair. may_join (merge_rule self.now) n pair ≡ true) }
+        ensures none { IfNone result (NoPairFits (merge_rule self.now) n line.now.entries) }
         ensures looks { MatchOption result (steps.new ≡ steps.old) (λ _. steps.new ≤ steps.old + 2) }
     {
         let _len = line.len();
         let (right, left) = self.keys.least_by(n)?;
-        let first = line.get(left, steps).first;
-        let last = line.get(right, steps).last;
+        let window = line.get(left, steps);
+        let next = line.get(right, steps);
         Some(Pair {
             left,
             right,
-            first,
-            last,
+            first: window.first,
+            last: next.last,
+            t_first: window.t_first,
+            t_last: next.t_last,
         })
     }
 
-    /// Joins two neighbours that lie in one target window when n values are held: the left one takes the last position of
+    /// Joins two neighbours that may be one window when n values are held: the left one takes the last position of
     /// the right one, which is cut out of the line, and the keys follow. At most 6 looks at the line.
     pub fn merged<L: Ledger>(&mut self, line: &mut Line, pair: Pair, n: u64, steps: &mut Steps<L>)
         requires neighbours { IsPairIn line.old.entries pair }
-        requires fits { fits (lengths self.old) pair.first pair.last n ≡ true }
+        requires fits { may_join (merge_rule self.old) n pair ≡ true }
         requires keyed { IsKeyed n line.old.entries self.old }
         ensures joined { (it : AreSideBySide line.old.entries pair.left pair.right)
             → line.new.entries ≡ it.before ++ (pair.left, joined_entry it.window it.next) ∷ it.rest }

@@ -1,15 +1,15 @@
 // Lines in use with a schedule of their merges, beside the plain rule: as long as some two neighbours lie together in one
-// target window, join them.
+// target window, and in one step of the clock, join them.
 ghost use Rattle.std.specs.Prelude.{◌≡◌, ◌+◌, ◌≤◌, ◌<◌, ◌∷◌, ◌++◌, [], ℕ, true, length, take, IfOk, IfSome, IfNone};
 ghost use Rattle.ss_line.specs.Line.{StandsIn, index_of};
 ghost use Rattle.ss_line.specs.declared.entry.At.{At};
 ghost use Rattle.ss_line.specs.declared.entry.Entry.{Entry};
-ghost use Rattle.ss_schedule.specs.Keyed.{FollowUpTo, IsKeyed, lengths};
+ghost use Rattle.ss_schedule.specs.Keyed.{FollowUpTo, IsKeyed, merge_rule};
 ghost use Rattle.ss_schedule.specs.Pairs.{NoPairFits};
 ghost use Rattle.ss_steps.specs.Steps.{IsFresh};
 
 use super::target::are_positions;
-use ss_catalog::Params;
+use ss_catalog::{Family, Params};
 use ss_line::{At, Entry, Line, MOST_PLACES};
 use ss_schedule::{
     Schedule, keyed_at_the_next_count, merge_due, take_up_last, the_last_one_pushed,
@@ -105,9 +105,9 @@ fn append<L: Ledger>(
 ) -> Result<bool, AllocError>
     requires few { n < MOST_VALUES }
     requires keyed { IsKeyed n line.old.entries schedule.old }
-    requires none { NoPairFits (lengths schedule.old) n line.old.entries }
+    requires none { NoPairFits (merge_rule schedule.old) n line.old.entries }
     ensures keyed { IfOk result (λ did. did ≡ true → IsKeyed (n + 1) line.new.entries schedule.new) }
-    ensures none { IfOk result (λ did. did ≡ true → NoPairFits (lengths schedule.new) (n + 1) line.new.entries) }
+    ensures none { IfOk result (λ did. did ≡ true → NoPairFits (merge_rule schedule.new) (n + 1) line.new.entries) }
 {
     keyed_at_the_next_count();
     let Some(at) = put_last(line, schedule, 1, n + 1, steps)? else {
@@ -117,14 +117,15 @@ fn append<L: Ledger>(
     Ok(true)
 }
 
-// The index of the right one of the first two windows that lie together in one target window after n values.
+// The index of the right one of the first two windows that lie together in one target window after n values, and in one step.
 fn first_due(target: Target, windows: &[(u64, u64)], n: u64) -> Option<usize>
     ensures { IfSome result (λ k. (1 ≤ k) × (k < length windows.now)) }
 {
     for k in 1..windows.len() {
         let first = windows[k - 1].0;
         let last = windows[k].1;
-        if are_positions(first, last, n) && target.fits(first, last, n) {
+        let together = target.in_step(time_of(first), time_of(last));
+        if together && are_positions(first, last, n) && target.fits(first, last, n) {
             return Some(k);
         }
     }
@@ -233,10 +234,11 @@ fn agrees<L: Ledger>(alloc: Global, blank: Blank, row: &Row) -> Result<bool, All
     requires { IsFresh L.name L.parts blank }
 {
     let mut steps = Steps::<L>::new(blank);
-    let Ok(target) = Target::of(row.0) else {
+    let (family, within, count) = *row;
+    let Ok(target) = Target::of(Params { family, within }) else {
         return Ok(false);
     };
-    let mut windows = made(alloc, row.1)?;
+    let mut windows = made(alloc, count)?;
     let n = windows.last().map_or(0, |window| window.1).min(MOST_VALUES);
     let mut line = Line::new(alloc);
     let mut schedule = Schedule::new(alloc, target);
@@ -250,50 +252,70 @@ fn agrees<L: Ledger>(alloc: Global, blank: Blank, row: &Row) -> Result<bool, All
     )
 }
 
-// The parameters of a target, and how many windows are made up before the values come.
-type Row = (Params, u32);
+// The windows of a target, the step of the clock that they keep to, and how many windows are made up before the values come.
+type Row = (Family, Option<u32>, u32);
 
-// The last ones keep more than 64 windows, so the heap has seven levels and more.
-const ROWS: [Row; 8] = [
-    (Params::Exp { b: 2, r: 1, s: 1 }, 0),
-    (Params::Exp { b: 3, r: 2, s: 1 }, 0),
+const DOUBLING: Family = Family::Exp { b: 2, r: 1, s: 1 };
+
+// Those without a step that begin with windows keep more than 64 of them, so the heap has seven levels and more. Values come every ten
+// units of time, so within 10 none are merged, within 25 two or three at most, and within 1000 a hundred.
+const ROWS: [Row; 12] = [
+    (DOUBLING, None, 0),
+    (Family::Exp { b: 3, r: 2, s: 1 }, None, 0),
     (
-        Params::Power {
+        Family::Power {
             p: 1,
             q: 1,
             r: 1,
             s: 1,
         },
+        None,
         0,
     ),
     (
-        Params::Power {
+        Family::Power {
             p: 1,
             q: 0,
             r: 1,
             s: 2,
         },
+        None,
         0,
     ),
-    (Params::Exp { b: 2, r: 1, s: 1 }, 100),
-    (Params::Exp { b: 2, r: 40, s: 2 }, 100),
+    (DOUBLING, None, 100),
+    (Family::Exp { b: 2, r: 40, s: 2 }, None, 100),
     (
-        Params::Power {
+        Family::Power {
             p: 2,
             q: 1,
             r: 3,
             s: 1,
         },
+        None,
         100,
     ),
     (
-        Params::Power {
+        Family::Power {
             p: 4,
             q: 3,
             r: 1,
             s: 2,
         },
+        None,
         200,
+    ),
+    (DOUBLING, Some(10), 0),
+    (DOUBLING, Some(25), 0),
+    (DOUBLING, Some(1000), 100),
+    (
+        Family::Power {
+            p: 1,
+            q: 0,
+            r: 1,
+            s: 4,
+        },
+        Some(60),
+        100,
     ),
 ];
 

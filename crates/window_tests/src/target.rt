@@ -2,17 +2,23 @@
 ghost use Rattle.std.specs.Prelude.{◌≤◌, IsTrue};
 
 use super::windowing::at;
-use ss_catalog::Params;
+use ss_catalog::{Family, Params};
 use ss_target::{Target, lengths_of_a_target_never_fall};
 use ss_windowing::{MOST_VALUES, Param};
 use std::test::Fail;
 
 fn exp(b: u32, r: u32, s: u32) -> Params {
-    Params::Exp { b, r, s }
+    Params {
+        family: Family::Exp { b, r, s },
+        within: None,
+    }
 }
 
 fn power(p: u32, q: u32, r: u32, s: u32) -> Params {
-    Params::Power { p, q, r, s }
+    Params {
+        family: Family::Power { p, q, r, s },
+        within: None,
+    }
 }
 
 // Whether parameters have a target, and it keeps them, or have none.
@@ -55,6 +61,53 @@ fn power_law_parameters_that_have_a_target(rt: HostRuntime) {
     }
 }
 
+// The step of a clock, and whether windows can keep to it.
+const STEPS: [(u32, bool); 4] = [(0, false), (1, true), (60, true), (u32::MAX, true)];
+
+#[test]
+fn steps_that_a_target_has(rt: HostRuntime) {
+    for (k, row) in STEPS.iter().enumerate() {
+        let within = Some(row.0);
+        assert!(rt; is_so(Params { within, ..DOUBLING }, row.1), "row {k}");
+        assert!(rt;
+            is_so(
+                Params {
+                    within,
+                    ..exp(1, 1, 1)
+                },
+                false
+            ),
+            "row {k}"
+        );
+    }
+}
+
+// A step, two times, and whether both lie in one.
+const TOGETHER: [(Option<u32>, u64, u64, bool); 8] = [
+    (None, 0, u64::MAX, true),
+    (Some(1), 7, 7, true),
+    (Some(1), 7, 8, false),
+    (Some(60), 0, 59, true),
+    (Some(60), 59, 60, false),
+    (Some(60), 60, 119, true),
+    (Some(60), 59, 119, false),
+    (Some(u32::MAX), u64::MAX - 1, u64::MAX, false),
+];
+
+fn is_together(row: &(Option<u32>, u64, u64, bool)) -> Result<bool, Param> {
+    let (within, t, u, together) = *row;
+    let target = Target::of(Params { within, ..DOUBLING })?;
+    Ok(target.in_step(t, u) == together)
+}
+
+#[test]
+fn times_in_one_step(rt: HostRuntime) -> Result<(), Fail> {
+    for (k, row) in TOGETHER.iter().enumerate() {
+        assert!(rt; is_together(row)?, "row {k}");
+    }
+    Ok(())
+}
+
 // Whether positions can be l to r seen at n.
 pub fn are_positions(l: u64, r: u64, n: u64) -> bool
     ensures { IsTrue result → (1 ≤ l) × (l ≤ r) × (r ≤ n) × (n ≤ MOST_VALUES) }
@@ -62,7 +115,10 @@ pub fn are_positions(l: u64, r: u64, n: u64) -> bool
     1 <= l && l <= r && r <= n && n <= MOST_VALUES
 }
 
-const DOUBLING: Params = Params::Exp { b: 2, r: 1, s: 1 };
+const DOUBLING: Params = Params {
+    family: Family::Exp { b: 2, r: 1, s: 1 },
+    within: None,
+};
 
 // Positions l to r of doubling windows seen at n, and whether they fit then.
 const FITS: [(u64, u64, u64, bool); 9] = [
@@ -91,18 +147,24 @@ fn pairs_fit_where_they_stand(rt: HostRuntime) -> Result<(), Fail> {
     Ok(())
 }
 
-const LINEAR: Params = Params::Power {
-    p: 1,
-    q: 1,
-    r: 1,
-    s: 1,
+const LINEAR: Params = Params {
+    family: Family::Power {
+        p: 1,
+        q: 1,
+        r: 1,
+        s: 1,
+    },
+    within: None,
 };
 
-const CONSTANT: Params = Params::Power {
-    p: 1,
-    q: 0,
-    r: 1,
-    s: 2,
+const CONSTANT: Params = Params {
+    family: Family::Power {
+        p: 1,
+        q: 0,
+        r: 1,
+        s: 2,
+    },
+    within: None,
 };
 
 // Positions l to r seen at n, and when they first fit.
@@ -142,39 +204,51 @@ type Oldest = (u64, u64);
 const OLDEST: [(Params, Oldest, Oldest, Oldest); 5] = [
     (DOUBLING, (16, 65536), (21, 2_097_152), (24, 16_777_216)),
     (
-        Params::Exp { b: 2, r: 60, s: 1 },
+        Params {
+            family: Family::Exp { b: 2, r: 60, s: 1 },
+            within: None,
+        },
         (624, 1024),
         (919, 32768),
         (1140, 524_288),
     ),
     (
-        Params::Power {
-            p: 1,
-            q: 3,
-            r: 60,
-            s: 1,
+        Params {
+            family: Family::Power {
+                p: 1,
+                q: 3,
+                r: 60,
+                s: 1,
+            },
+            within: None,
         },
         (491, 729),
         (1193, 8000),
         (2254, 54872),
     ),
     (
-        Params::Power {
-            p: 1,
-            q: 2,
-            r: 60,
-            s: 1,
+        Params {
+            family: Family::Power {
+                p: 1,
+                q: 2,
+                r: 60,
+                s: 1,
+            },
+            within: None,
         },
         (946, 256),
         (3006, 2601),
         (6953, 13456),
     ),
     (
-        Params::Power {
-            p: 1,
-            q: 1,
-            r: 4,
-            s: 1,
+        Params {
+            family: Family::Power {
+                p: 1,
+                q: 1,
+                r: 4,
+                s: 1,
+            },
+            within: None,
         },
         (829, 208),
         (4551, 1138),

@@ -13,5 +13,5 @@ pub returns-clause-pair : goal.returns-clause-pair
 returns-clause-pair g c =
     let entries = c.args.line.now.entries in
     let before : Some c.in_ok-left.left ≡ place_before entries (index_of entries c.args.at) = sym c.in_ok-left.was ∙ c.requires.before in
-    sym (pair_at-read_before entries c.len-len.ensures.line.apart c.args.at c.in_ok-left.left c.args.entry c.get-first.result c.requires.stands
-    c.requires.entry before c.get-first.ensures.entry)
+    sym (pair_at-read_before entries c.len-len.ensures.line.apart c.args.at c.in_ok-left.left c.args.entry c.get-window.result c.requires.stands
+    c.requires.entry before c.get-window.ensures.entry)

@@ -8,6 +8,6 @@ returns-clause-pair g c =
     let entries = c.args.line.now.entries in
     let behind : Some c.in_ok-right.right ≡ place_at entries (index_of entries c.args.at + 1) = sym c.in_ok-right.was ∙ c.requires.behind in (
       c.in_ok-right.was,
-      pair_at-read entries c.len-len.ensures.line.apart c.args.at c.in_ok-right.right c.args.entry c.get-last.result c.requires.stands c.requires.entry
-          behind c.get-last.ensures.entry,
+      pair_at-read entries c.len-len.ensures.line.apart c.args.at c.in_ok-right.right c.args.entry c.get-next.result c.requires.stands c.requires.entry
+          behind c.get-next.ensures.entry,
     )

@@ -9,4 +9,4 @@ put-requires-clause-span g c =
 pub returns-clause-keyed : goal.returns-clause-keyed
 returns-clause-keyed g c =
     IsKeyed-added c.args.n c.args.line.now.entries c.args.at c.args.self.now c.put.new.self c.pair_before-previous.result c.len-len.ensures.line.apart
-    c.requires.stands c.pair_before-previous.ensures.pair c.requires.keyed c.requires.follow c.put.ensures
+    c.requires.stands c.requires.room c.pair_before-previous.ensures.pair c.requires.keyed c.requires.follow c.put.ensures

@@ -1,13 +1,17 @@
-use Rattle.std.proofs.Common.{◌∙◌, sym}
-use Rattle.ss_schedule.proofs.MergeLemmas.{IsKeyed-joined_last, IsKeyed-joined_next, IsNext-read, room-left, room-next, span-left, span-next}
+use Rattle.std.proofs.Common.{◌∙◌, arith, sym}
+use Rattle.ss_schedule.proofs.MergeLemmas.{IsKeyed-joined_last, IsKeyed-joined_next, IsNext-read, room-left, room-next, room-right, span-left, span-next}
 use Rattle.ss_schedule.proofs.schedule.Schedule.merged.Goals as goal
 
+pub put-requires-clause-room : goal.put-requires-clause-room
+put-requires-clause-room g c =
+    room-right c.args.n c.args.line.now.entries c.args.pair.left c.args.pair.right c.requires.neighbours.neighbours c.len-len.ensures.line.apart
+    c.args.self.now c.requires.keyed
+
 pub put-requires-2-clause-room : goal.put-requires-2-clause-room
-put-requires-2-clause-room g c past =
-    let it = c.requires.neighbours.neighbours in
-    room-left c.args.n c.args.line.now.entries c.args.pair.left c.args.pair.right it c.len-len.ensures.line.apart c.args.self.now c.requires.keyed
-    c.join-joined.new.line.entries (c.join-joined.ensures.joined it) c.put.new.self c.pair_before-previous.result c.put.ensures
-    c.pair_before-previous.ensures.pair past
+put-requires-2-clause-room g c =
+    let left = room-left c.args.n c.args.line.now.entries c.args.pair.left c.args.pair.right c.requires.neighbours.neighbours c.len-len.ensures.line.apart
+    c.args.self.now c.requires.keyed in
+    omega (arith, left, c.put.ensures.room)
 
 pub put-requires-2-clause-span : goal.put-requires-2-clause-span
 put-requires-2-clause-span g c =
@@ -16,15 +20,15 @@ put-requires-2-clause-span g c =
     c.join-joined.new.line.entries (c.join-joined.ensures.joined it) c.pair_before-previous.result c.pair_before-previous.ensures.pair
 
 pub put-requires-in-Some-clause-room : goal.put-requires-in-Some-clause-room
-put-requires-in-Some-clause-room g c past =
+put-requires-in-Some-clause-room g c =
     let it = c.requires.neighbours.neighbours in
     let is = c.in-Some.ensures.pair.1 in
     let next = IsNext-read c.args.n c.args.line.now.entries c.args.pair.left c.args.pair.right it c.len-len.ensures.line.apart c.args.self.now c.requires.keyed
     c.join-joined.new.line.entries (c.join-joined.ensures.joined it) c.in-Some.pair c.join-joined.ensures.line.apart
     (sym c.in-Some.ensures.pair.0 ∙ c.neighbours-before.ensures.behind) is in
-    room-next c.args.n c.args.line.now.entries c.args.pair.left c.args.pair.right it c.len-len.ensures.line.apart c.args.self.now c.requires.keyed
-    c.join-joined.new.line.entries (c.join-joined.ensures.joined it) c.in-Some.pair next
-    c.put.new.self c.put-2.new.self c.pair_before-previous.result c.put.ensures c.put-2.ensures past
+    let room = room-next c.args.n c.args.line.now.entries c.args.pair.left c.args.pair.right it c.len-len.ensures.line.apart c.args.self.now c.requires.keyed
+    c.join-joined.new.line.entries (c.join-joined.ensures.joined it) c.in-Some.pair next in
+    omega (arith, room, c.put.ensures.room, c.put-2.ensures.room)
 
 pub put-requires-in-Some-clause-span : goal.put-requires-in-Some-clause-span
 put-requires-in-Some-clause-span g c =
