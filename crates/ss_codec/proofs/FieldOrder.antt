@@ -5,6 +5,7 @@ use Rattle.std.proofs.Common.{arith, refl, lit≤}
 use Rattle.ss_fields.specs.Fields.{number_bytes}
 use Rattle.ss_fields.proofs.FieldLemmas.{length-number_bytes}
 use Rattle.ss_summary.specs.Figures.{Figures}
+use Rattle.ss_catalog.specs.Params.{step_number}
 use Rattle.ss_catalog.specs.declared.params.Params.{Params}
 use Rattle.ss_codec.specs.declared.record.Record.TheVariants.{Stream, Window, Landmark, Value}
 use Rattle.ss_codec.specs.Record.{drop_number, family, filter_number, parameters, state_number, closing_time, fields, word_spelled}
@@ -20,12 +21,12 @@ byte-within end place value inside = record { whole = refl; inside = inside }
 pub stream-in_order : (id : ℕ) (name : List ℕ) (params : Params) (dropped : Bool) → length name ≤ 32
     → AreInOrder 128 0 (fields (Stream id name params dropped))
 stream-in_order id name params dropped short =
-    let numbers = parameters params in (
+    let numbers = parameters params.family in (
       lit≤ tt,
       byte-within 128 0 1 (lit≤ tt),
       (
         lit≤ tt,
-        byte-within 128 1 (family params) (lit≤ tt),
+        byte-within 128 1 (family params.family) (lit≤ tt),
         (
           lit≤ tt,
           byte-within 128 2 (length name) (lit≤ tt),
@@ -50,7 +51,11 @@ stream-in_order id name params dropped short =
                       (
                         lit≤ tt,
                         record { whole = refl; inside = omega arith },
-                        tt,
+                        (
+                          omega arith,
+                          number-within 128 4 56 (step_number params.within) (lit≤ tt),
+                          tt,
+                        ),
                       ),
                     ),
                   ),

@@ -5,6 +5,7 @@ pub mod ParameterLemmas
 pub mod RecordLemmas
 mod Rows
 mod DroppedRows
+mod StepRows
 pub mod WindowBytes
 mod WindowRows
 mod ZeroLemmas

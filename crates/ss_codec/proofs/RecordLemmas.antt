@@ -1,5 +1,5 @@
 -- Each valid record is what its spelling is read as.
-use Rattle.std.specs.Prelude.{◌≡◌, ◌↔◌, ℕ, ◌+◌, ◌-◌, ◌^◌, ◌<◌, ◌≤◌, ◌==◌, ℤ, pos, negsuc, Bool, true, false, cond, IsTrue, FitsSigned, List}
+use Rattle.std.specs.Prelude.{◌≡◌, ◌↔◌, ℕ, ◌+◌, ◌-◌, ◌^◌, ◌<◌, ◌≤◌, ◌==◌, ℤ, pos, negsuc, Bool, true, false, ◌&&◌, nat_lt, cond, IsTrue, FitsSigned, List}
 use Rattle.std.specs.Prelude.{length, replicate, slice_index, take, drop, Option, Some, None, IsSome, IfSome, IfNone, MatchOption}
 use Rattle.std.specs.Int.{w64, w128}
 use Rattle.std.specs.Str.{bytes_eq}
@@ -16,12 +16,13 @@ use Rattle.ss_summary.specs.declared.summary.TheConstants.{GREATEST_COUNT}
 use Rattle.ss_summary.proofs.SummaryLemmas.{IsPossible-sum}
 use Rattle.ss_summary.proofs.PossibleLemmas.{is_possible-tells}
 use Rattle.ss_catalog.specs.Names.{is_name}
-use Rattle.ss_catalog.specs.Params.{in_range}
+use Rattle.ss_catalog.proofs.NameLemmas.{length-is_name}
+use Rattle.ss_catalog.specs.Params.{in_range, step_number}
 use Rattle.ss_catalog.specs.declared.TheConstants.{LAST_TIME}
 use Rattle.ss_catalog.specs.declared.params.Params.{Params}
 use Rattle.ss_codec.specs.declared.record.Record.{Record}
 use Rattle.ss_codec.specs.declared.record.Record.TheVariants.{Free, Stream, Window, Landmark, Value}
-use Rattle.ss_codec.specs.Record.{is_interval, is_valid, drop_number, family, filter_number, parameters, state_number, closing_time, fields}
+use Rattle.ss_codec.specs.Record.{has_small_step, is_interval, is_valid, drop_number, family, filter_number, parameters, state_number, closing_time, fields}
 use Rattle.ss_codec.specs.Record.{spelling, word_spelled, Spells}
 use Rattle.ss_codec.specs.Decoded.{checked, decoded, finish_in, landmark_in, params_in, record_in, stream_in, value_in, window_in}
 use Rattle.ss_codec.proofs.FieldLemmas.{AreInOrder, HasFields, HasFields-with_fields, slice_index-part}
@@ -33,27 +34,45 @@ pub not_true : (b : Bool) → (b ≡ true → ⊥) → b ≡ false
 not_true true never = absurd (never refl)
 not_true false never = refl
 
+pub four_tests : (a b c d : Bool) → (a && b && c && d) ≡ true → (a ≡ true) × (b ≡ true) × (c ≡ true) × (d ≡ true)
+four_tests true true true true all = (refl, refl, refl, refl)
+four_tests true true true false all = absurd cc
+four_tests true true false d all = absurd cc
+four_tests true false c d all = absurd cc
+four_tests false b c d all = absurd cc
+
+pub small-test : (n : ℕ) → nat_lt n (2 ^ 32) ≡ true → n < 2 ^ 32
+small-test n test = grind (arith, nat_tests)
+
+pub test-small : (n : ℕ) → n < 2 ^ 32 → nat_lt n (2 ^ 32) ≡ true
+test-small n small = grind (arith, nat_tests)
+
 -- what a valid stream says
 pub record IsStream (id : ℕ) (name : List ℕ) (params : Params) : Type 0 where
   pub number : id < 2 ^ 32
   pub named : is_name name ≡ true
   pub short : length name ≤ 32
   pub ranged : in_range params ≡ true
+  pub step_fits : step_number params.within < 2 ^ 32
 
 pub IsStream-is_valid : (id : ℕ) (name : List ℕ) (params : Params) (dropped : Bool) → is_valid (Stream id name params dropped) ≡ true
     → IsStream id name params
-unfolding is_valid is_name
-IsStream-is_valid id name params dropped valid = record {
-  number = grind (arith, nat_tests);
-  named = grind (arith, nat_tests);
-  short = grind (arith, nat_tests);
-  ranged = grind (arith, nat_tests);
-}
+unfolding is_valid
+IsStream-is_valid id name params dropped valid =
+    let tests = four_tests (nat_lt id (2 ^ 32)) (is_name name) (in_range params) (has_small_step params) valid in
+    record {
+      number = small-test id tests.0;
+      named = tests.1;
+      short = length-is_name name tests.1;
+      ranged = tests.2;
+      step_fits = small-test (step_number params.within) tests.3;
+    }
 
 pub is_valid-IsStream : (id : ℕ) (name : List ℕ) (params : Params) (dropped : Bool) → id < 2 ^ 32 → is_name name ≡ true
-    → in_range params ≡ true → is_valid (Stream id name params dropped) ≡ true
+    → in_range params ≡ true → step_number params.within < 2 ^ 32 → is_valid (Stream id name params dropped) ≡ true
 unfolding is_valid
-is_valid-IsStream id name params dropped number named ranged = grind (arith, nat_tests)
+is_valid-IsStream id name params dropped number named ranged step_fits =
+    rw (test-small id number, named, ranged, test-small (step_number params.within) step_fits) refl
 
 -- what a valid window says
 pub record IsWindow (id first : ℕ) (f : Figures) : Type 0 where
@@ -173,15 +192,16 @@ stream_in-fields : (id : ℕ) (name : List ℕ) (params : Params) (dropped : Boo
 unfolding stream_in
 stream_in-fields id name params dropped bytes is has =
     let small = AreSmall-in_range params is.ranged in
-    let kind = slice_index-part 1 (family params) bytes has.1.0 in
+    let kind = slice_index-part 1 (family params.family) bytes has.1.0 in
     let size = slice_index-part 2 (length name) bytes has.1.1.0 in
     let state = slice_index-part 3 (drop_number dropped) bytes has.1.1.1.0 in
     let number = number_at-take 4 4 id bytes (omega (arith, is.number)) has.1.1.1.1.0 in
-    let first = number_at-take 4 8 (parameters params).0 bytes (omega (arith, small.first)) has.1.1.1.1.1.0 in
-    let second = number_at-take 4 12 (parameters params).1 bytes (omega (arith, small.second)) has.1.1.1.1.1.1.0 in
-    let third = number_at-take 4 16 (parameters params).2 bytes (omega (arith, small.third)) has.1.1.1.1.1.1.1.0 in
-    let fourth = number_at-take 4 20 (parameters params).3 bytes (omega (arith, small.fourth)) has.1.1.1.1.1.1.1.1.0 in
-    let target = params_in-numbers params 8 bytes kind first second third fourth in
+    let first = number_at-take 4 8 (parameters params.family).0 bytes (omega (arith, small.first)) has.1.1.1.1.1.0 in
+    let second = number_at-take 4 12 (parameters params.family).1 bytes (omega (arith, small.second)) has.1.1.1.1.1.1.0 in
+    let third = number_at-take 4 16 (parameters params.family).2 bytes (omega (arith, small.third)) has.1.1.1.1.1.1.1.0 in
+    let fourth = number_at-take 4 20 (parameters params.family).3 bytes (omega (arith, small.fourth)) has.1.1.1.1.1.1.1.1.0 in
+    let step = number_at-take 4 56 (step_number params.within) bytes (omega (arith, is.step_fits)) has.1.1.1.1.1.1.1.1.1.1.0 in
+    let target = params_in-numbers params 8 56 bytes is.ranged kind first second third fourth step in
     let named : take (slice_index bytes 2) (drop 24 bytes) ≡ name = rw size has.1.1.1.1.1.1.1.1.1.0 in
     let dropped_is : (slice_index bytes 3 == 1) ≡ dropped = rw state (drop_number-read dropped) in
     cc
@@ -364,8 +384,8 @@ checked-long bytes long more =
     let size = length-take (slice_index bytes 2) (drop 24 bytes) in
     let rest = length-drop 24 bytes in
     let dropped = slice_index bytes 3 == 1 in
-    let no : is_valid (Stream (number_at 4 bytes 4) word (params_in 8 bytes) dropped) ≡ false = not_true _ (λ valid.
-    let short = (IsStream-is_valid (number_at 4 bytes 4) word (params_in 8 bytes) dropped valid).short in
+    let no : is_valid (Stream (number_at 4 bytes 4) word (params_in 8 56 bytes) dropped) ≡ false = not_true _ (λ valid.
+    let short = (IsStream-is_valid (number_at 4 bytes 4) word (params_in 8 56 bytes) dropped valid).short in
     omega arith) in
     rw no refl
 

@@ -5,7 +5,7 @@ use Rattle.ss_fields.specs.Fields as Numbers
 use Rattle.ss_catalog.specs.Names as Names
 use Rattle.ss_summary.specs.declared.summary.TheConstants.{LATEST_TIME}
 use Rattle.ss_catalog.specs.declared.TheConstants.{LAST_TIME}
-use Rattle.ss_catalog.specs.declared.params.Params.TheVariants.{Exp, Power}
+use Rattle.ss_catalog.specs.Params.{exp as Exp, power as Power}
 use Rattle.ss_codec.specs.declared.record.TheConstants.{SLOT_SIZE, STREAM, LANDMARK, VALUE, EXPONENTIAL, POWER_LAW, OPEN, CLOSED, NAME}
 use Rattle.ss_codec.specs.declared.record.Record.{Record}
 use Rattle.ss_codec.specs.declared.record.Record.TheVariants.{Free, Stream, Landmark, Value}

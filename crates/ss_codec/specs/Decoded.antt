@@ -8,18 +8,24 @@ use Rattle.ss_fields.specs.Fields.{number_at}
 use Rattle.ss_summary.specs.Figures.{Figures}
 use Rattle.ss_summary.specs.Filters.{four, full}
 use Rattle.ss_summary.specs.declared.filter.Filter.{Filter}
+use Rattle.ss_catalog.specs.Params.{step_for}
+use Rattle.ss_catalog.specs.declared.params.Family.{Family}
+use Rattle.ss_catalog.specs.declared.params.Family.TheVariants.{Exp, Power}
 use Rattle.ss_catalog.specs.declared.params.Params.{Params}
-use Rattle.ss_catalog.specs.declared.params.Params.TheVariants.{Exp, Power}
 use Rattle.ss_codec.specs.declared.record.Record.{Record}
 use Rattle.ss_codec.specs.declared.record.Record.TheVariants.{Free, Stream, Window, Landmark, Value}
 use Rattle.ss_codec.specs.Record.{is_full, is_valid, spelling}
 
--- the parameters in some bytes, whose family is byte 1 and whose numbers stand from a place on
-unfoldable pub params_in : ℕ → List ℕ → Params
-params_in place bytes =
+-- the family in some bytes, which is byte 1, and whose numbers stand from a place on
+abbrev pub family_in : ℕ → List ℕ → Family
+family_in place bytes =
     if slice_index bytes 1 == 1
     then Exp (number_at 4 bytes place) (number_at 4 bytes (place + 4)) (number_at 4 bytes (place + 8))
     else Power (number_at 4 bytes place) (number_at 4 bytes (place + 4)) (number_at 4 bytes (place + 8)) (number_at 4 bytes (place + 12))
+
+-- the parameters in some bytes: their family, and at another place their step
+unfoldable pub params_in : ℕ → ℕ → List ℕ → Params
+params_in place step bytes = record { family = family_in place bytes; within = step_for (number_at 4 bytes step) }
 
 -- the filter in the bytes of a window
 abbrev pub filter_in : List ℕ → Filter
@@ -44,7 +50,7 @@ finish_in bytes = if slice_index bytes 1 == 2 then Some (number_at 8 bytes 24) e
 -- what a stream's record has, a window's, a landmark's, and a landmark value's, in the bytes of one
 unfoldable pub stream_in : List ℕ → Record
 stream_in bytes =
-    Stream (number_at 4 bytes 4) (take (slice_index bytes 2) (drop 24 bytes)) (params_in 8 bytes) (slice_index bytes 3 == 1)
+    Stream (number_at 4 bytes 4) (take (slice_index bytes 2) (drop 24 bytes)) (params_in 8 56 bytes) (slice_index bytes 3 == 1)
 
 unfoldable pub window_in : List ℕ → Record
 window_in bytes = Window (number_at 4 bytes 4) (number_at 8 bytes 8) (figures_in bytes)

@@ -7,10 +7,11 @@ use Rattle.ss_summary.specs.Possible.{is_possible, fits_i64}
 use Rattle.ss_summary.specs.declared.filter.Filter.{Filter}
 use Rattle.ss_summary.specs.declared.summary.TheConstants.{GREATEST_COUNT}
 use Rattle.ss_catalog.specs.Names.{is_name}
-use Rattle.ss_catalog.specs.Params.{in_range}
+use Rattle.ss_catalog.specs.Params.{in_range, step_number}
 use Rattle.ss_catalog.specs.declared.TheConstants.{LAST_TIME}
 use Rattle.ss_catalog.specs.declared.params.Params.{Params}
-use Rattle.ss_catalog.specs.declared.params.Params.TheVariants.{Exp, Power}
+use Rattle.ss_catalog.specs.declared.params.Family.{Family}
+use Rattle.ss_catalog.specs.declared.params.Family.TheVariants.{Exp, Power}
 use Rattle.ss_codec.specs.declared.record.TheConstants.{SLOT_SIZE}
 use Rattle.ss_codec.specs.declared.record.Record.{Record}
 use Rattle.ss_codec.specs.declared.record.Record.TheVariants.{Free, Stream, Window, Landmark, Value}
@@ -25,11 +26,15 @@ abbrev pub is_interval : ℕ → ℕ → Option ℕ → Bool
 is_interval values start None = values == 0 && nat_le start LAST_TIME
 is_interval values start (Some finish) = nat_lt values (2 ^ 32) && nat_le start finish && nat_le finish LAST_TIME
 
+-- a step is a number of 32 bits
+abbrev pub has_small_step : Params → Bool
+has_small_step params = nat_lt (step_number params.within) (2 ^ 32)
+
 -- a record that a slot may hold. Streams have numbers of 32 bits, values have positions from 1 on, and so have landmarks and
 -- their values.
 unfoldable pub is_valid : Record → Bool
 is_valid Free = true
-is_valid (Stream id name params dropped) = nat_lt id (2 ^ 32) && is_name name && in_range params
+is_valid (Stream id name params dropped) = nat_lt id (2 ^ 32) && is_name name && in_range params && has_small_step params
 is_valid (Window id first summary) =
     nat_lt id (2 ^ 32) && nat_le 1 first && nat_le (first + summary.count - 1) GREATEST_COUNT && is_possible summary
 is_valid (Landmark id number values start finish) = nat_lt id (2 ^ 32) && counts_from_1 number && is_interval values start finish
@@ -37,11 +42,11 @@ is_valid (Value id number index t v) =
     nat_lt id (2 ^ 32) && counts_from_1 number && counts_from_1 index && nat_le t LAST_TIME && fits_i64 v
 
 -- the number of a family, and its four parameters; the exponential family has three, and a 0
-abbrev pub family : Params → ℕ
+abbrev pub family : Family → ℕ
 family (Exp b r s) = 1
 family (Power p q r s) = 2
 
-abbrev pub parameters : Params → ℕ × ℕ × ℕ × ℕ
+abbrev pub parameters : Family → ℕ × ℕ × ℕ × ℕ
 parameters (Exp b r s) = (b, r, s, 0)
 parameters (Power p q r s) = (p, q, r, s)
 
@@ -74,15 +79,16 @@ abbrev pub fields : Record → List Field
 fields Free = []
 fields (Stream id name params dropped) =
     u8 0 1
-    ∷ u8 1 (family params)
+    ∷ u8 1 (family params.family)
     ∷ u8 2 (length name)
     ∷ u8 3 (drop_number dropped)
     ∷ u32 4 id
-    ∷ u32 8 (parameters params).0
-    ∷ u32 12 (parameters params).1
-    ∷ u32 16 (parameters params).2
-    ∷ u32 20 (parameters params).3
+    ∷ u32 8 (parameters params.family).0
+    ∷ u32 12 (parameters params.family).1
+    ∷ u32 16 (parameters params.family).2
+    ∷ u32 20 (parameters params.family).3
     ∷ text 24 name
+    ∷ u32 56 (step_number params.within)
     ∷ []
 fields (Window id first summary) =
     u8 0 2

@@ -2,41 +2,61 @@
 ghost use Rattle.std.specs.Prelude.{◌≡◌, ◌≢◌, ◌+◌, ◌-◌, ◌*◌, ◌&&◌, ◌==◌, ◌≤◌, length, drop, take, nat_le, slice_index, IfSome, IfNone, if◌then◌else◌};
 ghost use Rattle.std.specs.List.{list_all};
 ghost use Rattle.ss_summary.specs.Possible.{is_possible};
+ghost use Rattle.ss_catalog.specs.Params.{step_for};
 ghost use Rattle.ss_codec.specs.Record.{Spells, counts_from_1, is_interval};
-ghost use Rattle.ss_codec.specs.Decoded.{checked, decoded, figures_in, filter_in, finish_in, is_blank_beside, is_filter_spelled, landmark_in, params_in};
-ghost use Rattle.ss_codec.specs.Decoded.{record_in, stream_in, value_in, window_in};
+ghost use Rattle.ss_codec.specs.Decoded.{checked, decoded, family_in, figures_in, filter_in, finish_in, is_blank_beside, is_filter_spelled, landmark_in};
+ghost use Rattle.ss_codec.specs.Decoded.{params_in, record_in, stream_in, value_in, window_in};
 
 use crate::encoding::{encode, is_full};
 use crate::record::{
-    ALL_BITS, BY_WORDS, CLOSED, DROPPED, EXPONENTIAL, LANDMARK, NAME, Record, SLOT_SIZE, STREAM,
-    VALUE, WINDOW,
+    ALL_BITS, BY_WORDS, CLOSED, DROPPED, EXPONENTIAL, LANDMARK, NAME, Record, SLOT_SIZE, STEP,
+    STREAM, VALUE, WINDOW,
 };
-use ss_catalog::{LAST_TIME, LONGEST_NAME, Name, Params};
+use ss_catalog::{Family, LAST_TIME, LONGEST_NAME, Name, Params};
 use ss_fields::{get_i64, get_i128, get_u32, get_u64};
 use ss_summary::{Filter, GREATEST_COUNT, Summary};
 
-/// The parameters in some bytes: byte 1 says their family, and from `place` on stand their numbers.
-#[tactic(auto, unfolding(crate::specs::Decoded::params_in))]
-pub fn params_in(bytes: &[u8], place: usize) -> Params
+// The family in some bytes: byte 1 says which it is, and from `place` on stand its numbers.
+fn family_in(bytes: &[u8], place: usize) -> Family
     requires { place + 16 ≤ length bytes.now }
-    ensures { result ≡ params_in place bytes.now }
+    ensures { result ≡ family_in place bytes.now }
 {
     let first = get_u32(bytes, place);
     let second = get_u32(bytes, place + 4);
     let third = get_u32(bytes, place + 8);
     if bytes[1] == EXPONENTIAL {
-        Params::Exp {
+        Family::Exp {
             b: first,
             r: second,
             s: third,
         }
     } else {
-        Params::Power {
+        Family::Power {
             p: first,
             q: second,
             r: third,
             s: get_u32(bytes, place + 12),
         }
+    }
+}
+
+// The step that a number stands for, none for 0.
+fn step_for(number: u32) -> Option<u32>
+    ensures { result ≡ step_for number }
+{
+    if number == 0 { None } else { Some(number) }
+}
+
+/// The parameters in some bytes: byte 1 says their family, from `place` on stand its numbers, and at `step` the step.
+#[tactic(auto, unfolding(crate::specs::Decoded::params_in))]
+pub fn params_in(bytes: &[u8], place: usize, step: usize) -> Params
+    requires numbers { place + 16 ≤ length bytes.now }
+    requires step { step + 4 ≤ length bytes.now }
+    ensures { result ≡ params_in place step bytes.now }
+{
+    Params {
+        family: family_in(bytes, place),
+        within: step_for(get_u32(bytes, step)),
     }
 }
 
@@ -51,7 +71,7 @@ fn stream_in(bytes: &[u8; SLOT_SIZE]) -> Option<Record>
     }
     let id = get_u32(bytes, 4);
     let name = Name::of(&bytes[NAME..NAME + length])?;
-    let params = params_in(bytes, 8);
+    let params = params_in(bytes, 8, STEP);
     if params.in_range() {
         Some(Record::Stream {
             id,

@@ -1,5 +1,6 @@
 // Records, spelled.
 ghost use Rattle.std.specs.Prelude.{◌≡◌, ◌≤◌, [], ◌∷◌, length, IsTrue};
+ghost use Rattle.ss_catalog.specs.Params.{step_number};
 ghost use Rattle.ss_codec.specs.Fields.{u64, with_fields};
 ghost use Rattle.ss_codec.specs.Record.{closing_time, drop_number, family, fields, filter_number, is_full, is_valid, parameters, spelling, state_number};
 ghost use Rattle.ss_codec.specs.Record.{word_spelled};
@@ -7,28 +8,38 @@ ghost use Rattle.ss_codec.specs.Record.{word_spelled};
 use crate::fields::{write_i64, write_i128, write_text, write_u8, write_u32, write_u64};
 use crate::record::{
     ALL_BITS, BY_WORDS, CLOSED, DROPPED, EXPONENTIAL, LANDMARK, NAME, OPEN, POWER_LAW, Record,
-    SLOT_SIZE, STANDING, STREAM, VALUE, WINDOW,
+    SLOT_SIZE, STANDING, STEP, STREAM, VALUE, WINDOW,
 };
-use ss_catalog::{LONGEST_NAME, Name, Params};
+use ss_catalog::{Family, LONGEST_NAME, Name, Params};
 use ss_summary::{Filter, Summary};
 
 /// The number of a target's family.
-pub fn family(params: &Params) -> u8
-    ensures { result ≡ family params.now }
+pub fn family(target: &Family) -> u8
+    ensures { result ≡ family target.now }
 {
-    match *params {
-        Params::Exp { .. } => EXPONENTIAL,
-        Params::Power { .. } => POWER_LAW,
+    match *target {
+        Family::Exp { .. } => EXPONENTIAL,
+        Family::Power { .. } => POWER_LAW,
     }
 }
 
-/// The four parameters of a target. The exponential family has three, and a 0.
-pub fn parameters(params: &Params) -> (u32, u32, u32, u32)
-    ensures { result ≡ parameters params.now }
+/// The four parameters of a target's family. The exponential one has three, and a 0.
+pub fn parameters(target: &Family) -> (u32, u32, u32, u32)
+    ensures { result ≡ parameters target.now }
 {
-    match *params {
-        Params::Exp { b, r, s } => (b, r, s, 0),
-        Params::Power { p, q, r, s } => (p, q, r, s),
+    match *target {
+        Family::Exp { b, r, s } => (b, r, s, 0),
+        Family::Power { p, q, r, s } => (p, q, r, s),
+    }
+}
+
+/// A step as a number, 0 for none.
+pub fn step_number(within: Option<u32>) -> u32
+    ensures { result ≡ step_number within }
+{
+    match within {
+        None => 0,
+        Some(step) => step,
     }
 }
 
@@ -46,9 +57,9 @@ fn write_stream(bytes: &mut [u8], id: u32, name: &Name, params: &Params, dropped
     ensures { bytes.new ≡ with_fields bytes.old (fields (Record.Stream id name.now params.now dropped)) }
 {
     let word = name.as_bytes();
-    let numbers = parameters(params);
+    let numbers = parameters(&params.family);
     write_u8(bytes, 0, STREAM);
-    write_u8(bytes, 1, family(params));
+    write_u8(bytes, 1, family(&params.family));
     write_u8(bytes, 2, word.len() as u8);
     write_u8(bytes, 3, drop_state(dropped));
     write_u32(bytes, 4, id);
@@ -57,6 +68,7 @@ fn write_stream(bytes: &mut [u8], id: u32, name: &Name, params: &Params, dropped
     write_u32(bytes, 16, numbers.2);
     write_u32(bytes, 20, numbers.3);
     write_text(bytes, NAME, word);
+    write_u32(bytes, STEP, step_number(params.within));
 }
 
 // Whether a filter has all bits.

@@ -4,7 +4,7 @@ ghost use Rattle.std.specs.Int.{w64};
 ghost use Rattle.ss_summary.specs.Figures.{Figures, IsPossible};
 ghost use Rattle.ss_summary.specs.declared.summary.TheConstants.{GREATEST_COUNT};
 ghost use Rattle.ss_catalog.specs.Names.{is_name};
-ghost use Rattle.ss_catalog.specs.Params.{in_range};
+ghost use Rattle.ss_catalog.specs.Params.{in_range, step_number};
 ghost use Rattle.ss_catalog.specs.declared.TheConstants.{LAST_TIME};
 ghost use Rattle.ss_catalog.specs.declared.params.Params.{Params};
 ghost use Rattle.ss_codec.specs.declared.record.TheConstants.{SLOT_SIZE};
@@ -36,7 +36,7 @@ pub fn free_slots_are_zeros()
 /// What a valid stream is, whether it stands or was dropped.
 pub fn which_streams_are_valid()
     ensures { (id : ℕ) (name : List ℕ) (params : Params) (dropped : Bool) → IsTrue (is_valid (Stream id name params dropped))
-        ↔ ((id < 2 ^ 32) × IsTrue (is_name name) × IsTrue (in_range params)) }
+        ↔ ((id < 2 ^ 32) × IsTrue (is_name name) × IsTrue (in_range params) × (step_number params.within < 2 ^ 32)) }
 {}
 
 /// What a valid window is.

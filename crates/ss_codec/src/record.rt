@@ -37,6 +37,9 @@ pub const CLOSED: u8 = 2;
 // Where the name of a stream begins.
 pub const NAME: usize = 24;
 
+// Where the step of a stream's windows stands, behind the longest name.
+pub const STEP: usize = 56;
+
 /// What the bytes of a slot say. docs/FORMAT.md ("Records") has the places of the fields.
 #[derive(Clone, Copy, Debug)]
 pub enum Record {

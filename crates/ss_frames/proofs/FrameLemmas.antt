@@ -1,25 +1,29 @@
 -- Each valid frame is what its spelling is read as.
-use Rattle.std.specs.Prelude.{◌≡◌, ◌≢◌, ℕ, ◌+◌, ◌^◌, ◌<◌, ◌≤◌, ◌&&◌, ◌==◌, nat_le, ℤ, FitsSigned, Bool, true, false, cond, List, length, replicate, slice_index, drop}
+use Rattle.std.specs.Prelude.{◌≡◌, ◌≢◌, ℕ, ◌+◌, ◌^◌, ◌<◌, ◌≤◌, ◌&&◌, ◌==◌, nat_le, ℤ, FitsSigned, Bool, true, false, cond, List, length, replicate}
+use Rattle.std.specs.Prelude.{slice_index, drop}
 use Rattle.std.specs.Prelude.{Option, Some, None, IfSome, IfNone}
 use Rattle.std.specs.Int.{w64}
 use Rattle.std.specs.Str.{bytes_eq}
 use Rattle.std.proofs.Common.{arith, refl, sym, ap, ◌∙◌, lit≤, subst, true≢false}
 use Rattle.std.proofs.lemmas.List.{length-drop, length-replicate, length-take}
+use Rattle.std.proofs.lemmas.Bool.{eq-eqb, eqb-true}
 use Rattle.std.proofs.lemmas.Bool.Decides.{nat_tests}
 use Rattle.std.proofs.lemmas.Slice.Eq.{bytes_eq-Decides}
+use Rattle.ss_fields.specs.Fields.{number_bytes}
 use Rattle.ss_fields.proofs.FieldLemmas.{number_at-take, i64_at-take}
 use Rattle.ss_summary.specs.Possible.{fits_i64}
 use Rattle.ss_catalog.specs.Names.{is_name}
+use Rattle.ss_catalog.specs.Params.{in_range, step_number}
 use Rattle.ss_catalog.specs.Events.{event_name, IsInTime}
 use Rattle.ss_catalog.specs.declared.TheConstants.{LAST_TIME}
 use Rattle.ss_catalog.specs.declared.event.Event.{Event}
 use Rattle.ss_catalog.specs.declared.event.Event.TheVariants.{Create, Value, Open, Close, Drop}
 use Rattle.ss_catalog.proofs.NameLemmas.{length-is_name}
-use Rattle.ss_codec.specs.Record.{parameters}
-use Rattle.ss_codec.proofs.FieldLemmas.{AreInOrder, HasFields, HasFields-with_fields, length-with_fields, slice_index-part}
+use Rattle.ss_codec.specs.Record.{has_small_step, parameters}
+use Rattle.ss_codec.proofs.FieldLemmas.{AreInOrder, HasFields, HasFields-with_fields, length-with_fields, part, slice_index-part}
 use Rattle.ss_codec.proofs.FieldOrder.{byte-within, number-within}
 use Rattle.ss_codec.proofs.ParameterLemmas.{AreSmall-in_range, params_in-numbers}
-use Rattle.ss_codec.proofs.RecordLemmas.{fits-true, not_true, true-fits}
+use Rattle.ss_codec.proofs.RecordLemmas.{fits-true, four_tests, not_true, small-test, true-fits}
 use Rattle.ss_frames.specs.Frame.{
   FrameState,
   IsValidFrame,
@@ -36,12 +40,15 @@ use Rattle.ss_frames.specs.Frame.{
   kind,
   name_in,
   target_family,
+  target_step,
 }
 
 -- the tests say which frames are valid
 pub IsValidFrame-test : (number : ℕ) (event : Event) → is_valid_frame number event ≡ true → IsValidFrame number event
 unfolding is_valid_frame
-IsValidFrame-test number (Create name params) test = (grind (arith, nat_tests), grind (arith, nat_tests), grind (arith, nat_tests))
+IsValidFrame-test number (Create name params) test =
+    let tests = four_tests (number == 1) (is_name name) (in_range params) (has_small_step params) test in
+    (eqb-true number 1 tests.0, tests.1, tests.2, tests.3)
 IsValidFrame-test number (Value name t v) test =
     let fits : fits_i64 v ≡ true = grind (arith, nat_tests) in
     ((grind (arith, nat_tests), grind (arith, nat_tests)), grind (arith, nat_tests), grind (arith, nat_tests), fits-true v fits)
@@ -53,7 +60,7 @@ IsValidFrame-test number (Drop name) test = absurd cc
 
 pub test-IsValidFrame : (number : ℕ) (event : Event) → IsValidFrame number event → is_valid_frame number event ≡ true
 unfolding is_valid_frame
-test-IsValidFrame number (Create name params) is = let first = is.0 in let named = is.1 in let ranged = is.2 in grind (arith, nat_tests)
+test-IsValidFrame number (Create name params) is = let first = eq-eqb number 1 is.0 in rw (first, is.1, is.2, is.3) refl
 test-IsValidFrame number (Value name t v) is =
     let low = is.0.0 in
     let high = is.0.1 in
@@ -98,7 +105,7 @@ HasFrame-IsValidFrame number (Drop name) is = absurd is
 -- the fields of a frame lie in its bytes, one after the other
 content-in_order : (event : Event) → length (event_name event) ≤ 32 → AreInOrder 64 (16 + length (event_name event)) (content event)
 content-in_order (Create name params) short =
-    let numbers = parameters params in (
+    let numbers = parameters params.family in (
       omega arith,
       number-within 64 4 48 numbers.0 (lit≤ tt),
       (
@@ -124,11 +131,15 @@ frame-in_order f short = (
       byte-within 64 2 (length (event_name f.event)) (lit≤ tt),
       (
         lit≤ tt,
-        number-within 64 8 8 f.number (lit≤ tt),
+        number-within 64 4 4 (target_step f.event) (lit≤ tt),
         (
           lit≤ tt,
-          record { whole = refl; inside = omega arith },
-          content-in_order f.event short,
+          number-within 64 8 8 f.number (lit≤ tt),
+          (
+            lit≤ tt,
+            record { whole = refl; inside = omega arith },
+            content-in_order f.event short,
+          ),
         ),
       ),
     ),
@@ -156,6 +167,7 @@ HasFields-frame_spelled f valid =
 record HasEvent (bytes : List ℕ) (event : Event) : Type 0 where
   kind_is : slice_index bytes 0 ≡ kind event
   family_is : slice_index bytes 1 ≡ target_family event
+  step_is : part 4 4 bytes ≡ number_bytes 4 (target_step event)
   name_is : name_in bytes ≡ event_name event
   says : HasFields bytes (content event)
 
@@ -164,11 +176,12 @@ event_in-HasEvent : (number : ℕ) (event : Event) (bytes : List ℕ) → IsVali
 unfolding event_in
 event_in-HasEvent number (Create name params) bytes valid has =
     let small = AreSmall-in_range params valid.2 in
-    let first = number_at-take 4 48 (parameters params).0 bytes (omega (arith, small.first)) has.says.0 in
-    let second = number_at-take 4 52 (parameters params).1 bytes (omega (arith, small.second)) has.says.1.0 in
-    let third = number_at-take 4 56 (parameters params).2 bytes (omega (arith, small.third)) has.says.1.1.0 in
-    let fourth = number_at-take 4 60 (parameters params).3 bytes (omega (arith, small.fourth)) has.says.1.1.1.0 in
-    let target = params_in-numbers params 48 bytes has.family_is first second third fourth in
+    let first = number_at-take 4 48 (parameters params.family).0 bytes (omega (arith, small.first)) has.says.0 in
+    let second = number_at-take 4 52 (parameters params.family).1 bytes (omega (arith, small.second)) has.says.1.0 in
+    let third = number_at-take 4 56 (parameters params.family).2 bytes (omega (arith, small.third)) has.says.1.1.0 in
+    let fourth = number_at-take 4 60 (parameters params.family).3 bytes (omega (arith, small.fourth)) has.says.1.1.1.0 in
+    let step = number_at-take 4 4 (step_number params.within) bytes (omega (arith, small-test (step_number params.within) valid.3)) has.step_is in
+    let target = params_in-numbers params 48 4 bytes valid.2 has.family_is first second third fourth step in
     rw has.kind_is (λ i. Create (has.name_is i) (target i))
 event_in-HasEvent number (Value name t v) bytes valid has =
     let early = valid.2 in
@@ -192,13 +205,14 @@ frame_read-spelling f valid =
     let bytes = frame_spelled f in
     let high = (HasFrame-IsValidFrame f.number f.event valid).high in
     let size = slice_index-part 2 (length (event_name f.event)) bytes has.1.1.0 in
-    let named : name_in bytes ≡ event_name f.event = rw size has.1.1.1.1.0 in
-    let number = number_at-take 8 8 f.number bytes (omega arith) has.1.1.1.0 in
+    let named : name_in bytes ≡ event_name f.event = rw size has.1.1.1.1.1.0 in
+    let number = number_at-take 8 8 f.number bytes (omega arith) has.1.1.1.1.0 in
     let event = event_in-HasEvent f.number f.event bytes valid (record {
       kind_is = slice_index-part 0 (kind f.event) bytes has.0;
       family_is = slice_index-part 1 (target_family f.event) bytes has.1.0;
+      step_is = has.1.1.1.0;
       name_is = named;
-      says = has.1.1.1.1.1;
+      says = has.1.1.1.1.1.1;
     }) in
     λ i. record { number = number i; event = event i }
 

@@ -1,3 +1,4 @@
 pub mod FrameLemmas
 pub mod PieceLemmas
 mod Rows
+mod StepRows

@@ -5,7 +5,7 @@ use Rattle.ss_fields.specs.Fields as Numbers
 use Rattle.ss_catalog.specs.Names as Names
 use Rattle.ss_catalog.specs.declared.TheConstants.{LAST_TIME}
 use Rattle.ss_catalog.specs.declared.event.Event.TheVariants.{Create, Value, Open, Close, Drop}
-use Rattle.ss_catalog.specs.declared.params.Params.TheVariants.{Exp, Power}
+use Rattle.ss_catalog.specs.Params.{exp as Exp, power as Power}
 use Rattle.ss_codec.specs.Fields as Fields
 use Rattle.ss_codec.specs.Decoded.{params_in}
 use Rattle.ss_frames.specs.declared.frame.TheConstants.{FRAME_SIZE, CREATE, VALUE, OPEN, CLOSE, NUMBER, NAME, CONTENT}
@@ -45,12 +45,12 @@ abbrev four : ℕ → List ℕ
 four n = 0 ∷ 0 ∷ 0 ∷ n ∷ []
 
 -- a frame of 64 bytes: its kind, the family, the length of a name of one letter, a number below 256, this letter, and 16 bytes
-abbrev bytes_of : ℕ → ℕ → ℕ → ℕ → List ℕ → List ℕ
+abbrev pub bytes_of : ℕ → ℕ → ℕ → ℕ → List ℕ → List ℕ
 bytes_of kind family number letter content =
     kind ∷ family ∷ 1 ∷ 0 ∷ 0 ∷ 0 ∷ 0 ∷ 0 ∷ [] ++ eight number ++ letter ∷ replicate 31 0 ++ content
 
 -- the stream `a` with the target `exp 2 1 1` is created
-abbrev created_bytes : ℕ → List ℕ
+abbrev pub created_bytes : ℕ → List ℕ
 created_bytes number = bytes_of 1 1 number 97 (four 2 ++ four 1 ++ four 1 ++ four 0)
 
 spelling-create : frame_spelled (record { number = 1; event = Create (97 ∷ []) (Exp 2 1 1) }) ≡ created_bytes 1
@@ -85,7 +85,7 @@ unfolding frame_in event_in frame_spelled is_valid_frame Names.is_name Fields.wi
 reading-value_below_zero = refl
 
 -- the stream `p` with the target `power 1 1 4 2`, and with this P
-abbrev power_bytes : ℕ → List ℕ
+abbrev pub power_bytes : ℕ → List ℕ
 power_bytes p = bytes_of 1 2 1 112 (four p ++ four 1 ++ four 4 ++ four 2)
 
 spelling-create_power : frame_spelled (record { number = 1; event = Create (112 ∷ []) (Power 1 1 4 2) }) ≡ power_bytes 1
@@ -171,13 +171,21 @@ reading-byte_3 : frame_in (slice_set (value_bytes 2) 3 1) ≡ None
 unfolding frame_in event_in frame_spelled is_valid_frame Names.is_name Fields.with_field Numbers.number_at Numbers.number_bytes
 reading-byte_3 = refl
 
-reading-byte_4 : frame_in (slice_set (created_bytes 1) 4 1) ≡ None
-unfolding frame_in event_in params_in frame_spelled is_valid_frame Names.is_name Fields.with_field Numbers.number_at Numbers.number_bytes
+reading-byte_4 : frame_in (slice_set (value_bytes 2) 4 1) ≡ None
+unfolding frame_in event_in frame_spelled is_valid_frame Names.is_name Fields.with_field Numbers.number_at Numbers.number_bytes
 reading-byte_4 = refl
 
-reading-byte_7 : frame_in (slice_set (created_bytes 1) 7 1) ≡ None
-unfolding frame_in event_in params_in frame_spelled is_valid_frame Names.is_name Fields.with_field Numbers.number_at Numbers.number_bytes
+reading-byte_7 : frame_in (slice_set (value_bytes 2) 7 1) ≡ None
+unfolding frame_in event_in frame_spelled is_valid_frame Names.is_name Fields.with_field Numbers.number_at Numbers.number_bytes
 reading-byte_7 = refl
+
+reading-open_with_a_step : frame_in (slice_set (mark_bytes 3 4) 7 1) ≡ None
+unfolding frame_in event_in frame_spelled is_valid_frame Names.is_name Fields.with_field Numbers.number_at Numbers.number_bytes
+reading-open_with_a_step = refl
+
+reading-close_with_a_step : frame_in (slice_set (mark_bytes 4 5) 4 1) ≡ None
+unfolding frame_in event_in frame_spelled is_valid_frame Names.is_name Fields.with_field Numbers.number_at Numbers.number_bytes
+reading-close_with_a_step = refl
 
 reading-open_with_a_value : frame_in (slice_set (mark_bytes 3 4) 63 1) ≡ None
 unfolding frame_in event_in frame_spelled is_valid_frame Names.is_name Fields.with_field Numbers.number_at Numbers.number_bytes

@@ -3,7 +3,7 @@ ghost use Rattle.std.specs.Prelude.{◌≡◌, IfSome, IfNone};
 ghost use Rattle.ss_frames.specs.Frame.{FrameState, SpellsFrame, checked, event_in, frame_in, frame_read, name_in};
 
 use crate::encoding::encode_frame;
-use crate::frame::{CLOSE, CONTENT, CREATE, FRAME_SIZE, Frame, NAME, NUMBER, OPEN, VALUE};
+use crate::frame::{CLOSE, CONTENT, CREATE, FRAME_SIZE, Frame, NAME, NUMBER, OPEN, STEP, VALUE};
 use ss_catalog::{Event, LONGEST_NAME, Name};
 use ss_codec::params_in;
 use ss_fields::{get_i64, get_u64};
@@ -17,7 +17,7 @@ fn event_in(bytes: &[u8; FRAME_SIZE], name: Name) -> Event
     match bytes[0] {
         CREATE => Event::Create {
             name,
-            params: params_in(bytes, CONTENT),
+            params: params_in(bytes, CONTENT, STEP),
         },
         VALUE => Event::Value {
             name,

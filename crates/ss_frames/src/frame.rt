@@ -2,9 +2,11 @@
 ghost use Rattle.std.specs.Prelude.{◌≡◌, ◌&&◌, ◌==◌, nat_le};
 ghost use Rattle.ss_catalog.specs.Names.{is_name};
 ghost use Rattle.ss_catalog.specs.Params.{in_range};
+ghost use Rattle.ss_codec.specs.Record.{has_small_step};
 ghost use Rattle.ss_frames.specs.Frame.{is_later, is_valid_frame};
 
 use ss_catalog::{Event, LAST_TIME, Name, Params};
+use ss_codec::step_number;
 use std::marker::Model;
 
 /// The bytes of a frame.
@@ -21,6 +23,9 @@ pub const OPEN: u8 = 3;
 
 /// The first byte of the frame of a Close.
 pub const CLOSE: u8 = 4;
+
+/// Where the step of a Create begins.
+pub const STEP: usize = 4;
 
 /// Where the number of the event begins.
 pub const NUMBER: usize = 8;
@@ -59,11 +64,11 @@ impl Model for Frame {
 }
 
 // Whether a Create of this stream may have this number.
-#[tactic(auto, using(std::proofs::lemmas::Bool::Decides::nat_tests))]
 fn is_first(number: u64, name: &Name, params: &Params) -> bool
-    ensures { result ≡ (number == 1 && is_name name.now && in_range params.now) }
+    ensures { result ≡ (number == 1 && is_name name.now && in_range params.now && has_small_step params.now) }
 {
     let _word = name.as_bytes();
+    let _step = step_number(params.within);
     number == 1 && params.in_range()
 }
 

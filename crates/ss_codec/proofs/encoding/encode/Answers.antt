@@ -8,3 +8,7 @@ write_stream-requires-clause-short_name c = (IsStream-is_valid _ _ _ _ (rw c.in-
 pub returns-in-Window : goal.returns-in-Window
 unfolding spelling
 returns-in-Window c = rw c.in-Window.is c.write_window.ensures
+
+pub returns-in-Stream : goal.returns-in-Stream
+unfolding spelling
+returns-in-Stream c = rw c.in-Stream.is c.write_stream.ensures
