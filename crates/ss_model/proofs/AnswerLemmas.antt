@@ -22,7 +22,7 @@ use Rattle.ss_model.specs.Refusals.{IsHistory, stands}
 use Rattle.ss_model.specs.Standing.{IsStream}
 use Rattle.ss_model.specs.State.{Created, Stream, state, standing, stream_after, stream_named}
 use Rattle.ss_model.specs.Truth.{RiseAtFree}
-use Rattle.ss_model.specs.Rule.{rule_of}
+use Rattle.ss_target.specs.Rule.{rule_of}
 use Rattle.ss_model.specs.Windows.{windows}
 use Rattle.ss_model.specs.declared.outcome.Outcome.{Outcome}
 use Rattle.ss_model.specs.declared.types.Window.{Window}

@@ -6,7 +6,7 @@ use Rattle.ss_windowing.specs.Windowing.{window_index}
 use Rattle.ss_power.specs.Power.{power_length}
 use Rattle.ss_catalog.specs.declared.event.Event.TheVariants.{Create, Value, Open, Close, Drop}
 use Rattle.ss_catalog.specs.declared.params.Params.{Params}
-use Rattle.ss_catalog.specs.declared.params.Params.TheVariants.{Exp, Power}
+use Rattle.ss_catalog.specs.Params.{exp, power}
 use Rattle.ss_catalog.specs.Queries.{is_guess}
 use Rattle.ss_catalog.specs.declared.query.Kind.{Kind}
 use Rattle.ss_catalog.specs.declared.query.Kind.TheVariants as kinds
@@ -32,7 +32,7 @@ a = codes "a"
 -- a stream and seven readings
 readings : List Happened
 readings = map added (
-    Create a (Exp 2 1 1) ∷ Value a 10 (pos 5) ∷ Value a 20 (negsuc 2) ∷ Value a 30 (pos 8) ∷ Value a 40 (pos 1)
+    Create a (exp 2 1 1) ∷ Value a 10 (pos 5) ∷ Value a 20 (negsuc 2) ∷ Value a 30 (pos 8) ∷ Value a 40 (pos 1)
     ∷ Value a 50 (pos 9) ∷ Value a 60 (pos 2) ∷ Value a 70 (pos 7) ∷ [])
 
 query : Kind → ℕ → ℕ → Query
@@ -74,7 +74,7 @@ answers-guess = refl
 -- two guesses of one and a half make three, and not four; a sum of 10.5 is nearest to 10 and to 11
 halves : List Happened
 halves = map added (
-    Create a (Power 1 0 1 3) ∷ Value a 10 (pos 1) ∷ Value a 12 (pos 2) ∷ Value a 15 (pos 3) ∷ Value a 20 (pos 4) ∷ Value a 21 (pos 5)
+    Create a (power 1 0 1 3) ∷ Value a 10 (pos 1) ∷ Value a 12 (pos 2) ∷ Value a 15 (pos 3) ∷ Value a 20 (pos 4) ∷ Value a 21 (pos 5)
     ∷ Value a 25 (pos 6) ∷ [])
 
 answers-halves : map (outcome_of (state halves)) (query kinds.CountGuess 13 22 ∷ query kinds.SumGuess 13 22 ∷ []) ≡
@@ -94,7 +94,7 @@ refusals-readings = refl
 
 -- where no stream stands there is no answer, and a stream without values answers all the same
 bare : List Happened
-bare = map added (Create a (Exp 2 1 1) ∷ [])
+bare = map added (Create a (exp 2 1 1) ∷ [])
 
 answers-bare : map (outcome_of (state bare))
     (record { name = codes "x"; kind = kinds.Count; from = 0; to = 4 } ∷ query kinds.Count 0 4 ∷ query kinds.Sum 0 4 ∷ query kinds.Max 0 4 ∷ []) ≡
@@ -105,7 +105,7 @@ answers-bare = refl
 -- four values at four times in one window of four: the free times are used up
 close_times : List Happened
 close_times = map added (
-    Create a (Power 1 0 1 4) ∷ Value a 10 (pos 4) ∷ Value a 11 (pos 4) ∷ Value a 12 (pos 6) ∷ Value a 13 (pos 6) ∷ [])
+    Create a (power 1 0 1 4) ∷ Value a 10 (pos 4) ∷ Value a 11 (pos 4) ∷ Value a 12 (pos 6) ∷ Value a 13 (pos 6) ∷ [])
 
 answers-close_times : map (outcome_of (state close_times)) (query kinds.Count 10 11 ∷ query kinds.Sum 10 11 ∷ []) ≡
     Some (Count 2 2) ∷ Some (Sum (pos 8) (pos 12)) ∷ []
@@ -114,7 +114,7 @@ answers-close_times = refl
 
 -- a value in a landmark at one time, and a value after it
 at_one_time : List Happened
-at_one_time = map added (Create a (Exp 2 1 1) ∷ Open a 100 ∷ Value a 100 (pos 7) ∷ Close a 100 ∷ Value a 101 (pos 8) ∷ [])
+at_one_time = map added (Create a (exp 2 1 1) ∷ Open a 100 ∷ Value a 100 (pos 7) ∷ Close a 100 ∷ Value a 101 (pos 8) ∷ [])
 
 answers-at_one_time : map (outcome_of (state at_one_time))
     (query kinds.Sum 100 100 ∷ query kinds.Sum 101 101 ∷ query kinds.Count 100 101 ∷ query kinds.Max 0 200 ∷ query kinds.Min 0 99 ∷ []) ≡
@@ -125,7 +125,7 @@ answers-at_one_time = refl
 -- a landmark from 20 to 40 within a window from 10 to 50
 around : List Happened
 around = map added (
-    Create a (Power 1 0 1 2) ∷ Value a 10 (pos 1) ∷ Open a 20 ∷ Value a 20 (pos 100) ∷ Value a 30 (pos 200) ∷ Close a 40
+    Create a (power 1 0 1 2) ∷ Value a 10 (pos 1) ∷ Open a 20 ∷ Value a 20 (pos 100) ∷ Value a 30 (pos 200) ∷ Close a 40
     ∷ Value a 50 (pos 3) ∷ [])
 
 split_around : ℕ → ℕ → List (List SplitFigures)
@@ -154,7 +154,7 @@ answers-around_part = refl
 
 -- the values of a landmark that is open are asked for like those of others
 begun : List Happened
-begun = map added (Create a (Exp 2 1 1) ∷ Value a 10 (pos 1) ∷ Open a 20 ∷ Value a 20 (pos 5) ∷ Value a 30 (pos 6) ∷ [])
+begun = map added (Create a (exp 2 1 1) ∷ Value a 10 (pos 1) ∷ Open a 20 ∷ Value a 20 (pos 5) ∷ Value a 30 (pos 6) ∷ [])
 
 answers-begun : map (outcome_of (state begun)) (query kinds.Count 15 25 ∷ query kinds.Sum 10 30 ∷ query kinds.Max 31 40 ∷ []) ≡
     Some (Count 1 1) ∷ Some (Sum (pos 12) (pos 12)) ∷ Some (Max Nothing) ∷ []

@@ -3,7 +3,7 @@ use Rattle.std.proofs.Common.{◌≡◌, ℕ, ◌<◌, List, [], ◌∷◌, ◌+
 use Rattle.std.proofs.lemmas.Bool.{cond_both}
 use Rattle.ss_model.specs.Windows.{taken, newest_time}
 use Rattle.ss_model.specs.Closed.{joined_window, may_join, closed_onto, closed}
-use Rattle.ss_model.specs.Rule.{Rule}
+use Rattle.ss_target.specs.Rule.{Rule}
 use Rattle.ss_model.specs.declared.types.Window.{Window}
 use Rattle.ss_model.proofs.Stretches.{taken-cons}
 

@@ -13,7 +13,7 @@ use Rattle.ss_windowing.proofs.WindowingLemmas.{cut-monotone, holds-window_index
 use Rattle.ss_summary.specs.Summaries.{summary_of, time_at_end}
 use Rattle.ss_summary.specs.Points.{Point}
 use Rattle.ss_model.specs.Boundaries.{boundaries}
-use Rattle.ss_model.specs.Rule.{Rule, in_step, step_of, without_step}
+use Rattle.ss_target.specs.Rule.{Rule, in_step, step_of, without_step}
 use Rattle.ss_model.specs.Windows.{stretches, windows, taken, time_at}
 use Rattle.ss_model.specs.Closed.{last_position, joined_window, may_join, closed_onto, closed}
 use Rattle.ss_model.specs.Tiling.{AreWindows}

@@ -5,7 +5,7 @@ use Rattle.ss_power.specs.Power.{power_length}
 use Rattle.ss_windowing.specs.Windowing.{window_index}
 use Rattle.ss_catalog.specs.declared.event.Event.{Event}
 use Rattle.ss_catalog.specs.declared.event.Event.TheVariants.{Create, Value, Open, Drop}
-use Rattle.ss_catalog.specs.declared.params.Params.TheVariants.{Exp, Power}
+use Rattle.ss_catalog.specs.Params.{exp, power}
 use Rattle.ss_catalog.specs.declared.refusal.Refusal.{Refusal}
 use Rattle.ss_catalog.specs.declared.refusal.Refusal.TheVariants.{Param, Exists, Streams, Unknown, Time, StreamFull}
 use Rattle.ss_summary.specs.Filters.{bit_of, filter_of, full, union}
@@ -30,10 +30,10 @@ a = codes "a"
 -- a stream and seven readings
 readings : List Happened
 readings = map added (
-    Create a (Exp 2 1 1) ∷ Value a 10 (pos 5) ∷ Value a 20 (negsuc 2) ∷ Value a 30 (pos 8) ∷ Value a 40 (pos 1)
+    Create a (exp 2 1 1) ∷ Value a 10 (pos 5) ∷ Value a 20 (negsuc 2) ∷ Value a 30 (pos 8) ∷ Value a 40 (pos 1)
     ∷ Value a 50 (pos 9) ∷ Value a 60 (pos 2) ∷ Value a 70 (pos 7) ∷ [])
 
-state-readings : state readings ≡ record { number = 0; name = a; params = Exp 2 1 1; windows = readings_windows; landmarks = [] } ∷ []
+state-readings : state readings ≡ record { number = 0; name = a; params = exp 2 1 1; windows = readings_windows; landmarks = [] } ∷ []
 unfolding state window_index readings a bit_of filter_of union
 state-readings = refl
 
@@ -49,7 +49,7 @@ shown-windows : map (λ w. (placed_of w).last) readings_windows ≡ 4 ∷ 6 ∷ 
 shown-windows = refl
 
 shown-list : map row_of (state readings) ≡
-    record { id = record { 0 = 0 }; name = a; params = Exp 2 1 1; n = 7; k = 3; landmarks = 0; values = 0 } ∷ []
+    record { id = record { 0 = 0 }; name = a; params = exp 2 1 1; n = 7; k = 3; landmarks = 0; values = 0 } ∷ []
 unfolding state window_index readings a
 shown-list = refl
 
@@ -61,7 +61,7 @@ why : Event → Option Refusal
 why = refuses (state readings)
 
 refusals-readings : map why
-    (Create a (Exp 2 1 1) ∷ Create a (Exp 1 1 1) ∷ Create (codes "b") (Power 5 1 1 1) ∷ Create (codes "b") (Power 4 1 1 1)
+    (Create a (exp 2 1 1) ∷ Create a (exp 1 1 1) ∷ Create (codes "b") (power 5 1 1 1) ∷ Create (codes "b") (power 4 1 1 1)
     ∷ Value (codes "x") 1 (pos 1) ∷ Value a 70 (pos 1) ∷ Value a 71 (pos 1) ∷ []) ≡
     Some Exists ∷ Some Param ∷ Some Param ∷ None ∷ Some Unknown ∷ Some Time ∷ None ∷ []
 unfolding why refuses state window_index readings a
@@ -86,7 +86,7 @@ ack-greatest_time = refl
 -- each stream has its own values, and the windows that its own parameters give
 two_streams : List Happened
 two_streams = map added (
-    Create a (Exp 2 1 1) ∷ Value a 5 (pos 1) ∷ Create (codes "b") (Exp 2 1 2) ∷ Value (codes "b") 1 (pos 2) ∷ Value a 6 (pos 3)
+    Create a (exp 2 1 1) ∷ Value a 5 (pos 1) ∷ Create (codes "b") (exp 2 1 2) ∷ Value (codes "b") 1 (pos 2) ∷ Value a 6 (pos 3)
     ∷ Value (codes "b") 2 (pos 4) ∷ [])
 
 values-two_streams : map (values_of two_streams) (a ∷ codes "b" ∷ codes "x" ∷ []) ≡
@@ -111,7 +111,7 @@ numbers : map next_number ([] ∷ (0 ∷ []) ∷ (3 ∷ 7 ∷ []) ∷ []) ≡ 0 
 numbers = refl
 
 bare : ℕ → Stream
-bare number = record { number = number; name = a; params = Exp 2 1 1; windows = []; landmarks = [] }
+bare number = record { number = number; name = a; params = exp 2 1 1; windows = []; landmarks = [] }
 
 streams-limit : map has_all_streams (replicate 4095 (bare 1) ∷ replicate 4096 (bare 1) ∷ (bare 4294967294 ∷ []) ∷ (bare 4294967295 ∷ []) ∷ []) ≡
     false ∷ true ∷ false ∷ true ∷ []
@@ -122,12 +122,12 @@ full_stream : List Stream
 full_stream = record {
   number = 0;
   name = a;
-  params = Exp 2 1 1;
+  params = exp 2 1 1;
   windows = record { first = 1; summary = record { count = 2 ^ 40; sum = pos 0; min = pos 0; max = pos 0; t_first = 1; t_last = 2 ^ 40; filter = full } } ∷ [];
   landmarks = [];
 } ∷ []
 
-refusals-full_stream : map (refuses full_stream) (Value a (2 ^ 40) (pos 0) ∷ Value a (2 ^ 40 + 1) (pos 0) ∷ Create (codes "b") (Exp 2 1 1) ∷ []) ≡
+refusals-full_stream : map (refuses full_stream) (Value a (2 ^ 40) (pos 0) ∷ Value a (2 ^ 40 + 1) (pos 0) ∷ Create (codes "b") (exp 2 1 1) ∷ []) ≡
     Some Time ∷ Some StreamFull ∷ None ∷ []
 unfolding refuses full_stream a
 refusals-full_stream = refl
@@ -137,7 +137,7 @@ almost_full : List Stream
 almost_full = record {
   number = 0;
   name = a;
-  params = Exp 2 1 1;
+  params = exp 2 1 1;
   windows =
       record { first = 1; summary = record { count = 2 ^ 40 - 1; sum = pos 0; min = pos 0; max = pos 0; t_first = 1; t_last = 2 ^ 40; filter = full } } ∷ [];
   landmarks = [];
@@ -172,7 +172,7 @@ b = codes "b"
 -- a name is dropped and created again
 created_again : List Happened
 created_again = map added (
-    Create a (Exp 2 1 1) ∷ Value a 5 (pos 1) ∷ Create b (Exp 2 1 2) ∷ Value b 1 (pos 2) ∷ Drop a ∷ Create a (Exp 2 1 1) ∷ Value a 3 (pos 9)
+    Create a (exp 2 1 1) ∷ Value a 5 (pos 1) ∷ Create b (exp 2 1 2) ∷ Value b 1 (pos 2) ∷ Drop a ∷ Create a (exp 2 1 1) ∷ Value a 3 (pos 9)
     ∷ Open a 4 ∷ [])
 
 -- the new stream comes last, with a number that none had: that of the dropped one is below the greatest and isn't used again
@@ -186,11 +186,11 @@ one_value t v =
     record { first = 1; summary = record { count = 1; sum = pos v; min = pos v; max = pos v; t_first = t; t_last = t; filter = filter_of (pos v) } }
 
 state-created_again : state created_again ≡
-    record { number = 1; name = b; params = Exp 2 1 2; windows = one_value 1 2 ∷ []; landmarks = [] }
+    record { number = 1; name = b; params = exp 2 1 2; windows = one_value 1 2 ∷ []; landmarks = [] }
     ∷ record {
       number = 2;
       name = a;
-      params = Exp 2 1 1;
+      params = exp 2 1 1;
       windows = one_value 3 9 ∷ [];
       landmarks = record { start = 4; finish = None; values = [] } ∷ [];
     } ∷ []
@@ -225,7 +225,7 @@ records-created_again = refl
 
 -- a dropped name is unknown until it is created, and then known
 refusals-created_again : map (λ k. map (refuses (state (take k created_again)))
-    (Drop a ∷ Drop b ∷ Drop (codes "x") ∷ Value a 4 (pos 1) ∷ Create a (Exp 2 1 1) ∷ [])) (4 ∷ 5 ∷ 6 ∷ []) ≡
+    (Drop a ∷ Drop b ∷ Drop (codes "x") ∷ Value a 4 (pos 1) ∷ Create a (exp 2 1 1) ∷ [])) (4 ∷ 5 ∷ 6 ∷ []) ≡
     (None ∷ None ∷ Some Unknown ∷ Some Time ∷ Some Exists ∷ []) ∷ (Some Unknown ∷ None ∷ Some Unknown ∷ Some Unknown ∷ None ∷ [])
     ∷ (None ∷ None ∷ Some Unknown ∷ None ∷ Some Exists ∷ []) ∷ []
 unfolding refuses state window_index created_again a b
@@ -241,9 +241,9 @@ unfolding state window_index created_again a b
 without-created_again = refl
 
 -- the number after the greatest that stands: that of a dropped stream, where none of a greater number stands
-numbers-greatest : map (λ events. map (λ s. s.number) (state (map added (Create a (Exp 2 1 1) ∷ events))))
-    ((Create b (Exp 2 1 1) ∷ Drop b ∷ Create (codes "c") (Exp 2 1 1) ∷ []) ∷ (Create b (Exp 2 1 1) ∷ Drop a ∷ Create (codes "c") (Exp 2 1 1) ∷ [])
-    ∷ (Drop a ∷ Create b (Exp 2 1 1) ∷ []) ∷ (Drop a ∷ []) ∷ []) ≡
+numbers-greatest : map (λ events. map (λ s. s.number) (state (map added (Create a (exp 2 1 1) ∷ events))))
+    ((Create b (exp 2 1 1) ∷ Drop b ∷ Create (codes "c") (exp 2 1 1) ∷ []) ∷ (Create b (exp 2 1 1) ∷ Drop a ∷ Create (codes "c") (exp 2 1 1) ∷ [])
+    ∷ (Drop a ∷ Create b (exp 2 1 1) ∷ []) ∷ (Drop a ∷ []) ∷ []) ≡
     (0 ∷ 1 ∷ []) ∷ (1 ∷ 2 ∷ []) ∷ (0 ∷ []) ∷ [] ∷ []
 unfolding state window_index a b
 numbers-greatest = refl
@@ -261,32 +261,32 @@ unfolding refuses full_stream almost_full bare a
 refusals-drop_full = refl
 
 -- a history may drop what stands, and nothing else
-history-drop : IsHistory (map added (Create a (Exp 2 1 1) ∷ Drop a ∷ []))
+history-drop : IsHistory (map added (Create a (exp 2 1 1) ∷ Drop a ∷ []))
 unfolding refuses state window_index a
 history-drop =
-    IsHistory_push (map added (Create a (Exp 2 1 1) ∷ [])) (added (Drop a)) (record {
-      before = IsHistory_push [] (added (Create a (Exp 2 1 1))) (record { before = IsHistory-nil; said = tt; accepted = refl });
+    IsHistory_push (map added (Create a (exp 2 1 1) ∷ [])) (added (Drop a)) (record {
+      before = IsHistory_push [] (added (Create a (exp 2 1 1))) (record { before = IsHistory-nil; said = tt; accepted = refl });
       said = tt;
       accepted = refl;
     })
 
-history-drop_unknown : IsHistory (map added (Create a (Exp 2 1 1) ∷ Drop b ∷ [])) → ⊥
+history-drop_unknown : IsHistory (map added (Create a (exp 2 1 1) ∷ Drop b ∷ [])) → ⊥
 unfolding refuses state window_index a b
 history-drop_unknown whole =
-    let wrong : Some Unknown ≡ None = (GoesOn-push (map added (Create a (Exp 2 1 1) ∷ [])) (added (Drop b)) whole).accepted in
+    let wrong : Some Unknown ≡ None = (GoesOn-push (map added (Create a (exp 2 1 1) ∷ [])) (added (Drop b)) whole).accepted in
     cc
 
 -- an open landmark goes with its stream: a value after the next create is one outside landmarks, at whatever time
 dropped_open : List Happened
 dropped_open = map added (
-    Create a (Exp 2 1 1) ∷ Value a 5 (pos 1) ∷ Open a 6 ∷ Value a 6 (pos 2) ∷ Drop a ∷ Create a (Power 1 0 1 2) ∷ Value a 1 (pos 9) ∷ [])
+    Create a (exp 2 1 1) ∷ Value a 5 (pos 1) ∷ Open a 6 ∷ Value a 6 (pos 2) ∷ Drop a ∷ Create a (power 1 0 1 2) ∷ Value a 1 (pos 9) ∷ [])
 
 landmarks-dropped_open : map (λ k. length (landmarks_of (take k dropped_open) a)) (4 ∷ 6 ∷ 7 ∷ []) ≡ 1 ∷ 0 ∷ 0 ∷ []
 unfolding dropped_open a
 landmarks-dropped_open = refl
 
 state-dropped_open : state dropped_open ≡
-    record { number = 0; name = a; params = Power 1 0 1 2; windows = one_value 1 9 ∷ []; landmarks = [] } ∷ []
+    record { number = 0; name = a; params = power 1 0 1 2; windows = one_value 1 9 ∷ []; landmarks = [] } ∷ []
 unfolding state window_index power_length dropped_open one_value a
 state-dropped_open = refl
 
@@ -296,7 +296,7 @@ unfolding refuses state window_index power_length dropped_open a
 refusals-dropped_open = refl
 
 -- the place and the last number of a stream are free again once it was dropped
-refusals-last_dropped : map (λ streams. refuses streams (Create b (Exp 2 1 1)))
+refusals-last_dropped : map (λ streams. refuses streams (Create b (exp 2 1 1)))
     ((bare 4294967295 ∷ []) ∷ stepped (bare 4294967295 ∷ []) (Drop a) ∷ replicate 4096 (bare 1) ∷ stepped (replicate 4096 (bare 1)) (Drop a) ∷ []) ≡
     Some Streams ∷ None ∷ Some Streams ∷ None ∷ []
 unfolding refuses stepped_from bare a b
@@ -306,7 +306,7 @@ refusals-last_dropped = refl
 
 -- a store without filters took the first two values, and one with filters the third
 grown : List Happened
-grown = (Create a (Exp 2 1 1), Old) ∷ (Value a 5 (pos 1), Old) ∷ (Value a 6 (pos 2), Old) ∷ added (Value a 7 (pos 3)) ∷ []
+grown = (Create a (exp 2 1 1), Old) ∷ (Value a 5 (pos 1), Old) ∷ (Value a 6 (pos 2), Old) ∷ added (Value a 7 (pos 3)) ∷ []
 
 values-grown : values_of grown a ≡ (5, pos 1, Old) ∷ (6, pos 2, Old) ∷ (7, pos 3, New) ∷ []
 unfolding grown a

@@ -1,9 +1,10 @@
 -- Joining windows that are due: what it leads to, and what it leaves.
 use Rattle.std.proofs.Common.{◌≡◌, ℕ, zero, suc, ◌+◌, Bool, true, false, cond, List, [], ◌∷◌, ◌++◌, refl, sym, ap, ◌∙◌, subst, length}
 use Rattle.std.proofs.Common.{arith, append_assoc, length-append}
-use Rattle.std.specs.Prelude.{IsTrue}
+use Rattle.std.specs.Prelude.{All, IsTrue}
 use Rattle.std.specs.List.{list_all}
 use Rattle.std.proofs.lemmas.Bool.{and_from, and_parts, cond-true, cond-false, cond_both}
+use Rattle.std.proofs.lemmas.List.Elements.{All-cons, All-head, All-tail}
 use Rattle.std.proofs.lemmas.List.Folds.{list_all-append}
 use Rattle.ss_landmarks.specs.Landmark.{Landmark}
 use Rattle.ss_summary.specs.Summaries.{summary_of}
@@ -11,10 +12,10 @@ use Rattle.ss_summary.proofs.SummaryLemmas.{joined_assoc, IsPossible-joined}
 use Rattle.ss_summary.specs.Points.{Point}
 use Rattle.ss_model.specs.Windows.{windows, taken, newest_time}
 use Rattle.ss_model.specs.Closed.{last_position, joined_window, may_join, closed_onto, closed}
-use Rattle.ss_model.specs.Decay.{NoneIsDue}
+use Rattle.ss_model.specs.Decay.{IsInStep, NoneIsDue}
 use Rattle.ss_model.specs.Joins.{JoinsTwo, Joins, JoinsDue}
 use Rattle.ss_model.specs.Marks.{lies_free}
-use Rattle.ss_model.specs.Rule.{Rule, may_be_one, step_of}
+use Rattle.ss_target.specs.Rule.{Rule, may_be_one, step_of}
 use Rattle.ss_model.specs.Tiling.{AreWindows}
 use Rattle.ss_model.specs.declared.types.Window.{Window}
 use Rattle.ss_model.proofs.DecayLemmas.{MeetSteps-pushed, TileFrom-pushed, NoneIsDue-closed, NoneIsDue-windows}
@@ -178,6 +179,32 @@ AreWindows-joins rule n (suc k) old new tiles joins =
 
 pub AreWindows-JoinsDue : (rule : Rule) (n : ℕ) (old new : List Window) → AreWindows old → JoinsDue rule n old new → AreWindows new
 AreWindows-JoinsDue rule n old new tiles joins = AreWindows-joins rule n joins.0 old new tiles joins.1
+
+-- a window that comes of two that are due lies in one step, among the others
+in_steps_two : (step : ℕ) (us vs : List Window) (w v : Window) → All (IsInStep step) (us ++ w ∷ v ∷ vs) → IsInStep step (joined_window w v) →
+    All (IsInStep step) (us ++ joined_window w v ∷ vs)
+in_steps_two step [] vs w v all one =
+    let P = IsInStep step in
+    All-cons P (joined_window w v) vs one (All-tail P v vs (All-tail P w (v ∷ vs) all))
+in_steps_two step (u ∷ us) vs w v all one =
+    let P = IsInStep step in
+    All-cons P u (us ++ joined_window w v ∷ vs) (All-head P u (us ++ w ∷ v ∷ vs) all)
+    (in_steps_two step us vs w v (All-tail P u (us ++ w ∷ v ∷ vs) all) one)
+
+in_steps-joins : (rule : Rule) (n k : ℕ) (old new : List Window) → All (IsInStep rule.step) old → Joins rule n k old new →
+    All (IsInStep rule.step) new
+in_steps-joins rule n zero old new all same = subst (λ ws. All (IsInStep rule.step) ws) same all
+in_steps-joins rule n (suc k) old new all joins =
+    let one = joins.1 in
+    let here : All (IsInStep rule.step) (one.before ++ one.window ∷ one.next ∷ one.rest) = subst (λ ws. All (IsInStep rule.step) ws) one.was all in
+    in_steps-joins rule n k joins.0 new
+    (subst (λ ws. All (IsInStep rule.step) ws) (sym one.is)
+    (in_steps_two rule.step one.before one.rest one.window one.next here (and_parts _ _ one.due).0)) joins.2
+
+-- joining what is due leaves each window in its step
+pub IsInStep-JoinsDue : (rule : Rule) (n : ℕ) (old new : List Window) → All (IsInStep rule.step) old → JoinsDue rule n old new →
+    All (IsInStep rule.step) new
+IsInStep-JoinsDue rule n old new all joins = in_steps-joins rule n joins.0 old new all joins.1
 
 taken_two : (us vs : List Window) (w v : Window) → taken (us ++ joined_window w v ∷ vs) ≡ taken (us ++ w ∷ v ∷ vs)
 taken_two us vs w v =

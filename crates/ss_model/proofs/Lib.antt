@@ -36,6 +36,8 @@ pub mod PresenceLemmas
 pub mod RisingLemmas
 pub mod AnswerLemmas
 pub mod RowLemmas
+pub mod WholeLemmas
+mod WithinRows
 mod NewestRows
 mod NewestTruthRows
 pub mod NewestLemmas

@@ -5,7 +5,7 @@ use Rattle.ss_power.specs.Power.{power_length}
 use Rattle.ss_windowing.specs.Windowing.{window_index}
 use Rattle.ss_catalog.specs.declared.event.Event.{Event}
 use Rattle.ss_catalog.specs.declared.event.Event.TheVariants.{Create, Value, Open, Close}
-use Rattle.ss_catalog.specs.declared.params.Params.TheVariants.{Exp, Power}
+use Rattle.ss_catalog.specs.Params.{exp, power}
 use Rattle.ss_catalog.specs.declared.refusal.Refusal.{Refusal}
 use Rattle.ss_catalog.specs.declared.refusal.Refusal.TheVariants as refusal
 use Rattle.ss_landmarks.specs.Landmark.{Landmark, opened_at}
@@ -24,7 +24,7 @@ b = codes "b"
 
 -- create b exp 2 1 1, open b 100, append b 100 7, close b 100
 one_moment : List Happened
-one_moment = map added (Create b (Exp 2 1 1) ∷ Open b 100 ∷ Value b 100 (pos 7) ∷ Close b 100 ∷ [])
+one_moment = map added (Create b (exp 2 1 1) ∷ Open b 100 ∷ Value b 100 (pos 7) ∷ Close b 100 ∷ [])
 
 -- append b 100 8, append b 101 8
 refusals-one_moment : map (refuses (state one_moment)) (Value b 100 (pos 8) ∷ Value b 101 (pos 8) ∷ []) ≡ Some refusal.Time ∷ None ∷ []
@@ -34,7 +34,7 @@ refusals-one_moment = refl
 state-one_moment : state (one_moment ++ added (Value b 101 (pos 8)) ∷ []) ≡ record {
   number = 0;
   name = b;
-  params = Exp 2 1 1;
+  params = exp 2 1 1;
   windows = record {
     first = 1;
     summary = record { count = 1; sum = pos 8; min = pos 8; max = pos 8; t_first = 101; t_last = 101; filter = filter_of (pos 8) };
@@ -46,7 +46,7 @@ state-one_moment = refl
 
 -- the values of a landmark are kept one by one, so also those that a store without filters took count as new
 old_moment : List Happened
-old_moment = map (λ event. (event, Old)) (Create b (Exp 2 1 1) ∷ Open b 100 ∷ Value b 100 (pos 7) ∷ Close b 100 ∷ Value b 101 (pos 8) ∷ [])
+old_moment = map (λ event. (event, Old)) (Create b (exp 2 1 1) ∷ Open b 100 ∷ Value b 100 (pos 7) ∷ Close b 100 ∷ Value b 101 (pos 8) ∷ [])
 
 marked-old_moment : marked_of old_moment b ≡ (100, pos 7, New) ∷ []
 unfolding old_moment b
@@ -62,7 +62,7 @@ c = codes "c"
 
 around : List Happened
 around = map added (
-    Create c (Power 1 0 1 2) ∷ Value c 10 (pos 1) ∷ Open c 20 ∷ Value c 20 (pos 100) ∷ Value c 30 (pos 200) ∷ Close c 40
+    Create c (power 1 0 1 2) ∷ Value c 10 (pos 1) ∷ Open c 20 ∷ Value c 20 (pos 100) ∷ Value c 30 (pos 200) ∷ Close c 40
     ∷ Value c 50 (pos 3) ∷ [])
 
 -- the values outside landmarks, and those of landmarks
@@ -97,7 +97,7 @@ acks-around = refl
 
 -- list: two values, one window, one landmark with two values, and with the stream itself five records
 shown-around : map row_of (state around) ≡
-    record { id = record { 0 = 0 }; name = c; params = Power 1 0 1 2; n = 2; k = 1; landmarks = 1; values = 2 } ∷ []
+    record { id = record { 0 = 0 }; name = c; params = power 1 0 1 2; n = 2; k = 1; landmarks = 1; values = 2 } ∷ []
 unfolding state window_index power_length around c
 shown-around = refl
 
@@ -162,7 +162,7 @@ full_with : List Landmark → List Stream
 full_with landmarks = record {
   number = 0;
   name = c;
-  params = Exp 2 1 1;
+  params = exp 2 1 1;
   windows = record { first = 1; summary = record { count = 2 ^ 40; sum = pos 0; min = pos 0; max = pos 0; t_first = 1; t_last = 2 ^ 40; filter = full } } ∷ [];
   landmarks = landmarks;
 } ∷ []

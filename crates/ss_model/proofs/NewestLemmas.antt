@@ -35,7 +35,7 @@ use Rattle.std.specs.List.{find, position_or_len}
 use Rattle.std.proofs.lemmas.List.Folds.{find_at}
 use Rattle.std.proofs.lemmas.Option.{get_or_from_slice_get, slice_get_within}
 use Rattle.ss_landmarks.specs.Free.{is_free}
-use Rattle.ss_model.specs.Rule.{Rule, rule_of}
+use Rattle.ss_target.specs.Rule.{Rule, rule_of}
 use Rattle.ss_model.specs.Windows.{stretches, time_at, time_of_last, windows}
 use Rattle.ss_model.specs.declared.newest.Known.{Known}
 use Rattle.ss_model.specs.declared.types.Window.{Window}

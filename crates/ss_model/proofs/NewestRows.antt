@@ -4,7 +4,7 @@ use Rattle.std.specs.Prelude.{Option}
 use Rattle.ss_power.specs.Power.{power_length}
 use Rattle.ss_windowing.specs.Windowing.{window_index}
 use Rattle.ss_catalog.specs.declared.event.Event.TheVariants.{Create, Value as Append, Open, Close, Drop}
-use Rattle.ss_catalog.specs.declared.params.Params.TheVariants.{Exp, Power}
+use Rattle.ss_catalog.specs.Params.{exp, power}
 use Rattle.ss_catalog.specs.declared.refusal.Refusal.TheVariants.{Unknown, Range}
 use Rattle.ss_landmarks.specs.Landmark.{LandmarkValue}
 use Rattle.ss_landmarks.specs.ValuesIn.{values_between}
@@ -26,7 +26,7 @@ e = codes "e"
 -- a stream whose first value is the one of a landmark, at its opening
 marked_first : List Happened
 marked_first = map added (
-    Create e (Exp 2 1 1) ∷ Open e 5 ∷ Append e 5 (negsuc 0) ∷ Close e 9 ∷ Append e 10 (pos 3) ∷ Open e 20 ∷ Drop e ∷ Create e (Exp 2 1 1) ∷ [])
+    Create e (exp 2 1 1) ∷ Open e 5 ∷ Append e 5 (negsuc 0) ∷ Close e 9 ∷ Append e 10 (pos 3) ∷ Open e 20 ∷ Drop e ∷ Create e (exp 2 1 1) ∷ [])
 
 -- last e: none, 5, 5 5 -1 -1, 9 5 -1 -1, 10 10 3 3, 20 10 3 3, no such stream, none
 newest-marked_first : told_of marked_first e (1 ∷ 2 ∷ 3 ∷ 4 ∷ 5 ∷ 6 ∷ 7 ∷ 8 ∷ []) ≡
@@ -46,7 +46,7 @@ d = codes "d"
 -- a stream whose newest window has several values
 several : List Happened
 several = map added (
-    Create d (Power 1 0 1 4) ∷ Append d 10 (pos 4) ∷ Append d 11 (pos 4) ∷ Append d 12 (pos 6) ∷ Append d 13 (pos 5) ∷ Append d 14 (pos 9)
+    Create d (power 1 0 1 4) ∷ Append d 10 (pos 4) ∷ Append d 11 (pos 4) ∷ Append d 12 (pos 6) ∷ Append d 13 (pos 5) ∷ Append d 14 (pos 9)
     ∷ Append d 15 (pos 8) ∷ Open d 20 ∷ Append d 20 (pos 7) ∷ [])
 
 -- last d: 13 13 4 6, 14 14 9 9, 15 15 8 9, 20 15 8 9, 20 20 7 7
@@ -72,7 +72,7 @@ b = codes "b"
 -- a stream with a closed landmark of two values, an open one of one, and two values outside
 kept : List Happened
 kept = map added (
-    Create b (Exp 2 1 1) ∷ Append b 1 (pos 9) ∷ Open b 10 ∷ Append b 10 (pos 7) ∷ Append b 12 (negsuc 6) ∷ Close b 15 ∷ Append b 16 (pos 9) ∷ Open b 20
+    Create b (exp 2 1 1) ∷ Append b 1 (pos 9) ∷ Open b 10 ∷ Append b 10 (pos 7) ∷ Append b 12 (negsuc 6) ∷ Close b 15 ∷ Append b 16 (pos 9) ∷ Open b 20
     ∷ Append b 25 (pos 0) ∷ [])
 
 -- values b 0 100, values b 11 24, values b 12 12, values b 13 19, values b 10 25, values b 11 25, values b 10 24

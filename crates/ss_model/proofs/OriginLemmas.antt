@@ -16,7 +16,7 @@ use Rattle.ss_model.specs.History.{Given, Happened, creates, given_after, given_
 use Rattle.ss_model.specs.Marks.{has_open, later, latest_of}
 use Rattle.ss_model.specs.Origins.{as_old, unfiltered_stream, unfiltered_window}
 use Rattle.ss_model.specs.State.{Created, Stream, standing, standing_after, state, stream_after}
-use Rattle.ss_model.specs.Rule.{Rule, rule_of}
+use Rattle.ss_target.specs.Rule.{Rule, rule_of}
 use Rattle.ss_model.specs.Windows.{newest_time, stretches, taken, time_at, windows}
 use Rattle.ss_model.specs.declared.types.Window.{Window}
 use Rattle.ss_model.proofs.EventLemmas.{after_last-push_yes, given_to-event, given_to-other}

@@ -4,7 +4,7 @@ use Rattle.std.proofs.lemmas.List.{take-append-drop, append-nil}
 use Rattle.ss_summary.specs.Summaries.{summary_of}
 use Rattle.ss_summary.specs.Points.{Point}
 use Rattle.ss_model.specs.Boundaries.{boundaries}
-use Rattle.ss_model.specs.Rule.{Rule}
+use Rattle.ss_target.specs.Rule.{Rule}
 use Rattle.ss_model.specs.Windows.{stretches, time_at, windows}
 use Rattle.ss_model.proofs.Rises.{Rises, Rises-low, Rises-boundaries}
 use Rattle.ss_model.proofs.Stretches.{length-back}

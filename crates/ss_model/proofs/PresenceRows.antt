@@ -4,7 +4,7 @@ use Rattle.std.proofs.Common.{refl, sym, subst}
 use Rattle.ss_windowing.specs.Windowing.{window_index}
 use Rattle.ss_power.specs.Power.{power_length}
 use Rattle.ss_catalog.specs.declared.event.Event.TheVariants.{Create, Value, Open, Close}
-use Rattle.ss_catalog.specs.declared.params.Params.TheVariants.{Exp, Power}
+use Rattle.ss_catalog.specs.Params.{exp, power}
 use Rattle.ss_catalog.specs.declared.query.Kind.{Kind}
 use Rattle.ss_catalog.specs.declared.query.Kind.TheVariants as kinds
 use Rattle.ss_catalog.specs.declared.query.Query.{Query}
@@ -36,7 +36,7 @@ known = map (λ presence. Some (Has presence))
 -- values 9, 2, and the value 7
 readings : Origin → Origin → List Happened
 readings third others =
-    (Create a (Exp 2 1 1), others) ∷ (Value a 10 (pos 5), others) ∷ (Value a 20 (negsuc 2), others) ∷ (Value a 30 (pos 8), third)
+    (Create a (exp 2 1 1), others) ∷ (Value a 10 (pos 5), others) ∷ (Value a 20 (negsuc 2), others) ∷ (Value a 30 (pos 8), third)
     ∷ (Value a 40 (pos 1), others) ∷ (Value a 50 (pos 9), others) ∷ (Value a 60 (pos 2), others) ∷ (Value a 70 (pos 7), others) ∷ []
 
 -- the greatest of a whole window, one of its values, none of them; one of a split window, none of two whole ones, one alone
@@ -80,7 +80,7 @@ unfolding answers known one outcome_of state window_index readings a bit_of filt
 presence-old_among_new = refl
 
 -- 5 and 300 in one window: 238 has the bit of 5, and 239 has one of its own
-presence-same_bit : answers (map added (Create a (Power 1 0 1 2) ∷ Value a 1 (pos 5) ∷ Value a 2 (pos 300) ∷ []))
+presence-same_bit : answers (map added (Create a (power 1 0 1 2) ∷ Value a 1 (pos 5) ∷ Value a 2 (pos 300) ∷ []))
     (one (pos 238) 1 2 ∷ one (pos 239) 1 2 ∷ one (pos 238) 2 2 ∷ []) ≡ known (Maybe ∷ Absent ∷ Maybe ∷ [])
 unfolding answers known one outcome_of state power_length window_index a bit_of filter_of has union
 presence-same_bit = refl
@@ -88,7 +88,7 @@ presence-same_bit = refl
 -- a landmark from 20 to 40 with two values, within a window from 10 to 50 that has the values 1 and 3
 around : List Happened
 around = map added (
-    Create a (Power 1 0 1 2) ∷ Value a 10 (pos 1) ∷ Open a 20 ∷ Value a 20 (pos 100) ∷ Value a 30 (pos 200) ∷ Close a 40
+    Create a (power 1 0 1 2) ∷ Value a 10 (pos 1) ∷ Open a 20 ∷ Value a 20 (pos 100) ∷ Value a 30 (pos 200) ∷ Close a 40
     ∷ Value a 50 (pos 3) ∷ [])
 
 -- a value of the landmark is there where its time is in the range
@@ -104,7 +104,7 @@ unfolding answers known one outcome_of state power_length window_index around a 
 presence-no_room = refl
 
 -- a stream without values has none, and no stream has no answer
-presence-bare : map (outcome_of (state (map added (Create a (Exp 2 1 1) ∷ []))))
+presence-bare : map (outcome_of (state (map added (Create a (exp 2 1 1) ∷ []))))
     (one (pos 0) 0 4 ∷ record { name = codes "x"; kind = kinds.Has (pos 0); from = 0; to = 4 } ∷ []) ≡ Some (Has Absent) ∷ None ∷ []
 unfolding one outcome_of state window_index a
 presence-bare = refl

@@ -12,7 +12,7 @@ use Rattle.ss_summary.specs.Points.{Point, New}
 use Rattle.ss_model.specs.Interval.{interval_of_count, interval_of_sum, interval_of_least, interval_of_greatest, split_windows}
 use Rattle.ss_model.specs.Marks.{marked_values}
 use Rattle.ss_model.specs.Truth.{true_count, true_sum}
-use Rattle.ss_model.specs.Rule.{without_step}
+use Rattle.ss_target.specs.Rule.{without_step}
 use Rattle.ss_model.specs.Windows.{windows}
 use Rattle.ss_model.specs.declared.types.Window.{Window}
 

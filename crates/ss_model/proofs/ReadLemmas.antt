@@ -1,5 +1,5 @@
 -- What is read off the state of a history.
-use Rattle.std.proofs.Common.{◌≡◌, ◌≢◌, ℕ, ◌+◌, ◌*◌, ◌<◌, ◌≤◌, false, true, List, [], ◌∷◌, length, get_or, refl, ap, sym, ◌∙◌, arith, None, Some, inl, inr}
+use Rattle.std.proofs.Common.{◌≡◌, ◌≢◌, ℕ, ◌+◌, ◌-◌, ◌*◌, ◌<◌, ◌≤◌, false, true, List, [], ◌∷◌, length, map, get_or, refl, ap, sym, subst, ◌∙◌, arith, None, Some, inl, inr}
 use Rattle.std.specs.Prelude.{All, Option}
 use Rattle.std.specs.Option.{option_or}
 use Rattle.std.proofs.lemmas.Bool.{cases_Bool, cond_both}
@@ -12,18 +12,20 @@ use Rattle.ss_catalog.specs.declared.event.Event.TheVariants.{Create, Value, Ope
 use Rattle.ss_target.specs.Lengths.{has_target, lengths_of}
 use Rattle.ss_target.proofs.LengthLemmas.{lengths_of-positive, lengths_of-never_fall}
 use Rattle.ss_summary.specs.Points.{Point, Origin}
-use Rattle.ss_model.specs.Decay.{cover, IsWithinTarget}
+use Rattle.ss_model.specs.Decay.{cover, steps_met, IsWithinTarget}
 use Rattle.ss_model.specs.History.{values_of, Happened}
 use Rattle.ss_model.specs.Marks.{has_open, with_closed, with_marked, with_opened}
 use Rattle.ss_model.specs.Refusals.{IsHistory}
 use Rattle.ss_model.specs.Standing.{IsStream}
-use Rattle.ss_model.specs.Rule.{rule_of}
+use Rattle.ss_target.specs.Rule.{rule_of}
 use Rattle.ss_model.specs.State.{Created, Stream, state, standing, stream_after, stream_named, values_in}
 use Rattle.ss_model.specs.Steps.{change_named, stepped_from, with_taken, with_plain_value}
-use Rattle.ss_model.proofs.DecayLemmas.{length-windows, IsWithinTarget-windows}
+use Rattle.ss_model.specs.Windows.{windows}
+use Rattle.ss_model.proofs.DecayLemmas.{length-windows, length-windows_met, IsWithinTarget-windows}
 use Rattle.ss_model.proofs.DropLemmas.{stream_named-without}
 use Rattle.ss_model.proofs.HistoryLemmas.{IsState-state}
 use Rattle.ss_model.proofs.NameLemmas.{same_name-Decides, same_name-differ}
+use Rattle.ss_model.proofs.RuleLemmas.{rule_of-alone}
 use Rattle.ss_model.proofs.Stretches.{taken-windows}
 
 -- what holds of each stream as a history leaves it holds in its state
@@ -68,15 +70,26 @@ stream_named-stepped origin streams (Close other t) name apart =
     named-changed_other name other (λ s. record s { landmarks = with_closed s.landmarks t }) streams apart (λ s. refl)
 stream_named-stepped origin streams (Drop other) name apart = stream_named-without name other streams apart
 
-pub decay-state : (history : List Happened) →
-    All (λ s. 0 < values_in s → length s.windows + 1 ≤ 2 * cover (lengths_of s.params) (values_in s)) (state history)
+pub decay-state : (history : List Happened) → All (λ s. 0 < values_in s → length s.windows + 1 ≤ 2 * (cover (lengths_of s.params) (values_in s)
+    + steps_met (rule_of s.params).step (map (λ (p : Point). p.0) (values_of history s.name)) - 1)) (state history)
 decay-state history =
-    All-state (λ s. 0 < values_in s → length s.windows + 1 ≤ 2 * cover (lengths_of s.params) (values_in s)) history
+    All-state (λ s. 0 < values_in s → length s.windows + 1 ≤ 2 * (cover (lengths_of s.params) (values_in s)
+    + steps_met (rule_of s.params).step (map (λ (p : Point). p.0) (values_of history s.name)) - 1)) history
     (λ c some.
     let rule = rule_of c.params in
     let values = values_of history c.name in
     let count = taken-windows rule values in
-    rw count (length-windows (lengths_of c.params) values (omega arith)))
+    rw count (length-windows_met rule values (omega arith)))
+
+pub decay-state_alone : (history : List Happened) → All (λ s. s.params.within ≡ None → 0 < values_in s
+    → length s.windows + 1 ≤ 2 * cover (lengths_of s.params) (values_in s)) (state history)
+decay-state_alone history =
+    All-state (λ s. s.params.within ≡ None → 0 < values_in s → length s.windows + 1 ≤ 2 * cover (lengths_of s.params) (values_in s)) history
+    (λ c none some.
+    let values = values_of history c.name in
+    let count = taken-windows (rule_of c.params) values in
+    rw count (subst (λ rule. length (windows rule values) + 1 ≤ 2 * cover (lengths_of c.params) (length values)) (sym (rule_of-alone c.params none))
+    (length-windows (lengths_of c.params) values (omega arith))))
 
 pub within-state : (history : List Happened) → IsHistory history →
     All (λ s. All (IsWithinTarget (lengths_of s.params) (values_in s)) s.windows) (state history)

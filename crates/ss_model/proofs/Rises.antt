@@ -2,7 +2,7 @@
 -- times that lie in the same steps.
 use Rattle.std.proofs.Common.{◌≡◌, ℕ, zero, suc, ◌+◌, ◌<◌, ◌≤◌, Bool, true, false, cond, List, [], ◌∷◌, ◌++◌, refl, ap, ◌∙◌, add-one, arith}
 use Rattle.ss_model.specs.Boundaries.{next_boundary, staying, boundaries}
-use Rattle.ss_model.specs.Rule.{Rule, may_be_one, step_of}
+use Rattle.ss_target.specs.Rule.{Rule, may_be_one, step_of}
 
 -- the list rises strictly, above `before` and below `end`
 abbrev pub Rises : ℕ → List ℕ → ℕ → Type 0

@@ -19,7 +19,7 @@ use Rattle.ss_model.specs.History.{Given, given_after, given_to, is_for, landmar
 use Rattle.ss_model.specs.Marks.{has_open, later, latest_of, with_closed, with_marked, with_opened}
 use Rattle.ss_model.specs.Refusals.{IsHistory, is_before, is_early, is_opening, is_past, refuses}
 use Rattle.ss_model.specs.Standing.{IsStream}
-use Rattle.ss_model.specs.Rule.{rule_of}
+use Rattle.ss_target.specs.Rule.{rule_of}
 use Rattle.ss_model.specs.State.{Created, Stream, state, standing, stream_after, stream_named, last_time}
 use Rattle.ss_model.specs.Truth.{RiseAtFree}
 use Rattle.ss_model.specs.Windows.{time_of_last}

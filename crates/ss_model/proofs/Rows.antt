@@ -8,7 +8,7 @@ use Rattle.ss_summary.specs.Filters.{bit_of, filter_of, full, union}
 use Rattle.ss_summary.specs.Points.{Point, New}
 use Rattle.ss_summary.specs.declared.filter.Filter.{Filter}
 use Rattle.ss_model.specs.Boundaries.{boundaries}
-use Rattle.ss_model.specs.Rule.{without_step}
+use Rattle.ss_target.specs.Rule.{without_step}
 use Rattle.ss_model.specs.Windows.{stretches, windows}
 use Rattle.ss_model.specs.Closed.{closed}
 use Rattle.ss_model.specs.Joins.{JoinsDue}

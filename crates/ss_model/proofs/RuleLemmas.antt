@@ -1,16 +1,19 @@
 -- Neighbours that may be one: what of their ends follows, and how that stays when they are joined.
-use Rattle.std.proofs.Common.{◌≡◌, ℕ, zero, suc, ◌+◌, ◌-◌, ◌*◌, ◌/◌, ◌<◌, ◌≤◌, ◌==◌, true, false, List, [], ◌∷◌, ◌++◌, inl, inr, refl, sym, ap, ◌∙◌, arith}
+use Rattle.std.proofs.Common.{◌≡◌, ℕ, zero, suc, ◌+◌, ◌-◌, ◌/◌, ◌≤◌, true, List, [], ◌∷◌, refl, sym, ap, ◌∙◌, arith}
 use Rattle.std.proofs.Common.{add_assoc}
-use Rattle.std.specs.Prelude.{All}
+use Rattle.std.specs.Prelude.{All, None}
 use Rattle.std.proofs.Math.Nat.{div-mul-le_self, div-zero}
 use Rattle.std.proofs.lemmas.Bool.{and_parts, cond_both, eqb-true}
-use Rattle.std.proofs.lemmas.List.Elements.{All-nil, All-cons, All-head, All-tail}
+use Rattle.std.proofs.lemmas.List.Elements.{All-cons, All-head, All-tail}
 use Rattle.std.proofs.lemmas.Nat.{le-div}
+use Rattle.ss_catalog.specs.Params.{step_number}
+use Rattle.ss_catalog.specs.declared.params.Params.{Params}
 use Rattle.ss_windowing.specs.Windowing.{fits, window_index}
 use Rattle.ss_windowing.proofs.WindowingLemmas.{window_index-monotone}
 use Rattle.ss_model.specs.Closed.{last_position, joined_window, may_join, closed_onto, closed}
 use Rattle.ss_model.specs.Decay.{IsInStep}
-use Rattle.ss_model.specs.Rule.{Rule, step_of, without_step}
+use Rattle.ss_target.specs.Lengths.{lengths_of}
+use Rattle.ss_target.specs.Rule.{Rule, rule_of, step_of, without_step}
 use Rattle.ss_model.specs.Tiling.{StandFrom}
 use Rattle.ss_model.specs.declared.types.Window.{Window}
 
@@ -134,6 +137,10 @@ IsInStep-closed rule n (w ∷ ws) all = IsInStep-closed_onto rule n w ws all
 -- without a step the test is that of target windows alone
 pub may_join-without_step : (len : ℕ → ℕ) (n : ℕ) (w v : Window) → may_join (without_step len) n w v ≡ fits len w.first (last_position v) n
 may_join-without_step len n w v = refl
+
+-- the rule of a target without a step is that of target windows alone
+pub rule_of-alone : (params : Params) → params.within ≡ None → rule_of params ≡ without_step (lengths_of params)
+rule_of-alone params none = ap (λ within. record { lengths = lengths_of params; step = step_number within }) none
 
 -- the step that a time lies in is a quotient, since that by 0 is 0
 pub step_of-quotient : (step t : ℕ) → step_of step t ≡ t / step

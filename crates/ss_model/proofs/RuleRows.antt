@@ -1,5 +1,5 @@
 -- Worked rows of merge rules with a step, each computed.
-use Rattle.std.proofs.Common.{◌≡◌, ℕ, Bool, true, false, List, [], ◌∷◌, ◌++◌, length, map, refl, ℤ, pos, negsuc}
+use Rattle.std.proofs.Common.{◌≡◌, ℕ, Bool, true, false, List, [], ◌∷◌, ◌++◌, map, refl, pos, negsuc}
 use Rattle.ss_power.specs.Power.{power_length}
 use Rattle.ss_summary.specs.Filters.{bit_of, filter_of, union}
 use Rattle.ss_summary.specs.Points.{Point, New}
@@ -9,7 +9,7 @@ use Rattle.ss_windowing.specs.Windowing.{window_index}
 use Rattle.ss_model.specs.Boundaries.{boundaries}
 use Rattle.ss_model.specs.Closed.{closed, last_position}
 use Rattle.ss_model.specs.Decay.{steps_met}
-use Rattle.ss_model.specs.Rule.{Rule, in_step, without_step}
+use Rattle.ss_target.specs.Rule.{Rule, in_step, without_step}
 use Rattle.ss_model.specs.Windows.{time_at, windows}
 use Rattle.ss_model.specs.declared.types.Window.{Window}
 

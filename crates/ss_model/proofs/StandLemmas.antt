@@ -21,11 +21,12 @@ use Rattle.ss_summary.proofs.Values.{IsPossible-summary_of}
 use Rattle.ss_windowing.specs.declared.decay.TheConstants.{MOST_VALUES}
 use Rattle.ss_summary.specs.Points.{Point, Origin}
 use Rattle.ss_model.specs.Closed.{closed, closed_onto, joined_window, may_join}
+use Rattle.ss_model.specs.Decay.{IsInStep}
 use Rattle.ss_model.specs.History.{CanBeSaid}
 use Rattle.ss_model.specs.Marks.{has_open, with_closed, with_marked, with_opened}
 use Rattle.ss_model.specs.Refusals.{has_all_records, is_before, is_early, has_most_values, is_past, of_named, refuses}
 use Rattle.ss_model.specs.Standing.{IsStream, IsState}
-use Rattle.ss_model.specs.Rule.{Rule, rule_of}
+use Rattle.ss_target.specs.Rule.{Rule, rule_of}
 use Rattle.ss_model.specs.State.{Stream, next_number, numbers_of, names_of, stream_named, values_in, last_time, live, records_of}
 use Rattle.ss_model.specs.Steps.{change_named, single_window, stepped_from, with_taken, with_plain_value}
 use Rattle.ss_model.specs.declared.types.TheConstants.{MOST_RECORDS}
@@ -96,7 +97,7 @@ IsState-create origin streams name params before can =
     let limits = or-false (nat_le MOST_STREAMS (length streams)) (list_any (λ s. s.number == LAST_STREAM) streams) can.room in
     record {
       each = All-push IsStream streams new before.each
-          (record { target = can.target; number = next_number-le streams before.each limits.1; windows = AreWindows-nil; landmarks = tt; free = refl });
+          (record { target = can.target; number = next_number-le streams before.each limits.1; windows = AreWindows-nil; steps = All-nil (IsInStep (rule_of params).step); landmarks = tt; free = refl });
       numbers = rw (map-append (λ (s : Stream). s.number) streams (new ∷ []))
           (IsStrictlyIncreasing_push (numbers_of streams) number before.numbers (below_next (numbers_of streams)));
       names = rw (map-append (λ (s : Stream). s.name) streams (new ∷ [])) (IsDistinct_push streams name before.names can.new);

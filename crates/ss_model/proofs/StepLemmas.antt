@@ -16,7 +16,7 @@ use Rattle.ss_target.specs.Lengths.{has_target}
 use Rattle.ss_summary.specs.Points.{Point, Origin}
 use Rattle.ss_model.specs.History.{Given, creates, given_after, given_to, Happened}
 use Rattle.ss_model.specs.Marks.{has_open, with_closed, with_opened}
-use Rattle.ss_model.specs.Rule.{rule_of}
+use Rattle.ss_target.specs.Rule.{rule_of}
 use Rattle.ss_model.specs.State.{Created, Stream, next_number, standing_after, standing, stream_after, state, last_time}
 use Rattle.ss_model.specs.Refusals.{stands, has_all_streams, has_all_records, is_before, is_early, has_most_values, is_past, first_that_applies, of_named}
 use Rattle.ss_model.specs.Refusals.{refuses}

@@ -5,10 +5,10 @@ use Rattle.std.specs.Prelude.{FitsSigned, ◌==◌, is_some, IsNone}
 use Rattle.std.specs.Int.{w64}
 use Rattle.std.specs.List.{list_all}
 use Rattle.std.specs.Option.{option_map_or}
-use Rattle.std.proofs.lemmas.Bool.{and_from, and_parts, cases_Bool, eqb-true, not-false}
+use Rattle.std.proofs.lemmas.Bool.{and_from, and_parts, cases_Bool, eq-eqb, eqb-true, not-false}
 use Rattle.std.proofs.lemmas.Bool.Decides.{nat_tests}
 use Rattle.std.proofs.lemmas.List.{length_push}
-use Rattle.std.proofs.lemmas.List.Elements.{All-nil}
+use Rattle.std.proofs.lemmas.List.Elements.{All-nil, All-push}
 use Rattle.std.proofs.lemmas.List.Folds.{list_all-append}
 use Rattle.ss_catalog.specs.declared.TheConstants.{LAST_TIME}
 use Rattle.ss_landmarks.specs.Free.{is_free}
@@ -22,16 +22,17 @@ use Rattle.ss_summary.specs.Summaries.{summary_of}
 use Rattle.ss_windowing.specs.declared.decay.TheConstants.{MOST_VALUES}
 use Rattle.ss_summary.specs.Points.{Point}
 use Rattle.ss_model.specs.Closed.{closed}
+use Rattle.ss_model.specs.Decay.{IsInStep}
 use Rattle.ss_model.specs.Joins.{JoinsDue}
 use Rattle.ss_model.specs.Marks.{has_open, lies_free, with_closed, with_marked, with_opened}
 use Rattle.ss_model.specs.Refusals.{is_before, is_early, is_opening, is_past}
 use Rattle.ss_model.specs.Standing.{IsStream}
-use Rattle.ss_model.specs.Rule.{Rule, rule_of}
+use Rattle.ss_target.specs.Rule.{rule_of}
 use Rattle.ss_model.specs.State.{Stream, last_time, records_of, values_in}
 use Rattle.ss_model.specs.Steps.{single_window, with_plain_value}
 use Rattle.ss_model.specs.Windows.{newest_time}
 use Rattle.ss_model.specs.declared.types.Window.{Window}
-use Rattle.ss_model.proofs.JoinLemmas.{AreWindows-JoinsDue, JoinsDue-closed, lie_free-JoinsDue}
+use Rattle.ss_model.proofs.JoinLemmas.{AreWindows-JoinsDue, IsInStep-JoinsDue, JoinsDue-closed, lie_free-JoinsDue}
 use Rattle.ss_model.proofs.MarkLemmas.{cases_end, free-later, is_free-closed, is_free-marked, is_free-opened, lie_free-same, lie_free-same_all}
 use Rattle.ss_model.proofs.MarkLemmas.{lies_free-single}
 use Rattle.ss_model.proofs.Tiles.{AreWindows_push}
@@ -134,6 +135,7 @@ IsStream-opened s t sound none past early = record {
   target = sound.target;
   number = sound.number;
   windows = sound.windows;
+  steps = sound.steps;
   landmarks = FollowFrom-open 0 t s.landmarks sound.landmarks (CanOpen-past s t none past) (omega arith) early;
   free = elim (cases_end (newest_time s.windows) s.landmarks) [
     | inl nothing ↦
@@ -151,6 +153,7 @@ IsStream-marked s t v sound begun later early fits = record {
   target = sound.target;
   number = sound.number;
   windows = sound.windows;
+  steps = sound.steps;
   landmarks = AreLandmarks-take s.landmarks (record { t = t; v = v }) sound.landmarks (CanTake-early s t begun later) early fits;
   free = lie_free-same_all (with_marked s.landmarks t v) s.landmarks s.windows (λ u. is_free-marked s.landmarks t v u) ∙ sound.free;
 }
@@ -161,6 +164,7 @@ IsStream-closed s t sound begun before early = record {
   target = sound.target;
   number = sound.number;
   windows = sound.windows;
+  steps = sound.steps;
   landmarks = AreLandmarks-close s.landmarks t sound.landmarks (CanClose-before s t begun before) early;
   free = elim (cases_end (newest_time s.windows) s.landmarks) [
     | inl nothing ↦ absurd (none-open s.landmarks begun nothing.marks)
@@ -182,6 +186,7 @@ IsStream-single s p sound none past few possible =
       target = sound.target;
       number = sound.number;
       windows = AreWindows_push s.windows p sound.windows few (newest-past s p.0 past) possible;
+      steps = All-push (IsInStep (rule_of s.params).step) s.windows w sound.steps (eq-eqb _ _ refl);
       landmarks = sound.landmarks;
       free = list_all-append (lies_free s.landmarks) s.windows (w ∷ [])
           ∙ and_from (list_all (lies_free s.landmarks) s.windows) (list_all (lies_free s.landmarks) (w ∷ [])) sound.free
@@ -189,12 +194,13 @@ IsStream-single s p sound none past few possible =
     }
 
 -- with some windows that are due joined, however many
-pub IsStream-joined : (rule : Rule) (n : ℕ) (s : Stream) (ws : List Window) → IsStream s → JoinsDue rule n s.windows ws →
+pub IsStream-joined : (n : ℕ) (s : Stream) (ws : List Window) → IsStream s → JoinsDue (rule_of s.params) n s.windows ws →
     IsStream (record s { windows = ws })
-IsStream-joined rule n s ws sound joins = record {
+IsStream-joined n s ws sound joins = let rule = rule_of s.params in record {
   target = sound.target;
   number = sound.number;
   windows = AreWindows-JoinsDue rule n s.windows ws sound.windows joins;
+  steps = IsInStep-JoinsDue rule n s.windows ws sound.steps joins;
   landmarks = sound.landmarks;
   free = lie_free-JoinsDue rule n s.windows ws s.landmarks sound.windows joins sound.free;
 }
@@ -206,7 +212,7 @@ IsStream-value s p sound none past few possible =
     let rule = rule_of s.params in
     let n = values_in s + 1 in
     let ws = s.windows ++ single_window n p ∷ [] in
-    IsStream-joined rule n (record s { windows = ws }) (closed rule n ws) (IsStream-single s p sound none past few possible) (JoinsDue-closed rule n ws)
+    IsStream-joined n (record s { windows = ws }) (closed rule n ws) (IsStream-single s p sound none past few possible) (JoinsDue-closed rule n ws)
 
 -- ---- how many records it needs then
 

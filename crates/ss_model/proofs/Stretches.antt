@@ -6,7 +6,7 @@ use Rattle.ss_summary.specs.Summaries.{summary_of}
 use Rattle.ss_summary.proofs.SummaryLemmas.{time_at_end-append}
 use Rattle.ss_summary.specs.Points.{Point}
 use Rattle.ss_model.specs.Boundaries.{boundaries}
-use Rattle.ss_model.specs.Rule.{Rule}
+use Rattle.ss_target.specs.Rule.{Rule}
 use Rattle.ss_model.specs.Windows.{stretches, windows, taken, newest_time, time_at, time_of_last}
 use Rattle.ss_model.specs.declared.types.Window.{Window}
 use Rattle.ss_model.proofs.Rises.{Rises, Rises-low, Rises-boundaries}

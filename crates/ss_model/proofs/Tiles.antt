@@ -11,7 +11,7 @@ use Rattle.ss_summary.proofs.SummaryLemmas.{IsPossible-joined}
 use Rattle.ss_summary.specs.Points.{Point}
 use Rattle.ss_model.specs.Windows.{taken, newest_time}
 use Rattle.ss_model.specs.Closed.{last_position, joined_window, may_join, closed_onto, closed}
-use Rattle.ss_model.specs.Rule.{Rule}
+use Rattle.ss_target.specs.Rule.{Rule}
 use Rattle.ss_model.specs.Tiling.{StandFrom, AreWindows, AreNeighbours}
 use Rattle.ss_model.specs.declared.types.Window.{Window}
 use Rattle.ss_model.proofs.Stretches.{taken-cons}

@@ -1,11 +1,11 @@
 -- Which time each position has.
-use Rattle.std.proofs.Common.{◌≡◌, ℕ, zero, suc, ◌+◌, ◌-◌, ◌<◌, ◌≤◌, List, [], ◌∷◌, ◌++◌, length, map, get_or, refl, ap, sym, ◌∙◌, subst}
-use Rattle.std.proofs.Common.{add-zero, add_assoc, append_assoc, arith}
-use Rattle.std.proofs.lemmas.List.{append-nil, get_or_append_left, length-map, length_push, map-append}
+use Rattle.std.proofs.Common.{◌≡◌, ℕ, ◌+◌, ◌-◌, ◌<◌, List, [], ◌∷◌, ◌++◌, length, map, get_or, ap, sym, ◌∙◌, subst}
+use Rattle.std.proofs.Common.{append_assoc, arith}
+use Rattle.std.proofs.lemmas.List.{get_or_append_left, length-map, length_push, map-append}
 use Rattle.std.proofs.Math.Seq.{get_or-append_seam}
 use Rattle.ss_summary.specs.Points.{Point}
 use Rattle.ss_summary.specs.Summaries.{summary_of, time_at_end}
-use Rattle.ss_model.specs.Rule.{Rule, step_of}
+use Rattle.ss_target.specs.Rule.{step_of}
 use Rattle.ss_model.specs.Windows.{time_at}
 use Rattle.ss_model.proofs.Rises.{InSameSteps}
 

@@ -2,7 +2,7 @@
 use Rattle.std.specs.Prelude.{◌≡◌, ℕ, zero, suc, ◌+◌, ◌-◌, ◌≤◌, true, false, List, [], ◌∷◌, if◌then◌else◌}
 use Rattle.ss_windowing.specs.Windowing.{window_index}
 use Rattle.ss_model.specs.Closed.{last_position, may_join}
-use Rattle.ss_model.specs.Rule.{Rule, in_step}
+use Rattle.ss_target.specs.Rule.{Rule, in_step}
 use Rattle.ss_model.specs.declared.types.Placed.{Placed}
 use Rattle.ss_model.specs.declared.types.Window.{Window}
 

@@ -4,7 +4,7 @@ ghost use Rattle.ss_windowing.specs.Windowing.{cut, ArePositive, NeverFall};
 ghost use Rattle.ss_summary.specs.Points.{Point};
 ghost use Rattle.ss_model.specs.Windows.{windows, taken};
 ghost use Rattle.ss_model.specs.Closed.{closed};
-ghost use Rattle.ss_model.specs.Rule.{Rule, without_step};
+ghost use Rattle.ss_target.specs.Rule.{Rule, without_step};
 ghost use Rattle.ss_model.specs.Tiling.{AreWindows};
 ghost use Rattle.ss_model.specs.Decay.{cover, ends_of, steps_met, IsInStep, NoneIsDue, IsWithinTarget};
 ghost use Rattle.ss_model.specs.declared.types.Window.{Window};

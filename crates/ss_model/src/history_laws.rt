@@ -1,15 +1,15 @@
 // Laws of histories and their states, each the contract of a function that does nothing.
-ghost use Rattle.std.specs.Prelude.{◌≡◌, ◌≢◌, ◌+◌, ◌*◌, ◌<◌, ◌≤◌, ◌↔◌, ℕ, List, [], ◌∷◌, ◌++◌, length, map, slice_get, All, IfSome, None, Some};
+ghost use Rattle.std.specs.Prelude.{◌≡◌, ◌≢◌, ◌+◌, ◌-◌, ◌*◌, ◌<◌, ◌≤◌, ◌↔◌, ℕ, List, [], ◌∷◌, ◌++◌, length, map, slice_get, All, IfSome, None, Some};
 ghost use Rattle.ss_catalog.specs.Events.{event_name};
 ghost use Rattle.ss_catalog.specs.declared.event.Event.{Event};
 ghost use Rattle.ss_target.specs.Lengths.{lengths_of};
-ghost use Rattle.ss_summary.specs.Points.{Origin};
-ghost use Rattle.ss_model.specs.Decay.{cover, IsReadWithinTarget, IsWithinTarget};
+ghost use Rattle.ss_summary.specs.Points.{Origin, Point};
+ghost use Rattle.ss_model.specs.Decay.{cover, steps_met, IsReadWithinTarget, IsWithinTarget};
 ghost use Rattle.ss_model.specs.History.{CanBeSaid, landmarks_of, values_of, Happened};
 ghost use Rattle.ss_model.specs.Marks.{later, latest_of};
 ghost use Rattle.ss_model.specs.Origins.{as_old, unfiltered_stream};
 ghost use Rattle.ss_model.specs.Refusals.{IsHistory, refuses};
-ghost use Rattle.ss_model.specs.Rule.{rule_of};
+ghost use Rattle.ss_target.specs.Rule.{rule_of};
 ghost use Rattle.ss_model.specs.Shown.{placed_of};
 ghost use Rattle.ss_model.specs.Standing.{IsState};
 ghost use Rattle.ss_model.specs.State.{last_time, state, Stream, stream_named, stream_numbered, values_in};
@@ -63,11 +63,13 @@ pub fn streams_are_of_their_values()
         All (λ s. last_time s ≡ later (time_of_last (values_of history s.name)) (latest_of (landmarks_of history s.name))) (state history) }
 {}
 
-/// In the state of a history each stream has at most 2K - 1 windows where K target windows cover its values, and no window
-/// is longer than the target window that holds its newest value.
+/// In the state of a history each stream has at most 2(K + B - 1) - 1 windows where K target windows cover its values and their times
+/// lie in B steps, so at most 2K - 1 without a step. No window is longer than the target window that holds its newest value.
 pub fn states_keep_to_their_targets()
-    ensures decay { (history : List Happened) →
-        All (λ s. 0 < values_in s → length s.windows + 1 ≤ 2 * cover (lengths_of s.params) (values_in s)) (state history) }
+    ensures decay { (history : List Happened) → All (λ s. 0 < values_in s → length s.windows + 1 ≤ 2 * (cover (lengths_of s.params) (values_in s)
+        + steps_met (rule_of s.params).step (map (λ (p : Point). p.0) (values_of history s.name)) - 1)) (state history) }
+    ensures decay_alone { (history : List Happened) → All (λ s. s.params.within ≡ None → 0 < values_in s →
+        length s.windows + 1 ≤ 2 * cover (lengths_of s.params) (values_in s)) (state history) }
     ensures within { (history : List Happened) → IsHistory history →
         All (λ s. All (IsWithinTarget (lengths_of s.params) (values_in s)) s.windows) (state history) }
     ensures read { (history : List Happened) (streams : List Stream) (number place : ℕ) (p : Placed) → IsHistory history →

@@ -12,6 +12,7 @@ mod outcome;
 mod outline_laws;
 mod query_laws;
 mod series_laws;
+mod step_laws;
 mod types;
 
 pub use answer_laws::{
@@ -43,4 +44,5 @@ pub use query_laws::{
     unsplit_answers_are_exact,
 };
 pub use series_laws::rows_hold_the_truth;
+pub use step_laws::whole_steps_are_exact;
 pub use types::{Ack, MOST_RECORDS, Placed, Run, StreamRow, Window};

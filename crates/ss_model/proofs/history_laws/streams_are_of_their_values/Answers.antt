@@ -1,5 +1,5 @@
 use Rattle.std.proofs.Common.{◌≡◌, ap, length, refl}
-use Rattle.ss_model.specs.Rule.{rule_of}
+use Rattle.ss_target.specs.Rule.{rule_of}
 use Rattle.ss_model.specs.History.{landmarks_of, values_of}
 use Rattle.ss_model.specs.Marks.{later, latest_of}
 use Rattle.ss_model.specs.State.{values_in, last_time}

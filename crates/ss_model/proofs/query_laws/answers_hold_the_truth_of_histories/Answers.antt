@@ -2,7 +2,7 @@ use Rattle.std.proofs.Common.{◌≤◌}
 use Rattle.std.specs.Prelude.{◌≤ℤ◌}
 use Rattle.ss_bounds.specs.Truth.{HoldsExtreme}
 use Rattle.ss_landmarks.specs.Free.{is_free}
-use Rattle.ss_model.specs.Rule.{rule_of}
+use Rattle.ss_target.specs.Rule.{rule_of}
 use Rattle.ss_model.specs.Answers.{HoldsPresence}
 use Rattle.ss_model.specs.History.{landmarks_of, marked_of, values_of}
 use Rattle.ss_model.specs.Interval.{interval_of_count, interval_of_greatest, interval_of_least, interval_of_sum, presence_of}
