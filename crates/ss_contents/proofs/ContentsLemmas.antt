@@ -15,8 +15,7 @@ use Rattle.ss_model.specs.Interval.{interval_of_count, interval_of_sum, known_co
 use Rattle.ss_model.specs.Marks.{marked_values}
 use Rattle.ss_model.specs.Refusals.{IsHistory}
 use Rattle.ss_model.specs.Standing.{IsStream}
-use Rattle.ss_target.specs.Lengths.{lengths_of}
-use Rattle.ss_model.specs.Rule.{rule_of}
+use Rattle.ss_target.specs.Rule.{rule_of}
 use Rattle.ss_model.specs.State.{Stream, state, stream_after, stream_named}
 use Rattle.ss_model.specs.Windows.{windows}
 use Rattle.ss_model.proofs.IntervalLemmas.{AreOf, count-lies, sum-lies}
@@ -29,9 +28,10 @@ use Rattle.ss_contents.specs.Attained.{IsAttained, MayBeTrue, truth_of_kind}
 use Rattle.ss_contents.specs.Contents.{Contents, contents_of, own_windows, AreContents, Like, count_in, sum_in}
 use Rattle.ss_contents.specs.Rebuilt.{rebuilt}
 use Rattle.ss_contents.specs.Sides.{Sides, AllFit, count_inside, sum_inside}
-use Rattle.ss_contents.proofs.PieceLemmas.{AreOf-alike, length-others, windows-others}
+use Rattle.ss_contents.proofs.PieceLemmas.{AreOf-alike, length-others}
 use Rattle.ss_contents.proofs.ReplacedLemmas.{AreReplaced, replaced-all, total-append}
 use Rattle.ss_contents.proofs.SayableLemmas.{sayable-others, sayable-standing}
+use Rattle.ss_contents.proofs.StepLemmas.{windows-others}
 
 module _ (c : Contents) (from to : ℕ) (sides : List Sides) (sound : AreContents c)
     (fit : AllFit (split_windows (is_free c.landmarks) from to (own_windows c)) sides) where
@@ -44,7 +44,7 @@ module _ (c : Contents) (from to : ℕ) (sides : List Sides) (sound : AreContent
     params = refl;
     landmarks = refl;
     number = length-others (rule_of c.params) c.plain (rebuilt from to sides c).plain parts.of;
-    windows = windows-others (lengths_of c.params) c.plain (rebuilt from to sides c).plain parts.of;
+    windows = windows-others (is_free c.landmarks) 0 (rule_of c.params) c.plain (rebuilt from to sides c).plain parts.of sound.rising parts.rising;
   }
 
   pub AreContents-rebuilt : AreContents (rebuilt from to sides c)

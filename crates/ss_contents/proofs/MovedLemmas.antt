@@ -1,5 +1,5 @@
 -- Values that are moved to other times are as many in a range as there are times in it, and their windows are the same, filters included.
-use Rattle.std.specs.Prelude.{◌≡◌, ℕ, zero, suc, ◌+◌, ◌-◌, Bool, ℤ, pos, ◌+ℤ◌, List, [], ◌∷◌, length, take, drop, All, Some}
+use Rattle.std.specs.Prelude.{◌≡◌, ℕ, zero, suc, ◌+◌, ◌-◌, Bool, ℤ, pos, ◌+ℤ◌, List, [], ◌∷◌, length, get_or, map, take, drop, All, Some}
 use Rattle.std.specs.Int.{int_min, int_max}
 use Rattle.std.proofs.Common.{ap, arith, inl, inr, refl, sym, ◌∙◌, subst}
 use Rattle.std.proofs.lemmas.Bool.{cases_Bool}
@@ -15,16 +15,20 @@ use Rattle.ss_summary.specs.Points.{Point, Old, New}
 use Rattle.ss_summary.specs.Summaries.{greatest, least, summary_of, time_at_end, total}
 use Rattle.ss_model.specs.Boundaries.{boundaries}
 use Rattle.ss_model.specs.Marks.{marked_values}
-use Rattle.ss_model.specs.Rule.{rule_of}
+use Rattle.ss_target.specs.Rule.{rule_of, step_of}
 use Rattle.ss_model.specs.State.{Stream, stream_named}
 use Rattle.ss_model.specs.Truth.{RiseAtFree}
 use Rattle.ss_model.specs.Windows.{stretches, time_at}
 use Rattle.ss_model.specs.declared.types.Window.{Window}
+use Rattle.ss_model.proofs.IntervalLemmas.{AreOf}
+use Rattle.ss_model.proofs.PieceLemmas.{AreOf-windows}
 use Rattle.ss_model.proofs.Rises.{boundaries-same}
 use Rattle.ss_contents.specs.Attained.{MayBeTrue, truth_of_kind}
 use Rattle.ss_contents.specs.Contents.{AreContents, Contents, IsSayableValue, Like, contents_of, count_in, own_windows, unfiltered_windows}
 use Rattle.ss_contents.specs.Moved.{AreKeptAlike, MayBeCounted, at_times_of, moved}
 use Rattle.ss_contents.proofs.ContentsLemmas.{AreContents-named}
+use Rattle.ss_contents.proofs.PieceLemmas.{AreOf-alike}
+use Rattle.ss_contents.proofs.StepLemmas.{boundaries-others}
 
 -- ---- lists
 
@@ -184,6 +188,25 @@ module _ (c d : Contents) (sound : AreContents c) (other : AreContents d) (like 
     landmarks = sound.landmarks;
   }
 
+  -- the other values are of the same windows, at rising times that no landmark of the first covers
+  others-of : AreOf (own_windows c) d.plain
+  others-of = AreOf-alike (own_windows d) (own_windows c) d.plain like.windows (AreOf-windows (rule_of d.params) d.plain)
+
+  others-rise : RiseAtFree (is_free c.landmarks) 0 d.plain
+  others-rise = subst (λ ls. RiseAtFree (is_free ls) 0 d.plain) like.landmarks other.rising
+
+  -- and so they are cut after the same boundaries, as the values at their times are
+  times-moved : (ps ts : List Point) (k : ℕ) → length ps ≡ length ts →
+      get_or (map (λ (p : Point). p.0) (at_times_of ps ts)) k 0 ≡ get_or (map (λ (p : Point). p.0) ts) k 0
+  times-moved [] [] k same = refl
+  times-moved [] (t ∷ ts) k same = cc
+  times-moved (p ∷ ps) [] k same = cc
+  times-moved (p ∷ ps) (t ∷ ts) zero same = refl
+  times-moved (p ∷ ps) (t ∷ ts) (suc k) same = times-moved ps ts k (omega (arith, same))
+
+  boundaries-cut : (n : ℕ) → boundaries (rule_of c.params) (time_at d.plain) n ≡ boundaries (rule_of c.params) (time_at c.plain) n
+  boundaries-cut n = boundaries-others (is_free c.landmarks) 0 (rule_of c.params) c.plain d.plain others-of sound.rising others-rise n
+
   windows-moved : own_windows (moved c d) ≡ own_windows c
   windows-moved =
       let rule = rule_of c.params in
@@ -192,9 +215,12 @@ module _ (c d : Contents) (sound : AreContents c) (other : AreContents d) (like 
       let own = at_times_of c.plain d.plain in
       let number : stretches 1 (boundaries rule (time_at own) (length own)) own ≡ stretches 1 bs own =
       ap (λ m. stretches 1 (boundaries rule (time_at own) m) own) (length-at_times_of c.plain d.plain as_many)
-      ∙ ap (λ cs. stretches 1 cs own) (boundaries-same rule (time_at own) (time_at c.plain) n (λ place some low. refl)) in
+      ∙ ap (λ cs. stretches 1 cs own)
+      (boundaries-same rule (time_at own) (time_at d.plain) n
+      (λ place some low. ap (step_of rule.step) (times-moved c.plain d.plain (place - 1) as_many))
+      ∙ boundaries-cut n) in
       let others : unfiltered_windows (stretches 1 bs d.plain) ≡ unfiltered_windows (stretches 1 bs c.plain) =
-      ap (λ cs. unfiltered_windows (stretches 1 cs d.plain)) (boundaries-same rule (time_at c.plain) (time_at d.plain) n (λ place some low. refl))
+      ap (λ cs. unfiltered_windows (stretches 1 cs d.plain)) (sym (boundaries-cut n))
       ∙ ap (λ m. unfiltered_windows (stretches 1 (boundaries rule (time_at d.plain) m) d.plain)) as_many
       ∙ ap (λ params. unfiltered_windows (stretches 1 (boundaries (rule_of params) (time_at d.plain) (length d.plain)) d.plain)) (sym like.params)
       ∙ like.windows in

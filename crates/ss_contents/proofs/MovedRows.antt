@@ -2,7 +2,7 @@
 use Rattle.std.specs.Prelude.{◌≡◌, ℕ, true, false, pos, negsuc, List, [], ◌∷◌, map, Some}
 use Rattle.std.proofs.Common.{refl}
 use Rattle.ss_windowing.specs.Windowing.{window_index}
-use Rattle.ss_catalog.specs.declared.params.Params.TheVariants.{Exp}
+use Rattle.ss_catalog.specs.Params.{exp}
 use Rattle.ss_catalog.specs.declared.query.Query.{Query}
 use Rattle.ss_summary.specs.Filters.{bit_of, filter_of, has, union}
 use Rattle.ss_summary.specs.Points.{Point, New, Old}
@@ -19,7 +19,7 @@ abbrev seven : List Point
 seven = (10, pos 5, New) ∷ (20, negsuc 2, New) ∷ (30, pos 8, New) ∷ (40, pos 1, New) ∷ (50, pos 9, New) ∷ (60, pos 2, New) ∷ (70, pos 7, New) ∷ []
 
 abbrev readings : Contents
-readings = record { params = Exp 2 1 1; plain = seven; landmarks = [] }
+readings = record { params = exp 2 1 1; plain = seven; landmarks = [] }
 
 -- each value keeps its origin, and a value without a time, or a time without a value, is left out
 at-times : at_times_of ((1, pos 5, Old) ∷ (2, pos 6, New) ∷ (3, pos 7, New) ∷ []) ((8, pos 0, New) ∷ (9, pos 0, Old) ∷ [])
@@ -60,6 +60,22 @@ counts-moved : map (count_in 10 25) (moved readings (rebuilt 10 25 one readings)
     ≡ 1 ∷ 2 ∷ 3 ∷ []
 unfolding window_index
 counts-moved = refl
+
+-- so it is where no window crosses a boundary between minutes: the values stay in their minutes
+abbrev minutes : Contents
+minutes = record { params = record { family = (exp 2 1 1).family; within = Some 60 }; plain = seven; landmarks = [] }
+
+windows-minutes : map (λ (w : Window). w.summary.count) (own_windows minutes) ≡ 4 ∷ 1 ∷ 1 ∷ 1 ∷ []
+unfolding window_index
+windows-minutes = refl
+
+windows-moved_in_minutes : own_windows (moved minutes (rebuilt 10 25 three minutes)) ≡ own_windows minutes
+unfolding window_index
+windows-moved_in_minutes = refl
+
+counts-moved_in_minutes : count_in 10 25 (moved minutes (rebuilt 10 25 three minutes)) ≡ 3
+unfolding window_index
+counts-moved_in_minutes = refl
 
 -- contents of which a store keeps the same are the same in each of these
 params-AreKeptAlike : (c d : Contents) → AreKeptAlike c d → c.params ≡ d.params

@@ -1,18 +1,17 @@
 -- Windows of one list of values and of another: each window of some values of both, one after the other.
 use Rattle.std.specs.Prelude.{◌≡◌, ℕ, ◌+◌, ◌-◌, ◌≤◌, Bool, true, List, [], ◌∷◌, ◌++◌, length, take, drop}
-use Rattle.std.proofs.Common.{ap, arith, refl, sym, ◌∙◌}
+use Rattle.std.proofs.Common.{ap, arith, sym, ◌∙◌}
 use Rattle.std.proofs.lemmas.List.{append-nil, length-append}
 use Rattle.ss_summary.specs.Figures.{Figures, unfiltered}
 use Rattle.ss_summary.specs.Summaries.{summary_of, time_at_end}
 use Rattle.ss_summary.specs.Points.{Point}
-use Rattle.ss_model.specs.Boundaries.{boundaries}
-use Rattle.ss_model.specs.Rule.{Rule, without_step}
+use Rattle.ss_target.specs.Rule.{Rule}
 use Rattle.ss_model.specs.Truth.{RiseAtFree}
-use Rattle.ss_model.specs.Windows.{stretches, windows, taken, time_at}
+use Rattle.ss_model.specs.Windows.{stretches, windows, taken}
 use Rattle.ss_model.specs.declared.types.Window.{Window}
 use Rattle.ss_model.proofs.IntervalLemmas.{AreOf}
 use Rattle.ss_contents.specs.Contents.{unfiltered_windows}
-use Rattle.ss_model.proofs.Rises.{Rises, Rises-low, Rises-boundaries, boundaries-same}
+use Rattle.ss_model.proofs.Rises.{Rises, Rises-low}
 use Rattle.ss_model.proofs.Stretches.{count-summary_of, length-back, length-front, stretches_at, taken-cons, taken-windows}
 
 pub length-AreOf : (ws : List Window) (values : List Point) → AreOf ws values → length values ≡ taken ws
@@ -24,7 +23,7 @@ length-AreOf (w ∷ ws) values of =
     omega (arith, ap length of.3, length-append front rest, length-AreOf ws rest of.5, taken-cons w ws)
 
 -- values cut after the same boundaries into pieces of summaries that are alike have windows that are alike
-stretches-AreOf : (before end : ℕ) (bs : List ℕ) (values others : List Point) → before + length values ≡ end → Rises before bs end
+pub stretches-AreOf : (before end : ℕ) (bs : List ℕ) (values others : List Point) → before + length values ≡ end → Rises before bs end
     → AreOf (stretches (before + 1) bs values) others
     → unfiltered_windows (stretches (before + 1) bs others) ≡ unfiltered_windows (stretches (before + 1) bs values)
 stretches-AreOf before end bs [] others count rising of = ap (λ values. unfiltered_windows (stretches (before + 1) bs values)) of
@@ -51,17 +50,6 @@ stretches-AreOf before end (b ∷ bs) (p ∷ ps) others count rising of =
 
 pub length-others : (rule : Rule) (values others : List Point) → AreOf (windows rule values) others → length others ≡ length values
 length-others rule values others of = length-AreOf (windows rule values) others of ∙ taken-windows rule values
-
-pub windows-others : (len : ℕ → ℕ) (values others : List Point) → AreOf (windows (without_step len) values) others
-    → unfiltered_windows (windows (without_step len) others) ≡ unfiltered_windows (windows (without_step len) values)
-windows-others len [] others of = ap (λ values. unfiltered_windows (windows (without_step len) values)) of
-windows-others len (p ∷ ps) others of =
-    let n = length (p ∷ ps) in
-    let rule = without_step len in
-    let time = time_at (p ∷ ps) in
-    ap (λ m. unfiltered_windows (stretches 1 (boundaries rule (time_at others) m) others)) (length-others rule (p ∷ ps) others of)
-    ∙ ap (λ bs. unfiltered_windows (stretches 1 bs others)) (boundaries-same rule (time_at others) time n (λ place some low. refl))
-    ∙ stretches-AreOf 0 n (boundaries rule time n) (p ∷ ps) others (omega arith) (Rises-boundaries rule time n (omega arith)) of
 
 cons-same : {X : Type 0} {x y : X} {xs ys : List X} → x ∷ xs ≡ y ∷ ys → (x ≡ y) × (xs ≡ ys)
 cons-same same = (cc, cc)

@@ -7,7 +7,7 @@ use Rattle.ss_windowing.specs.Windowing.{window_index}
 use Rattle.ss_windowing.specs.declared.decay.TheConstants.{MOST_VALUES}
 use Rattle.ss_bounds.specs.Times.{lies_in}
 use Rattle.ss_catalog.specs.declared.event.Event.TheVariants.{Create, Value, Drop}
-use Rattle.ss_catalog.specs.declared.params.Params.TheVariants.{Exp}
+use Rattle.ss_catalog.specs.Params.{exp}
 use Rattle.ss_catalog.specs.declared.query.Kind.{Kind}
 use Rattle.ss_catalog.specs.declared.query.Kind.TheVariants as kinds
 use Rattle.ss_catalog.specs.declared.query.Query.{Query}
@@ -33,7 +33,7 @@ abbrev seven : List Point
 seven = (10, pos 5, New) ∷ (20, negsuc 2, New) ∷ (30, pos 8, New) ∷ (40, pos 1, New) ∷ (50, pos 9, New) ∷ (60, pos 2, New) ∷ (70, pos 7, New) ∷ []
 
 abbrev readings : Contents
-readings = record { params = Exp 2 1 1; plain = seven; landmarks = [] }
+readings = record { params = exp 2 1 1; plain = seven; landmarks = [] }
 
 -- as a history gives them
 abbrev a : List ℕ
@@ -41,7 +41,7 @@ a = codes "a"
 
 abbrev history : List Happened
 history =
-    map added (Create a (Exp 2 1 1) ∷ Value a 10 (pos 5) ∷ Value a 20 (negsuc 2) ∷ Value a 30 (pos 8) ∷ Value a 40 (pos 1)
+    map added (Create a (exp 2 1 1) ∷ Value a 10 (pos 5) ∷ Value a 20 (negsuc 2) ∷ Value a 30 (pos 8) ∷ Value a 40 (pos 1)
     ∷ Value a 50 (pos 9) ∷ Value a 60 (pos 2) ∷ Value a 70 (pos 7) ∷ [])
 
 contents_of-history : map (contents_of history) (state history) ≡ readings ∷ []
@@ -50,10 +50,10 @@ contents_of-history = refl
 
 -- a stream that is dropped and created again has what came since alone
 abbrev created_again : List Happened
-created_again = history ++ map added (Drop a ∷ Create a (Exp 2 1 1) ∷ Value a 5 (pos 1) ∷ [])
+created_again = history ++ map added (Drop a ∷ Create a (exp 2 1 1) ∷ Value a 5 (pos 1) ∷ [])
 
 contents_of-created_again : map (contents_of created_again) (state created_again) ≡
-    record { params = Exp 2 1 1; plain = (5, pos 1, New) ∷ []; landmarks = [] } ∷ []
+    record { params = exp 2 1 1; plain = (5, pos 1, New) ∷ []; landmarks = [] } ∷ []
 unfolding state window_index
 contents_of-created_again = refl
 
@@ -92,7 +92,7 @@ windows-least_sum = refl
 
 -- values that a store without filters took are like those that one with filters took, whose windows have other filters
 abbrev of_old : Contents
-of_old = record { params = Exp 2 1 1; plain = map (λ (p : Point). (p.0, p.1, Old)) seven; landmarks = [] }
+of_old = record { params = exp 2 1 1; plain = map (λ (p : Point). (p.0, p.1, Old)) seven; landmarks = [] }
 
 windows-of_old : unfiltered_windows (own_windows of_old) ≡ unfiltered_windows (own_windows readings)
 unfolding window_index
@@ -155,7 +155,7 @@ AllFit-too_many fit = fit
 -- the first window, of four values, spans a landmark from 20 to 40: from 19 to 42 two of them may lie at 19 and 41, and none between
 abbrev spanning : Contents
 spanning = record {
-  params = Exp 2 1 1;
+  params = exp 2 1 1;
   plain = (10, pos 1, New) ∷ (45, pos 3, New) ∷ (46, pos 3, New) ∷ (50, pos 2, New) ∷ (60, pos 9, New) ∷ (70, pos 2, New) ∷ (80, pos 7, New) ∷ [];
   landmarks = record { start = 20; finish = Some 40; values = record { t = 30; v = pos 100 } ∷ [] } ∷ [];
 }
@@ -264,5 +264,5 @@ module _ (q : Query) (answer : ℤ) (u : Stream) (whole : IsHistory history) (fo
 MayBeTrue-least_sum : MayBeTrue (state history) (query kinds.Sum) (negsuc 4)
 unfolding query state window_index
 MayBeTrue-least_sum =
-    let s : Stream = record { number = 0; name = a; params = Exp 2 1 1; windows = own_windows readings; landmarks = [] } in
+    let s : Stream = record { number = 0; name = a; params = exp 2 1 1; windows = own_windows readings; landmarks = [] } in
     MayBeTrue-sum (state history) (query kinds.Sum) s least_sum refl AllFit-least_sum refl

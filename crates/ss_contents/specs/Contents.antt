@@ -12,7 +12,7 @@ use Rattle.ss_summary.specs.Points.{Point}
 use Rattle.ss_model.specs.History.{landmarks_of, values_of, Happened}
 use Rattle.ss_model.specs.Marks.{marked_values}
 use Rattle.ss_model.specs.Origins.{unfiltered_window}
-use Rattle.ss_model.specs.Rule.{rule_of}
+use Rattle.ss_target.specs.Rule.{rule_of}
 use Rattle.ss_model.specs.State.{Stream}
 use Rattle.ss_model.specs.Truth.{RiseAtFree, true_count, true_sum}
 use Rattle.ss_model.specs.Windows.{windows}

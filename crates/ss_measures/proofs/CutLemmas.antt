@@ -17,7 +17,7 @@ use Rattle.ss_model.specs.Interval.{interval_of_count, is_split, split_figures, 
 use Rattle.ss_model.specs.Marks.{marked_values}
 use Rattle.ss_model.specs.Refusals.{IsHistory}
 use Rattle.ss_model.specs.Standing.{IsStream}
-use Rattle.ss_model.specs.Rule.{Rule, rule_of}
+use Rattle.ss_target.specs.Rule.{Rule, rule_of}
 use Rattle.ss_model.specs.State.{Stream, state}
 use Rattle.ss_model.specs.Truth.{RiseAtFree}
 use Rattle.ss_model.specs.Windows.{stretches, time_at, windows}

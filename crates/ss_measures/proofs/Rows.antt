@@ -6,14 +6,14 @@ use Rattle.ss_bounds.specs.Several.{greatest_of_all, least_of_all, sum_of_counts
 use Rattle.ss_bounds.specs.Split.{sum_interval}
 use Rattle.ss_bounds.specs.declared.extreme.Extreme.TheVariants.{Nothing, Sure, Maybe}
 use Rattle.ss_catalog.specs.Series.{numbers_from}
-use Rattle.ss_catalog.specs.declared.params.Params.TheVariants.{Exp}
+use Rattle.ss_catalog.specs.Params.{exp}
 use Rattle.ss_catalog.specs.declared.query.Kind.TheVariants as kinds
 use Rattle.ss_catalog.specs.declared.series.Series.{Series}
 use Rattle.ss_measures.specs.Ages.{cuts, open_at, values_since}
 use Rattle.ss_measures.specs.Parts.{IsCountWithin, IsExtremeWithin, IsSumWithin, count_of, greatest_of, least_of, of_rows, sum_of}
 use Rattle.ss_model.specs.State.{Stream, records_of}
-use Rattle.ss_model.specs.Decay.{cover}
-use Rattle.ss_model.specs.Rule.{without_step}
+use Rattle.ss_model.specs.Decay.{cover, steps_met}
+use Rattle.ss_target.specs.Rule.{Rule, without_step}
 use Rattle.ss_model.specs.Windows.{windows}
 use Rattle.ss_model.specs.declared.types.Window.{Window}
 use Rattle.ss_power.specs.Power.{power_length}
@@ -110,7 +110,7 @@ cover-13 = refl
 
 -- a stream of these values
 abbrev one : Stream
-one = record { number = 0; name = []; params = Exp 2 1 1; windows = their_windows; landmarks = [] }
+one = record { number = 0; name = []; params = exp 2 1 1; windows = their_windows; landmarks = [] }
 
 -- the range 15 to 45 has one to three of the first window's values, 5, 3, 8 and 1, and its two parts leave two more open
 count-range : count_of one 15 45 ≡ (1, 3)
@@ -210,3 +210,16 @@ records-one : records_of (record one { windows = windows (without_step (exp_leng
     ≡ max 1 (2 * cover (exp_length 2 1 1) 1)
 unfolding window_index
 records-one = refl
+
+-- within minutes one value needs two records too, and the seven need one more than without a step
+abbrev within_minutes : Rule
+within_minutes = record { lengths = exp_length 2 1 1; step = 60 }
+
+records-one_minute : records_of (record one { windows = windows within_minutes ((10, pos 5, New) ∷ []) })
+    ≡ max 1 (2 * (cover (exp_length 2 1 1) 1 + steps_met 60 (10 ∷ []) - 1))
+unfolding window_index
+records-one_minute = refl
+
+records-minutes : records_of (record one { windows = windows within_minutes seven }) ≡ records_of one + 1
+unfolding window_index
+records-minutes = refl

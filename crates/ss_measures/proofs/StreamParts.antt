@@ -16,7 +16,7 @@ use Rattle.ss_landmarks.specs.Landmark.{Landmark}
 use Rattle.ss_model.specs.History.{Happened, landmarks_of, values_of}
 use Rattle.ss_model.specs.Marks.{lies_free, marked_values}
 use Rattle.ss_model.specs.Refusals.{IsHistory}
-use Rattle.ss_model.specs.Rule.{rule_of}
+use Rattle.ss_target.specs.Rule.{rule_of}
 use Rattle.ss_model.specs.Standing.{IsStream}
 use Rattle.ss_model.specs.State.{Stream, state}
 use Rattle.ss_model.specs.Tiling.{StandFrom}

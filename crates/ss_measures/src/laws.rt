@@ -8,7 +8,7 @@ ghost use Rattle.ss_model.specs.History.{Happened, values_of};
 ghost use Rattle.ss_model.specs.Interval.{interval_of_count};
 ghost use Rattle.ss_model.specs.Marks.{marked_values};
 ghost use Rattle.ss_model.specs.Refusals.{IsHistory};
-ghost use Rattle.ss_model.specs.Rule.{Rule};
+ghost use Rattle.ss_target.specs.Rule.{Rule};
 ghost use Rattle.ss_model.specs.State.{state};
 ghost use Rattle.ss_model.specs.Truth.{RiseAtFree};
 ghost use Rattle.ss_model.specs.Windows.{windows};

@@ -1,5 +1,8 @@
-use Rattle.ss_measures.proofs.SizeLemmas.{records-few}
+use Rattle.ss_measures.proofs.SizeLemmas.{records-alone, records-few}
 use Rattle.ss_measures.proofs.size_laws.records_are_few.Goals as goal
 
-pub returns : goal.returns
-returns c = records-few
+pub returns-clause-steps : goal.returns-clause-steps
+returns-clause-steps c = records-few
+
+pub returns-clause-alone : goal.returns-clause-alone
+returns-clause-alone c = records-alone
