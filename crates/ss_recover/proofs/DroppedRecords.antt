@@ -16,12 +16,13 @@ use Rattle.ss_codec.specs.declared.record.Record.TheVariants as records
 use Rattle.ss_model.specs.State.{Created, Stream}
 use Rattle.ss_recover.specs.Carried.{created_by, in_order, is_drop_of, is_dropped, is_mark_of, stands_by, stream_number, streams_created, streams_standing}
 use Rattle.ss_recover.specs.Carried.{window_of}
-use Rattle.ss_recover.specs.Conditions.{has_new_name, has_one_record, has_place, is_named_before, is_sound}
+use Rattle.ss_recover.specs.Conditions.{has_new_name, has_one_record, has_place, is_named_before, is_sound, keep_own_step}
 use Rattle.ss_recover.specs.Doomed.{is_of, may_go}
 use Rattle.ss_recover.specs.Order.{stream_of}
 use Rattle.ss_recover.specs.Parts.{lowest_bad_stream, stream_carried, streams_carried}
 use Rattle.ss_recover.proofs.InOrder.{all-in_order}
 use Rattle.ss_recover.proofs.Lists.{all_append, all_behind, all_both, all_front, all_weaker, filter_map-kept, kept}
+use Rattle.ss_recover.proofs.OwnSteps.{own_step-fewer}
 use Rattle.ss_recover.proofs.SoundNumbers.{AreSound, HaveSameValues, all-false, is_numbered, is_sound-kept, none_bad-AreSound, one-dropped, one-sound}
 use Rattle.ss_recover.proofs.SoundNumbers.{stands_at}
 use Rattle.ss_recover.proofs.SoundNumbers.{stream_carried-same}
@@ -130,7 +131,8 @@ module _ (xs ys : List Record) (r : Record) (id : ℕ) (is : IsOther id r) (gone
       let dropped : (n : ℕ) → is_dropped n rs ≡ is_dropped n us = λ n. list_any-changed (is_drop_of n) xs ys r records.Free (is.drops n) in
       let gone_us : is_dropped id us ≡ true = list_any-without (is_drop_of id) xs ys records.Free refl ∙ gone in
       let each : (n : ℕ) → is_sound rs n ≡ true → is_sound us n ≡ true =
-      λ n. is_sound-kept rs us n (λ a. ap (stands_alone n) (sym created) ∙ a) (λ g. sym (dropped n) ∙ g) (choice gone_us n (cases_Bool (id == n))) in
+      λ n. is_sound-kept rs us n (λ a. ap (stands_alone n) (sym created) ∙ a) (λ ws k. ap (λ cs. keep_own_step n cs ws) (sym created) ∙ k)
+      (λ g. sym (dropped n) ∙ g) (choice gone_us n (cases_Bool (id == n))) in
       let none = one-dropped id rs (one-sound rs id parts.0) (dropped id ∙ gone_us) in
       let apart : AllByRecursion (λ (c : Created). (c.number == id) ≡ false) (streams_standing rs) =
       all-false (is_numbered id) (streams_standing rs) (standing-any rs ∙ none) in
@@ -248,6 +250,9 @@ module _ (xs ys : List Record) (id : ℕ) (name : List ℕ) (params : Params) (n
       let other = eq-swap id n apart in
       is_sound-kept held freed n
       (λ a. ap (stands_alone n) fewer ∙ alone-fewer n (streams_created xs) (streams_created ys) head other (sym (ap (stands_alone n) created) ∙ a))
+      (λ ws k.
+      ap (λ cs. keep_own_step n cs ws) fewer
+      ∙ own_step-fewer n ws head (streams_created xs) (streams_created ys) (ap (λ cs. keep_own_step n cs ws) (sym created) ∙ k))
       (λ g. sym (dropped n other) ∙ g) (inr (same-own n)) in
       let ordered = in_order (λ (c : Created). c.number) (streams_standing held) in
       record {

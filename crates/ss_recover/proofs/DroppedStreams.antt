@@ -11,7 +11,7 @@ use Rattle.ss_codec.specs.declared.record.Record.{Record}
 use Rattle.ss_codec.specs.declared.record.Record.TheVariants as records
 use Rattle.ss_model.specs.State.{Created, Stream}
 use Rattle.ss_recover.specs.Carried.{created_by, in_order, is_drop_of, stream_number, streams_created, streams_standing}
-use Rattle.ss_recover.specs.Conditions.{is_sound}
+use Rattle.ss_recover.specs.Conditions.{is_sound, keep_own_step}
 use Rattle.ss_recover.specs.Doomed.{without_numbered}
 use Rattle.ss_recover.specs.Parts.{stream_carried, streams_carried}
 use Rattle.ss_recover.proofs.Lists.{all_weaker, filter_map-kept, kept}
@@ -136,7 +136,7 @@ module _ (xs ys : List Record) (s : Created) where
       let created : streams_created before ≡ streams_created after = made-changed created_by xs ys (stood ys s) (fell ys s) refl in
       let numbers : filter_map stream_number before ≡ filter_map stream_number after = made-changed stream_number xs ys (stood ys s) (fell ys s) refl in
       let each : (n : ℕ) → is_sound before n ≡ true → is_sound after n ≡ true =
-      λ n. is_sound-kept before after n (λ a. ap (stands_alone n) (sym created) ∙ a)
+      λ n. is_sound-kept before after n (λ a. ap (stands_alone n) (sym created) ∙ a) (λ ws k. ap (λ cs. keep_own_step n cs ws) (sym created) ∙ k)
       (λ g. list_any-also (is_drop_of n) xs ys (stood ys s) (fell ys s) refl g) (inr (same-drop n)) in
       let ordered = in_order (λ (c : Created). c.number) (streams_standing before) in
       record {

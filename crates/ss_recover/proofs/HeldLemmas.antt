@@ -1,19 +1,22 @@
 -- What is held is what the map carries.
-use Rattle.std.proofs.Common.{◌≡◌, ℕ, ◌≤◌, true, false, List, [], ◌∷◌, filter, map, length, refl, sym, ap, ap₂, subst, ◌∙◌, arith}
+use Rattle.std.proofs.Common.{◌≡◌, ℕ, ◌<◌, ◌≤◌, true, false, List, [], ◌∷◌, All, filter, map, length, refl, sym, ap, ap₂, subst, ◌∙◌, arith}
 use Rattle.std.proofs.Common.{IsPermutation, None, Option}
-use Rattle.std.specs.Prelude.{is_none}
+use Rattle.std.specs.Prelude.{◌==◌, is_none, not}
 use Rattle.std.specs.List.{AllByRecursion, IsDistinct, filter_map, list_all}
 use Rattle.std.specs.List.Sorted.{IsStrictlyIncreasing}
-use Rattle.std.proofs.lemmas.Bool.{and_from, or_right}
+use Rattle.std.proofs.lemmas.Bool.{and_from, ne_eqb, or_left, or_right}
 use Rattle.std.proofs.lemmas.List.{length-map}
 use Rattle.std.proofs.lemmas.List.Elements.{All-from_recursion, recursion_from_All}
 use Rattle.std.proofs.lemmas.List.Sorted.{All-permutation}
 use Rattle.std.proofs.lemmas.List.Sums.{sum_by-cons}
 use Rattle.ss_catalog.specs.Names.{same_name}
+use Rattle.ss_catalog.specs.Params.{step_number}
 use Rattle.ss_catalog.specs.declared.TheConstants.{MOST_STREAMS}
 use Rattle.ss_journal.specs.Redo.{SlotMap}
 use Rattle.ss_codec.specs.declared.record.Record.{Record}
 use Rattle.ss_codec.specs.declared.record.Record.TheVariants.{Free}
+use Rattle.ss_target.specs.Rule.{rule_of}
+use Rattle.ss_model.specs.Decay.{IsInStep}
 use Rattle.ss_model.specs.Marks.{lies_free}
 use Rattle.ss_model.specs.Standing.{IsState, IsStream}
 use Rattle.ss_model.specs.State.{Created, Stream, live, records_of}
@@ -21,7 +24,7 @@ use Rattle.ss_model.specs.declared.types.TheConstants.{MOST_RECORDS}
 use Rattle.ss_model.specs.declared.types.Window.{Window}
 use Rattle.ss_recover.specs.Carried.{created_by, is_dropped, is_mark_of, marks_carried, stands_by, stream_number, spelled, streams_created, streams_standing}
 use Rattle.ss_recover.specs.Carried.{window_of, windows_carried}
-use Rattle.ss_recover.specs.Conditions.{has_sound_values, is_sound, tile, times_rise}
+use Rattle.ss_recover.specs.Conditions.{is_sound, keep_own_step, keep_step, stands_sound, tile, times_rise}
 use Rattle.ss_recover.specs.Held.{AreHeld, HasWholeSlots}
 use Rattle.ss_recover.specs.Marked.{are_marks, landmarks_made}
 use Rattle.ss_recover.specs.Parts.{carried, carries, judged, lowest_bad_slot, lowest_bad_stream, records_in, stream_carried, streams_carried}
@@ -31,6 +34,7 @@ use Rattle.ss_recover.proofs.HeldRecords.{every_slot_spells, made-none, made_of_
 use Rattle.ss_recover.proofs.InOrder.{Rise, Rise-increasing, in_order-IsPermutation}
 use Rattle.ss_recover.proofs.Lists.{all_both, all_weaker, filter-none, filter_map-kept, kept, position-none, all-from_map, map-map}
 use Rattle.ss_recover.proofs.Marks.{are_marks-marks_of, in_order-marks_of, landmarks_made-marks_of, length-marks_of, marks_of}
+use Rattle.ss_recover.proofs.OwnSteps.{keep_step-IsInStep, keeps, own_step-apart, own_step-moved}
 use Rattle.ss_recover.proofs.SoundNumbers.{is_sound-from, none_bad-AreSound}
 use Rattle.ss_recover.proofs.SoundStreams.{Rise-AreWindows, stands_alone, stands_alone-each, stands_alone-moved}
 use Rattle.ss_recover.proofs.SoundStreams.{tile-AreWindows, times_rise-AreWindows}
@@ -52,6 +56,26 @@ each-records_of : (ss : List Stream) (most : ℕ) → live ss ≤ most → AllBy
 each-records_of [] most room = tt
 each-records_of (s ∷ ss) most room =
     let all = sum_by-cons records_of s ss in (omega (arith, all, room), each-records_of ss most (omega (arith, all, room)))
+
+-- where the numbers of streams rise, each keeps to the step of its own record where its windows keep to its step
+pub own_step-each : (streams : List Stream) → Rise (λ (c : Created). c.number) (map created streams) →
+    AllByRecursion (λ (s : Stream). All (IsInStep (rule_of s.params).step) s.windows) streams →
+    AllByRecursion (λ (s : Stream). keep_own_step s.number (map created streams) s.windows ≡ true) streams
+own_step-each [] rise each = tt
+own_step-each (s ∷ ss) rise each =
+    let apart = own_step-apart s.number s.windows (map created ss)
+    (all_weaker (λ (c : Created). s.number < c.number) (λ c. c.number ≡ s.number → ⊥) (λ c lt same. absurd (omega (arith, lt, same))) (map created ss)
+    rise.0) in (
+      and_from (keeps s.number s.windows (created s)) (keep_own_step s.number (map created ss) s.windows)
+          (or_right (not (s.number == s.number)) (keep_step (step_number s.params.within) s.windows) (keep_step-IsInStep s.params s.windows each.0)) apart,
+      all_both (λ (t : Stream). s.number < t.number) (λ t. keep_own_step t.number (map created ss) t.windows ≡ true)
+          (λ t. keep_own_step t.number (created s ∷ map created ss) t.windows ≡ true)
+          (λ t lt rest.
+          and_from (keeps t.number t.windows (created s)) (keep_own_step t.number (map created ss) t.windows)
+          (or_left (not (s.number == t.number)) (keep_step (step_number s.params.within) t.windows)
+          (ap not (ne_eqb s.number t.number (λ same. absurd (omega (arith, lt, same)))))) rest)
+          ss (all-from_map (λ (c : Created). s.number < c.number) created ss rise.0) (own_step-each ss rise.1 each.1),
+    )
 
 -- Records have those of each stream, in some order: these streams stand, and each has its windows and its landmarks.
 pub record HaveThose (streams : List Stream) (records : List Record) : Type 0 where
@@ -158,27 +182,40 @@ module _ (streams : List Stream) (records : List Record) (state : IsState stream
       (λ s is. sym (stands_alone-moved s.number (map created streams) (streams_created records) moved) ∙ is) (map created streams)
       (stands_alone-each (map created streams) (rise_created streams records state those_made) names few))
 
+  keep_each : AllByRecursion (λ (s : Stream). keep_own_step s.number (map created streams) s.windows ≡ true) streams
+  keep_each =
+      own_step-each streams (rise_created streams records state those_made)
+      (all_weaker IsStream (λ (s : Stream). All (IsInStep (rule_of s.params).step) s.windows) (λ s is. is.steps) streams
+      (each_is streams records state those_made))
+
   sound : AllByRecursion (λ s. is_sound records s.number ≡ true) streams
   sound =
       let Alone : Stream → Type 0 = λ s. stands_alone s.number (streams_created records) ≡ true in
       let Own : Stream → Type 0 = MarksAre streams records state those_made in
       let Both : Stream → Type 0 = λ s. Carries records s × Own s in
-      let All : Stream → Type 0 = λ s. Both s × IsStream s in
+      let Kept : Stream → Type 0 = λ s. IsStream s × (keep_own_step s.number (map created streams) s.windows ≡ true) in
+      let All : Stream → Type 0 = λ s. Both s × Kept s in
       all_both Alone All (λ s. is_sound records s.number ≡ true)
       (λ s one all.
       let windows = all.0.0.0 in
       let landmarks = all.0.0.1 in
-      let d : tile (windows_carried s.number records) ≡ true = ap tile windows ∙ tile-AreWindows s.windows all.1.windows in
-      let e : times_rise (windows_carried s.number records) ≡ true = ap times_rise windows ∙ times_rise-AreWindows s.windows all.1.windows in
-      let f : are_marks (marks_carried s.number records) ≡ true = ap are_marks all.0.1 ∙ are_marks-marks_of s.number s.landmarks all.1.landmarks in
+      let d : tile (windows_carried s.number records) ≡ true = ap tile windows ∙ tile-AreWindows s.windows all.1.0.windows in
+      let e : times_rise (windows_carried s.number records) ≡ true = ap times_rise windows ∙ times_rise-AreWindows s.windows all.1.0.windows in
+      let f : are_marks (marks_carried s.number records) ≡ true = ap are_marks all.0.1 ∙ are_marks-marks_of s.number s.landmarks all.1.0.landmarks in
       let g : list_all (lies_free (landmarks_made (marks_carried s.number records))) (windows_carried s.number records) ≡ true =
-      ap₂ (λ ls ws. list_all (lies_free ls) ws) landmarks windows ∙ all.1.free in
+      ap₂ (λ ls ws. list_all (lies_free ls) ws) landmarks windows ∙ all.1.0.free in
+      let h : keep_own_step s.number (streams_created records) (windows_carried s.number records) ≡ true =
+      ap (keep_own_step s.number (streams_created records)) windows
+      ∙ sym (own_step-moved s.number s.windows (map created streams) (streams_created records) moved) ∙ all.1.1 in
       is_sound-from records s.number one
-      (or_right (is_dropped s.number records) (has_sound_values records s.number) (and_from _ _ (and_from _ _ (and_from _ _ d e) f) g)))
+      (or_right (is_dropped s.number records) (stands_sound records s.number)
+      (and_from _ _ (and_from _ _ (and_from _ _ (and_from _ _ d e) f) g) h)))
       streams alone
-      (all_both Both IsStream All (λ s both is. (both, is)) streams
+      (all_both Both Kept All (λ s both is. (both, is)) streams
       (all_both (Carries records) Own Both (λ s carries marks. (carries, marks)) streams (carries_each streams records state those_made)
-      (marks_are streams records state those_made)) (each_is streams records state those_made))
+      (marks_are streams records state those_made))
+      (all_both IsStream (λ s. keep_own_step s.number (map created streams) s.windows ≡ true) Kept (λ s is keep. (is, keep)) streams
+      (each_is streams records state those_made) keep_each))
 
   pub none_bad : lowest_bad_stream records ≡ None
   none_bad =

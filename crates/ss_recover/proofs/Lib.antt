@@ -10,6 +10,7 @@ pub mod WholeSlots
 pub mod FreeSlots
 pub mod HeldRecords
 pub mod SoundStreams
+pub mod OwnSteps
 pub mod SoundNumbers
 pub mod DroppedRecords
 pub mod DroppedStreams
@@ -38,4 +39,5 @@ pub mod RunsDone
 mod Rows
 mod DropRows
 mod RunRows
+mod StepRows
 mod TimeRows

@@ -1,5 +1,5 @@
 -- What is held of landmarks shows what their records make, one record after another.
-use Rattle.std.proofs.Common.{◌≡◌, ◌∙◌, ℕ, ℤ, ◌+◌, ◌<◌, ◌≤◌, Bool, true, false, List, [], ◌∷◌, ◌++◌, length, filter, Option, Some, None, IfSome}
+use Rattle.std.proofs.Common.{◌≡◌, ◌∙◌, ℕ, ℤ, ◌+◌, ◌<◌, ◌≤◌, Bool, true, false, List, [], ◌∷◌, ◌++◌, length, Option, Some, None, IfSome}
 use Rattle.std.proofs.Common.{MatchOption, refl, sym, ap, subst, arith, append-nil, length-append}
 use Rattle.std.specs.Prelude.{◌==◌, ◌&&◌, fold, nat_le, nat_lt, option_and_then}
 use Rattle.std.specs.Option.{option_map_or}
@@ -18,15 +18,14 @@ use Rattle.ss_landmarks.specs.Landmarks.{AreKnown}
 use Rattle.ss_landmarks.specs.Order.{AreLandmarks, CanOpen, CanTake}
 use Rattle.ss_landmarks.specs.declared.landmarks.TheConstants.{LATEST_TIME, MOST_LANDMARK_SLOTS}
 use Rattle.ss_model.specs.Marks.{latest_of}
-use Rattle.ss_model.specs.declared.types.TheConstants.{MOST_RECORDS}
 use Rattle.ss_recover.specs.Carried.{is_mark_of}
-use Rattle.ss_recover.specs.Marked.{Marked, are_marks, has_all_values, is_next_landmark, is_next_value, landmarks_in, landmarks_made, marked_by, marked_on}
+use Rattle.ss_recover.specs.Marked.{Marked, are_marks, has_all_values, is_next_landmark, is_next_value, landmarks_in, marked_by, marked_on}
 use Rattle.ss_recover.specs.Marked.{marked_with, nothing_marked}
 use Rattle.ss_recover.specs.Order.{stream_of}
 use Rattle.ss_recover.specs.Runs.{marks_in}
 use Rattle.ss_recover.specs.Shown.{AddsToLandmark, AreMade, HasClosed, HasNoMarks, IsReady, MayClose, OpensLandmark, ShowsLast, ShowsMarks}
-use Rattle.ss_recover.specs.Shown.{can_add, can_open, finish_of, found_by, has_said_last, is_landmark, is_value, still_open}
-use Rattle.ss_recover.specs.Usable.{HasValidTimes, slots_found, without_slots}
+use Rattle.ss_recover.specs.Shown.{can_add, can_open, finish_of, has_said_last, is_landmark, is_value, still_open}
+use Rattle.ss_recover.specs.Usable.{HasValidTimes, without_slots}
 use Rattle.ss_recover.specs.declared.found.Found.{Found}
 use Rattle.ss_recover.specs.declared.marking.Last.{Last}
 use Rattle.ss_recover.specs.declared.marking.Marks.{Marks}

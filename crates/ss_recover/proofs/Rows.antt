@@ -11,7 +11,7 @@ use Rattle.ss_summary.specs.Possible as Possible
 use Rattle.ss_summary.specs.Summaries.{summary_of}
 use Rattle.ss_catalog.specs.Names as Names
 use Rattle.ss_catalog.specs.declared.TheConstants.{MOST_STREAMS}
-use Rattle.ss_catalog.specs.declared.params.Params.TheVariants.{Exp}
+use Rattle.ss_catalog.specs.Params.{exp as Exp}
 use Rattle.ss_windowing.specs.declared.decay.TheConstants.{MOST_VALUES}
 use Rattle.ss_journal.specs.Redo.{SlotMap, zeros}
 use Rattle.ss_codec.specs.Fields as Fields
@@ -39,7 +39,7 @@ use Rattle.ss_recover.specs.declared.parts.StreamParts.{StreamParts}
 use Rattle.ss_recover.specs.declared.recover_error.RecoverError.TheVariants.{BadSlot, BadStream, Disk, OutOfMemory}
 
 -- a map of these slots, and none after them
-abbrev map_of : List (List ℕ) → SlotMap
+abbrev pub map_of : List (List ℕ) → SlotMap
 map_of slots = record { bytes = λ slot. slice_index_or slots slot zeros; extent = length slots }
 
 -- the bytes of a stream's record, and the stream with these windows. Each stream here has the target `exp 2 1 1`.
@@ -54,7 +54,7 @@ abbrev stream : ℕ → List ℕ → List Window → Stream
 stream number name windows = marked_stream number name windows []
 
 -- so many values 5, the first and the last at these times, with a filter that has all bits
-abbrev fives : ℕ → ℕ → ℕ → Figures
+abbrev pub fives : ℕ → ℕ → ℕ → Figures
 fives count t_first t_last =
     record { count = count; sum = pos (5 * count); min = pos 5; max = pos 5; t_first = t_first; t_last = t_last; filter = full }
 
@@ -63,10 +63,10 @@ abbrev filtered_fives : ℕ → ℕ → ℕ → Figures
 filtered_fives count t_first t_last = record (fives count t_first t_last) { filter = filter_of (pos 5) }
 
 -- the bytes of a window's record
-abbrev window_slot : ℕ → ℕ → Figures → List ℕ
+abbrev pub window_slot : ℕ → ℕ → Figures → List ℕ
 window_slot number first f = spelling (records.Window number first f)
 
-abbrev window : ℕ → Figures → Window
+abbrev pub window : ℕ → Figures → Window
 window first f = record { first = first; summary = f }
 
 -- the bytes of a landmark's record, and of a value's, which is a 7
@@ -85,7 +85,7 @@ abbrev dropped_slot : ℕ → List ℕ → List ℕ
 dropped_slot number name = spelling (records.Stream number name (Exp 2 1 1) true)
 
 -- the names `a` and `b`
-abbrev a : List ℕ
+abbrev pub a : List ℕ
 a = 97 ∷ []
 
 abbrev b : List ℕ
@@ -102,7 +102,7 @@ abbrev last_one : Figures
 last_one = summary_of ((70, pos 7, New) ∷ [])
 
 -- slots, and what a map of them carries
-abbrev AreCarried : List (List (List ℕ) × Carried) → Type 0
+abbrev pub AreCarried : List (List (List ℕ) × Carried) → Type 0
 AreCarried rows = map (λ row. carried (map_of row.0)) rows ≡ map (λ row. row.1) rows
 
 -- what is sound, without landmarks

@@ -1,10 +1,11 @@
--- Worked rows: records in order of which some are of dropped streams, as a walk takes them.
-use Rattle.std.proofs.Common.{◌≡◌, ℕ, Bool, true, false, pos, List, [], ◌∷◌, refl}
+-- Worked rows: records in order of which some are of dropped streams, or of streams with a step, as a walk takes them.
+use Rattle.std.proofs.Common.{◌≡◌, ℕ, Bool, true, false, pos, List, [], ◌∷◌, map, refl, Some}
 use Rattle.ss_summary.specs.Filters.{full}
-use Rattle.ss_catalog.specs.declared.params.Params.TheVariants.{Exp}
+use Rattle.ss_catalog.specs.Params.{exp as Exp}
 use Rattle.ss_codec.specs.declared.record.Record.{Record}
 use Rattle.ss_codec.specs.declared.record.Record.TheVariants as records
 use Rattle.ss_model.specs.Marks as Marks
+use Rattle.ss_recover.specs.Conditions.{is_sound}
 use Rattle.ss_recover.specs.Runs.{doomed_found, is_run, is_sound_in_order}
 use Rattle.ss_recover.specs.Usable.{slots_found}
 use Rattle.ss_recover.specs.declared.found.Found.{Found}
@@ -93,3 +94,56 @@ doomed-others = refl
 
 doomed-own : slots_found (doomed_found true found) ≡ 8 ∷ []
 doomed-own = refl
+
+-- ---- a step of the clock
+
+-- the stream's own record within a step, and a window of two values 5 from the first position on, at these times
+abbrev own_within : ℕ → List ℕ → ℕ → Bool → Record
+own_within number name step dropped = records.Stream number name (record (Exp 2 1 1) { within = Some step }) dropped
+
+abbrev window_at : ℕ → ℕ → ℕ → Record
+window_at number t_first t_last =
+    records.Window number 1 (record { count = 2; sum = pos 10; min = pos 5; max = pos 5; t_first = t_first; t_last = t_last; filter = full })
+
+-- 0 and 59 lie in one minute, 59 and 60 don't, and of a dropped stream nothing is asked
+within-one : is_run [] (own_within 0 a 60 false ∷ window_at 0 0 59 ∷ []) ≡ true
+unfolding Marks.lies_free
+within-one = refl
+
+within-two : is_run [] (own_within 0 a 60 false ∷ window_at 0 59 60 ∷ []) ≡ false
+unfolding Marks.lies_free
+within-two = refl
+
+within-longer : is_run [] (own_within 0 a 61 false ∷ window_at 0 59 60 ∷ []) ≡ true
+unfolding Marks.lies_free
+within-longer = refl
+
+within-dropped : is_run [] (own_within 0 a 60 true ∷ window_at 0 59 60 ∷ []) ≡ true
+within-dropped = refl
+
+-- each stream has a step of its own, whatever the order of the records
+abbrev beside : List Record
+beside = own_within 0 a 60 false ∷ window_at 0 0 59 ∷ own_within 1 b 61 false ∷ window_at 1 59 60 ∷ []
+
+abbrev crossed : Bool → List Record
+crossed dropped = window_at 1 59 60 ∷ own_within 0 a 61 false ∷ own_within 1 b 60 dropped ∷ window_at 0 0 59 ∷ []
+
+sound-beside_steps : map (is_sound beside) (0 ∷ 1 ∷ []) ≡ true ∷ true ∷ []
+unfolding is_sound Marks.lies_free
+sound-beside_steps = refl
+
+sound-beside_steps_in_order : map (is_sound_in_order beside) (0 ∷ 1 ∷ []) ≡ true ∷ true ∷ []
+unfolding Marks.lies_free
+sound-beside_steps_in_order = refl
+
+sound-crossed : map (is_sound (crossed false)) (0 ∷ 1 ∷ []) ≡ true ∷ false ∷ []
+unfolding is_sound Marks.lies_free
+sound-crossed = refl
+
+sound-crossed_dropped : map (is_sound (crossed true)) (0 ∷ 1 ∷ []) ≡ true ∷ true ∷ []
+unfolding is_sound Marks.lies_free
+sound-crossed_dropped = refl
+
+sound-crossed_in_order : map (is_sound_in_order (crossed false)) (0 ∷ 1 ∷ []) ≡ true ∷ false ∷ []
+unfolding Marks.lies_free
+sound-crossed_in_order = refl

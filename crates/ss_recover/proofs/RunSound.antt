@@ -1,33 +1,30 @@
 -- The records of a number are sound, among those of others, where they are a run.
-use Rattle.std.proofs.Common.{◌≡◌, ◌∙◌, ℕ, ◌+◌, ◌^◌, ◌<◌, ◌≤◌, Bool, true, false, not, ◌&&◌, cond, List, [], ◌∷◌, ◌++◌, map, length, refl, sym, ap}
-use Rattle.std.proofs.Common.{ap₂, inl, inr, arith, append-nil, Option, Some, None}
-use Rattle.std.specs.Prelude.{◌==◌, ◌||◌, nat_le, nat_lt, fold}
-use Rattle.std.specs.List.{AllByRecursion, cons_option, filter_map, list_all, list_any}
-use Rattle.std.proofs.lemmas.Bool.{and_from, and_left, and_parts, and_right, cases_Bool, eq-eqb, eqb-true, ne_eqb, or_from, not-true}
-use Rattle.std.proofs.lemmas.Bool.{le-leb}
+use Rattle.std.proofs.Common.{◌≡◌, ◌∙◌, ℕ, ◌+◌, ◌^◌, ◌<◌, ◌≤◌, Bool, true, false, not, ◌&&◌, List, [], ◌∷◌, ◌++◌, map, length, refl, sym, ap}
+use Rattle.std.proofs.Common.{ap₂, inl, inr, arith, append-nil}
+use Rattle.std.specs.Prelude.{◌==◌, ◌||◌, nat_lt}
+use Rattle.std.specs.List.{AllByRecursion, filter_map, list_all, list_any}
+use Rattle.std.proofs.lemmas.Bool.{and_parts, and_right, cases_Bool, eq-eqb, ne_eqb, or_from, not-true}
 use Rattle.std.proofs.lemmas.List.{length-map}
 use Rattle.std.proofs.lemmas.List.Elements.{filter-append, filter_map-append}
 use Rattle.std.proofs.lemmas.List.Folds.{list_any-append}
-use Rattle.std.proofs.lemmas.List.Sums.{sum_by-cons}
 use Rattle.ss_catalog.specs.Names.{same_name}
+use Rattle.ss_catalog.specs.Params.{step_number}
 use Rattle.ss_catalog.specs.declared.TheConstants.{MOST_STREAMS}
 use Rattle.ss_codec.specs.declared.record.Record.{Record}
 use Rattle.ss_codec.specs.declared.record.Record.TheVariants as records
 use Rattle.ss_model.specs.Marks.{lies_free}
 use Rattle.ss_model.specs.State.{Created}
-use Rattle.ss_model.specs.Windows.{taken}
 use Rattle.ss_model.specs.declared.types.Window.{Window}
-use Rattle.ss_summary.specs.declared.summary.TheConstants.{GREATEST_COUNT}
-use Rattle.ss_windowing.specs.declared.decay.TheConstants.{MOST_VALUES}
 use Rattle.ss_recover.specs.Carried.{created_by, is_drop_of, is_dropped, is_mark_of, streams_created, window_of}
-use Rattle.ss_recover.specs.Conditions.{has_new_name, has_one_record, has_place, tile, tile_from, times_rise}
+use Rattle.ss_recover.specs.Conditions.{has_new_name, has_one_record, has_place, keep_own_step, keep_step, tile, times_rise}
 use Rattle.ss_recover.specs.Doomed.{is_own}
 use Rattle.ss_recover.specs.Held.{window_record}
-use Rattle.ss_recover.specs.Marked.{are_marks, landmarks_made, nothing_marked}
+use Rattle.ss_recover.specs.Marked.{are_marks, landmarks_made}
 use Rattle.ss_recover.specs.Order.{Rises, place_of, stream_of}
-use Rattle.ss_recover.specs.Runs.{has_sound_values_in_order, is_run, is_sound_in_order, marks_in, may_stand, windows_in}
+use Rattle.ss_recover.specs.Runs.{has_sound_values_in_order, has_sound_values_within, is_run, is_sound_in_order, marks_in, may_stand, windows_in}
 use Rattle.ss_recover.specs.Usable.{IsUsable}
 use Rattle.ss_recover.proofs.Lists.{all_weaker}
+use Rattle.ss_recover.proofs.OwnSteps.{own_step-one, own_step-parts}
 use Rattle.ss_recover.proofs.SoundStreams.{count-at, count-below, new-name}
 
 -- the windows and the records of landmarks of a number
@@ -189,7 +186,7 @@ module _ (front run back : List Record) (n : ℕ) (lower : AllByRecursion (λ r.
   abbrev meets_values : Bool
   meets_values =
       tile (windows n run) && times_rise (windows n run) && are_marks (marks n run)
-      && list_all (lies_free (landmarks_made (marks n run))) (windows n run)
+      && list_all (lies_free (landmarks_made (marks n run))) (windows n run) && keep_own_step n here (windows n run)
 
   -- they are sound where the streams, of which so many are of the number, and the other records are
   sound-parts : is_sound_in_order all n
@@ -197,10 +194,12 @@ module _ (front run back : List Record) (n : ℕ) (lower : AllByRecursion (λ r.
   sound-parts =
       let one = count-at cs here later n cs-below here-own later-above in
       let place = count-below cs here later n cs-below here-own later-above in
+      let keep = own_step-parts n (windows n run) cs here later cs-below later-above in
       (λ i. has_one_record n (created-parts i) && has_place n (created-parts i) && has_new_name n (created-parts i)
       && (dropped-own i || (tile (windows-own i) && times_rise (windows-own i) && are_marks (marks-own i)
-      && list_all (lies_free (landmarks_made (marks-own i))) (windows-own i))))
-      ∙ (λ i. (one i == 1) && nat_lt (place i) MOST_STREAMS && has_new_name n (cs ++ (here ++ later)) && (is_dropped n run || meets_values))
+      && list_all (lies_free (landmarks_made (marks-own i))) (windows-own i) && keep_own_step n (created-parts i) (windows-own i))))
+      ∙ (λ i. (one i == 1) && nat_lt (place i) MOST_STREAMS && has_new_name n (cs ++ (here ++ later))
+      && (is_dropped n run || (has_sound_values_in_order run n && keep i)))
 
   sound-never : (length here ≡ 1 → ⊥) → is_sound_in_order all n ≡ false
   sound-never other = sound-parts ∙ never _ _ _ _ (ne_eqb (length here) 1 other)
@@ -237,7 +236,9 @@ is_run-sound front (records.Stream id name params dropped ∷ rest) back n lower
           ap (λ us. has_new_name n (streams_created front ++ ((c ∷ us) ++ streams_created back))) none
           ∙ new-name (streams_created front) (c ∷ []) (streams_created back) n (cs-below front (r ∷ rest) back n lower own above) (own.0, tt)
           (later-above front (r ∷ rest) back n lower own above) c own.0 in
-          let values = has_sound_values_in_order rest n in
+          let keep : keep_own_step n (c ∷ streams_created rest) (windows n rest) ≡ keep_step (step_number params.within) (windows n rest) =
+          ap (λ us. keep_own_step n (c ∷ us) (windows n rest)) none ∙ own_step-one n (windows n rest) c own.0 in
+          let values = has_sound_values_in_order rest n && keep_own_step n (c ∷ streams_created rest) (windows n rest) in
           let last = asked dropped (id == n) (is_dropped n rest) (list_any is_own rest) values (eq-eqb id n own.0) (alone-drops n rest none)
           (alone-own rest none) in
           sound-parts front (r ∷ rest) back n lower own above
@@ -245,11 +246,12 @@ is_run-sound front (records.Stream id name params dropped ∷ rest) back n lower
           (has_new_name n (streams_created front ++ ((c ∷ streams_created rest) ++ streams_created back))) (is_dropped n (r ∷ rest) || values)
           (ap (λ (l : List Created). length (c ∷ l) == 1) none))
           ∙ (λ i. (nat_lt (sym few i) MOST_STREAMS && new i) && last i)
-          ∙ ap (λ k. may && (not (list_any is_own rest) && (dropped || has_sound_values_in_order rest k))) (sym own.0)
+          ∙ ap (λ b. may && (not (list_any is_own rest) && (dropped || (has_sound_values_in_order rest n && b)))) keep
+          ∙ ap (λ k. may && (not (list_any is_own rest) && (dropped || has_sound_values_within (step_number params.within) rest k))) (sym own.0)
       | u ∷ us ↦ λ is.
           sound-never front (r ∷ rest) back n lower own above (λ one. absurd (omega (arith, one, ap (λ (l : List Created). length l) is)))
-          ∙ sym (and_right may (not (list_any is_own rest) && (dropped || has_sound_values_in_order rest id))
-          (ap (λ b. not b && (dropped || has_sound_values_in_order rest id)) (own-created rest u us is)))
+          ∙ sym (and_right may (not (list_any is_own rest) && (dropped || has_sound_values_within (step_number params.within) rest id))
+          (ap (λ b. not b && (dropped || has_sound_values_within (step_number params.within) rest id)) (own-created rest u us is)))
     ] refl
 
 -- what the records of a run meet after a stream's own
@@ -259,6 +261,7 @@ pub record MeetsRun (rest : List Record) (head : Created) : Type 0 where
   pub rising : times_rise (windows head.number rest) ≡ true
   pub landmarks : are_marks (marks head.number rest) ≡ true
   pub free : list_all (lies_free (landmarks_made (marks head.number rest))) (windows head.number rest) ≡ true
+  pub keeping : keep_step (step_number head.params.within) (windows head.number rest) ≡ true
 
 pub run-meets : (names : List (List ℕ)) (rest : List Record) (head : Created) →
     is_run names (records.Stream head.number head.name head.params false ∷ rest) ≡ true → MeetsRun rest head
@@ -266,10 +269,12 @@ run-meets names rest head run =
     let ws = windows head.number rest in
     let ms = marks head.number rest in
     let free = list_all (lies_free (landmarks_made ms)) ws in
-    let sound = tile ws && times_rise ws && are_marks ms && free in
+    let keep = keep_step (step_number head.params.within) ws in
+    let sound = tile ws && times_rise ws && are_marks ms && free && keep in
     let may = and_parts (may_stand names head.name) (not (list_any is_own rest) && (false || sound)) run in
     let both = and_parts (not (list_any is_own rest)) (false || sound) may.1 in
-    let values = and_parts (tile ws && times_rise ws && are_marks ms) free both.1 in
+    let within = and_parts (tile ws && times_rise ws && are_marks ms && free) keep both.1 in
+    let values = and_parts (tile ws && times_rise ws && are_marks ms) free within.0 in
     let first = and_parts (tile ws && times_rise ws) (are_marks ms) values.0 in
     let windows_meet = and_parts (tile ws) (times_rise ws) first.0 in
     record {
@@ -278,6 +283,7 @@ run-meets names rest head run =
       rising = windows_meet.1;
       landmarks = first.1;
       free = values.1;
+      keeping = within.1;
     }
 
 -- what comes at or after a window is no record of a landmark or of a value

@@ -9,6 +9,7 @@ use Rattle.std.proofs.lemmas.List.Elements.{filter-append, filter_map-append}
 use Rattle.std.proofs.lemmas.List.Folds.{list_any-append}
 use Rattle.std.proofs.lemmas.List.Sorted.{IsPermutation-cons, IsPermutation-middle, IsPermutation-refl, IsPermutation-trans}
 use Rattle.ss_catalog.specs.Names.{same_name}
+use Rattle.ss_catalog.specs.Params.{step_number}
 use Rattle.ss_catalog.specs.declared.TheConstants.{MOST_STREAMS}
 use Rattle.ss_catalog.specs.declared.params.Params.{Params}
 use Rattle.ss_codec.specs.declared.record.Record.{Record}
@@ -17,7 +18,7 @@ use Rattle.ss_model.specs.State.{Created}
 use Rattle.ss_recover.specs.Carried.{created_by, is_drop_of, is_dropped, streams_created}
 use Rattle.ss_recover.specs.Doomed.{is_doomed, is_own}
 use Rattle.ss_recover.specs.Order.{stream_of}
-use Rattle.ss_recover.specs.Runs.{has_sound_values_in_order, is_run, may_stand}
+use Rattle.ss_recover.specs.Runs.{has_sound_values_within, is_run, may_stand}
 use Rattle.ss_recover.specs.Usable.{IsUsable}
 use Rattle.ss_recover.proofs.Lists.{all_weaker, filter-all, filter-none}
 use Rattle.ss_recover.proofs.RunSound.{drops-apart}
@@ -72,7 +73,7 @@ module _ (fewer names : List (List ℕ)) (few : AreFewer fewer names) where
   is_run-fewer [] run = cc
   is_run-fewer (records.Free ∷ rest) run = cc
   is_run-fewer (records.Stream id name params dropped ∷ rest) run =
-      let asked : Bool = not (list_any is_own rest) && (dropped || has_sound_values_in_order rest id) in
+      let asked : Bool = not (list_any is_own rest) && (dropped || has_sound_values_within (step_number params.within) rest id) in
       let parts = and_parts (may_stand names name) asked run in
       and_from (may_stand fewer name) asked (may-fewer name parts.0) parts.1
   is_run-fewer (records.Window id first summary ∷ rest) run = cc

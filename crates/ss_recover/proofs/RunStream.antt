@@ -11,6 +11,7 @@ use Rattle.std.proofs.lemmas.List.Sums.{sum_by-cons}
 use Rattle.std.proofs.lemmas.Map.Keys.{IsDistinct-cons, IsDistinct-from_apart, IsDistinct-head, IsDistinct-tail}
 use Rattle.ss_catalog.specs.Names.{same_name}
 use Rattle.ss_catalog.specs.declared.TheConstants.{MOST_STREAMS}
+use Rattle.ss_catalog.specs.Params.{step_number}
 use Rattle.ss_catalog.specs.declared.params.Params.{Params}
 use Rattle.ss_codec.specs.declared.record.Record.{Record}
 use Rattle.ss_codec.specs.declared.record.Record.TheVariants as records
@@ -20,18 +21,19 @@ use Rattle.ss_model.specs.State as Streams
 use Rattle.ss_model.specs.State.{Created, Stream, live, names_of}
 use Rattle.ss_model.specs.declared.types.TheConstants.{MOST_RECORDS}
 use Rattle.ss_model.specs.declared.types.Window.{Window}
-use Rattle.ss_recover.specs.Carried.{is_dropped, is_mark_of, streams_created, window_of}
+use Rattle.ss_recover.specs.Carried.{is_dropped, is_mark_of, window_of}
 use Rattle.ss_recover.specs.Doomed.{is_own}
 use Rattle.ss_recover.specs.Held.{window_record}
 use Rattle.ss_recover.specs.Marked.{landmarks_made}
 use Rattle.ss_recover.specs.Order.{Rises, key_of, place_of, stream_of}
-use Rattle.ss_recover.specs.Runs.{has_sound_values_in_order, is_run, is_sound_in_order, may_stand}
+use Rattle.ss_recover.specs.Runs.{has_sound_values_within, is_run, is_sound_in_order, may_stand}
 use Rattle.ss_recover.specs.Usable.{IsUsable}
-use Rattle.ss_recover.proofs.HeldRecords.{all_walked, created, created-all_walked, each-all_walked, walked}
+use Rattle.ss_recover.proofs.HeldRecords.{all_walked, each-all_walked, walked}
 use Rattle.ss_recover.proofs.InOrder.{Rise, increasing-Rise}
-use Rattle.ss_recover.proofs.Lists.{all-kept, all-passing, all_append, all_behind, all_front, all_push, all_weaker, map-map}
+use Rattle.ss_recover.proofs.Lists.{all-kept, all-passing, all_append, all_behind, all_front, all_push, all_weaker}
 use Rattle.ss_recover.proofs.Marks.{length-marks_of, marks_of}
 use Rattle.ss_recover.proofs.MarksSoFar.{AreOf, AreOf-are_marks}
+use Rattle.ss_recover.proofs.OwnSteps.{IsInStep-keep_step}
 use Rattle.ss_recover.proofs.RunOrder.{places-rise, streams-rise, Rises-parts}
 use Rattle.ss_recover.proofs.RunSound.{MeetsRun, alone-drops, is_run-sound, own-alone, run-meets, run-order}
 use Rattle.ss_recover.proofs.RunStanding.{AreFewer, AreFewer-more, AreFewer-nil, AreFewer-push, is_run-fewer, names-more, names_created}
@@ -139,6 +141,7 @@ module _ (front : List Record) (streams : List Stream) (done : AreWalked front s
     number = usable.0.1;
     windows = AreWindows-tile ws meets.tiles meets.rising
         (all-window_of head.number rest (all_weaker IsUsable (λ r. (r ≡ records.Free → ⊥) → IsUsable r) (λ r is _. is) rest usable.1));
+    steps = IsInStep-keep_step head.params ws meets.keeping;
     landmarks = marks-are.landmarks;
     free = meets.free;
   }
@@ -149,7 +152,8 @@ module _ (front : List Record) (streams : List Stream) (done : AreWalked front s
 
   pub AreWalked-run : AreWalked (front ++ first ∷ rest) (streams ++ stream_made ∷ [])
   AreWalked-run =
-      let both = and_parts (may_stand (names_of streams) head.name) (not (list_any is_own rest) && (false || has_sound_values_in_order rest head.number)) run in
+      let values = has_sound_values_within (step_number head.params.within) rest head.number in
+      let both = and_parts (may_stand (names_of streams) head.name) (not (list_any is_own rest) && (false || values)) run in
       let may = and_parts (nat_lt (length (names_of streams)) MOST_STREAMS) (not (list_any (same_name head.name) (names_of streams))) both.0 in
       let below = each-all_walked (λ k. k < head.number) streams (subst (AllByRecursion (λ r. stream_of r < head.number)) done.order lower) in
       let least = ltb-true (length (names_of streams)) MOST_STREAMS may.0 in
@@ -231,8 +235,9 @@ module _ (front : List Record) (streams : List Stream) (done : AreStanding front
   step-dropped run =
       let r = records.Stream id name params true in
       let none = not-true (list_any is_own own)
-      (and_parts (not (list_any is_own own)) (true || has_sound_values_in_order own id)
-      (and_parts (may_stand (names_created front) name) (not (list_any is_own own) && (true || has_sound_values_in_order own id)) run).1).0 in
+      (and_parts (not (list_any is_own own)) (true || has_sound_values_within (step_number params.within) own id)
+      (and_parts (may_stand (names_created front) name)
+      (not (list_any is_own own) && (true || has_sound_values_within (step_number params.within) own id)) run).1).0 in
       let alone = own-alone own none in
       let more : filter (stands_in (front ++ r ∷ own)) (front ++ r ∷ own) ≡ filter (stands_in front) front ++ [] =
       standing-more (λ q. q) front (r ∷ own) id lower (refl, same) front (r ∷ own) lower (refl, same) true

@@ -14,7 +14,7 @@ use Rattle.ss_model.specs.State.{Created, Stream}
 use Rattle.ss_model.specs.declared.types.Window.{Window}
 use Rattle.ss_recover.specs.Carried.{in_order, is_dropped, is_mark_of, marks_carried, stands_by, stream_number, streams_created}
 use Rattle.ss_recover.specs.Carried.{window_of, windows_carried}
-use Rattle.ss_recover.specs.Conditions.{has_sound_values, is_sound, tile, times_rise}
+use Rattle.ss_recover.specs.Conditions.{has_sound_values, is_sound, keep_own_step, stands_sound, tile, times_rise}
 use Rattle.ss_recover.specs.Marked.{are_marks, landmarks_made}
 use Rattle.ss_recover.specs.Order.{place_of}
 use Rattle.ss_recover.specs.Parts.{carries, judged, lowest_bad_stream, lowest_in, stream_carried}
@@ -79,14 +79,14 @@ stream_carried-same rs us c same =
 
 -- what meets all conditions
 pub is_sound-from : (rs : List Record) (n : ℕ) → stands_alone n (streams_created rs) ≡ true →
-    (is_dropped n rs || has_sound_values rs n) ≡ true → is_sound rs n ≡ true
+    (is_dropped n rs || stands_sound rs n) ≡ true → is_sound rs n ≡ true
 unfolding is_sound
-is_sound-from rs n alone values = and_from (stands_alone n (streams_created rs)) (is_dropped n rs || has_sound_values rs n) alone values
+is_sound-from rs n alone values = and_from (stands_alone n (streams_created rs)) (is_dropped n rs || stands_sound rs n) alone values
 
 pub is_sound-parts : (rs : List Record) (n : ℕ) → is_sound rs n ≡ true →
-    (stands_alone n (streams_created rs) ≡ true) × ((is_dropped n rs || has_sound_values rs n) ≡ true)
+    (stands_alone n (streams_created rs) ≡ true) × ((is_dropped n rs || stands_sound rs n) ≡ true)
 unfolding is_sound
-is_sound-parts rs n sound = and_parts (stands_alone n (streams_created rs)) (is_dropped n rs || has_sound_values rs n) sound
+is_sound-parts rs n sound = and_parts (stands_alone n (streams_created rs)) (is_dropped n rs || stands_sound rs n) sound
 
 -- the same records of a number, and of streams and drops
 pub is_sound-made : (rs us : List Record) (n : ℕ) → streams_created rs ≡ streams_created us → is_dropped n rs ≡ is_dropped n us →
@@ -94,22 +94,31 @@ pub is_sound-made : (rs us : List Record) (n : ℕ) → streams_created rs ≡ s
 unfolding is_sound
 is_sound-made rs us n created gone windows marks =
     let values = sound_values-same n rs us (record { windows = windows; marks = marks }) in
-    λ i. stands_alone n (created i) && (gone i || values i)
+    let ordered = windows-same n rs us (record { windows = windows; marks = marks }) in
+    λ i. stands_alone n (created i) && (gone i || (values i && keep_own_step n (created i) (ordered i)))
 
 -- a number stays sound where it stands alone, stays dropped, and has the same values or is dropped
 pub is_sound-kept : (rs us : List Record) (n : ℕ) → (stands_alone n (streams_created rs) ≡ true → stands_alone n (streams_created us) ≡ true) →
+    ((ws : List Window) → keep_own_step n (streams_created rs) ws ≡ true → keep_own_step n (streams_created us) ws ≡ true) →
     (is_dropped n rs ≡ true → is_dropped n us ≡ true) → (is_dropped n us ≡ true) ⊎ HaveSameValues n rs us →
     is_sound rs n ≡ true → is_sound us n ≡ true
-is_sound-kept rs us n alone gone same sound =
+is_sound-kept rs us n alone keeps gone same sound =
     let parts = is_sound-parts rs n sound in
     is_sound-from us n (alone parts.0) (go same parts.1)
   where
-    go : (is_dropped n us ≡ true) ⊎ HaveSameValues n rs us → (is_dropped n rs || has_sound_values rs n) ≡ true →
-        (is_dropped n us || has_sound_values us n) ≡ true
-    go (inl is) values = or_left (is_dropped n us) (has_sound_values us n) is
-    go (inr same) values = elim (or_cases (is_dropped n rs) (has_sound_values rs n) values) [
-      | inl is ↦ or_left (is_dropped n us) (has_sound_values us n) (gone is)
-      | inr fine ↦ or_right (is_dropped n us) (has_sound_values us n) (sym (sound_values-same n rs us same) ∙ fine)
+    kept : HaveSameValues n rs us → stands_sound rs n ≡ true → stands_sound us n ≡ true
+    kept same fine =
+        let both = and_parts (has_sound_values rs n) (keep_own_step n (streams_created rs) (windows_carried n rs)) fine in
+        and_from (has_sound_values us n) (keep_own_step n (streams_created us) (windows_carried n us))
+        (sym (sound_values-same n rs us same) ∙ both.0)
+        (keeps (windows_carried n us) (ap (keep_own_step n (streams_created rs)) (sym (windows-same n rs us same)) ∙ both.1))
+
+    go : (is_dropped n us ≡ true) ⊎ HaveSameValues n rs us → (is_dropped n rs || stands_sound rs n) ≡ true →
+        (is_dropped n us || stands_sound us n) ≡ true
+    go (inl is) values = or_left (is_dropped n us) (stands_sound us n) is
+    go (inr same) values = elim (or_cases (is_dropped n rs) (stands_sound rs n) values) [
+      | inl is ↦ or_left (is_dropped n us) (stands_sound us n) (gone is)
+      | inr fine ↦ or_right (is_dropped n us) (stands_sound us n) (kept same fine)
     ]
 
 -- ---- one record of a number, which says whether its stream was dropped

@@ -13,7 +13,7 @@ use Rattle.ss_model.specs.Marks.{lies_free}
 use Rattle.ss_model.specs.declared.types.Window.{Window}
 use Rattle.ss_recover.specs.Carried.{created_by, in_order, is_drop_of, is_mark_of, marks_carried, stream_number, put_in_order, streams_created, window_of}
 use Rattle.ss_recover.specs.Carried.{windows_carried}
-use Rattle.ss_recover.specs.Conditions.{is_sound, tile, times_rise}
+use Rattle.ss_recover.specs.Conditions.{is_sound, keep_own_step, tile, times_rise}
 use Rattle.ss_recover.specs.Marked.{are_marks, landmarks_made}
 use Rattle.ss_recover.specs.Order.{Rises, key_of, place_of, stream_of}
 use Rattle.ss_recover.specs.Parts.{lowest_in, lowest_bad_stream}
@@ -21,6 +21,7 @@ use Rattle.ss_recover.specs.Runs.{IsLowestUnsound, is_sound_in_order}
 use Rattle.ss_recover.specs.Usable.{IsUsable}
 use Rattle.ss_recover.proofs.InOrder.{IsPermutation-in_order, Rises-in_order}
 use Rattle.ss_recover.proofs.Lists.{all_weaker, filter_map-kept, kept}
+use Rattle.ss_recover.proofs.OwnSteps.{own_step-moved}
 use Rattle.ss_recover.proofs.Permutations.{IsPermutation-filter_map}
 use Rattle.ss_recover.proofs.SoundStreams.{stands_alone-moved}
 use Rattle.ss_recover.proofs.OrderLemmas.{put-less, put-more}
@@ -142,8 +143,10 @@ is_sound-in_order rs n =
     let windows = windows-in_order n rs in
     let marks = marks-in_order n rs in
     let gone = list_any-IsPermutation (is_drop_of n) rs qs (IsPermutation-in_order key_of rs) in
+    let keeps : (ws : List Window) → keep_own_step n (streams_created rs) ws ≡ keep_own_step n (streams_created qs) ws =
+    λ ws. own_step-moved n ws (streams_created rs) (streams_created qs) moved in
     λ i. alone i && (gone i || (tile (windows i) && times_rise (windows i) && are_marks (marks i)
-    && list_all (lies_free (landmarks_made (marks i))) (windows i)))
+    && list_all (lies_free (landmarks_made (marks i))) (windows i) && keeps (windows i) i))
 
 -- the least of some numbers
 fold-least : (n a : ℕ) (xs : List ℕ) → n ≤ a → AllByRecursion (λ x. n ≤ x) xs → (a ≡ n) ⊎ (list_any (λ x. x == n) xs ≡ true) → fold min a xs ≡ n

@@ -2,7 +2,7 @@
 use Rattle.std.proofs.Common.{◌≡◌, ◌∙◌, ℕ, ◌+◌, ◌<◌, ◌≤◌, Bool, true, false, ◌&&◌, cond, List, [], ◌∷◌, ◌++◌, map, length, take, drop, get_or, refl, sym, ap}
 use Rattle.std.proofs.Common.{All, Option, Some, None, add-one, arith, append-nil, subst}
 use Rattle.std.specs.Prelude.{◌==◌, nat_le, nat_lt}
-use Rattle.std.specs.List.{cons_option, filter_map, list_all}
+use Rattle.std.specs.List.{cons_option}
 use Rattle.std.proofs.Math.Seq.{drop-cons}
 use Rattle.std.proofs.lemmas.Bool.{and_from, and_left, cond-true, eq-eqb, le-leb, ne_eqb}
 use Rattle.std.proofs.lemmas.List.{length-map, map-append, take_more}

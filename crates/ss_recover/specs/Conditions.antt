@@ -2,8 +2,10 @@
 use Rattle.std.specs.Prelude.{ℕ, ◌+◌, Bool, true, not, ◌==◌, ◌&&◌, ◌||◌, nat_le, nat_lt, List, [], ◌∷◌, count_by}
 use Rattle.std.specs.List.{list_all, list_any}
 use Rattle.ss_catalog.specs.Names.{same_name}
+use Rattle.ss_catalog.specs.Params.{step_number}
 use Rattle.ss_catalog.specs.declared.TheConstants.{MOST_STREAMS}
 use Rattle.ss_codec.specs.declared.record.Record.{Record}
+use Rattle.ss_target.specs.Rule.{in_step}
 use Rattle.ss_windowing.specs.declared.decay.TheConstants.{MOST_VALUES}
 use Rattle.ss_model.specs.Marks.{lies_free}
 use Rattle.ss_model.specs.State.{Created}
@@ -43,6 +45,14 @@ times_rise [] = true
 times_rise (w ∷ []) = true
 times_rise (w ∷ v ∷ ws) = nat_lt w.summary.t_last v.summary.t_first && times_rise (v ∷ ws)
 
+-- the first time of each window and its last lie in one step of the clock
+abbrev pub keep_step : ℕ → List Window → Bool
+keep_step step ws = list_all (λ w. in_step step w.summary.t_first w.summary.t_last) ws
+
+-- they do where the step is that of the stream record with the number
+abbrev pub keep_own_step : ℕ → List Created → List Window → Bool
+keep_own_step number streams ws = list_all (λ s. not (s.number == number) || keep_step (step_number s.params.within) ws) streams
+
 -- its windows and its landmarks meet theirs
 abbrev pub has_sound_values : List Record → ℕ → Bool
 has_sound_values records number =
@@ -51,10 +61,15 @@ has_sound_values records number =
     && are_marks (marks_carried number records)
     && list_all (lies_free (landmarks_made (marks_carried number records))) (windows_carried number records)
 
+-- they do, and its windows keep to its step
+abbrev pub stands_sound : List Record → ℕ → Bool
+stands_sound records number =
+    has_sound_values records number && keep_own_step number (streams_created records) (windows_carried number records)
+
 -- The records of the number meet all conditions. Of a dropped stream nothing is asked of its windows and its landmarks.
 unfoldable pub is_sound : List Record → ℕ → Bool
 is_sound records number =
     has_one_record number (streams_created records)
     && has_place number (streams_created records)
     && has_new_name number (streams_created records)
-    && (is_dropped number records || has_sound_values records number)
+    && (is_dropped number records || stands_sound records number)

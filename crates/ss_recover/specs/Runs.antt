@@ -1,25 +1,24 @@
 -- The records of one stream after another, in order: which of them meet all conditions, and what is built of them.
-use Rattle.std.specs.Prelude.{◌≡◌, ℕ, ◌+◌, ◌<◌, Bool, true, false, not, ◌==◌, ◌&&◌, ◌||◌, nat_lt, if◌then◌else◌, List, [], ◌∷◌, length, filter, flat_map, zip}
+use Rattle.std.specs.Prelude.{◌≡◌, ℕ, ◌<◌, Bool, true, false, not, ◌==◌, ◌&&◌, ◌||◌, nat_lt, List, [], ◌∷◌, length, filter, flat_map, zip}
 use Rattle.std.specs.Prelude.{◌++◌}
-use Rattle.std.specs.Prelude.{fold, is_some, map, option_and_then, Option, Some, None, Result, Ok, Err, ⊤}
-use Rattle.std.specs.Option.{option_map_or}
+use Rattle.std.specs.Prelude.{map, Result, Ok, Err, ⊤}
 use Rattle.std.specs.List.{AllByRecursion, filter_map, list_all, list_any}
 use Rattle.std.specs.List.Sorted.{IsPermutation}
 use Rattle.ss_catalog.specs.Names.{same_name}
+use Rattle.ss_catalog.specs.Params.{step_number}
 use Rattle.ss_catalog.specs.declared.TheConstants.{MOST_STREAMS}
 use Rattle.ss_codec.specs.declared.record.Record.{Record}
 use Rattle.ss_codec.specs.declared.record.Record.TheVariants as records
 use Rattle.ss_codec.specs.declared.record.Record.TheVariants.{Free, Stream}
-use Rattle.ss_landmarks.specs.Landmark.{Landmark}
 use Rattle.ss_model.specs.Marks.{lies_free}
 use Rattle.ss_model.specs.Standing.{IsState}
 use Rattle.ss_model.specs.State as Streams
 use Rattle.ss_model.specs.declared.types.Window.{Window}
 use Rattle.ss_recover.specs.Carried.{is_dropped, is_mark_of, streams_created, window_of}
-use Rattle.ss_recover.specs.Conditions.{has_one_record, has_place, has_new_name, tile, times_rise}
+use Rattle.ss_recover.specs.Conditions.{has_one_record, has_place, has_new_name, keep_own_step, keep_step, tile, times_rise}
 use Rattle.ss_recover.specs.Doomed.{is_doomed, is_own}
 use Rattle.ss_recover.specs.Held.{AllAgree, records_held}
-use Rattle.ss_recover.specs.Marked.{Marked, are_marks, has_all_values, landmarks_in, landmarks_made, marked_with, nothing_marked}
+use Rattle.ss_recover.specs.Marked.{are_marks, landmarks_made}
 use Rattle.ss_recover.specs.Order.{Rises, stream_of}
 use Rattle.ss_recover.specs.Usable.{in_slot, slots_found, without_slots}
 use Rattle.ss_recover.specs.declared.found.Found.{Found}
@@ -42,6 +41,15 @@ has_sound_values_in_order records number =
     && are_marks (marks_in number records)
     && list_all (lies_free (landmarks_made (marks_in number records))) (windows_in number records)
 
+-- the same, and its windows keep to this step
+abbrev pub has_sound_values_within : ℕ → List Record → ℕ → Bool
+has_sound_values_within step records number = has_sound_values_in_order records number && keep_step step (windows_in number records)
+
+-- they do, and the step is that of the stream record with the number
+abbrev pub stands_sound_in_order : List Record → ℕ → Bool
+stands_sound_in_order records number =
+    has_sound_values_in_order records number && keep_own_step number (streams_created records) (windows_in number records)
+
 -- a stream may stand beside those with these names: its name is new, and they aren't as many as can be
 abbrev pub may_stand : List (List ℕ) → List ℕ → Bool
 may_stand names name = nat_lt (length names) MOST_STREAMS && not (list_any (same_name name) names)
@@ -52,7 +60,7 @@ abbrev pub is_run : List (List ℕ) → List Record → Bool
 is_run names [] = false
 is_run names (Free ∷ rest) = false
 is_run names (Stream id name params dropped ∷ rest) =
-    may_stand names name && (not (list_any is_own rest) && (dropped || has_sound_values_in_order rest id))
+    may_stand names name && (not (list_any is_own rest) && (dropped || has_sound_values_within (step_number params.within) rest id))
 is_run names (records.Window id first summary ∷ rest) = false
 is_run names (records.Landmark id number values start finish ∷ rest) = false
 is_run names (records.Value id number index t v ∷ rest) = false
@@ -63,7 +71,7 @@ is_sound_in_order records number =
     has_one_record number (streams_created records)
     && has_place number (streams_created records)
     && has_new_name number (streams_created records)
-    && (is_dropped number records || has_sound_values_in_order records number)
+    && (is_dropped number records || stands_sound_in_order records number)
 
 -- those of some records that are of dropped streams, their own or the others
 abbrev pub doomed_found : Bool → List Found → List Found

@@ -1,13 +1,13 @@
 -- What is held of a stream whose records come shows what they are, and what a walk over the records of one stream after another answers.
-use Rattle.std.specs.Prelude.{◌≡◌, ◌⊎◌, ℕ, ℤ, ◌+◌, ◌-◌, ◌<◌, ◌≤◌, Bool, true, false, ◌==◌, ◌&&◌, ◌||◌, nat_le, nat_lt, is_none, List, [], ◌∷◌, ◌++◌}
+use Rattle.std.specs.Prelude.{◌≡◌, ◌⊎◌, ℕ, ℤ, ◌+◌, ◌<◌, ◌≤◌, Bool, true, false, ◌==◌, ◌&&◌, ◌||◌, nat_le, nat_lt, is_none, List, [], ◌∷◌, ◌++◌}
 use Rattle.std.specs.Prelude.{length, map, filter}
 use Rattle.std.specs.Prelude.{All, drop}
 use Rattle.std.specs.Prelude.{IfSome, MatchOption, Option, Some, None, Result, Ok, Err, ⊤}
 use Rattle.std.specs.Option.{option_map_or}
-use Rattle.std.specs.List.{AllByRecursion, filter_map, list_all}
+use Rattle.std.specs.List.{AllByRecursion, list_all}
 use Rattle.std.specs.List.Sorted.{IsPermutation}
 use Rattle.ss_catalog.specs.declared.stream_id.StreamId.{StreamId}
-use Rattle.ss_catalog.specs.declared.params.Params.{Params}
+use Rattle.ss_catalog.specs.Params.{step_number}
 use Rattle.ss_codec.specs.declared.record.Record.{Record}
 use Rattle.ss_codec.specs.declared.record.Record.TheVariants as records
 use Rattle.ss_landmarks.specs.Free.{is_up_to}
@@ -29,7 +29,7 @@ use Rattle.ss_model.specs.declared.types.Window.{Window}
 use Rattle.ss_recover.specs.Held.{span_held, span_of, times_held, times_of}
 use Rattle.ss_recover.specs.Marked.{Marked, are_marks, landmarks_made, marked_by, nothing_marked}
 use Rattle.ss_recover.specs.Order.{Rises, stream_of}
-use Rattle.ss_recover.specs.Runs.{has_sound_values_in_order, is_run, marks_in, may_stand, windows_in}
+use Rattle.ss_recover.specs.Runs.{has_sound_values_within, is_run, marks_in, may_stand, windows_in}
 use Rattle.ss_recover.specs.Usable.{IsUsable, slots_found, without_slots}
 use Rattle.ss_recover.specs.declared.found.Found.{Found}
 use Rattle.ss_recover.specs.declared.parts.Parts.{Parts}
@@ -251,8 +251,10 @@ pub record IsHeldOf (part : StreamParts) (all : List Found) : Type 0 where
 -- it is built, or its windows or its landmarks break a condition
 abbrev pub BuildsAs : Created → ℕ → List Found → Result (Option StreamParts) RecoverError → Type 0
 BuildsAs head slot rest (Ok (Some part)) =
-    (has_sound_values_in_order (without_slots rest) head.number ≡ true) × (part.name ≡ head.name) × IsHeldOf part (head_found slot head ∷ rest)
-BuildsAs head slot rest (Ok None) = has_sound_values_in_order (without_slots rest) head.number ≡ false
+    (has_sound_values_within (step_number head.params.within) (without_slots rest) head.number ≡ true)
+    × (part.name ≡ head.name)
+    × IsHeldOf part (head_found slot head ∷ rest)
+BuildsAs head slot rest (Ok None) = has_sound_values_within (step_number head.params.within) (without_slots rest) head.number ≡ false
 BuildsAs head slot rest (Err error) = error ≡ OutOfMemory
 
 -- the names of streams

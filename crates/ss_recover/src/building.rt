@@ -9,7 +9,7 @@ ghost use Rattle.ss_recover.specs.Usable.{IsUsable};
 
 use crate::found::Found;
 use crate::marking::marks_of;
-use crate::windows::{lie_free, tile, times_rise, windows_of};
+use crate::windows::{keep_step, lie_free, tile, times_rise, windows_of};
 use crate::{RecoverError, StreamParts};
 use ss_catalog::{Name, Params, StreamId};
 use ss_steps::Steps;
@@ -51,6 +51,12 @@ pub fn build<L: Ledger>(
     if !times_rise(id, rest) {
         return Ok(None);
     }
+    let Ok(target) = Target::of(params) else {
+        return Err(RecoverError::OutOfMemory);
+    };
+    if !keep_step(&target, id, rest) {
+        return Ok(None);
+    }
     let Some(marks) = marks_of(alloc, id, rest)? else {
         return Ok(None);
     };
@@ -58,16 +64,13 @@ pub fn build<L: Ledger>(
         return Ok(None);
     }
     let windows = windows_of(alloc, id, rest, steps)?;
-    match Target::of(params) {
-        Ok(target) => Ok(Some(StreamParts {
-            id: StreamId(id),
-            name,
-            target,
-            slot,
-            last_time: later(windows.newest, marks.latest),
-            line: windows.line,
-            landmarks: marks.landmarks,
-        })),
-        Err(_) => Err(RecoverError::OutOfMemory),
-    }
+    Ok(Some(StreamParts {
+        id: StreamId(id),
+        name,
+        target,
+        slot,
+        last_time: later(windows.newest, marks.latest),
+        line: windows.line,
+        landmarks: marks.landmarks,
+    }))
 }

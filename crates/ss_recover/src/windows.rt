@@ -3,10 +3,12 @@ ghost use Rattle.std.specs.Prelude.{◌≡◌, ◌+◌, ◌≤◌, ◌<◌, ◌+
 ghost use Rattle.std.specs.List.{list_all};
 ghost use Rattle.ss_line.specs.declared.line.TheConstants.{MOST_PLACES};
 ghost use Rattle.ss_summary.specs.declared.summary.TheConstants.{GREATEST_COUNT};
+ghost use Rattle.ss_target.specs.Rule.{rule_of};
+ghost use Rattle.ss_target.specs.Targets.{params_of};
 ghost use Rattle.ss_model.specs.Marks.{lies_free};
 ghost use Rattle.ss_model.specs.declared.types.TheConstants.{MOST_RECORDS};
 ghost use Rattle.ss_recover.specs.Carried.{window_of};
-ghost use Rattle.ss_recover.specs.Conditions.{tile, times_rise};
+ghost use Rattle.ss_recover.specs.Conditions.{keep_step, tile, times_rise};
 ghost use Rattle.ss_recover.specs.Order.{stream_of};
 ghost use Rattle.ss_recover.specs.Runs.{windows_in};
 ghost use Rattle.ss_recover.specs.Shown.{AreWindowsOf, Grows, IsInside, is_after};
@@ -20,6 +22,7 @@ use ss_landmarks::Landmarks;
 use ss_line::{Entry, Line};
 use ss_model::Window;
 use ss_steps::Steps;
+use ss_target::Target;
 use std::alloc::Global;
 use std::sync::ledger::Ledger;
 
@@ -104,6 +107,21 @@ pub fn times_rise(id: u32, found: &[Found]) -> bool
                 return false;
             }
             newest = Some(window.summary.t_last);
+        }
+    }
+    true
+}
+
+// Whether the first time of each window and its last lie in one step of the clock.
+pub fn keep_step(target: &Target, id: u32, found: &[Found]) -> bool
+    requires { All (λ f. IsUsable f.holds) found.now }
+    ensures { result ≡ keep_step (rule_of (params_of target.now)).step (windows_in id (without_slots found.now)) }
+{
+    for one in found {
+        if let Some(window) = window_of(id, &one.holds) {
+            if !target.in_step(window.summary.t_first, window.summary.t_last) {
+                return false;
+            }
         }
     }
     true

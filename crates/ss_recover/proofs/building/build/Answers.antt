@@ -2,17 +2,19 @@ use Rattle.std.proofs.Common.{◌≡◌, ◌∙◌, true, Ok, refl, sym, ap, ap�
 use Rattle.std.specs.Prelude.{◌&&◌}
 use Rattle.std.specs.List.{list_all}
 use Rattle.std.proofs.lemmas.Bool.{and_from}
+use Rattle.ss_catalog.specs.Params.{step_number}
+use Rattle.ss_catalog.specs.declared.params.Params.{Params}
 use Rattle.ss_landmarks.specs.Landmark.{Landmark}
 use Rattle.ss_model.specs.Marks.{later, lies_free}
-use Rattle.ss_recover.specs.Conditions.{tile, times_rise}
+use Rattle.ss_recover.specs.Conditions.{keep_step, tile, times_rise}
 use Rattle.ss_recover.specs.Marked.{are_marks, landmarks_made}
-use Rattle.ss_recover.specs.Runs.{marks_in, windows_in}
+use Rattle.ss_recover.specs.Runs.{has_sound_values_in_order, marks_in, windows_in}
 use Rattle.ss_recover.specs.Shown.{AreMade, MakesMarks}
 use Rattle.ss_recover.specs.Usable.{without_slots}
 use Rattle.ss_recover.proofs.building.build.Goals as goal
 
-pub returns-in-Ok : goal.returns-in-Ok
-returns-in-Ok g c =
+pub returns : goal.returns
+returns g c =
     let rest = c.args.rest.now in
     let ws = windows_in c.args.id (without_slots rest) in
     let ms = marks_in c.args.id (without_slots rest) in
@@ -20,10 +22,13 @@ returns-in-Ok g c =
     let windows = c.in_ok-windows.ensures.ok in
     let tiles : tile ws ≡ true = sym c.tile.ensures ∙ c.if-not-tile.false in
     let rises : times_rise ws ≡ true = sym c.times_rise.ensures ∙ c.if-not-times_rise.false in
+    let keeps : keep_step (step_number c.args.params.within) ws ≡ true =
+    subst (λ (p : Params). keep_step (step_number p.within) ws ≡ true) c.in-Ok.ensures.params (sym c.keep_step.ensures ∙ c.if-not-keep_step.false) in
     let free : list_all (lies_free (landmarks_made ms)) ws ≡ true =
     ap (λ (ls : List Landmark). list_all (lies_free ls) ws) (sym made.landmarks) ∙ sym c.lie_free.ensures ∙ c.if-not-lie_free.false in (
-      and_from (tile ws && times_rise ws && are_marks ms) (list_all (lies_free (landmarks_made ms)) ws)
-          (and_from (tile ws && times_rise ws) (are_marks ms) (and_from (tile ws) (times_rise ws) tiles rises) made.are) free,
+      and_from (has_sound_values_in_order (without_slots rest) c.args.id) (keep_step (step_number c.args.params.within) ws)
+          (and_from (tile ws && times_rise ws && are_marks ms) (list_all (lies_free (landmarks_made ms)) ws)
+          (and_from (tile ws && times_rise ws) (are_marks ms) (and_from (tile ws) (times_rise ws) tiles rises) made.are) free) keeps,
       refl,
       record {
         head = record { number = c.args.id; name = c.args.name; params = c.args.params };

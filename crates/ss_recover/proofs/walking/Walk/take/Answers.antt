@@ -3,13 +3,14 @@ use Rattle.std.specs.Prelude.{◌&&◌, ◌||◌, IfErr, OnOk, ⊤}
 use Rattle.std.specs.List.{list_any}
 use Rattle.std.proofs.lemmas.Bool.{and_from, and_right}
 use Rattle.std.proofs.lemmas.List.Elements.{All-tail}
+use Rattle.ss_catalog.specs.Params.{step_number}
 use Rattle.ss_catalog.specs.declared.params.Params.{Params}
 use Rattle.ss_catalog.specs.declared.stream_id.StreamId.{StreamId}
 use Rattle.ss_codec.specs.declared.record.Record.TheVariants as records
 use Rattle.ss_model.specs.State.{Created}
 use Rattle.ss_recover.specs.Doomed.{is_own}
 use Rattle.ss_recover.specs.Order.{stream_of}
-use Rattle.ss_recover.specs.Runs.{has_sound_values_in_order, is_run, may_stand}
+use Rattle.ss_recover.specs.Runs.{has_sound_values_within, is_run, may_stand}
 use Rattle.ss_recover.specs.Shown.{AddsName, BuildsAs, IsHeldOf, PutsDropped, PutsStanding, TakesAs, head_found, names_in}
 use Rattle.ss_recover.specs.Usable.{IsUsable, without_slots}
 use Rattle.ss_recover.specs.declared.found.Found.{Found}
@@ -50,7 +51,7 @@ module _ (old : Walk) (names : List (List ℕ × StreamId)) (id : ℕ) (run rest
       (result : Result ⊤ RecoverError) → OnOk result (PutsStanding (with_names old names) new part) →
       IfErr result (λ error. error ≡ OutOfMemory) → TakesAs old new id run result
   takes-standing split part built new (Ok done) puts none =
-      let sound = has_sound_values_in_order (without_slots rest) head.number in
+      let sound = has_sound_values_within (step_number head.params.within) (without_slots rest) head.number in
       inl (record {
         part = part;
         runs =
@@ -123,7 +124,7 @@ returns-in-None g c =
     let rest = c.in-Some.rest.now in
     let r = c.in-Stream in
     let head : Created = record { number = c.args.id; name = r.name; params = r.params } in
-    let fails : has_sound_values_in_order (without_slots rest) c.args.id ≡ false =
+    let fails : has_sound_values_within (step_number r.params.within) (without_slots rest) c.args.id ≡ false =
     subst (λ o. BuildsAs head first.slot rest (Ok o)) c.in-None.is c.in_ok-part.ensures in (
       refl,
       ap (λ (fs : List Found). is_run (names_in old.names) (without_slots fs))

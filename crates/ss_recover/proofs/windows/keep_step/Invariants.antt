@@ -1,0 +1,11 @@
+use Rattle.std.proofs.Common.{◌≡◌, drop}
+use Rattle.ss_target.specs.Rule.{rule_of}
+use Rattle.ss_target.specs.Targets.{params_of}
+use Rattle.ss_recover.specs.Conditions.{keep_step}
+use Rattle.ss_recover.proofs.WindowLaws.{windows_at}
+use Rattle.ss_recover.proofs.windows.keep_step.Given as goal
+
+abbrev pub invariant-loop-one : goal.invariant-loop-one
+invariant-loop-one l =
+    keep_step (rule_of (params_of l.target)).step (windows_at l.id l.found)
+    ≡ keep_step (rule_of (params_of l.target)).step (windows_at l.id (drop l.one-index l.found))
