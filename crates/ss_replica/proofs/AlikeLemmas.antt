@@ -15,7 +15,7 @@ use Rattle.ss_model.specs.Marks.{has_open}
 use Rattle.ss_model.specs.Refusals.{IsHistory, first_that_applies, has_all_records, has_all_streams, has_most_values, is_before, is_early, is_past, of_named}
 use Rattle.ss_model.specs.Refusals.{refuses, stands}
 use Rattle.ss_model.specs.State.{Stream, last_time, state, stream_named}
-use Rattle.ss_model.specs.Rule.{rule_of}
+use Rattle.ss_target.specs.Rule.{rule_of}
 use Rattle.ss_model.specs.Windows.{windows}
 use Rattle.ss_model.proofs.FoundLemmas.{All-around, found, stream_named-at}
 use Rattle.ss_model.proofs.HistoryLemmas.{IsState-state}

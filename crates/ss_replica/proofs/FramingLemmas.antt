@@ -4,8 +4,10 @@ use Rattle.std.proofs.lemmas.Bool.{cond-true}
 use Rattle.std.proofs.lemmas.List.{length-append}
 use Rattle.ss_catalog.specs.Events.{event_name}
 use Rattle.ss_catalog.specs.Names.{is_name}
+use Rattle.ss_catalog.specs.Params.{step_number}
 use Rattle.ss_catalog.specs.declared.event.Event.{Event}
 use Rattle.ss_catalog.specs.declared.event.Event.TheVariants.{Create, Value, Open, Close, Drop}
+use Rattle.ss_codec.proofs.RecordLemmas.{test-small}
 use Rattle.ss_frames.specs.Frame.{FrameState, IsValidFrame, checked, is_valid_frame}
 use Rattle.ss_frames.proofs.FrameLemmas.{test-IsValidFrame}
 use Rattle.ss_model.specs.History.{Happened, added}
@@ -15,7 +17,7 @@ use Rattle.ss_model.proofs.HistoryLemmas.{GoesOn-push}
 use Rattle.ss_model.proofs.NameLemmas.{same_name-same}
 use Rattle.ss_model.proofs.StepLemmas.{CanCreate-refuses}
 use Rattle.ss_summary.specs.Points.{New}
-use Rattle.ss_replica.specs.Own.{counted, event_frame, frame_of, own}
+use Rattle.ss_replica.specs.Own.{counted, event_frame, frame_of, own, step_of_event}
 use Rattle.ss_replica.specs.Fronts.{comes_last}
 use Rattle.ss_replica.proofs.OwnLemmas.{named-changed, own-created, own-last, own-some}
 
@@ -35,18 +37,18 @@ checked-valid f valid = cond-true (is_valid_frame f.number f.event) (Some f) Non
 
 -- so it is the one that its event has
 pub checked-last : (history : List Happened) (event : Event) → IsHistory (history ++ added event ∷ []) → is_name (event_name event) ≡ true →
-    length (own (history ++ added event ∷ []) (event_name event)) < 2 ^ 64 → checked (frame_of history event) ≡ event_frame history event
+    step_of_event event < 2 ^ 32 → length (own (history ++ added event ∷ []) (event_name event)) < 2 ^ 64 → checked (frame_of history event) ≡ event_frame history event
 unfolding is_valid_frame
-checked-last history (Create name params) whole named few =
+checked-last history (Create name params) whole named small few =
     let can = CanCreate-refuses (state history) name params (GoesOn-push history (added (Create name params)) whole).accepted in
-    checked-valid (frame_of history (Create name params)) (ap length (own-created history name params New), named, can.target)
-checked-last history (Value name t v) whole named few =
+    checked-valid (frame_of history (Create name params)) (ap length (own-created history name params New), named, can.target, test-small (step_number params.within) small)
+checked-last history (Value name t v) whole named small few =
     let said = (GoesOn-push history (added (Value name t v)) whole).said in
     checked-valid (frame_of history (Value name t v)) ((two-owned history (Value name t v) whole refl, few), named, said.0, said.1)
-checked-last history (Open name t) whole named few =
+checked-last history (Open name t) whole named small few =
     let said = (GoesOn-push history (added (Open name t)) whole).said in
     checked-valid (frame_of history (Open name t)) ((two-owned history (Open name t) whole refl, few), named, said)
-checked-last history (Close name t) whole named few =
+checked-last history (Close name t) whole named small few =
     let said = (GoesOn-push history (added (Close name t)) whole).said in
     checked-valid (frame_of history (Close name t)) ((two-owned history (Close name t) whole refl, few), named, said)
-checked-last history (Drop name) whole named few = refl
+checked-last history (Drop name) whole named small few = refl

@@ -4,7 +4,7 @@ use Rattle.std.specs.Prelude.{reverse, flat_map, replicate, Ok, Err}
 use Rattle.ss_windowing.specs.Windowing.{window_index}
 use Rattle.ss_catalog.specs.declared.event.Event.{Event}
 use Rattle.ss_catalog.specs.declared.event.Event.TheVariants.{Create, Value, Open, Close, Drop}
-use Rattle.ss_catalog.specs.declared.params.Params.TheVariants.{Exp}
+use Rattle.ss_catalog.specs.Params.{exp}
 use Rattle.ss_catalog.specs.declared.refusal.Refusal.TheVariants.{Time}
 use Rattle.ss_model.specs.History.{Happened, added}
 use Rattle.ss_model.specs.Refusals.{refuses}
@@ -19,7 +19,7 @@ a = codes "a"
 
 -- a stream and seven readings
 readings : List Event
-readings = Create a (Exp 2 1 1) ∷ Value a 10 (pos 5) ∷ Value a 20 (negsuc 2) ∷ Value a 30 (pos 8) ∷ Value a 40 (pos 1)
+readings = Create a (exp 2 1 1) ∷ Value a 10 (pos 5) ∷ Value a 20 (negsuc 2) ∷ Value a 30 (pos 8) ∷ Value a 40 (pos 1)
     ∷ Value a 50 (pos 9) ∷ Value a 60 (pos 2) ∷ Value a 70 (pos 7) ∷ []
 
 frame : ℕ → Event → FrameState
@@ -38,7 +38,7 @@ unfolding frames frames_from readings a
 numbers-frames = refl
 
 first : FrameState
-first = frame 1 (Create a (Exp 2 1 1))
+first = frame 1 (Create a (exp 2 1 1))
 
 second : FrameState
 second = frame 2 (Value a 10 (pos 5))
@@ -67,7 +67,7 @@ state-in_reverse = refl
 
 -- a value that comes too early is refused, also as a frame whose number is next; a frame of a stream that doesn't stand is behind a gap
 offers-refused : offers (map added readings) (frame 9 (Value a 70 (pos 1)) ∷ frame 10 (Value a 80 (pos 1)) ∷ frame 9 (Open a 80)
-    ∷ frame 10 (Value a 80 (pos 1)) ∷ frame 2 (Value (codes "b") 1 (pos 1)) ∷ frame 0 (Close a 90) ∷ frame 1 (Create a (Exp 3 1 1)) ∷ []) ≡
+    ∷ frame 10 (Value a 80 (pos 1)) ∷ frame 2 (Value (codes "b") 1 (pos 1)) ∷ frame 0 (Close a 90) ∷ frame 1 (Create a (exp 3 1 1)) ∷ []) ≡
     Err Time ∷ Ok (said.Gap 8) ∷ Ok (said.Done (record { n = 7; k = 3 })) ∷ Ok (said.Done (record { n = 7; k = 3 })) ∷ Ok (said.Gap 0)
     ∷ Ok said.Old ∷ Ok said.Old ∷ []
 unfolding refuses state window_index readings frame a
@@ -75,7 +75,7 @@ offers-refused = refl
 
 -- what a stream owns begins with its last create, and nothing is owned after a drop
 own-again : map (λ (history : List Event). length (own (map added history) a))
-    (readings ∷ (readings ++ Drop a ∷ []) ∷ (readings ++ Drop a ∷ Create a (Exp 2 1 1) ∷ Open a 5 ∷ Close a 6 ∷ []) ∷ [] ∷ []) ≡
+    (readings ∷ (readings ++ Drop a ∷ []) ∷ (readings ++ Drop a ∷ Create a (exp 2 1 1) ∷ Open a 5 ∷ Close a 6 ∷ []) ∷ [] ∷ []) ≡
     8 ∷ 0 ∷ 3 ∷ 0 ∷ []
 unfolding readings a
 own-again = refl

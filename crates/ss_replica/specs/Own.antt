@@ -2,6 +2,7 @@
 use Rattle.std.specs.Prelude.{ℕ, List, [], ◌∷◌, ◌++◌, length, fold, if◌then◌else◌, Option, Some, None}
 use Rattle.ss_catalog.specs.Events.{event_name}
 use Rattle.ss_catalog.specs.Names.{same_name}
+use Rattle.ss_catalog.specs.Params.{step_number}
 use Rattle.ss_catalog.specs.declared.event.Event.{Event}
 use Rattle.ss_catalog.specs.declared.event.Event.TheVariants.{Create, Value, Open, Close, Drop}
 use Rattle.ss_summary.specs.Points.{Origin}
@@ -28,6 +29,14 @@ own_after name owned origin (Drop other) = if same_name name other then [] else 
 -- what the stream of a name owns of a history: nothing, where it doesn't stand
 abbrev pub own : List Happened → List ℕ → List Happened
 own history name = fold (λ owned (e : Happened). own_after name owned e.1 e.0) [] history
+
+-- the step of the stream that an event creates, 0 for none
+abbrev pub step_of_event : Event → ℕ
+step_of_event (Create name params) = step_number params.within
+step_of_event (Value name t v) = 0
+step_of_event (Open name t) = 0
+step_of_event (Close name t) = 0
+step_of_event (Drop name) = 0
 
 -- the frame of an event that is added to a history: its number is the event's place in what its stream owns then
 abbrev pub frame_of : List Happened → Event → FrameState

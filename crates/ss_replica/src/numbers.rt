@@ -8,10 +8,11 @@ ghost use Rattle.ss_recover.specs.Held.{AllAgree};
 ghost use Rattle.ss_store.specs.Kept.{part_named};
 ghost use Rattle.ss_replica.specs.Held.{due_held, events_named};
 ghost use Rattle.ss_replica.specs.Offers.{due_after, due_in};
-ghost use Rattle.ss_replica.specs.Own.{own};
+ghost use Rattle.ss_replica.specs.Own.{own, step_of_event};
 
 use crate::judging::Due;
 use ss_catalog::{Event, Name};
+use ss_codec::step_number;
 use ss_frames::Frame;
 use ss_store::Store;
 
@@ -25,6 +26,16 @@ pub fn event_name(event: &Event) -> Name
         Event::Open { name, .. } => name,
         Event::Close { name, .. } => name,
         Event::Drop { name } => name,
+    }
+}
+
+/// The step of the stream that an event creates, 0 for none.
+pub fn step_of(event: &Event) -> u32
+    ensures { result ≡ step_of_event event.now }
+{
+    match *event {
+        Event::Create { params, .. } => step_number(params.within),
+        Event::Value { .. } | Event::Open { .. } | Event::Close { .. } | Event::Drop { .. } => 0,
     }
 }
 

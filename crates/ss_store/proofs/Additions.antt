@@ -20,7 +20,7 @@ use Rattle.ss_model.specs.Closed.{closed}
 use Rattle.ss_model.specs.ClosedState.{closed_stream}
 use Rattle.ss_model.specs.Marks.{has_open, later, latest_of}
 use Rattle.ss_model.specs.Refusals.{is_past}
-use Rattle.ss_model.specs.Rule.{rule_of}
+use Rattle.ss_target.specs.Rule.{rule_of}
 use Rattle.ss_model.specs.Standing.{IsStream}
 use Rattle.ss_model.specs.State.{Stream, last_time, values_in}
 use Rattle.ss_model.specs.Steps.{single_window, with_plain_value}

@@ -16,7 +16,7 @@ use Rattle.ss_landmarks.specs.Order.{AllEndBy, EndsBy}
 use Rattle.ss_landmarks.proofs.TimeLemmas.{AllEndBy-later}
 use Rattle.ss_model.specs.ClosedState.{closed_state, closed_stream}
 use Rattle.ss_model.specs.Refusals.{is_past}
-use Rattle.ss_model.specs.Rule.{rule_of}
+use Rattle.ss_target.specs.Rule.{rule_of}
 use Rattle.ss_model.specs.Standing.{IsState, IsStream}
 use Rattle.ss_model.specs.State.{Stream, values_in}
 use Rattle.ss_model.proofs.StreamLemmas.{IsStream-joined}
@@ -147,7 +147,7 @@ Recovers-partly parts streams place s image each inside state partly =
     let stream = IsStream-at was place s state at in
     let rule = rule_of s.params in
     let n = values_in s in
-    let joined = IsStream-joined rule n s partly.windows stream partly.joins in
+    let joined = IsStream-joined n s partly.windows stream partly.joins in
     let few = length-JoinsDue rule n s.windows partly.windows partly.joins in
     let state_now : IsState (slice_set streams place now) =
     subst IsState (set-set streams place s now) (IsState-shorter was place s partly.windows state at joined few) in

@@ -1,5 +1,5 @@
 -- What some definitions come to at one answer each, where nothing else would tell if they said less.
-use Rattle.std.proofs.Common.{◌≡◌, ◌⊎◌, ℕ, ◌+◌, ◌*◌, ◌≤◌, Bool, true, false, List, [], ◌∷◌, ◌++◌, map, length, Err, None, Ok, Some, pos, refl}
+use Rattle.std.proofs.Common.{◌≡◌, ◌⊎◌, ℕ, ◌+◌, ◌-◌, ◌*◌, ◌≤◌, Bool, true, false, List, [], ◌∷◌, ◌++◌, map, length, Err, None, Ok, Some, pos, refl}
 use Rattle.std.specs.Prelude.{Contains, IfSome, flat_map, max, option_map}
 use Rattle.ss_outside.specs.Crash.{LeavesOnly, OnlyReads}
 use Rattle.ss_outside.specs.Disk.{DiskView, NothingPending, Told}
@@ -8,7 +8,7 @@ use Rattle.ss_outside.specs.Verdict.{Verdict}
 use Rattle.ss_catalog.specs.Events.{event_name}
 use Rattle.ss_catalog.specs.declared.event.Event.{Event}
 use Rattle.ss_catalog.specs.declared.event.Event.TheVariants as events
-use Rattle.ss_catalog.specs.declared.params.Params.TheVariants.{Exp}
+use Rattle.ss_catalog.specs.Params.{exp}
 use Rattle.ss_catalog.specs.declared.query.Query.{Query}
 use Rattle.ss_catalog.specs.declared.refusal.Refusal.{Refusal}
 use Rattle.ss_catalog.specs.declared.refusal.Refusal.TheVariants as refusal
@@ -16,7 +16,7 @@ use Rattle.ss_line.specs.declared.entry.At.{At}
 use Rattle.ss_summary.specs.Filters.{full}
 use Rattle.ss_model.specs.History.{Happened, added}
 use Rattle.ss_model.specs.Answers.{IsExactOutcome, split_by}
-use Rattle.ss_model.specs.Decay.{IsReadWithinTarget, cover}
+use Rattle.ss_model.specs.Decay.{IsReadWithinTarget, cover, steps_met}
 use Rattle.ss_model.specs.Refusals.{refuses}
 use Rattle.ss_model.specs.State.{Stream, state, stream_named, stream_numbered, values_in}
 use Rattle.ss_model.specs.declared.outcome.Outcome.{Outcome}
@@ -26,13 +26,15 @@ use Rattle.ss_query.specs.Answered.{window_slots_of}
 use Rattle.ss_query.specs.Asked.{seen_of}
 use Rattle.ss_query.specs.declared.asking.Seen.{Seen}
 use Rattle.ss_records.specs.Kept.{RecordsState, shown_by}
-use Rattle.ss_recover.specs.Held.{slots_held}
+use Rattle.ss_recover.specs.Held.{entries_of, slots_held}
 use Rattle.ss_recover.specs.declared.parts.StreamParts.{StreamParts}
 use Rattle.ss_target.specs.Lengths.{lengths_of}
+use Rattle.ss_target.specs.Rule.{rule_of}
 use Rattle.ss_target.specs.Targets.{params_of}
 use Rattle.ss_store.specs.Applied.{Answers, Applies, IsFew, Looks, SealsStore, Sees, ShowsWindow, is_plain_value, leaves_no_value}
 use Rattle.ss_store.specs.Calls.{StagesEvent, StandsForEither}
 use Rattle.ss_store.specs.Errors.{stopped_after, verdict_of_apply, verdict_of_opening}
+use Rattle.ss_store.specs.Held.{ends_held}
 use Rattle.ss_store.specs.Kept.{SameButSpare, StoreState, is_of_landmark, part_named}
 use Rattle.ss_store.specs.declared.error.ApplyError.{ApplyError}
 use Rattle.ss_store.specs.Recover.{Recovers, Stands}
@@ -96,7 +98,7 @@ Stands-no_drop image stands =
 
 -- which events are values outside landmarks, which are of landmarks, and which leave no value
 abbrev events_of : List Event
-events_of = events.Create a (Exp 2 1 1) ∷ events.Value a 10 (pos 5) ∷ events.Open a 10 ∷ events.Close a 10 ∷ events.Drop a ∷ []
+events_of = events.Create a (exp 2 1 1) ∷ events.Value a 10 (pos 5) ∷ events.Open a 10 ∷ events.Close a 10 ∷ events.Drop a ∷ []
 
 kinds-plain_value : map (λ event. is_plain_value [] event) events_of ≡ false ∷ true ∷ false ∷ false ∷ false ∷ []
 kinds-plain_value = refl
@@ -107,9 +109,11 @@ kinds-of_landmark = refl
 kinds-empty : map leaves_no_value events_of ≡ true ∷ false ∷ false ∷ false ∷ true ∷ []
 kinds-empty = refl
 
--- at most 2K - 1 windows
+-- at most 2(K + B - 1) - 1 windows
 few-windows : (parts : List StreamParts) (event : Event) (ack : Ack) → IsFew parts event ack →
-    IfSome (part_named (event_name event) parts) (λ part. ack.k + 1 ≤ 2 * cover (lengths_of (params_of part.target)) ack.n)
+    IfSome (part_named (event_name event) parts) (λ part.
+    let rule = rule_of (params_of part.target) in
+    ack.k + 1 ≤ 2 * (cover rule.lengths ack.n + steps_met rule.step (ends_held (entries_of part)) - 1))
 few-windows parts event ack few = few
 
 -- what an event says, by its answer
@@ -178,7 +182,7 @@ surveyed : Stream
 surveyed = record {
   number = 7;
   name = a;
-  params = Exp 2 1 1;
+  params = exp 2 1 1;
   windows =
       record { first = 1; summary = record { count = 1; sum = pos 1; min = pos 1; max = pos 1; t_first = 5; t_last = 5; filter = full } }
       ∷ record { first = 2; summary = record { count = 1; sum = pos 1; min = pos 1; max = pos 1; t_first = 6; t_last = 6; filter = full } } ∷ [];

@@ -10,7 +10,7 @@ use Rattle.ss_outside.specs.Disk.{Told}
 use Rattle.ss_codec.specs.declared.record.Record.{Record}
 use Rattle.ss_model.specs.Closed.{closed}
 use Rattle.ss_model.specs.ClosedState.{closed_state, closed_stream}
-use Rattle.ss_model.specs.Rule.{rule_of}
+use Rattle.ss_target.specs.Rule.{rule_of}
 use Rattle.ss_model.specs.Standing.{IsState, IsStream}
 use Rattle.ss_model.specs.State.{Stream, values_in}
 use Rattle.ss_model.proofs.JoinLemmas.{JoinsDue-closed}
@@ -88,7 +88,7 @@ IsState-closed streams place s state at =
     let rule = rule_of s.params in
     let n = values_in s in
     IsState-shorter streams place s (closed rule n s.windows) state at
-    (IsStream-joined rule n s (closed rule n s.windows) (IsStream-at streams place s state at) (JoinsDue-closed rule n s.windows))
+    (IsStream-joined n s (closed rule n s.windows) (IsStream-at streams place s state at) (JoinsDue-closed rule n s.windows))
     (length-closed_le rule n s.windows)
 
 IsState-until : (n : ℕ) (streams : List Stream) → IsState streams → IsState (closed_until n streams)

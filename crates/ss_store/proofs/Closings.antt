@@ -1,30 +1,29 @@
 -- Joins of a stream one after another, until none is due.
-use Rattle.std.proofs.Common.{◌≡◌, ◌∙◌, ℕ, List, map, refl, subst, Option, Ok, Result}
+use Rattle.std.proofs.Common.{◌≡◌, ◌∙◌, ℕ, List, refl, subst, Option, Ok, Result}
 use Rattle.std.proofs.lemmas.Result.{on_ok_weaker}
 use Rattle.ss_outside.specs.Crash.{KnowsNow, LeavesOnly}
 use Rattle.ss_outside.specs.Disk.{Told}
 use Rattle.ss_outside.proofs.CrashLemmas.{joined as run_joined, now, reads-none, weaker}
 use Rattle.ss_records.specs.Kept.{RecordsState, shown_by}
 use Rattle.ss_codec.specs.declared.record.Record.{Record}
-use Rattle.ss_target.specs.Lengths.{lengths_of}
 use Rattle.ss_target.specs.Targets.{params_of}
 use Rattle.ss_model.specs.Closed.{closed}
 use Rattle.ss_model.specs.ClosedState.{closed_stream}
 use Rattle.ss_model.specs.Joins.{JoinsDue}
-use Rattle.ss_model.specs.Rule.{rule_of}
+use Rattle.ss_target.specs.Rule.{rule_of}
 use Rattle.ss_model.specs.Standing.{IsStream}
 use Rattle.ss_model.specs.State.{Stream, values_in}
 use Rattle.ss_model.specs.declared.types.Window.{Window}
 use Rattle.ss_model.proofs.JoinLemmas.{JoinsDue-append, closed-only_end, taken-JoinsDue}
-use Rattle.ss_recover.specs.Held.{entries_of, span_held, span_of}
+use Rattle.ss_recover.specs.Held.{entries_of}
 use Rattle.ss_recover.specs.declared.parts.StreamParts.{StreamParts}
 use Rattle.ss_store.specs.Calls.{TurnsShown}
 use Rattle.ss_store.specs.Held.{IsPartlyJoined, IsSameStream, values_held, with_windows}
 use Rattle.ss_query.specs.Held.{IsHeldIn}
-use Rattle.ss_store.specs.Joining.{IsJoinedIn, NoSpansAreDue}
+use Rattle.ss_store.specs.Joining.{IsJoinedIn, NoEntriesAreDue}
 use Rattle.ss_store.proofs.ShownCalls.{StaysOr, StaysOr-later, TurnsShown-reads, TurnsShown-weaker}
 use Rattle.ss_store.proofs.Joinings.{IsJoinedIn-none}
-use Rattle.ss_store.proofs.Spans.{NoneIsDue-spans, values_held-windows}
+use Rattle.ss_store.proofs.Spans.{NoneIsDue-entries, values_held-windows}
 
 -- joins after joins, of windows that hold as many values
 joins_more : (s : Stream) (between new : List Window) → JoinsDue (rule_of s.params) (values_in s) s.windows between →
@@ -77,26 +76,24 @@ JoinsEach-more was between is part mid_part new old mid after result knows first
 
 -- where none is due the windows are closed
 closes : (others : List (ℕ × Option Record)) (part : StreamParts) (s : Stream) (n : ℕ) (image : List ℕ) → IsStream s → n ≡ values_held (entries_of part) →
-    NoSpansAreDue (lengths_of (params_of part.target)) n (map span_held (entries_of part)) → IsJoinedIn others part s image →
+    NoEntriesAreDue (rule_of (params_of part.target)) n (entries_of part) → IsJoinedIn others part s image →
     IsHeldIn others part (closed_stream s) image
 closes others part s n image stream all none is =
-    let len = lengths_of s.params in
     let rule = rule_of s.params in
     let params : params_of part.target ≡ s.params = is.held.agrees.params in
     let held : values_held (entries_of part) ≡ values_in (with_windows s is.windows) =
     values_held-windows is.windows (entries_of part) is.held.stream.windows is.held.agrees.positions in
     let count : n ≡ values_in s = all ∙ held ∙ taken-JoinsDue rule (values_in s) s.windows is.windows is.joins in
-    let spans : NoSpansAreDue len (values_in s) (map span_of is.windows) =
-    subst (λ l. NoSpansAreDue len (values_in s) l) is.held.agrees.positions
-    (subst (λ k. NoSpansAreDue len k (map span_held (entries_of part))) count
-    (subst (λ p. NoSpansAreDue (lengths_of p) n (map span_held (entries_of part))) params none)) in
+    let entries : NoEntriesAreDue rule (values_in s) (entries_of part) =
+    subst (λ k. NoEntriesAreDue rule k (entries_of part)) count (subst (λ p. NoEntriesAreDue (rule_of p) n (entries_of part)) params none) in
     let end : is.windows ≡ closed rule (values_in s) s.windows =
-    closed-only_end rule (values_in s) s.windows is.windows stream.windows is.joins (NoneIsDue-spans len (values_in s) is.windows spans) in
+    closed-only_end rule (values_in s) s.windows is.windows stream.windows is.joins
+    (NoneIsDue-entries rule (values_in s) (entries_of part) is.windows is.held.agrees.positions is.held.agrees.times entries) in
     subst (λ ws. IsHeldIn others part (with_windows s ws) image) end is.held
 
 pub TurnsShown-closes : {E : Type 0} (was is : RecordsState) (others : List (ℕ × Option Record)) (part now : StreamParts) (s : Stream) (n : ℕ)
     (old new : Told) → n ≡ values_held (entries_of now) →
-    NoSpansAreDue (lengths_of (params_of now.target)) n (map span_held (entries_of now)) → JoinsEach {E = E} was is part now old new (Ok tt) →
+    NoEntriesAreDue (rule_of (params_of now.target)) n (entries_of now) → JoinsEach {E = E} was is part now old new (Ok tt) →
     TurnsShown {T = Unit {0}} {E = E} was is (IsHeldIn others part s) (IsPartlyJoined others s) (IsHeldIn others now (closed_stream s)) old new (Ok tt)
 TurnsShown-closes was is others part now s n old new all none joins =
     TurnsShown-weaker was is (IsHeldIn others part s) (IsHeldIn others part s) (IsPartlyJoined others s) (IsPartlyJoined others s)

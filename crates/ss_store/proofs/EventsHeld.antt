@@ -16,7 +16,7 @@ use Rattle.ss_landmarks.proofs.OrderLemmas.{cases-finish}
 use Rattle.ss_windowing.specs.declared.decay.TheConstants.{MOST_VALUES}
 use Rattle.ss_model.specs.History.{Happened, events_of, landmarks_of, values_of}
 use Rattle.ss_model.specs.Refusals.{IsHistory, stands}
-use Rattle.ss_model.specs.Rule.{rule_of}
+use Rattle.ss_target.specs.Rule.{rule_of}
 use Rattle.ss_model.specs.State.{Stream, state, values_in}
 use Rattle.ss_model.proofs.HistoryLemmas.{IsState-state}
 use Rattle.ss_model.proofs.NameLemmas.{same_name-same}

@@ -1,97 +1,98 @@
--- How few windows stand where none is due, by the positions of their entries alone.
-use Rattle.std.proofs.Common.{◌≡◌, ◌∙◌, ℕ, ◌+◌, ◌-◌, ◌*◌, ◌<◌, ◌≤◌, pos, List, [], ◌∷◌, length, map, refl, sym, ap, subst, arith}
-use Rattle.std.proofs.lemmas.List.{length-map}
-use Rattle.std.proofs.lemmas.Int.{ints}
-use Rattle.ss_windowing.specs.declared.decay.TheConstants.{MOST_VALUES}
-use Rattle.ss_summary.specs.Figures.{IsPossible}
-use Rattle.ss_summary.specs.Filters.{full}
-use Rattle.ss_summary.proofs.FilterLemmas.{IsFilter-full, has-full}
+-- How few windows stand where none is due, by the positions and the times of their entries.
+use Rattle.std.proofs.Common.{◌≡◌, ℕ, zero, suc, ◌+◌, ◌-◌, ◌*◌, ◌<◌, ◌≤◌, ◌==◌, inl, inr, false, cond, List, [], ◌∷◌, length, refl, arith}
+use Rattle.std.proofs.lemmas.Bool.{cases_Bool, cases_eq, cond_both, eq-eqb, eqb-false, ne_eqb}
+use Rattle.ss_windowing.specs.Windowing.{fits, window_index}
+use Rattle.ss_windowing.proofs.WindowingLemmas.{window_index-monotone}
 use Rattle.ss_line.specs.declared.entry.Entry.{Entry}
-use Rattle.ss_model.specs.Closed.{closed}
-use Rattle.ss_model.specs.Decay.{NoneIsDue, cover}
-use Rattle.ss_model.specs.Rule.{without_step}
-use Rattle.ss_model.specs.Tiling.{AreWindows, StandFrom}
-use Rattle.ss_model.specs.Windows.{taken}
-use Rattle.ss_model.specs.declared.types.Window.{Window}
-use Rattle.ss_model.proofs.DecayLemmas.{length-closed}
-use Rattle.ss_model.proofs.JoinLemmas.{closed-only_end}
-use Rattle.ss_model.proofs.Stretches.{taken-cons}
-use Rattle.ss_recover.specs.Held.{TileFrom, span_held, span_of}
-use Rattle.ss_store.specs.Held.{values_held}
-use Rattle.ss_store.specs.Joining.{NoSpansAreDue}
-use Rattle.ss_store.proofs.Spans.{NoneIsDue-spans, last-held}
+use Rattle.ss_model.specs.Decay.{cover, steps_after, steps_met}
+use Rattle.ss_target.specs.Rule.{Rule, in_step, step_of, without_step}
+use Rattle.ss_recover.specs.Held.{TileFrom}
+use Rattle.ss_store.specs.Held.{ends_held, values_held}
+use Rattle.ss_store.specs.Joining.{NoEntriesAreDue}
 
--- a window at the positions of an entry, of as many zeros, one at each time
-abbrev zeros_at : Entry → Window
-zeros_at e = record {
-  first = e.first;
-  summary = record { count = e.last + 1 - e.first; sum = pos 0; min = pos 0; max = pos 0; t_first = e.first; t_last = e.last; filter = full };
-}
+-- where two positions lie apart, the older has a greater index
+window_index-apart : (len : ℕ → ℕ) (l r n : ℕ) → l ≤ r → fits len l r n ≡ false → window_index len (n - r) < window_index len (n - l)
+window_index-apart len l r n order unfit =
+    let other = eqb-false _ _ unfit in
+    omega (arith, window_index-monotone len (n - r) (n - l) (omega arith), other)
 
-IsPossible-zeros_at : (e : Entry) → 1 ≤ e.first → e.first ≤ e.last → e.last ≤ MOST_VALUES → IsPossible (zeros_at e).summary
-IsPossible-zeros_at e low some few = record {
-  count_low = omega arith;
-  count_high = omega arith;
-  times = omega arith;
-  last = omega arith;
-  one = λ single. omega arith;
-  min_fits = record { sfits = omega arith };
-  max_fits = record { sfits = omega arith };
-  order = omega (arith, ints);
-  sum_low = omega (arith, ints);
-  sum_high = omega (arith, ints);
-  words = IsFilter-full;
-  min_bit = has-full (pos 0);
-  max_bit = has-full (pos 0);
-}
+-- whether two steps are others
+abbrev apart : ℕ → ℕ → ℕ
+apart a b = cond (a == b) 0 1
 
-span-zeros_at : (e : Entry) → e.first ≤ e.last → span_held e ≡ span_of (zeros_at e)
-span-zeros_at e some = let same : e.last ≡ e.first + (e.last + 1 - e.first) - 1 = omega arith in ap (λ (k : ℕ). (e.first, k)) same
+apart-same : (a : ℕ) → apart a a ≡ 0
+apart-same a = rw (eq-eqb a a refl) refl
 
-spans-zeros_at : (first : ℕ) (es : List Entry) → TileFrom first es → map span_held es ≡ map span_of (map zeros_at es)
-spans-zeros_at first [] tiles = refl
-spans-zeros_at first (e ∷ es) tiles =
-    let here = span-zeros_at e tiles.1 in
-    let rest = spans-zeros_at (e.last + 1) es tiles.3 in
-    ap (λ (s : ℕ × ℕ). s ∷ map span_held es) here ∙ ap (λ (l : List (ℕ × ℕ)). span_of (zeros_at e) ∷ l) rest
+apart_le : (a b : ℕ) → apart a b ≤ 1
+apart_le a b = cond_both (a == b) 0 1 (λ (k : ℕ). k ≤ 1) (λ same. omega arith) (λ other. omega arith)
 
-StandFrom-zeros_at : (first time : ℕ) (es : List Entry) → 1 ≤ first → time ≤ first → TileFrom first es → StandFrom first time (map zeros_at es)
-StandFrom-zeros_at first time [] low early tiles = tt
-StandFrom-zeros_at first time (e ∷ es) low early tiles =
-    let here = tiles.0 in
+apart-ne : (a b : ℕ) → (a ≡ b → ⊥) → apart a b ≡ 1
+apart-ne a b other = rw (ne_eqb a b other) refl
+
+apart_through : (a b c : ℕ) → apart a c ≤ apart a b + apart b c
+apart_through a b c = elim (cases_eq a b) [
+  | inl same ↦ rw same (omega arith)
+  | inr other ↦ omega (arith, apart-ne a b other, apart_le a c)
+]
+
+-- of what is behind the first entry none is due
+none-behind : (rule : Rule) (n : ℕ) (e : Entry) (es : List Entry) → NoEntriesAreDue rule n (e ∷ es) → NoEntriesAreDue rule n es
+none-behind rule n e [] none = tt
+none-behind rule n e (f ∷ es) none = none.1
+
+-- two entries a step, since the second of them ends in a later target window than the first begins in, or in another step of time
+length_behind : (rule : Rule) (n first t : ℕ) (es : List Entry) → TileFrom first es → NoEntriesAreDue rule n es →
+    length es ≤ 2 * (window_index rule.lengths (n - first) + steps_after rule.step t (ends_held es)) + 1
+length_behind rule n first t [] tiles none = omega arith
+length_behind rule n first t (e ∷ []) tiles none = omega arith
+length_behind rule n first t (e ∷ f ∷ es) tiles none =
+    let len = rule.lengths in
+    let c : ℕ → ℕ = step_of rule.step in
+    let front = tiles.0 in
     let some = tiles.1 in
-    let next : e.last + 1 ≡ first + (e.last + 1 - e.first) = omega arith in (
-      here,
-      IsPossible-zeros_at e (omega arith) some tiles.2,
-      omega arith,
-      subst (λ k. StandFrom k (e.last + 1) (map zeros_at es)) next (StandFrom-zeros_at (e.last + 1) (e.last + 1) es (omega arith) (omega arith) tiles.3),
-    )
+    let behind = tiles.3.0 in
+    let some_behind = tiles.3.1 in
+    let rest = length_behind rule n (f.last + 1) f.t_last es tiles.3.3 (none-behind rule n f es none.1) in
+    let same : n - e.first ≡ n - first = omega arith in
+    let younger = window_index-monotone len (n - (f.last + 1)) (n - f.last) (omega arith) in
+    let older = rw same at (window_index-monotone len (n - f.last) (n - e.first) (omega arith)) in
+    elim (cases_Bool (in_step rule.step e.t_first f.t_last)) [
+      | inl one ↦
+          (let unfit : fits len e.first f.last n ≡ false = rw one at none.0 in
+          let later = rw same at (window_index-apart len e.first f.last n (omega arith) unfit) in
+          omega arith)
+      | inr other ↦
+          (let entered : apart (c e.t_first) (c f.t_last) ≡ 1 = apart-ne _ _ (eqb-false _ _ other) in
+          let over = apart_through (c e.t_first) (c e.t_last) (c f.t_last) in
+          let on = apart_through (c e.t_last) (c f.t_first) (c f.t_last) in
+          omega arith)
+    ]
 
-taken-zeros_at : (first : ℕ) (e : Entry) (es : List Entry) → TileFrom first (e ∷ es) → first + taken (map zeros_at (e ∷ es)) ≡ values_held (e ∷ es) + 1
-taken-zeros_at first e [] tiles =
-    let here = tiles.0 in
-    let some = tiles.1 in
-    omega (arith, taken-cons (zeros_at e) [])
-taken-zeros_at first e (f ∷ fs) tiles =
-    let here = tiles.0 in
-    let some = tiles.1 in
-    omega (arith, taken-cons (zeros_at e) (map zeros_at (f ∷ fs)), taken-zeros_at (e.last + 1) f fs tiles.3)
+length_cover : (rule : Rule) (n t : ℕ) (es : List Entry) → TileFrom 1 es → NoEntriesAreDue rule n es → 0 < n →
+    length es + 1 ≤ 2 * (cover rule.lengths n + steps_after rule.step t (ends_held es))
+length_cover rule zero t es tiles none some = absurd (omega arith)
+length_cover rule (suc age) t es tiles none some =
+    let same : suc age - 1 ≡ age = omega arith in
+    let bound = rw same at (length_behind rule (suc age) 1 t es tiles none) in
+    omega arith
 
--- where no two neighbours lie together in one target window, at most 2K - 1 stand, where K target windows cover the values
-pub length-none_due : (len : ℕ → ℕ) (es : List Entry) → TileFrom 1 es → NoSpansAreDue len (values_held es) (map span_held es) →
+-- where no two neighbours may be one, at most 2(K + B - 1) - 1 stand, where K target windows cover the values, and their times
+-- lie in B steps
+pub length-none_due : (rule : Rule) (es : List Entry) → TileFrom 1 es → NoEntriesAreDue rule (values_held es) es → 0 < values_held es →
+    length es + 1 ≤ 2 * (cover rule.lengths (values_held es) + steps_met rule.step (ends_held es) - 1)
+length-none_due rule [] tiles none some = absurd (omega arith)
+length-none_due rule (e ∷ es) tiles none some =
+    let bound = length_cover rule (values_held (e ∷ es)) e.t_first (e ∷ es) tiles none some in
+    omega (arith, bound, apart-same (step_of rule.step e.t_first))
+
+-- without a step no time goes on to another
+steps_after-none : (t : ℕ) (us : List ℕ) → steps_after 0 t us ≡ 0
+steps_after-none t [] = refl
+steps_after-none t (u ∷ us) = omega (arith, steps_after-none u us)
+
+-- so at most 2K - 1 stand
+pub length-none_due-without_step : (len : ℕ → ℕ) (es : List Entry) → TileFrom 1 es → NoEntriesAreDue (without_step len) (values_held es) es →
     0 < values_held es → length es + 1 ≤ 2 * cover len (values_held es)
-length-none_due len [] tiles none some = absurd (omega arith)
-length-none_due len (e ∷ es) tiles none some =
-    let ws = map zeros_at (e ∷ es) in
-    let n = values_held (e ∷ es) in
-    let sum = taken-zeros_at 1 e es tiles in
-    let all : taken ws ≡ n = omega arith in
-    let most = (last-held 1 e es tiles).1 in
-    let are : AreWindows ws = record { stand = StandFrom-zeros_at 1 0 (e ∷ es) (omega arith) (omega arith) tiles; few = omega arith } in
-    let rule = without_step len in
-    let due : NoneIsDue rule n ws = NoneIsDue-spans len n ws (subst (λ l. NoSpansAreDue len n l) (spans-zeros_at 1 (e ∷ es) tiles) none) in
-    let end : ws ≡ closed rule n ws = closed-only_end rule n ws ws are (0, refl) due in
-    let bound = length-closed len n ws are all some in
-    let count : length ws ≡ length (e ∷ es) = length-map (e ∷ es) zeros_at in
-    let same : length (closed rule n ws) ≡ length ws = ap (λ (l : List Window). length l) (sym end) in
-    omega (arith, bound, same, count)
+length-none_due-without_step len es tiles none some =
+    let bound = length_cover (without_step len) (values_held es) 0 es tiles none some in
+    omega (arith, bound, steps_after-none 0 (ends_held es))

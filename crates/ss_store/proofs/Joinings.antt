@@ -19,7 +19,7 @@ use Rattle.ss_line.specs.declared.entry.At.{At}
 use Rattle.ss_line.specs.declared.entry.Entry.{Entry}
 use Rattle.ss_summary.specs.Figures.{Figures}
 use Rattle.ss_summary.specs.Summaries.{joined}
-use Rattle.ss_target.specs.Lengths.{lengths_of}
+use Rattle.ss_target.specs.Rule.{Rule, rule_of}
 use Rattle.ss_target.specs.Targets.{params_of}
 use Rattle.ss_model.specs.Marks.{lies_free}
 use Rattle.ss_model.specs.State.{Stream}
@@ -72,7 +72,7 @@ ReadsBoth number landmarks w v content Reads =
     one.summary.t_last < two.summary.t_first → Reads (joined one.summary two.summary)
 
 module _ (others : List (ℕ × Option Record)) (part new : StreamParts) (s : Stream) (w v : Entry) (same : SameButLine part new)
-    (pair : AreJoined (lengths_of (params_of part.target)) (values_held (entries_of part)) part.line.entries new.line.entries w v) where
+    (pair : AreJoined (rule_of (params_of part.target)) (values_held (entries_of part)) part.line.entries new.line.entries w v) where
   -- what is read where the stream is held
   pub read-held : (content : List ℕ) (Reads : Figures → Type 0) → ReadsBoth part.id.0 part.landmarks.landmarks w v content Reads →
       (held : IsHeldIn others part s content) →
@@ -187,8 +187,8 @@ LiveSlotsGo-two part new w v live live_now slots go =
     (LiveSlotsGo-beside slots.beside (w.slot ∷ v.slot ∷ []) (w.slot ∷ []) live live_now go)
 
 -- the slot that is named is that of one of the two windows
-pub IfChanged-window : (T : Type 0) {len : ℕ → ℕ} {n : ℕ} {now : List (At × Entry)} (part : StreamParts) (w v : Entry) →
-    AreJoined len n part.line.entries now w v →
+pub IfChanged-window : (T : Type 0) {rule : Rule} {n : ℕ} {now : List (At × Entry)} (part : StreamParts) (w v : Entry) →
+    AreJoined rule n part.line.entries now w v →
     (failure : ReadError) → IfChanged (verdict_of_read {T = Figures} (Err failure)) (λ slot. (slot ≡ w.slot) ⊎ (slot ≡ v.slot)) →
     ChangedIsHeld (verdict_of_read {T = T} (Err failure)) part
 IfChanged-window T part w v pair fault.Disk one = tt

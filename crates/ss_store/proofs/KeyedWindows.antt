@@ -7,32 +7,30 @@ use Rattle.ss_windowing.specs.declared.decay.TheConstants.{MOST_VALUES}
 use Rattle.ss_line.specs.Line.{StandsIn, index_of, is_at, place_at}
 use Rattle.ss_line.specs.declared.entry.At.{At}
 use Rattle.ss_line.specs.declared.entry.Entry.{Entry}
-use Rattle.ss_target.specs.Lengths.{lengths_of}
+use Rattle.ss_target.specs.Rule.{Rule, rule_of}
 use Rattle.ss_target.specs.Targets.{params_of}
 use Rattle.ss_schedule.specs.Keyed.{TileUpTo, FollowUpTo, IsKeyed, ScheduleState}
 use Rattle.ss_schedule.specs.Pairs.{NoPairFits}
 use Rattle.ss_schedule.specs.declared.pair.Pair.{Pair}
-use Rattle.ss_recover.specs.Held.{TileFrom, entries_of, span_held}
+use Rattle.ss_recover.specs.Held.{TileFrom, entries_of}
 use Rattle.ss_recover.specs.declared.parts.StreamParts.{StreamParts}
 use Rattle.ss_query.proofs.Places.{entries_in}
 use Rattle.ss_store.specs.Changing.{NoneAreDue}
 use Rattle.ss_store.specs.Held.{values_held}
-use Rattle.ss_store.specs.Joining.{AreDue, NoSpansAreDue}
+use Rattle.ss_store.specs.Joining.{AreDue, NoEntriesAreDue}
 use Rattle.ss_store.specs.Indexed.{HasPlaces, IndexState, IsDuePair, IsReservedFor, IsScheduled, IsTimed, begun_at}
 use Rattle.ss_store.proofs.Spans.{last-held}
 
--- no pair of a line fits, by its entries and by their positions
-pub NoSpansAreDue-pairs : (len : ℕ → ℕ) (n : ℕ) (entries : List (At × Entry)) → NoPairFits len n entries →
-    NoSpansAreDue len n (map span_held (entries_in entries))
-NoSpansAreDue-pairs len n [] none = tt
-NoSpansAreDue-pairs len n (e ∷ []) none = tt
-NoSpansAreDue-pairs len n (e ∷ f ∷ es) none = (none.0, NoSpansAreDue-pairs len n (f ∷ es) none.1)
+-- no pair of a line may be one, by its places and without them
+pub NoEntriesAreDue-pairs : (rule : Rule) (n : ℕ) (entries : List (At × Entry)) → NoPairFits rule n entries → NoEntriesAreDue rule n (entries_in entries)
+NoEntriesAreDue-pairs rule n [] none = tt
+NoEntriesAreDue-pairs rule n (e ∷ []) none = tt
+NoEntriesAreDue-pairs rule n (e ∷ f ∷ es) none = (none.0, NoEntriesAreDue-pairs rule n (f ∷ es) none.1)
 
-pub NoPairFits-spans : (len : ℕ → ℕ) (n : ℕ) (entries : List (At × Entry)) → NoSpansAreDue len n (map span_held (entries_in entries)) →
-    NoPairFits len n entries
-NoPairFits-spans len n [] none = tt
-NoPairFits-spans len n (e ∷ []) none = tt
-NoPairFits-spans len n (e ∷ f ∷ es) none = (none.0, NoPairFits-spans len n (f ∷ es) none.1)
+pub NoPairFits-entries : (rule : Rule) (n : ℕ) (entries : List (At × Entry)) → NoEntriesAreDue rule n (entries_in entries) → NoPairFits rule n entries
+NoPairFits-entries rule n [] none = tt
+NoPairFits-entries rule n (e ∷ []) none = tt
+NoPairFits-entries rule n (e ∷ f ∷ es) none = (none.0, NoPairFits-entries rule n (f ∷ es) none.1)
 
 -- windows that tile follow one another up to the values that they hold
 TileUpTo-tiles : (n first : ℕ) (entries : List (At × Entry)) → TileFrom first (entries_in entries) → values_held (entries_in entries) ≤ n →
@@ -64,10 +62,10 @@ FollowUpTo-take n (suc k) (e ∷ es) follow = (follow.0, TileUpTo-take n e.1.fir
 
 -- a pair that is due, by its places
 pub AreDue-pair : (part : StreamParts) (index : IndexState) (pair : Pair) (is : IsDuePair part index pair) →
-    AreDue (lengths_of (params_of part.target)) (values_held (entries_of part)) part.line.entries pair.left pair.right
+    AreDue (rule_of (params_of part.target)) (values_held (entries_of part)) part.line.entries pair.left pair.right
 AreDue-pair part index pair is = record {
   pair = is.stands.neighbours;
-  due = rw (← is.stands.first, ← is.stands.last) is.fits;
+  due = rw (← is.stands.first, ← is.stands.last, ← is.stands.t_first, ← is.stands.t_last) is.due;
 }
 
 -- all entries of a line, and none
@@ -109,11 +107,11 @@ pub held-few : (entries : List Entry) → TileFrom 1 entries → values_held ent
 held-few [] tiles = omega arith
 held-few (e ∷ es) tiles = (last-held 1 e es tiles).1
 
--- windows that were joined as far as they are due have no pair that fits
+-- windows that were joined as far as they are due have no pair that may be one
 none_due-same : (was now : StreamParts) → now.target ≡ was.target → now.line.entries ≡ was.line.entries → NoneAreDue was → NoneAreDue now
 none_due-same was now target entries none =
-    subst (λ t. NoSpansAreDue (lengths_of (params_of t)) (values_held (entries_of now)) (map span_held (entries_of now))) (sym target)
-    (subst (λ es. NoSpansAreDue (lengths_of (params_of was.target)) (values_held (entries_in es)) (map span_held (entries_in es))) (sym entries) none)
+    subst (λ t. NoEntriesAreDue (rule_of (params_of t)) (values_held (entries_of now)) (entries_of now)) (sym target)
+    (subst (λ es. NoEntriesAreDue (rule_of (params_of was.target)) (values_held (entries_in es)) (entries_in es)) (sym entries) none)
 
 keyed-same : (was now : StreamParts) (old new : ScheduleState) → now.line.entries ≡ was.line.entries →
     ((n : ℕ) (entries : List (At × Entry)) → IsKeyed n entries old → IsKeyed n entries new) → IsKeyed (values_held (entries_of was)) was.line.entries old →
@@ -157,5 +155,5 @@ IsScheduled-none part index target none keyed timed = (
     keyed = subst (λ es. IsKeyed (values_held (entries_in es)) es index.schedule) (sym none) keyed;
     timed = timed ∙ ap (λ es. map begun_at es) (sym none);
   },
-  subst (λ es. NoSpansAreDue (lengths_of (params_of part.target)) (values_held (entries_in es)) (map span_held (entries_in es))) (sym none) tt,
+  subst (λ es. NoEntriesAreDue (rule_of (params_of part.target)) (values_held (entries_in es)) (entries_in es)) (sym none) tt,
 )

@@ -58,6 +58,7 @@ mod OldRows
 mod AskRows
 mod NewestRows
 mod CallRows
+mod StepRows
 mod DropRows
 mod ClearingRows
 pub mod FoundAlike

@@ -7,7 +7,6 @@ use Rattle.std.proofs.lemmas.Bool.{and_parts}
 use Rattle.std.proofs.lemmas.List.{map-append}
 use Rattle.std.proofs.lemmas.List.Folds.{list_all-append}
 use Rattle.std.proofs.lemmas.List.Sorted.{IsPermutation-append_left, IsPermutation-cons, IsPermutation-middle, IsPermutation-sym, IsPermutation-trans}
-use Rattle.ss_windowing.specs.Windowing.{fits}
 use Rattle.ss_codec.specs.declared.record.Record.{Record}
 use Rattle.ss_codec.specs.declared.record.Record.TheVariants as records
 use Rattle.ss_landmarks.specs.Landmark.{Landmark}
@@ -16,12 +15,11 @@ use Rattle.ss_line.specs.Line.{StandsIn, entry_at, index_of, is_at}
 use Rattle.ss_line.specs.declared.entry.At.{At}
 use Rattle.ss_line.specs.declared.entry.Entry.{Entry}
 use Rattle.ss_summary.specs.Summaries.{joined}
-use Rattle.ss_target.specs.Lengths.{lengths_of}
 use Rattle.ss_target.specs.Targets.{params_of}
-use Rattle.ss_model.specs.Closed.{joined_window, last_position}
+use Rattle.ss_model.specs.Closed.{joined_window, last_position, may_join}
 use Rattle.ss_model.specs.Joins.{JoinsDue}
 use Rattle.ss_model.specs.Marks.{later, latest_of, lies_free}
-use Rattle.ss_model.specs.Rule.{rule_of}
+use Rattle.ss_target.specs.Rule.{Rule, may_be_one, rule_of}
 use Rattle.ss_model.specs.Standing.{IsStream}
 use Rattle.ss_model.specs.State.{Stream, values_in}
 use Rattle.ss_model.specs.Tiling.{AreWindows}
@@ -34,26 +32,26 @@ use Rattle.ss_recover.specs.Held.{marks_held, records_held, slots_held, span_hel
 use Rattle.ss_recover.specs.Held.{times_held, times_of, window_slots, windows_held}
 use Rattle.ss_recover.specs.declared.parts.StreamParts.{StreamParts}
 use Rattle.ss_store.specs.Held.{values_held, with_windows}
-use Rattle.ss_store.specs.Joining.{AreDue}
+use Rattle.ss_store.specs.Joining.{AreDue, may_be_joined}
 use Rattle.ss_query.proofs.Places.{entries_in, find-read, index-once}
 use Rattle.ss_schedule.specs.Pairs.{joined_entry}
 use Rattle.ss_store.proofs.Spans.{AreTiled, AreTiled-seam, values_held-windows}
 use Rattle.ss_query.proofs.Records.{zip-held}
 
 -- Two entries that stand side by side and are due, and the line after the second is cut out and the first set.
-pub record AreJoined (len : ℕ → ℕ) (n : ℕ) (entries new : List (At × Entry)) (w v : Entry) : Type 0 where
+pub record AreJoined (rule : Rule) (n : ℕ) (entries new : List (At × Entry)) (w v : Entry) : Type 0 where
   pub front : List Entry
   pub rest : List Entry
   pub was : entries_in entries ≡ front ++ w ∷ v ∷ rest
   pub is : entries_in new ≡ front ++ joined_entry w v ∷ rest
   pub fewer : length new < length entries
-  pub due : fits len w.first v.last n ≡ true
+  pub due : may_be_joined rule n w v ≡ true
 
 -- the line with two entries as one
-abbrev pub joined_line : {len : ℕ → ℕ} {n : ℕ} {entries : List (At × Entry)} {left right : At} → AreDue len n entries left right → List (At × Entry)
-joined_line {len} {n} {entries} {left} due = due.pair.before ++ (left, joined_entry due.pair.window due.pair.next) ∷ due.pair.rest
+abbrev pub joined_line : {rule : Rule} {n : ℕ} {entries : List (At × Entry)} {left right : At} → AreDue rule n entries left right → List (At × Entry)
+joined_line {rule} {n} {entries} {left} due = due.pair.before ++ (left, joined_entry due.pair.window due.pair.next) ∷ due.pair.rest
 
-module _ (len : ℕ → ℕ) (n : ℕ) (entries : List (At × Entry)) (left right : At) (due : AreDue len n entries left right) where
+module _ (rule : Rule) (n : ℕ) (entries : List (At × Entry)) (left right : At) (due : AreDue rule n entries left right) where
   stands-seam : (es before : List (At × Entry)) (at : At) (e : Entry) (rest : List (At × Entry)) → es ≡ before ++ (at, e) ∷ rest →
       list_any (is_at at) before ≡ false → StandsIn es at
   stands-seam es before at e rest is once =
@@ -77,7 +75,7 @@ module _ (len : ℕ → ℕ) (n : ℕ) (entries : List (At × Entry)) (left righ
     pub next_is : due.pair.next ≡ v
     next_is = find-read entries (due.pair.before ++ (left, due.pair.window) ∷ []) right due.pair.next due.pair.rest v moved due.pair.right_once read_right
 
-    pub AreJoined-due : AreJoined len n entries (joined_line due) w v
+    pub AreJoined-due : AreJoined rule n entries (joined_line due) w v
     AreJoined-due =
         let second : At × Entry → Entry = λ e. e.1 in
         let all = ap (λ l. length l) due.pair.is in
@@ -91,7 +89,7 @@ module _ (len : ℕ → ℕ) (n : ℕ) (entries : List (At × Entry)) (left righ
           is = map-append second due.pair.before ((left, joined_entry due.pair.window due.pair.next) ∷ due.pair.rest)
               ∙ ap₂ (λ (x y : Entry). entries_in due.pair.before ++ joined_entry x y ∷ entries_in due.pair.rest) first_is next_is;
           fewer = omega (arith, all, long, short);
-          due = ap₂ (λ (x y : Entry). fits len x.first y.last n) (sym first_is) (sym next_is) ∙ due.due;
+          due = ap₂ (λ (x y : Entry). may_be_joined rule n x y) (sym first_is) (sym next_is) ∙ due.due;
         }
 
 -- two out of the middle of a list
@@ -167,9 +165,9 @@ pub record AreSlots (part new : StreamParts) (w v : Entry) : Type 0 where
   pub was : IsPermutation (slots_held part) (w.slot ∷ v.slot ∷ beside)
   pub is : IsPermutation (slots_held new) (w.slot ∷ beside)
 
-pub AreSlots-joined : (len : ℕ → ℕ) (n : ℕ) (part new : StreamParts) (w v : Entry) → new.slot ≡ part.slot → new.landmarks ≡ part.landmarks →
-    AreJoined len n part.line.entries new.line.entries w v → AreSlots part new w v
-AreSlots-joined len n part new w v same same_landmarks pair =
+pub AreSlots-joined : (rule : Rule) (n : ℕ) (part new : StreamParts) (w v : Entry) → new.slot ≡ part.slot → new.landmarks ≡ part.landmarks →
+    AreJoined rule n part.line.entries new.line.entries w v → AreSlots part new w v
+AreSlots-joined rule n part new w v same same_landmarks pair =
     let slots : List Entry → List ℕ = λ es. map (λ (e : Entry). e.slot) es in
     let front : List ℕ = part.slot ∷ slots pair.front in
     let marks : List ℕ = mark_slots part in
@@ -196,21 +194,21 @@ one_part part entries = record part { line = record { entries = entries; spare =
 
 -- two entries of a stream that were read side by side, and are due
 pub record ArePair (part : StreamParts) (entries : List (At × Entry)) (w v : Entry) : Type 0 where
-  pub joined : AreJoined (lengths_of (params_of part.target)) (values_held (entries_of part)) part.line.entries entries w v
+  pub joined : AreJoined (rule_of (params_of part.target)) (values_held (entries_of part)) part.line.entries entries w v
   pub tiled : AreTiled w v (values_held (entries_of part))
   pub slots : AreSlots part (one_part part entries) w v
 
 pub ArePair-read : (part : StreamParts) (left right : At) (w v : Entry)
-    (due : AreDue (lengths_of (params_of part.target)) (values_held (entries_of part)) part.line.entries left right) → TileFrom 1 (entries_of part) →
+    (due : AreDue (rule_of (params_of part.target)) (values_held (entries_of part)) part.line.entries left right) → TileFrom 1 (entries_of part) →
     entry_at part.line.entries left ≡ Some w → entry_at part.line.entries right ≡ Some v → ArePair part (joined_line due) w v
 ArePair-read part left right w v due tiles read_left read_right =
-    let len = lengths_of (params_of part.target) in
+    let rule = rule_of (params_of part.target) in
     let n = values_held (entries_of part) in
-    let pair = AreJoined-due len n part.line.entries left right due w v read_left read_right in
+    let pair = AreJoined-due rule n part.line.entries left right due w v read_left read_right in
     record {
       joined = pair;
       tiled = subst (λ es. AreTiled w v (values_held es)) (sym pair.was) (AreTiled-seam pair.front w v pair.rest (subst (λ es. TileFrom 1 es) pair.was tiles));
-      slots = AreSlots-joined len n part (one_part part (joined_line due)) w v refl refl pair;
+      slots = AreSlots-joined rule n part (one_part part (joined_line due)) w v refl refl pair;
     }
 
 -- What joining two neighbours makes of a stream that is held beside others: which records lie where before it and after it.
@@ -295,7 +293,7 @@ lie_free-two ls before one two behind free =
     (first.0, second.0)
 
 module _ (others : List (ℕ × Option Record)) (part new : StreamParts) (s : Stream) (w v : Entry) (same : SameButLine part new)
-    (pair : AreJoined (lengths_of (params_of part.target)) (values_held (entries_of part)) part.line.entries new.line.entries w v)
+    (pair : AreJoined (rule_of (params_of part.target)) (values_held (entries_of part)) part.line.entries new.line.entries w v)
     (agrees : Agrees part s) (stream : IsStream s) where
   theirs : AreTheirs pair.front w v pair.rest s.windows
   theirs =
@@ -308,13 +306,15 @@ module _ (others : List (ℕ × Option Record)) (part new : StreamParts) (s : St
   ws : List Window
   ws = theirs.before ++ joined_window theirs.one theirs.two ∷ theirs.behind
 
-  due : fits (lengths_of s.params) theirs.one.first (last_position theirs.two) (values_in s) ≡ true
+  due : may_join (rule_of s.params) (values_in s) theirs.one theirs.two ≡ true
   due =
       let params : params_of part.target ≡ s.params = agrees.params in
       let held : values_held (entries_of part) ≡ values_in s = values_held-windows s.windows (entries_of part) stream.windows agrees.positions in
       let first : w.first ≡ theirs.one.first = ap (λ (p : ℕ × ℕ). p.0) theirs.first in
       let last : v.last ≡ last_position theirs.two = ap (λ (p : ℕ × ℕ). p.1) theirs.second in
-      (λ i. fits (lengths_of (sym params i)) (sym first i) (sym last i) (sym held i)) ∙ pair.due
+      let t_first : w.t_first ≡ theirs.one.summary.t_first = ap (λ (p : ℕ × ℕ). p.0) theirs.first_times in
+      let t_last : v.t_last ≡ theirs.two.summary.t_last = ap (λ (p : ℕ × ℕ). p.1) theirs.second_times in
+      (λ i. may_be_one (rule_of (sym params i)) (sym first i) (sym last i) (sym held i) (sym t_first i) (sym t_last i)) ∙ pair.due
 
   joins : JoinsDue (rule_of s.params) (values_in s) s.windows ws
   unfolding ws
@@ -418,7 +418,7 @@ module _ (others : List (ℕ × Option Record)) (part new : StreamParts) (s : St
           last_time = same.last_time ∙ agrees.last_time
               ∙ ap (λ o. later o (latest_of s.landmarks)) (sym (newest_time-JoinsDue (rule_of s.params) (values_in s) s.windows ws joins));
         };
-        stream = IsStream-joined (rule_of s.params) (values_in s) s ws stream joins;
+        stream = IsStream-joined (values_in s) s ws stream joins;
         is = subst (λ n. IsPermutation ((w.slot, Some (records.Window n w.first (joined theirs.one.summary theirs.two.summary))) ∷ rest)
             (records_held (new, with_windows s ws) ++ others)) (sym number)
             (subst (λ f. IsPermutation ((w.slot, Some (records.Window s.number f (joined theirs.one.summary theirs.two.summary))) ∷ rest)

@@ -1,5 +1,5 @@
 -- Worked images, whole, and what each recovers to.
-use Rattle.std.specs.Prelude.{◌≡◌, ℕ, ℤ, false, ◌*◌, pos, negsuc, List, [], ◌∷◌, ◌++◌, flat_map, map, replicate, slice_set, take, Some, None}
+use Rattle.std.specs.Prelude.{◌≡◌, ℕ, ℤ, false, true, ◌*◌, pos, negsuc, List, [], ◌∷◌, ◌++◌, flat_map, map, replicate, slice_set, take, Some, None}
 use Rattle.std.proofs.Common.{refl}
 use Rattle.ss_fields.specs.Fields as Numbers
 use Rattle.ss_summary.specs.Figures.{Figures}
@@ -10,7 +10,7 @@ use Rattle.ss_catalog.specs.Names as Names
 use Rattle.ss_catalog.specs.declared.event.Event.{Event}
 use Rattle.ss_catalog.specs.declared.event.Event.TheVariants as events
 use Rattle.ss_catalog.specs.declared.params.Params.{Params}
-use Rattle.ss_catalog.specs.declared.params.Params.TheVariants.{Exp, Power}
+use Rattle.ss_catalog.specs.Params.{exp, power}
 use Rattle.ss_windowing.specs.Windowing.{window_index}
 use Rattle.ss_power.specs.Power.{power_length}
 use Rattle.ss_journal.specs.declared.put.Put.{Put}
@@ -59,10 +59,10 @@ abbrev pub a : List ℕ
 a = 97 ∷ []
 
 abbrev pub a_slot : List ℕ
-a_slot = stream_slot 0 a (Exp 2 1 1)
+a_slot = stream_slot 0 a (exp 2 1 1)
 
 abbrev pub a_stream : List Window → List Stream
-a_stream windows = record { number = 0; name = a; params = Exp 2 1 1; windows = windows; landmarks = [] } ∷ []
+a_stream windows = record { number = 0; name = a; params = exp 2 1 1; windows = windows; landmarks = [] } ∷ []
 
 abbrev pub window : ℕ → Figures → Window
 window first f = record { first = first; summary = f }
@@ -125,6 +125,38 @@ recover-waiting : recover (image_of no_entry no_entry (a_slot ∷ first ∷ seco
 unfolding recover redo is_born entries carried spelled is_sound decoded record_in stream_in window_in params_in is_valid spelling Names.is_name
     Possible.is_possible bit_of filter_of full has union Fields.with_field Numbers.number_at Numbers.number_bytes window_index Marks.lies_free
 recover-waiting = refl
+
+-- where the windows keep to a step, two that wait are joined within one alone: 10 and 20 lie in different steps of 20, and in one of 25
+abbrev within : ℕ → Params
+within step = record (exp 2 1 1) { within = Some step }
+
+abbrev waiting_within : ℕ → List ℕ
+waiting_within step = image_of no_entry no_entry (stream_slot 0 a (within step) ∷ first ∷ second ∷ third ∷ [])
+
+abbrev stream_within : ℕ → List Window → List Stream
+stream_within step windows = record { number = 0; name = a; params = within step; windows = windows; landmarks = [] } ∷ []
+
+recover-two_steps : recover (waiting_within 20) ≡
+    recovers (stream_within 20 (window 1 (fives 1 10 10) ∷ window 2 (fives 1 20 20) ∷ window 3 (fives 1 30 30) ∷ []))
+unfolding recover redo is_born entries carried spelled is_sound decoded record_in stream_in window_in params_in is_valid spelling Names.is_name
+    Possible.is_possible bit_of filter_of full has union Fields.with_field Numbers.number_at Numbers.number_bytes window_index Marks.lies_free
+recover-two_steps = refl
+
+recover-one_step : recover (waiting_within 25) ≡ recovers (stream_within 25 (window 1 (fives 2 10 20) ∷ window 3 (fives 1 30 30) ∷ []))
+unfolding recover redo is_born entries carried spelled is_sound decoded record_in stream_in window_in params_in is_valid spelling Names.is_name
+    Possible.is_possible bit_of filter_of full has union Fields.with_field Numbers.number_at Numbers.number_bytes window_index Marks.lies_free
+recover-one_step = refl
+
+-- a window that crosses a boundary is damage, unless its stream is dropped
+recover-crossing : recover (image_of no_entry no_entry (stream_slot 0 a (within 20) ∷ both ∷ third ∷ [])) ≡ damaged_stream 0
+unfolding recover redo is_born entries carried spelled is_sound decoded record_in stream_in window_in params_in is_valid spelling Names.is_name
+    Possible.is_possible bit_of filter_of full has union Fields.with_field Numbers.number_at Numbers.number_bytes window_index Marks.lies_free
+recover-crossing = refl
+
+recover-crossing_dropped : recover (image_of no_entry no_entry (spelling (records.Stream 0 a (within 20) true) ∷ both ∷ third ∷ [])) ≡ recovers []
+unfolding recover redo is_born entries carried spelled is_sound decoded record_in stream_in window_in params_in is_valid spelling Names.is_name
+    Possible.is_possible bit_of filter_of full has union Fields.with_field Numbers.number_at Numbers.number_bytes window_index Marks.lies_free
+recover-crossing_dropped = refl
 
 -- so they do where a record stands in an entry that is in use, and its slot isn't in the file or is zeros
 recover-window_in_entry : recover
@@ -189,7 +221,7 @@ recover-cut = refl
 -- was made, the image recovers to the state after these events
 abbrev pub readings : List Event
 readings =
-    events.Create a (Exp 2 1 1)
+    events.Create a (exp 2 1 1)
     ∷ events.Value a 10 (pos 5)
     ∷ events.Value a 20 (negsuc 2)
     ∷ events.Value a 30 (pos 8)
@@ -252,7 +284,7 @@ b = 98 ∷ []
 abbrev two_streams : List ℕ
 two_streams = image_of no_entry no_entry
     (window_slot 7 1 (fives 1 10 10)
-    ∷ stream_slot 7 b (Power 1 0 1 2)
+    ∷ stream_slot 7 b (power 1 0 1 2)
     ∷ window_slot 7 2 (fives 1 20 20)
     ∷ a_slot
     ∷ window_slot 7 3 (fives 1 30 30)
@@ -264,7 +296,7 @@ abbrev b_stream : Stream
 b_stream = record {
   number = 7;
   name = b;
-  params = Power 1 0 1 2;
+  params = power 1 0 1 2;
   windows = window 1 (fives 1 10 10) ∷ window 2 (fives 2 20 30) ∷ [];
   landmarks = [];
 }
@@ -337,7 +369,7 @@ abbrev open_slot : List ℕ
 open_slot = spelling (records.Landmark 0 1 0 100 None)
 
 abbrev moment : List Happened
-moment = map added (events.Create a (Exp 2 1 1) ∷ events.Open a 100 ∷ events.Value a 100 (pos 7) ∷ events.Close a 100 ∷ [])
+moment = map added (events.Create a (exp 2 1 1) ∷ events.Open a 100 ∷ events.Value a 100 (pos 7) ∷ events.Close a 100 ∷ [])
 
 state-moment : Recovers (state moment) (image_of no_entry no_entry (a_slot ∷ mark_slot ∷ mark_value_slot ∷ []))
 unfolding state recover redo is_born entries carried spelled is_sound decoded record_in stream_in window_in landmark_in value_in finish_in params_in is_valid
@@ -354,7 +386,7 @@ state-closing = refl
 
 -- and without that entry the landmark is open
 abbrev opening : List Happened
-opening = map added (events.Create a (Exp 2 1 1) ∷ events.Open a 100 ∷ events.Value a 100 (pos 7) ∷ [])
+opening = map added (events.Create a (exp 2 1 1) ∷ events.Open a 100 ∷ events.Value a 100 (pos 7) ∷ [])
 
 state-opening : Recovers (state opening) (image_of no_entry no_entry (a_slot ∷ open_slot ∷ mark_value_slot ∷ []))
 unfolding state recover redo is_born entries carried spelled is_sound decoded record_in stream_in window_in landmark_in value_in finish_in params_in is_valid
@@ -370,7 +402,7 @@ recover-around : recover
     ≡ recovers (record {
       number = 0;
       name = a;
-      params = Exp 2 1 1;
+      params = exp 2 1 1;
       windows = window 1 (fives 2 10 50) ∷ [];
       landmarks = record { start = 20; finish = Some 40; values = [] } ∷ [];
     } ∷ [])

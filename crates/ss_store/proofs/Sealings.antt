@@ -16,7 +16,7 @@ use Rattle.ss_codec.specs.declared.record.Record.{Record}
 use Rattle.ss_summary.specs.Points.{New}
 use Rattle.ss_model.specs.Closed.{closed}
 use Rattle.ss_model.specs.ClosedState.{closed_stream}
-use Rattle.ss_model.specs.Rule.{rule_of}
+use Rattle.ss_target.specs.Rule.{rule_of}
 use Rattle.ss_model.specs.State.{Stream, values_in}
 use Rattle.ss_model.specs.Steps.{with_plain_value}
 use Rattle.ss_model.proofs.JoinLemmas.{JoinsDue-closed}

@@ -8,7 +8,7 @@ use Rattle.std.proofs.lemmas.Option.{none-some, same_Some}
 use Rattle.ss_model.specs.Closed.{closed, joined_window}
 use Rattle.ss_model.specs.ClosedState.{closed_stream}
 use Rattle.ss_model.specs.Joins.{JoinsDue, Joins}
-use Rattle.ss_model.specs.Rule.{Rule, rule_of}
+use Rattle.ss_target.specs.Rule.{Rule, rule_of}
 use Rattle.ss_model.specs.Standing.{IsState, IsStream}
 use Rattle.ss_model.specs.State.{Stream, records_of, values_in}
 use Rattle.ss_model.specs.Tiling.{AreWindows}

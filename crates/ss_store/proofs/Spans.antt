@@ -2,16 +2,17 @@
 use Rattle.std.proofs.Common.{◌≡◌, ◌∙◌, ℕ, ◌+◌, ◌≤◌, List, [], ◌∷◌, ◌++◌, map, refl, sym, ap, subst, arith, append_assoc}
 use Rattle.ss_windowing.specs.declared.decay.TheConstants.{MOST_VALUES}
 use Rattle.ss_line.specs.declared.entry.Entry.{Entry}
+use Rattle.ss_model.specs.Closed.{last_position, may_join}
 use Rattle.ss_model.specs.Decay.{NoneIsDue}
-use Rattle.ss_model.specs.Rule.{without_step}
+use Rattle.ss_target.specs.Rule.{Rule, may_be_one}
 use Rattle.ss_model.specs.Tiling.{AreWindows}
 use Rattle.ss_model.specs.Windows.{taken}
 use Rattle.ss_model.specs.declared.types.Window.{Window}
 use Rattle.ss_model.proofs.Tiles.{last_position-from_AreWindows}
-use Rattle.ss_recover.specs.Held.{TileFrom, span_held, span_of}
+use Rattle.ss_recover.specs.Held.{TileFrom, span_held, span_of, times_held, times_of}
 use Rattle.ss_schedule.specs.Pairs.{joined_entry}
 use Rattle.ss_store.specs.Held.{values_held}
-use Rattle.ss_store.specs.Joining.{NoSpansAreDue}
+use Rattle.ss_store.specs.Joining.{NoEntriesAreDue, may_be_joined}
 
 pub values_held-seam : (front : List Entry) (e : Entry) (rest : List Entry) → values_held (front ++ e ∷ rest) ≡ values_held (e ∷ rest)
 values_held-seam [] e rest = refl
@@ -89,11 +90,34 @@ pub TileFrom-push : (es : List Entry) (e : Entry) → TileFrom 1 es → e.first 
 TileFrom-push [] e tiles start one few = (start, omega arith, few, tt)
 TileFrom-push (f ∷ fs) e tiles start one few = TileFrom-more 1 f fs e tiles start one few
 
--- positions of windows
-pub NoneIsDue-spans : (len : ℕ → ℕ) (n : ℕ) (ws : List Window) → NoSpansAreDue len n (map span_of ws) → NoneIsDue (without_step len) n ws
-NoneIsDue-spans len n [] none = tt
-NoneIsDue-spans len n (w ∷ []) none = tt
-NoneIsDue-spans len n (w ∷ v ∷ vs) none = (none.0, NoneIsDue-spans len n (v ∷ vs) none.1)
+-- an entry and a later one may be one where windows may of which one begins like the first, and one is at the positions and
+-- times of the second
+pub may_be_joined-window : (rule : Rule) (n : ℕ) (e f : Entry) (w v : Window) → e.first ≡ w.first → e.t_first ≡ w.summary.t_first →
+    span_held f ≡ span_of v → times_held f ≡ times_of v → may_be_joined rule n e f ≡ may_join rule n w v
+may_be_joined-window rule n e f w v first t_first span times =
+    let last : f.last ≡ last_position v = ap (λ (p : ℕ × ℕ). p.1) span in
+    let t_last : f.t_last ≡ v.summary.t_last = ap (λ (p : ℕ × ℕ). p.1) times in
+    λ i. may_be_one rule (first i) (last i) n (t_first i) (t_last i)
+
+-- of windows none is due where none is of the entries at their positions and times
+pub NoneIsDue-entries : (rule : Rule) (n : ℕ) (es : List Entry) (ws : List Window) → map span_held es ≡ map span_of ws → map times_held es ≡ map times_of ws →
+    NoEntriesAreDue rule n es → NoneIsDue rule n ws
+NoneIsDue-entries rule n es [] spans times none = tt
+NoneIsDue-entries rule n es (w ∷ []) spans times none = tt
+NoneIsDue-entries rule n [] (w ∷ v ∷ vs) spans times none = absurd (cc)
+NoneIsDue-entries rule n (e ∷ []) (w ∷ v ∷ vs) spans times none = absurd (cc)
+NoneIsDue-entries rule n (e ∷ f ∷ es) (w ∷ v ∷ vs) spans times none =
+    let begins : span_held e ≡ span_of w = cc in
+    let begins_times : times_held e ≡ times_of w = cc in
+    let first : e.first ≡ w.first = ap (λ (p : ℕ × ℕ). p.0) begins in
+    let t_first : e.t_first ≡ w.summary.t_first = ap (λ (p : ℕ × ℕ). p.0) begins_times in
+    let span : span_held f ≡ span_of v = cc in
+    let time : times_held f ≡ times_of v = cc in
+    let rest_spans : map span_held (f ∷ es) ≡ map span_of (v ∷ vs) = cc in
+    let rest_times : map times_held (f ∷ es) ≡ map times_of (v ∷ vs) = cc in (
+      sym (may_be_joined-window rule n e f w v first t_first span time) ∙ none.0,
+      NoneIsDue-entries rule n (f ∷ es) (v ∷ vs) rest_spans rest_times none.1,
+    )
 
 values-behind : (us : List Window) (w : Window) (ws : List Window) (es : List Entry) → AreWindows (us ++ w ∷ ws) → map span_held es ≡ map span_of (w ∷ ws) →
     values_held es ≡ taken (us ++ w ∷ ws)

@@ -17,7 +17,7 @@ use Rattle.ss_model.specs.Closed.{closed}
 use Rattle.ss_model.specs.ClosedState.{closed_state, closed_stream}
 use Rattle.ss_model.specs.History.{CanBeSaid}
 use Rattle.ss_model.specs.Refusals.{is_past, refuses}
-use Rattle.ss_model.specs.Rule.{rule_of}
+use Rattle.ss_target.specs.Rule.{rule_of}
 use Rattle.ss_model.specs.Standing.{IsState, IsStream}
 use Rattle.ss_model.specs.State.{Stream, last_time, names_of, records_of, values_in}
 use Rattle.ss_model.specs.Marks.{has_open, with_closed, with_opened}

@@ -1,5 +1,5 @@
 -- What an event does to a store and its disk, and what a look does.
-use Rattle.std.specs.Prelude.{◌≡◌, ◌↔◌, ℕ, ◌+◌, ◌*◌, ◌≤◌, Bool, true, false, not, List, [], length, flat_map, map, max, slice_get, Contains, Result}
+use Rattle.std.specs.Prelude.{◌≡◌, ◌↔◌, ℕ, ◌+◌, ◌-◌, ◌*◌, ◌≤◌, Bool, true, false, not, List, [], length, flat_map, map, max, slice_get, Contains, Result}
 use Rattle.std.specs.Prelude.{Err, Some, IfOk, IfSome, OnOk, IsTrue, option_map}
 use Rattle.ss_outside.specs.Crash.{OnlyReads}
 use Rattle.ss_outside.specs.Disk.{DiskView, Told, OfContent}
@@ -14,16 +14,17 @@ use Rattle.ss_catalog.specs.declared.refusal.Refusal.{Refusal}
 use Rattle.ss_line.specs.declared.entry.At.{At}
 use Rattle.ss_line.specs.Line.{index_of}
 use Rattle.ss_target.specs.Lengths.{lengths_of}
+use Rattle.ss_target.specs.Rule.{rule_of}
 use Rattle.ss_target.specs.Targets.{params_of}
 use Rattle.ss_model.specs.Answers.{HoldsTruth, IsExactOutcome, outcome_of, split_by}
-use Rattle.ss_model.specs.Decay.{IsReadWithinTarget, cover}
+use Rattle.ss_model.specs.Decay.{IsReadWithinTarget, cover, steps_met}
 use Rattle.ss_model.specs.History.{marked_of, values_of, Happened}
 use Rattle.ss_model.specs.Shown.{placed_of}
 use Rattle.ss_model.specs.State.{Stream, state, stream_named, stream_numbered, values_in}
 use Rattle.ss_model.specs.declared.outcome.Outcome.{Outcome}
 use Rattle.ss_model.specs.declared.types.Ack.{Ack}
 use Rattle.ss_model.specs.declared.types.Placed.{Placed}
-use Rattle.ss_recover.specs.Held.{slots_held}
+use Rattle.ss_recover.specs.Held.{entries_of, slots_held}
 use Rattle.ss_recover.specs.declared.parts.StreamParts.{StreamParts}
 use Rattle.ss_records.specs.Kept.{RecordsState, shown_by}
 use Rattle.ss_store.specs.Calls.{KeepsHistory, KeepsState, SealsHistory, StepsState, TurnsShown}
@@ -32,6 +33,7 @@ use Rattle.ss_query.specs.Answered.{window_slots_of}
 use Rattle.ss_query.specs.Asked.{seen_of}
 use Rattle.ss_query.specs.declared.asking.Seen.{Seen}
 use Rattle.ss_store.specs.Errors.{stopped_after, verdict_of_apply, verdict_of_opening}
+use Rattle.ss_store.specs.Held.{ends_held}
 use Rattle.ss_store.specs.Kept.{SameButSpare, StoreIsKept, StoreState, is_of_landmark, part_named, part_numbered, refuses_held}
 use Rattle.ss_store.specs.Recover.{Recovers, Stands}
 use Rattle.ss_store.specs.Surveyed.{SurveysAs}
@@ -61,10 +63,13 @@ leaves_no_value (Open name t) = false
 leaves_no_value (Close name t) = false
 leaves_no_value (Drop name) = true
 
--- at most 2K - 1 windows stand where K target windows cover the values
+-- At most 2(K + B - 1) - 1 windows stand where K target windows cover the values, and the times of the windows lie in B steps.
+-- Without a step they lie in one, and these are 2K - 1.
 abbrev pub IsFew : List StreamParts → Event → Ack → Type 0
 IsFew parts event ack =
-    IfSome (part_named (event_name event) parts) (λ part. ack.k + 1 ≤ 2 * cover (lengths_of (params_of part.target)) ack.n)
+    IfSome (part_named (event_name event) parts) (λ part.
+    let rule = rule_of (params_of part.target) in
+    ack.k + 1 ≤ 2 * (cover rule.lengths ack.n + steps_met rule.step (ends_held (entries_of part)) - 1))
 
 -- What an event does to a store that hasn't stopped, and to its disk.
 pub record Applies (event : Event) (old new : StoreState) (before after : DiskView) (result : Result Ack ApplyError) : Type 0 where

@@ -1,5 +1,5 @@
 -- What a call that changes records, or one stream, does to its disk, and what it keeps over every disk.
-use Rattle.std.specs.Prelude.{◌≡◌, ℕ, ℤ, ◌+◌, ◌<◌, ◌≤◌, max, IsTrue, List, ◌∷◌, Option, Some, None, Contains, flat_map, length, map, Result}
+use Rattle.std.specs.Prelude.{◌≡◌, ℕ, ℤ, ◌+◌, ◌<◌, ◌≤◌, max, IsTrue, List, ◌∷◌, Option, Some, None, Contains, flat_map, length, Result}
 use Rattle.std.specs.Prelude.{OnOk}
 use Rattle.ss_outside.specs.Crash.{OnlyReads}
 use Rattle.ss_outside.specs.Disk.{Told}
@@ -13,7 +13,7 @@ use Rattle.ss_landmarks.specs.Landmarks.{AreKnown, LandmarksState}
 use Rattle.ss_line.specs.declared.entry.Entry.{Entry}
 use Rattle.ss_summary.specs.Figures.{Figures}
 use Rattle.ss_summary.specs.Summaries.{joined}
-use Rattle.ss_target.specs.Lengths.{lengths_of}
+use Rattle.ss_target.specs.Rule.{rule_of}
 use Rattle.ss_target.specs.Targets.{params_of}
 use Rattle.ss_windowing.specs.declared.decay.TheConstants.{MOST_VALUES}
 use Rattle.ss_summary.specs.Points.{New}
@@ -29,7 +29,7 @@ use Rattle.ss_store.specs.Calls.{Turns, TurnsShown}
 use Rattle.ss_query.specs.Reading.{IsRead, verdict_of_read}
 use Rattle.ss_store.specs.Held.{IsHalfway, IsOrdered, IsPartlyJoined, values_held, with_single}
 use Rattle.ss_query.specs.Held.{IsHeldIn}
-use Rattle.ss_store.specs.Joining.{IsJoinedIn, NoSpansAreDue}
+use Rattle.ss_store.specs.Joining.{IsJoinedIn, NoEntriesAreDue}
 use Rattle.ss_store.specs.Marking.{CanMark, IsItsSlot, landmarks_after, mark_refusal, with_mark}
 use Rattle.ss_store.specs.Rebuilt.{HasRebuilt}
 use Rattle.ss_store.specs.Recover.{Recovers}
@@ -127,10 +127,9 @@ pub record HoldsUntil (part : StreamParts) (n : ℕ) (last : Option ℕ) : Type 
   pub values : values_held (entries_of part) ≡ n
   pub last_time : part.last_time ≡ last
 
--- no two neighbours lie together in one target window
+-- no two neighbours may be one
 abbrev pub NoneAreDue : StreamParts → Type 0
-NoneAreDue part =
-    NoSpansAreDue (lengths_of (params_of part.target)) (values_held (entries_of part)) (map span_held (entries_of part))
+NoneAreDue part = NoEntriesAreDue (rule_of (params_of part.target)) (values_held (entries_of part)) (entries_of part)
 
 -- where the record of a slot has changed, a window of this stream is held there
 abbrev pub ChangedIsHeld : Verdict → StreamParts → Type 0

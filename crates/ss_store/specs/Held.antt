@@ -4,7 +4,7 @@ use Rattle.ss_codec.specs.declared.record.Record.{Record}
 use Rattle.ss_line.specs.declared.entry.Entry.{Entry}
 use Rattle.ss_summary.specs.Points.{New}
 use Rattle.ss_model.specs.Joins.{JoinsDue}
-use Rattle.ss_model.specs.Rule.{rule_of}
+use Rattle.ss_target.specs.Rule.{rule_of}
 use Rattle.ss_model.specs.State.{Stream, values_in}
 use Rattle.ss_model.specs.Steps.{single_window}
 use Rattle.ss_model.specs.declared.types.Window.{Window}
@@ -36,6 +36,11 @@ abbrev pub values_held : List Entry → ℕ
 values_held [] = 0
 values_held (e ∷ []) = e.last
 values_held (e ∷ f ∷ es) = values_held (f ∷ es)
+
+-- the first time and the last of each entry
+abbrev pub ends_held : List Entry → List ℕ
+ends_held [] = []
+ends_held (e ∷ es) = e.t_first ∷ e.t_last ∷ ends_held es
 
 -- the same stream with the same landmarks, perhaps with other windows
 pub record IsSameStream (old new : StreamParts) : Type 0 where

@@ -3,12 +3,11 @@ use Rattle.std.specs.Prelude.{◌≡◌, ℕ, ◌+◌, ◌<◌, ◌≤◌, true,
 use Rattle.ss_line.specs.Line.{LineState}
 use Rattle.ss_line.specs.declared.entry.At.{At}
 use Rattle.ss_line.specs.declared.entry.Entry.{Entry}
-use Rattle.ss_target.specs.Lengths.{lengths_of}
+use Rattle.ss_target.specs.Rule.{rule_of}
 use Rattle.ss_target.specs.Targets.{params_of}
-use Rattle.ss_windowing.specs.Windowing.{fits}
 use Rattle.ss_windowing.specs.declared.decay.TheConstants.{MOST_VALUES}
 use Rattle.ss_schedule.specs.Keyed.{IsKeyed, ScheduleState}
-use Rattle.ss_schedule.specs.Pairs.{IsPairIn}
+use Rattle.ss_schedule.specs.Pairs.{IsPairIn, may_join}
 use Rattle.ss_schedule.specs.declared.pair.Pair.{Pair}
 use Rattle.ss_model.specs.Marks.{has_open}
 use Rattle.ss_model.specs.Refusals.{is_past}
@@ -72,4 +71,4 @@ pub record IsDuePair (part : StreamParts) (index : IndexState) (pair : Pair) : T
   pub ordered : IsOrdered part
   pub keyed : IsKeyedFor part index
   pub stands : IsPairIn part.line.entries pair
-  pub fits : fits (lengths_of (params_of part.target)) pair.first pair.last (values_held (entries_of part)) ≡ true
+  pub due : may_join (rule_of (params_of part.target)) (values_held (entries_of part)) pair ≡ true

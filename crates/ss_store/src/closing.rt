@@ -104,7 +104,7 @@ fn join<D: Disk, L: Ledger>(
     Ok(())
 }
 
-/// Stages the joins of neighbours, each two as one transaction, until no two lie together in one target window.
+/// Stages the joins of neighbours, each two as one transaction, until no two may be one.
 pub fn stage_joins<D: Disk, L: Ledger>(
     records: &mut Records,
     disk: &mut D,
@@ -132,7 +132,7 @@ pub fn stage_joins<D: Disk, L: Ledger>(
     Ok(())
 }
 
-/// Joins neighbours, each two as one transaction, until no two lie together in one target window. All come to the disk together.
+/// Joins neighbours, each two as one transaction, until no two may be one. All come to the disk together.
 pub fn close_windows<D: Disk, L: Ledger>(
     records: &mut Records,
     disk: &mut D,

@@ -30,10 +30,9 @@ impl Index {
     ghost use Rattle.ss_line.specs.declared.entry.At.{At};
     ghost use Rattle.ss_line.specs.declared.entry.Entry.{Entry};
     ghost use Rattle.ss_line.specs.declared.line.TheConstants.{MOST_PLACES};
-    ghost use Rattle.ss_windowing.specs.Windowing.{fits};
     ghost use Rattle.ss_windowing.specs.declared.decay.TheConstants.{MOST_VALUES};
-    ghost use Rattle.ss_schedule.specs.Keyed.{FollowUpTo, IsKeyed, lengths};
-    ghost use Rattle.ss_schedule.specs.Pairs.{AreSideBySide, IsPairIn, NoPairFits, joined_entry};
+    ghost use Rattle.ss_schedule.specs.Keyed.{FollowUpTo, IsKeyed, merge_rule};
+    ghost use Rattle.ss_schedule.specs.Pairs.{AreSideBySide, IsPairIn, NoPairFits, joined_entry, may_join};
     ghost use Rattle.ss_recover.specs.Held.{RiseToLast, TimesRise};
     ghost use Rattle.ss_query.specs.Answered.{BeginsAt, BeginsNear};
     ghost use Rattle.ss_store.specs.Indexed.{HasPlaces, IsTimed};
@@ -131,17 +130,17 @@ impl Index {
         Ok(())
     }
 
-    /// Two neighbours of a line that lie together in one target window when n values are held. None says that there are none.
+    /// Two neighbours of a line that may be one window when n values are held. None says that there are none.
     pub fn due<L: Ledger>(&self, line: &Line, n: u64, steps: &mut Steps<L>) -> Option<Pair>
         requires { IsKeyed n line.now.entries self.now.schedule }
         ensures pair { IfSome result (IsPairIn line.now.entries) }
-        ensures fits { IfSome result (λ pair. fits (lengths self.now.schedule) pair.first pair.last n ≡ true) }
-        ensures none { IfNone result (NoPairFits (lengths self.now.schedule) n line.now.entries) }
+        ensures due { IfSome result (λ pair. may_join (merge_rule self.now.schedule) n pair ≡ true) }
+        ensures none { IfNone result (NoPairFits (merge_rule self.now.schedule) n line.now.entries) }
     {
         self.schedule.due(line, n, steps)
     }
 
-    /// Joins two neighbours of a line that lie together in one target window when n values are held. The right one, which
+    /// Joins two neighbours of a line that may be one window when n values are held. The right one, which
     /// begins at a time, is cut out of the line, and its time is forgotten.
     pub fn merged<L: Ledger>(
         &mut self,
@@ -152,7 +151,7 @@ impl Index {
         steps: &mut Steps<L>,
     )
         requires neighbours { IsPairIn line.old.entries pair }
-        requires fits { fits (lengths self.old.schedule) pair.first pair.last n ≡ true }
+        requires due { may_join (merge_rule self.old.schedule) n pair ≡ true }
         requires keyed { IsKeyed n line.old.entries self.old.schedule }
         ensures joined { (it : AreSideBySide line.old.entries pair.left pair.right)
             → line.new.entries ≡ it.before ++ (pair.left, joined_entry it.window it.next) ∷ it.rest }

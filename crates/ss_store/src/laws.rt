@@ -1,5 +1,5 @@
 // Laws of stores and their disks, each the contract of a function that does nothing.
-ghost use Rattle.std.specs.Prelude.{◌≡◌, ◌+◌, ◌*◌, ◌<◌, ◌≤◌, ℕ, Bool, IsTrue, List, [], length, map, flat_map};
+ghost use Rattle.std.specs.Prelude.{◌≡◌, ◌+◌, ◌-◌, ◌*◌, ◌<◌, ◌≤◌, ℕ, Bool, IsTrue, List, [], length, flat_map};
 ghost use Rattle.ss_catalog.specs.declared.event.Event.{Event};
 ghost use Rattle.ss_catalog.specs.declared.query.Query.{Query};
 ghost use Rattle.ss_journal.specs.Format.{is_unborn};
@@ -9,17 +9,18 @@ ghost use Rattle.ss_records.specs.Kept.{shown_by};
 ghost use Rattle.ss_records.specs.Live.{live_count};
 ghost use Rattle.ss_model.specs.History.{Happened};
 ghost use Rattle.ss_model.specs.Answers.{refuses_query};
-ghost use Rattle.ss_model.specs.Decay.{cover};
+ghost use Rattle.ss_model.specs.Decay.{cover, steps_met};
+ghost use Rattle.ss_target.specs.Rule.{Rule, without_step};
 ghost use Rattle.ss_model.specs.Newest.{refuses_values};
 ghost use Rattle.ss_model.specs.Refusals.{refuses, refuses_reading};
 ghost use Rattle.ss_model.specs.Standing.{IsState};
 ghost use Rattle.ss_model.specs.State.{Stream, live, state, stream_named, stream_numbered, values_in};
-ghost use Rattle.ss_recover.specs.Held.{Agrees, AllAgree, AreWhole, TileFrom, entries_of, slots_held, span_held};
+ghost use Rattle.ss_recover.specs.Held.{Agrees, AllAgree, AreWhole, TileFrom, entries_of, slots_held};
 ghost use Rattle.ss_recover.specs.declared.parts.StreamParts.{StreamParts};
 ghost use Rattle.ss_model.specs.Standing.{IsStream};
 ghost use Rattle.ss_store.specs.Asked.{refuses_query_held};
-ghost use Rattle.ss_store.specs.Held.{values_held};
-ghost use Rattle.ss_store.specs.Joining.{NoSpansAreDue};
+ghost use Rattle.ss_store.specs.Held.{ends_held, values_held};
+ghost use Rattle.ss_store.specs.Joining.{NoEntriesAreDue};
 ghost use Rattle.ss_store.specs.Kept.{SomeAgree, StoreIsKept, StoreState, part_named, part_numbered, refuses_held};
 ghost use Rattle.ss_store.specs.Newest.{refuses_reading_held, refuses_values_held};
 ghost use Rattle.ss_store.specs.Recover.{Recovers, Stands};
@@ -54,11 +55,14 @@ pub fn what_is_held_counts_alike()
         length (flat_map slots_held parts) ≡ live streams }
 {}
 
-/// Where no two neighbours lie together in one target window, at most 2K - 1 windows stand, where K target windows cover the
-/// values.
+/// Where no two neighbours may be one, at most 2(K + B - 1) - 1 windows stand, where K target windows cover the values, and the
+/// times of the windows lie in B steps. Without a step they lie in one, and these are 2K - 1.
 pub fn few_windows_stand()
-    ensures { (len : ℕ → ℕ) (entries : List Entry) → TileFrom 1 entries →
-        NoSpansAreDue len (values_held entries) (map span_held entries) → 0 < values_held entries →
+    ensures rule { (rule : Rule) (entries : List Entry) → TileFrom 1 entries →
+        NoEntriesAreDue rule (values_held entries) entries → 0 < values_held entries → length entries + 1
+        ≤ 2 * (cover rule.lengths (values_held entries) + steps_met rule.step (ends_held entries) - 1) }
+    ensures without_step { (len : ℕ → ℕ) (entries : List Entry) → TileFrom 1 entries →
+        NoEntriesAreDue (without_step len) (values_held entries) entries → 0 < values_held entries →
         length entries + 1 ≤ 2 * cover len (values_held entries) }
 {}
 

@@ -25,7 +25,7 @@ pub use values::ValueRange;
 
 /// Named streams on a disk that the store doesn't hold: each call takes the disk, as the last such call left it. In memory it
 /// keeps of each stream what its record says, of each window the positions, the times and the slot, and of each two neighbouring
-/// windows when they first lie together in one target window. docs/DEFINITIONS.md has what a content stands for, and which
+/// windows when they may first be one. docs/DEFINITIONS.md has what a content stands for, and which
 /// events are refused. After a call that answers `Disk` or `Changed` the store has stopped.
 #[derive(Drop)]
 pub struct Store {

@@ -2,6 +2,9 @@
 ghost use Rattle.std.specs.Prelude.{◌≡◌, ◌≤◌, All, IsTrue, List, flat_map, length};
 ghost use Rattle.ss_journal.specs.declared.format.TheConstants.{MOST_SLOTS};
 ghost use Rattle.ss_steps.specs.Steps.{IsFresh};
+ghost use Rattle.ss_target.specs.Rule.{rule_of};
+ghost use Rattle.ss_target.specs.Targets.{params_of};
+ghost use Rattle.ss_windowing.specs.declared.decay.TheConstants.{MOST_VALUES};
 ghost use Rattle.ss_model.specs.ClosedState.{closed_state, closed_stream};
 ghost use Rattle.ss_model.specs.Standing.{IsState, IsStream};
 ghost use Rattle.ss_model.specs.State.{Stream};
@@ -10,14 +13,17 @@ ghost use Rattle.ss_outside.specs.Step.{Step};
 ghost use Rattle.ss_outside.specs.Verdict.{IsFirm};
 ghost use Rattle.ss_store.specs.Applied.{SurveysStore};
 ghost use Rattle.ss_store.specs.Errors.{verdict_of_opening};
+ghost use Rattle.ss_store.specs.Joining.{may_be_joined};
 ghost use Rattle.ss_store.specs.Surveyed.{survey_of};
 
 use crate::closing::values_held;
 use crate::opening::read_all;
 use crate::{OpenError, Store};
+use ss_line::Entry;
 use ss_outside::Disk;
 use ss_recover::StreamParts;
 use ss_steps::Steps;
+use ss_target::Target;
 use std::alloc::Global;
 use std::marker::Brand;
 use std::sync::ledger::{Blank, Ledger};
@@ -31,7 +37,19 @@ pub struct Survey {
     pub values: u32,
 }
 
-// How many windows a stream has once those that are due are joined. No window is read: the positions say which they are.
+// Whether an entry and a later one, with all between them, may be one when n values are held.
+fn may_be_joined(target: &Target, window: Entry, next: Entry, n: u64) -> bool
+    requires first { 1 ≤ window.first }
+    requires order { window.first ≤ next.last }
+    requires taken { next.last ≤ n }
+    requires few { n ≤ MOST_VALUES }
+    ensures { result ≡ may_be_joined (rule_of (params_of target.now)) n window next }
+{
+    target.in_step(window.t_first, next.t_last) && target.fits(window.first, next.last, n)
+}
+
+// How many windows a stream has once those that are due are joined. No window is read: the positions and the times say which
+// they are.
 fn closed_windows<L: Ledger>(part: &StreamParts, steps: &mut Steps<L>) -> u32
     requires tiles { TileFrom 1 (entries_of part.now) }
     ensures windows { (s : Stream) → IsStream s → Agrees part.now s → result ≡ length (closed_stream s).windows }
@@ -42,12 +60,12 @@ fn closed_windows<L: Ledger>(part: &StreamParts, steps: &mut Steps<L>) -> u32
     };
     let _len = part.line.len();
     let n = values_held(part, steps);
-    let mut first = part.line.get(at, steps).first;
+    let mut first = part.line.get(at, steps);
     let mut count = 1;
     while let Some(next) = part.line.neighbours(at, steps).1 {
         let entry = part.line.get(next, steps);
-        if !part.target.fits(first, entry.last, n) {
-            first = entry.first;
+        if !may_be_joined(&part.target, first, entry, n) {
+            first = entry;
             count += 1;
         }
         at = next;

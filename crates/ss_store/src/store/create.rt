@@ -10,7 +10,7 @@ use crate::index::Index;
 use crate::place::next_id;
 use crate::writing::stage_record;
 use ss_catalog::{Catalog, Name, Params, Refusal, StreamId};
-use ss_codec::Record;
+use ss_codec::{Record, step_number};
 use ss_landmarks::Landmarks;
 use ss_line::Line;
 use ss_model::Ack;
@@ -55,6 +55,8 @@ fn record_of(id: u32, name: &Name, params: Params) -> Record
     ensures valid { IsTrue (is_valid result) }
 {
     let _word = name.as_bytes();
+    // A step is a number of 32 bits.
+    let _step = step_number(params.within);
     Record::Stream {
         id,
         name: *name,

@@ -16,7 +16,7 @@ use crate::clearing::stage_clearing;
 use crate::place::{number_of, place_of};
 use crate::writing::stage_replaced;
 use ss_catalog::{Name, Refusal};
-use ss_codec::Record;
+use ss_codec::{Record, step_number};
 use ss_landmarks::Landmarks;
 use ss_line::Line;
 use ss_model::Ack;
@@ -79,10 +79,13 @@ fn record_of(part: &StreamParts) -> Record
     ensures valid { IsTrue (is_valid result) }
 {
     let _word = part.name.as_bytes();
+    let params = part.target.params();
+    // A step is a number of 32 bits.
+    let _step = step_number(params.within);
     Record::Stream {
         id: number_of(part),
         name: part.name,
-        params: part.target.params(),
+        params,
         dropped: true,
     }
 }

@@ -4,11 +4,11 @@ use Rattle.std.proofs.lemmas.Result.{err_from_is_err_and}
 use Rattle.std.proofs.Math.Facts.{to_z-of_z}
 use Rattle.ss_codec.proofs.RecordLemmas.{is_valid-IsWindow}
 use Rattle.ss_line.specs.Line.{LineState, index_of}
-use Rattle.ss_schedule.specs.Keyed.{IsKeyed, lengths}
+use Rattle.ss_schedule.specs.Keyed.{IsKeyed, merge_rule}
 use Rattle.ss_schedule.specs.Pairs.{NoPairFits}
 use Rattle.ss_schedule.proofs.KeyedLemmas.{IsKeyed-next}
 use Rattle.ss_schedule.proofs.Places.{fresh-none, index-once, take-seam}
-use Rattle.ss_target.specs.Lengths.{lengths_of}
+use Rattle.ss_target.specs.Rule.{rule_of}
 use Rattle.ss_target.specs.Targets.{lengths-positive, params_of}
 use Rattle.ss_line.specs.declared.entry.At.{At}
 use Rattle.ss_line.specs.declared.entry.Entry.{Entry}
@@ -21,7 +21,7 @@ use Rattle.ss_store.specs.Held.{IsHalfway, values_held, with_single}
 use Rattle.ss_query.specs.Held.{IsHeldIn}
 use Rattle.ss_store.specs.Indexed.{begun_at}
 use Rattle.ss_store.proofs.Additions.{IsAdded, IsOrdered-added, LiveSlotsGo-added, TileFrom-added, TurnsShown-added, single_entry, values_held-added}
-use Rattle.ss_store.proofs.KeyedWindows.{FollowUpTo-take, FollowUpTo-tiles, NoPairFits-spans, take-all}
+use Rattle.ss_store.proofs.KeyedWindows.{FollowUpTo-take, FollowUpTo-tiles, NoPairFits-entries, take-all}
 use Rattle.ss_store.proofs.Rising.{IsTimed-added}
 use Rattle.ss_store.proofs.ShownCalls.{TurnsShown-answers, TurnsShown-failed}
 use Rattle.ss_store.proofs.appending.put_value.Goals as goal
@@ -142,8 +142,8 @@ add_window-requires-clause-keyed g c =
     let ready = c.requires.can.reserved in
     let entry : Entry = single_entry (c.values_held-position.result + 1) c.args.t c.args.slot in
     let index = index-once part.line.entries c.push-at.result entry [] (fresh-none part.line.entries c.push-at.result c.push-at.ensures.fresh) in
-    let none : NoPairFits (lengths c.args.index.now.schedule) (values_held (entries_of part)) part.line.entries =
-    rw ready.target (NoPairFits-spans (lengths_of (params_of part.target)) (values_held (entries_of part)) part.line.entries ready.none_due) in
+    let none : NoPairFits (merge_rule c.args.index.now.schedule) (values_held (entries_of part)) part.line.entries =
+    rw ready.target (NoPairFits-entries (rule_of (params_of part.target)) (values_held (entries_of part)) part.line.entries ready.none_due) in
     let later : IsKeyed (values_held (entries_of part) + 1) part.line.entries c.args.index.now.schedule =
     IsKeyed-next (values_held (entries_of part)) part.line.entries c.args.index.now.schedule (lengths-positive c.args.index.now.schedule.target)
     c.requires.can.room ready.keyed none in

@@ -5,7 +5,7 @@ use Rattle.std.proofs.lemmas.Result.{err_from_is_err_and}
 use Rattle.ss_codec.proofs.RecordLemmas.{is_valid-IsWindow}
 use Rattle.ss_summary.specs.Summaries.{joined}
 use Rattle.ss_schedule.specs.Keyed.{IsKeyed}
-use Rattle.ss_target.specs.Lengths.{lengths_of}
+use Rattle.ss_target.specs.Rule.{rule_of}
 use Rattle.ss_target.specs.Targets.{params_of}
 use Rattle.ss_recover.specs.Held.{TileFrom, TimesRise, entries_of}
 use Rattle.ss_query.specs.Reading.{IsRead}
@@ -27,12 +27,12 @@ use Rattle.ss_store.proofs.closing.join.Goals as goal
 
 pub get-window-requires : goal.get-window-requires
 get-window-requires g c =
-    StandsIn-left (lengths_of (params_of c.args.part.now.target)) (values_held (entries_of c.args.part.now)) c.args.part.now.line.entries c.args.pair.left
+    StandsIn-left (rule_of (params_of c.args.part.now.target)) (values_held (entries_of c.args.part.now)) c.args.part.now.line.entries c.args.pair.left
     c.args.pair.right (AreDue-pair c.args.part.now c.args.index.now c.args.pair c.requires.due)
 
 pub get-next-requires : goal.get-next-requires
 get-next-requires g c =
-    StandsIn-right (lengths_of (params_of c.args.part.now.target)) (values_held (entries_of c.args.part.now)) c.args.part.now.line.entries c.args.pair.left
+    StandsIn-right (rule_of (params_of c.args.part.now.target)) (values_held (entries_of c.args.part.now)) c.args.part.now.line.entries c.args.pair.left
     c.args.pair.right (AreDue-pair c.args.part.now c.args.index.now c.args.pair c.requires.due)
 
 pub read_joined-requires-clause-live : goal.read_joined-requires-clause-live
@@ -135,13 +135,13 @@ returns-in_err-read_joined-clause-changed g c =
 
 -- the line that is left, and what it is to the line before
 line : (g : _) (c : goal.After-merged g) →
-    AreJoined (lengths_of (params_of c.args.part.now.target)) (values_held (entries_of c.args.part.now)) c.args.part.now.line.entries c.merged.new.line.entries
+    AreJoined (rule_of (params_of c.args.part.now.target)) (values_held (entries_of c.args.part.now)) c.args.part.now.line.entries c.merged.new.line.entries
     c.get-window.result c.get-next.result
 line g c =
     let due = AreDue-pair c.args.part.now c.args.index.now c.args.pair c.requires.due in
     let pair = ArePair-read c.args.part.now c.args.pair.left c.args.pair.right c.get-window.result c.get-next.result due c.requires.due.ordered.tiles
     c.get-window.ensures.entry c.get-next.ensures.entry in
-    subst (λ es. AreJoined (lengths_of (params_of c.args.part.now.target)) (values_held (entries_of c.args.part.now)) c.args.part.now.line.entries es
+    subst (λ es. AreJoined (rule_of (params_of c.args.part.now.target)) (values_held (entries_of c.args.part.now)) c.args.part.now.line.entries es
     c.get-window.result c.get-next.result)
     (sym (c.merged.ensures.joined due.pair)) pair.joined
 
@@ -180,7 +180,7 @@ returns-clause-whole g c =
     let w = c.get-window.result in
     let v = c.get-next.result in
     let pair = line g c in
-    let slots = AreSlots-joined (lengths_of (params_of part.target)) (values_held (entries_of part)) part new w v refl refl pair in
+    let slots = AreSlots-joined (rule_of (params_of part.target)) (values_held (entries_of part)) part new w v refl refl pair in
     let done = c.in_ok-stage_two.ensures in
     record {
       ordered = record {
@@ -203,7 +203,7 @@ timed_joined g c =
     let due = AreDue-pair part c.args.index.now c.args.pair c.requires.due in
     let it = due.pair in
     let front : List (ℕ × At) = map begun_at it.before ++ (it.window.t_first, c.args.pair.left) ∷ [] in
-    let next = next_is (lengths_of (params_of part.target)) (values_held (entries_of part)) part.line.entries c.args.pair.left c.args.pair.right due
+    let next = next_is (rule_of (params_of part.target)) (values_held (entries_of part)) part.line.entries c.args.pair.left c.args.pair.right due
     c.get-window.result c.get-next.result c.get-window.ensures.entry c.get-next.ensures.entry in
     let was = IsTimed-seam c.args.index.now.times it.before c.args.pair.left c.args.pair.right it.window it.next it.rest
     (subst (λ es. IsTimed es c.args.index.now.times) it.is c.requires.due.keyed.timed) in
@@ -222,8 +222,8 @@ returns-clause-keyed g c = record {
 pub merged-requires-clause-neighbours : goal.merged-requires-clause-neighbours
 merged-requires-clause-neighbours g c = c.requires.due.stands
 
-pub merged-requires-clause-fits : goal.merged-requires-clause-fits
-merged-requires-clause-fits g c = rw (c.requires.due.keyed.target, c.values_held-n.ensures) c.requires.due.fits
+pub merged-requires-clause-due : goal.merged-requires-clause-due
+merged-requires-clause-due g c = rw (c.requires.due.keyed.target, c.values_held-n.ensures) c.requires.due.due
 
 pub merged-requires-clause-keyed : goal.merged-requires-clause-keyed
 merged-requires-clause-keyed g c =

@@ -1,15 +1,15 @@
-use Rattle.std.proofs.Common.{◌∙◌, map, refl, sym, subst}
+use Rattle.std.proofs.Common.{◌∙◌, refl, sym, subst}
 use Rattle.std.proofs.lemmas.Result.{err_from_is_err_and}
 use Rattle.ss_outside.proofs.StepLemmas.{step-as, step-none}
 use Rattle.ss_journal.proofs.StepLemmas.{after-step, step-next}
-use Rattle.ss_target.specs.Lengths.{lengths_of}
+use Rattle.ss_target.specs.Rule.{rule_of}
 use Rattle.ss_target.specs.Targets.{params_of}
-use Rattle.ss_recover.specs.Held.{entries_of, slots_held, span_held}
+use Rattle.ss_recover.specs.Held.{entries_of, slots_held}
 use Rattle.ss_store.specs.Held.{IsPartlyJoined}
 use Rattle.ss_query.specs.Held.{IsHeldIn}
 use Rattle.ss_schedule.specs.Keyed.{IsKeyed}
-use Rattle.ss_store.specs.Joining.{IsJoinedIn, NoSpansAreDue}
-use Rattle.ss_store.proofs.KeyedWindows.{NoSpansAreDue-pairs}
+use Rattle.ss_store.specs.Joining.{IsJoinedIn, NoEntriesAreDue}
+use Rattle.ss_store.proofs.KeyedWindows.{NoEntriesAreDue-pairs}
 use Rattle.ss_store.proofs.Closings.{IsSameStream-more, TurnsShown-closes}
 use Rattle.ss_store.proofs.LiveSlots.{AreSomeLive-go}
 use Rattle.ss_store.proofs.ShownCalls.{TurnsShown-failed}
@@ -38,7 +38,7 @@ join-requires-clause-due g c = record {
   ordered = c.loop-pair.invariant.0.whole.ordered;
   keyed = c.loop-pair.invariant.1;
   stands = c.in-Some.ensures.pair;
-  fits = rw (c.loop-pair.invariant.0.holds.values, ← c.values_held-n.ensures, ← c.loop-pair.invariant.1.target) c.in-Some.ensures.fits;
+  due = rw (c.loop-pair.invariant.0.holds.values, ← c.values_held-n.ensures, ← c.loop-pair.invariant.1.target) c.in-Some.ensures.due;
 }
 
 pub join-requires-clause-settled : goal.join-requires-clause-settled
@@ -95,9 +95,9 @@ returns-in_err-join-clause-changed g c =
 
 -- at the end none is due
 none_due : (g : _) (c : goal.In_default g) →
-    NoSpansAreDue (lengths_of (params_of c.loop-pair.part.target)) c.values_held-n.result (map span_held (entries_of c.loop-pair.part))
+    NoEntriesAreDue (rule_of (params_of c.loop-pair.part.target)) c.values_held-n.result (entries_of c.loop-pair.part)
 none_due g c =
-    NoSpansAreDue-pairs (lengths_of (params_of c.loop-pair.part.target)) c.values_held-n.result c.loop-pair.part.line.entries
+    NoEntriesAreDue-pairs (rule_of (params_of c.loop-pair.part.target)) c.values_held-n.result c.loop-pair.part.line.entries
     (rw (← c.loop-pair.invariant.1.target) c.in_default.ensures.none)
 
 pub returns-clause-closes : goal.returns-clause-closes
@@ -122,6 +122,6 @@ returns-clause-holds g c = c.loop-pair.invariant.0.holds
 pub returns-clause-scheduled : goal.returns-clause-scheduled
 returns-clause-scheduled g c = (
   c.loop-pair.invariant.1,
-  subst (λ n. NoSpansAreDue (lengths_of (params_of c.loop-pair.part.target)) n (map span_held (entries_of c.loop-pair.part)))
+  subst (λ n. NoEntriesAreDue (rule_of (params_of c.loop-pair.part.target)) n (entries_of c.loop-pair.part))
       (c.values_held-n.ensures ∙ sym c.loop-pair.invariant.0.holds.values) (none_due g c),
 )
