@@ -1,5 +1,5 @@
 -- A printed command means that command.
-use Rattle.std.proofs.Common.{◌≡◌, ℕ, ◌^◌, ◌<◌, ◌≤◌, true, false, List, [], ◌∷◌, ◌++◌, length, Ok, Some, arith, refl, inl, inr}
+use Rattle.std.proofs.Common.{◌≡◌, ℕ, ◌^◌, ◌<◌, ◌≤◌, true, false, List, [], ◌∷◌, ◌++◌, length, Ok, None, Option, Some, arith, refl, inl, inr}
 use Rattle.std.proofs.Common.{◌∙◌, codes, nat_lt, nat_le, ◌&&◌}
 use Rattle.std.proofs.lemmas.Bool.{cases_Bool}
 use Rattle.std.proofs.lemmas.Bool.Decides.{nat_tests}
@@ -13,26 +13,52 @@ use Rattle.ss_catalog.specs.Series.{IsSeriesInRange, rows_in}
 use Rattle.ss_catalog.specs.declared.TheConstants.{LAST_TIME, MOST_ROWS}
 use Rattle.ss_catalog.specs.declared.series.Series.{Series}
 use Rattle.ss_catalog.specs.declared.event.Event.TheVariants.{Create, Value, Open, Close, Drop}
-use Rattle.ss_catalog.specs.declared.params.Params.TheVariants.{Exp, Power}
+use Rattle.ss_catalog.specs.declared.params.Family.{Family}
+use Rattle.ss_catalog.specs.declared.params.Family.TheVariants.{Exp, Power}
+use Rattle.ss_catalog.specs.declared.params.Params.{Params}
 use Rattle.ss_catalog.specs.declared.query.End.{End}
 use Rattle.ss_catalog.specs.declared.query.End.TheVariants as ends
 use Rattle.ss_catalog.specs.declared.query.Kind.{Kind}
 use Rattle.ss_catalog.specs.declared.query.Kind.TheVariants as kinds
 use Rattle.ss_command.proofs.PutLemmas.{length-decimal_32, length-decimal_64, length-end, length-kind, length-signed_64}
-use Rattle.ss_command.specs.Grammar.{added_of, command_of, end_of, figure_of, is_comment, meaning, meaning_of_words, step_of, steps_of}
-use Rattle.ss_command.specs.Printed.{IsSayable, kind_words, printed, spaced, takes_value, target_words}
+use Rattle.ss_command.specs.Grammar.{added_of, command_of, end_of, figure_of, is_comment, meaning, meaning_of_words, step_of, steps_of, within_of}
+use Rattle.ss_command.specs.Grammar.{within_word}
+use Rattle.ss_command.specs.Printed.{IsFamilyOfNumbers, IsSayable, IsStepOfNumber, kind_words, printed, spaced, takes_value, target_words, within_words}
 use Rattle.ss_command.specs.declared.command.Command.{Command}
 use Rattle.ss_command.specs.declared.command.Command.TheVariants as commands
 use Rattle.ss_command.proofs.SpacedLemmas.{AreWords, IsWord, IsWord-decimal, IsWord-name, IsWord-signed, length-spaced, literal, meaning-spaced}
-use Rattle.ss_command.proofs.SpacedLemmas.{name_of-name, parameter_of-decimal, time_of-decimal, value_of-signed}
+use Rattle.ss_command.proofs.SpacedLemmas.{name_of-name, parameter_of-decimal, time_of-decimal, value_of-signed, width}
 
-meaning-exp : (name : List ℕ) (b r s : ℕ) → is_name name ≡ true → b < 2 ^ 32 → r < 2 ^ 32 → s < 2 ^ 32 →
-    meaning (spaced (codes "create") (name ∷ target_words (Exp b r s))) ≡ Ok (Some (commands.Do (Create name (Exp b r s))))
-meaning-exp name b r s is fits_b fits_r fits_s =
-    let rest = name ∷ target_words (Exp b r s) in
+-- the words of a step read back as it
+IsWords-within : (within : Option ℕ) → IsStepOfNumber within → AreWords (within_words within)
+IsWords-within None fits = tt
+IsWords-within (Some step) fits = (literal (codes "within") refl, (IsWord-decimal step (omega arith), tt))
+
+width-within : (within : Option ℕ) → IsStepOfNumber within → width (within_words within) ≤ 18
+width-within None fits = omega arith
+width-within (Some step) fits = omega (arith, length-decimal_32 step fits)
+
+-- the word of a step, if there is one
+abbrev step_word : Option ℕ → Option (List ℕ)
+step_word None = None
+step_word (Some step) = Some (decimal step)
+
+within_word-words : (within : Option ℕ) → within_word (within_words within) ≡ Ok (step_word within)
+within_word-words None = refl
+within_word-words (Some step) = refl
+
+within_of-word : (within : Option ℕ) → IsStepOfNumber within → within_of (step_word within) ≡ Ok within
+within_of-word None fits = refl
+within_of-word (Some step) fits = rw (parameter_of-decimal step fits) refl
+
+meaning-exp : (name : List ℕ) (b r s : ℕ) (within : Option ℕ) → is_name name ≡ true → b < 2 ^ 32 → r < 2 ^ 32 → s < 2 ^ 32 → IsStepOfNumber within →
+    let params : Params = record { family = Exp b r s; within = within } in
+    meaning (spaced (codes "create") (name ∷ target_words params)) ≡ Ok (Some (commands.Do (Create name params)))
+meaning-exp name b r s within is fits_b fits_r fits_s fits =
+    let rest = name ∷ target_words (record { family = Exp b r s; within = within }) in
     let all : AreWords rest = (
       IsWord-name name is,
-      (literal (codes "exp") refl, (IsWord-decimal b (omega arith), (IsWord-decimal r (omega arith), (IsWord-decimal s (omega arith), tt)))),
+      (literal (codes "exp") refl, (IsWord-decimal b (omega arith), (IsWord-decimal r (omega arith), (IsWord-decimal s (omega arith), IsWords-within within fits)))),
     ) in
     let short : length (spaced (codes "create") rest) ≤ 256 =
     omega (
@@ -42,21 +68,29 @@ meaning-exp name b r s is fits_b fits_r fits_s =
       length-decimal_32 b fits_b,
       length-decimal_32 r fits_r,
       length-decimal_32 s fits_s,
+      width-within within fits,
     ) in
     meaning-spaced (codes "create") rest (literal (codes "create") refl) all short refl
-    ∙ rw (parameter_of-decimal b fits_b, parameter_of-decimal r fits_r, parameter_of-decimal s fits_s, name_of-name name is) refl
+    ∙ rw (
+      within_word-words within,
+      parameter_of-decimal b fits_b,
+      parameter_of-decimal r fits_r,
+      parameter_of-decimal s fits_s,
+      within_of-word within fits,
+      name_of-name name is,
+    ) refl
 
-meaning-power : (name : List ℕ) (p q r s : ℕ) → is_name name ≡ true → p < 2 ^ 32 → q < 2 ^ 32 → r < 2 ^ 32 → s < 2 ^ 32 →
-    meaning (spaced (codes "create") (name ∷ target_words (Power p q r s))) ≡ Ok (Some (commands.Do (Create name (Power p q r s))))
-meaning-power name p q r s is fits_p fits_q fits_r fits_s =
-    let rest = name ∷ target_words (Power p q r s) in
-    let all : AreWords rest = (
-      IsWord-name name is,
-      (
-        literal (codes "power") refl,
-        (IsWord-decimal p (omega arith), (IsWord-decimal q (omega arith), (IsWord-decimal r (omega arith), (IsWord-decimal s (omega arith), tt)))),
-      ),
+meaning-power : (name : List ℕ) (p q r s : ℕ) (within : Option ℕ) → is_name name ≡ true → p < 2 ^ 32 → q < 2 ^ 32 → r < 2 ^ 32 → s < 2 ^ 32 →
+    IsStepOfNumber within →
+    let params : Params = record { family = Power p q r s; within = within } in
+    meaning (spaced (codes "create") (name ∷ target_words params)) ≡ Ok (Some (commands.Do (Create name params)))
+meaning-power name p q r s within is fits_p fits_q fits_r fits_s fits =
+    let rest = name ∷ target_words (record { family = Power p q r s; within = within }) in
+    let numbers : AreWords (decimal p ∷ decimal q ∷ decimal r ∷ decimal s ∷ within_words within) = (
+      IsWord-decimal p (omega arith),
+      (IsWord-decimal q (omega arith), (IsWord-decimal r (omega arith), (IsWord-decimal s (omega arith), IsWords-within within fits))),
     ) in
+    let all : AreWords rest = (IsWord-name name is, (literal (codes "power") refl, numbers)) in
     let short : length (spaced (codes "create") rest) ≤ 256 =
     omega (
       arith,
@@ -66,9 +100,25 @@ meaning-power name p q r s is fits_p fits_q fits_r fits_s =
       length-decimal_32 q fits_q,
       length-decimal_32 r fits_r,
       length-decimal_32 s fits_s,
+      width-within within fits,
     ) in
     meaning-spaced (codes "create") rest (literal (codes "create") refl) all short refl
-    ∙ rw (parameter_of-decimal p fits_p, parameter_of-decimal q fits_q, parameter_of-decimal r fits_r, parameter_of-decimal s fits_s, name_of-name name is) refl
+    ∙ rw (
+      within_word-words within,
+      parameter_of-decimal p fits_p,
+      parameter_of-decimal q fits_q,
+      parameter_of-decimal r fits_r,
+      parameter_of-decimal s fits_s,
+      within_of-word within fits,
+      name_of-name name is,
+    ) refl
+
+-- a printed `create` means its target
+meaning-create : (name : List ℕ) (family : Family) (within : Option ℕ) → is_name name ≡ true → IsFamilyOfNumbers family → IsStepOfNumber within →
+    let params : Params = record { family = family; within = within } in
+    meaning (spaced (codes "create") (name ∷ target_words params)) ≡ Ok (Some (commands.Do (Create name params)))
+meaning-create name (Exp b r s) within is fits step = meaning-exp name b r s within is fits.0 fits.1 fits.2 step
+meaning-create name (Power p q r s) within is fits step = meaning-power name p q r s within is fits.0 fits.1 fits.2 fits.3 step
 
 meaning-value : (name : List ℕ) (t : ℕ) (v : ℤ) → is_name name ≡ true → t ≤ LAST_TIME → FitsSigned w64 v →
     meaning (spaced (codes "append") (name ∷ decimal t ∷ signed_decimal v ∷ [])) ≡ Ok (Some (commands.Do (Value name t v)))
@@ -331,8 +381,7 @@ meaning-values name from to is early late =
 -- a printed command means that command
 pub meaning-printed : (command : Command) → IsSayable command → meaning (printed command) ≡ Ok (Some command)
 unfolding printed
-meaning-printed (commands.Do (Create name (Exp b r s))) sayable = meaning-exp name b r s sayable.0 sayable.1.0 sayable.1.1 sayable.1.2
-meaning-printed (commands.Do (Create name (Power p q r s))) sayable = meaning-power name p q r s sayable.0 sayable.1.0 sayable.1.1 sayable.1.2 sayable.1.3
+meaning-printed (commands.Do (Create name params)) sayable = meaning-create name params.family params.within sayable.0 sayable.1.0 sayable.1.1
 meaning-printed (commands.Do (Value name t v)) sayable = meaning-value name t v sayable.0 sayable.1 sayable.2
 meaning-printed (commands.Do (Open name t)) sayable = meaning-open name t sayable.0 sayable.1
 meaning-printed (commands.Do (Close name t)) sayable = meaning-close name t sayable.0 sayable.1

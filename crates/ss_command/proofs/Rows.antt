@@ -5,7 +5,8 @@ use Rattle.std.specs.Fmt.{digits}
 use Rattle.ss_fields.specs.Words.{is_number, number_of, number_up_to, signed_of}
 use Rattle.ss_catalog.specs.Names.{is_name}
 use Rattle.ss_catalog.specs.declared.event.Event.TheVariants.{Create, Value, Open, Close, Drop}
-use Rattle.ss_catalog.specs.declared.params.Params.TheVariants.{Exp, Power}
+use Rattle.ss_catalog.specs.Params.{exp, power}
+use Rattle.ss_catalog.specs.declared.params.Family.TheVariants.{Exp, Power}
 use Rattle.ss_catalog.specs.declared.query.End.TheVariants as ends
 use Rattle.ss_catalog.specs.declared.query.Kind.TheVariants as kinds
 use Rattle.ss_catalog.specs.declared.refusal.Refusal.{Refusal}
@@ -70,8 +71,8 @@ means-nothing = refl
 means-commands :
     map meaning (codes "create a exp 2 1 1" ∷ codes "create p power 1 0 01 4294967295" ∷ codes "append a 10 5" ∷ codes "append a 007 -0"
     ∷ codes "append a 4611686018427387904 -9223372036854775808" ∷ codes "windows a" ∷ codes "list" ∷ [])
-    ≡ Ok (Some (commands.Do (Create (codes "a") (Exp 2 1 1))))
-    ∷ Ok (Some (commands.Do (Create (codes "p") (Power 1 0 1 4294967295))))
+    ≡ Ok (Some (commands.Do (Create (codes "a") (exp 2 1 1))))
+    ∷ Ok (Some (commands.Do (Create (codes "p") (power 1 0 1 4294967295))))
     ∷ Ok (Some (commands.Do (Value (codes "a") 10 (pos 5))))
     ∷ Ok (Some (commands.Do (Value (codes "a") 7 (pos 0))))
     ∷ Ok (Some (commands.Do (Value (codes "a") 4611686018427387904 (negsuc 9223372036854775807))))
@@ -80,6 +81,18 @@ means-commands :
     ∷ []
 unfolding meaning words is_number number_of number_up_to signed_of is_name
 means-commands = refl
+
+-- the forms with a step, also with that of no target
+means-within :
+    map meaning (codes "create a exp 2 1 1 within 60" ∷ codes "create a power 1 1 1 1 within 4294967295" ∷ codes "create b exp 2 1 1 within 00060"
+    ∷ codes "create a exp 2 1 1 within 0" ∷ [])
+    ≡ Ok (Some (commands.Do (Create (codes "a") (record { family = Exp 2 1 1; within = Some 60 }))))
+    ∷ Ok (Some (commands.Do (Create (codes "a") (record { family = Power 1 1 1 1; within = Some 4294967295 }))))
+    ∷ Ok (Some (commands.Do (Create (codes "b") (record { family = Exp 2 1 1; within = Some 60 }))))
+    ∷ Ok (Some (commands.Do (Create (codes "a") (record { family = Exp 2 1 1; within = Some 0 }))))
+    ∷ []
+unfolding meaning words is_number number_of number_up_to signed_of is_name
+means-within = refl
 
 abbrev refused : Refusal → Result (Option Command) Refusal
 refused refusal = Err refusal
@@ -92,6 +105,15 @@ means-refused :
     ∷ refusals.Syntax ∷ [])
 unfolding meaning words is_number number_of number_up_to signed_of is_name
 means-refused = refl
+
+means-within_refused :
+    map meaning (codes "create a exp 2 1 1 within 4294967296" ∷ codes "create a exp 2 1 1 within -1" ∷ codes "create a! exp 2 1 1 within x"
+    ∷ codes "create a! exp 2 1 1 within 0" ∷ codes "create a! exp x 1 1 inside 5" ∷ codes "create a exp 2 1 1 within" ∷ codes "create a exp 2 1 1 withing 5"
+    ∷ codes "create a exp 2 1 1 within 5 6" ∷ codes "create a within 5 exp 2 1 1" ∷ codes "create a exp 2 1 1 5" ∷ codes "create a power 1 1 1 within 5" ∷ [])
+    ≡ map refused (refusals.Number ∷ refusals.Number ∷ refusals.Number ∷ refusals.Name ∷ refusals.Syntax ∷ refusals.Syntax ∷ refusals.Syntax
+    ∷ refusals.Syntax ∷ refusals.Syntax ∷ refusals.Syntax ∷ refusals.Syntax ∷ [])
+unfolding meaning words is_number number_of number_up_to signed_of is_name
+means-within_refused = refl
 
 means-queries :
     map meaning (codes "query a count 10 40" ∷ codes "query a sum 00 4611686018427387904" ∷ codes "query a min 5 4" ∷ codes "query a max 0 0" ∷ [])
@@ -182,11 +204,18 @@ unfolding meaning
 means-257_bytes = refl
 
 printed-commands :
-    map printed (commands.Do (Create (codes "a") (Exp 2 1 1)) ∷ commands.Do (Create (codes "p") (Power 1 0 1 4)) ∷ commands.Do (Value (codes "a") 7 (negsuc 2))
+    map printed (commands.Do (Create (codes "a") (exp 2 1 1)) ∷ commands.Do (Create (codes "p") (power 1 0 1 4)) ∷ commands.Do (Value (codes "a") 7 (negsuc 2))
     ∷ commands.Windows (codes "a") ∷ commands.List ∷ [])
     ≡ codes "create a exp 2 1 1" ∷ codes "create p power 1 0 1 4" ∷ codes "append a 7 -3" ∷ codes "windows a" ∷ codes "list" ∷ []
 unfolding printed digits
 printed-commands = refl
+
+printed-within :
+    map printed (commands.Do (Create (codes "a") (record { family = Exp 2 1 1; within = Some 1 }))
+    ∷ commands.Do (Create (codes "p") (record { family = Power 1 0 1 4; within = Some 4294967295 })) ∷ [])
+    ≡ codes "create a exp 2 1 1 within 1" ∷ codes "create p power 1 0 1 4 within 4294967295" ∷ []
+unfolding printed digits
+printed-within = refl
 
 printed-landmarks : map printed (commands.Do (Open (codes "a") 80) ∷ commands.Do (Close (codes "a") 4611686018427387904) ∷ []) ≡ codes "landmark a open 80"
     ∷ codes "landmark a close 4611686018427387904" ∷ []

@@ -1,5 +1,5 @@
 -- A command that a line means is one that a line can say.
-use Rattle.std.proofs.Common.{◌≡◌, ℕ, suc, zero, ◌-◌, ◌^◌, ◌<◌, ◌≤◌, true, false, Bool, List, [], ◌∷◌, length, Ok, Err, Some, Result, subst, refl}
+use Rattle.std.proofs.Common.{◌≡◌, ℕ, suc, zero, ◌-◌, ◌^◌, ◌<◌, ◌≤◌, true, false, Bool, List, [], ◌∷◌, length, Ok, Err, None, Option, Some, Result, subst, refl}
 use Rattle.std.proofs.Common.{arith, codes, nat_lt, if◌then◌else◌}
 use Rattle.std.proofs.lemmas.Bool.Decides.{nat_tests}
 use Rattle.std.specs.Prelude.{ℤ, pos, negsuc, FitsSigned}
@@ -11,7 +11,7 @@ use Rattle.ss_catalog.specs.Queries.{IsKindOfValues, adds_up}
 use Rattle.ss_catalog.specs.Series.{rows_in}
 use Rattle.ss_catalog.specs.declared.TheConstants.{LAST_TIME, MOST_ROWS}
 use Rattle.ss_catalog.specs.declared.event.Event.TheVariants.{Create, Value, Open, Close, Drop}
-use Rattle.ss_catalog.specs.declared.params.Params.TheVariants.{Exp, Power}
+use Rattle.ss_catalog.specs.declared.params.Family.TheVariants.{Exp, Power}
 use Rattle.ss_catalog.specs.declared.query.Kind.{Kind}
 use Rattle.ss_catalog.specs.declared.query.Kind.TheVariants as kinds
 use Rattle.ss_catalog.specs.declared.refusal.Refusal.{Refusal}
@@ -21,8 +21,8 @@ use Rattle.ss_command.specs.Grammar.{is_comment, landmark_of, last_of, list_of, 
 use Rattle.ss_command.specs.Grammar.{◌>>=◌, meaning_of_words, estimate_of, estimates_of, guessed_of, kind_of, name_of, open_of, or_number, parameter_of, power_of, query_of}
 use Rattle.ss_command.specs.Grammar.{series_of, step_of, steps_of, time_of}
 use Rattle.ss_command.specs.Grammar.{value_of}
-use Rattle.ss_command.specs.Grammar.{windows_of}
-use Rattle.ss_command.specs.Printed.{IsSayable, takes_value}
+use Rattle.ss_command.specs.Grammar.{windows_of, within_of, within_word}
+use Rattle.ss_command.specs.Printed.{IsSayable, IsStepOfNumber, takes_value}
 use Rattle.ss_command.specs.Words.{is_word, words}
 use Rattle.ss_command.specs.declared.command.Command.{Command}
 use Rattle.ss_command.specs.declared.command.Command.TheVariants as commands
@@ -83,36 +83,54 @@ value-fits word v same =
 name-is : (word name : List ℕ) → name_of word ≡ Ok name → is_name name ≡ true
 name-is word name same = grind arith
 
+-- a step that was read fits its bits
+within-step : (found : Option (List ℕ)) (within : Option ℕ) → within_of found ≡ Ok within → IsStepOfNumber within
+within-step None within same =
+    let is : None ≡ within = cc in
+    subst IsStepOfNumber is tt
+within-step (Some word) within same =
+    let step = bind-Ok (parameter_of word) _ within same in
+    let is : Some step.0 ≡ within = cc (step.2) in
+    subst IsStepOfNumber is (parameter-lt word step.0 step.1)
+
 exp-sayable : (name : List ℕ) (ws : List (List ℕ)) (c : Command) → exp_of name ws ≡ Ok c → IsSayable c
 exp-sayable name [] c same = cc
 exp-sayable name (b ∷ []) c same = cc
 exp-sayable name (b ∷ r ∷ []) c same = cc
-exp-sayable name (b ∷ r ∷ s ∷ []) c same =
-    let base = bind-Ok (parameter_of b) _ c same in
+exp-sayable name (b ∷ r ∷ s ∷ behind) c same =
+    let step = bind-Ok (within_word behind) _ c same in
+    let base = bind-Ok (parameter_of b) _ c step.2 in
     let windows = bind-Ok (parameter_of r) _ c base.2 in
     let scale = bind-Ok (parameter_of s) _ c windows.2 in
-    let stream = bind-Ok (name_of name) _ c scale.2 in
-    let is : commands.Do (Create stream.0 (Exp base.0 windows.0 scale.0)) ≡ c = cc (stream.2) in
-    subst IsSayable is (name-is name stream.0 stream.1, (parameter-lt b base.0 base.1, parameter-lt r windows.0 windows.1, parameter-lt s scale.0 scale.1))
-exp-sayable name (b ∷ r ∷ s ∷ more ∷ rest) c same = cc
+    let within = bind-Ok (within_of step.0) _ c scale.2 in
+    let stream = bind-Ok (name_of name) _ c within.2 in
+    let is : commands.Do (Create stream.0 (record { family = Exp base.0 windows.0 scale.0; within = within.0 })) ≡ c = cc (stream.2) in
+    subst IsSayable is (
+      name-is name stream.0 stream.1,
+      ((parameter-lt b base.0 base.1, parameter-lt r windows.0 windows.1, parameter-lt s scale.0 scale.1), within-step step.0 within.0 within.1),
+    )
 
 power-sayable : (name : List ℕ) (ws : List (List ℕ)) (c : Command) → power_of name ws ≡ Ok c → IsSayable c
 power-sayable name [] c same = cc
 power-sayable name (p ∷ []) c same = cc
 power-sayable name (p ∷ q ∷ []) c same = cc
 power-sayable name (p ∷ q ∷ r ∷ []) c same = cc
-power-sayable name (p ∷ q ∷ r ∷ s ∷ []) c same =
-    let power = bind-Ok (parameter_of p) _ c same in
+power-sayable name (p ∷ q ∷ r ∷ s ∷ behind) c same =
+    let step = bind-Ok (within_word behind) _ c same in
+    let power = bind-Ok (parameter_of p) _ c step.2 in
     let widening = bind-Ok (parameter_of q) _ c power.2 in
     let windows = bind-Ok (parameter_of r) _ c widening.2 in
     let scale = bind-Ok (parameter_of s) _ c windows.2 in
-    let stream = bind-Ok (name_of name) _ c scale.2 in
-    let is : commands.Do (Create stream.0 (Power power.0 widening.0 windows.0 scale.0)) ≡ c = cc (stream.2) in
+    let within = bind-Ok (within_of step.0) _ c scale.2 in
+    let stream = bind-Ok (name_of name) _ c within.2 in
+    let is : commands.Do (Create stream.0 (record { family = Power power.0 widening.0 windows.0 scale.0; within = within.0 })) ≡ c = cc (stream.2) in
     subst IsSayable is (
       name-is name stream.0 stream.1,
-      (parameter-lt p power.0 power.1, parameter-lt q widening.0 widening.1, parameter-lt r windows.0 windows.1, parameter-lt s scale.0 scale.1),
+      (
+        (parameter-lt p power.0 power.1, parameter-lt q widening.0 widening.1, parameter-lt r windows.0 windows.1, parameter-lt s scale.0 scale.1),
+        within-step step.0 within.0 within.1,
+      ),
     )
-power-sayable name (p ∷ q ∷ r ∷ s ∷ more ∷ rest) c same = cc
 
 create-sayable : (ws : List (List ℕ)) (c : Command) → create_of ws ≡ Ok c → IsSayable c
 create-sayable [] c same = cc

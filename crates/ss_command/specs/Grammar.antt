@@ -8,7 +8,7 @@ use Rattle.ss_catalog.specs.Queries.{adds_up}
 use Rattle.ss_catalog.specs.Series.{rows_in}
 use Rattle.ss_catalog.specs.declared.TheConstants.{LAST_TIME, MOST_ROWS}
 use Rattle.ss_catalog.specs.declared.event.Event.TheVariants.{Create, Value, Open, Close, Drop}
-use Rattle.ss_catalog.specs.declared.params.Params.TheVariants.{Exp, Power}
+use Rattle.ss_catalog.specs.declared.params.Family.TheVariants.{Exp, Power}
 use Rattle.ss_catalog.specs.declared.query.End.{End}
 use Rattle.ss_catalog.specs.declared.query.End.TheVariants as ends
 use Rattle.ss_catalog.specs.declared.query.Kind.{Kind}
@@ -53,25 +53,42 @@ parameter_of word = or_number (number_up_to (2 ^ 32 - 1) word)
 abbrev pub name_of : List ℕ → Result (List ℕ) Refusal
 name_of word = if is_name word then Ok word else Err refusals.Name
 
--- `create NAME exp B R S`, from B on
+-- the word of the step where `within E` stands behind the parameters of a family, where nothing else may stand
+abbrev pub within_word : List (List ℕ) → Result (Option (List ℕ)) Refusal
+within_word [] = Ok None
+within_word (word ∷ step ∷ []) = if is_word word (codes "within") then Ok (Some step) else Err refusals.Syntax
+within_word _ = Err refusals.Syntax
+
+-- a step, if there is a word of it: as a parameter
+abbrev pub within_of : Option (List ℕ) → Result (Option ℕ) Refusal
+within_of None = Ok None
+within_of (Some word) = do
+  step ← parameter_of word
+  Ok (Some step)
+
+-- `create NAME exp B R S`, from B on; also with `within E` behind it
 abbrev pub exp_of : List ℕ → List (List ℕ) → Result Command Refusal
-exp_of name (b ∷ r ∷ s ∷ []) = do
+exp_of name (b ∷ r ∷ s ∷ behind) = do
+  step ← within_word behind
   base ← parameter_of b
   windows ← parameter_of r
   scale ← parameter_of s
+  within ← within_of step
   stream ← name_of name
-  Ok (commands.Do (Create stream (Exp base windows scale)))
+  Ok (commands.Do (Create stream (record { family = Exp base windows scale; within = within })))
 exp_of name _ = Err refusals.Syntax
 
--- `create NAME power P Q R S`, from P on
+-- `create NAME power P Q R S`, from P on; also with `within E` behind it
 abbrev pub power_of : List ℕ → List (List ℕ) → Result Command Refusal
-power_of name (p ∷ q ∷ r ∷ s ∷ []) = do
+power_of name (p ∷ q ∷ r ∷ s ∷ behind) = do
+  step ← within_word behind
   power ← parameter_of p
   widening ← parameter_of q
   windows ← parameter_of r
   scale ← parameter_of s
+  within ← within_of step
   stream ← name_of name
-  Ok (commands.Do (Create stream (Power power widening windows scale)))
+  Ok (commands.Do (Create stream (record { family = Power power widening windows scale; within = within })))
 power_of name _ = Err refusals.Syntax
 
 -- a `create`, from its name on

@@ -1,5 +1,5 @@
 -- How a command is printed.
-use Rattle.std.specs.Prelude.{◌≡◌, ℕ, ◌≤◌, ◌<◌, ◌^◌, Bool, true, false, List, [], ◌∷◌, ◌++◌, fold, codes, FitsSigned}
+use Rattle.std.specs.Prelude.{◌≡◌, ℕ, ◌≤◌, ◌<◌, ◌^◌, Bool, true, false, List, [], ◌∷◌, ◌++◌, fold, codes, FitsSigned, Option, Some, None}
 use Rattle.std.specs.Fmt.{decimal, signed_decimal}
 use Rattle.std.specs.Int.{w64}
 use Rattle.ss_catalog.specs.Events.{IsInTime}
@@ -8,8 +8,9 @@ use Rattle.ss_catalog.specs.Queries.{IsKindOfValues, IsQueryInTime, adds_up, end
 use Rattle.ss_catalog.specs.Series.{IsSeriesInRange}
 use Rattle.ss_catalog.specs.declared.TheConstants.{LAST_TIME}
 use Rattle.ss_catalog.specs.declared.event.Event.TheVariants.{Create, Value, Open, Close, Drop}
+use Rattle.ss_catalog.specs.declared.params.Family.{Family}
+use Rattle.ss_catalog.specs.declared.params.Family.TheVariants.{Exp, Power}
 use Rattle.ss_catalog.specs.declared.params.Params.{Params}
-use Rattle.ss_catalog.specs.declared.params.Params.TheVariants.{Exp, Power}
 use Rattle.ss_catalog.specs.declared.query.Kind.{Kind}
 use Rattle.ss_catalog.specs.declared.query.Kind.TheVariants as kinds
 use Rattle.ss_command.specs.declared.command.Command.{Command}
@@ -19,10 +20,19 @@ use Rattle.ss_command.specs.declared.command.Command.TheVariants as commands
 abbrev pub with_word : List ℕ → List ℕ → List ℕ
 with_word text word = text ++ 32 ∷ word
 
+-- the words of a family of lengths
+abbrev pub family_words : Family → List (List ℕ)
+family_words (Exp b r s) = codes "exp" ∷ decimal b ∷ decimal r ∷ decimal s ∷ []
+family_words (Power p q r s) = codes "power" ∷ decimal p ∷ decimal q ∷ decimal r ∷ decimal s ∷ []
+
+-- the words of a step, if there is one
+abbrev pub within_words : Option ℕ → List (List ℕ)
+within_words None = []
+within_words (Some step) = codes "within" ∷ decimal step ∷ []
+
 -- the words of a target, as `create` takes them
 abbrev pub target_words : Params → List (List ℕ)
-target_words (Exp b r s) = codes "exp" ∷ decimal b ∷ decimal r ∷ decimal s ∷ []
-target_words (Power p q r s) = codes "power" ∷ decimal p ∷ decimal q ∷ decimal r ∷ decimal s ∷ []
+target_words params = family_words params.family ++ within_words params.within
 
 -- words with one space between them
 abbrev pub spaced : List ℕ → List (List ℕ) → List ℕ
@@ -65,10 +75,19 @@ printed (commands.Certify query end) =
 printed (commands.Last name) = spaced (codes "last") (name ∷ [])
 printed (commands.Values name from to) = spaced (codes "values") (name ∷ decimal from ∷ decimal to ∷ [])
 
+-- the parameters of a family fit 32 bits
+abbrev pub IsFamilyOfNumbers : Family → Type 0
+IsFamilyOfNumbers (Exp b r s) = (b < 2 ^ 32) × (r < 2 ^ 32) × (s < 2 ^ 32)
+IsFamilyOfNumbers (Power p q r s) = (p < 2 ^ 32) × (q < 2 ^ 32) × (r < 2 ^ 32) × (s < 2 ^ 32)
+
+-- so does a step, if there is one
+abbrev pub IsStepOfNumber : Option ℕ → Type 0
+IsStepOfNumber None = Unit {0}
+IsStepOfNumber (Some step) = step < 2 ^ 32
+
 -- the parameters fit 32 bits
 abbrev pub HasParameters : Params → Type 0
-HasParameters (Exp b r s) = (b < 2 ^ 32) × (r < 2 ^ 32) × (s < 2 ^ 32)
-HasParameters (Power p q r s) = (p < 2 ^ 32) × (q < 2 ^ 32) × (r < 2 ^ 32) × (s < 2 ^ 32)
+HasParameters params = IsFamilyOfNumbers params.family × IsStepOfNumber params.within
 
 -- a command that a line can say: its name is one, its numbers are in their ranges, a series takes no value, and what is certified
 -- adds up

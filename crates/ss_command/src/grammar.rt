@@ -1,18 +1,37 @@
 // What a line means.
-ghost use Rattle.std.specs.Prelude.{◌≡◌, ◌≤◌, length, codes, true, false, IfOk, IfSome};
+ghost use Rattle.std.specs.Prelude.{◌≡◌, ◌≤◌, length, codes, true, false, None, Ok, Err, Some, IfOk, IfSome, MatchOption, MatchResult};
 ghost use Rattle.ss_catalog.specs.Queries.{adds_up};
 ghost use Rattle.ss_command.specs.Grammar.{added_of, append_of, certify_of, close_of, command_of, create_of, drop_of, end_of, estimate_of, exp_of};
 ghost use Rattle.ss_command.specs.Grammar.{estimates_of, figure_of, guessed_of, has_of, is_comment, kind_of, landmark_of, last_of, list_of, meaning};
-ghost use Rattle.ss_command.specs.Grammar.{open_of, power_of, query_of, series_of, steps_of, values_of, windows_of};
+ghost use Rattle.ss_command.specs.Grammar.{open_of, power_of, query_of, series_of, steps_of, values_of, windows_of, within_word};
 ghost use Rattle.ss_command.specs.Printed.{IsCommandInTime, IsSayable, takes_value};
 
 use crate::command::Command;
-use crate::numbers::{read_name, read_parameter, read_step, read_time, read_value};
+use crate::numbers::{read_name, read_parameter, read_step, read_time, read_value, read_within};
 use crate::words::{Words, is_word};
 use crate::{COMMENT, LONGEST_LINE};
-use ss_catalog::{End, Event, Kind, Params, Query, Refusal, Series};
+use ss_catalog::{End, Event, Family, Kind, Params, Query, Refusal, Series};
 
-// Reads `create NAME exp B R S`, from B on.
+// The word of the step where `within E` stands behind the parameters of a family. Nothing else may stand there.
+fn within_word<'a>(mut words: Words<'a>) -> Result<Option<&'a [u8]>, Refusal>
+    ensures { MatchResult result (λ found. MatchOption found (within_word words.entry ≡ Ok None) (λ step. within_word words.entry ≡ Ok (Some step.now)))
+        (λ refusal. within_word words.entry ≡ Err refusal) }
+{
+    match words.next() {
+        None => Ok(None),
+        Some(word) => {
+            let step = words.word()?;
+            words.end()?;
+            if is_word(word, "within") {
+                Ok(Some(step))
+            } else {
+                Err(Refusal::Syntax)
+            }
+        }
+    }
+}
+
+// Reads `create NAME exp B R S`, from B on, also with `within E` behind it.
 fn exp(name: &[u8], mut words: Words) -> Result<Command, Refusal>
     ensures meaning { result ≡ exp_of name.now words.entry }
     ensures time { IfOk result IsCommandInTime }
@@ -20,16 +39,18 @@ fn exp(name: &[u8], mut words: Words) -> Result<Command, Refusal>
     let base = words.word()?;
     let repeat = words.word()?;
     let scale = words.word()?;
-    words.end()?;
+    let step = within_word(words)?;
     let b = read_parameter(base)?;
     let r = read_parameter(repeat)?;
     let s = read_parameter(scale)?;
+    let within = read_within(step)?;
     let name = read_name(name)?;
-    let params = Params::Exp { b, r, s };
+    let family = Family::Exp { b, r, s };
+    let params = Params { family, within };
     Ok(Command::Do(Event::Create { name, params }))
 }
 
-// Reads `create NAME power P Q R S`, from P on.
+// Reads `create NAME power P Q R S`, from P on, also with `within E` behind it.
 fn power(name: &[u8], mut words: Words) -> Result<Command, Refusal>
     ensures meaning { result ≡ power_of name.now words.entry }
     ensures time { IfOk result IsCommandInTime }
@@ -38,13 +59,15 @@ fn power(name: &[u8], mut words: Words) -> Result<Command, Refusal>
     let widening = words.word()?;
     let repeat = words.word()?;
     let scale = words.word()?;
-    words.end()?;
+    let step = within_word(words)?;
     let p = read_parameter(power)?;
     let q = read_parameter(widening)?;
     let r = read_parameter(repeat)?;
     let s = read_parameter(scale)?;
+    let within = read_within(step)?;
     let name = read_name(name)?;
-    let params = Params::Power { p, q, r, s };
+    let family = Family::Power { p, q, r, s };
+    let params = Params { family, within };
     Ok(Command::Do(Event::Create { name, params }))
 }
 

@@ -1,8 +1,8 @@
 // Words that are to be numbers or names.
-ghost use Rattle.std.specs.Prelude.{◌≡◌, ◌<◌, ◌≤◌, ◌^◌, ◌-◌, IfOk};
+ghost use Rattle.std.specs.Prelude.{◌≡◌, ◌<◌, ◌≤◌, ◌^◌, ◌-◌, None, Some, IfOk, MatchOption};
 ghost use Rattle.ss_catalog.specs.Series.{rows_in};
 ghost use Rattle.ss_fields.specs.Words.{number_up_to};
-ghost use Rattle.ss_command.specs.Grammar.{or_number, time_of, step_of, value_of, parameter_of, name_of};
+ghost use Rattle.ss_command.specs.Grammar.{or_number, time_of, step_of, value_of, parameter_of, name_of, within_of};
 
 use ss_catalog::{LAST_TIME, MOST_ROWS, Name, Refusal, rows_in};
 use ss_fields::{read_i64, read_u64};
@@ -59,6 +59,16 @@ pub fn read_parameter(word: &[u8]) -> Result<u32, Refusal>
     match read_up_to(word, u64::from(u32::MAX)) {
         Ok(number) => Ok(number as u32),
         Err(refusal) => Err(refusal),
+    }
+}
+
+/// The step of the clock, if there is a word of it.
+pub fn read_within(word: Option<&[u8]>) -> Result<Option<u32>, Refusal>
+    ensures { MatchOption word.entry (result ≡ within_of None) (λ found. result ≡ within_of (Some found.now)) }
+{
+    match word {
+        None => Ok(None),
+        Some(word) => Ok(Some(read_parameter(word)?)),
     }
 }
 

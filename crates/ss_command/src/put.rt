@@ -3,10 +3,11 @@ ghost use Rattle.std.specs.Prelude.{◌≡◌, ◌≤◌, ◌+◌, length, true}
 ghost use Rattle.std.specs.Fmt.{decimal, signed_decimal};
 ghost use Rattle.ss_catalog.specs.Names.{is_name};
 ghost use Rattle.ss_catalog.specs.Queries.{IsKindOfValues, end_name, kind_name};
-ghost use Rattle.ss_command.specs.Printed.{HasParameters, kind_words, spaced, target_words, with_word};
+ghost use Rattle.ss_command.specs.Printed.{HasParameters, IsFamilyOfNumbers, IsStepOfNumber, family_words, kind_words, spaced, target_words, with_word};
+ghost use Rattle.ss_command.specs.Printed.{within_words};
 
 use arrayvec::ArrayString;
-use ss_catalog::{End, Kind, Name, Params};
+use ss_catalog::{End, Family, Kind, Name, Params};
 use ss_fields::{print_i64, print_i128, print_u64};
 
 /// Adds a space and a name.
@@ -84,21 +85,21 @@ pub fn put_sum(sum: i128, out: &mut ArrayString<256>)
     print_i128(sum, out);
 }
 
-/// Adds a target as `create` takes it, with a space before each of its words.
-pub fn put_target(params: &Params, out: &mut ArrayString<256>)
+// Adds a family of lengths, with a space before each of its words.
+fn put_family(family: &Family, out: &mut ArrayString<256>)
     requires { length out.old.bytes + 110 ≤ 256 }
-    ensures bytes { out.new.bytes ≡ spaced out.old.bytes (target_words params.now) }
+    ensures bytes { out.new.bytes ≡ spaced out.old.bytes (family_words family.now) }
     ensures short { length out.new.bytes ≤ length out.old.bytes + 90 }
-    ensures parameters { HasParameters params.now }
+    ensures parameters { IsFamilyOfNumbers family.now }
 {
-    match *params {
-        Params::Exp { b, r, s } => {
+    match *family {
+        Family::Exp { b, r, s } => {
             out.push_str(" exp");
             put_number(u64::from(b), out);
             put_number(u64::from(r), out);
             put_number(u64::from(s), out);
         }
-        Params::Power { p, q, r, s } => {
+        Family::Power { p, q, r, s } => {
             out.push_str(" power");
             put_number(u64::from(p), out);
             put_number(u64::from(q), out);
@@ -106,4 +107,31 @@ pub fn put_target(params: &Params, out: &mut ArrayString<256>)
             put_number(u64::from(s), out);
         }
     }
+}
+
+// Adds a step of the clock, if there is one, with a space before each of its words.
+fn put_within(within: Option<u32>, out: &mut ArrayString<256>)
+    requires { length out.old.bytes + 48 ≤ 256 }
+    ensures bytes { out.new.bytes ≡ spaced out.old.bytes (within_words within) }
+    ensures short { length out.new.bytes ≤ length out.old.bytes + 28 }
+    ensures step { IsStepOfNumber within }
+{
+    match within {
+        None => {}
+        Some(step) => {
+            out.push_str(" within");
+            put_number(u64::from(step), out);
+        }
+    }
+}
+
+/// Adds a target as `create` takes it, with a space before each of its words.
+pub fn put_target(params: &Params, out: &mut ArrayString<256>)
+    requires { length out.old.bytes + 138 ≤ 256 }
+    ensures bytes { out.new.bytes ≡ spaced out.old.bytes (target_words params.now) }
+    ensures short { length out.new.bytes ≤ length out.old.bytes + 118 }
+    ensures parameters { HasParameters params.now }
+{
+    put_family(&params.family, out);
+    put_within(params.within, out);
 }

@@ -1,7 +1,7 @@
 -- The commands of a generated command file.
 use Rattle.std.specs.Prelude.{ℕ, zero, suc, ◌+◌, ◌*◌, ◌/◌, ◌%◌, ◌==◌, ℤ, List, [], ◌∷◌, ◌++◌, codes, if◌then◌else◌}
 use Rattle.ss_catalog.specs.declared.event.Event.TheVariants.{Create, Value, Open, Close}
-use Rattle.ss_catalog.specs.declared.params.Params.TheVariants.{Power}
+use Rattle.ss_catalog.specs.Params.{power}
 use Rattle.ss_catalog.specs.declared.query.Kind.{Kind}
 use Rattle.ss_catalog.specs.declared.query.Kind.TheVariants as kinds
 use Rattle.ss_command.specs.declared.command.Command.{Command}
@@ -15,7 +15,7 @@ stream = codes "g"
 
 -- `create g power 1 1 4 1`
 abbrev pub create : Command
-create = command.Do (Create stream (Power 1 1 4 1))
+create = command.Do (Create stream (power 1 1 4 1))
 
 -- `landmark g open T`, where round i opens a landmark
 abbrev pub opening : ℕ → ℕ → List Command

@@ -8,7 +8,7 @@ ghost use Rattle.ss_generator.specs.Commands.{ask, create, stream};
 ghost use Rattle.ss_generator.specs.Left.{from_question};
 
 use crate::phase::Question;
-use ss_catalog::{Event, Kind, LAST_TIME, Name, Params, Query};
+use ss_catalog::{Event, Family, Kind, LAST_TIME, Name, Params, Query};
 use ss_command::Command;
 
 // The stream of all commands.
@@ -28,11 +28,15 @@ pub fn create() -> Command
     ensures time { IsCommandInTime result }
     ensures sayable { IsSayable result }
 {
-    let params = Params::Power {
+    let family = Family::Power {
         p: 1,
         q: 1,
         r: 4,
         s: 1,
+    };
+    let params = Params {
+        family,
+        within: None,
     };
     Command::Do(Event::Create {
         name: stream(),

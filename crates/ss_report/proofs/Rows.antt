@@ -4,7 +4,8 @@ use Rattle.std.specs.Prelude.{ℤ, codes, pos, negsuc, replicate}
 use Rattle.std.specs.Fmt.{digits}
 use Rattle.ss_bounds.specs.declared.extreme.Extreme.TheVariants.{Nothing, Sure, Maybe}
 use Rattle.ss_catalog.specs.declared.query.Kind.TheVariants as kinds
-use Rattle.ss_catalog.specs.declared.params.Params.TheVariants.{Exp}
+use Rattle.ss_catalog.specs.Params.{exp}
+use Rattle.ss_catalog.specs.declared.params.Family.TheVariants.{Exp, Power}
 use Rattle.ss_catalog.specs.declared.event.Event.TheVariants as events
 use Rattle.ss_catalog.specs.declared.refusal.Refusal.TheVariants as refusals
 use Rattle.hex.specs.Hex.{encode_with}
@@ -66,17 +67,37 @@ replies-windows = refl
 replies-streams :
     map reply_line
     (ListHead 1
-    ∷ Stream (record { id = record { 0 = 0 }; name = codes "a"; params = Exp 2 1 1; n = 7; k = 3; landmarks = 0; values = 0 })
+    ∷ Stream (record { id = record { 0 = 0 }; name = codes "a"; params = exp 2 1 1; n = 7; k = 3; landmarks = 0; values = 0 })
     ∷ [])
     ≡ map ended (codes "list 1" ∷ codes "a exp 2 1 1 7 3 0 0" ∷ [])
 unfolding digits
 replies-streams = refl
 
+-- a step behind the target
+replies-within :
+    map reply_line
+    (Stream
+    (record { id = record { 0 = 0 }; name = codes "a"; params = record { family = Exp 2 1 1; within = Some 60 }; n = 7; k = 4; landmarks = 0; values = 0 })
+    ∷ Stream
+    (record {
+      id = record { 0 = 1 };
+      name = codes "p";
+      params = record { family = Power 1 0 1 4; within = Some 4294967295 };
+      n = 7;
+      k = 3;
+      landmarks = 1;
+      values = 1;
+    })
+    ∷ [])
+    ≡ map ended (codes "a exp 2 1 1 within 60 7 4 0 0" ∷ codes "p power 1 0 1 4 within 4294967295 7 3 1 1" ∷ [])
+unfolding digits
+replies-within = refl
+
 -- each number in its own place
 replies-places :
     map reply_line
     (Window (record { first = 5; last = 6; summary = record { count = 2; sum = pos 11; min = pos 3; max = pos 8; t_first = 50; t_last = 60; filter = full } })
-    ∷ Stream (record { id = record { 0 = 9 }; name = codes "a"; params = Exp 2 1 1; n = 7; k = 3; landmarks = 4; values = 5 })
+    ∷ Stream (record { id = record { 0 = 9 }; name = codes "a"; params = exp 2 1 1; n = 7; k = 3; landmarks = 4; values = 5 })
     ∷ [])
     ≡ map ended (codes "5 6 2 11 3 8 50 60" ∷ codes "a exp 2 1 1 7 3 4 5" ∷ [])
 unfolding digits
@@ -133,7 +154,7 @@ zeros count = replicate count 48
 -- the frame of the stream `a` with `exp 2 1 1`, and those of its first two values, 5 at the time 10 and -3 at 20
 replies-frames :
     map reply_line
-    (Framed (record { number = 1; event = events.Create (codes "a") (Exp 2 1 1) })
+    (Framed (record { number = 1; event = events.Create (codes "a") (exp 2 1 1) })
     ∷ Framed (record { number = 2; event = events.Value (codes "a") 10 (pos 5) })
     ∷ Framed (record { number = 3; event = events.Value (codes "a") 20 (negsuc 2) })
     ∷ [])

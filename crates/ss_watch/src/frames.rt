@@ -1,7 +1,7 @@
 // Why the bytes of a piece are no frame, and what stands between a frame and its stream, in words.
 use crate::reasons::{name_of_event, params};
-use ss_catalog::{LAST_TIME, LONGEST_NAME, Name, Params};
-use ss_frames::{CLOSE, CONTENT, CREATE, FRAME_SIZE, Frame, NAME, NUMBER, OPEN};
+use ss_catalog::{Family, LAST_TIME, LONGEST_NAME, Name, Params};
+use ss_frames::{CLOSE, CONTENT, CREATE, FRAME_SIZE, Frame, NAME, NUMBER, OPEN, STEP};
 use std::alloc::{AllocError, Global};
 
 // The byte at a place.
@@ -76,12 +76,18 @@ fn head_reason(alloc: Global, piece: &[u8]) -> Option<Result<String, AllocError>
 fn name_reason(alloc: Global, piece: &[u8]) -> Option<Result<String, AllocError>> {
     let end = NAME.saturating_add(usize::from(byte_at(piece, 2)));
     let name = piece.get(NAME..end).unwrap_or(&[]);
+    // Only a create has a step.
+    let head = if byte_at(piece, 0) == CREATE {
+        STEP
+    } else {
+        NUMBER
+    };
     if Name::of(name).is_none() {
         Some(String::from_str(
             alloc,
             "its name has more in it than letters, digits, _, - and .",
         ))
-    } else if !are_zeros(piece.get(3..NUMBER).unwrap_or(&[]))
+    } else if !are_zeros(piece.get(3..head).unwrap_or(&[]))
         || !are_zeros(piece.get(end..CONTENT).unwrap_or(&[]))
     {
         Some(String::from_str(
@@ -113,33 +119,34 @@ fn number_reason(alloc: Global, piece: &[u8]) -> Option<Result<String, AllocErro
     }
 }
 
-// Why the target of a create fits no frame.
+// Why the target of a create fits no frame. Any step does.
 fn target_reason(alloc: Global, piece: &[u8]) -> Result<String, AllocError> {
     let (first, second) = (parameter_at(piece, 0), parameter_at(piece, 1));
     let (third, fourth) = (parameter_at(piece, 2), parameter_at(piece, 3));
-    if byte_at(piece, 1) == 2 {
-        return params(
-            alloc,
-            &Params::Power {
-                p: first,
-                q: second,
-                r: third,
-                s: fourth,
-            },
-        );
-    }
-    if fourth != 0 {
+    let family = if byte_at(piece, 1) == 2 {
+        Family::Power {
+            p: first,
+            q: second,
+            r: third,
+            s: fourth,
+        }
+    } else if fourth != 0 {
         return String::from_str(
             alloc,
             "the target exp has three parameters, and its last four bytes aren't zeros",
         );
-    }
-    params(
-        alloc,
-        &Params::Exp {
+    } else {
+        Family::Exp {
             b: first,
             r: second,
             s: third,
+        }
+    };
+    params(
+        alloc,
+        &Params {
+            family,
+            within: None,
         },
     )
 }

@@ -18,10 +18,15 @@ enum Number {
 // A cursor gives at most so many rows at once.
 const MOST_AT_ONCE: u64 = 1000;
 
-// What the number at a place of a command stands for, where one stands there: of a query also by what it asks for. Places
-// are counted from 0.
+// Where `within` stands behind a target of a family.
+fn place_of_within(family: &str) -> usize {
+    if family == "power" { 7 } else { 6 }
+}
+
+// What the number at a place of a command stands for, where one stands there: of a query also by what it asks for, and of a create by
+// its family. Places are counted from 0.
 fn number_at(verb: &str, asked: &str, place: usize) -> Option<Number> {
-    if verb == "create" && place >= 3 {
+    if verb == "create" && place >= 3 && place != place_of_within(asked) {
         Some(Number::Parameter)
     } else if (verb == "append" || verb == "query" && asked == "has") && place == 3 {
         Some(Number::Value)

@@ -5,7 +5,7 @@ use crate::speaker::{Speaker, is_of_cursor};
 use crate::syntax::{syntax, syntax_of_cursor};
 use crate::words::{shown, word_at, words_of};
 use ss_catalog::{
-    Event, GREATEST_BASE, GREATEST_POWER, GREATEST_SCALE, GREATEST_WIDENING, LONGEST_NAME,
+    Event, Family, GREATEST_BASE, GREATEST_POWER, GREATEST_SCALE, GREATEST_WIDENING, LONGEST_NAME,
     MOST_STREAMS, Name, Params, Refusal,
 };
 use ss_command::{Command, LONGEST_LINE};
@@ -96,15 +96,20 @@ fn outside(
 
 // The first parameter that is out of its range.
 fn first_outside(params: &Params) -> Option<(&'static str, u32, u32, u32)> {
-    match *params {
-        Params::Exp { b, r, s } => outside("B", b, 2, GREATEST_BASE)
+    let of_family = match params.family {
+        Family::Exp { b, r, s } => outside("B", b, 2, GREATEST_BASE)
             .or(outside("R", r, 1, GREATEST_SCALE))
             .or(outside("S", s, 1, GREATEST_SCALE)),
-        Params::Power { p, q, r, s } => outside("P", p, 1, GREATEST_POWER)
+        Family::Power { p, q, r, s } => outside("P", p, 1, GREATEST_POWER)
             .or(outside("Q", q, 0, GREATEST_WIDENING))
             .or(outside("R", r, 1, GREATEST_SCALE))
             .or(outside("S", s, 1, GREATEST_SCALE)),
-    }
+    };
+    of_family.or(
+        params
+            .within
+            .and_then(|step| outside("E", step, 1, u32::MAX)),
+    )
 }
 
 /// Why no target has these parameters.

@@ -27,12 +27,30 @@ fn unlike(
     format!(in alloc; "{form} has {wanted} {noun}, and this line has {found}")
 }
 
+// A form of a create has another number of words, or another word than `within` stands behind it.
+fn unlike_target(
+    alloc: Global,
+    form: &str,
+    wanted: usize,
+    words: &[&str],
+) -> Result<String, AllocError> {
+    let found = words.len();
+    let with_step = wanted.saturating_add(2);
+    if found == with_step {
+        let other = word_at(words, wanted);
+        return format!(in alloc; "\"{other}\" isn't within: {form} within E");
+    }
+    format!(in alloc;
+        "{form} has {wanted} words, or {with_step} with within E, and this line has {found}"
+    )
+}
+
 fn create(alloc: Global, words: &[&str]) -> Result<String, AllocError> {
     let family = word_at(words, 2);
     if family == "exp" {
-        unlike(alloc, "create NAME exp B R S", 6, words, CREATE)
+        unlike_target(alloc, "create NAME exp B R S", 6, words)
     } else if family == "power" {
-        unlike(alloc, "create NAME power P Q R S", 7, words, CREATE)
+        unlike_target(alloc, "create NAME power P Q R S", 7, words)
     } else if family == "" {
         format!(in alloc; "a create is {CREATE}")
     } else {
