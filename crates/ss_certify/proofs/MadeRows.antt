@@ -4,7 +4,7 @@ use Rattle.std.proofs.Common.{refl}
 use Rattle.std.specs.Fmt.{digits}
 use Rattle.ss_bounds.specs.Attained.{greatest_sum_at, least_sum_at}
 use Rattle.ss_bounds.specs.Split.{sum_interval}
-use Rattle.ss_catalog.specs.declared.params.Params.TheVariants.{Exp}
+use Rattle.ss_catalog.specs.Params.{exp}
 use Rattle.ss_catalog.specs.declared.query.End.{End}
 use Rattle.ss_catalog.specs.declared.query.End.TheVariants.{Lo, Hi}
 use Rattle.ss_catalog.specs.declared.query.Kind.{Kind}
@@ -30,7 +30,7 @@ window first count sum min max t_first t_last = record {
 }
 
 abbrev stream : List Window → List Landmark → Stream
-stream windows landmarks = record { number = 0; name = codes "a"; params = Exp 2 1 1; windows = windows; landmarks = landmarks }
+stream windows landmarks = record { number = 0; name = codes "a"; params = exp 2 1 1; windows = windows; landmarks = landmarks }
 
 -- what is made for an end of an answer over a range
 abbrev made : Stream → Kind → End → ℕ → ℕ → Evidence

@@ -6,7 +6,7 @@ use Rattle.std.proofs.lemmas.List.Elements.{All-cons, All-head, All-nil, All-tai
 use Rattle.ss_bounds.specs.Split.{SplitFigures, sum_interval}
 use Rattle.ss_windowing.specs.Windowing.{window_index}
 use Rattle.ss_catalog.specs.declared.event.Event.TheVariants.{Create, Value}
-use Rattle.ss_catalog.specs.declared.params.Params.TheVariants.{Exp}
+use Rattle.ss_catalog.specs.Params.{exp}
 use Rattle.ss_catalog.specs.declared.query.End.TheVariants.{Lo, Hi}
 use Rattle.ss_catalog.specs.declared.query.Kind.{Kind}
 use Rattle.ss_catalog.specs.declared.query.Kind.TheVariants as kinds
@@ -39,7 +39,7 @@ a = codes "a"
 -- seven values, whose windows are those of positions 1 to 4, 5 to 6, and 7
 abbrev history : List Happened
 history = map added (
-    Create a (Exp 2 1 1) ∷ Value a 10 (pos 5) ∷ Value a 20 (negsuc 2) ∷ Value a 30 (pos 8) ∷ Value a 40 (pos 1)
+    Create a (exp 2 1 1) ∷ Value a 10 (pos 5) ∷ Value a 20 (negsuc 2) ∷ Value a 30 (pos 8) ∷ Value a 40 (pos 1)
     ∷ Value a 50 (pos 9) ∷ Value a 60 (pos 2) ∷ Value a 70 (pos 7) ∷ [])
 
 -- the filter of these words
@@ -50,7 +50,7 @@ abbrev readings : Stream
 readings = record {
   number = 0;
   name = a;
-  params = Exp 2 1 1;
+  params = exp 2 1 1;
   windows =
       record {
         first = 1;

@@ -1,7 +1,7 @@
 -- Worked rows, computed: what lines of sessions say, and the cursors after a few calls.
 use Rattle.std.proofs.Common.{◌≡◌, ℕ, List, [], ◌∷◌, map, Some, None, Ok, Err, refl}
 use Rattle.std.specs.Prelude.{codes}
-use Rattle.ss_catalog.specs.declared.params.Params.TheVariants.{Exp}
+use Rattle.ss_catalog.specs.Params.{exp}
 use Rattle.ss_catalog.specs.declared.refusal.Refusal.TheVariants as refusals
 use Rattle.ss_catalog.specs.Names.{is_name}
 use Rattle.ss_command.specs.Grammar.{meaning}
@@ -91,7 +91,7 @@ as_refusals = refl
 
 -- whether the session has a cursor matters where the stream stands alone
 bare : List Stream
-bare = record { number = 0; name = codes "a"; params = Exp 2 1 1; windows = []; landmarks = [] } ∷ []
+bare = record { number = 0; name = codes "a"; params = exp 2 1 1; windows = []; landmarks = [] } ∷ []
 
 standing : map (refuses_cursor bare (codes "a")) (None ∷ Some [] ∷ []) ≡ None ∷ Some refusals.Busy ∷ []
 unfolding refuses_cursor bare
