@@ -7,7 +7,7 @@ use Rattle.ss_arguments.specs.declared.mode.Mode.TheVariants.{Serve, Check, Gen}
 use Rattle.ss_arguments.specs.declared.mode.Sealing.TheVariants.{Each}
 use Rattle.ss_catalog.specs.Names.{is_name}
 use Rattle.ss_catalog.specs.declared.event.Event.TheVariants.{Create, Value}
-use Rattle.ss_catalog.specs.declared.params.Params.TheVariants.{Exp}
+use Rattle.ss_catalog.specs.Params.{exp}
 use Rattle.ss_command.specs.Grammar.{meaning}
 use Rattle.ss_command.specs.Lines.{ended_lines, unended}
 use Rattle.ss_command.specs.Words.{words}
@@ -32,7 +32,7 @@ use Rattle.ss_program.proofs.ChainLemmas.{extends-linked}
 
 -- a stream and its first value, and one more value
 abbrev created : Happened
-created = added (Create (codes "a") (Exp 2 1 1))
+created = added (Create (codes "a") (exp 2 1 1))
 
 abbrev ten : Happened
 ten = added (Value (codes "a") 10 (pos 5))

@@ -1,6 +1,6 @@
 -- What is written where frames are written, and what comes of it where it is followed.
 use Rattle.std.proofs.Common.{◌≡◌, ◌∙◌, ◌++◌, ◌<◌, ◌^◌, ℕ, List, [], ◌∷◌, Option, Some, None, Result, Ok, Err, Bool, true, false, map, refl, sym, ap}
-use Rattle.std.proofs.Common.{append_assoc, subst}
+use Rattle.std.proofs.Common.{append_assoc, arith, subst}
 use Rattle.std.specs.Prelude.{All, flat_map, if◌then◌else◌, IfSome}
 use Rattle.std.proofs.lemmas.Grind.{flat_map-append}
 use Rattle.std.proofs.lemmas.List.{append-nil}
@@ -9,12 +9,13 @@ use Rattle.ss_arguments.specs.declared.mode.Form.{Form}
 use Rattle.ss_arguments.specs.declared.mode.Form.TheVariants.{Lines, Sessions, Frames, Follow}
 use Rattle.ss_catalog.specs.Events.{event_name}
 use Rattle.ss_catalog.specs.Names.{is_name}
+use Rattle.ss_catalog.specs.Params.{step_number}
 use Rattle.ss_catalog.specs.declared.event.Event.{Event}
 use Rattle.ss_catalog.specs.declared.event.Event.TheVariants.{Create, Value, Open, Close, Drop}
 use Rattle.ss_catalog.specs.declared.refusal.Refusal.{Refusal}
 use Rattle.ss_command.proofs.SayLemmas.{meant-sayable}
 use Rattle.ss_command.specs.Grammar.{meaning}
-use Rattle.ss_command.specs.Printed.{IsSayable}
+use Rattle.ss_command.specs.Printed.{IsSayable, IsStepOfNumber}
 use Rattle.ss_command.specs.declared.command.Command.{Command}
 use Rattle.ss_command.specs.declared.command.Command.TheVariants.{Do, Ask, Certify, Series as AskRows, Last, Values, Windows, List as ListAll}
 use Rattle.ss_frames.proofs.FrameLemmas.{IsValidFrame-test, frame_in-spelling}
@@ -29,7 +30,7 @@ use Rattle.ss_replica.proofs.FramingLemmas.{checked-last}
 use Rattle.ss_replica.proofs.FrontLemmas.{due-frame}
 use Rattle.ss_replica.specs.Fronts.{drops_none}
 use Rattle.ss_replica.specs.Offers.{Outcome, added_event, after_offer, after_offers, due_in, next_offered, offered, offered_as, offers}
-use Rattle.ss_replica.specs.Own.{event_frame, frame_of}
+use Rattle.ss_replica.specs.Own.{event_frame, frame_of, step_of_event}
 use Rattle.ss_replica.specs.declared.judging.Due.{Due}
 use Rattle.ss_replica.specs.declared.judging.Due.TheVariants.{Next, Old as OldFrame, Gap as GapBehind}
 use Rattle.ss_report.specs.Text.{reply_line}
@@ -176,16 +177,20 @@ followed talk history (frame ∷ frames) is same valid =
 
 -- ---- what is written is followed
 
--- the events of lines have names
+-- the events of lines have names, and the steps of streams are numbers of 32 bits
 abbrev IsNamed : Event → Type 0
-IsNamed event = is_name (event_name event) ≡ true
+IsNamed event = (is_name (event_name event) ≡ true) × (step_of_event event < 2 ^ 32)
+
+small-step : (within : Option ℕ) → IsStepOfNumber within → step_number within < 2 ^ 32
+small-step None small = omega arith
+small-step (Some step) small = small
 
 sayable-named : (event : Event) → IsSayable (Do event) → IsNamed event
-sayable-named (Create name params) sayable = sayable.0
-sayable-named (Value name t v) sayable = sayable.0
-sayable-named (Open name t) sayable = sayable.0
-sayable-named (Close name t) sayable = sayable.0
-sayable-named (Drop name) sayable = sayable
+sayable-named (Create name params) sayable = (sayable.0, small-step params.within sayable.1.1)
+sayable-named (Value name t v) sayable = (sayable.0, omega arith)
+sayable-named (Open name t) sayable = (sayable.0, omega arith)
+sayable-named (Close name t) sayable = (sayable.0, omega arith)
+sayable-named (Drop name) sayable = (sayable, omega arith)
 
 writing-named : (talk : Talk) (event : Event) (frame : Option FrameState) → IsNamed event → IfSome (writing talk event frame).event IsNamed
 writing-named talk event None named = tt
@@ -231,7 +236,7 @@ valid-frame : (history : History) (event : Event) → IsNamed event → drops_no
 valid-frame history event named kept whole few =
     let frame = frame_of history event in
     IsValidFrame-test frame.number event
-    (tested (is_valid_frame frame.number event) frame frame (checked-last history event whole named few ∙ some-frame history event kept))
+    (tested (is_valid_frame frame.number event) frame frame (checked-last history event whole named.0 named.1 few ∙ some-frame history event kept))
 
 after-frame : (history : History) (event : Event) → drops_none event ≡ true → IsHistory (history ++ added event ∷ []) →
     after_offer history (frame_of history event) ≡ history ++ added event ∷ []

@@ -21,6 +21,8 @@ pub mod OpeningLemmas
 pub mod EndLemmas
 pub mod GenerateLemmas
 pub mod LawLemmas
+pub mod WholeLemmas
+pub mod WithinRows
 pub mod UnknownLemmas
 pub mod NewestLaws
 pub mod HeardLemmas

@@ -5,7 +5,7 @@ use Rattle.std.specs.Fmt.{digits}
 use Rattle.ss_arguments.specs.declared.mode.Form.TheVariants.{Sessions}
 use Rattle.ss_catalog.specs.Names.{is_name}
 use Rattle.ss_catalog.specs.declared.event.Event.TheVariants.{Create, Value, Open, Close, Drop}
-use Rattle.ss_catalog.specs.declared.params.Params.TheVariants.{Exp}
+use Rattle.ss_catalog.specs.Params.{exp}
 use Rattle.ss_command.specs.Grammar.{meaning}
 use Rattle.ss_command.specs.Lines.{ended_lines, lines, unended}
 use Rattle.ss_command.specs.Words.{words}
@@ -24,7 +24,7 @@ use Rattle.ss_program.specs.Session.{accepted, report}
 use Rattle.ss_program.specs.Talk.{begun, plain}
 
 -- a create makes its stream, a list names none, and each other command needs one
-needed-create : needed (Do (Create (codes "a") (Exp 2 1 1))) ≡ None
+needed-create : needed (Do (Create (codes "a") (exp 2 1 1))) ≡ None
 needed-create = refl
 
 needed-list : needed ListAll ≡ None
@@ -45,7 +45,7 @@ text ls = flat_map (λ line. line ++ 10 ∷ []) ls
 
 -- a stream and two readings
 abbrev history : List Happened
-history = map added (Create (codes "a") (Exp 2 1 1) ∷ Value (codes "a") 10 (pos 5) ∷ Value (codes "a") 20 (negsuc 2) ∷ [])
+history = map added (Create (codes "a") (exp 2 1 1) ∷ Value (codes "a") 10 (pos 5) ∷ Value (codes "a") 20 (negsuc 2) ∷ [])
 
 -- once it is dropped each command is refused for that, whatever else there is against it, and a line that says none for what is wrong in it
 abbrev commands : List ℕ
@@ -80,7 +80,7 @@ unfolding ended_lines unended meaning words is_number number_of number_up_to sig
 report-cursors = refl
 
 -- what a stream has since its last create
-values-anew : values_of (history ++ map added (Drop (codes "a") ∷ Create (codes "a") (Exp 2 1 1) ∷ Value (codes "a") 5 (pos 1) ∷ [])) (codes "a")
+values-anew : values_of (history ++ map added (Drop (codes "a") ∷ Create (codes "a") (exp 2 1 1) ∷ Value (codes "a") 5 (pos 1) ∷ [])) (codes "a")
     ≡ (5, pos 1, New) ∷ []
 values-anew = refl
 

@@ -6,7 +6,7 @@ use Rattle.std.proofs.lemmas.List.Elements.{All-cons, All-nil}
 use Rattle.ss_catalog.specs.Names.{is_name}
 use Rattle.ss_catalog.specs.declared.event.Event.TheVariants.{Create, Value, Drop}
 use Rattle.ss_catalog.specs.declared.params.Params.{Params}
-use Rattle.ss_catalog.specs.declared.params.Params.TheVariants.{Exp}
+use Rattle.ss_catalog.specs.Params.{exp}
 use Rattle.ss_catalog.specs.declared.refusal.Refusal.{Refusal}
 use Rattle.ss_catalog.specs.declared.refusal.Refusal.TheVariants as refusal
 use Rattle.ss_command.specs.Grammar.{meaning}
@@ -75,7 +75,7 @@ report-readings = refl
 -- their events
 abbrev history : List Happened
 history = map added (
-    Create (codes "a") (Exp 2 1 1) ∷ Value (codes "a") 10 (pos 5) ∷ Value (codes "a") 20 (negsuc 2) ∷ Value (codes "a") 30 (pos 8)
+    Create (codes "a") (exp 2 1 1) ∷ Value (codes "a") 10 (pos 5) ∷ Value (codes "a") 20 (negsuc 2) ∷ Value (codes "a") 30 (pos 8)
     ∷ Value (codes "a") 40 (pos 1) ∷ Value (codes "a") 50 (pos 9) ∷ Value (codes "a") 60 (pos 2) ∷ Value (codes "a") 70 (pos 7) ∷ [])
 
 accepted-readings : accepted (plain []) (lines readings) ≡ history
@@ -95,7 +95,7 @@ report-mistakes : report (plain history) mistakes
 unfolding ended_lines unended meaning words is_number number_of number_up_to signed_of is_name state refuses refuses_reading window_index digits
 report-mistakes = refl
 
-after_lines-mistakes : plain_after history (lines mistakes) ≡ history ++ map added (Create (codes "b") (Exp 2 1 4) ∷ Value (codes "a") 80 (negsuc 0) ∷ [])
+after_lines-mistakes : plain_after history (lines mistakes) ≡ history ++ map added (Create (codes "b") (exp 2 1 4) ∷ Value (codes "a") 80 (negsuc 0) ∷ [])
 unfolding ended_lines unended meaning words is_number number_of number_up_to signed_of is_name state refuses refuses_reading window_index
 after_lines-mistakes = refl
 
@@ -128,13 +128,13 @@ unfolding ended_lines unended meaning words is_number number_of number_up_to sig
     window_index digits
 report-drops = refl
 
-accepted-drops : accepted (plain history) (lines drops) ≡ map added (Drop (codes "a") ∷ Create (codes "a") (Exp 2 1 1) ∷ Value (codes "a") 5 (pos 1) ∷ [])
+accepted-drops : accepted (plain history) (lines drops) ≡ map added (Drop (codes "a") ∷ Create (codes "a") (exp 2 1 1) ∷ Value (codes "a") 5 (pos 1) ∷ [])
 unfolding ended_lines unended meaning words is_number number_of number_up_to signed_of is_name state refuses refuses_query refuses_reading outcome_of
     window_index
 accepted-drops = refl
 
 -- a line that creates another stream and one that appends don't create a stream, and one that creates it does
-means-other : meaning (codes "create b exp 2 1 1") ≡ Ok (Some (Do (Create (codes "b") (Exp 2 1 1))))
+means-other : meaning (codes "create b exp 2 1 1") ≡ Ok (Some (Do (Create (codes "b") (exp 2 1 1))))
 unfolding meaning words is_number number_of number_up_to is_name
 means-other = refl
 
@@ -142,7 +142,7 @@ means-append : meaning (codes "append a 5 1") ≡ Ok (Some (Do (Value (codes "a"
 unfolding meaning words is_number number_of number_up_to signed_of is_name
 means-append = refl
 
-means-create : meaning (codes "create a exp 2 1 1") ≡ Ok (Some (Do (Create (codes "a") (Exp 2 1 1))))
+means-create : meaning (codes "create a exp 2 1 1") ≡ Ok (Some (Do (Create (codes "a") (exp 2 1 1))))
 unfolding meaning words is_number number_of number_up_to is_name
 means-create = refl
 
@@ -162,7 +162,7 @@ none-creates =
     (λ params same. let wrong : 0 ≡ 97 = ap created_byte (sym means-append ∙ same) in omega arith) (All-nil CreatesNone))
 
 one-creates : NoneCreates (codes "a") (codes "append a 5 1" ∷ codes "create a exp 2 1 1" ∷ []) → ⊥
-one-creates none = none 1 [] (lit≤ tt) (Exp 2 1 1) means-create
+one-creates none = none 1 [] (lit≤ tt) (exp 2 1 1) means-create
 
 -- after that history: queries where no window is split, one is, or two are, and each refusal of a query
 abbrev queries : List ℕ

@@ -4,7 +4,7 @@ use Rattle.std.specs.Prelude.{ℕ, List, Some, None, codes, flat_map, map, pos, 
 use Rattle.std.specs.Fmt.{digits}
 use Rattle.ss_catalog.specs.Names.{is_name}
 use Rattle.ss_catalog.specs.declared.event.Event.TheVariants.{Create, Value}
-use Rattle.ss_catalog.specs.declared.params.Params.TheVariants.{Exp}
+use Rattle.ss_catalog.specs.Params.{exp}
 use Rattle.ss_command.specs.Grammar.{meaning}
 use Rattle.ss_command.specs.Words.{words}
 use Rattle.ss_model.specs.History.{Happened, added}
@@ -43,7 +43,7 @@ text ls = flat_map (λ line. line ++ 10 ∷ []) ls
 -- after a stream and three readings
 abbrev history : List Happened
 history = map added (
-    Create (codes "a") (Exp 2 1 1) ∷ Value (codes "a") 10 (pos 5) ∷ Value (codes "a") 20 (negsuc 2) ∷ Value (codes "a") 30 (pos 8) ∷ [])
+    Create (codes "a") (exp 2 1 1) ∷ Value (codes "a") 10 (pos 5) ∷ Value (codes "a") 20 (negsuc 2) ∷ Value (codes "a") 30 (pos 8) ∷ [])
 
 -- each line of a reply to a session has its tag
 said-windows : text_said (Some 0) (brings history (codes "windows a"))

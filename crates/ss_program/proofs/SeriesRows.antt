@@ -6,7 +6,7 @@ use Rattle.ss_bounds.specs.Split.{sum_interval}
 use Rattle.ss_catalog.specs.Names.{is_name}
 use Rattle.ss_catalog.specs.Series.{numbers_from}
 use Rattle.ss_catalog.specs.declared.event.Event.TheVariants.{Create, Value}
-use Rattle.ss_catalog.specs.declared.params.Params.TheVariants.{Exp}
+use Rattle.ss_catalog.specs.Params.{exp}
 use Rattle.ss_catalog.specs.declared.query.Query.{Query}
 use Rattle.ss_command.specs.Grammar.{meaning}
 use Rattle.ss_command.specs.Lines.{ended_lines, lines, unended}
@@ -32,7 +32,7 @@ text ls = flat_map (λ line. line ++ 10 ∷ []) ls
 -- seven readings
 abbrev readings : List Happened
 readings = map added (
-    Create (codes "a") (Exp 2 1 1) ∷ Value (codes "a") 10 (pos 5) ∷ Value (codes "a") 20 (negsuc 2) ∷ Value (codes "a") 30 (pos 8)
+    Create (codes "a") (exp 2 1 1) ∷ Value (codes "a") 10 (pos 5) ∷ Value (codes "a") 20 (negsuc 2) ∷ Value (codes "a") 30 (pos 8)
     ∷ Value (codes "a") 40 (pos 1) ∷ Value (codes "a") 50 (pos 9) ∷ Value (codes "a") 60 (pos 2) ∷ Value (codes "a") 70 (pos 7) ∷ [])
 
 -- rows that split a window, rows that split none and one without a value, rows of one time, and each refusal of a series

@@ -24,7 +24,7 @@ spelled-some : (number : ℕ) (event : Event) → ((name : List ℕ) → event �
     0 < length (frame_spelled (record { number = number; event = event }))
 unfolding frame_spelled
 spelled-some number (Create name params) other =
-    field-some _ (u32 60 (parameters params).3) (omega (arith, length-number_bytes 4 (parameters params).3))
+    field-some _ (u32 60 (parameters params.family).3) (omega (arith, length-number_bytes 4 (parameters params.family).3))
 spelled-some number (Value name t v) other = field-some _ (i64 56 v) (omega (arith, length-number_bytes 8 (cast_unsigned w64 v)))
 spelled-some number (Open name t) other = field-some _ (u64 48 t) (omega (arith, length-number_bytes 8 t))
 spelled-some number (Close name t) other = field-some _ (u64 48 t) (omega (arith, length-number_bytes 8 t))

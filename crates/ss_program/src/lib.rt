@@ -25,6 +25,7 @@ mod session_laws;
 mod spoken;
 mod staging;
 mod status;
+mod step_laws;
 mod step_reader;
 mod taking;
 
@@ -51,3 +52,4 @@ pub use session_laws::{
     cursors_show_the_history_at_their_opening, sessions_say_what_commands_bring,
 };
 pub use status::{Status, complaint, exit_code};
+pub use step_laws::{conversations_answer_whole_steps_exactly, whole_steps_are_answered_exactly};

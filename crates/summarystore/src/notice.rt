@@ -36,6 +36,9 @@ is on the disk before it is printed. One program at a time can use a store.
   create NAME power P Q R S
                          the same with R*g^(P-1) windows of the length S*g^Q,
                          for g = 1, 2, 3 and so on
+  create .. within E     either of these, where no window crosses a multiple of
+                         E: within 86400 keeps days of seconds whole, so that
+                         what is asked of them is answered by one number
   append NAME T V        the value V at the time T, later than the last: ok N K
                          says that the stream has N values in K windows
   landmark NAME open T   from here on the values are kept one by one, until
@@ -63,9 +66,9 @@ is on the disk before it is printed. One program at a time can use a store.
   list                   all streams, in order of creation
 
 NAME has up to 32 letters, digits, _, - and . in it. B is 2 to 16, P 1 to 4, Q 0
-to 3, R and S are 1 to 65536, times are 0 to 2^62, and values have 64 bits. An
-empty line is no command, and a line that begins with # isn't either. Any other
-line gets refused and a word that says why.
+to 3, R and S are 1 to 65536, E is 1 to 2^32-1, times are 0 to 2^62, and values
+have 64 bits. An empty line is no command, and a line that begins with # isn't
+either. Any other line gets refused and a word that says why.
 
 Exit statuses:
   0  done                              5  a read of standard input failed
