@@ -7,7 +7,7 @@ use crate::journal::{COUNTED, calls_of, calls_of_birth, read_time, warm_commit_t
 use crate::landmarks::{MOST_VALUES, landmark_times, landmarks_with};
 use crate::records::{MOST_RECORDS, record_times, seen_after};
 use crate::targets::{AGES, Cover, TAKEN, TARGETS, cover_of, look_up_time};
-use ss_catalog::Params;
+use ss_catalog::{Family, Params};
 use ss_journal::JournalError;
 use ss_landmarks::Landmarks;
 use std::rt::Clock;
@@ -139,6 +139,14 @@ fn print_cover(rt: &impl Print, name: &str, taken: u64, cover: &Cover) -> bool {
         & println!(rt; " {:>8} {:>11}", cover.most, cover.oldest).is_ok()
 }
 
+// The parameters of a target of this family, whose windows keep to no step.
+fn without_step(family: Family) -> Params {
+    Params {
+        family,
+        within: None,
+    }
+}
+
 // Prints the covers of a target.
 fn print_covers(rt: &impl Print, name: &str, params: Params) -> bool {
     let mut printed = true;
@@ -157,8 +165,8 @@ pub fn print_targets(rt: &impl Print) -> u8 {
     let mut printed = rt
         .println("target             values   cover  at most      oldest")
         .is_ok();
-    for (name, params) in TARGETS {
-        printed &= print_covers(rt, name, params);
+    for (name, family) in TARGETS {
+        printed &= print_covers(rt, name, without_step(family));
     }
     status(printed)
 }
@@ -179,8 +187,8 @@ pub fn print_look_up_times<R: Print + Clock>(rt: &R) -> u8 {
     let mut printed = rt
         .println("target                   age  ns a look-up")
         .is_ok();
-    for (name, params) in TARGETS {
-        printed &= print_look_ups(rt, name, params);
+    for (name, family) in TARGETS {
+        printed &= print_look_ups(rt, name, without_step(family));
     }
     status(printed)
 }

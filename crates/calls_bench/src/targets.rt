@@ -2,17 +2,17 @@
 ghost use Rattle.std.specs.Prelude.{◌≤◌};
 
 use crate::timing::{FAILED, micros_since, now};
-use ss_catalog::Params;
+use ss_catalog::{Family, Params};
 use ss_target::Target;
 use ss_windowing::{Decay, MOST_VALUES};
 use std::rt::Clock;
 
-/// The targets, with their names.
-pub const TARGETS: [(&str, Params); 5] = [
-    ("exp 2 1 1", Params::Exp { b: 2, r: 1, s: 1 }),
+/// The families of targets without a step, with their names.
+pub const TARGETS: [(&str, Family); 5] = [
+    ("exp 2 1 1", Family::Exp { b: 2, r: 1, s: 1 }),
     (
         "power 1 1 1 1",
-        Params::Power {
+        Family::Power {
             p: 1,
             q: 1,
             r: 1,
@@ -21,7 +21,7 @@ pub const TARGETS: [(&str, Params); 5] = [
     ),
     (
         "power 2 1 1 1",
-        Params::Power {
+        Family::Power {
             p: 2,
             q: 1,
             r: 1,
@@ -30,7 +30,7 @@ pub const TARGETS: [(&str, Params); 5] = [
     ),
     (
         "power 1 1 4 1",
-        Params::Power {
+        Family::Power {
             p: 1,
             q: 1,
             r: 4,
@@ -39,7 +39,7 @@ pub const TARGETS: [(&str, Params); 5] = [
     ),
     (
         "power 4 3 1 1",
-        Params::Power {
+        Family::Power {
             p: 4,
             q: 3,
             r: 1,

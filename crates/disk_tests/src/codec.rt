@@ -19,6 +19,12 @@ const DROPPED_STREAM: [u8; 25] = [
     1, 1, 1, 1, 0, 0, 0, 0, 0, 0, 0, 2, 0, 0, 0, 1, 0, 0, 0, 1, 0, 0, 0, 0, 97,
 ];
 
+// The stream `a` within 86400.
+const STREAM_WITHIN: [u8; 60] = [
+    1, 1, 1, 0, 0, 0, 0, 0, 0, 0, 0, 2, 0, 0, 0, 1, 0, 0, 0, 1, 0, 0, 0, 0, 97, 0, 0, 0, 0, 0, 0,
+    0, 0, 0, 0, 0, 0, 0, 0, 0, 0, 0, 0, 0, 0, 0, 0, 0, 0, 0, 0, 0, 0, 0, 0, 0, 0, 1, 81, 128,
+];
+
 // The stream `p` with the target `power 1 1 4 2` and the number 1.
 const POWER_STREAM: [u8; 25] = [
     1, 2, 1, 0, 0, 0, 0, 1, 0, 0, 0, 1, 0, 0, 0, 1, 0, 0, 0, 4, 0, 0, 0, 2, 112,
@@ -96,10 +102,10 @@ struct Row {
     wrong: &'static [u8],
 }
 
-const ROWS: [Row; 14] = [
+const ROWS: [Row; 15] = [
     Row {
         bytes: &STREAM,
-        text: "0 a Exp { b: 2, r: 1, s: 1 } false",
+        text: "0 a Exp { b: 2, r: 1, s: 1 } None false",
         wrong: &[
             // a kind that isn't there
             0, 5, 0, 0,
@@ -114,14 +120,20 @@ const ROWS: [Row; 14] = [
         ],
     },
     Row {
+        bytes: &STREAM_WITHIN,
+        text: "0 a Exp { b: 2, r: 1, s: 1 } Some(86400) false",
+        // a byte that isn't zero where no field is
+        wrong: &[55, 1, 60, 1],
+    },
+    Row {
         bytes: &POWER_STREAM,
-        text: "1 p Power { p: 1, q: 1, r: 4, s: 2 } false",
+        text: "1 p Power { p: 1, q: 1, r: 4, s: 2 } None false",
         // a parameter out of range
         wrong: &[11, 5],
     },
     Row {
         bytes: &DROPPED_STREAM,
-        text: "0 a Exp { b: 2, r: 1, s: 1 } true",
+        text: "0 a Exp { b: 2, r: 1, s: 1 } None true",
         wrong: &[
             // a kind that isn't there, neither standing nor dropped, a byte that isn't zero where no field is
             0, 5, 3, 2, 127, 1,
@@ -257,7 +269,10 @@ fn text_of(alloc: Global, record: &Record) -> Result<String, AllocError> {
             name,
             params,
             dropped,
-        } => { format!(in alloc; "{id} {} {params:?} {dropped}", name.as_str()) }
+        } => {
+            let (family, within) = (params.family, params.within);
+            format!(in alloc; "{id} {} {family:?} {within:?} {dropped}", name.as_str())
+        }
         _ => format!(in alloc; "{record:?}"),
     }
 }

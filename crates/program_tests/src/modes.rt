@@ -57,6 +57,23 @@ const TWO_STREAMS: Pieces = &[
     (37447, &[2]),
 ];
 
+// That stream within minutes, and its first two positions at two times: on the two sides of a boundary, and behind it.
+const ACROSS: Pieces = &[
+    (36864, STREAM),
+    (36923, &[60]),
+    (36992, PAIR),
+    (37055, &[59]),
+    (37063, &[60]),
+];
+
+const BEHIND: Pieces = &[
+    (36864, STREAM),
+    (36923, &[60]),
+    (36992, PAIR),
+    (37055, &[60]),
+    (37063, &[119]),
+];
+
 // Entry 0 frees the slot 0, and entry 1 has the slot 5 twice.
 const TWO_ENTRIES: Pieces = &[
     (512, &[0xA5, 1, 0, 0, 0, 0]),
@@ -65,10 +82,11 @@ const TWO_ENTRIES: Pieces = &[
 ];
 
 // The slots of damaged files, what they have at places, and what is said of them.
-const DAMAGED: [(usize, Pieces, &str); 6] = [
+const DAMAGED: [(usize, Pieces, &str); 7] = [
     (4, &[(37248, &[9])], "damaged slot 3\n"),
     (4, &[(512, &[0xA5, 5])], "damaged entry 0\n"),
     (4, &[(36992, LOST_WINDOW)], "damaged stream 6\n"),
+    (2, ACROSS, "damaged stream 2\n"),
     // the lowest of two
     (6, &[(37248, &[9]), (37504, &[9])], "damaged slot 3\n"),
     (5, TWO_STREAMS, "damaged stream 1\n"),
@@ -103,6 +121,21 @@ fn a_damaged_file_is_named_and_left(rt: HostRuntime) -> Result<(), Fail> {
         let content = damaged(rt.alloc(), slots, pieces)?;
         assert!(rt; is_refused(rt.alloc(), &content, line)?, "{line}");
     }
+    Ok(())
+}
+
+// Whether a check finds a file with those pieces sound, with one stream of one window.
+fn is_sound(alloc: Global, pieces: Pieces) -> Result<bool, AllocError> {
+    let content = damaged(alloc, 2, pieces)?;
+    let mut disk = disk_of(alloc, &content)?;
+    let (status, written) = answer_on(alloc, CHECK, &mut disk, "")?;
+    let line = "sound streams 1 windows 1 landmarks 0 values 0\n";
+    Ok(status == 0 && written.as_slice() == line.as_bytes())
+}
+
+#[test]
+fn a_window_within_one_step_is_sound(rt: HostRuntime) -> Result<(), Fail> {
+    assert!(rt; is_sound(rt.alloc(), BEHIND)?);
     Ok(())
 }
 

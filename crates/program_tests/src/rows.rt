@@ -142,6 +142,39 @@ const DROPS_REPORT: &str = "ok 0 0\nok 1 1\nok 2 2\nok 3 2\nok 4 3\nok 5 3\nok 6
     refused SYNTAX\nrefused SYNTAX\nrefused NAME\nrefused UNKNOWN\nrefused SYNTAX\n\
     list 1\na exp 2 1 1 1 1 0 0\n";
 
+// The worked row within minutes, and a stream within tens with a landmark over a boundary: whole minutes and whole tens are one number.
+const WITHIN: &str =
+    "create a exp 2 1 1 within 60\nappend a 10 5\nappend a 20 -3\nappend a 30 8\nappend a 40 1\n\
+    append a 50 9\nappend a 60 2\nappend a 70 7\nwindows a\nseries a sum 0 119 60\nquery a sum 40 59\n\
+    create p power 1 0 1 4 within 10\nappend p 7 1\nappend p 8 2\nlandmark p open 9\nappend p 9 100\n\
+    landmark p close 10\nappend p 11 3\nappend p 12 4\nappend p 19 5\nappend p 20 6\nappend p 21 7\nwindows p\n\
+    query p sum 0 9\nquery p sum 10 19\nlast p\nvalues p 0 99\n\
+    create u power 1 0 1 4 within 1\nappend u 1 0\nappend u 2 0\nappend u 3 0\nlist\n";
+
+const WITHIN_REPORT: &str = "ok 0 0\nok 1 1\nok 2 2\nok 3 2\nok 4 3\nok 5 3\nok 6 4\nok 7 4\n\
+    windows 4\n1 4 4 11 -3 8 10 40\n5 5 1 9 9 9 50 50\n6 6 1 2 2 2 60 60\n7 7 1 7 7 7 70 70\n\
+    series 2\n0 20 20\n60 9 9\nsum 6 17\n\
+    ok 0 0\nok 1 1\nok 2 1\nok 2 1\nok 2 1\nok 2 1\nok 3 2\nok 4 2\nok 5 2\nok 6 3\nok 7 3\n\
+    windows 3\n1 2 2 3 1 2 7 8\n3 5 3 12 3 5 11 19\n6 7 2 13 6 7 20 21\n\
+    sum 103 103\nsum 12 12\nlast 21 21 6 7\nvalues 1\n9 100\n\
+    ok 0 0\nok 1 1\nok 2 2\nok 3 3\nlist 3\na exp 2 1 1 within 60 7 4 0 0\n\
+    p power 1 0 1 4 within 10 7 3 1 1\nu power 1 0 1 4 within 1 3 3 0 0\n";
+
+// Each refusal of a step, and steps that are taken.
+const STEPS: &str =
+    "create a exp 2 1 1 within 0\ncreate a exp 2 1 1 within 4294967296\ncreate a exp 2 1 1 within -1\n\
+    create a exp 1 1 1 within 5\ncreate a! exp 2 1 1 within 0\ncreate a! exp 2 1 1 within x\n\
+    create a exp 2 1 1 within\ncreate a exp 2 1 1 inside 5\ncreate a exp 2 1 1 within 5 5\n\
+    create a within 5 exp 2 1 1\ncreate a exp 2 1 1 5\ncreate a power 1 1 1 within 5\n\
+    create a power 1 1 1 1 within 4294967295\ncreate a exp 2 1 1 within 0\ncreate a exp 2 1 1 within 5\n\
+    create b exp 2 1 1 within 00060\ncreate c exp 2 1 1\nlist\n";
+
+const STEPS_REPORT: &str =
+    "refused PARAM\nrefused NUMBER\nrefused NUMBER\nrefused PARAM\nrefused NAME\nrefused NUMBER\n\
+    refused SYNTAX\nrefused SYNTAX\nrefused SYNTAX\nrefused SYNTAX\nrefused SYNTAX\nrefused SYNTAX\n\
+    ok 0 0\nrefused PARAM\nrefused EXISTS\nok 0 0\nok 0 0\nlist 3\n\
+    a power 1 1 1 1 within 4294967295 0 0 0 0\nb exp 2 1 1 within 60 0 0 0 0\nc exp 2 1 1 0 0 0 0\n";
+
 const USAGE: &str =
     "usage: summarystore STORE [run | check | gen SEED COUNT | sessions | frames | follow]\n";
 
@@ -171,7 +204,7 @@ fn is_reported(alloc: Global, input: &str, report: &str) -> Result<bool, AllocEr
     Ok(true)
 }
 
-const ROWS: [(&str, &str); 10] = [
+const ROWS: [(&str, &str); 12] = [
     (READINGS, REPORT),
     (ORDER, ORDER_REPORT),
     (QUERIES, QUERIES_REPORT),
@@ -181,6 +214,8 @@ const ROWS: [(&str, &str); 10] = [
     (LINES, LINES_REPORT),
     (MARKED, MARKED_REPORT),
     (DROPS, DROPS_REPORT),
+    (WITHIN, WITHIN_REPORT),
+    (STEPS, STEPS_REPORT),
     ("", ""),
 ];
 

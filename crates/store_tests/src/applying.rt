@@ -4,19 +4,25 @@ use crate::running::Asked::{self, Close, Create, Open, Value};
 use crate::running::{DOUBLING, Row};
 use crate::steps::Step::{self, Apply, Lists, Play, Reopen, Surveys};
 use crate::steps::first_wrong;
-use ss_catalog::{LAST_TIME, Params, Refusal};
+use ss_catalog::{Family, LAST_TIME, Params, Refusal};
 use ss_store::ApplyError::Refused;
 use ss_store::Survey;
 use std::test::Fail;
 
-const POWER: Params = Params::Power {
-    p: 1,
-    q: 1,
-    r: 1,
-    s: 1,
+const POWER: Params = Params {
+    family: Family::Power {
+        p: 1,
+        q: 1,
+        r: 1,
+        s: 1,
+    },
+    within: None,
 };
 
-const OUT_OF_RANGE: Params = Params::Exp { b: 1, r: 1, s: 1 };
+const OUT_OF_RANGE: Params = Params {
+    family: Family::Exp { b: 1, r: 1, s: 1 },
+    within: None,
+};
 
 pub const READINGS: [Row; 8] = [
     (b'a', Create(DOUBLING), Ok((0, 0))),

@@ -6,17 +6,20 @@ use crate::running::{DOUBLING, IN_TWOS, Question, Row};
 use crate::steps::Step::{self, Crowd, Play, Reopen, Stop, Tell, Untold};
 use crate::steps::first_wrong;
 use ss_bounds::Extreme::{Maybe, Nothing, Sure};
-use ss_catalog::{Kind, Params, Refusal};
+use ss_catalog::{Family, Kind, Params, Refusal};
 use ss_model::Outcome::{self, Count, Estimate, Max, Min, Sum};
 use ss_store::ApplyError;
 use ss_store::AskError::{self, Disk, Refused, Stopped};
 use std::test::Fail;
 
-const IN_FOURS: Params = Params::Power {
-    p: 1,
-    q: 0,
-    r: 1,
-    s: 4,
+const IN_FOURS: Params = Params {
+    family: Family::Power {
+        p: 1,
+        q: 0,
+        r: 1,
+        s: 4,
+    },
+    within: None,
 };
 
 /// What other streams take after the readings.

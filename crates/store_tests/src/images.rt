@@ -14,6 +14,8 @@ pub enum Slot {
     Stream(u32, u8),
     /// The same of a stream that is dropped.
     Dropped(u32, u8),
+    /// The same of a stream whose windows keep to a step, with the step.
+    Within(u32, u8, u32),
     /// A window of a stream: the stream's number, the first position, how many values, and the first and last time.
     Window(u32, u64, u64, u64, u64),
     /// The same with the filter of its values, where the filter of a `Window` has all bits.
@@ -84,6 +86,10 @@ fn spelled(slot: Slot) -> [u8; 128] {
         Slot::Free => {}
         Slot::Stream(id, letter) => put_stream(&mut bytes, id, letter, 0),
         Slot::Dropped(id, letter) => put_stream(&mut bytes, id, letter, 1),
+        Slot::Within(id, letter, step) => {
+            put_stream(&mut bytes, id, letter, 0);
+            put_u32(&mut bytes, 56, step);
+        }
         Slot::Window(id, first, count, t_first, t_last) => {
             put_window(&mut bytes, id, first, (count, 0, 0, 0), (t_first, t_last));
         }

@@ -44,3 +44,5 @@ mod steps;
 mod stops;
 #[cfg(test)]
 mod texts;
+#[cfg(test)]
+mod within;

@@ -1,5 +1,5 @@
 // What opening and a survey make of an image.
-use crate::images::Slot::{self, Bad, Dropped, Landmark, Stream, Value, Window};
+use crate::images::Slot::{self, Bad, Dropped, Landmark, Stream, Value, Window, Within};
 use crate::images::{FORMATTED, image};
 use crate::passing::pass;
 use crate::running::{store_on, surveyed};
@@ -84,7 +84,7 @@ fn opening_makes_the_merges_that_are_due(rt: HostRuntime) -> Result<(), Fail> {
 // What a file begins with, how many numbers its first entry has if it is open, its slots, and why it is no store.
 type Damage = (&'static [u8], u8, &'static [Slot], OpenError);
 
-const DAMAGED: [Damage; 6] = [
+const DAMAGED: [Damage; 7] = [
     (b"hello", 0, &[], OpenError::NotAStore),
     (b"\xA5SSTORE02", 0, &[Stream(0, b'a')], OpenError::NotAStore),
     (
@@ -114,6 +114,19 @@ const DAMAGED: [Damage; 6] = [
             Window(0, 3, 1, 3, 3),
         ],
         OpenError::BadStream { id: 0 },
+    ),
+    // a window that crosses a boundary of its stream's step
+    (
+        FORMATTED,
+        0,
+        &[
+            Stream(0, b'a'),
+            Window(0, 1, 2, 99, 100),
+            Within(1, b'b', 100),
+            Window(1, 1, 2, 98, 99),
+            Window(1, 3, 2, 199, 200),
+        ],
+        OpenError::BadStream { id: 1 },
     ),
 ];
 

@@ -3,7 +3,7 @@ ghost use Rattle.std.specs.Prelude.{◌≡◌, false, IfSome, IsTrue};
 ghost use Rattle.ss_catalog.specs.Events.{IsInTime};
 
 use crate::silent::Silent;
-use ss_catalog::{Event, Kind, LAST_TIME, Name, Params, Query, Refusal};
+use ss_catalog::{Event, Family, Kind, LAST_TIME, Name, Params, Query, Refusal};
 use ss_model::{Newest, Outcome};
 use ss_outside::{Failed, MemDisk};
 use ss_store::{ApplyError, AskError, OpenError, Store, Survey};
@@ -30,13 +30,28 @@ pub type Row = (u8, Asked, Answer);
 /// What is asked, of the stream whose name is a letter, from which to which time.
 pub type Question = (u8, Kind, u64, u64);
 
-pub const DOUBLING: Params = Params::Exp { b: 2, r: 1, s: 1 };
+/// Questions, each with its answer.
+pub type Outcomes = &'static [(Question, Outcome)];
 
-pub const IN_TWOS: Params = Params::Power {
-    p: 1,
-    q: 0,
-    r: 1,
-    s: 2,
+pub const DOUBLING: Params = Params {
+    family: Family::Exp { b: 2, r: 1, s: 1 },
+    within: None,
+};
+
+/// The same, and no window crosses a boundary of a hundred.
+pub const IN_HUNDREDS: Params = Params {
+    family: Family::Exp { b: 2, r: 1, s: 1 },
+    within: Some(100),
+};
+
+pub const IN_TWOS: Params = Params {
+    family: Family::Power {
+        p: 1,
+        q: 0,
+        r: 1,
+        s: 2,
+    },
+    within: None,
 };
 
 /// A store with its disk.

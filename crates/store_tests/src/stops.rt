@@ -3,7 +3,7 @@ use crate::applying::{DROPPED, IN_TURN, READINGS};
 use crate::passing::pass;
 use crate::running::Asked::{self, Create, Open, Value};
 use crate::running::{
-    DOUBLING, Held, Row, Running, answered, empty, fresh, held, opened, play, reopen,
+    DOUBLING, Held, IN_HUNDREDS, Row, Running, answered, empty, fresh, held, opened, play, reopen,
 };
 use crate::silent::Silent;
 use crate::steps::Step::{self, Apply, Counts, Crash, Fresh, Holds, Reads, Stop};
@@ -123,6 +123,21 @@ fn first_lost(alloc: Global) -> Result<Option<usize>, OpenError> {
 #[test]
 fn each_stop_leaves_the_first_events(rt: HostRuntime) -> Result<(), Fail> {
     pass(first_lost(rt.alloc())?)
+}
+
+// The second and the third value are joined, and not the first one with them, which lies before a boundary.
+const CROSSING: [Row; 6] = [
+    (b'a', Create(IN_HUNDREDS), Ok((0, 0))),
+    (b'a', Value(99, 1), Ok((1, 1))),
+    (b'a', Value(100, 2), Ok((2, 2))),
+    (b'a', Value(101, 3), Ok((3, 3))),
+    (b'a', Value(102, 4), Ok((4, 3))),
+    (b'a', Value(200, 5), Ok((5, 4))),
+];
+
+#[test]
+fn each_stop_leaves_windows_of_one_step(rt: HostRuntime) -> Result<(), Fail> {
+    pass(lost_at(rt.alloc(), &CROSSING, 200)?)
 }
 
 // Of a commit, the call that makes its open gate durable.

@@ -1,6 +1,6 @@
 // Names, parameters, refusals, and a catalog.
 use crate::tables::{Subject, Text, cut, numbers_of, pass, small, test, write, write_number};
-use ss_catalog::{Catalog, CatalogError, Name, Params, Refusal, StreamId};
+use ss_catalog::{Catalog, CatalogError, Family, Name, Params, Refusal, StreamId};
 use std::test::Fail;
 
 fn write_answer(answer: bool, out: &mut Text) {
@@ -35,21 +35,35 @@ fn words_are_names() -> Result<(), Fail> {
     )
 }
 
-fn params_of(input: &[u8]) -> Params {
-    let (kind, numbers) = cut(input, b' ');
-    let numbers = numbers_of(numbers);
+// The parameters of a family: of `exp` three numbers, of `power` four.
+fn family_of(kind: &[u8], numbers: [u64; 4]) -> Family {
     if kind == b"exp".as_slice() {
-        return Params::Exp {
+        return Family::Exp {
             b: small(numbers[0]),
             r: small(numbers[1]),
             s: small(numbers[2]),
         };
     }
-    Params::Power {
+    Family::Power {
         p: small(numbers[0]),
         q: small(numbers[1]),
         r: small(numbers[2]),
         s: small(numbers[3]),
+    }
+}
+
+// The parameters of a target, with a step behind a '/' where it has one.
+fn params_of(input: &[u8]) -> Params {
+    let (target, step) = cut(input, b'/');
+    let (kind, numbers) = cut(target, b' ');
+    let within = if step.is_empty() {
+        None
+    } else {
+        Some(small(numbers_of(step)[0]))
+    };
+    Params {
+        family: family_of(kind, numbers_of(numbers)),
+        within,
     }
 }
 
@@ -78,7 +92,13 @@ fn parameters_have_their_ranges() -> Result<(), Fail> {
         power 1 0 0 1=no\n\
         power 1 0 65537 1=no\n\
         power 1 0 1 0=no\n\
-        power 1 0 1 65537=no\n"
+        power 1 0 1 65537=no\n\
+        exp 2 1 1/1=yes\n\
+        exp 2 1 1/0=no\n\
+        exp 1 1 1/1=no\n\
+        power 1 0 1 1/4294967295=yes\n\
+        power 1 0 1 1/0=no\n\
+        power 1 0 0 1/5=no\n"
             .as_bytes(),
     )
 }

@@ -146,8 +146,17 @@ fn forms(rt: HostRuntime) -> Result<(), Fail> {
         create a/>refused SYNTAX/=1 SYNTAX: a create is create NAME exp B R S, or create NAME power P Q R S;\n\
         create a linear 1/>refused SYNTAX/=1 SYNTAX: \"linear\" is neither exp nor power: \
         create NAME exp B R S, or create NAME power P Q R S;\n\
-        create a exp 2 1/>refused SYNTAX/=1 SYNTAX: create NAME exp B R S has 6 words, and this line has 5;\n\
-        create a power 1 0 1/>refused SYNTAX/=1 SYNTAX: create NAME power P Q R S has 7 words, and this line has 6;\n\
+        create a exp 2 1/>refused SYNTAX/=1 SYNTAX: create NAME exp B R S has 6 words, or 8 with within E, and this line has 5;\n\
+        create a power 1 0 1/>refused SYNTAX/=1 SYNTAX: create NAME power P Q R S has 7 words, or 9 with within E, \
+        and this line has 6;\n\
+        create a exp 2 1 1 within/>refused SYNTAX/=1 SYNTAX: create NAME exp B R S has 6 words, or 8 with within E, \
+        and this line has 7;\n\
+        create a power 1 0 1 1 within 5 6/>refused SYNTAX/=1 SYNTAX: create NAME power P Q R S has 7 words, \
+        or 9 with within E, and this line has 10;\n\
+        create a exp 2 1 1 withing 5/>refused SYNTAX/=1 SYNTAX: \"withing\" isn't within: create NAME exp B R S within E;\n\
+        create a power 1 0 1 1 5 within/>refused SYNTAX/=1 SYNTAX: \"5\" isn't within: create NAME power P Q R S within E;\n\
+        create a within 5 exp 2 1 1/>refused SYNTAX/=1 SYNTAX: \"within\" is neither exp nor power: \
+        create NAME exp B R S, or create NAME power P Q R S;\n\
         landmark a open/>refused SYNTAX/=1 SYNTAX: landmark NAME open T, or close T, has 4 words, and this line has 3;\n\
         landmark a shut 1/>refused SYNTAX/=1 SYNTAX: \"shut\" is neither open nor close;\n\
         drop/>refused SYNTAX/=1 SYNTAX: drop NAME has 2 words, and this line has 1;\n\
@@ -234,6 +243,10 @@ fn words(rt: HostRuntime) -> Result<(), Fail> {
         certify x! sum lo 1 2/>refused NAME/=1 NAME: the name x! has more in it than letters, digits, _, - and .;\n\
         create a exp 2 1 4294967296/>refused NUMBER/=1 NUMBER: 4294967296 isn't within \
         0 to 4294967295, as parameters are;\n\
+        create a exp 2 1 1 within 4294967296/>refused NUMBER/=1 NUMBER: 4294967296 isn't within \
+        0 to 4294967295, as parameters are;\n\
+        create a power 1 0 1 within within 5/>refused NUMBER/=1 NUMBER: within isn't a whole number;\n\
+        create a power 1 0 1 1 within 1d/>refused NUMBER/=1 NUMBER: 1d isn't a whole number;\n\
         append x! 1 1/>refused NAME/=1 NAME: the name x! has more in it than letters, digits, _, - and .;\n\
         drop x!/>refused NAME/=1 NAME: the name x! has more in it than letters, digits, _, - and .;\n\
         windows abcdefghijklmnopqrstuvwxyz0123456/>refused NAME/=1 NAME: \
@@ -242,7 +255,9 @@ fn words(rt: HostRuntime) -> Result<(), Fail> {
         create a exp 2 0 1/>refused PARAM/=1 PARAM: R is 0, and can be 1 to 65536;\n\
         create a power 5 0 1 1/>refused PARAM/=1 PARAM: P is 5, and can be 1 to 4;\n\
         create a power 1 4 1 1/>refused PARAM/=1 PARAM: Q is 4, and can be 0 to 3;\n\
-        create a power 1 0 1 65537/>refused PARAM/=1 PARAM: S is 65537, and can be 1 to 65536;\n",
+        create a power 1 0 1 65537/>refused PARAM/=1 PARAM: S is 65537, and can be 1 to 65536;\n\
+        create a exp 2 1 1 within 0/>refused PARAM/=1 PARAM: E is 0, and can be 1 to 4294967295;\n\
+        create a power 1 0 0 1 within 0/>refused PARAM/=1 PARAM: R is 0, and can be 1 to 65536;\n",
     ))
 }
 
@@ -335,6 +350,11 @@ fn frames(rt: HostRuntime) -> Result<(), Fail> {
         1 FRAME: bytes that belong to no field of it are zeros in a frame, and here they aren't;\n\
         \x02\0\x01\x01z\x04z\x07\x02az\x1fz\x07\x0bz\x07\x05>refused FRAME/=\
         1 FRAME: bytes that belong to no field of it are zeros in a frame, and here they aren't;\n\
+        \x02\0\x01z\x04\x3cz\x07\x02az\x1fz\x07\x0bz\x07\x05>refused FRAME/=\
+        1 FRAME: bytes that belong to no field of it are zeros in a frame, and here they aren't;\n\
+        \x01\x01\x01\x01z\x03\x3cz\x07\x01az\x1fz\x03\x02z\x03\x01z\x03\x01z\x04>refused FRAME/=\
+        1 FRAME: bytes that belong to no field of it are zeros in a frame, and here they aren't;\n\
+        \x01\x01\x01z\x04\x3cz\x07\x01az\x1fz\x03\x01z\x03\x01z\x03\x01z\x04>refused FRAME/=1 FRAME: B is 1, and can be 2 to 16;\n\
         \x02\0\x01z\x05z\x08az\x1fz\x07\x0bz\x07\x05>refused FRAME/=1 FRAME: its number is 0, and the events of a stream count from 1;\n\
         \x01\x01\x01z\x05z\x07\x02az\x1fz\x03\x02z\x03\x01z\x03\x01z\x04>refused FRAME/=\
         1 FRAME: it is a create with the number 2, and each create has the number 1;\n\

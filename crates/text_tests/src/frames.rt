@@ -143,6 +143,10 @@ fn frames_are_spelled() -> Result<(), Fail> {
         Subject::Frame,
         "1 create a exp 2 1 1=\
         01010100000000000000000000000001610000000000000000000000000000000000000000000000000000000000000000000002000000010000000100000000\n\
+        1 create a exp 2 1 1 within 60=\
+        010101000000003c0000000000000001610000000000000000000000000000000000000000000000000000000000000000000002000000010000000100000000\n\
+        1 create p power 1 1 4 2 within 4294967295=\
+        01020100ffffffff0000000000000001700000000000000000000000000000000000000000000000000000000000000000000001000000010000000400000002\n\
         2 append a 10 5=\
         020001000000000000000000000000026100000000000000000000000000000000000000000000000000000000000000000000000000000a0000000000000005\n\
         3 append a 20 -3=\
@@ -160,6 +164,7 @@ fn frames_are_spelled() -> Result<(), Fail> {
         0 create a exp 2 1 1=none\n\
         2 create a exp 2 1 1=none\n\
         1 create a exp 17 1 1=none\n\
+        1 create a exp 2 1 1 within 0=none\n\
         1 create a power 5 1 4 2=none\n\
         0 append a 10 5=none\n\
         1 append a 10 5=none\n\
@@ -185,6 +190,10 @@ fn frames_are_read() -> Result<(), Fail> {
         Subject::FrameBytes,
         "01010100000000000000000000000001610000000000000000000000000000000000000000000000000000000000000000000002000000010000000100000000=\
         1 create a exp 2 1 1\n\
+        010101000000003c0000000000000001610000000000000000000000000000000000000000000000000000000000000000000002000000010000000100000000=\
+        1 create a exp 2 1 1 within 60\n\
+        01020100ffffffff0000000000000001700000000000000000000000000000000000000000000000000000000000000000000001000000010000000400000002=\
+        1 create p power 1 1 4 2 within 4294967295\n\
         020001000000000000000000000000026100000000000000000000000000000000000000000000000000000000000000000000000000000a0000000000000005=\
         2 append a 10 5\n\
         0200010000000000000000000000000361000000000000000000000000000000000000000000000000000000000000000000000000000014fffffffffffffffd=\
@@ -223,7 +232,8 @@ pub fn changed_frame(row: &[u8], out: &mut Text) {
 }
 
 // Another kind of the same fields, and kinds that aren't there; a family that isn't there, and one of an event that has none; a name
-// without bytes, one with a byte after it, and one of too many; bytes where no field is; other numbers; and other times and values.
+// without bytes, one with a byte after it, and one of too many; bytes where no field is; a step, and one of an event that has none;
+// other numbers; and other times and values.
 #[test]
 fn frames_that_differ_in_a_byte() -> Result<(), Fail> {
     test(
@@ -244,8 +254,12 @@ fn frames_that_differ_in_a_byte() -> Result<(), Fail> {
         2 33 2 append nnnnnnnnnnnnnnnnnnnnnnnnnnnnnnnn 10 5=none\n\
         2 255 2 append nnnnnnnnnnnnnnnnnnnnnnnnnnnnnnnn 10 5=none\n\
         3 1 2 append a 10 5=none\n\
-        4 1 1 create a exp 2 1 1=none\n\
-        7 1 1 create a exp 2 1 1=none\n\
+        3 1 1 create a exp 2 1 1 within 60=none\n\
+        4 1 1 create a exp 2 1 1=1 create a exp 2 1 1 within 16777216\n\
+        7 1 1 create a exp 2 1 1=1 create a exp 2 1 1 within 1\n\
+        7 0 1 create p power 1 1 4 2 within 60=1 create p power 1 1 4 2\n\
+        4 1 2 append a 10 5=none\n\
+        7 1 2 append a 10 5=none\n\
         7 1 5 landmark a close 100=none\n\
         15 3 2 append a 10 5=3 append a 10 5\n\
         15 1 2 append a 10 5=none\n\

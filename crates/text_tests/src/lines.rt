@@ -51,6 +51,17 @@ fn lines_without_a_command() -> Result<(), Fail> {
         create a exp 2 1 1 1=SYNTAX\n\
         create a power 1 0 1=SYNTAX\n\
         create a power 1 0 1 1 1=SYNTAX\n\
+        create a exp 2 1 1 within=SYNTAX\n\
+        create a exp 2 1 1 withing 5=SYNTAX\n\
+        create a exp 2 1 1 Within 5=SYNTAX\n\
+        create x! exp y 1 1 inside 5=SYNTAX\n\
+        create a exp 2 1 1 within 5 6=SYNTAX\n\
+        create a exp 2 1 within 5=SYNTAX\n\
+        create a within 5 exp 2 1 1=SYNTAX\n\
+        create a power 1 0 1 within 5=SYNTAX\n\
+        create a power 1 0 1 1 within=SYNTAX\n\
+        create a power 1 0 1 1 5 within=SYNTAX\n\
+        create a power 1 0 1 1 within 5 6=SYNTAX\n\
         landmark a open=SYNTAX\n\
         landmark a open 1 2=SYNTAX\n\
         landmark a shut 1=SYNTAX\n\
@@ -144,6 +155,13 @@ fn lines_without_a_command() -> Result<(), Fail> {
         create a exp 4294967296 1 1=NUMBER\n\
         create a power 1 0 1 -1=NUMBER\n\
         create x! exp 2 1 y=NUMBER\n\
+        create a exp 2 1 1 within 4294967296=NUMBER\n\
+        create a exp 2 1 1 within -1=NUMBER\n\
+        create a exp 2 1 1 within within=NUMBER\n\
+        create x! exp 2 1 1 within y=NUMBER\n\
+        create a exp within 1 1 within 5=NUMBER\n\
+        create a power 1 0 1 1 within 4294967296=NUMBER\n\
+        create a power 1 0 1 1 within 1.5=NUMBER\n\
         append x! 1 1=NAME\n\
         landmark x! close 1=NAME\n\
         drop x!=NAME\n\
@@ -160,7 +178,9 @@ fn lines_without_a_command() -> Result<(), Fail> {
         windows a/b=NAME\n\
         windows a\0=NAME\n\
         windows abcdefghijklmnopqrstuvwxyz0123456=NAME\n\
-        create x! exp 2 1 1=NAME\n"
+        create x! exp 2 1 1=NAME\n\
+        create x! exp 2 1 1 within 0=NAME\n\
+        create x! power 1 0 1 1 within 4294967295=NAME\n"
             .as_bytes(),
     )
 }
@@ -186,6 +206,13 @@ fn commands_are_printed() -> Result<(), Fail> {
         create  a\texp 2 1 1 =create a exp 2 1 1\n\
         create a exp 0 0 4294967295=create a exp 0 0 4294967295\n\
         create a power 01 000 4294967295 0=create a power 1 0 4294967295 0\n\
+        create a exp 2 1 1 within 1=create a exp 2 1 1 within 1\n\
+        create a exp 2 1 1 within 4294967295=create a exp 2 1 1 within 4294967295\n\
+        create a exp 2 1 1 within 0=create a exp 2 1 1 within 0\n\
+        \x20create\tb power 1 0 1 1\twithin  00060 =create b power 1 0 1 1 within 60\n\
+        create within exp 2 1 1 within 5=create within exp 2 1 1 within 5\n\
+        create abcdefghijklmnopqrstuvwxyz012345 power 4294967295 4294967295 4294967295 4294967295 within 4294967295=\
+        create abcdefghijklmnopqrstuvwxyz012345 power 4294967295 4294967295 4294967295 4294967295 within 4294967295\n\
         append a 10 5=append a 10 5\n\
         landmark a open 080=landmark a open 80\n\
         \x20landmark\ta close 81 =landmark a close 81\n\

@@ -2,7 +2,7 @@
 use crate::tables::{Subject, Text, numbers_of, show, test};
 use arrayvec::ArrayString;
 use ss_bounds::Extreme;
-use ss_catalog::{Event, Kind, LAST_TIME, Name, Params, Refusal, StreamId};
+use ss_catalog::{Event, Family, Kind, LAST_TIME, Name, Params, Refusal, StreamId};
 use ss_frames::Frame;
 use ss_model::{Ack, Newest, Outcome, Placed, Presence, Run, StreamRow};
 use ss_report::{Reply, Side, reply_text, said_text};
@@ -15,13 +15,21 @@ fn write_reply(reply: &Reply, out: &mut Text) {
     show(text.as_str().as_bytes(), out);
 }
 
+// A target that has the first lengths of powers of 2.
+fn plain_target(within: Option<u32>) -> Params {
+    Params {
+        family: Family::Exp { b: 2, r: 1, s: 1 },
+        within,
+    }
+}
+
 // A stream with a short name and small numbers.
-fn write_short_stream(out: &mut Text) {
+fn write_short_stream(within: Option<u32>, out: &mut Text) {
     if let Some(name) = Name::of(b"a") {
         let row = StreamRow {
             id: StreamId(0),
             name,
-            params: Params::Exp { b: 2, r: 1, s: 1 },
+            params: plain_target(within),
             n: 7,
             k: 3,
             landmarks: 0,
@@ -32,17 +40,20 @@ fn write_short_stream(out: &mut Text) {
 }
 
 // A stream with the longest name and the greatest numbers.
-fn write_longest_stream(out: &mut Text) {
+fn write_longest_stream(within: Option<u32>, out: &mut Text) {
     let most = u32::MAX;
     if let Some(name) = Name::of(b"abcdefghijklmnopqrstuvwxyz012345") {
         let row = StreamRow {
             id: StreamId(most),
             name,
-            params: Params::Power {
-                p: most,
-                q: most,
-                r: most,
-                s: most,
+            params: Params {
+                family: Family::Power {
+                    p: most,
+                    q: most,
+                    r: most,
+                    s: most,
+                },
+                within,
             },
             n: u64::MAX,
             k: most,
@@ -226,7 +237,7 @@ fn write_frame(row: u64, out: &mut Text) {
     };
     match row {
         51 => {
-            let params = Params::Exp { b: 2, r: 1, s: 1 };
+            let params = plain_target(None);
             write_framed(false, 1, Event::Create { name, params }, out);
         }
         52 => write_framed(false, 2, Event::Value { name, t: 10, v: 5 }, out),
@@ -251,8 +262,8 @@ fn write_row(row: u64, out: &mut Text) {
         3 => write_reply(&Reply::Refused(Refusal::StreamFull), out),
         4 => write_reply(&Reply::WindowsHead(3), out),
         5 => write_reply(&Reply::ListHead(4096), out),
-        6 => write_short_stream(out),
-        7 => write_longest_stream(out),
+        6 => write_short_stream(None, out),
+        7 => write_longest_stream(None, out),
         8 => write_window(out),
         19 => write_reply(
             &Reply::SeriesHead {
@@ -275,6 +286,8 @@ fn write_row(row: u64, out: &mut Text) {
             out,
         ),
         58 => write_series_row(56, out),
+        59 => write_short_stream(Some(60), out),
+        60 => write_longest_stream(Some(u32::MAX), out),
         _ => write_reply(&Reply::Answered(outcome_at(row)), out),
     }
 }
@@ -352,7 +365,10 @@ fn each_reply_has_its_line() -> Result<(), Fail> {
         55=estimate -5 6 16/\n\
         56=estimate -170141183460469231731687303715884105728 -1 170141183460469231731687303715884105727/\n\
         57=estimates 100000/\n\
-        58=56 -170141183460469231731687303715884105728 -1 170141183460469231731687303715884105727/\n"
+        58=56 -170141183460469231731687303715884105728 -1 170141183460469231731687303715884105727/\n\
+        59=a exp 2 1 1 within 60 7 3 0 0/\n\
+        60=abcdefghijklmnopqrstuvwxyz012345 power 4294967295 4294967295 4294967295 4294967295 within 4294967295 \
+        18446744073709551615 4294967295 4294967295 4294967295/\n"
             .as_bytes(),
     )
 }
