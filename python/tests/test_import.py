@@ -117,6 +117,18 @@ def test_columns_and_formats_that_are_told(folder: Path, program: str) -> None:
         assert store.query("b", "count", "2026-02-01", "2026-02-01") == 1
 
 
+def test_whole_days(folder: Path, program: str, capsys: pytest.CaptureFixture[str]) -> None:
+    (folder / "a.csv").write_text("".join(f"2026-01-{1 + at // 24:02}T{at % 24:02}:00Z,{at}\n"
+                                          for at in range(24 * 31)))
+    words = [str(folder / "s"), str(folder / "a.csv"), "--name", "a", "--target", "exp 2 1 1"]
+    assert main([*words, "--within", "86400"]) == 0
+    assert ", target exp 2 1 1 within 86400\n" in capsys.readouterr().out
+    with summarystore.open(folder / "s") as store:
+        assert store.list()[0].within == 86400
+        rows = store.series("a", "sum", "2026-01-01T00:00Z", "2026-01-31T23:59:59Z", "1d")
+        assert [row.interval for row in rows] == [24 * 24 * day + 276 for day in range(31)]
+
+
 def test_late_rows(folder: Path, program: str, capsys: pytest.CaptureFixture[str]) -> None:
     text = "".join(f"{UTC.format(at)},{at}\n" for at in (0, 2, 1, 3, 3, 5, 4))
     (folder / "a.csv").write_text(text)

@@ -169,14 +169,33 @@ def test_refusals_of_calls(seven: Store) -> None:
     assert seven.query("a", "count") == 7
 
 
-def test_within_is_sent(plain: Store) -> None:
-    """A program that knows `within` takes it, and one that doesn't refuses it as SYNTAX."""
-    try:
-        plain.create("a", "exp 2 1 1", within=60)
-    except errors.CommandError as error:
-        assert error.line == "create a exp 2 1 1 within 60"
-    else:
-        assert plain.list()[0].within == 60
+def test_within(plain: Store) -> None:
+    """However old a step is, what is asked of it is one number. Without a step it isn't."""
+    for name, within in (("hours", 60), ("all", None)):
+        plain.create(name, "exp 2 1 1", within=within)
+        plain.append_many(name, [(minute, minute % 7) for minute in range(30, 3000, 4)])
+    assert [(stream.name, stream.target, stream.within) for stream in plain.list()] == [
+        ("hours", "exp 2 1 1", 60), ("all", "exp 2 1 1", None)]
+    for kind in ("count", "sum", "min", "max"):
+        assert all(row.interval.exact for row in plain.series("hours", kind, 0, 2999, 60))
+    assert plain.query("hours", "sum", 60, 119) == sum(minute % 7 for minute in range(62, 120, 4))
+    assert not plain.query("all", "sum", 60, 119).exact
+    spans = [(cast(int, window.start), cast(int, window.end)) for window in plain.windows("hours")]
+    assert all(start // 60 == end // 60 for start, end in spans)
+
+
+def test_steps_that_are_refused(plain: Store) -> None:
+    for step, kind in ((0, errors.TargetError), (2**32, errors.NumberError), (2**70, errors.NumberError),
+                       (-1, errors.NumberError)):
+        with pytest.raises(kind):
+            plain.create("a", "exp 2 1 1", within=step)
+    with pytest.raises(errors.NumberError):
+        plain.create("a", "exp 2 1 1", within=cast(int, "60"))
+    with pytest.raises(errors.CommandError):
+        plain.create("a", "exp 2 1 1 withing 60")
+    plain.create("a", "exp 2 1 1 within 60")
+    plain.create("b", ("power", 1, 1, 4, 1), 2**32 - 1)
+    assert [stream.within for stream in plain.list()] == [60, 2**32 - 1]
 
 
 def test_rows_of_many_forms(plain: Store) -> None:

@@ -137,12 +137,15 @@ class Import:
         places = max((_places(cell) for cell in cells if tables.is_number(cell)), default=0)
         return "0." + "0" * (places - 1) + "1" if places else "1"
 
+    def _within(self) -> str:
+        return "" if self._words.within is None else f" within {self._words.within}"
+
     def guessed(self) -> list[str]:
         """The lines that show what is guessed."""
         lines = [f"{self._words.source}: {self._table.shown}, times as {self._form}"]
         for column in self._values if self._name_column is None else ():
             lines.append(f"{self._name(column, '')}: from column {column + 1}, scale {self._scale(column)}, "
-                         f"time {self._resolution()}, target {self._words.target}")
+                         f"time {self._resolution()}, target {self._words.target}{self._within()}")
         used = {self._time_column, self._name_column, *self._values}
         others = [head or f"column {at + 1}" for at, head in enumerate(self._table.heads) if at not in used]
         if others:
@@ -411,7 +414,7 @@ def arguments() -> argparse.ArgumentParser:
     add("source", metavar="FILE", help="a file, or - for CSV on standard input")
     add("--name", help="the stream, or what stands before the names of several")
     add("--target", default=DEFAULT_TARGET, help=f"of new streams (default: {DEFAULT_TARGET})")
-    add("--within", type=int, help="of new streams, where the program knows it")
+    add("--within", type=int, metavar="E", help="of new streams: no window crosses a multiple of E")
     add("--time", metavar="COLUMN", help="the column of times, by its head or number (default: the first)")
     add("--value", metavar="COLUMN", action="append", help="a column of values (default: all with numbers)")
     add("--stream", metavar="COLUMN", help="the column that names the stream of a row")

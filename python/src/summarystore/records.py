@@ -45,6 +45,7 @@ class Stream(NamedTuple):
     name: str
     target: str
     within: int | None
+    """No window crosses a multiple of it. None where windows may."""
     values: int
     windows: int
     landmarks: int

@@ -55,7 +55,8 @@ class Store(Channel):
                scale: object | None = None, time: str | None = None, since: date | str | None = None,
                unit: str | None = None, labels: Mapping[str, str] | None = None,
                rounding: str | None = None) -> Stored:
-        """Makes a stream with a target such as `power 1 1 4 1` or ("exp", 2, 60, 1)."""
+        """Makes a stream with a target such as `power 1 1 4 1` or ("exp", 2, 60, 1). No window of it crosses
+        a multiple of `within`, in the unit of its times: of seconds, 86400 keeps to whole days in UTC."""
         description = description_of(scale=scale, time=time, since=since, unit=unit, labels=labels,
                                      rounding=rounding)
         self._ready()

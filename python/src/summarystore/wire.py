@@ -64,7 +64,7 @@ def whole(value: object) -> int:
 
 
 def create(name: str, target: str | Sequence[object], within: int | None = None) -> str:
-    """`create NAME TARGET`, with TARGET such as `exp 2 60 1` or ("power", 1, 1, 4, 1)."""
+    """`create NAME TARGET within E`, with TARGET such as `exp 2 60 1` or ("power", 1, 1, 4, 1)."""
     words = target.split() if isinstance(target, str) else [str(word) for word in target]
     if not words or not all(WORD.fullmatch(word) for word in words):
         raise refusal_of("SYNTAX", f"create {name} {target}")

@@ -14,18 +14,22 @@ from summarystore.fleet.frames import (CREATE, Event, event_of, frames_in, messa
 LINES = ["create a exp 2 60 1", "append a 10 5", " append\ta  011 -9223372036854775808 ",
          "landmark a open 12", "append a 13 9223372036854775807",
          "landmark a close 4611686018427387903\r",
-         f"create {'b' * 32} power 1 1 4 1", f"append {'b' * 32} 0 0"]
+         f"create {'b' * 32} power 1 1 4 1", f"append {'b' * 32} 0 0",
+         "create c exp 2 1 1 within 00060", "create d power 1 1 4 1\twithin 4294967295"]
 NONE = ["", "# append a 1 1", "list", "append a 1", "append a 1 1 1", "append a -1 1", "append a 1 +1",
         "append a 4611686018427387905 1", "append a 1 9223372036854775808", "append a\x0c1 1 1",
         "append ä 1 1", f"append {'a' * 33} 1 1", "create a exp 2 1", "create a exp 2 1 1 1",
-        "create a tree 1 1 1", "create a exp 2 1 4294967296", "landmark a shut 1", "drop a", "append a １ 1"]
+        "create a tree 1 1 1", "create a exp 2 1 4294967296", "landmark a shut 1", "drop a", "append a １ 1",
+        "create a exp 2 1 1 within", "create a exp 2 1 1 withing 5", "create a exp 2 1 1 within 5 6",
+        "create a exp 2 1 1 within 0", "create a exp 2 1 1 within 4294967296", "create a exp 2 1 1 within x",
+        "create a exp 2 1 within 5", "create a power 1 1 4 within 5", "create a within 5 exp 2 1 1"]
 
 
 def test_the_program_makes_the_same(program: str, path: Path) -> None:
     done = subprocess.run([program, str(path), "frames"], input="\n".join(LINES).encode(),
                           capture_output=True, check=True)
     events = [event for event in map(event_of, LINES) if event is not None]
-    numbers = [1, 2, 3, 4, 5, 6, 1, 2]
+    numbers = [1, 2, 3, 4, 5, 6, 1, 2, 1, 1]
     assert len(events) == len(LINES)
     frames = [event.frame(number) for event, number in zip(events, numbers)]
     assert b"".join(frames) == done.stdout

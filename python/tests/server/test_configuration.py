@@ -123,6 +123,7 @@ def test_nothing_is_enough() -> None:
     ("[[mapping]]\nmatch='a'\ntags={a='**b'}", "[[mapping]] 1 tags", "level"),
     ("[[mapping]]\nmatch='a'\njson_time='t'", "[[mapping]] 1 json_time", "without `json`"),
     ("[[mapping]]\nmatch='a'\nwithin=0", "[[mapping]] 1 within", "from 1"),
+    ("[[mapping]]\nmatch='a'\nwithin=4294967296", "[[mapping]] 1 within", "to 4294967295"),
     ("[[mapping]]\nmatch='a'\nmatches='a'", "[[mapping]] 1 matches", "is 'match' meant"),
     ("x = 9" + "9" * 5000, "", "not TOML")])
 def test_mistakes(text: str, key: str, reason: str) -> None:

@@ -39,6 +39,20 @@ def test_line_protocol(path: Path) -> None:
     run(work())
 
 
+def test_streams_of_whole_hours(path: Path) -> None:
+    """What a mapping says of `within` holds of the streams that it makes."""
+    async def work() -> None:
+        async with over_http(PLAIN + "within = 3600\n", path) as client:
+            body = "".join(f"weather t={at % 50} {T + at}\n" for at in range(0, 20_000, 10))
+            await client.post("/write?precision=s", body, 204)
+            assert [stream["within"] for stream in (await client.get("/api/streams"))["streams"]] == [3600]
+            hour = (T // 3600 + 1) * 3600
+            found = await client.get("/api/query", stream="weather/t", kind="sum", **{
+                "from": str(hour), "to": str(hour + 3599)})
+            assert found["exact"] is True
+    run(work())
+
+
 @pytest.mark.parametrize("encoding, pack", [("gzip", gzip.compress), ("deflate", zlib.compress),
                                             ("gzip", lambda data: gzip.compress(data[:7])
                                              + gzip.compress(data[7:]))])

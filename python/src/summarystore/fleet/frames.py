@@ -16,7 +16,7 @@ FAMILIES = {"exp": (1, 3), "power": (2, 4)}
 """The number of each family of targets, and how many parameters it has."""
 LAST_NUMBER = 2**64 - 1
 CHECKSUM = struct.Struct(">I")
-_HEAD = struct.Struct(">BBB5xQ32s")
+_HEAD = struct.Struct(">BBBxIQ32s")
 _TIME = struct.Struct(">Q")
 DIGITS = re.compile(r"[0-9]{1,200}")
 VALUES = re.compile(r"-?[0-9]{1,200}")
@@ -32,10 +32,13 @@ class Event(NamedTuple):
     family: int
     rest: bytes
     """The last 16 bytes of its frame."""
+    step: int = 0
+    """What stands behind `within` in a Create, and 0 where nothing does."""
 
     def frame(self, number: int) -> bytes:
         """Its frame, as the event of this number of its stream."""
-        return _HEAD.pack(self.kind, self.family, len(self.name), number, self.name.encode()) + self.rest
+        return _HEAD.pack(self.kind, self.family, len(self.name), self.step, number,
+                          self.name.encode()) + self.rest
 
 
 def words_of(line: str) -> list[str]:
@@ -67,12 +70,16 @@ def _event(kind: int, name: str, time: str, value: str) -> Event | None:
 
 def _create(name: str, family: str, words: Sequence[str]) -> Event | None:
     number, count = FAMILIES.get(family, (0, 0))
-    if not NAME.fullmatch(name) or len(words) != count or not all(map(DIGITS.fullmatch, words)):
+    words, behind = words[:count], words[count:]
+    steps = behind[1:]
+    if behind and (behind[0] != "within" or len(steps) != 1):
         return None
-    numbers = [int(word) for word in words] + [0]
-    if max(numbers) >= 2**32:
+    if not NAME.fullmatch(name) or len(words) != count or not all(map(DIGITS.fullmatch, [*words, *steps])):
         return None
-    return Event(CREATE, name, None, number, struct.pack(">4I", *numbers[:4]))
+    numbers, step = [*map(int, words), 0], int(steps[0]) if steps else 0
+    if max(*numbers, step) >= 2**32 or steps and step == 0:
+        return None
+    return Event(CREATE, name, None, number, struct.pack(">4I", *numbers[:4]), step)
 
 
 def probe(name: str) -> bytes:

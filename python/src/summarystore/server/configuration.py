@@ -271,7 +271,7 @@ def mapping_of(table: Table) -> Mapping:
     if json_time is not None and json is None:
         raise table.wrong("json_time", "there is no time of a message without `json`")
     found = Mapping(glob, source, tags, _stream(table, glob), table.text("target") or TARGET,
-                    table.whole("within", 1, 2**62), _description(table), _words(table), json, json_time,
+                    table.whole("within", 1, 2**32 - 1), _description(table), _words(table), json, json_time,
                     table.truth("ignore"))
     table.end()
     if not TARGETS.fullmatch(found.target):

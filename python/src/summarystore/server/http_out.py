@@ -57,7 +57,7 @@ class HttpOut:
         if last is not None and last.value is not None and last.newest is not None:
             newest = {"time": meaning.shown_time(last.newest), "lo": last.value.lo, "hi": last.value.hi}
         return {"name": stream.name, "unit": told.unit if told else None,
-                "labels": dict(told.labels) if told else {}, "target": stream.target,
+                "labels": dict(told.labels) if told else {}, "target": stream.target, "within": stream.within,
                 "values": stream.values, "windows": stream.windows, "landmarks": stream.landmarks,
                 "open_landmark": self._service.landmarks.is_open(stream),
                 "last": None if last is None else meaning.shown_time(last.time), "newest": newest}

@@ -136,7 +136,7 @@ def document() -> Json:
                           "reason": TEXT}),
         "Stream": _object({
             "name": TEXT, "unit": {"type": ["string", "null"]}, "labels": {"type": "object"}, "target": TEXT,
-            "values": COUNT, "windows": COUNT, "landmarks": COUNT,
+            "within": {"type": ["integer", "null"]}, "values": COUNT, "windows": COUNT, "landmarks": COUNT,
             "open_landmark": {"type": ["boolean", "null"]}, "last": NUMBER,
             "newest": {"oneOf": [{"type": "null"}, newest]}}),
         "Answer": _object({**words, **ENDS}),
