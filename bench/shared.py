@@ -9,6 +9,7 @@ import sys
 import tempfile
 import threading
 import time
+from itertools import chain
 
 HERE = os.path.dirname(os.path.dirname(os.path.abspath(__file__)))
 BUILT = os.path.join(HERE, "crates/summarystore/out/summarystore")
@@ -113,22 +114,38 @@ def lengths_of(target, groups):
     return lengths[::-1]
 
 
-def write_store(path, names, target, lengths, order=None):
-    """Writes the file of a store as docs/FORMAT.md says: streams of these names and this target, each with windows of these lengths,
-    the oldest first. All values are 0, and the time of each is its position. The windows lie in the order in which they came, to
-    the streams in turn, or in the order that is given. Gives the rows of `list`, if no merge is due."""
+WINDOW = struct.Struct(">B3xIQQqQqqQQ56x")
+
+
+def stream_record(number, name, target, step=0):
+    """A stream's record, as docs/FORMAT.md says. With a step of 0 it has none."""
     family, *parameters = target.split()
     numbers = [*map(int, parameters), 0][:4]
+    head = struct.pack(">BBBxI4I", 1, 1 if family == "exp" else 2, len(name), number, *numbers)
+    return (head + name.encode().ljust(32, b"\0") + step.to_bytes(4, "big")).ljust(128, b"\0")
+
+
+def window_record(number, first, count, times, total=0, extremes=(0, 0)):
+    """A window's record, whose filter has all bits: the number of its stream, its first position, its summary."""
+    return WINDOW.pack(2, number, first, count, total >> 64, total % 2**64, *extremes, *times)
+
+
+def write_records(path, records):
+    """Writes the file of a store with these records, in the order of their slots."""
+    with open(path, "wb") as file:
+        file.write(b"\xa5SSTORE01".ljust(36864, b"\0"))
+        file.writelines(records)
+
+
+def write_store(path, names, target, lengths, order=None):
+    """Writes the file of a store as docs/FORMAT.md says: streams of these names and this target, each with windows of these lengths,
+    the oldest first. All values are 0, and the time of each is its position. The windows lie in the file in the order in which they
+    came, to the streams in turn, or in the order that is given. Gives the rows of `list`, if no merge is due."""
     firsts = [1]
     for length in lengths:
         firsts.append(firsts[-1] + length)
-    window = struct.Struct(">B3xIQQ32xQQ56x")
-    with open(path, "wb") as file:
-        file.write(b"\xa5SSTORE01".ljust(36864, b"\0"))
-        for number, name in enumerate(names):
-            head = struct.pack(">BBBxI4I", 1, 1 if family == "exp" else 2, len(name), number, *numbers)
-            file.write((head + name.encode()).ljust(128, b"\0"))
-        for at in order or range(len(lengths)):
-            for number in range(len(names)):
-                file.write(window.pack(2, number, firsts[at], lengths[at], firsts[at], firsts[at + 1] - 1))
+    streams = (stream_record(number, name, target) for number, name in enumerate(names))
+    windows = (window_record(number, firsts[at], lengths[at], (firsts[at], firsts[at + 1] - 1))
+               for at in order or range(len(lengths)) for number in range(len(names)))
+    write_records(path, chain(streams, windows))
     return [f"{name} {target} {firsts[-1] - 1} {len(lengths)} 0 0" for name in names]
