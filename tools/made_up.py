@@ -15,6 +15,11 @@ class Series:
         self.hours = [-round(150 * math.cos(math.tau * part / a_day)) for part in range(a_day)]
         self.day_sums, self.hour_sums = [0, *accumulate(self.days)], [0, *accumulate(self.hours)]
 
+    def at(self, position):
+        """The reading at a position."""
+        day, part = divmod(position - 1, self.a_day)
+        return self.days[day] + self.hours[part]
+
     def total(self, number):
         """The sum of so many readings from the first on."""
         day, part = divmod(number, self.a_day)
@@ -70,7 +75,7 @@ SMOOTH = Series(1440)
 
 
 def noisy(position):
-    return SMOOTH.sum(position, position) + looks_random(position, 1) % 201 - 100
+    return SMOOTH.at(position) + looks_random(position, 1) % 201 - 100
 
 
 def spiky(position):
