@@ -72,10 +72,11 @@ class Stream:
     def __init__(self, bytes):
         _, self.family, length, self.dropped, self.number, *self.parameters = struct.unpack_from(">BBBBI4I", bytes)
         self.name = bytes[24 : 24 + length]
+        (self.step,) = struct.unpack_from(">I", bytes, 56)
 
     def spelled(self):
         head = struct.pack(">BBBBI4I", 1, self.family, len(self.name), self.dropped, self.number, *self.parameters)
-        return (head + self.name).ljust(SLOT, b"\0")
+        return ((head + self.name).ljust(56, b"\0") + struct.pack(">I", self.step)).ljust(SLOT, b"\0")
 
     def is_valid(self):
         a, b, c, d = self.parameters
@@ -87,7 +88,12 @@ class Stream:
 
     def target(self):
         words = self.parameters[:3] if self.family == 1 else self.parameters
-        return " ".join(["exp" if self.family == 1 else "power", *map(str, words)])
+        within = f" within {self.step}" if self.step else ""
+        return " ".join(["exp" if self.family == 1 else "power", *map(str, words)]) + within
+
+    def is_in_step(self, time, later):
+        """Whether two times lie in one step of the clock."""
+        return not self.step or time // self.step == later // self.step
 
     def groups(self):
         """How many target windows each group has, and how long they are, counted back from the newest value."""
@@ -264,6 +270,8 @@ class Held:
             return True
         if not are_ordered(self.windows) or not are_landmarks(self.landmarks):
             return False
+        if not all(self.streams[0].is_in_step(window.begins, window.ends) for window in self.windows):
+            return False
         if any(value.landmark > len(self.landmarks) for value in self.values):
             return False
         of = [[value for value in self.values if value.landmark == mark.own] for mark in self.landmarks]
@@ -275,7 +283,8 @@ class Held:
         taken = self.windows[-1].last() if self.windows else 0
         for window in self.windows:
             older = closed[-1] if closed else None
-            if older and stream.target_window(taken - older.first) == stream.target_window(taken - window.last()):
+            together = older and stream.target_window(taken - older.first) == stream.target_window(taken - window.last())
+            if together and stream.is_in_step(older.begins, window.ends):
                 closed[-1] = older.joined(window)
             else:
                 closed.append(window)

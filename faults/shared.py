@@ -167,10 +167,10 @@ def in_blocks(lines, each, most):
 
 
 def script(appends):
-    """Commands that are all accepted: five streams of all kinds, and so many values to them in turn. With the target
+    """Commands that are all accepted: five streams of all kinds, two within steps, and so many values to them in turn. With the target
     `exp 2 1 1` an append makes up to four merges, and the births of streams stand between the values. Two landmarks open
     and close among them, one of them at the time of its last value, and a third stays open."""
-    streams = ["a exp 2 1 1", "b exp 2 1 1", "c exp 3 2 1", "d power 1 1 1 1", "e power 1 0 1 2"]
+    streams = ["a exp 2 1 1", "b exp 2 1 1", "c exp 3 2 1 within 700", "d power 1 1 1 1", "e power 1 0 1 2 within 450"]
     made, lines = 0, []
     for t in range(appends):
         if made < len(streams) and t >= 5 * made:
