@@ -64,7 +64,8 @@ fn limits(alloc: Global) -> Result<String, AllocError> {
     let bits = LAST_TIME.trailing_zeros();
     format!(in alloc;
         "NAME has up to {LONGEST_NAME} letters, digits, _, - and . in it. B is 2 to {GREATEST_BASE}, P 1 to {GREATEST_POWER}, Q 0\n\
-        to {GREATEST_WIDENING}, R and S are 1 to {GREATEST_SCALE}, times are 0 to 2^{bits}, and values have 64 bits"
+        to {GREATEST_WIDENING}, R and S are 1 to {GREATEST_SCALE}, E is 1 to 2^32-1, times are 0 to 2^{bits}, and values\n\
+        have 64 bits"
     )
 }
 
