@@ -1,16 +1,16 @@
--- Bytes and others that have one checksum differ by a number that the steps make nothing of.
-use Rattle.std.proofs.Common.{◌≡◌, ◌≢◌, ◌∙◌, refl, sym, ap, ap₂, ℕ, ◌+◌, ◌-◌, ◌*◌, ◌^◌, ◌<◌, ◌≤◌, List, [], ◌∷◌, length, All, arith, lit<, lit≤, inl, inr}
+-- Bytes one after the other as steps over one number, and in which bits bytes differ from others.
+use Rattle.std.proofs.Common.{◌≡◌, ◌∙◌, refl, sym, ap, ap₂, ℕ, ◌+◌, ◌-◌, ◌*◌, ◌^◌, ◌<◌, ◌≤◌, List, [], ◌∷◌, length, All, arith, lit<, lit≤, inl, inr}
 use Rattle.std.specs.Prelude.{bit_xor}
-use Rattle.std.specs.Int.Bits.{xor_assoc, xor_self, xor_zero_r}
-use Rattle.std.proofs.Math.Nat.{mul-le-mul_right, pow-le-pow_right}
+use Rattle.std.specs.Int.Bits.{xor_assoc, xor_zero_r}
+use Rattle.std.proofs.Math.Nat.{pow-le-pow_right}
 use Rattle.std.proofs.lemmas.Bool.{cases_lt}
 use Rattle.std.proofs.lemmas.List.Elements.{All-head, All-tail}
 use Rattle.std.proofs.lemmas.Nat.{pow-add, xor_comm, xor_lt}
 use Rattle.ss_checksum.specs.Changes.{AreAsLong, difference, number_of}
-use Rattle.ss_checksum.specs.Checksum.{after_bits, after_byte, after_bytes, checksum}
-use Rattle.ss_checksum.proofs.StepLemmas.{after_bits-add, after_bits-shifted, after_bits-some, after_bits-xor, xor_cancel, xor_parts}
+use Rattle.ss_checksum.specs.Checksum.{after_bits, after_byte, after_bytes}
+use Rattle.ss_checksum.proofs.StepLemmas.{after_bits-add, after_bits-shifted, after_bits-xor, xor_parts}
 
-abbrev AreBytes : List ℕ → Type 0
+abbrev pub AreBytes : List ℕ → Type 0
 AreBytes xs = All (λ x. x < 2 ^ 8) xs
 
 -- how many bits bytes have
@@ -30,6 +30,18 @@ number_of-lt (x ∷ xs) bytes =
     let room : 2 ^ (8 + bits_of xs) ≡ 2 ^ 8 * 2 ^ bits_of xs = pow-add 2 8 (bits_of xs) in
     rw room (omega (arith, rest, first))
 
+-- bytes of one number are the same
+pub number_of-same : (xs ys : List ℕ) → AreAsLong xs ys → number_of xs ≡ number_of ys → ys ≡ xs
+number_of-same [] [] long numbers = refl
+number_of-same [] (y ∷ ys) long numbers = absurd (omega (arith, long.same))
+number_of-same (x ∷ xs) [] long numbers = absurd (omega (arith, long.same))
+number_of-same (x ∷ xs) (y ∷ ys) long numbers =
+    let P : ℕ → Type 0 = λ x. x < 2 ^ 8 in
+    let first : x < 2 ^ 8 = All-head P x xs long.bytes in
+    let other : y < 2 ^ 8 = All-head P y ys long.others in
+    let rest : AreAsLong xs ys = record { same = omega (arith, long.same); bytes = All-tail P x xs long.bytes; others = All-tail P y ys long.others } in
+    ap₂ ◌∷◌ (omega (arith, first, other, numbers)) (number_of-same xs ys rest (omega (arith, first, other, numbers)))
+
 -- bytes one after the other are steps over all their bits at once
 pub after_bytes-is : (state : ℕ) (xs : List ℕ) → AreBytes xs → after_bytes state xs ≡ after_bits (bits_of xs) (bit_xor state (number_of xs))
 after_bytes-is state [] bytes = sym (xor_zero_r state)
@@ -46,26 +58,6 @@ after_bytes-is state (x ∷ xs) bytes =
 
 pub bits_of-same : (xs ys : List ℕ) → length ys ≡ length xs → bits_of ys ≡ bits_of xs
 bits_of-same xs ys same = omega (arith, bits_of-is xs, bits_of-is ys)
-
--- the checksums differ by what the steps make of the difference
-pub checksums-differ : (xs ys : List ℕ) → AreAsLong xs ys → bit_xor (checksum xs) (checksum ys) ≡ after_bits (bits_of xs) (difference xs ys)
-unfolding checksum
-checksums-differ xs ys long =
-    let ones = 2 ^ 32 - 1 in
-    let here = after_bytes-is ones xs long.bytes in
-    let there = after_bytes-is ones ys long.others ∙ ap (λ k. after_bits k (bit_xor ones (number_of ys))) (bits_of-same xs ys long.same) in
-    let inner = xor_comm ones (number_of xs) in
-    xor_cancel (after_bytes ones xs) (after_bytes ones ys) ones
-    ∙ ap₂ bit_xor here there
-    ∙ sym (after_bits-xor (bits_of xs) (bit_xor ones (number_of xs)) (bit_xor ones (number_of ys)))
-    ∙ ap (after_bits (bits_of xs)) (ap₂ bit_xor (xor_comm ones (number_of xs)) (xor_comm ones (number_of ys)) ∙ xor_cancel (number_of xs) (number_of ys) ones)
-
--- so they are two where the steps leave something
-pub checksums-apart : (xs ys : List ℕ) → AreAsLong xs ys → 0 < after_bits (bits_of xs) (difference xs ys) → checksum ys ≢ checksum xs
-checksums-apart xs ys long some same =
-    let none : bit_xor (checksum xs) (checksum ys) ≡ 0 = ap (bit_xor (checksum xs)) same ∙ xor_self (checksum xs) in
-    let differ = checksums-differ xs ys long in
-    omega (arith, none, differ, some)
 
 pub difference-lt : (xs ys : List ℕ) → AreAsLong xs ys → difference xs ys < 2 ^ bits_of xs
 difference-lt xs ys long =
@@ -87,11 +79,3 @@ moved_down k at run inside =
     ap (λ n. after_bits n (run * 2 ^ at)) parts
     ∙ after_bits-add at (k - at) (run * 2 ^ at)
     ∙ ap (after_bits (k - at)) (after_bits-shifted at run)
-
-pub bursts : (xs ys : List ℕ) (run at : ℕ) → AreAsLong xs ys → 0 < run → run < 2 ^ 32 → difference xs ys ≡ run * 2 ^ at → checksum ys ≢ checksum xs
-bursts xs ys run at long some few is =
-    let n = bits_of xs in
-    let least : 1 * 2 ^ at ≤ run * 2 ^ at = mul-le-mul_right (2 ^ at) some in
-    let inside : at < n = below_power at n (omega (arith, least, is, difference-lt xs ys long)) in
-    let left : after_bits n (difference xs ys) ≡ after_bits (n - at) run = ap (after_bits n) is ∙ moved_down n at run (omega (arith, inside)) in
-    checksums-apart xs ys long (omega (arith, left, after_bits-some (n - at) run some few))

@@ -1,5 +1,6 @@
 mod Rows
 pub mod ChangeLemmas
+pub mod CodewordLemmas
 pub mod ParityLemmas
 pub mod ReturnLemmas
 pub mod StepLemmas

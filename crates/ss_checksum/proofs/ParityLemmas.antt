@@ -1,13 +1,15 @@
 -- Whether a number has an odd number of bits: no step changes that, since the generator has an odd number of them.
-use Rattle.std.proofs.Common.{◌≡◌, ◌≢◌, ◌∙◌, refl, sym, ap, ap₂, ℕ, zero, suc, ◌+◌, ◌*◌, ◌/◌, ◌%◌, ◌^◌, ◌<◌, ◌≤◌, List, arith, lit<, lit≤, inl, inr}
+use Rattle.std.proofs.Common.{◌≡◌, ◌∙◌, refl, sym, ap, ap₂, ℕ, zero, suc, ◌+◌, ◌*◌, ◌/◌, ◌%◌, ◌^◌, ◌<◌, ◌≤◌, List, arith, lit<, lit≤, inl, inr}
 use Rattle.std.specs.Prelude.{bit_xor}
 use Rattle.std.proofs.Math.Nat.{pow-le-pow_right, pow-suc}
 use Rattle.std.proofs.lemmas.Bool.{cases_eq}
 use Rattle.std.proofs.lemmas.Nat.{xor_comm, xor_mod, xor_shr}
 use Rattle.ss_checksum.specs.Changes.{AreAsLong, difference}
-use Rattle.ss_checksum.specs.Checksum.{after_bit, after_bits, checksum, generator}
+use Rattle.ss_checksum.specs.Checksum.{after_bit, after_bits, generator}
+use Rattle.ss_checksum.specs.Codeword.{IsChecked}
 use Rattle.ss_checksum.proofs.StepLemmas.{after_bit-lt, xor_swap}
-use Rattle.ss_checksum.proofs.ChangeLemmas.{bits_of, checksums-apart, difference-lt}
+use Rattle.ss_checksum.proofs.ChangeLemmas.{AreBytes, bits_of, difference-lt}
+use Rattle.ss_checksum.proofs.CodewordLemmas.{checked-apart}
 
 -- 1 where so many of the lowest bits of a number have an odd number of ones, else 0
 abbrev parity : ℕ → ℕ → ℕ
@@ -86,8 +88,9 @@ parity-power (suc i) (suc w) inside =
     rw (low, half) (parity-power i w (omega (arith, inside)))
 
 -- one bit, or three of which two may be the same, are an odd number
-pub odd : (xs ys : List ℕ) (i j k : ℕ) → AreAsLong xs ys → difference xs ys ≡ bit_xor (2 ^ i) (bit_xor (2 ^ j) (2 ^ k)) → checksum ys ≢ checksum xs
-odd xs ys i j k long is =
+pub odd : (front xs ys : List ℕ) (i j k : ℕ) → AreBytes front → AreAsLong xs ys → IsChecked front xs
+    → difference xs ys ≡ bit_xor (2 ^ i) (bit_xor (2 ^ j) (2 ^ k)) → ¬ IsChecked front ys
+odd front xs ys i j k front_bytes long checked is =
     let n = bits_of xs in
     let more = n + i + j + k in
     let w = more + 32 in
@@ -101,5 +104,5 @@ odd xs ys i j k long is =
     let end : parity w (after_bits n d) ≡ 1 = parity-after_bits more n d few ∙ start in
     elim (cases_eq (after_bits n d) 0) [
       | inl none ↦ absurd (omega (arith, end, parity-zero w, ap (parity w) none))
-      | inr some ↦ checksums-apart xs ys long (omega (arith, some))
+      | inr some ↦ checked-apart front xs ys front_bytes long checked (omega (arith, some))
     ]

@@ -1,8 +1,9 @@
--- Worked rows: the vectors of RFC 3720 (B.4), the usual one, and how bytes differ as numbers.
-use Rattle.std.proofs.Common.{◌≡◌, ◌+◌, ◌*◌, [], ◌∷◌, codes, refl}
+-- Worked rows: the vectors of RFC 3720 (B.4), the usual one, also in two parts, and how bytes differ as numbers.
+use Rattle.std.proofs.Common.{◌≡◌, ◌+◌, ◌*◌, [], ◌∷◌, ◌++◌, codes, refl}
 use Rattle.std.specs.Prelude.{replicate}
 use Rattle.ss_checksum.specs.Changes.{difference, number_of}
 use Rattle.ss_checksum.specs.Checksum.{checksum}
+use Rattle.ss_checksum.specs.Codeword.{IsChecked, check_bytes}
 
 checksum-none : checksum [] ≡ 0
 unfolding checksum
@@ -36,6 +37,15 @@ checksum-read : checksum
     0 ∷ 0 ∷ 0 ∷ 0 ∷ 0 ∷ 0 ∷ 2 ∷ 0 ∷ 0 ∷ 0 ∷ 0 ∷ 0 ∷ 0 ∷ 0 ∷ []) ≡ 3650501206
 unfolding checksum
 checksum-read = refl
+
+-- as RFC 3720 prints the checksum of 32 zeros
+check_bytes-zeros : check_bytes 2324772522 ≡ 170 ∷ 54 ∷ 145 ∷ 138 ∷ []
+check_bytes-zeros = refl
+
+-- the front is in the checksum, and not in the bytes
+IsChecked-digits : IsChecked (codes "1234") (codes "56789" ++ 131 ∷ 146 ∷ 6 ∷ 227 ∷ [])
+unfolding checksum
+IsChecked-digits = record { covered = codes "56789"; are = refl }
 
 -- the first byte is the lowest
 number_of-three : number_of (1 ∷ 2 ∷ 3 ∷ []) ≡ 1 + 2 * 256 + 3 * 65536

@@ -6,4 +6,4 @@ mod laws;
 mod table;
 
 pub use bytewise::checksum;
-pub use laws::{bursts_are_told, few_bits_are_told, spelled_checksums_are_told_apart};
+pub use laws::{bursts_are_told, few_bits_are_told, fronts_are_told};
