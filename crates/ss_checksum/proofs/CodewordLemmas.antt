@@ -18,7 +18,7 @@ use Rattle.ss_checksum.proofs.ChangeLemmas.{AreBytes, after_bytes-is, below_powe
 abbrev ones : ℕ
 ones = 2 ^ 32 - 1
 
-number_of-check : (sum : ℕ) → sum < 2 ^ 32 → number_of (check_bytes sum) ≡ sum
+pub number_of-check : (sum : ℕ) → sum < 2 ^ 32 → number_of (check_bytes sum) ≡ sum
 number_of-check sum few = omega arith
 
 before-bytes : (xs ys : List ℕ) → AreBytes (xs ++ ys) → AreBytes xs

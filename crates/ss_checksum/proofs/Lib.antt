@@ -5,3 +5,4 @@ pub mod ParityLemmas
 pub mod ReturnLemmas
 pub mod StepLemmas
 pub mod TableLemmas
+pub mod WordLemmas

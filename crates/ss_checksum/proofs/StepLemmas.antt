@@ -2,7 +2,7 @@
 use Rattle.std.proofs.Common.{◌≡◌, ◌∙◌, refl, sym, ap, ℕ, zero, suc, ◌+◌, ◌*◌, ◌/◌, ◌%◌, ◌^◌, ◌<◌, ◌≤◌, arith, lit≤, inl, inr}
 use Rattle.std.specs.Prelude.{bit_xor}
 use Rattle.std.specs.Int.Bits.{xor_assoc, xor_self, xor_zero_l, xor_zero_r}
-use Rattle.std.proofs.Math.Nat.{mod-lt, one-le-pow, pow-le-pow_right, pow-suc}
+use Rattle.std.proofs.Math.Nat.{one-le-pow, pow-le-pow_right, pow-suc}
 use Rattle.std.proofs.lemmas.Bool.{cases_eq}
 use Rattle.std.proofs.lemmas.Nat.{div-add-mod', xor_comm, xor_lt, xor_mod, xor_block, xor_shr}
 use Rattle.ss_checksum.specs.Checksum.{generator, after_bit, after_bits}
@@ -86,15 +86,34 @@ pub after_bits-lt : (w k s : ℕ) → 32 ≤ w → s < 2 ^ w → after_bits k s 
 after_bits-lt w zero s wide few = few
 after_bits-lt w (suc k) s wide few = after_bits-lt w k (after_bit s) wide (after_bit-lt w s wide few)
 
--- the bits above the lowest k only move
-pub after_bits-split : (k x : ℕ) → after_bits k x ≡ bit_xor (after_bits k (x % 2 ^ k)) (x / 2 ^ k)
-after_bits-split k x =
-    let low : x % 2 ^ k < 2 ^ k = mod-lt x (one-le-pow k 2 (lit≤ tt)) in
-    let whole : bit_xor (x / 2 ^ k * 2 ^ k) (x % 2 ^ k) ≡ x = xor_parts (x / 2 ^ k) k (x % 2 ^ k) low ∙ div-add-mod' x (2 ^ k) in
-    ap (after_bits k) (sym whole)
-    ∙ after_bits-xor k (x / 2 ^ k * 2 ^ k) (x % 2 ^ k)
-    ∙ ap (λ y. bit_xor y (after_bits k (x % 2 ^ k))) (after_bits-shifted k (x / 2 ^ k))
-    ∙ xor_comm (x / 2 ^ k) (after_bits k (x % 2 ^ k))
+-- more steps than a byte has bits, of a number: of its lowest byte, and those that are left of what is above it
+pub after_bits-byte : (k x : ℕ) → after_bits (8 + k) x ≡ bit_xor (after_bits (8 + k) (x % 256)) (after_bits k (x / 256))
+after_bits-byte k x =
+    let low : x % 2 ^ 8 < 2 ^ 8 = omega arith in
+    let whole : bit_xor (x / 2 ^ 8 * 2 ^ 8) (x % 2 ^ 8) ≡ x = xor_parts (x / 2 ^ 8) 8 (x % 2 ^ 8) low ∙ div-add-mod' x (2 ^ 8) in
+    let above : after_bits (8 + k) (x / 2 ^ 8 * 2 ^ 8) ≡ after_bits k (x / 2 ^ 8) =
+    after_bits-add 8 k (x / 2 ^ 8 * 2 ^ 8) ∙ ap (after_bits k) (after_bits-shifted 8 (x / 2 ^ 8)) in
+    ap (after_bits (8 + k)) (sym whole)
+    ∙ after_bits-xor (8 + k) (x / 2 ^ 8 * 2 ^ 8) (x % 2 ^ 8)
+    ∙ xor_comm (after_bits (8 + k) (x / 2 ^ 8 * 2 ^ 8)) (after_bits (8 + k) (x % 2 ^ 8))
+    ∙ ap (bit_xor (after_bits (8 + k) (x % 2 ^ 8))) above
+
+-- of 32 bits, byte by byte
+pub after_bits-four : (k x : ℕ) → x < 2 ^ 32 → after_bits (8 + (8 + (8 + (8 + k)))) x ≡ bit_xor (bit_xor (bit_xor
+    (after_bits (8 + (8 + (8 + (8 + k)))) (x % 256)) (after_bits (8 + (8 + (8 + k))) (x / 256 % 256)))
+    (after_bits (8 + (8 + k)) (x / 65536 % 256))) (after_bits (8 + k) (x / 16777216 % 256))
+after_bits-four k x few =
+    let next : x / 256 / 256 ≡ x / 65536 = omega arith in
+    let last : x / 65536 / 256 ≡ x / 16777216 % 256 = omega (arith, few) in
+    let a = after_bits (8 + (8 + (8 + (8 + k)))) (x % 256) in
+    let b = after_bits (8 + (8 + (8 + k))) (x / 256 % 256) in
+    let c = after_bits (8 + (8 + k)) (x / 65536 % 256) in
+    let d = after_bits (8 + k) (x / 16777216 % 256) in
+    after_bits-byte (8 + (8 + (8 + k))) x
+    ∙ ap (bit_xor a) (after_bits-byte (8 + (8 + k)) (x / 256) ∙ ap (λ y. bit_xor b (after_bits (8 + (8 + k)) y)) next
+    ∙ ap (bit_xor b) (after_bits-byte (8 + k) (x / 65536) ∙ ap (λ y. bit_xor c (after_bits (8 + k) y)) last))
+    ∙ sym (xor_assoc a b (bit_xor c d))
+    ∙ sym (xor_assoc (bit_xor a b) c d)
 
 -- no step leaves nothing of 32 bits, since the generator has its highest bit
 after_bit-some : (s : ℕ) → 0 < s → s < 2 ^ 32 → 0 < after_bit s

@@ -2,7 +2,7 @@ use Rattle.std.proofs.Common.{◌-◌, ◌^◌, ◌∙◌, ap, sym}
 use Rattle.std.proofs.lemmas.List.Sums.{fold-append}
 use Rattle.std.specs.Prelude.{bit_xor}
 use Rattle.ss_checksum.specs.Checksum.{after_byte, after_bytes, checksum}
-use Rattle.ss_checksum.proofs.bytewise.checksum.Goals as goal
+use Rattle.ss_checksum.proofs.walking.checksum.Goals as goal
 
 pub returns : goal.returns
 unfolding checksum

@@ -1,7 +1,7 @@
 use Rattle.std.proofs.Common.{◌≡◌}
 use Rattle.std.specs.Prelude.{drop}
 use Rattle.ss_checksum.specs.Checksum.{after_bytes}
-use Rattle.ss_checksum.proofs.bytewise.advance.Given as goal
+use Rattle.ss_checksum.proofs.walking.by_bytes.Given as goal
 
 -- the bytes that are left lead to where all lead
 abbrev pub invariant-bytes : goal.invariant-bytes
