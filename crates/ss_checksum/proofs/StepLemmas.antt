@@ -86,7 +86,7 @@ pub after_bits-lt : (w k s : ℕ) → 32 ≤ w → s < 2 ^ w → after_bits k s 
 after_bits-lt w zero s wide few = few
 after_bits-lt w (suc k) s wide few = after_bits-lt w k (after_bit s) wide (after_bit-lt w s wide few)
 
--- more steps than a byte has bits, of a number: of its lowest byte, and those that are left of what is above it
+-- steps over a byte and more: all of them of the lowest byte, and those behind it of what stands above
 pub after_bits-byte : (k x : ℕ) → after_bits (8 + k) x ≡ bit_xor (after_bits (8 + k) (x % 256)) (after_bits k (x / 256))
 after_bits-byte k x =
     let low : x % 2 ^ 8 < 2 ^ 8 = omega arith in

@@ -42,7 +42,7 @@ rows-at (suc more) (suc k) index row few inside =
     ∙ sym (after_bits-add 8 (k * 8) (slice_index_or row index 0))
     ∙ ap (λ n. after_bits n (slice_index_or row index 0)) steps
 
--- of a byte, by one of the tables
+-- what one of the tables has of a byte
 abbrev pub entry : ℕ → ℕ → ℕ
 entry k index = slice_index_or (slice_index_or TABLES k []) index 0
 
@@ -65,7 +65,7 @@ table-step state byte few =
     let high : x / 2 ^ 8 ≡ state / 2 ^ 8 = xor_shr state byte 8 ∙ ap (bit_xor (state / 2 ^ 8)) none ∙ xor_zero_r (state / 2 ^ 8) in
     rw low (ap₂ bit_xor (entry-is 0 (x % 2 ^ 8) (lit< tt) inside) (sym high) ∙ sym (after_bits-byte 0 x))
 
--- of four bytes, by four tables
+-- what four tables have of four bytes, from the table k up, the last byte by that
 abbrev pub entries : ℕ → List ℕ → ℕ
 entries k bytes = bit_xor (bit_xor (bit_xor (entry (3 + k) (slice_index_or bytes 0 0)) (entry (2 + k) (slice_index_or bytes 1 0)))
     (entry (1 + k) (slice_index_or bytes 2 0))) (entry k (slice_index_or bytes 3 0))

@@ -41,7 +41,7 @@ pub fn with_four(state: u32, bytes: &[u8; 4]) -> u32
     after_four(state ^ u32::from_le_bytes(*bytes))
 }
 
-// With eight more bytes: what the first four leave goes on beside the others.
+// With eight more bytes. What the last four leave waits for nothing, so it stands first.
 pub fn with_eight(state: u32, front: &[u8; 4], back: &[u8; 4]) -> u32
     ensures { result ≡ after_bytes (after_bytes state front.now) back.now }
 {
