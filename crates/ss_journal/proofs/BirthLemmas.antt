@@ -1,23 +1,25 @@
 -- The steps of the birth, and what a crash may leave of them.
 use Rattle.std.proofs.lemmas.Result.{on_ok_weaker}
-use Rattle.std.proofs.Common.{IsFalse, IsTrue, List, Ok, Result, [], ap, arith, drop, inl, inr, length, max, nat_eq, refl, replicate, subst, sym, take, ℕ, ◌++◌}
-use Rattle.std.proofs.Common.{◌+◌, ◌-◌, ◌<◌, ◌∙◌, ◌∷◌, ◌≡◌, ◌≤◌}
-use Rattle.std.proofs.lemmas.Bool.{cases_Bool, cases_lt, cond-false, cond-true, eqb-false, eqb-true}
+use Rattle.std.proofs.Common.{IsFalse, IsTrue, List, Ok, Result, [], ap, arith, drop, inl, inr, length, max, nat_le, refl, replicate, subst, sym, take, ℕ, ◌++◌}
+use Rattle.std.proofs.Common.{◌+◌, ◌-◌, ◌<◌, ◌==◌, ◌∙◌, ◌∷◌, ◌≡◌, ◌≤◌}
+use Rattle.std.proofs.lemmas.Bool.{cases_Bool, cases_lt, cond-false, cond-true, eqb-true, leb-true, or_cases, or_parts}
 use Rattle.std.proofs.lemmas.List.{append-nil, get_or-replicate, get_or_past, length-replicate, take-append-drop}
 use Rattle.std.specs.Prelude.{IsErr, slice_index}
 use Rattle.ss_outside.proofs.DiskLemmas.{get_or-overwrite_inside, get_or-overwrite_outside, length-overwrite}
 use Rattle.ss_outside.specs.Crash.{KnowsNow, OnlyReads}
 use Rattle.ss_outside.specs.Disk.{Told, overwrite}
-use Rattle.ss_journal.specs.Birth.{IsBegun, IsFormed, Leads, blank_end, form_ranges, magic_bytes}
+use Rattle.ss_journal.specs.Birth.{Begins, IsBegun, IsFormed, Leads, has_no_kind, blank_end, form_ranges, magic_bytes}
 use Rattle.ss_outside.specs.Step.{Syncs}
 use Rattle.ss_outside.specs.declared.source.Failed.{Failed}
-use Rattle.ss_journal.specs.Format.{IsShut, has_magic, is_born, is_unborn, magic, slots_in}
+use Rattle.ss_journal.specs.declared.kind.Kind.{Kind}
+use Rattle.ss_journal.specs.declared.kind.Kind.TheVariants.{Plain, Checked}
+use Rattle.ss_journal.specs.Format.{IsShut, has_magic, has_magic_of, is_born, is_unborn, kind_of, magic, slots_in}
 use Rattle.ss_journal.specs.Gates.{opens}
 use Rattle.ss_journal.specs.Redo.{Gives, Redone, SameMap, SlotMap, StandsFor, blank_map}
 use Rattle.ss_journal.specs.Steps.{Durably, Marks, Reaches, Rewrites, Writes, WritesZeros}
 use Rattle.ss_journal.specs.Writes.{SameRest, DiffersAt, DiffersIn, Tears, length_with}
 use Rattle.ss_journal.proofs.GateLemmas.{StandsFor-first_closed}
-use Rattle.ss_journal.proofs.HeaderLemmas.{has_magic-same, is_born-from, is_unborn-cases, is_unborn-gate, is_unborn-short, is_unborn-zero, long-has_magic}
+use Rattle.ss_journal.proofs.HeaderLemmas.{has_magic-same, kind_of-other, kind_of-same, kind_of-short, length-magic, is_born-from, is_unborn-cases, is_unborn-gate, is_unborn-short, is_unborn-zero, long-has_magic}
 use Rattle.ss_journal.proofs.MapLemmas.{SameMap-trans, file_map-blank}
 use Rattle.ss_journal.proofs.RangeLemmas.{SameRest-differs, DiffersIn-append, DiffersIn-overwrite, DiffersIn-refl, get_or-differs, length-differs}
 use Rattle.ss_journal.proofs.RedoLemmas.{StandsFor-from, redo-unborn}
@@ -25,7 +27,7 @@ use Rattle.ss_journal.proofs.StepLemmas.{reaches-joined, reaches-read, reaches-r
 use Rattle.ss_journal.proofs.TearLemmas.{tears-joined}
 
 -- unformatted files with as many slots stand for one map
-StandsFor-unborn : (content image : List ℕ) (found : SlotMap) → IsTrue (is_unborn content) → StandsFor content found → IsTrue (is_unborn image)
+pub StandsFor-unborn : (content image : List ℕ) (found : SlotMap) → IsTrue (is_unborn content) → StandsFor content found → IsTrue (is_unborn image)
     → slots_in (length image) ≡ slots_in (length content) → StandsFor image found
 StandsFor-unborn content image found unborn is still slots =
     let its : SameMap (blank_map content) found = subst (λ (r : Redone). Gives r found) (redo-unborn content unborn) is in
@@ -57,38 +59,63 @@ IsBegun-long content unborn long = record {
   some = omega (arith, long);
 }
 
-SameRest-overwrite : (content : List ℕ) (at : ℕ) (bytes : List ℕ) → at ≤ length content → at + length bytes ≤ 134254592
+pub SameRest-overwrite : (content : List ℕ) (at : ℕ) (bytes : List ℕ) → at ≤ length content → at + length bytes ≤ 134254592
     → SameRest content (overwrite content at bytes)
 SameRest-overwrite content at bytes within below place past = get_or-overwrite_outside content bytes at within place (inr (omega (arith, below, past)))
+
+-- one 0 is of no checked store, and nothing shorter is
+kind_of-begun : (content : List ℕ) → length content ≤ 1 → kind_of (overwrite content 0 (0 ∷ [])) ≡ kind_of content
+kind_of-begun content short =
+    kind_of-short (overwrite content 0 (0 ∷ [])) (omega (arith, short, length-overwrite content (0 ∷ []) 0 (omega arith)))
+    ∙ sym (kind_of-short content (omega (arith, short)))
 
 -- a write of one 0 after a read of the length
 module _ (old read new : Told) (knows : KnowsNow old) (reads : OnlyReads old read) where
   module _ (short : length old.content ≤ 1) where
     pub begun-failed : {step : Result (Unit {0}) Failed} (result : Result (Unit {0}) Failed) → IsErr result → Writes 0 (0 ∷ []) step read new
-        → Reaches (Leads IsBegun) result old new
-    begun-failed result is wrote = reaches-torn (Leads IsBegun) result is (writes-after_read 0 (0 ∷ []) old read new knows reads wrote)
+        → Reaches Begins result old new
+    begun-failed result is wrote = reaches-torn Begins result is (writes-after_read 0 (0 ∷ []) old read new knows reads wrote)
         (λ found image stands differs. StandsFor-begin old.content image found short stands differs)
 
-    pub begun-short : (value done : Unit {0}) → Durably (Writes 0 (0 ∷ [])) (Ok value) read new → Reaches (Leads IsBegun) (Ok done) old new
+    pub begun-short : (value done : Unit {0}) → Durably (Writes 0 (0 ∷ [])) (Ok value) read new → Reaches Begins (Ok done) old new
     begun-short value done wrote =
-        reaches-rewritten (Leads IsBegun) (Ok done) (writes-after_read 0 (0 ∷ []) old read new knows reads wrote.step) (λ only. wrote.durable)
+        reaches-rewritten Begins (Ok done) (writes-after_read 0 (0 ∷ []) old read new knows reads wrote.step) (λ only. wrote.durable)
         (λ found image stands differs. StandsFor-begin old.content image found short stands differs)
-        (DiffersIn-overwrite 0 old.content (0 ∷ []) (omega arith))
-        (IsBegun-short old.content short, SameRest-overwrite old.content 0 (0 ∷ []) (omega arith) (omega arith))
+        (DiffersIn-overwrite 0 old.content (0 ∷ []) (omega arith)) (
+          record {
+            there = IsBegun-short old.content short;
+            kind = kind_of-begun old.content short;
+            rest = SameRest-overwrite old.content 0 (0 ∷ []) (omega arith) (omega arith);
+          },
+          λ _. get_or-overwrite_inside old.content (0 ∷ []) 0 (omega arith) 0 (omega arith),
+        )
+
+zero-free : (content : List ℕ) → 1 < length content → IsTrue (has_no_kind content) → slice_index content 0 ≡ 0
+zero-free content long free = elim (or_cases (nat_le (length content) 1) (slice_index content 0 == 0) free) [
+  | inl short ↦ absurd (omega (arith, long, leb-true (length content) 1 short))
+  | inr zero ↦ eqb-true (slice_index content 0) 0 zero
+]
 
 pub begun-long : (old read : Told) → KnowsNow old → OnlyReads old read → IsTrue (is_unborn old.content) → 1 < length old.content → (done : Unit {0})
-    → Reaches (Leads IsBegun) (Ok done) old read
+    → Reaches Begins (Ok done) old read
 begun-long old read knows reads unborn long done =
-    reaches-read (Leads IsBegun) (Ok done) knows reads (IsBegun-long old.content unborn long, λ place past. refl)
+    reaches-read Begins (Ok done) knows reads (
+      record {
+        there = IsBegun-long old.content unborn long;
+        kind = refl;
+        rest = λ place past. refl;
+      },
+      λ free. zero-free old.content long free,
+    )
 
 -- as many slots, with what is written after the magic
 slots_in-blank : (size longer : ℕ) → size ≤ longer → longer ≤ max (max size 9) (blank_end size) → slots_in longer ≡ slots_in size
 slots_in-blank size longer le most = omega arith
 
 pub few-magic_bytes : (content : List ℕ) → length (magic_bytes content) ≤ 8
-few-magic_bytes content = elim (cases_Bool (nat_eq (slice_index content 0) 0)) [
-  | inl zero ↦ omega (arith, ap length (cond-true (nat_eq (slice_index content 0) 0) magic [] zero))
-  | inr other ↦ omega (arith, ap length (cond-false (nat_eq (slice_index content 0) 0) magic [] other))
+few-magic_bytes content = elim (cases_Bool (has_magic content)) [
+  | inl there ↦ omega (arith, ap length (cond-true (has_magic content) [] (magic Plain) there))
+  | inr none ↦ omega (arith, ap length (cond-false (has_magic content) [] (magic Plain) none), length-magic Plain)
 ]
 
 -- the magic and the zeros after it, lost, torn or whole
@@ -103,28 +130,22 @@ StandsFor-form content image found begun is differs = StandsFor-unborn content i
     first = differs.kept 0 begun.some (inl (omega arith), (inl (omega arith), tt))
 
     -- with the magic there nothing is written before it
-    unborn-magic : IsFalse (nat_eq (slice_index content 0) 0) → IsTrue (has_magic content) → IsTrue (is_unborn image)
-    unborn-magic other magic_there =
+    unborn-magic : IsTrue (has_magic content) → IsTrue (is_unborn image)
+    unborn-magic magic_there =
         let nine = long-has_magic content magic_there in
-        let none : length (magic_bytes content) ≡ 0 = ap length (cond-false (nat_eq (slice_index content 0) 0) magic [] other) in
+        let none : length (magic_bytes content) ≡ 0 = ap length (cond-true (has_magic content) [] (magic Plain) magic_there) in
         let same = has_magic-same content image nine (omega (arith, nine, differs.no_shorter))
         (λ place low high. differs.kept place (omega (arith, high, nine)) (inr (omega (arith, none, low)), (inl high, tt))) in
         elim (is_unborn-cases content begun.unborn) [
           | inl short ↦ absurd (omega (arith, short, nine))
           | inr late ↦ elim late [
-            | inl zero ↦ absurd (eqb-false (slice_index content 0) 0 other zero)
+            | inl zero ↦ is_unborn-zero image (first ∙ zero)
             | inr there ↦ is_unborn-gate image (same ∙ there.0) (subst (λ (byte : ℕ). IsFalse (opens byte)) (sym first) there.1)
           ]
         ]
 
     unborn : IsTrue (is_unborn image)
-    unborn = elim (cases_Bool (nat_eq (slice_index content 0) 0)) [
-      | inl zero ↦ is_unborn-zero image (first ∙ eqb-true (slice_index content 0) 0 zero)
-      | inr other ↦ elim begun.gate [
-        | inl zero ↦ absurd (eqb-false (slice_index content 0) 0 other zero)
-        | inr magic_there ↦ unborn-magic other magic_there
-      ]
-    ]
+    unborn = elim begun.gate [ inl zero ↦ is_unborn-zero image (first ∙ zero) | inr there ↦ unborn-magic there ]
 
 pub SameRest-trans : (first second third : List ℕ) → SameRest first second → SameRest second third → SameRest first third
 SameRest-trans first second third was is place past = is place past ∙ was place past
@@ -132,9 +153,13 @@ SameRest-trans first second third was is place past = is place past ∙ was plac
 overwrite-nothing : (content : List ℕ) → overwrite content 1 [] ≡ content
 overwrite-nothing content = ap (λ (front : List ℕ). front ++ drop 1 content) (append-nil (take 1 content)) ∙ take-append-drop 1 content
 
-has_magic-overwrite : (content : List ℕ) → 0 < length content → IsTrue (has_magic (overwrite content 1 magic))
-has_magic-overwrite [] some = absurd (omega (arith, some))
-has_magic-overwrite (byte ∷ content) some = refl
+-- the magic of a kind that was written tells it
+pub is_magic-overwrite : (kind : Kind) (content : List ℕ) → 0 < length content
+    → IsTrue (has_magic (overwrite content 1 (magic kind))) × (kind_of (overwrite content 1 (magic kind)) ≡ kind)
+unfolding kind_of
+is_magic-overwrite kind [] some = absurd (omega (arith, some))
+is_magic-overwrite Plain (byte ∷ content) some = (refl, refl)
+is_magic-overwrite Checked (byte ∷ content) some = (refl, refl)
 
 module _ (content : List ℕ) (begun : IsBegun content) where
   abbrev marked : List ℕ
@@ -158,17 +183,24 @@ module _ (content : List ℕ) (begun : IsBegun content) where
     ]
   ]
 
-  has_magic-marked : IsTrue (has_magic marked)
-  has_magic-marked = elim (cases_Bool (nat_eq (slice_index content 0) 0)) [
-    | inl zero ↦
-        let all : magic_bytes content ≡ magic = cond-true (nat_eq (slice_index content 0) 0) magic [] zero in
-        subst (λ (bytes : List ℕ). IsTrue (has_magic (overwrite content 1 bytes))) (sym all) (has_magic-overwrite content begun.some)
+  abbrev IsSoMarked : List ℕ → Type 0
+  IsSoMarked list = IsTrue (has_magic list) × (kind_of list ≡ kind_of content)
+
+  is_magic-marked : IsSoMarked marked
+  is_magic-marked = elim (cases_Bool (has_magic content)) [
+    | inl there ↦
+        let none : magic_bytes content ≡ [] = cond-true (has_magic content) [] (magic Plain) there in
+        subst (λ (bytes : List ℕ). IsSoMarked (overwrite content 1 bytes)) (sym none)
+        (subst IsSoMarked (sym (overwrite-nothing content)) (there, refl))
     | inr other ↦
-        let none : magic_bytes content ≡ [] = cond-false (nat_eq (slice_index content 0) 0) magic [] other in
-        let there : IsTrue (has_magic content) = elim begun.gate [ inl zero ↦ absurd (eqb-false (slice_index content 0) 0 other zero) | inr stands ↦ stands ] in
-        subst (λ (bytes : List ℕ). IsTrue (has_magic (overwrite content 1 bytes))) (sym none)
-        (subst (λ (list : List ℕ). IsTrue (has_magic list)) (sym (overwrite-nothing content)) there)
+        let all : magic_bytes content ≡ magic Plain = cond-false (has_magic content) [] (magic Plain) other in
+        let plain : kind_of content ≡ Plain = kind_of-other content (or_parts (has_magic_of Plain content) (has_magic_of Checked content) other).1 in
+        let there = is_magic-overwrite Plain content begun.some in
+        subst (λ (bytes : List ℕ). IsSoMarked (overwrite content 1 bytes)) (sym all) (there.0, there.1 ∙ sym plain)
   ]
+
+  has_magic-marked : IsTrue (has_magic marked)
+  has_magic-marked = is_magic-marked.0
 
   pub long-marked : 9 ≤ length marked
   long-marked = long-has_magic marked has_magic-marked
@@ -209,6 +241,9 @@ module _ (content : List ℕ) (begun : IsBegun content) where
       long = omega (arith, length-blank, is_end);
       blank = zero-at;
     }
+
+    kind-blank : kind_of blank ≡ kind_of content
+    kind-blank = kind_of-same marked blank long-marked (omega (arith, length-blank, long-marked)) (λ place low high. below place high) ∙ is_magic-marked.1
 
     -- both writes differ from the content where they are made
     pub DiffersIn-blank : DiffersIn (form_ranges content) content blank
@@ -263,7 +298,11 @@ module _ (old read marked : Told) (knows : KnowsNow old) (reads : OnlyReads old 
       wipes-synced none synced result knows_blank wipes syncs =
           reaches-rewritten (Leads IsFormed) result (rewrites-synced none result (to_blank wipes) knows_blank syncs) (λ only. syncs.durable)
           (λ found image stands differs. StandsFor-form old.content image found begun stands differs)
-          (DiffersIn-blank old.content begun end is_end) (IsFormed-blank old.content begun end is_end, SameRest-blank old.content begun end is_end)
+          (DiffersIn-blank old.content begun end is_end) (record {
+            there = IsFormed-blank old.content begun end is_end;
+            kind = kind-blank old.content begun end is_end;
+            rest = SameRest-blank old.content begun end is_end;
+          })
 
 is_unborn-formed : (content : List ℕ) → IsFormed content → IsTrue (is_unborn content)
 is_unborn-formed content formed = is_unborn-gate content formed.marked formed.closed
@@ -281,6 +320,9 @@ module _ (content image : List ℕ) (formed : IsFormed content) (differs : Diffe
   magic-image : IsTrue (has_magic image)
   magic-image = has_magic-same content image (omega (arith, formed.long)) (omega (arith, formed.long, length-image)) (λ place low high. beside place low)
       ∙ formed.marked
+
+  pub kind-image : kind_of image ≡ kind_of content
+  kind-image = kind_of-same content image (omega (arith, formed.long)) (omega (arith, formed.long, length-image)) (λ place low high. beside place low)
 
   blank-image : (place : ℕ) → 9 ≤ place → place < 134254592 → slice_index image place ≡ 0
   blank-image place low high = beside place (omega (arith, low)) ∙ formed.blank place low high
@@ -322,18 +364,29 @@ gate-opened old new result formed wrote = record {
   step = reaches-rewritten (Leads IsShut) result wrote.step (λ only. wrote.durable)
       (λ found image stands differs. StandsFor-birth_gate old.content image formed differs found stands)
       (DiffersIn-overwrite 0 old.content (165 ∷ []) (omega arith))
-      (birth-opened old.content formed, SameRest-overwrite old.content 0 (165 ∷ []) (omega arith) (omega arith));
+      (record {
+        there = birth-opened old.content formed;
+        kind = kind-image old.content (overwrite old.content 0 (165 ∷ [])) formed (DiffersIn-overwrite 0 old.content (165 ∷ []) (omega arith));
+        rest = SameRest-overwrite old.content 0 (165 ∷ []) (omega arith) (omega arith);
+      });
   durable = wrote.durable;
 }
 
+-- a step that leads on after another
+pub Leads-joined : {P Q : List ℕ → Type 0} (first second third : List ℕ) → Leads P first second → Leads Q second third → Leads Q first third
+Leads-joined first second third was is = record {
+  there = is.there;
+  kind = is.kind ∙ was.kind;
+  rest = SameRest-trans first second third was.rest is.rest;
+}
+
 -- the whole birth
-pub born-joined : (old begun formed new : Told) (first second : Unit {0}) (result : Result (Unit {0}) Failed) → Reaches (Leads IsBegun) (Ok first) old begun
+pub born-joined : (old begun formed new : Told) (first second : Unit {0}) (result : Result (Unit {0}) Failed) → Reaches Begins (Ok first) old begun
     → Reaches (Leads IsFormed) (Ok second) begun formed → Durably (Reaches (Leads IsShut)) result formed new
     → Durably (Reaches (Leads IsShut)) result old new
 born-joined old begun formed new first second result begins forms opens = record {
   step = reaches-joined second result
-      (reaches-joined {S = Leads IsFormed} first (Ok second) begins forms
-      (λ was is. (is.0, SameRest-trans old.content begun.content formed.content was.1 is.1)))
-      opens.step (λ was is. (is.0, SameRest-trans old.content formed.content new.content was.1 is.1));
+      (reaches-joined {S = Leads IsFormed} first (Ok second) begins forms (λ was is. Leads-joined old.content begun.content formed.content was.0 is))
+      opens.step (Leads-joined old.content formed.content new.content);
   durable = opens.durable;
 }

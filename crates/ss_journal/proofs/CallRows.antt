@@ -1,5 +1,5 @@
 -- Rows that pin what the calls of a journal leave, field by field.
-use Rattle.std.proofs.Common.{◌≡◌, ◌⊎◌, ◌+◌, ◌*◌, ◌<◌, ℕ, List, [], ◌∷◌, length, Result, Ok, Err, IsTrue, refl, lit≤}
+use Rattle.std.proofs.Common.{◌≡◌, ◌⊎◌, ◌+◌, ◌*◌, ◌<◌, ℕ, List, [], ◌∷◌, length, Result, Ok, Err, IsTrue, IsFalse, Bool, true, not, ◌&&◌, ◌||◌, refl, lit≤}
 use Rattle.ss_outside.specs.Crash.{LeavesOnly, OnlyReads}
 use Rattle.ss_outside.specs.Disk.{NothingPending, Told}
 use Rattle.ss_outside.specs.declared.source.Failed.{Failed}
@@ -8,17 +8,22 @@ use Rattle.ss_journal.specs.declared.journal_error.JournalError.TheVariants.{Not
 use Rattle.ss_journal.specs.declared.phase.Phase.TheVariants.{Settled}
 use Rattle.ss_journal.specs.declared.put.Put.{Put}
 use Rattle.ss_journal.specs.Calls.{ChangesMap, Commits, HasCommitted, HasMadeRoom, HasSealed, HasSettled, HasStaged, KeepsMap, KeepsShown, MakesDurable}
-use Rattle.ss_journal.specs.Calls.{MakesRoom, Opens, ReadsPage, ReadsSlot, Seals, Settles, Stages, entries_after, slot_in_page}
-use Rattle.ss_journal.specs.Format.{is_born, is_unborn, magic}
-use Rattle.ss_journal.specs.Kept.{IsKept, IsSealed, IsSettled, JournalState, shown}
+use Rattle.ss_journal.specs.Calls.{MakesChecked, MakesRoom, Opens, ReadsPage, ReadsSlot, Seals, Settles, Stages, entries_after, slot_in_page}
+use Rattle.ss_journal.specs.Birth.{has_no_kind}
+use Rattle.ss_journal.specs.Format.{is_born, is_plain, is_unborn, kind_of, magic}
+use Rattle.ss_journal.specs.Kept.{IsKept, IsSealed, IsSettled, IsShown, JournalState, shown}
+use Rattle.ss_journal.specs.declared.kind.Kind.TheVariants.{Plain, Checked}
 use Rattle.ss_journal.specs.Puts.{extent_after}
 use Rattle.ss_journal.specs.Redo.{SameMap, SlotMap, StandsFor, bad_entry, changed, not_a_store, redo}
 use Rattle.ss_journal.specs.Writes.{SameRest}
 use Rattle.std.specs.Prelude.{codes, slice_index}
 
 -- the bytes that stand after the birth gate
-magic-letters : magic ≡ codes "SSTORE01"
-magic-letters = refl
+magic-plain : magic Plain ≡ codes "SSTORE01"
+magic-plain = refl
+
+magic-checked : magic Checked ≡ codes "SSTORE02"
+magic-checked = refl
 
 module _ (old new : Told) (found : SlotMap) where
   KeepsMap-Ok : KeepsMap {T = Unit {0}} {E = Failed} old new (Ok tt) → StandsFor old.content found → StandsFor new.content found
@@ -118,7 +123,7 @@ module _ (old new : Told) (journal : JournalState) where
 
 -- a journal with something staged
 abbrev one_staged : JournalState
-one_staged = record { phase = Settled; extent = 1; in_use = 1; waiting = []; sealed = 0; staged = 165 ∷ 1 ∷ [] }
+one_staged = record { phase = Settled; extent = 1; in_use = 1; waiting = []; sealed = 0; staged = 165 ∷ 1 ∷ []; kind = Plain }
 
 module _ (old new : Told) (was then : JournalState) where
   MakesRoom-kept : MakesRoom was then (Ok tt) old new → IsKept then new.content
@@ -141,6 +146,9 @@ module _ (old new : Told) (was then : JournalState) where
   Stages-kept puts content stages = stages.kept
 
 module _ (old new : JournalState) where
+  HasSettled-kind : HasSettled old new → new.kind ≡ old.kind
+  HasSettled-kind has = has.kind
+
   HasSettled-settled : HasSettled old new → IsSettled new
   HasSettled-settled has = has.settled
 
@@ -152,6 +160,9 @@ module _ (old new : JournalState) where
 
   HasSettled-sealed : HasSettled old new → IsSealed new
   HasSettled-sealed has = has.sealed
+
+  HasMadeRoom-kind : HasMadeRoom old new → new.kind ≡ old.kind
+  HasMadeRoom-kind has = has.kind
 
   HasMadeRoom-settled : HasMadeRoom old new → IsSettled new
   HasMadeRoom-settled has = has.settled
@@ -168,6 +179,9 @@ module _ (old new : JournalState) where
   HasMadeRoom-sealed : HasMadeRoom old new → IsSealed old → IsSealed new
   HasMadeRoom-sealed has = has.sealed
 
+  HasSealed-kind : HasSealed old new → new.kind ≡ old.kind
+  HasSealed-kind has = has.kind
+
   HasSealed-settled : HasSealed old new → IsSettled new
   HasSealed-settled has = has.settled
 
@@ -183,6 +197,9 @@ module _ (old new : JournalState) where
   HasSealed-sealed : HasSealed old new → IsSealed new
   HasSealed-sealed has = has.sealed
 
+  HasStaged-kind : (puts : List Put) → HasStaged puts old new → new.kind ≡ old.kind
+  HasStaged-kind puts has = has.kind
+
   HasStaged-settled : (puts : List Put) → HasStaged puts old new → IsSettled new
   HasStaged-settled puts has = has.settled
 
@@ -194,6 +211,9 @@ module _ (old new : JournalState) where
 
   HasStaged-some : (puts : List Put) → HasStaged puts old new → 0 < length new.staged
   HasStaged-some puts has = has.some
+
+  HasCommitted-kind : (puts : List Put) → HasCommitted puts old new → new.kind ≡ old.kind
+  HasCommitted-kind puts has = has.kind
 
   HasCommitted-settled : (puts : List Put) → HasCommitted puts old new → IsSettled new
   HasCommitted-settled puts has = has.settled
@@ -216,3 +236,24 @@ SameMap-extent first second same = same.extent
 
 SameRest-first : (old new : List ℕ) → SameRest old new → slice_index new 134254592 ≡ slice_index old 134254592
 SameRest-first old new same = same 134254592 (lit≤ tt)
+
+module _ (old new : Told) where
+  MakesChecked-keeps_map : (result : Result Bool Failed) → MakesChecked result old new → KeepsMap old new result
+  MakesChecked-keeps_map result makes = makes.keeps_map
+
+  MakesChecked-is : (is : Bool) → MakesChecked (Ok is) old new → is ≡ not (is_plain old.content)
+  MakesChecked-is is makes = makes.is
+
+  MakesChecked-checked : MakesChecked (Ok true) old new → IsTrue (is_born new.content || is_unborn new.content) → kind_of new.content ≡ Checked
+  MakesChecked-checked makes store = makes.checked refl store
+
+  MakesChecked-unwritten : (result : Result Bool Failed) → MakesChecked result old new → IsFalse (is_unborn old.content && has_no_kind old.content)
+      → OnlyReads old new
+  MakesChecked-unwritten result makes none = makes.unwritten none
+
+  MakesChecked-rest : (is : Bool) → MakesChecked (Ok is) old new → SameRest old.content new.content
+  MakesChecked-rest is makes = makes.rest
+
+-- the kind of a journal is that of the content that it shows
+IsShown-kind : (journal : JournalState) (content : List ℕ) → IsShown journal content → journal.kind ≡ kind_of content
+IsShown-kind journal content is = is.kind

@@ -10,16 +10,17 @@ use Rattle.std.specs.Prelude.{flat_map, slice_index}
 use Rattle.ss_outside.specs.Disk.{overwrite}
 use Rattle.ss_journal.proofs.NextEntry.{AddsEntry, IsReadyFor}
 use Rattle.ss_journal.specs.Entries.{entries, entry_body, is_good, open_prefix, puts_of}
-use Rattle.ss_journal.specs.Format.{entry_bytes, is_born}
+use Rattle.ss_journal.specs.Checks.{entry_in}
+use Rattle.ss_journal.specs.Format.{entry_bytes, is_born, kind_of}
 use Rattle.ss_journal.specs.Gates.{EndsAt, IsClosed, entry_place, is_open, opens}
 use Rattle.ss_journal.specs.Kept.{EndsBefore}
 use Rattle.ss_journal.specs.Puts.{FillSlots, IsTxn, slots_fit}
 use Rattle.ss_journal.specs.Redo.{Gives, Redone, SameMap, SlotMap, StandsFor, changed, entries_in_use, file_map, puts_in_use, redo, redo_entries, stands}
 use Rattle.ss_journal.specs.declared.put.Put.{Put}
 use Rattle.ss_journal.proofs.EntryLemmas.{is_good-body, puts_of-body}
-use Rattle.ss_journal.proofs.HeaderLemmas.{is_born-parts, is_born-same, piece-same}
+use Rattle.ss_journal.proofs.HeaderLemmas.{is_born-parts, is_born-same, kind_of-same, piece-same}
 use Rattle.ss_journal.proofs.MapLemmas.{SameMap-trans, changed-same, file_map-same}
-use Rattle.ss_journal.proofs.PrefixLemmas.{IsPrefix, IsPrefix-entries, gate-entry_bytes, map-range-same, open_prefix-entries, open_prefix-is}
+use Rattle.ss_journal.proofs.PrefixLemmas.{IsPrefix, IsPrefix-entries, entry_in-same, gate-entry_in, map-range-same, open_prefix-entries, open_prefix-is}
 use Rattle.ss_journal.proofs.RedoLemmas.{StandsFor-from, entries_in_use-formed, redo-formed, redo_entries-again, redo_entries-more, redo_entries-stands}
 
 -- the entry that was written
@@ -43,24 +44,27 @@ module _ (n : ℕ) (content image : List ℕ) (ends : EndsBefore n content) (fre
   pub born-image : IsTrue (is_born image)
   born-image = is_born-same content image ends.born size (λ place lt. beside place (inl (omega (arith, lt))))
 
+  pub kind-image : kind_of image ≡ kind_of content
+  kind-image = kind_of-same content image (omega (arith, long)) (omega (arith, long, size)) (λ place low high. beside place (inl (omega (arith, high))))
+
   pub map-image : SameMap (file_map image) (file_map content)
-  map-image = file_map-same content image size (λ place from. beside place (inr from))
+  map-image = file_map-same content image kind-image size (λ place from. beside place (inr from))
 
-  before : (k : ℕ) → k < n → entry_bytes image k ≡ entry_bytes content k
-  before k lt = piece-same content image (entry_place k) 544 (omega (arith, long, lt, free)) (omega (arith, long, size, lt, free))
-      (λ place low high. beside place (inl (omega (arith, high, lt))))
+  before : (k : ℕ) → k < n → entry_in image k ≡ entry_in content k
+  before k lt = entry_in-same content image k kind-image (piece-same content image (entry_place k) 544 (omega (arith, long, lt, free))
+      (omega (arith, long, size, lt, free)) (λ place low high. beside place (inl (omega (arith, high, lt)))))
 
-  in_prefix : IsPrefix (entry_bytes content) 0 64 n
+  in_prefix : IsPrefix (entry_in content) 0 64 n
   in_prefix = IsPrefix-entries content n (ends.number ∙ ap length (entries_in_use-formed content ends.born))
 
-  pub opened-before : (k : ℕ) → k < n → IsTrue (is_open (entry_bytes image k))
+  pub opened-before : (k : ℕ) → k < n → IsTrue (is_open (entry_in image k))
   opened-before k lt = subst (λ (e : List ℕ). IsTrue (is_open e)) (sym (before k lt)) (in_prefix.opened k (omega arith) (omega (arith, lt)))
 
-  prefix-content : list ≡ map (entry_bytes content) (range_with_len 0 n)
+  prefix-content : list ≡ map (entry_in content) (range_with_len 0 n)
   prefix-content = open_prefix-is content n in_prefix
 
-  pub same-before : map (entry_bytes image) (range_with_len 0 n) ≡ list
-  same-before = map-range-same (entry_bytes image) (entry_bytes content) 0 n (λ k low high. before k (omega (arith, high))) ∙ sym prefix-content
+  pub same-before : map (entry_in image) (range_with_len 0 n) ≡ list
+  same-before = map-range-same (entry_in image) (entry_in content) 0 n (λ k low high. before k (omega (arith, high))) ∙ sym prefix-content
 
   -- the entries in use over the image's own slots
   pub redone-before : redo_entries 0 list (file_map image) ≡ stands (changed (file_map image) (flat_map puts_of list))
@@ -81,7 +85,7 @@ module _ (n : ℕ) (content image : List ℕ) (ends : EndsBefore n content) (fre
     prefix-closed : open_prefix (entries image) ≡ list
     prefix-closed =
         open_prefix-entries image n (omega (arith, free)) opened-before
-        (λ lt. subst (λ (byte : ℕ). IsFalse (opens byte)) (sym (gate-entry_bytes image n)) closed)
+        (λ lt. subst (λ (byte : ℕ). IsFalse (opens byte)) (sym (gate-entry_in image n)) closed)
         ∙ same-before
 
     pub StandsFor-closed : (found : SlotMap) → StandsFor content found → StandsFor image found
@@ -102,7 +106,7 @@ EndsBefore-ready n puts content ready free = record {
 -- a content with n entries in use, and an image that differs in entries from n on, where entry n stands whole and open, and ends
 module _ (n : ℕ) (puts : List Put) (content image : List ℕ) (ready : IsReadyFor n puts content) (free : n < 64) (size : length image ≡ length content)
     (from-slots : (place : ℕ) → (place < entry_place n) ⊎ (36864 ≤ place) → slice_index image place ≡ slice_index content place)
-    (whole : FillSlots puts) (txn : IsTxn puts) (is_entry : entry_bytes image n ≡ 165 ∷ entry_body puts) (closed-after : EndsAt (n + 1) image) where
+    (whole : FillSlots puts) (txn : IsTxn puts) (is_entry : entry_in image n ≡ 165 ∷ entry_body puts) (closed-after : EndsAt (n + 1) image) where
   abbrev before_it : List (List ℕ)
   before_it = open_prefix (entries content)
 
@@ -121,18 +125,18 @@ module _ (n : ℕ) (puts : List Put) (content image : List ℕ) (ready : IsReady
   redone : redo_entries 0 before_it (file_map image) ≡ stands map-before
   redone = redone-before n content image ends free size from-slots
 
-  opened-to : (k : ℕ) → k < n + 1 → IsTrue (is_open (entry_bytes image k))
+  opened-to : (k : ℕ) → k < n + 1 → IsTrue (is_open (entry_in image k))
   opened-to k lt = elim (cases_eq k n) [
-    | inl same ↦ subst (λ (place : ℕ). IsTrue (is_open (entry_bytes image place))) (sym same) (subst (λ (e : List ℕ). IsTrue (is_open e)) (sym is_entry) refl)
+    | inl same ↦ subst (λ (place : ℕ). IsTrue (is_open (entry_in image place))) (sym same) (subst (λ (e : List ℕ). IsTrue (is_open e)) (sym is_entry) refl)
     | inr other ↦ opened-before n content image ends free size from-slots k (omega (arith, lt, other))
   ]
 
   prefix-opened : open_prefix (entries image) ≡ before_it ++ entry ∷ []
   prefix-opened =
       open_prefix-entries image (n + 1) (omega (arith, free)) opened-to
-      (λ lt. subst (λ (byte : ℕ). IsFalse (opens byte)) (sym (gate-entry_bytes image (n + 1))) (closed-after lt))
-      ∙ map-range_with_len_more (entry_bytes image) 0 n n (omega arith)
-      ∙ ap (λ (all : List (List ℕ)). all ++ entry_bytes image n ∷ []) (same-before n content image ends free size from-slots)
+      (λ lt. subst (λ (byte : ℕ). IsFalse (opens byte)) (sym (gate-entry_in image (n + 1))) (closed-after lt))
+      ∙ map-range_with_len_more (entry_in image) 0 n n (omega arith)
+      ∙ ap (λ (all : List (List ℕ)). all ++ entry_in image n ∷ []) (same-before n content image ends free size from-slots)
       ∙ ap (λ (e : List ℕ). before_it ++ e ∷ []) is_entry
 
   good-entry : IsTrue (is_good entry map-before.extent)
@@ -158,6 +162,7 @@ module _ (n : ℕ) (puts : List Put) (content image : List ℕ) (ready : IsReady
 
   pub AddsEntry-opened : AddsEntry n puts content image
   AddsEntry-opened = record {
+    kind = kind-image n content image ends free size from-slots;
     born = born;
     closed = closed-after;
     number = omega (arith, ready.number, ap length in_use-opened, length-append (entries_in_use content) (entry ∷ []));

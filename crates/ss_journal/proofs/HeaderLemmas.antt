@@ -1,9 +1,9 @@
 -- The header: whether a file is formatted, and how that is read.
 use Rattle.std.proofs.Common.{IsFalse, IsTrue, List, [], ap, arith, drop, eqb, inl, inr, length, nat_eq, nat_le, not, refl, rules, subst, suc, sym, take, ℕ}
-use Rattle.std.proofs.Common.{◌&&◌, ◌+◌, ◌<◌, ◌==◌, ◌||◌, ◌∙◌, ◌∷◌, ◌≡◌, ◌≤◌, ◌⊎◌}
+use Rattle.std.proofs.Common.{◌&&◌, ◌+◌, ◌<◌, ◌==◌, ◌||◌, ◌∙◌, ◌∷◌, ◌≡◌, ◌≤◌, ◌⊎◌, Bool, cond}
 use Rattle.std.proofs.Math.Nat.{zero-add}
 use Rattle.std.proofs.lemmas.Bool.Decides.{nat_tests}
-use Rattle.std.proofs.lemmas.Bool.{and_from, and_left, and_parts, both_ways, eq-eqb, eqb-true, false_from_ne_true, le-leb, leb-true, ne_eqb, not-true}
+use Rattle.std.proofs.lemmas.Bool.{cond-false, cond-true, and_from, and_left, and_parts, both_ways, eq-eqb, eqb-true, false_from_ne_true, le-leb, leb-true, ne_eqb, not-true}
 use Rattle.std.proofs.lemmas.Bool.{not_from_false, or_cases, or_left, or_right}
 use Rattle.std.proofs.lemmas.Grind.{get_or_after_one, same_number_lists}
 use Rattle.std.proofs.lemmas.List.Elements.{All-from_recursion, All-head, All-tail}
@@ -12,7 +12,9 @@ use Rattle.std.specs.Cmp.Lexicographic.{pointwise}
 use Rattle.std.specs.Prelude.{All, slice_index}
 use lib.Pointwise.{pointwise, pointwise_long}
 use Rattle.ss_outside.specs.Disk.{IsReadFrom}
-use Rattle.ss_journal.specs.Format.{has_magic, is_born, is_unborn, magic}
+use Rattle.ss_journal.specs.declared.kind.Kind.{Kind}
+use Rattle.ss_journal.specs.declared.kind.Kind.TheVariants.{Plain, Checked}
+use Rattle.ss_journal.specs.Format.{has_magic, has_magic_of, is_born, is_unborn, kind_of, magic}
 use Rattle.ss_journal.specs.Gates.{opens}
 use Rattle.ss_journal.specs.Opening.{IsHead}
 
@@ -31,11 +33,40 @@ piece-same old new at count fits also same =
 pub has_magic-same : (old new : List ℕ) → 9 ≤ length old → 9 ≤ length new
     → ((place : ℕ) → 1 ≤ place → place < 9 → slice_index new place ≡ slice_index old place) → has_magic new ≡ has_magic old
 has_magic-same old new fits also same =
-    ap (pointwise nat_eq magic) (piece-same old new 1 8 fits also same)
+    ap (λ (piece : List ℕ). pointwise nat_eq (magic Plain) piece || pointwise nat_eq (magic Checked) piece) (piece-same old new 1 8 fits also same)
+
+-- and tells the kind
+pub kind_of-same : (old new : List ℕ) → 9 ≤ length old → 9 ≤ length new
+    → ((place : ℕ) → 1 ≤ place → place < 9 → slice_index new place ≡ slice_index old place) → kind_of new ≡ kind_of old
+unfolding kind_of
+kind_of-same old new fits also same =
+    ap (λ (piece : List ℕ). cond (pointwise nat_eq (magic Checked) piece) Checked Plain) (piece-same old new 1 8 fits also same)
 
 -- the magic has eight places
+pub long-has_magic_of : (kind : Kind) (image : List ℕ) → IsTrue (has_magic_of kind image) → 9 ≤ length image
+long-has_magic_of Plain image there =
+    omega (arith, pointwise_long nat_eq (magic Plain) (take 8 (drop 1 image)) there, length-take 8 (drop 1 image), length-drop 1 image)
+long-has_magic_of Checked image there =
+    omega (arith, pointwise_long nat_eq (magic Checked) (take 8 (drop 1 image)) there, length-take 8 (drop 1 image), length-drop 1 image)
+
 pub long-has_magic : (image : List ℕ) → IsTrue (has_magic image) → 9 ≤ length image
-long-has_magic image there = omega (arith, pointwise_long nat_eq magic (take 8 (drop 1 image)) there, length-take 8 (drop 1 image), length-drop 1 image)
+long-has_magic image there = elim (or_cases (has_magic_of Plain image) (has_magic_of Checked image) there) [
+  | inl plain ↦ long-has_magic_of Plain image plain
+  | inr checked ↦ long-has_magic_of Checked image checked
+]
+
+pub kind_of-checked : (image : List ℕ) → IsTrue (has_magic_of Checked image) → kind_of image ≡ Checked
+unfolding kind_of
+kind_of-checked image there = cond-true _ _ _ there
+
+pub kind_of-other : (image : List ℕ) → IsFalse (has_magic_of Checked image) → kind_of image ≡ Plain
+unfolding kind_of
+kind_of-other image other = cond-false _ _ _ other
+
+-- a short file is of no checked store
+pub kind_of-short : (image : List ℕ) → length image < 9 → kind_of image ≡ Plain
+unfolding kind_of
+kind_of-short image short = cond-false _ _ _ (false_from_ne_true (has_magic_of Checked image) (λ there. omega (arith, short, long-has_magic_of Checked image there)))
 
 -- the parts of a formatted file
 pub is_born-parts : (image : List ℕ) → IsTrue (is_born image)
@@ -117,17 +148,32 @@ pointwise-front (byte ∷ text) (x ∷ front) (y ∷ whole) some long same =
     let rest = pointwise-front text front whole (All-tail (λ (b : ℕ). 0 < b) byte text some) (omega arith) (λ k lt. same (suc k) (omega arith)) in
     rw (here, rest) refl
 
-magic-some : All (λ byte. 0 < byte) magic
-magic-some = All-from_recursion (λ (b : ℕ). 0 < b) magic (search rules)
+magic-some : (kind : Kind) → All (λ byte. 0 < byte) (magic kind)
+magic-some Plain = All-from_recursion (λ (b : ℕ). 0 < b) (magic Plain) (search rules)
+magic-some Checked = All-from_recursion (λ (b : ℕ). 0 < b) (magic Checked) (search rules)
+
+pub length-magic : (kind : Kind) → length (magic kind) ≡ 8
+length-magic Plain = refl
+length-magic Checked = refl
 
 -- nine bytes tell whether the magic stands
-pub has_magic-head : (size : ℕ) (first image : List ℕ) → IsHead size first image → has_magic first ≡ has_magic image
-has_magic-head size first image head =
-    pointwise-front magic (take 8 (drop 1 first)) (drop 1 image) magic-some (simp (length-take, length-drop) (omega (arith, head.nine)))
-    (λ k lt.
-    let below : k < 8 = omega (arith, length-take 8 (drop 1 first)) in
-    let same = head.bytes (1 + k) (omega (arith, head.nine)) ∙ ap (slice_index image) (zero-add (1 + k)) in
-    get_or-take 8 (drop 1 first) k 0 below ∙ get_or_after_one first k 0 ∙ same ∙ sym (get_or_after_one image k 0))
+module _ (size : ℕ) (first image : List ℕ) (head : IsHead size first image) where
+  has_magic-eight : (text : List ℕ) → All (λ byte. 0 < byte) text → length text ≡ 8
+      → pointwise nat_eq text (take 8 (drop 1 first)) ≡ pointwise nat_eq text (take (length text) (drop 1 image))
+  has_magic-eight text some long =
+      pointwise-front text (take 8 (drop 1 first)) (drop 1 image) some (simp (length-take, length-drop) (omega (arith, head.nine, long)))
+      (λ k lt.
+      let below : k < 8 = omega (arith, length-take 8 (drop 1 first)) in
+      let same = head.bytes (1 + k) (omega (arith, head.nine)) ∙ ap (slice_index image) (zero-add (1 + k)) in
+      get_or-take 8 (drop 1 first) k 0 below ∙ get_or_after_one first k 0 ∙ same ∙ sym (get_or_after_one image k 0))
+
+  pub has_magic_of-head : (kind : Kind) → has_magic_of kind first ≡ has_magic_of kind image
+  has_magic_of-head Plain = has_magic-eight (magic Plain) (magic-some Plain) (length-magic Plain)
+  has_magic_of-head Checked = has_magic-eight (magic Checked) (magic-some Checked) (length-magic Checked)
+
+  pub kind_of-head : kind_of first ≡ kind_of image
+  unfolding kind_of
+  kind_of-head = ap (λ (there : Bool). cond there Checked Plain) (has_magic_of-head Checked)
 
 -- and the rest that tells whether the file is formatted
 pub is_born-head : (size : ℕ) (first image : List ℕ) → IsHead size first image

@@ -6,14 +6,16 @@ use Rattle.std.specs.Prelude.{flat_map, slice_index}
 use Rattle.ss_outside.proofs.DiskLemmas.{get_or-overwrite_inside}
 use Rattle.ss_outside.specs.Disk.{IsOutside, overwrite}
 use Rattle.ss_journal.specs.Entries.{entries, open_prefix, puts_of}
-use Rattle.ss_journal.specs.Format.{is_born, slots_in}
-use Rattle.ss_journal.specs.Gates.{IsClosed, opens}
+use Rattle.ss_journal.specs.declared.kind.Kind.{Kind}
+use Rattle.ss_journal.specs.Format.{is_born, kind_of, slots_in}
+use Rattle.ss_journal.specs.Gates.{opens}
 use Rattle.ss_journal.specs.Puts.{FillSlots, slots_fit}
 use Rattle.ss_journal.specs.Redo.{CameInPart, entries_in_use, Gives, InUse, Redone, SameMap, SlotMap, StandsFor, changed, file_map, redo, redo_entries, stands}
+use Rattle.ss_journal.specs.Steps.{StaysShut}
 use Rattle.ss_journal.specs.Writes.{AreSlots, DiffersAt, DiffersIn, HasSlotsFor, length_with, slot_ranges, slots_written}
 use Rattle.ss_journal.specs.declared.put.Put.{Put}
 use Rattle.ss_journal.proofs.GateLemmas.{StandsFor-first_closed}
-use Rattle.ss_journal.proofs.HeaderLemmas.{is_born-parts, is_born-same}
+use Rattle.ss_journal.proofs.HeaderLemmas.{is_born-parts, is_born-same, kind_of-same}
 use Rattle.ss_journal.proofs.MapLemmas.{SameMap-refl, SameMap-trans, file_map-same}
 use Rattle.ss_journal.proofs.RangeLemmas.{DiffersIn-overwrite, get_or-differs, length-differs}
 use Rattle.ss_journal.proofs.RedoLemmas.{StandsFor-from, StandsFor-also, StandsFor-parts, StandsFor-same, entries_in_use-formed, redo-born, redo-first_closed}
@@ -47,7 +49,7 @@ module _ (puts : List Put) (content : List ℕ) (born : IsTrue (is_born content)
       no_more = subst (λ (m : SlotMap). slots_in (length image) ≤ m.extent) (sym redone.0) (slots_in-torn puts content image in_use-fit differs);
     }
 
-    header : IsTrue (is_born image) × (entries image ≡ entries content)
+    header : IsTrue (is_born image) × (entries image ≡ entries content) × (kind_of image ≡ kind_of content)
     header = redo-same_header content image born differs.no_shorter
         (λ place lt. differs.kept place (omega (arith, lt, long-in_use)) (outside_slots puts place lt))
 
@@ -69,6 +71,9 @@ module _ (puts : List Put) (content : List ℕ) (born : IsTrue (is_born content)
     pub StandsFor-slots_torn : (found : SlotMap) → StandsFor content found → StandsFor image found
     StandsFor-slots_torn found is = StandsFor-also image in_use.found found again (same_map found is)
 
+    pub kind-slots_torn : kind_of image ≡ kind_of content
+    kind-slots_torn = header.2
+
     pub InUse-slots_torn : IsTrue (is_born image) × InUse puts image
     InUse-slots_torn =
         let parts = StandsFor-parts image in_use.found again in (
@@ -81,9 +86,10 @@ module _ (puts : List Put) (content : List ℕ) (born : IsTrue (is_born content)
         )
 
   -- written, they stand in their slots: the file alone gives the map
-  pub SameMap-slots_written : (found : SlotMap) → StandsFor content found → SameMap (file_map (slots_written puts content)) found
-  SameMap-slots_written found is =
-      SameMap-trans _ _ _ (file_map-slots_written puts content long-in_use redone.1 redone.2 redone.3)
+  pub SameMap-slots_written : (kind : Kind) → kind ≡ kind_of content → (found : SlotMap) → StandsFor content found
+      → SameMap (file_map (slots_written kind puts content)) found
+  SameMap-slots_written kind same found is =
+      SameMap-trans _ _ _ (file_map-slots_written kind puts content same long-in_use redone.1 redone.2 redone.3)
       (subst (λ (map : SlotMap). SameMap map found) redone.0 (same_map found is))
 
 -- with puts in use the first gate is open
@@ -97,7 +103,8 @@ first_open puts content some born in_use = elim (cases_Bool (opens (slice_index 
 
 -- then the first gate, which is open, may be torn or closed
 pub StandsFor-first_gate : (puts : List Put) (content image : List ℕ) (found : SlotMap) → 0 < length puts → IsTrue (is_born content) → InUse puts content
-    → StandsFor content found → SameMap (file_map content) found → DiffersAt 512 1 content image → StandsFor image found × IsTrue (is_born image)
+    → StandsFor content found → SameMap (file_map content) found → DiffersAt 512 1 content image
+    → StandsFor image found × IsTrue (is_born image) × (kind_of image ≡ kind_of content)
 StandsFor-first_gate puts content image found some formed in_use is same differs =
     let long = long-in_use puts content formed in_use in
     let ranges : List (ℕ × ℕ) = (512, 1) ∷ [] in
@@ -105,7 +112,8 @@ StandsFor-first_gate puts content image found some formed in_use is same differs
     let size = length-differs ranges content image inside differs in
     let beside : (place : ℕ) → IsOutside 512 1 place → slice_index image place ≡ slice_index content place = λ place out. get_or-differs ranges content image
     inside differs place (out, tt) in
-    let born = is_born-same content image formed size (λ place lt. beside place (inl (omega (arith, lt)))) in (
+    let born = is_born-same content image formed size (λ place lt. beside place (inl (omega (arith, lt)))) in
+    let kind = kind_of-same content image (omega (arith, long)) (omega (arith, long, size)) (λ place low high. beside place (inl (omega (arith, high)))) in (
       elim (cases_Bool (opens (slice_index image 512))) [
         | inl opened ↦
             let gate : slice_index image 512 ≡ slice_index content 512 = eqb-true (slice_index image 512) 165 opened
@@ -116,44 +124,50 @@ StandsFor-first_gate puts content image found some formed in_use is same differs
             ]) in
             subst (λ (file : List ℕ). StandsFor file found) (sym all) is
         | inr closed ↦ StandsFor-first_closed image found born closed
-            (SameMap-trans _ _ _ (file_map-same content image size (λ place from. beside place (inr (omega (arith, from))))) same)
+            (SameMap-trans _ _ _ (file_map-same content image kind size (λ place from. beside place (inr (omega (arith, from))))) same)
       ],
       born,
+      kind,
     )
 
-module _ (puts : List Put) (content : List ℕ) (born : IsTrue (is_born content)) (in_use : InUse puts content) where
+module _ (kind : Kind) (puts : List Put) (content : List ℕ) (same : kind ≡ kind_of content) (born : IsTrue (is_born content)) (in_use : InUse puts content) where
   pub HasSlotsFor-in_use : HasSlotsFor puts content
   HasSlotsFor-in_use = record { long = long-in_use puts content born in_use; fit = in_use-fit puts content born in_use }
 
-  pub differs-written : DiffersIn (slot_ranges puts) content (slots_written puts content)
+  pub differs-written : DiffersIn (slot_ranges puts) content (slots_written kind puts content)
   differs-written =
       let all = redone puts content born in_use in
-      DiffersIn-slots_written puts content (long-in_use puts content born in_use) all.1 all.2 all.3
+      DiffersIn-slots_written kind puts content (long-in_use puts content born in_use) all.1 all.2 all.3
 
-  pub long-slots_written : 36864 ≤ length (slots_written puts content)
+  pub long-slots_written : 36864 ≤ length (slots_written kind puts content)
   long-slots_written = omega (arith, differs-written.no_shorter, long-in_use puts content born in_use)
 
   -- with the puts in their slots the file alone gives the map, and the same entries are in use
-  stands-written : StandsFor (slots_written puts content) in_use.found
-  stands-written = StandsFor-slots_torn puts content born in_use (slots_written puts content) differs-written in_use.found
+  stands-written : StandsFor (slots_written kind puts content) in_use.found
+  stands-written = StandsFor-slots_torn puts content born in_use (slots_written kind puts content) differs-written in_use.found
       (StandsFor-found puts content born in_use)
 
-  in_use-written : IsTrue (is_born (slots_written puts content)) × InUse puts (slots_written puts content)
-  in_use-written = InUse-slots_torn puts content born in_use (slots_written puts content) differs-written
+  in_use-written : IsTrue (is_born (slots_written kind puts content)) × InUse puts (slots_written kind puts content)
+  in_use-written = InUse-slots_torn puts content born in_use (slots_written kind puts content) differs-written
 
   -- then the gate may be torn or closed
-  pub StandsFor-applied : (image : List ℕ) (found : SlotMap) → 0 < length puts → StandsFor (slots_written puts content) found
-      → DiffersAt 512 1 (slots_written puts content) image → StandsFor image found × IsTrue (is_born image)
+  pub StandsFor-applied : (image : List ℕ) (found : SlotMap) → 0 < length puts → StandsFor (slots_written kind puts content) found
+      → DiffersAt 512 1 (slots_written kind puts content) image
+      → StandsFor image found × IsTrue (is_born image) × (kind_of image ≡ kind_of (slots_written kind puts content))
   StandsFor-applied image found some is differs =
-      let alike = StandsFor-same (slots_written puts content) in_use.found found stands-written is in
-      StandsFor-first_gate puts (slots_written puts content) image found some in_use-written.0 in_use-written.1 is
-      (SameMap-trans _ _ _ (SameMap-slots_written puts content born in_use in_use.found (StandsFor-found puts content born in_use)) alike) differs
+      let alike = StandsFor-same (slots_written kind puts content) in_use.found found stands-written is in
+      StandsFor-first_gate puts (slots_written kind puts content) image found some in_use-written.0 in_use-written.1 is
+      (SameMap-trans _ _ _ (SameMap-slots_written puts content born in_use kind same in_use.found (StandsFor-found puts content born in_use)) alike) differs
 
   pub closed-written : 0 < length puts
-      → IsTrue (is_born (overwrite (slots_written puts content) 512 (0 ∷ []))) × IsClosed 0 (overwrite (slots_written puts content) 512 (0 ∷ []))
+      → StaysShut content (overwrite (slots_written kind puts content) 512 (0 ∷ []))
   closed-written some =
-      let within : 512 ≤ length (slots_written puts content) = omega (arith, long-slots_written) in (
-        (StandsFor-applied (overwrite (slots_written puts content) 512 (0 ∷ [])) in_use.found some stands-written
-            (DiffersIn-overwrite 512 (slots_written puts content) (0 ∷ []) within)).1,
-        subst (λ (byte : ℕ). IsFalse (opens byte)) (sym (get_or-overwrite_inside (slots_written puts content) (0 ∷ []) 512 within 0 (omega arith))) refl,
+      let within : 512 ≤ length (slots_written kind puts content) = omega (arith, long-slots_written) in
+      let applied = StandsFor-applied (overwrite (slots_written kind puts content) 512 (0 ∷ [])) in_use.found some stands-written
+      (DiffersIn-overwrite 512 (slots_written kind puts content) (0 ∷ []) within) in (
+        (
+          applied.1,
+          subst (λ (byte : ℕ). IsFalse (opens byte)) (sym (get_or-overwrite_inside (slots_written kind puts content) (0 ∷ []) 512 within 0 (omega arith))) refl,
+        ),
+        applied.2 ∙ kind-slots_torn puts content born in_use (slots_written kind puts content) differs-written,
       )

@@ -11,7 +11,9 @@ use Rattle.ss_journal.specs.contracts.phase.Phase.{the_type}
 use Rattle.ss_journal.specs.Birth.{Leads}
 use Rattle.ss_journal.specs.Calls.{MakesDurable, ReadsPage, ReadsSlot, Settles}
 use Rattle.ss_journal.specs.Entries.{puts_of}
-use Rattle.ss_journal.specs.Format.{IsShut, is_born, is_unborn, slot_at, slots_in}
+use Rattle.ss_journal.specs.Checks.{slot_form, slot_in}
+use Rattle.ss_journal.specs.declared.kind.Kind.{Kind}
+use Rattle.ss_journal.specs.Format.{IsShut, is_born, is_unborn, kind_of, slot_at, slots_in}
 use Rattle.ss_journal.specs.Gates.{EndsAt, IsClosed}
 use Rattle.ss_journal.specs.Kept.{IsInPhase, IsKept, IsShown, JournalState}
 use Rattle.ss_journal.specs.Opening.{AreEntries}
@@ -71,10 +73,11 @@ durable-unborn old new result unborn durable = record {
 }
 
 -- a journal over an unformatted file
-pub IsKept-unborn : (size slots : ℕ) (waiting : List Put) (staged content : List ℕ) → size ≡ length content → slots ≡ slots_in size → waiting ≡ []
+pub IsKept-unborn : (kind : Kind) (size slots : ℕ) (waiting : List Put) (staged content : List ℕ) → kind ≡ kind_of content → size ≡ length content → slots ≡ slots_in size → waiting ≡ []
     → IsTrue (is_unborn content) → staged ≡ []
-    → IsKept (record { phase = Unborn; extent = slots; in_use = 0; waiting = waiting; sealed = 0; staged = staged }) content
-IsKept-unborn size slots waiting staged content long counted none unborn sealed = IsKept-sealed _ content sealed (record {
+    → IsKept (record { phase = Unborn; extent = slots; in_use = 0; waiting = waiting; sealed = 0; staged = staged; kind = kind }) content
+IsKept-unborn kind size slots waiting staged content same long counted none unborn sealed = IsKept-sealed _ content sealed (record {
+  kind = same;
   phase = unborn;
   number = ap length (sym (entries_in_use-unborn content unborn));
   waiting = none ∙ ap (flat_map puts_of) (sym (entries_in_use-unborn content unborn));
@@ -84,10 +87,11 @@ IsKept-unborn size slots waiting staged content long counted none unborn sealed 
 })
 
 -- a journal over a formatted file, of which the entries were read
-pub IsKept-born : (content : List ℕ) (in_use : ℕ) (waiting : List Put) (extent : ℕ) (staged : List ℕ) → IsTrue (is_born content)
+pub IsKept-born : (kind : Kind) (content : List ℕ) (in_use : ℕ) (waiting : List Put) (extent : ℕ) (staged : List ℕ) → kind ≡ kind_of content → IsTrue (is_born content)
     → AreEntries content in_use waiting extent → staged ≡ []
-    → IsKept (record { phase = Born; extent = extent; in_use = in_use; waiting = waiting; sealed = in_use; staged = staged }) content
-IsKept-born content in_use waiting extent staged born read sealed = IsKept-sealed _ content sealed (record {
+    → IsKept (record { phase = Born; extent = extent; in_use = in_use; waiting = waiting; sealed = in_use; staged = staged; kind = kind }) content
+IsKept-born kind content in_use waiting extent staged same born read sealed = IsKept-sealed _ content sealed (record {
+  kind = same;
   phase = born;
   number = read.number;
   waiting = read.in_use.all;
@@ -104,12 +108,13 @@ born_formed phase in_use content (inr (inl is)) now = (subst (λ p. IsInPhase p 
 born_formed phase in_use content (inr (inr is)) now = absurd (subst (λ p. IsInPhase p in_use content) is now)
 
 -- a settled journal: the file alone gives the map, and no put waits
-pub IsKept-settled : (extent : ℕ) (waiting : List Put) (staged content : List ℕ) (found : SlotMap) → IsTrue (is_born content) → IsClosed 0 content
+pub IsKept-settled : (kind : Kind) (extent : ℕ) (waiting : List Put) (staged content : List ℕ) (found : SlotMap) → kind ≡ kind_of content → IsTrue (is_born content) → IsClosed 0 content
     → StandsFor content found → found.extent ≡ extent → waiting ≡ [] → staged ≡ []
-    → IsKept (record { phase = Settled; extent = extent; in_use = 0; waiting = waiting; sealed = 0; staged = staged }) content
-IsKept-settled extent waiting staged content found born closed is same none sealed =
+    → IsKept (record { phase = Settled; extent = extent; in_use = 0; waiting = waiting; sealed = 0; staged = staged; kind = kind }) content
+IsKept-settled kind extent waiting staged content found same_kind born closed is same none sealed =
     let alone = redo-first_closed content born closed in
     IsKept-sealed _ content sealed (record {
+      kind = same_kind;
       phase = (born, λ lt. closed);
       number = ap length (sym alone.2);
       waiting = none ∙ sym alone.1;
@@ -122,12 +127,12 @@ IsKept-settled extent waiting staged content found born closed is same none seal
 module _ (journal : JournalState) (old new : Told) (kept : IsShown journal old.content) (waiting : List Put) (staged : List ℕ) where
   -- the journal then
   abbrev settled : JournalState
-  settled = record { phase = Settled; extent = journal.extent; in_use = 0; waiting = waiting; sealed = 0; staged = staged }
+  settled = record { phase = Settled; extent = journal.extent; in_use = 0; waiting = waiting; sealed = 0; staged = staged; kind = journal.kind }
 
-  pub settled-kept : IsTrue (is_born new.content) → IsClosed 0 new.content
+  pub settled-kept : kind_of new.content ≡ kind_of old.content → IsTrue (is_born new.content) → IsClosed 0 new.content
       → ((found : SlotMap) → StandsFor old.content found → StandsFor new.content found) → waiting ≡ [] → staged ≡ [] → IsKept settled new.content
-  settled-kept born closed map none sealed =
-      IsKept-settled journal.extent waiting staged new.content kept.found born closed
+  settled-kept same born closed map none sealed =
+      IsKept-settled journal.kind journal.extent waiting staged new.content kept.found (kept.kind ∙ sym same) born closed
       (map kept.found (StandsFor-from old.content kept.found kept.found kept.map (SameMap-refl kept.found))) kept.extent none sealed
 
   -- it was unformatted
@@ -135,10 +140,10 @@ module _ (journal : JournalState) (old new : Told) (kept : IsShown journal old.c
     pub settles-born : (value done : Unit {0}) → waiting ≡ [] → staged ≡ [] → Durably (Reaches (Leads IsShut)) (Ok value) old new
         → Settles settled (Ok done) old new
     settles-born value done none sealed born = record {
-      kept = settled-kept born.step.reached.0.0 born.step.reached.0.1 born.step.keeps_map.map none sealed;
+      kept = settled-kept born.step.reached.kind born.step.reached.there.0 born.step.reached.there.1 born.step.keeps_map.map none sealed;
       keeps_map = born.step.keeps_map;
       makes_durable = durable-unborn old new (Ok done) unborn born.durable;
-      rest = λ _. born.step.reached.1;
+      rest = λ _. born.step.reached.rest;
     }
 
     pub settles-unborn : {step : Result (Unit {0}) Failed} (left : JournalState) (result : Result (Unit {0}) Failed) → IsErr result
@@ -154,7 +159,7 @@ module _ (journal : JournalState) (old new : Told) (kept : IsShown journal old.c
   pub settles-formed : (value done : Unit {0}) → waiting ≡ [] → staged ≡ [] → IsTrue (is_born old.content) → Clears (Ok value) old new
       → Settles settled (Ok done) old new
   settles-formed value done none sealed formed clears = record {
-    kept = settled-kept clears.shut.reached.0 clears.shut.reached.1 clears.shut.keeps_map.map none sealed;
+    kept = settled-kept clears.shut.reached.1 clears.shut.reached.0.0 clears.shut.reached.0.1 clears.shut.keeps_map.map none sealed;
     keeps_map = clears.shut.keeps_map;
     makes_durable = clears.makes_durable;
     rest = λ unborn. absurd (both_ways _ (is_born-unborn old.content unborn) formed);
@@ -192,13 +197,13 @@ module _ (journal : JournalState) (content : List ℕ) (found : SlotMap) (slot :
       pub slot_lies : slot < slots_in (length content)
       slot_lies = below_extent journal.waiting (slots_in (length content)) slot (omega (arith, extent_is, below)) (is_put-none journal.waiting slot leaves)
 
-      pub slot_bytes : slot_at content slot ≡ found.bytes slot
+      pub slot_bytes : slot_in content slot ≡ found.bytes slot
       slot_bytes =
           sym (leaves (file_map content).bytes ∙ cond-true (nat_lt slot (slots_in (length content))) _ _ (lt-ltb slot (slots_in (length content)) slot_lies))
           ∙ born_bytes
 
     -- a slot of a page: what was read of the file, zeros from the extent on, and the puts in use over it
-    pub page_bytes : (read laid got : List ℕ) → (slot < slots_in (length content) → read ≡ slot_at content slot)
+    pub page_bytes : (read laid got : List ℕ) → (slot < slots_in (length content) → read ≡ slot_in content slot)
         → (slot < journal.extent → laid ≡ read) → (journal.extent ≤ slot → laid ≡ zeros) → got ≡ with_puts journal.waiting (λ _. laid) slot
         → got ≡ found.bytes slot
     page_bytes read laid got lies used unused puts = elim (cases_lt slot journal.extent) [
@@ -212,6 +217,10 @@ module _ (journal : JournalState) (content : List ℕ) (found : SlotMap) (slot :
             puts ∙ leaves (λ _. laid) ∙ used below ∙ lies (slot_lies below leaves) ∙ slot_bytes below leaves
       ]
     ]
+
+  -- the bytes of a slot of the file, taken out of the form of the journal's kind
+  pub slot_in-form : (bytes : List ℕ) → bytes ≡ slot_at content slot → slot_form journal.kind slot bytes ≡ slot_in content slot
+  slot_in-form bytes same = ap (λ (k : Kind). slot_form k slot bytes) kept.kind ∙ ap (slot_form (kind_of content) slot) same
 
   -- a slot of an unformatted file, or from the extent on
   pub unused_bytes : IsTrue (is_unborn content) ⊎ (journal.extent ≤ slot) → zeros ≡ found.bytes slot
@@ -239,10 +248,11 @@ module _ (journal : JournalState) (content : List ℕ) (settled : journal.phase 
   -- with the transaction in the next entry
   pub IsShown-staged : (puts : List Put) (is : JournalState) (new : List ℕ) → AddsEntry journal.in_use puts content new
       → StandsFor new (changed kept.found puts) → is.phase ≡ Settled → is.extent ≡ extent_after puts journal.extent → is.in_use ≡ journal.in_use + 1
-      → is.waiting ≡ journal.waiting ++ puts → IsShown is new
-  IsShown-staged puts is new added stands phase after more joins =
+      → is.waiting ≡ journal.waiting ++ puts → is.kind ≡ journal.kind → IsShown is new
+  IsShown-staged puts is new added stands phase after more joins same =
       let parts = StandsFor-parts new (changed kept.found puts) stands in
       record {
+        kind = same ∙ kept.kind ∙ sym added.kind;
         phase = subst (λ (p : Phase). IsInPhase p is.in_use new) (sym phase) (added.born, subst (λ (n : ℕ). EndsAt n new) (sym more) added.closed);
         number = more ∙ added.number;
         waiting = joins ∙ ap (λ (p : List Put). p ++ puts) kept.waiting ∙ sym added.all;

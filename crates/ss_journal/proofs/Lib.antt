@@ -1,4 +1,5 @@
 pub mod BirthLemmas
+pub mod CheckLemmas
 pub mod CommitLemmas
 pub mod EnterSteps
 pub mod EntryLemmas
@@ -7,6 +8,7 @@ pub mod HeaderLemmas
 pub mod InUseLemmas
 pub mod KeptLemmas
 pub mod MapLemmas
+pub mod MarkLemmas
 pub mod NextEntry
 pub mod OpenLemmas
 pub mod PageLemmas

@@ -3,10 +3,13 @@ use Rattle.std.proofs.Common.{List, ap, arith, drop, inl, inr, length, refl, sub
 use Rattle.std.proofs.lemmas.Bool.{cases_lt, cond-false, cond-true, le-ltb, lt-ltb}
 use Rattle.std.proofs.lemmas.List.{ext_get_or, get_or-drop, get_or-replicate, get_or-take, length-drop, length-replicate, length-take}
 use Rattle.std.specs.Prelude.{slice_index}
-use Rattle.ss_journal.specs.Format.{slot_at, slot_place, slots_in}
+use Rattle.ss_journal.specs.Checks.{slot_form, slot_in}
+use Rattle.ss_journal.specs.declared.kind.Kind.{Kind}
+use Rattle.ss_journal.specs.Format.{kind_of, slot_at, slot_place, slots_in}
 use Rattle.ss_journal.specs.Puts.{extent_after}
 use Rattle.ss_journal.specs.Redo.{SameMap, SlotMap, blank_map, changed, file_map, zeros}
 use Rattle.ss_journal.specs.declared.put.Put.{Put}
+use Rattle.ss_journal.proofs.CheckLemmas.{slot_form-zeros}
 use Rattle.ss_journal.proofs.HeaderLemmas.{piece-same}
 use Rattle.ss_journal.proofs.PutLemmas.{extent_after-append, with_puts-append, with_puts-same}
 
@@ -26,15 +29,20 @@ SameMap-sym a b same = record { bytes = λ slot lt. sym (same.bytes slot lt); ex
 pub slot_within : (size slot : ℕ) → slot < slots_in size → slot_place slot + 128 ≤ size
 slot_within size slot lt = omega arith
 
--- a file of the same length that is the same from the slots on has the same map
-pub file_map-same : (old new : List ℕ) → length new ≡ length old → ((place : ℕ) → 36864 ≤ place → slice_index new place ≡ slice_index old place)
+-- a slot with the same bytes in a file of the same kind says the same
+pub slot_in-same : (old new : List ℕ) (slot : ℕ) → kind_of new ≡ kind_of old → slot_at new slot ≡ slot_at old slot → slot_in new slot ≡ slot_in old slot
+slot_in-same old new slot kind bytes =
+    ap (λ (k : Kind). slot_form k slot (slot_at new slot)) kind ∙ ap (slot_form (kind_of old) slot) bytes
+
+-- a file of the same kind and length that is the same from the slots on has the same map
+pub file_map-same : (old new : List ℕ) → kind_of new ≡ kind_of old → length new ≡ length old → ((place : ℕ) → 36864 ≤ place → slice_index new place ≡ slice_index old place)
     → SameMap (file_map new) (file_map old)
-file_map-same old new long same = record {
+file_map-same old new kind long same = record {
   bytes = λ slot lt. elim (cases_lt slot (slots_in (length old))) [
     | inl within ↦
         cond-true _ _ _ (lt-ltb slot (slots_in (length new)) (subst (λ (n : ℕ). slot < slots_in n) (sym long) within))
-        ∙ piece-same old new (slot_place slot) 128 (slot_within (length old) slot within) (omega (arith, long, slot_within (length old) slot within))
-        (λ place low high. same place (omega (arith, low)))
+        ∙ slot_in-same old new slot kind (piece-same old new (slot_place slot) 128 (slot_within (length old) slot within)
+        (omega (arith, long, slot_within (length old) slot within)) (λ place low high. same place (omega (arith, low))))
         ∙ sym (cond-true _ _ _ (lt-ltb slot (slots_in (length old)) within))
     | inr past ↦
         cond-false _ _ _ (le-ltb slot (slots_in (length new)) (subst (λ (n : ℕ). slots_in n ≤ slot) (sym long) past))
@@ -58,10 +66,11 @@ file_map-blank image blank = record {
               (slot_place slot) image,
         ) in
         cond-true _ _ _ (lt-ltb slot (slots_in (length image)) within)
-        ∙ ext_get_or 0 (slot_at image slot) zeros (omega (arith, piece, length-replicate {A = ℕ} 128 0)) (λ k low.
+        ∙ ap (slot_form (kind_of image) slot) (ext_get_or 0 (slot_at image slot) zeros (omega (arith, piece, length-replicate {A = ℕ} 128 0)) (λ k low.
         let few : k < 128 = omega (arith, low, piece) in
         get_or-take 128 (drop (slot_place slot) image) k 0 few ∙ get_or-drop (slot_place slot) image k 0
-        ∙ blank (slot_place slot + k) (omega arith) (omega (arith, lt, few)) ∙ sym (get_or-replicate {A = ℕ} 128 k 0 0 few))
+        ∙ blank (slot_place slot + k) (omega arith) (omega (arith, lt, few)) ∙ sym (get_or-replicate {A = ℕ} 128 k 0 0 few)))
+        ∙ slot_form-zeros (kind_of image) slot
     | inr past ↦ cond-false _ _ _ (le-ltb slot (slots_in (length image)) past)
   ];
   extent = refl;

@@ -2,7 +2,7 @@
 use Rattle.std.specs.Prelude.{◌≡◌, ℕ, ◌+◌, List, ◌++◌, length, IsTrue}
 use Rattle.ss_journal.specs.declared.put.Put.{Put}
 use Rattle.ss_journal.specs.Gates.{EndsAt}
-use Rattle.ss_journal.specs.Format.{is_born}
+use Rattle.ss_journal.specs.Format.{is_born, kind_of}
 use Rattle.ss_journal.specs.Puts.{slots_fit}
 use Rattle.ss_journal.specs.Redo.{SlotMap, stands, redo, entries_in_use, puts_in_use}
 
@@ -17,6 +17,7 @@ pub record IsReadyFor (n : ℕ) (puts : List Put) (content : List ℕ) : Type 0 
 
 -- entry n, of these puts, is in use after those before it, and the gate after it is closed
 pub record AddsEntry (n : ℕ) (puts : List Put) (old new : List ℕ) : Type 0 where
+  pub kind : kind_of new ≡ kind_of old
   pub born : IsTrue (is_born new)
   pub closed : EndsAt (n + 1) new
   pub number : n + 1 ≡ length (entries_in_use new)

@@ -3,19 +3,38 @@ use Rattle.std.proofs.Common.{Err, IsFalse, IsTrue, List, Ok, Some, [], ap, appe
 use Rattle.std.proofs.lemmas.Bool.{cond-false, cond-true}
 use Rattle.std.proofs.lemmas.List.FromFn.{length-map-range_with_len}
 use Rattle.std.proofs.lemmas.List.{append-nil, drop_all}
-use Rattle.std.specs.Prelude.{flat_map}
+use Rattle.std.specs.Prelude.{flat_map, slice_index}
 use Rattle.arrayvec.specs.ArrayVec.{ArrayVec}
 use Rattle.ss_journal.specs.Entries.{entries, is_good, open_prefix, puts_of}
-use Rattle.ss_journal.specs.Format.{entry_bytes, is_born, slots_in}
-use Rattle.ss_journal.specs.Gates.{is_open}
+use Rattle.ss_journal.specs.Checks.{entry_form, entry_in}
+use Rattle.ss_journal.specs.declared.kind.Kind.{Kind}
+use Rattle.ss_journal.specs.Format.{entry_bytes, is_born, kind_of, slots_in}
+use Rattle.ss_journal.specs.Gates.{is_open, opens}
 use Rattle.ss_journal.specs.Opening.{AreEntries, InUseAs, NextAs}
 use Rattle.ss_journal.specs.Puts.{extent_after}
 use Rattle.ss_journal.specs.Redo.{entries_in_use, SlotMap, bad_entry, changed, file_map, puts_in_use, redo, redo_entries}
 use Rattle.ss_journal.specs.declared.journal_error.JournalError.TheVariants.{BadEntry, Disk, NotAStore, OutOfMemory}
 use Rattle.ss_journal.specs.declared.journal_error.JournalError.{JournalError}
 use Rattle.ss_journal.specs.declared.put.Put.{Put}
+use Rattle.ss_journal.proofs.CheckLemmas.{gate-entry_form}
 use Rattle.ss_journal.proofs.PrefixLemmas.{open_prefix-drop}
 use Rattle.ss_journal.proofs.RedoLemmas.{entries_in_use-formed, puts_in_use-formed, redo-formed}
+
+-- an entry that was read, taken out of the form of its file's kind
+pub form-entry : (content : List ℕ) (kind : Kind) (n : ℕ) (entry : List ℕ) → kind ≡ kind_of content → entry ≡ entry_bytes content n
+    → entry_form kind n entry ≡ entry_in content n
+form-entry content kind n entry same is = ap (λ (k : Kind). entry_form k n entry) same ∙ ap (entry_form (kind_of content) n) is
+
+-- its gate stays
+pub open-form : (kind : Kind) (n : ℕ) (entry form : List ℕ) → form ≡ entry_form kind n entry → IsTrue (is_open entry) → IsTrue (is_open form)
+open-form kind n entry form is opened =
+    subst (λ (byte : ℕ). IsTrue (opens byte)) (sym (ap (λ (e : List ℕ). slice_index e 0) is ∙ gate-entry_form kind n entry)) opened
+
+pub NextAs-closed : (content : List ℕ) (n : ℕ) (entry : List ℕ) → entry ≡ entry_bytes content n → IsFalse (is_open entry)
+    → IsFalse (is_open (entry_in content n))
+NextAs-closed content n entry is closed =
+    subst (λ (byte : ℕ). IsFalse (opens byte))
+    (ap (λ (e : List ℕ). slice_index e 0) is ∙ sym (gate-entry_form (kind_of content) n (entry_bytes content n))) closed
 
 -- the entries before number n are in use: these are their puts, and the extent after them
 pub record IsReadTo (content : List ℕ) (n extent : ℕ) (puts : List Put) : Type 0 where
@@ -50,47 +69,47 @@ module _ (content : List ℕ) (n extent : ℕ) (puts : List Put) (read : IsReadT
   pub IsReadTo-all : n ≡ 64 → AreEntries content 64 puts extent
   unfolding entries
   IsReadTo-all all =
-      let past = drop_all n (entries content) (omega (arith, length-map-range_with_len (entry_bytes content) 0 64)) in
+      let past = drop_all n (entries content) (omega (arith, length-map-range_with_len (entry_in content) 0 64)) in
       subst (λ (k : ℕ). AreEntries content k puts extent) all (IsReadTo-closed (ap open_prefix past))
 
   module _ (lt : n < 64) where
-    pub IsReadTo-shut : IsFalse (is_open (entry_bytes content n)) → AreEntries content n puts extent
-    IsReadTo-shut shut = IsReadTo-closed (ap open_prefix (open_prefix-drop content n lt) ∙ cond-false (is_open (entry_bytes content n)) _ _ shut)
+    pub IsReadTo-shut : IsFalse (is_open (entry_in content n)) → AreEntries content n puts extent
+    IsReadTo-shut shut = IsReadTo-closed (ap open_prefix (open_prefix-drop content n lt) ∙ cond-false (is_open (entry_in content n)) _ _ shut)
 
-    module _ (opened : IsTrue (is_open (entry_bytes content n))) where
-      open_prefix-here : open_prefix (drop n (entries content)) ≡ entry_bytes content n ∷ open_prefix (drop (n + 1) (entries content))
-      open_prefix-here = ap open_prefix (open_prefix-drop content n lt) ∙ cond-true (is_open (entry_bytes content n)) _ _ opened
+    module _ (opened : IsTrue (is_open (entry_in content n))) where
+      open_prefix-here : open_prefix (drop n (entries content)) ≡ entry_in content n ∷ open_prefix (drop (n + 1) (entries content))
+      open_prefix-here = ap open_prefix (open_prefix-drop content n lt) ∙ cond-true (is_open (entry_in content n)) _ _ opened
 
-      redo-here : redo content ≡ redo_entries n (entry_bytes content n ∷ open_prefix (drop (n + 1) (entries content))) read.current
+      redo-here : redo content ≡ redo_entries n (entry_in content n ∷ open_prefix (drop (n + 1) (entries content))) read.current
       redo-here = read.redone ∙ ap (λ (list : List (List ℕ)). redo_entries n list read.current) open_prefix-here
 
-      pub IsReadTo-bad : IsFalse (is_good (entry_bytes content n) extent) → redo content ≡ bad_entry n
+      pub IsReadTo-bad : IsFalse (is_good (entry_in content n) extent) → redo content ≡ bad_entry n
       IsReadTo-bad bad =
-          let here = ap (is_good (entry_bytes content n)) read.same_extent ∙ bad in
-          redo-here ∙ cond-false (is_good (entry_bytes content n) read.current.extent) _ _ here
+          let here = ap (is_good (entry_in content n)) read.same_extent ∙ bad in
+          redo-here ∙ cond-false (is_good (entry_in content n) read.current.extent) _ _ here
 
-      pub IsReadTo-more : IsTrue (is_good (entry_bytes content n) extent)
-          → IsReadTo content (n + 1) (extent_after (puts_of (entry_bytes content n)) extent) (puts ++ puts_of (entry_bytes content n))
+      pub IsReadTo-more : IsTrue (is_good (entry_in content n) extent)
+          → IsReadTo content (n + 1) (extent_after (puts_of (entry_in content n)) extent) (puts ++ puts_of (entry_in content n))
       IsReadTo-more good =
-          let own = puts_of (entry_bytes content n) in
-          let here = ap (is_good (entry_bytes content n)) read.same_extent ∙ good in
+          let own = puts_of (entry_in content n) in
+          let here = ap (is_good (entry_in content n)) read.same_extent ∙ good in
           record {
             current = changed read.current own;
             same_extent = ap (extent_after own) read.same_extent;
             number = omega (arith, read.number, ap length open_prefix-here);
             in_use = append_assoc puts own _ ∙ sym (ap (λ (list : List (List ℕ)). puts ++ flat_map puts_of list) open_prefix-here) ∙ read.in_use;
-            redone = redo-here ∙ cond-true (is_good (entry_bytes content n) read.current.extent) _ _ here;
+            redone = redo-here ∙ cond-true (is_good (entry_in content n) read.current.extent) _ _ here;
           }
 
 -- the same of what reading entry n answers
 module _ (content : List ℕ) (n extent : ℕ) (puts : List Put) (lt : n < 64) (read : IsReadTo content n extent puts) where
-  pub InUseAs-next : (error : JournalError) → NextAs (entry_bytes content n) n extent (Err error) → InUseAs content (Err error)
+  pub InUseAs-next : (error : JournalError) → NextAs (entry_in content n) n extent (Err error) → InUseAs content (Err error)
   InUseAs-next Disk is = tt
   InUseAs-next OutOfMemory is = tt
   InUseAs-next NotAStore is = is
   InUseAs-next (BadEntry bad) is = IsReadTo-bad content n extent puts read lt is.0 is.1 ∙ ap bad_entry (sym is.2)
 
-  pub IsReadTo-next : (own : ArrayVec Put) (last : ℕ) (more : List Put) → NextAs (entry_bytes content n) n extent (Ok (Some own))
+  pub IsReadTo-next : (own : ArrayVec Put) (last : ℕ) (more : List Put) → NextAs (entry_in content n) n extent (Ok (Some own))
       → last ≡ extent_after own.items extent → more ≡ puts ++ own.items → IsReadTo content (n + 1) last more
   IsReadTo-next own last more is after joins =
       let last_is = after ∙ ap (λ (l : List Put). extent_after l extent) is.2 in

@@ -8,8 +8,11 @@ use Rattle.std.proofs.lemmas.List.{drop_more, get_or-drop, get_or-take, length-d
 use Rattle.std.specs.List.{range_with_len}
 use Rattle.std.specs.Prelude.{All, slice_index}
 use Rattle.ss_journal.specs.Entries.{entries, open_prefix}
-use Rattle.ss_journal.specs.Format.{entry_bytes}
+use Rattle.ss_journal.specs.Checks.{entry_form, entry_in}
+use Rattle.ss_journal.specs.declared.kind.Kind.{Kind}
+use Rattle.ss_journal.specs.Format.{entry_bytes, kind_of}
 use Rattle.ss_journal.specs.Gates.{IsClosed, entry_place, is_open, opens}
+use Rattle.ss_journal.proofs.CheckLemmas.{gate-entry_form, length-entry_form}
 use Rattle.ss_journal.proofs.EntryLemmas.{All-range_with_len}
 use Rattle.ss_journal.proofs.HeaderLemmas.{piece-same}
 
@@ -22,35 +25,40 @@ map-range-same f g from (suc n) same =
     let rest = map-range-same f g (from + 1) n (λ k low high. same k (omega (arith, low)) (omega (arith, high))) in
     rw (first, rest) refl
 
-pub entries-same : (old new : List ℕ) → 36864 ≤ length old → 36864 ≤ length new
+-- an entry with the same bytes in a file of the same kind says the same
+pub entry_in-same : (old new : List ℕ) (n : ℕ) → kind_of new ≡ kind_of old → entry_bytes new n ≡ entry_bytes old n → entry_in new n ≡ entry_in old n
+entry_in-same old new n kind bytes =
+    ap (λ (k : Kind). entry_form k n (entry_bytes new n)) kind ∙ ap (entry_form (kind_of old) n) bytes
+
+pub entries-same : (old new : List ℕ) → kind_of new ≡ kind_of old → 36864 ≤ length old → 36864 ≤ length new
     → ((place : ℕ) → 512 ≤ place → place < 36864 → slice_index new place ≡ slice_index old place) → entries new ≡ entries old
 unfolding entries
-entries-same old new long also same =
-    map-range-same (entry_bytes new) (entry_bytes old) 0 64 (λ k low high. piece-same old new (entry_place k) 544 (omega (arith, high, long))
-    (omega (arith, high, also)) (λ place from to. same place (omega (arith, from)) (omega (arith, high, to))))
+entries-same old new kind long also same =
+    map-range-same (entry_in new) (entry_in old) 0 64 (λ k low high. entry_in-same old new k kind (piece-same old new (entry_place k) 544
+    (omega (arith, high, long)) (omega (arith, high, also)) (λ place from to. same place (omega (arith, from)) (omega (arith, high, to)))))
 
 -- the entries after the first
 abbrev pub other_entries : List ℕ → List (List ℕ)
-other_entries image = map (entry_bytes image) (range_with_len 1 63)
+other_entries image = map (entry_in image) (range_with_len 1 63)
 
-entries-first : (image : List ℕ) → entries image ≡ entry_bytes image 0 ∷ other_entries image
+entries-first : (image : List ℕ) → entries image ≡ entry_in image 0 ∷ other_entries image
 unfolding entries
 entries-first image = refl
 
 -- the gate of an entry is its first place
-pub gate-entry_bytes : (image : List ℕ) (n : ℕ) → slice_index (entry_bytes image n) 0 ≡ slice_index image (entry_place n)
-gate-entry_bytes image n = get_or-take 544 (drop (entry_place n) image) 0 0 (omega arith) ∙ get_or-drop (entry_place n) image 0 0
+pub gate-entry_in : (image : List ℕ) (n : ℕ) → slice_index (entry_in image n) 0 ≡ slice_index image (entry_place n)
+gate-entry_in image n = gate-entry_form (kind_of image) n (entry_bytes image n) ∙ get_or-take 544 (drop (entry_place n) image) 0 0 (omega arith) ∙ get_or-drop (entry_place n) image 0 0
     ∙ ap (slice_index image) (let none : entry_place n + 0 ≡ entry_place n = omega arith in none)
 
 pub open_prefix-closed : (image : List ℕ) → IsClosed 0 image → open_prefix (entries image) ≡ []
 open_prefix-closed image closed =
-    let gate : IsFalse (is_open (entry_bytes image 0)) = subst (λ (byte : ℕ). IsFalse (opens byte)) (sym (gate-entry_bytes image 0)) closed in
+    let gate : IsFalse (is_open (entry_in image 0)) = subst (λ (byte : ℕ). IsFalse (opens byte)) (sym (gate-entry_in image 0)) closed in
     rw entries-first (cond-false _ _ _ gate)
 
 pub open_prefix-open : (image : List ℕ) → IsTrue (opens (slice_index image 512))
-    → open_prefix (entries image) ≡ entry_bytes image 0 ∷ open_prefix (other_entries image)
+    → open_prefix (entries image) ≡ entry_in image 0 ∷ open_prefix (other_entries image)
 open_prefix-open image opened =
-    let gate : IsTrue (is_open (entry_bytes image 0)) = subst (λ (byte : ℕ). IsTrue (opens byte)) (sym (gate-entry_bytes image 0)) opened in
+    let gate : IsTrue (is_open (entry_in image 0)) = subst (λ (byte : ℕ). IsTrue (opens byte)) (sym (gate-entry_in image 0)) opened in
     rw entries-first (cond-true _ _ _ gate)
 
 -- the open prefix of a run of entries: its first n, which are open
@@ -99,28 +107,28 @@ open_prefix-run f from (suc m) (suc n) le opened closed =
     (λ lt. subst (λ (k : ℕ). IsFalse (is_open (f k))) there (closed (omega (arith, lt)))))
 
 -- the same of the entries of a file
-pub IsPrefix-entries : (image : List ℕ) (n : ℕ) → n ≡ length (open_prefix (entries image)) → IsPrefix (entry_bytes image) 0 64 n
+pub IsPrefix-entries : (image : List ℕ) (n : ℕ) → n ≡ length (open_prefix (entries image)) → IsPrefix (entry_in image) 0 64 n
 unfolding entries
-IsPrefix-entries image n is = IsPrefix-length (entry_bytes image) 0 64 n is
+IsPrefix-entries image n is = IsPrefix-length (entry_in image) 0 64 n is
 
-pub open_prefix-is : (image : List ℕ) (n : ℕ) → IsPrefix (entry_bytes image) 0 64 n → open_prefix (entries image) ≡ map (entry_bytes image) (range_with_len 0 n)
+pub open_prefix-is : (image : List ℕ) (n : ℕ) → IsPrefix (entry_in image) 0 64 n → open_prefix (entries image) ≡ map (entry_in image) (range_with_len 0 n)
 unfolding entries
 open_prefix-is image n is = is.prefix
 
-pub open_prefix-entries : (image : List ℕ) (n : ℕ) → n ≤ 64 → ((k : ℕ) → k < n → IsTrue (is_open (entry_bytes image k)))
-    → (n < 64 → IsFalse (is_open (entry_bytes image n))) → open_prefix (entries image) ≡ map (entry_bytes image) (range_with_len 0 n)
+pub open_prefix-entries : (image : List ℕ) (n : ℕ) → n ≤ 64 → ((k : ℕ) → k < n → IsTrue (is_open (entry_in image k)))
+    → (n < 64 → IsFalse (is_open (entry_in image n))) → open_prefix (entries image) ≡ map (entry_in image) (range_with_len 0 n)
 unfolding entries
 open_prefix-entries image n le opened closed =
-    open_prefix-run (entry_bytes image) 0 64 n le (λ k low high. opened k (omega (arith, high)))
-    (λ lt. let here : n ≡ 0 + n = omega arith in subst (λ (k : ℕ). IsFalse (is_open (entry_bytes image k))) here (closed lt))
+    open_prefix-run (entry_in image) 0 64 n le (λ k low high. opened k (omega (arith, high)))
+    (λ lt. let here : n ≡ 0 + n = omega arith in subst (λ (k : ℕ). IsFalse (is_open (entry_in image k))) here (closed lt))
 
 -- the reader's step: the entries from n on, over what those before it gave
-pub open_prefix-drop : (image : List ℕ) (n : ℕ) → n < 64 → drop n (entries image) ≡ entry_bytes image n ∷ drop (n + 1) (entries image)
+pub open_prefix-drop : (image : List ℕ) (n : ℕ) → n < 64 → drop n (entries image) ≡ entry_in image n ∷ drop (n + 1) (entries image)
 unfolding entries
 open_prefix-drop image n lt =
-    let long = length-map-range_with_len (entry_bytes image) 0 64 in
+    let long = length-map-range_with_len (entry_in image) 0 64 in
     drop_more (entries image) n [] (omega (arith, long)) ∙ ap (λ (entry : List ℕ). entry ∷ drop (n + 1) (entries image))
-    (get_or-map-range_with_len (entry_bytes image) 0 64 n n [] lt (zero-add n))
+    (get_or-map-range_with_len (entry_in image) 0 64 n n [] lt (zero-add n))
 
 pub open_prefix-long : (list : List (List ℕ)) → All (λ entry. length entry ≡ 544) list → All (λ entry. length entry ≡ 544) (open_prefix list)
 open_prefix-long [] long = long
@@ -129,11 +137,13 @@ open_prefix-long (entry ∷ rest) long =
     cond_both (is_open entry) (entry ∷ open_prefix rest) [] (λ l. All P l)
     (λ opened. All-cons P entry (open_prefix rest) (All-head P entry rest long) (open_prefix-long rest (All-tail P entry rest long))) (λ closed. All-nil P)
 
-entry_bytes-whole : (image : List ℕ) (n : ℕ) → 36864 ≤ length image → n < 64 → length (entry_bytes image n) ≡ 544
-entry_bytes-whole image n long lt = simp (length-take, length-drop) (omega arith)
+entry_in-whole : (image : List ℕ) (n : ℕ) → 36864 ≤ length image → n < 64 → length (entry_in image n) ≡ 544
+entry_in-whole image n long lt =
+    let whole : length (entry_bytes image n) ≡ 544 = simp (length-take, length-drop) (omega arith) in
+    length-entry_form (kind_of image) n (entry_bytes image n) ∙ whole
 
 -- the entries of a file that is long enough are whole
 pub entries-long : (image : List ℕ) → 36864 ≤ length image → All (λ entry. length entry ≡ 544) (entries image)
 unfolding entries
-entries-long image long = All-map (λ (e : List ℕ). length e ≡ 544) (entry_bytes image) (range_with_len 0 64)
-    (All-range_with_len (λ (n : ℕ). length (entry_bytes image n) ≡ 544) 64 (λ n lt. entry_bytes-whole image n long lt))
+entries-long image long = All-map (λ (e : List ℕ). length e ≡ 544) (entry_in image) (range_with_len 0 64)
+    (All-range_with_len (λ (n : ℕ). length (entry_in image n) ≡ 544) 64 (λ n lt. entry_in-whole image n long lt))

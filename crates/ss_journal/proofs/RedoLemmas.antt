@@ -6,7 +6,8 @@ use Rattle.std.proofs.lemmas.Bool.{cases_Bool, cond-false, cond-true}
 use Rattle.std.proofs.lemmas.List.Elements.{All-append, All-head, All-nil, All-tail}
 use Rattle.std.specs.Prelude.{All, flat_map, slice_index}
 use Rattle.ss_journal.specs.Entries.{entries, is_good, open_prefix, puts_of}
-use Rattle.ss_journal.specs.Format.{entry_bytes, is_born, is_unborn, slots_in}
+use Rattle.ss_journal.specs.Checks.{entry_in}
+use Rattle.ss_journal.specs.Format.{kind_of, is_born, is_unborn, slots_in}
 use Rattle.ss_journal.specs.Gates.{IsClosed, opens}
 use Rattle.ss_journal.specs.Puts.{extent_after, FillSlots, slots_fit}
 use Rattle.ss_journal.specs.Redo.{CameInPart, entries_in_use, Gives, Redone, SameMap, SlotMap, StandsFor, bad_entry, blank_map, changed, file_map, not_a_store}
@@ -14,7 +15,7 @@ use Rattle.ss_journal.specs.Redo.{puts_in_use, redo, redo_entries, stands}
 use Rattle.ss_journal.specs.Writes.{AreSlots}
 use Rattle.ss_journal.specs.declared.put.Put.{Put}
 use Rattle.ss_journal.proofs.EntryLemmas.{FillSlots-puts_of, IsSoundEntry-good, is_good-again, is_good-some}
-use Rattle.ss_journal.proofs.HeaderLemmas.{has_magic-same, is_born-from, is_born-parts, is_born-unborn, is_unborn-born}
+use Rattle.ss_journal.proofs.HeaderLemmas.{has_magic-same, kind_of-same, is_born-from, is_born-parts, is_born-unborn, is_unborn-born}
 use Rattle.ss_journal.proofs.MapLemmas.{SameMap-sym, SameMap-trans, changed-append}
 use Rattle.ss_journal.proofs.PrefixLemmas.{entries-long, entries-same, open_prefix-closed, open_prefix-long, open_prefix-open, other_entries}
 use Rattle.ss_journal.proofs.PutLemmas.{AreSlots-rise, extent_after-again, extent_after-mono, slots_fit-append, with_puts-again}
@@ -75,13 +76,16 @@ redo-neither content unborn other = cond-false (is_born content) _ _ unborn ∙ 
 
 -- a file that is the same below the slots has the same entries, and is formatted too
 pub redo-same_header : (old new : List ℕ) → IsTrue (is_born old) → length old ≤ length new
-    → ((place : ℕ) → place < 36864 → slice_index new place ≡ slice_index old place) → IsTrue (is_born new) × (entries new ≡ entries old)
+    → ((place : ℕ) → place < 36864 → slice_index new place ≡ slice_index old place)
+    → IsTrue (is_born new) × (entries new ≡ entries old) × (kind_of new ≡ kind_of old)
 redo-same_header old new born long same =
     let was = is_born-parts old born in
     let first = same 0 (omega arith) in
-    let kept = has_magic-same old new (omega (arith, was.0)) (omega (arith, was.0)) (λ place low high. same place (omega (arith, high))) in (
+    let kept = has_magic-same old new (omega (arith, was.0)) (omega (arith, was.0)) (λ place low high. same place (omega (arith, high))) in
+    let kind = kind_of-same old new (omega (arith, was.0)) (omega (arith, was.0)) (λ place low high. same place (omega (arith, high))) in (
       is_born-from new (omega (arith, was.0, long)) (subst (λ (byte : ℕ). IsTrue (opens byte)) (sym first) was.1) (kept ∙ was.2),
-      entries-same old new was.0 (omega (arith, was.0, long)) (λ place low high. same place high),
+      entries-same old new kind was.0 (omega (arith, was.0, long)) (λ place low high. same place high),
+      kind,
     )
 
 -- the first entry is sound, and the rest goes on over the map after it
@@ -192,10 +196,10 @@ pub first_closed-none : (image : List ℕ) (its : SlotMap) → IsTrue (is_born i
 first_closed-none image its born is none = elim (cases_Bool (opens (slice_index image 512))) [
   | inl opened ↦
       let prefix = open_prefix-open image opened in
-      let stood : redo_entries 0 (entry_bytes image 0 ∷ open_prefix (other_entries image)) (file_map image) ≡ stands its = ap
+      let stood : redo_entries 0 (entry_in image 0 ∷ open_prefix (other_entries image)) (file_map image) ≡ stands its = ap
       (λ (list : List (List ℕ)). redo_entries 0 list (file_map image)) (sym prefix) ∙ sym (redo-formed image born) ∙ is in
-      let empty : puts_of (entry_bytes image 0) ++ flat_map puts_of (open_prefix (other_entries image)) ≡ [] = ap (flat_map puts_of) (sym prefix)
+      let empty : puts_of (entry_in image 0) ++ flat_map puts_of (open_prefix (other_entries image)) ≡ [] = ap (flat_map puts_of) (sym prefix)
       ∙ sym (puts_in_use-formed image born) ∙ none in
-      absurd (is_good-some (entry_bytes image 0) _ (redo_entries-first (entry_bytes image 0) _ (file_map image) its stood) _ empty)
+      absurd (is_good-some (entry_in image 0) _ (redo_entries-first (entry_in image 0) _ (file_map image) its stood) _ empty)
   | inr closed ↦ closed
 ]

@@ -1,5 +1,5 @@
 -- Worked images, whole and in parts, and the numbers that are rules.
-use Rattle.std.proofs.Common.{◌≡◌, ℕ, ◌+◌, ◌*◌, ◌^◌, true, false, List, [], ◌∷◌, ◌++◌, length, map, replicate, Ok, Err, refl}
+use Rattle.std.proofs.Common.{◌≡◌, ℕ, ◌+◌, ◌*◌, ◌^◌, true, false, List, [], ◌∷◌, ◌++◌, drop, length, map, replicate, take, Ok, Err, refl}
 use Rattle.ss_fields.specs.Fields as Fields
 use Rattle.ss_outside.specs.Verdict.{fine, refused, no_memory, failed}
 use Rattle.ss_journal.specs.declared.format.TheConstants.{GATE_OPEN, MAGIC_END, ENTRIES, ENTRY_SIZE, FIRST_ENTRY, MOST_PUTS, PUT_SIZE, MOST_WAITING, SLOT_SIZE}
@@ -7,7 +7,11 @@ use Rattle.ss_journal.specs.declared.format.TheConstants.{MOST_SLOTS, FIRST_SLOT
 use Rattle.ss_journal.specs.Calls.{entries_after, slot_in_page, verdict_of_open}
 use Rattle.ss_journal.specs.declared.journal_error.JournalError.{JournalError}
 use Rattle.ss_journal.specs.declared.journal_error.JournalError.TheVariants.{Disk, NotAStore, BadEntry, OutOfMemory}
-use Rattle.ss_journal.specs.Format.{magic, is_unborn, is_born, slots_in}
+use Rattle.ss_journal.specs.declared.kind.Kind.TheVariants.{Plain, Checked}
+use Rattle.ss_checksum.specs.Checksum as Checksum
+use Rattle.ss_journal.specs.Birth.{has_no_kind, magic_bytes}
+use Rattle.ss_journal.specs.Format.{is_plain, kind_of, magic, is_unborn, is_born, slots_in}
+use Rattle.ss_journal.specs.Checks.{slot_form, entry_form}
 use Rattle.ss_journal.specs.Kept.{gate_behind, with_entries}
 use Rattle.ss_journal.specs.Entries.{puts_of, is_good, open_prefix, entries, entry_body}
 use Rattle.ss_journal.specs.Redo.{SlotMap, Redone, stands, bad_entry, not_a_store, redo_entries, redo, changed, zeros, entries_in_use}
@@ -26,12 +30,12 @@ unfolding is_unborn
 is_unborn-zero = refl
 
 -- nor is one whose birth gate is closed before the magic
-pub is_unborn-closed : is_unborn (164 ∷ magic) ≡ true
+pub is_unborn-closed : is_unborn (164 ∷ magic Plain) ≡ true
 unfolding is_unborn
 is_unborn-closed = refl
 
 -- a short one with an open gate is no store, whatever stands after the gate
-pub redo-short : redo (165 ∷ magic) ≡ not_a_store
+pub redo-short : redo (165 ∷ magic Plain) ≡ not_a_store
 unfolding redo is_born is_unborn
 redo-short = refl
 
@@ -207,7 +211,7 @@ the_file_end = refl
 
 -- a whole formatted image: its first two entries, and what stands from its first slot on
 abbrev pub image_of : List ℕ → List ℕ → List ℕ → List ℕ
-image_of first second slots = 165 ∷ magic ++ replicate 503 0 ++ first ++ second ++ replicate 35264 0 ++ slots
+image_of first second slots = 165 ∷ magic Plain ++ replicate 503 0 ++ first ++ second ++ replicate 35264 0 ++ slots
 
 abbrev pub no_entry : List ℕ
 no_entry = replicate 544 0
@@ -227,15 +231,15 @@ abbrev pub after_closed : List ℕ
 after_closed = image_of no_entry (one_put 0 5) (replicate 128 3)
 
 pub slot-after_closed : slot_of (redo after_closed) 0 ≡ replicate 128 3
-unfolding redo is_born entries
+unfolding redo is_born entries kind_of slot_form entry_form
 slot-after_closed = refl
 
 pub extent-after_closed : extent_of (redo after_closed) ≡ 1
-unfolding redo is_born entries
+unfolding redo is_born entries kind_of slot_form entry_form
 extent-after_closed = refl
 
 pub in_use-after_closed : length (entries_in_use after_closed) ≡ 0
-unfolding entries_in_use is_born entries
+unfolding entries_in_use is_born entries kind_of entry_form
 in_use-after_closed = refl
 
 -- two entries put into one slot, which isn't in the file: the second counts, and the extent is one
@@ -243,20 +247,20 @@ abbrev pub one_slot_twice : List ℕ
 one_slot_twice = image_of (one_put 0 4) (one_put 0 5) []
 
 pub slot-one_slot_twice : slot_of (redo one_slot_twice) 0 ≡ replicate 128 5
-unfolding redo is_born entries is_good puts_of Fields.number_at
+unfolding redo is_born entries kind_of slot_form entry_form is_good puts_of Fields.number_at
 slot-one_slot_twice = refl
 
 pub extent-one_slot_twice : extent_of (redo one_slot_twice) ≡ 1
-unfolding redo is_born entries is_good puts_of Fields.number_at
+unfolding redo is_born entries kind_of slot_form entry_form is_good puts_of Fields.number_at
 extent-one_slot_twice = refl
 
 pub in_use-one_slot_twice : length (entries_in_use one_slot_twice) ≡ 2
-unfolding entries_in_use is_born entries
+unfolding entries_in_use is_born entries kind_of entry_form
 in_use-one_slot_twice = refl
 
 -- one slot lies in the file, and the entry's slot isn't the next
 pub redo-not_next : redo (image_of (one_put 2 3) no_entry (replicate 128 7)) ≡ bad_entry 0
-unfolding redo is_born entries is_good puts_of Fields.number_at
+unfolding redo is_born entries kind_of slot_form entry_form is_good puts_of Fields.number_at
 redo-not_next = refl
 
 -- the file is cut inside its second slot, which then counts as zeros
@@ -264,11 +268,11 @@ abbrev pub cut_inside : List ℕ
 cut_inside = image_of no_entry no_entry (replicate 128 3 ++ replicate 127 4)
 
 pub slot-cut_inside : slot_of (redo cut_inside) 1 ≡ replicate 128 0
-unfolding redo is_born entries
+unfolding redo is_born entries kind_of slot_form entry_form
 slot-cut_inside = refl
 
 pub extent-cut_inside : extent_of (redo cut_inside) ≡ 1
-unfolding redo is_born entries
+unfolding redo is_born entries kind_of slot_form entry_form
 extent-cut_inside = refl
 
 -- all 64 entries come into use before they are settled, and then one is in use
@@ -288,3 +292,95 @@ verdicts-open = refl
 
 verdict-open : verdict_of_open {T = ℕ} (Ok 7) ≡ fine
 verdict-open = refl
+
+-- a live record has its check behind it, of the number of its slot and what stands before; a free slot has none, and no plain one
+pub slot_form-live_row : drop 124 (slot_form Checked 3 (1 ∷ replicate 127 0)) ≡ 100 ∷ 214 ∷ 188 ∷ 207 ∷ []
+unfolding slot_form Checksum.checksum Fields.number_bytes
+slot_form-live_row = refl
+
+pub slot_form-free_row : slot_form Checked 3 (replicate 128 0) ≡ replicate 128 0
+unfolding slot_form
+slot_form-free_row = refl
+
+-- nor has any other that begins with 0
+pub slot_form-zero_row : slot_form Checked 1 (replicate 124 0 ++ 91 ∷ 6 ∷ 163 ∷ 102 ∷ []) ≡ replicate 124 0 ++ 91 ∷ 6 ∷ 163 ∷ 102 ∷ []
+unfolding slot_form
+slot_form-zero_row = refl
+
+pub slot_form-last_row : drop 124 (slot_form Checked 1048575 (1 ∷ replicate 127 0)) ≡ 146 ∷ 208 ∷ 126 ∷ 97 ∷ []
+unfolding slot_form Checksum.checksum Fields.number_bytes
+slot_form-last_row = refl
+
+pub slot_form-plain_row : slot_form Plain 3 (1 ∷ replicate 127 0) ≡ 1 ∷ replicate 127 0
+unfolding slot_form
+slot_form-plain_row = refl
+
+-- an entry has its check, of its number and of all behind its gate
+pub entry_form-row : drop 540 (entry_form Checked 2 (165 ∷ replicate 543 0)) ≡ 221 ∷ 46 ∷ 87 ∷ 169 ∷ []
+unfolding entry_form Checksum.checksum Fields.number_bytes
+entry_form-row = refl
+
+pub entry_form-plain_row : drop 540 (entry_form Plain 2 (165 ∷ replicate 543 0)) ≡ 0 ∷ 0 ∷ 0 ∷ 0 ∷ []
+unfolding entry_form
+entry_form-plain_row = refl
+
+-- the kind of a file is that of its magic, which tells only where it stands whole
+pub kind_of-checked_row : kind_of (0 ∷ magic Checked) ≡ Checked
+unfolding kind_of
+kind_of-checked_row = refl
+
+pub kind_of-plain_row : kind_of (0 ∷ magic Plain) ≡ Plain
+unfolding kind_of
+kind_of-plain_row = refl
+
+pub kind_of-cut_row : kind_of (0 ∷ take 7 (magic Checked)) ≡ Plain
+unfolding kind_of
+kind_of-cut_row = refl
+
+-- a plain store: behind a closed gate too, but not where the first byte is 0
+pub is_plain-closed_row : is_plain (164 ∷ magic Plain) ≡ true
+unfolding is_unborn is_born
+is_plain-closed_row = refl
+
+pub is_plain-formatted_row : is_plain (165 ∷ magic Plain ++ replicate 36855 0) ≡ true
+unfolding is_unborn is_born
+is_plain-formatted_row = refl
+
+pub is_plain-zero_row : is_plain (0 ∷ magic Plain) ≡ false
+unfolding is_unborn is_born
+is_plain-zero_row = refl
+
+pub is_plain-checked_row : is_plain (164 ∷ magic Checked) ≡ false
+unfolding is_unborn is_born
+is_plain-checked_row = refl
+
+pub has_no_kind-one : has_no_kind (164 ∷ []) ≡ true
+has_no_kind-one = refl
+
+pub has_no_kind-zero : has_no_kind (0 ∷ magic Plain) ≡ true
+has_no_kind-zero = refl
+
+pub has_no_kind-closed : has_no_kind (164 ∷ magic Plain) ≡ false
+has_no_kind-closed = refl
+
+-- what the birth writes after the birth gate: a magic, where none stands
+pub magic_bytes-none : magic_bytes (0 ∷ []) ≡ magic Plain
+magic_bytes-none = refl
+
+pub magic_bytes-checked : magic_bytes (0 ∷ magic Checked) ≡ []
+magic_bytes-checked = refl
+
+pub magic_bytes-plain : magic_bytes (0 ∷ magic Plain) ≡ []
+magic_bytes-plain = refl
+
+-- a checked image: what its slot and its entry say, and an entry whose check doesn't fit
+abbrev pub checked_image : List ℕ → List ℕ → List ℕ
+checked_image first slots = 165 ∷ magic Checked ++ replicate 503 0 ++ first ++ replicate 35808 0 ++ slots
+
+pub slot-checked : slot_of (redo (checked_image no_entry (replicate 124 3 ++ 71 ∷ 75 ∷ 111 ∷ 119 ∷ []))) 0 ≡ replicate 124 3 ++ 0 ∷ 0 ∷ 0 ∷ 0 ∷ []
+unfolding redo is_born entries kind_of slot_form entry_form Checksum.checksum Fields.number_bytes
+slot-checked = refl
+
+pub redo-unchecked : redo (checked_image (one_put 0 5) []) ≡ bad_entry 0
+unfolding redo is_born entries kind_of slot_form entry_form is_good puts_of Checksum.checksum Fields.number_at Fields.number_bytes
+redo-unchecked = refl

@@ -1,19 +1,20 @@
 -- The steps of a journal: what is staged is sealed, room is made, and a transaction is committed.
-use Rattle.std.proofs.Common.{Err, List, Ok, Result, [], inl, inr, length, subst, sym, ℕ, ⊎_elim, ◌<◌, ◌≡◌, ◌⊎◌}
+use Rattle.std.proofs.Common.{ap, Err, List, Ok, Result, [], ◌∙◌, inl, inr, length, subst, sym, ℕ, ⊎_elim, ◌<◌, ◌≡◌, ◌⊎◌}
 use Rattle.std.proofs.lemmas.Result.{on_ok_weaker}
 use Rattle.std.specs.Prelude.{IsErr, OnOk}
 use Rattle.ss_outside.proofs.CrashLemmas.{joined, weaker}
-use Rattle.ss_outside.specs.Disk.{Told}
+use Rattle.ss_outside.specs.Disk.{Told, overwrite}
 use Rattle.ss_outside.specs.declared.source.Failed.{Failed}
 use Rattle.ss_journal.specs.Calls.{Commits, KeepsMap, KeepsShown, MakesRoom, Seals, Stages}
-use Rattle.ss_journal.specs.Format.{IsShut}
-use Rattle.ss_journal.specs.Kept.{IsSealed, JournalState, shown}
+use Rattle.ss_journal.specs.Gates.{entry_place}
+use Rattle.ss_journal.specs.Kept.{IsInPhase, IsKept, IsSealed, IsShown, JournalState, closed_behind, shown}
 use Rattle.ss_journal.specs.Redo.{SlotMap, StandsFor, changed}
-use Rattle.ss_journal.specs.Steps.{Reaches}
+use Rattle.ss_journal.specs.Steps.{Enters, Reaches, StaysShut}
 use Rattle.ss_journal.specs.declared.phase.Phase.TheVariants.{Settled}
+use Rattle.ss_journal.specs.declared.phase.Phase.{Phase}
 use Rattle.ss_journal.specs.declared.put.Put.{Put}
 use Rattle.ss_journal.proofs.KeptLemmas.{settled-kept}
-use Rattle.ss_journal.proofs.ShownLemmas.{IfStaged-some, IsShown-sealed, shown-sealed}
+use Rattle.ss_journal.proofs.ShownLemmas.{IfStaged-from, IfStaged-some, IsKept-sealed, IsShown-sealed, shown-sealed, with_entries-some}
 use Rattle.ss_journal.proofs.TearLemmas.{on_err}
 
 -- once all is sealed the map of the content is kept
@@ -39,12 +40,53 @@ pub Seals-as : {was then journal : JournalState} {result : Result (Unit {0}) Fai
     → Seals was journal result old new
 Seals-as {was} {then} {journal} {result} {old} {new} same = subst (λ (j : JournalState). Seals was j result old new) same
 
+-- the same of a journal that was named otherwise
+pub Seals-of : {was journal then : JournalState} {result : Result (Unit {0}) Failed} {old new : Told} → was ≡ journal → Seals was then result old new
+    → Seals journal then result old new
+Seals-of {was} {journal} {then} {result} {old} {new} same = subst (λ (j : JournalState). Seals j then result old new) same
+
+-- entries that came into the file are those that the journal showed
+module _ (was is : JournalState) (n : ℕ) (first : n ≡ was.sealed) (bytes : List ℕ) (all : bytes ≡ closed_behind was.sealed was.staged) (old new : Told)
+    (kept : IsKept was old.content) (some : 0 < length was.staged) (value : Unit {0}) (enters : Enters n bytes (Ok value) old new)
+    (phase : was.phase ≡ is.phase) (extent : is.extent ≡ was.extent) (in_use : is.in_use ≡ was.in_use) (waiting : is.waiting ≡ was.waiting)
+    (sealed : IsSealed is) (kind : is.kind ≡ was.kind) where
+  same : overwrite old.content (entry_place n) bytes ≡ shown was old.content
+  same = ap (λ (k : ℕ). overwrite old.content (entry_place k) bytes) first ∙ ap (overwrite old.content (entry_place was.sealed)) all ∙ sym (with_entries-some was.sealed was.staged old.content some)
+
+  content : new.content ≡ shown was old.content
+  content = enters.written ∙ same
+
+  shows : IsShown is (shown was old.content)
+  shows = let before = kept.shown in record {
+    kind = kind ∙ before.kind;
+    phase = subst (λ (n : ℕ). IsInPhase is.phase n (shown was old.content)) (sym in_use)
+        (subst (λ (p : Phase). IsInPhase p was.in_use (shown was old.content)) phase before.phase);
+    number = in_use ∙ before.number;
+    waiting = waiting ∙ before.waiting;
+    found = before.found;
+    map = before.map;
+    extent = before.extent ∙ sym extent;
+  }
+
+  pub seals-entered : Seals was is (Ok value) old new
+  seals-entered = record {
+    kept = IsKept-sealed is new.content sealed (subst (IsShown is) (sym content) shows);
+    keeps_shown = record {
+      map = λ found gives. subst (λ (list : List ℕ). StandsFor list found) (sym (shown-sealed is new.content sealed ∙ content)) gives;
+      any_moment = λ only before found stands gives.
+          enters.any_moment only before found stands (subst (λ (list : List ℕ). StandsFor list found) (sym same) gives);
+      durable = λ only. enters.durable;
+    };
+    durable = IfStaged-from was.staged enters.durable;
+  }
+
 -- all that is staged is sealed, and then the entries come into their slots
 pub room-made : (was mid : JournalState) (old between new : Told) (value cleared done : Unit {0}) (waiting : List Put) → Seals was mid (Ok value) old between
-    → IsSealed mid → waiting ≡ [] → Reaches (λ _ content. IsShut content) (Ok cleared) between new
-    → MakesRoom was (record { phase = Settled; extent = mid.extent; in_use = 0; waiting = waiting; sealed = 0; staged = mid.staged }) (Ok done) old new
+    → IsSealed mid → waiting ≡ [] → Reaches StaysShut (Ok cleared) between new
+    → MakesRoom was (record { phase = Settled; extent = mid.extent; in_use = 0; waiting = waiting; sealed = 0; staged = mid.staged; kind = mid.kind }) (Ok done) old new
 room-made was mid old between new value cleared done waiting seals sealed none reaches = record {
-  kept = settled-kept mid between new (IsShown-sealed mid between.content sealed seals.kept) waiting mid.staged reaches.reached.0 reaches.reached.1
+  kept = settled-kept mid between new (IsShown-sealed mid between.content sealed seals.kept) waiting mid.staged reaches.reached.1 reaches.reached.0.0
+      reaches.reached.0.1
       reaches.keeps_map.map none sealed;
   keeps_shown = shown-joined was mid _ old between new value (Ok done) sealed sealed seals.keeps_shown
       (record { map = reaches.keeps_map.map; any_moment = reaches.keeps_map.any_moment; durable = reaches.keeps_map.durable });
@@ -53,7 +95,7 @@ room-made was mid old between new value cleared done waiting seals sealed none r
 -- the same where the entries didn't come there
 pub room-uncleared : {step : Result (Unit {0}) Failed} (was mid left : JournalState) (old between new : Told) (value : Unit {0})
     (result : Result (Unit {0}) Failed) → IsErr result → Seals was mid (Ok value) old between → IsSealed mid
-    → Reaches (λ _ content. IsShut content) step between new → MakesRoom was left result old new
+    → Reaches StaysShut step between new → MakesRoom was left result old new
 room-uncleared {step} was mid left old between new value result failed seals sealed reaches =
     let keeps = shown-joined was mid mid old between new value step sealed sealed seals.keeps_shown reaches.keeps_map in
     record {

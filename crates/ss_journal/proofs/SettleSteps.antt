@@ -1,13 +1,15 @@
 -- The steps of a settling: puts come into their slots, and the first gate closes.
-use Rattle.std.proofs.Common.{List, Ok, Result, [], ap, arith, length, refl, subst, sym, ℕ, ◌<◌, ◌∷◌, ◌≡◌, ◌≤◌}
+use Rattle.std.proofs.Common.{List, Ok, Result, [], ap, arith, length, refl, subst, sym, ℕ, ◌∙◌, ◌<◌, ◌∷◌, ◌≡◌, ◌≤◌}
 use Rattle.std.specs.Prelude.{IsErr}
 use Rattle.ss_outside.specs.Crash.{KnowsNow}
 use Rattle.ss_outside.specs.Disk.{Told, overwrite}
 use Rattle.ss_outside.specs.Step.{Syncs}
 use Rattle.ss_outside.specs.declared.source.Failed.{Failed}
-use Rattle.ss_journal.specs.Format.{IsShut}
+use Rattle.ss_journal.specs.declared.kind.Kind.{Kind}
+use Rattle.ss_journal.specs.Format.{kind_of}
 use Rattle.ss_journal.specs.Redo.{HasEntries, StandsFor}
-use Rattle.ss_journal.specs.Steps.{Clears, Durably, Reaches, Writes, WritesSlots}
+use Rattle.std.proofs.lemmas.Result.{on_ok_weaker}
+use Rattle.ss_journal.specs.Steps.{Clears, Durably, Reaches, StaysShut, Writes, WritesSlots}
 use Rattle.ss_journal.specs.Writes.{DiffersAt, slots_written}
 use Rattle.ss_journal.specs.declared.put.Put.{Put}
 use Rattle.ss_journal.proofs.InUseLemmas.{StandsFor-applied, StandsFor-slots_torn, closed-written, differs-written, long-slots_written}
@@ -16,30 +18,31 @@ use Rattle.ss_journal.proofs.StepLemmas.{reaches-joined, reaches-rewritten, reac
 use Rattle.ss_journal.proofs.TearLemmas.{durable-sync_failed, durable-synced, keeps-sync_failed, keeps-synced, on_err}
 
 -- the puts of a formatted file's entries, written into their slots
-module _ (puts : List Put) (old mid : Told) (entries : HasEntries puts old.content) where
-  pub slots-failed : {step : Result (Unit {0}) Failed} (result : Result (Unit {0}) Failed) → IsErr result → Durably (WritesSlots puts) step old mid
-      → Reaches (λ _ content. IsShut content) result old mid
-  slots-failed result is wrote = reaches-torn (λ _ content. IsShut content) result is wrote.step
+module _ (kind : Kind) (puts : List Put) (old mid : Told) (entries : HasEntries kind puts old.content) where
+  pub slots-failed : {step : Result (Unit {0}) Failed} (result : Result (Unit {0}) Failed) → IsErr result → Durably (WritesSlots kind puts) step old mid
+      → Reaches StaysShut result old mid
+  slots-failed result is wrote = reaches-torn StaysShut result is wrote.step
       (λ found image stands differs. StandsFor-slots_torn puts old.content entries.born entries.in_use image differs found stands)
 
-  module _ (value : Unit {0}) (wrote : Durably (WritesSlots puts) (Ok value) old mid) where
+  module _ (value : Unit {0}) (wrote : Durably (WritesSlots kind puts) (Ok value) old mid) where
     pub within-first_gate : 512 ≤ length mid.content
-    within-first_gate = omega (arith, long-slots_written puts old.content entries.born entries.in_use, ap length wrote.step.written)
+    within-first_gate = omega (arith, long-slots_written kind puts old.content entries.kind entries.born entries.in_use, ap length wrote.step.written)
 
     -- and then the first gate, closed
     pub slots-applied : (new : Told) (result : Result (Unit {0}) Failed) → 0 < length puts → Durably (Writes 512 (0 ∷ [])) result mid new
-        → Reaches (λ _ content. IsShut content) result old new
+        → Reaches StaysShut result old new
     slots-applied new result some closes =
         let all = wrote.step.written in
-        let slots = reaches-rewritten (λ _ content. content ≡ slots_written puts old.content) (Ok value) wrote.step (λ only. wrote.durable)
+        let slots = reaches-rewritten (λ _ content. content ≡ slots_written kind puts old.content) (Ok value) wrote.step (λ only. wrote.durable)
         (λ found image stands differs. StandsFor-slots_torn puts old.content entries.born entries.in_use image differs found stands)
-        (differs-written puts old.content entries.born entries.in_use) refl in
-        let gate = reaches-rewritten (λ _ content. IsShut content) result closes.step (λ only. closes.durable)
-        (λ found image stands differs. (StandsFor-applied puts old.content entries.born entries.in_use image found some
+        (differs-written kind puts old.content entries.kind entries.born entries.in_use) refl in
+        let gate = reaches-rewritten (λ _ content. StaysShut old.content content) result closes.step (λ only. closes.durable)
+        (λ found image stands differs. (StandsFor-applied kind puts old.content entries.kind entries.born entries.in_use image found some
         (subst (λ (list : List ℕ). StandsFor list found) all stands) (subst (λ (list : List ℕ). DiffersAt 512 1 list image) all differs)).0)
         (DiffersIn-overwrite 512 mid.content (0 ∷ []) within-first_gate)
-        (subst (λ (list : List ℕ). IsShut (overwrite list 512 (0 ∷ []))) (sym all) (closed-written puts old.content entries.born entries.in_use some)) in
-        reaches-joined {S = λ _ content. IsShut content} value result slots gate (λ was is. is)
+        (subst (λ (list : List ℕ). StaysShut old.content (overwrite list 512 (0 ∷ []))) (sym all)
+        (closed-written kind puts old.content entries.kind entries.born entries.in_use some)) in
+        reaches-joined {S = StaysShut} value result slots gate (λ was is. is)
 
 -- a sync first
 module _ (old mid : Told) (knows : KnowsNow old) (result : Result (Unit {0}) Failed) where
@@ -49,12 +52,12 @@ module _ (old mid : Told) (knows : KnowsNow old) (result : Result (Unit {0}) Fai
     makes_durable = durable-sync_failed old mid knows synced.time synced.no_other result is;
   }
 
-  pub clears-synced : (value : Unit {0}) (new : Told) → Syncs (Ok value) old mid → Reaches (λ _ content. IsShut content) result mid new
+  pub clears-synced : (value : Unit {0}) (new : Told) → Syncs (Ok value) old mid → Reaches StaysShut result mid new
       → Clears result old new
   clears-synced value new synced reaches = record {
     shut = record {
       keeps_map = keeps-synced old mid knows synced.time synced.no_other result new synced.content synced.durable reaches.keeps_map;
-      reached = reaches.reached;
+      reached = on_ok_weaker result (λ (shut : StaysShut mid.content new.content). (shut.0, shut.1 ∙ ap kind_of synced.content)) reaches.reached;
     };
     makes_durable = durable-synced old mid knows synced.time synced.no_other result new synced.content synced.durable reaches.keeps_map;
   }

@@ -2,7 +2,7 @@
 use Rattle.std.proofs.Common.{IsTrue, List, [], ap, arith, drop, inl, inr, length, nat_lt, refl, subst, sym, ℕ, ◌++◌, ◌+◌, ◌*◌, ◌<◌}
 use Rattle.std.proofs.Common.{◌∙◌, ◌∷◌, ◌≡◌, ◌≤◌, ◌⊎◌}
 use Rattle.std.proofs.lemmas.Bool.{cases_Bool, cases_lt, cond-false, cond-true, le-ltb, lt-ltb}
-use Rattle.std.proofs.lemmas.List.{append_assoc, length-append}
+use Rattle.std.proofs.lemmas.List.{append-nil, append_assoc, length-append}
 use Rattle.std.specs.Prelude.{slice_index}
 use Rattle.ss_outside.proofs.DiskLemmas.{get_or-overwrite_outside, length-overwrite}
 use Rattle.ss_outside.specs.Disk.{overwrite}
@@ -40,6 +40,20 @@ closed_behind-append : (n next : ℕ) (bytes entry : List ℕ) → 544 * n + len
 closed_behind-append n next bytes entry there =
     let same : 544 * n + length (bytes ++ entry) ≡ 544 * next + length entry = omega (arith, there, length-append bytes entry) in
     ap (λ (end : ℕ). (bytes ++ entry) ++ gate_behind end) same ∙ append_assoc bytes entry (gate_behind (544 * next + length entry))
+
+-- the gate behind entries that end before entry m, and behind those that are the last
+pub closed_behind-free : (n m : ℕ) (bytes : List ℕ) → 544 * n + length bytes ≡ 544 * m → m < 64 → bytes ++ 0 ∷ [] ≡ closed_behind n bytes
+closed_behind-free n m bytes there free =
+    ap (λ (list : List ℕ). bytes ++ list)
+    (sym (cond-true (nat_lt (544 * n + length bytes) (544 * 64)) (0 ∷ []) []
+    (lt-ltb (544 * n + length bytes) (544 * 64) (omega (arith, there, free)))))
+
+pub closed_behind-full : (n m : ℕ) (bytes : List ℕ) → 544 * n + length bytes ≡ 544 * m → 64 ≤ m → bytes ≡ closed_behind n bytes
+closed_behind-full n m bytes there full =
+    sym (append-nil bytes)
+    ∙ ap (λ (list : List ℕ). bytes ++ list)
+    (sym (cond-false (nat_lt (544 * n + length bytes) (544 * 64)) (0 ∷ []) []
+    (le-ltb (544 * n + length bytes) (544 * 64) (omega (arith, there, full)))))
 
 -- entries come before the slots, and leave the length
 module _ (n : ℕ) where

@@ -6,13 +6,16 @@ use Rattle.std.proofs.lemmas.List.Elements.{All-head, All-tail}
 use Rattle.std.proofs.lemmas.List.{append_assoc, drop_at, drop_more, length-take-le, take_at}
 use Rattle.ss_outside.proofs.DiskLemmas.{get_or-overwrite_outside, length-overwrite}
 use Rattle.ss_outside.specs.Disk.{IsOutside, IsOutsideAll, overwrite}
-use Rattle.ss_journal.specs.Format.{slot_at, slot_place, slots_in}
+use Rattle.ss_journal.specs.Checks.{slot_form, slot_in}
+use Rattle.ss_journal.specs.declared.kind.Kind.{Kind}
+use Rattle.ss_journal.specs.Format.{kind_of, slot_at, slot_place, slots_in}
 use Rattle.ss_journal.specs.Puts.{AgreeBeside, FillSlots, extent_after, is_put, slots_fit}
 use Rattle.ss_journal.specs.Redo.{SameMap, changed, file_map}
 use Rattle.ss_journal.specs.Writes.{AreSlots, DiffersAt, DiffersIn, HasSlotsFor, length_with, slot_ranges, slots_written}
 use Rattle.ss_journal.specs.declared.put.Put.{Put}
-use Rattle.ss_journal.proofs.HeaderLemmas.{piece-same}
-use Rattle.ss_journal.proofs.MapLemmas.{SameMap-refl, SameMap-trans, changed-same, slot_within}
+use Rattle.ss_journal.proofs.CheckLemmas.{length-slot_form, slot_form-twice}
+use Rattle.ss_journal.proofs.HeaderLemmas.{kind_of-same, piece-same}
+use Rattle.ss_journal.proofs.MapLemmas.{SameMap-refl, SameMap-trans, changed-same, slot_in-same, slot_within}
 use Rattle.ss_journal.proofs.PutLemmas.{below_extent, le-extent_after, lt-next, next, next-le, slots_fit-cases}
 use Rattle.ss_journal.proofs.RangeLemmas.{Covers, DiffersIn-append, DiffersIn-overwrite, DiffersIn-refl}
 
@@ -66,8 +69,11 @@ module _ (puts : List Put) (content image : List ℕ) (fit : IsTrue (slots_fit p
         let inside = slot_within (length content) slot within in
         let mono = slots_in-mono (length content) (length image) differs.no_shorter in
         cond-true _ _ _ (lt-ltb slot (slots_in (length image)) (omega (arith, within, mono)))
-        ∙ piece-same content image (slot_place slot) 128 inside (omega (arith, inside, differs.no_shorter))
-        (λ place low high. differs.kept place (omega (arith, high, inside)) (outside_slot puts slot place beside low high))
+        ∙ slot_in-same content image slot
+        (kind_of-same content image (omega (arith, inside)) (omega (arith, inside, differs.no_shorter))
+        (λ place low high. differs.kept place (omega (arith, high, inside)) (outside_slots puts place (omega (arith, high)))))
+        (piece-same content image (slot_place slot) 128 inside (omega (arith, inside, differs.no_shorter))
+        (λ place low high. differs.kept place (omega (arith, high, inside)) (outside_slot puts slot place beside low high)))
         ∙ sym (cond-true _ _ _ (lt-ltb slot (slots_in (length content)) within))
     | inr past ↦ elim (cases_lt slot (slots_in (length image))) [
       | inl below ↦ let lt = below_extent puts (slots_in (length content)) slot (omega (arith, below, slots_in-torn)) beside in absurd (omega (arith, lt, past))
@@ -90,40 +96,52 @@ slots_in-other : (size slot other : ℕ) → 36864 ≤ size → slot ≤ slots_i
     → slots_in (max size (slot_place slot + 128)) ≤ other
 slots_in-other size slot other long fits past apart = omega (arith, apart)
 
-module _ (put : Put) (content : List ℕ) (long : 36864 ≤ length content) (fits : put.slot ≤ slots_in (length content)) (below : put.slot < 2 ^ 20)
+module _ (kind : Kind) (put : Put) (content : List ℕ) (long : 36864 ≤ length content) (fits : put.slot ≤ slots_in (length content)) (below : put.slot < 2 ^ 20)
     (whole : length put.bytes ≡ 128) where
+  -- its bytes in the form of a kind
+  abbrev bytes : List ℕ
+  bytes = slot_form kind put.slot put.bytes
+
   abbrev written : List ℕ
-  written = overwrite content (slot_place put.slot) put.bytes
+  written = overwrite content (slot_place put.slot) bytes
+
+  size : length bytes ≡ 128
+  size = length-slot_form kind put.slot put.bytes ∙ whole
 
   place_within : slot_place put.slot ≤ length content
   place_within = omega (arith, long, fits)
 
   pub length-written : length written ≡ max (length content) (slot_place put.slot + 128)
-  length-written = length-overwrite content put.bytes (slot_place put.slot) place_within ∙ ap (λ (n : ℕ). max (length content) (slot_place put.slot + n)) whole
+  length-written = length-overwrite content bytes (slot_place put.slot) place_within ∙ ap (λ (n : ℕ). max (length content) (slot_place put.slot + n)) size
 
   pub slots-written : slots_in (length written) ≡ next put.slot (slots_in (length content))
   slots-written = ap slots_in length-written ∙ slots_in-put (length content) put.slot long fits below
 
-  slot_at-written : slot_at written put.slot ≡ put.bytes
+  slot_at-written : slot_at written put.slot ≡ bytes
   slot_at-written =
       let front : length (take (slot_place put.slot) content) ≡ slot_place put.slot = length-take-le (slot_place put.slot) content place_within in
       ap (λ (list : List ℕ). take 128 (drop (slot_place put.slot) list))
-      (append_assoc (take (slot_place put.slot) content) put.bytes (drop (slot_place put.slot + length put.bytes) content))
-      ∙ ap (take 128) (drop_at (take (slot_place put.slot) content) (put.bytes ++ drop (slot_place put.slot + length put.bytes) content) (slot_place put.slot)
+      (append_assoc (take (slot_place put.slot) content) bytes (drop (slot_place put.slot + length bytes) content))
+      ∙ ap (take 128) (drop_at (take (slot_place put.slot) content) (bytes ++ drop (slot_place put.slot + length bytes) content) (slot_place put.slot)
       front)
-      ∙ take_at put.bytes (drop (slot_place put.slot + length put.bytes) content) 128 whole
+      ∙ take_at bytes (drop (slot_place put.slot + length bytes) content) 128 size
 
-  bytes-written : (slot : ℕ) → (slot ≡ put.slot → ⊥) → (file_map written).bytes slot ≡ (file_map content).bytes slot
-  bytes-written slot apart = elim (cases_lt slot (slots_in (length content))) [
+  -- the kind stays
+  pub kind-written : kind_of written ≡ kind_of content
+  kind-written = kind_of-same content written (omega (arith, long)) (omega (arith, long, length-written))
+      (λ place low high. get_or-overwrite_outside content bytes (slot_place put.slot) place_within place (inl (omega (arith, high))))
+
+  others-written : (slot : ℕ) → (slot ≡ put.slot → ⊥) → (file_map written).bytes slot ≡ (file_map content).bytes slot
+  others-written slot apart = elim (cases_lt slot (slots_in (length content))) [
     | inl within ↦
         let inside = slot_within (length content) slot within in
         let longer : length content ≤ length written = omega (arith, length-written) in
         cond-true _ _ _ (lt-ltb slot (slots_in (length written)) (omega (arith, within, slots_in-mono (length content) (length written) longer)))
-        ∙ piece-same content written (slot_place slot) 128 inside (omega (arith, inside, longer))
-        (λ place low high. get_or-overwrite_outside content put.bytes (slot_place put.slot) place_within place (elim (cases_order slot put.slot) [
+        ∙ slot_in-same content written slot kind-written (piece-same content written (slot_place slot) 128 inside (omega (arith, inside, longer))
+        (λ place low high. get_or-overwrite_outside content bytes (slot_place put.slot) place_within place (elim (cases_order slot put.slot) [
           | inl same ↦ absurd (apart same)
-          | inr sides ↦ elim sides [ inl lower ↦ inl (omega (arith, lower, high)) | inr higher ↦ inr (omega (arith, higher, low, whole)) ]
-        ]))
+          | inr sides ↦ elim sides [ inl lower ↦ inl (omega (arith, lower, high)) | inr higher ↦ inr (omega (arith, higher, low, size)) ]
+        ])))
         ∙ sym (cond-true _ _ _ (lt-ltb slot (slots_in (length content)) within))
     | inr past ↦
         let also = slots_in-other (length content) put.slot slot long fits past apart in
@@ -131,50 +149,58 @@ module _ (put : Put) (content : List ℕ) (long : 36864 ≤ length content) (fit
         ∙ sym (cond-false _ _ _ (le-ltb slot (slots_in (length content)) past))
   ]
 
-  pub file_map-put : SameMap (file_map written) (changed (file_map content) (put ∷ []))
-  file_map-put = record {
+  -- of the file's kind it says them
+  pub file_map-put : kind ≡ kind_of content → SameMap (file_map written) (changed (file_map content) (put ∷ []))
+  file_map-put same_kind = record {
     bytes = λ slot lt. elim (cases_eq slot put.slot) [
       | inl same ↦
           let within : put.slot < slots_in (length written) = omega (arith, slots-written, lt-next put.slot (slots_in (length content)) fits) in
-          let there : (file_map written).bytes put.slot ≡ put.bytes = cond-true _ _ _ (lt-ltb put.slot (slots_in (length written)) within) ∙ slot_at-written in
+          let says : slot_in written put.slot ≡ put.bytes =
+          ap (λ (k : Kind). slot_form k put.slot (slot_at written put.slot)) (kind-written ∙ sym same_kind)
+          ∙ ap (slot_form kind put.slot) slot_at-written ∙ slot_form-twice kind put.slot put.bytes in
+          let there : (file_map written).bytes put.slot ≡ put.bytes = cond-true _ _ _ (lt-ltb put.slot (slots_in (length written)) within) ∙ says in
           ap (file_map written).bytes same ∙ there ∙ sym (cond-true _ _ _ (eq-eqb slot put.slot same))
-      | inr apart ↦ bytes-written slot apart ∙ sym (cond-false _ _ _ (ne_eqb slot put.slot apart))
+      | inr apart ↦ others-written slot apart ∙ sym (cond-false _ _ _ (ne_eqb slot put.slot apart))
     ];
     extent = slots-written;
   }
 
 -- the puts that are written in order give the map after them
-pub file_map-slots_written : (puts : List Put) (content : List ℕ) → 36864 ≤ length content → IsTrue (slots_fit puts (slots_in (length content)))
-    → AreSlots puts → FillSlots puts → SameMap (file_map (slots_written puts content)) (changed (file_map content) puts)
-file_map-slots_written [] content long fit slots whole = SameMap-refl (file_map content)
-file_map-slots_written (put ∷ puts) content long fit slots whole =
+pub file_map-slots_written : (kind : Kind) (puts : List Put) (content : List ℕ) → kind ≡ kind_of content → 36864 ≤ length content → IsTrue (slots_fit puts (slots_in (length content)))
+    → AreSlots puts → FillSlots puts → SameMap (file_map (slots_written kind puts content)) (changed (file_map content) puts)
+file_map-slots_written kind [] content is long fit slots whole = SameMap-refl (file_map content)
+file_map-slots_written kind (put ∷ puts) content is long fit slots whole =
     let cases = slots_fit-cases put puts (slots_in (length content)) fit in
     let below = All-head (λ (p : Put). p.slot < 2 ^ 20) put puts slots in
     let full = All-head (λ (p : Put). length p.bytes ≡ 128) put puts whole in
-    let grown = length-written put content long cases.0 below full in
-    let first = file_map-put put content long cases.0 below full in
-    let rest = file_map-slots_written puts (overwrite content (slot_place put.slot) put.bytes) (omega (arith, grown, long))
+    let grown = length-written kind put content long cases.0 below full in
+    let first = file_map-put kind put content long cases.0 below full is in
+    let rest = file_map-slots_written kind puts (overwrite content (slot_place put.slot) (slot_form kind put.slot put.bytes))
+    (is ∙ sym (kind-written kind put content long cases.0 below full)) (omega (arith, grown, long))
     (subst (λ (n : ℕ). IsTrue (slots_fit puts n)) (sym first.extent) cases.1)
     (All-tail (λ (p : Put). p.slot < 2 ^ 20) put puts slots) (All-tail (λ (p : Put). length p.bytes ≡ 128) put puts whole) in
     SameMap-trans _ _ _ rest (changed-same puts _ _ first)
 
 -- room for the rest, with the first written
-pub HasSlotsFor-more : (puts : List Put) (k : ℕ) (d : Put) (content : List ℕ) → k < length puts → (get_or puts k d).slot < 2 ^ 20
+pub HasSlotsFor-more : (kind : Kind) (puts : List Put) (k : ℕ) (d : Put) (content : List ℕ) → k < length puts → (get_or puts k d).slot < 2 ^ 20
     → length (get_or puts k d).bytes ≡ 128 → HasSlotsFor (drop k puts) content
-    → HasSlotsFor (drop (k + 1) puts) (overwrite content (slot_place (get_or puts k d).slot) (get_or puts k d).bytes)
-HasSlotsFor-more puts k d content lt below whole room =
+    → HasSlotsFor (drop (k + 1) puts)
+    (overwrite content (slot_place (get_or puts k d).slot) (slot_form kind (get_or puts k d).slot (get_or puts k d).bytes))
+HasSlotsFor-more kind puts k d content lt below whole room =
     let put = get_or puts k d in
     let fit = subst (λ (list : List Put). IsTrue (slots_fit list (slots_in (length content)))) (drop_more puts k d lt) room.fit in
     let cases = slots_fit-cases put (drop (k + 1) puts) (slots_in (length content)) fit in
-    let grown = length-written put content room.long cases.0 below whole in
+    let grown = length-written kind put content room.long cases.0 below whole in
     record {
       long = omega (arith, grown, room.long);
-      fit = subst (λ (n : ℕ). IsTrue (slots_fit (drop (k + 1) puts) n)) (sym (slots-written put content room.long cases.0 below whole)) cases.1;
+      fit = subst (λ (n : ℕ). IsTrue (slots_fit (drop (k + 1) puts) n)) (sym (slots-written kind put content room.long cases.0 below whole)) cases.1;
     }
 
-pub slots_written-more : (puts : List Put) (k : ℕ) (d : Put) (content : List ℕ) → k < length puts
-    → slots_written (drop (k + 1) puts) (overwrite content (slot_place (get_or puts k d).slot) (get_or puts k d).bytes) ≡ slots_written (drop k puts) content
-slots_written-more puts k d content lt = ap (λ (list : List Put). slots_written list content) (sym (drop_more puts k d lt))
+pub slots_written-more : (kind : Kind) (puts : List Put) (k : ℕ) (d : Put) (content : List ℕ) → k < length puts
+    → slots_written kind (drop (k + 1) puts)
+    (overwrite content (slot_place (get_or puts k d).slot) (slot_form kind (get_or puts k d).slot (get_or puts k d).bytes))
+    ≡ slots_written kind (drop k puts) content
+slots_written-more kind puts k d content lt = ap (λ (list : List Put). slots_written kind list content) (sym (drop_more puts k d lt))
 
 -- one of the slots
 outside_at : (puts : List Put) (k : ℕ) (d : Put) (place : ℕ) → k < length puts → IsOutsideAll (slot_ranges puts) place
@@ -193,18 +219,19 @@ pub Covers-slot : (puts : List Put) (k : ℕ) (d : Put) → k < length puts → 
 Covers-slot puts k d lt = record { outside = λ place out. outside_at puts k d place lt out; end = λ size. end_of_at puts k d size lt }
 
 -- the puts that are written are one way to tear their slots
-pub DiffersIn-slots_written : (puts : List Put) (content : List ℕ) → 36864 ≤ length content → IsTrue (slots_fit puts (slots_in (length content)))
-    → AreSlots puts → FillSlots puts → DiffersIn (slot_ranges puts) content (slots_written puts content)
-DiffersIn-slots_written [] content long fit slots whole = DiffersIn-refl [] content
-DiffersIn-slots_written (put ∷ puts) content long fit slots whole =
+pub DiffersIn-slots_written : (kind : Kind) (puts : List Put) (content : List ℕ) → 36864 ≤ length content → IsTrue (slots_fit puts (slots_in (length content)))
+    → AreSlots puts → FillSlots puts → DiffersIn (slot_ranges puts) content (slots_written kind puts content)
+DiffersIn-slots_written kind [] content long fit slots whole = DiffersIn-refl [] content
+DiffersIn-slots_written kind (put ∷ puts) content long fit slots whole =
     let cases = slots_fit-cases put puts (slots_in (length content)) fit in
     let below = All-head (λ (p : Put). p.slot < 2 ^ 20) put puts slots in
     let full = All-head (λ (p : Put). length p.bytes ≡ 128) put puts whole in
-    let grown = length-written put content long cases.0 below full in
-    let next = overwrite content (slot_place put.slot) put.bytes in
-    let first = subst (λ (n : ℕ). DiffersAt (slot_place put.slot) n content next) full
-    (DiffersIn-overwrite (slot_place put.slot) content put.bytes (omega (arith, long, cases.0))) in
-    let rest = DiffersIn-slots_written puts next (omega (arith, grown, long))
-    (subst (λ (n : ℕ). IsTrue (slots_fit puts n)) (sym (slots-written put content long cases.0 below full)) cases.1)
+    let grown = length-written kind put content long cases.0 below full in
+    let bytes = slot_form kind put.slot put.bytes in
+    let next = overwrite content (slot_place put.slot) bytes in
+    let first = subst (λ (n : ℕ). DiffersAt (slot_place put.slot) n content next) (length-slot_form kind put.slot put.bytes ∙ full)
+    (DiffersIn-overwrite (slot_place put.slot) content bytes (omega (arith, long, cases.0))) in
+    let rest = DiffersIn-slots_written kind puts next (omega (arith, grown, long))
+    (subst (λ (n : ℕ). IsTrue (slots_fit puts n)) (sym (slots-written kind put content long cases.0 below full)) cases.1)
     (All-tail (λ (p : Put). p.slot < 2 ^ 20) put puts slots) (All-tail (λ (p : Put). length p.bytes ≡ 128) put puts whole) in
-    DiffersIn-append ((slot_place put.slot, 128) ∷ []) (slot_ranges puts) content next (slots_written puts next) first rest
+    DiffersIn-append ((slot_place put.slot, 128) ∷ []) (slot_ranges puts) content next (slots_written kind puts next) first rest

@@ -8,52 +8,60 @@ use Rattle.ss_outside.specs.Crash.{KnowsNow}
 use Rattle.ss_outside.specs.Disk.{Told, overwrite}
 use Rattle.ss_outside.specs.Step.{Syncs}
 use Rattle.ss_outside.specs.declared.source.Failed.{Failed}
+use Rattle.ss_journal.specs.Checks.{slot_form}
+use Rattle.ss_journal.specs.declared.kind.Kind.{Kind}
 use Rattle.ss_journal.specs.Format.{slot_place}
 use Rattle.ss_journal.specs.Steps.{Durably, Rewrites, Writes, WritesSlots, WritesZeros}
 use Rattle.ss_journal.specs.Writes.{HasSlotsFor, Tears, slot_ranges, slots_written}
 use Rattle.ss_journal.specs.declared.put.Put.{Put}
+use Rattle.ss_journal.proofs.CheckLemmas.{length-slot_form}
 use Rattle.ss_journal.proofs.RangeLemmas.{Covers-part, overwrite-zeros}
 use Rattle.ss_journal.proofs.SlotLemmas.{Covers-slot, HasSlotsFor-more, slots_written-more}
 use Rattle.ss_journal.proofs.StepLemmas.{rewrites-synced}
 use Rattle.ss_journal.proofs.TearLemmas.{on_err, tears-more, tears-none}
 
 -- so many of the puts are written: the rest leads to what all lead to
-pub record WrittenTo (puts : List Put) (k : ℕ) (old new : Told) : Type 0 where
+pub record WrittenTo (kind : Kind) (puts : List Put) (k : ℕ) (old new : Told) : Type 0 where
   pub tears : Tears (slot_ranges puts) old new
-  pub written : slots_written (drop k puts) new.content ≡ slots_written puts old.content
+  pub written : slots_written kind (drop k puts) new.content ≡ slots_written kind puts old.content
   pub places : HasSlotsFor (drop k puts) new.content
 
-pub WrittenTo-none : (puts : List Put) (disk : Told) → KnowsNow disk → HasSlotsFor puts disk.content → WrittenTo puts 0 disk disk
-WrittenTo-none puts disk knows places = record { tears = tears-none (slot_ranges puts) disk knows; written = refl; places = places }
+pub WrittenTo-none : (kind : Kind) (puts : List Put) (disk : Told) → KnowsNow disk → HasSlotsFor puts disk.content → WrittenTo kind puts 0 disk disk
+WrittenTo-none kind puts disk knows places = record { tears = tears-none (slot_ranges puts) disk knows; written = refl; places = places }
 
-module _ (puts : List Put) (k : ℕ) (d : Put) (old mid new : Told) (knows : KnowsNow mid) (lt : k < length puts) (so_far : WrittenTo puts k old mid) where
+module _ (kind : Kind) (puts : List Put) (k : ℕ) (d : Put) (old mid new : Told) (knows : KnowsNow mid) (lt : k < length puts)
+    (so_far : WrittenTo kind puts k old mid) where
+  abbrev bytes : List ℕ
+  bytes = slot_form kind (get_or puts k d).slot (get_or puts k d).bytes
+
   tears-slot : {result : Result (Unit {0}) Failed} → length (get_or puts k d).bytes ≡ 128
-      → Writes (slot_place (get_or puts k d).slot) (get_or puts k d).bytes result mid new → Tears (slot_ranges puts) old new
+      → Writes (slot_place (get_or puts k d).slot) bytes result mid new → Tears (slot_ranges puts) old new
   tears-slot whole step = tears-more old mid new (slot_ranges puts) knows so_far.tears (slot_place (get_or puts k d).slot) 128
-      (Covers-slot puts k d lt) (subst (λ (n : ℕ). Tears ((slot_place (get_or puts k d).slot, n) ∷ []) mid new) whole step.tears)
+      (Covers-slot puts k d lt) (subst (λ (n : ℕ). Tears ((slot_place (get_or puts k d).slot, n) ∷ []) mid new)
+      (length-slot_form kind (get_or puts k d).slot (get_or puts k d).bytes ∙ whole) step.tears)
 
   pub WrittenTo-more : (value : Unit {0}) → (get_or puts k d).slot < 2 ^ 20 → length (get_or puts k d).bytes ≡ 128
-      → Writes (slot_place (get_or puts k d).slot) (get_or puts k d).bytes (Ok value) mid new → WrittenTo puts (k + 1) old new
+      → Writes (slot_place (get_or puts k d).slot) bytes (Ok value) mid new → WrittenTo kind puts (k + 1) old new
   WrittenTo-more value few whole step = record {
     tears = tears-slot whole step;
-    written = rw step.written (slots_written-more puts k d mid.content lt ∙ so_far.written);
-    places = rw step.written (HasSlotsFor-more puts k d mid.content lt few whole so_far.places);
+    written = rw step.written (slots_written-more kind puts k d mid.content lt ∙ so_far.written);
+    places = rw step.written (HasSlotsFor-more kind puts k d mid.content lt few whole so_far.places);
   }
 
   pub WrittenTo-failed : {step : Result (Unit {0}) Failed} (result : Result (Unit {0}) Failed) → IsErr result → length (get_or puts k d).bytes ≡ 128
-      → Writes (slot_place (get_or puts k d).slot) (get_or puts k d).bytes step mid new → Durably (WritesSlots puts) result old new
+      → Writes (slot_place (get_or puts k d).slot) bytes step mid new → Durably (WritesSlots kind puts) result old new
   WrittenTo-failed result is whole step = record {
     step = record { tears = tears-slot whole step; written = on_err result _ is };
     durable = on_err result _ is;
   }
 
-pub WrittenTo-synced : (puts : List Put) (k : ℕ) (old mid new : Told) → KnowsNow mid → length puts ≤ k → WrittenTo puts k old mid
-    → (result : Result (Unit {0}) Failed) → Syncs result mid new → Durably (WritesSlots puts) result old new
-WrittenTo-synced puts k old mid new knows all so_far result synced =
+pub WrittenTo-synced : (kind : Kind) (puts : List Put) (k : ℕ) (old mid new : Told) → KnowsNow mid → length puts ≤ k → WrittenTo kind puts k old mid
+    → (result : Result (Unit {0}) Failed) → Syncs result mid new → Durably (WritesSlots kind puts) result old new
+WrittenTo-synced kind puts k old mid new knows all so_far result synced =
     let none : drop k puts ≡ [] = drop_all k puts all in
-    let wrote : Rewrites (slot_ranges puts) (slots_written puts old.content) (Ok tt) old mid = record {
+    let wrote : Rewrites (slot_ranges puts) (slots_written kind puts old.content) (Ok tt) old mid = record {
       tears = so_far.tears;
-      written = sym (ap (λ (rest : List Put). slots_written rest mid.content) none) ∙ so_far.written;
+      written = sym (ap (λ (rest : List Put). slots_written kind rest mid.content) none) ∙ so_far.written;
     } in
     record { step = rewrites-synced tt result wrote knows synced; durable = synced.durable }
 

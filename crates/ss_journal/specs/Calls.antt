@@ -1,6 +1,6 @@
 -- What the calls of a journal leave of the map, also in a crash, and what they make of the journal.
-use Rattle.std.specs.Prelude.{◌≡◌, ◌⊎◌, ℕ, ◌+◌, ◌*◌, ◌<◌, nat_lt, if◌then◌else◌, List, length, take, drop}
-use Rattle.std.specs.Prelude.{Result, Ok, Err, IfOk, OnOk, IsTrue}
+use Rattle.std.specs.Prelude.{Bool, true, not, ◌&&◌, ◌||◌, ◌≡◌, ◌⊎◌, ℕ, ◌+◌, ◌*◌, ◌<◌, nat_lt, if◌then◌else◌, List, length, take, drop}
+use Rattle.std.specs.Prelude.{Result, Ok, Err, IfOk, OnOk, IsTrue, IsFalse}
 use Rattle.ss_outside.specs.Crash.{LeavesOnly, OnlyReads}
 use Rattle.ss_outside.specs.Verdict.{Verdict, fine, refused, no_memory, failed}
 use Rattle.ss_outside.specs.declared.source.Failed.{Failed}
@@ -9,7 +9,9 @@ use Rattle.ss_journal.specs.declared.put.Put.{Put}
 use Rattle.ss_journal.specs.declared.journal_error.JournalError.{JournalError}
 use Rattle.ss_journal.specs.declared.journal_error.JournalError.TheVariants.{Disk, NotAStore, BadEntry, OutOfMemory}
 use Rattle.ss_journal.specs.declared.format.TheConstants.{ENTRIES, PAGE_SLOTS, SLOT_SIZE}
-use Rattle.ss_journal.specs.Format.{is_unborn, is_born}
+use Rattle.ss_journal.specs.declared.kind.Kind.TheVariants.{Checked}
+use Rattle.ss_journal.specs.Birth.{has_no_kind}
+use Rattle.ss_journal.specs.Format.{is_unborn, is_born, is_plain, kind_of}
 use Rattle.ss_journal.specs.Kept.{IfStaged, JournalState, IsKept, IsSealed, IsSettled, OpensMapAs, shown}
 use Rattle.ss_journal.specs.Puts.{extent_after}
 use Rattle.ss_journal.specs.Redo.{SlotMap, StandsFor, changed}
@@ -74,6 +76,16 @@ pub record Settles (journal : JournalState) (result : Result Unit Failed) (old n
   -- a birth leaves what lies after the last slot that a file can have
   pub rest : IsTrue (is_unborn old.content) → OnOk result (SameRest old.content new.content)
 
+-- A store is made a checked one, before it is formatted: the map stays, also in a crash at any moment of it. At Ok a plain store
+-- stands there, or if any does a checked one.
+pub record MakesChecked (result : Result Bool Failed) (old new : Told) : Type 0 where
+  pub keeps_map : KeepsMap old new result
+  pub is : IfOk result (λ is. is ≡ not (is_plain old.content))
+  pub checked : IfOk result (λ is. is ≡ true → IsTrue (is_born new.content || is_unborn new.content) → kind_of new.content ≡ Checked)
+  -- only a file that isn't formatted, and with which no kind stays, is written
+  pub unwritten : IsFalse (is_unborn old.content && has_no_kind old.content) → OnlyReads old new
+  pub rest : IfOk result (λ _. SameRest old.content new.content)
+
 -- A journal commits these puts, and is this then: the map changes by all of them, or not at all.
 pub record Commits (journal : JournalState) (puts : List Put) (result : Result Unit Failed) (old new : Told) : Type 0 where
   pub kept : OnOk result (IsKept journal new.content)
@@ -108,6 +120,7 @@ pub record ReadsPage (journal : JournalState) (page : ℕ) (result : Result (Lis
 
 -- What a settling makes of a journal, over every disk: no entry is in use.
 pub record HasSettled (old new : JournalState) : Type 0 where
+  pub kind : new.kind ≡ old.kind
   pub settled : IsSettled new
   pub extent : new.extent ≡ old.extent
   pub in_use : new.in_use ≡ 0
@@ -119,6 +132,7 @@ entries_after in_use = if nat_lt in_use ENTRIES then in_use + 1 else 1
 
 -- What making room makes of a journal, over every disk: an entry is free, and where nothing was staged nothing is.
 pub record HasMadeRoom (old new : JournalState) : Type 0 where
+  pub kind : new.kind ≡ old.kind
   pub settled : IsSettled new
   pub extent : new.extent ≡ old.extent
   pub room : new.in_use < ENTRIES
@@ -127,6 +141,7 @@ pub record HasMadeRoom (old new : JournalState) : Type 0 where
 
 -- What sealing makes of a journal, over every disk: all of its entries stand in the file.
 pub record HasSealed (old new : JournalState) : Type 0 where
+  pub kind : new.kind ≡ old.kind
   pub settled : IsSettled new
   pub extent : new.extent ≡ old.extent
   pub in_use : new.in_use ≡ old.in_use
@@ -135,6 +150,7 @@ pub record HasSealed (old new : JournalState) : Type 0 where
 
 -- What staging these puts makes of a journal, over every disk: they are in an entry more, which is staged.
 pub record HasStaged (puts : List Put) (old new : JournalState) : Type 0 where
+  pub kind : new.kind ≡ old.kind
   pub settled : IsSettled new
   pub extent : new.extent ≡ extent_after puts old.extent
   pub in_use : new.in_use ≡ old.in_use + 1
@@ -147,6 +163,7 @@ pub record Stages (puts : List Put) (was is : JournalState) (content : List ℕ)
 
 -- What a commit of these puts makes of a journal, over every disk.
 pub record HasCommitted (puts : List Put) (old new : JournalState) : Type 0 where
+  pub kind : new.kind ≡ old.kind
   pub settled : IsSettled new
   pub extent : new.extent ≡ extent_after puts old.extent
   pub in_use : new.in_use ≡ entries_after old.in_use

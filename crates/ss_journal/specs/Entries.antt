@@ -6,7 +6,7 @@ use Rattle.ss_fields.specs.Fields.{number_at, number_bytes}
 use Rattle.ss_journal.specs.declared.put.Put.{Put}
 use Rattle.ss_journal.specs.declared.format.TheConstants.{ENTRIES, ENTRY_SIZE, MOST_PUTS, PUT_SIZE, SLOT_SIZE}
 use Rattle.ss_journal.specs.Gates.{is_open}
-use Rattle.ss_journal.specs.Format.{entry_bytes}
+use Rattle.ss_journal.specs.Checks.{entry_in}
 use Rattle.ss_journal.specs.Puts.{slots_rise_from, slots_fit}
 
 -- how many puts an entry holds
@@ -33,9 +33,9 @@ abbrev pub open_prefix : List (List ℕ) → List (List ℕ)
 open_prefix [] = []
 open_prefix (entry ∷ entries) = if is_open entry then entry ∷ open_prefix entries else []
 
--- the entries of a file
+-- what the entries of a file say
 unfoldable pub entries : List ℕ → List (List ℕ)
-entries image = map (entry_bytes image) (range_with_len 0 ENTRIES)
+entries image = map (entry_in image) (range_with_len 0 ENTRIES)
 
 -- a put in an entry: the number of its slot, then the bytes
 abbrev pub put_bytes : Put → List ℕ

@@ -8,11 +8,12 @@ use Rattle.ss_journal.specs.declared.phase.Phase.TheVariants.{Unborn, Born, Sett
 use Rattle.ss_journal.specs.declared.journal_error.JournalError.{JournalError}
 use Rattle.ss_journal.specs.declared.journal_error.JournalError.TheVariants.{Disk, NotAStore, BadEntry, OutOfMemory}
 use Rattle.ss_journal.specs.Gates.{EndsAt, IsClosed, entry_place}
-use Rattle.ss_journal.specs.Format.{is_unborn, is_born}
+use Rattle.ss_journal.specs.declared.kind.Kind.{Kind}
+use Rattle.ss_journal.specs.Format.{is_unborn, is_born, kind_of}
 use Rattle.ss_journal.specs.Redo.{SlotMap, not_a_store, bad_entry, stands, redo, entries_in_use, puts_in_use}
 
 -- a journal: its phase, its extent, the number of entries in use, and their puts; how many of the entries stand in the file, and
--- the bytes of those after them, which are staged
+-- the bytes of those after them, which are staged; and the kind of the file
 pub record JournalState : Type 0 where
   pub phase : Phase
   pub extent : ℕ
@@ -20,6 +21,7 @@ pub record JournalState : Type 0 where
   pub waiting : List Put
   pub sealed : ℕ
   pub staged : List ℕ
+  pub kind : Kind
 
 -- bytes of entries, if any, begin with an open gate
 abbrev pub BeginsOpen : List ℕ → Type 0
@@ -80,6 +82,7 @@ shown journal content = with_entries journal.sealed journal.staged content
 -- One disk: what the journal shows over the content is as it keeps it. The entries in use are those that the journal keeps, and
 -- once settled the gate after them is closed.
 pub record IsShown (journal : JournalState) (content : List ℕ) : Type 0 where
+  pub kind : journal.kind ≡ kind_of content
   pub phase : IsInPhase journal.phase journal.in_use content
   pub number : journal.in_use ≡ length (entries_in_use content)
   pub waiting : journal.waiting ≡ puts_in_use content

@@ -1,6 +1,7 @@
 pub mod Gates
 pub mod Format
 pub mod Puts
+pub mod Checks
 pub mod Entries
 pub mod Redo
 pub mod Kept

@@ -1,7 +1,9 @@
 -- What an image stands for: a fold over the entries of its open prefix.
 use Rattle.std.specs.Prelude.{◌≡◌, ℕ, ◌+◌, ◌<◌, ◌≤◌, nat_lt, if◌then◌else◌, List, [], ◌∷◌, length, replicate, flat_map, IsTrue}
 use Rattle.ss_journal.specs.declared.put.Put.{Put}
-use Rattle.ss_journal.specs.Format.{is_unborn, is_born, slots_in, slot_at}
+use Rattle.ss_journal.specs.Checks.{slot_in}
+use Rattle.ss_journal.specs.Format.{is_unborn, is_born, kind_of, slots_in}
+use Rattle.ss_journal.specs.declared.kind.Kind.{Kind}
 use Rattle.ss_journal.specs.declared.format.TheConstants.{SLOT_SIZE, MOST_SLOTS}
 use Rattle.ss_journal.specs.Puts.{with_puts, extent_after, AgreeBeside}
 use Rattle.ss_journal.specs.Entries.{puts_of, is_good, open_prefix, entries}
@@ -31,10 +33,10 @@ redo_entries n [] found = stands found
 redo_entries n (entry ∷ rest) found =
     if is_good entry found.extent then redo_entries (n + 1) rest (changed found (puts_of entry)) else bad_entry n
 
--- the slots that lie in the file
+-- what the slots that lie in the file say
 abbrev pub file_map : List ℕ → SlotMap
 file_map image = record {
-  bytes = λ slot. if nat_lt slot (slots_in (length image)) then slot_at image slot else zeros;
+  bytes = λ slot. if nat_lt slot (slots_in (length image)) then slot_in image slot else zeros;
   extent = slots_in (length image);
 }
 
@@ -77,8 +79,9 @@ pub record InUse (puts : List Put) (content : List ℕ) : Type 0 where
   pub found : SlotMap
   pub map : redo content ≡ stands found
 
--- a formatted file, with these puts in its entries in use
-pub record HasEntries (puts : List Put) (content : List ℕ) : Type 0 where
+-- a formatted file of a kind, with these puts in its entries in use
+pub record HasEntries (is : Kind) (puts : List Put) (content : List ℕ) : Type 0 where
+  pub kind : is ≡ kind_of content
   pub born : IsTrue (is_born content)
   pub in_use : InUse puts content
 

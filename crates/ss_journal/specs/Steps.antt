@@ -6,7 +6,8 @@ use Rattle.ss_outside.specs.declared.source.Failed.{Failed}
 use Rattle.ss_journal.specs.declared.put.Put.{Put}
 use Rattle.ss_journal.specs.Birth.{magic_bytes}
 use Rattle.ss_journal.specs.Calls.{KeepsMap, MakesDurable}
-use Rattle.ss_journal.specs.Format.{IsShut}
+use Rattle.ss_journal.specs.declared.kind.Kind.{Kind}
+use Rattle.ss_journal.specs.Format.{IsShut, kind_of}
 use Rattle.ss_journal.specs.Gates.{entry_place}
 use Rattle.ss_journal.specs.Redo.{SlotMap, StandsFor}
 use Rattle.ss_journal.specs.Writes.{Tears, slot_ranges, slots_written}
@@ -33,9 +34,9 @@ WritesZeros at count result old new = Rewrites ((at, count) ∷ []) (overwrite o
 abbrev pub Marks : Result Unit Failed → Told → Told → Type 0
 Marks result old new = Writes 1 (magic_bytes old.content) result old new
 
--- each put's bytes are written into its slot
-abbrev pub WritesSlots : List Put → Result Unit Failed → Told → Told → Type 0
-WritesSlots puts result old new = Rewrites (slot_ranges puts) (slots_written puts old.content) result old new
+-- each put's bytes are written into its slot, in the form of a kind
+abbrev pub WritesSlots : Kind → List Put → Result Unit Failed → Told → Told → Type 0
+WritesSlots kind puts result old new = Rewrites (slot_ranges puts) (slots_written kind puts old.content) result old new
 
 -- The map stays, and at Ok this is so of the content before and after.
 pub record Reaches (P : List ℕ → List ℕ → Type 0) (result : Result Unit Failed) (old new : Told) : Type 0 where
@@ -47,9 +48,13 @@ pub record Durably (R : Result Unit Failed → Told → Told → Type 0) (result
   pub step : R result old new
   pub durable : OnOk result (NothingPending new)
 
+-- no entry of a formatted file is in use, and its kind is what it was
+abbrev pub StaysShut : List ℕ → List ℕ → Type 0
+StaysShut old new = IsShut new × (kind_of new ≡ kind_of old)
+
 -- What is pending is made durable, and then no entry of the formatted file is in use.
 pub record Clears (result : Result Unit Failed) (old new : Told) : Type 0 where
-  pub shut : Reaches (λ _ content. IsShut content) result old new
+  pub shut : Reaches StaysShut result old new
   pub makes_durable : MakesDurable old new result
 
 -- Entries come into the file from entry n on, all or none: with nothing pending before, a crash at any moment leaves the map from

@@ -4,6 +4,8 @@ use Rattle.ss_outside.specs.Crash.{LeavesOnly}
 use Rattle.ss_outside.specs.Disk.{Told, overwrite, IsOutsideAll}
 use Rattle.ss_journal.specs.declared.put.Put.{Put}
 use Rattle.ss_journal.specs.declared.format.TheConstants.{FIRST_SLOT, SLOT_SIZE, MOST_SLOTS, FILE_END}
+use Rattle.ss_journal.specs.declared.kind.Kind.{Kind}
+use Rattle.ss_journal.specs.Checks.{slot_form}
 use Rattle.ss_journal.specs.Format.{slot_place, slots_in}
 use Rattle.ss_journal.specs.Puts.{slots_fit}
 
@@ -36,10 +38,11 @@ Tears ranges old new = LeavesOnly old new (IsTorn ranges old)
 abbrev pub slot_ranges : List Put → List (ℕ × ℕ)
 slot_ranges puts = map (λ put. (slot_place put.slot, SLOT_SIZE)) puts
 
--- the content with each put's bytes in its slot, written in order
-abbrev pub slots_written : List Put → List ℕ → List ℕ
-slots_written [] content = content
-slots_written (put ∷ puts) content = slots_written puts (overwrite content (slot_place put.slot) put.bytes)
+-- the content with each put's bytes in its slot, in the form of a kind, written in order
+abbrev pub slots_written : Kind → List Put → List ℕ → List ℕ
+slots_written kind [] content = content
+slots_written kind (put ∷ puts) content =
+    slots_written kind puts (overwrite content (slot_place put.slot) (slot_form kind put.slot put.bytes))
 
 -- the slots that a file can have
 abbrev pub AreSlots : List Put → Type 0

@@ -3,18 +3,19 @@ ghost use Rattle.std.specs.Prelude.{IsTrue};
 ghost use Rattle.ss_outside.specs.Disk.{OfContent};
 ghost use Rattle.ss_outside.specs.Step.{Step};
 ghost use Rattle.ss_outside.specs.Verdict.{verdict};
-ghost use Rattle.ss_journal.specs.Birth.{IsBegun, IsFormed, Leads};
+ghost use Rattle.ss_journal.specs.Birth.{Begins, IsBegun, IsFormed, Leads};
 ghost use Rattle.ss_journal.specs.Format.{is_unborn, IsShut};
 ghost use Rattle.ss_journal.specs.Steps.{Durably, Marks, Reaches};
 
 use crate::format::{FILE_END, FIRST_SLOT, GATE_OPEN, MAGIC, MAGIC_END};
-use crate::writing::{read_byte, write, write_through, write_zeros};
+use crate::opening::read_head;
+use crate::writing::{write, write_through, write_zeros};
 use ss_outside::{Disk, Failed};
 
 // Makes a file of at most one byte one 0.
-fn begin<D: Disk>(disk: &mut D) -> Result<(), Failed>
+pub fn begin<D: Disk>(disk: &mut D) -> Result<(), Failed>
     requires unborn { OfContent (D.seen disk.old) (λ content. IsTrue (is_unborn content)) }
-    ensures { Step (verdict result) (D.seen disk.old) (D.seen disk.new) (Reaches (Leads IsBegun) result) }
+    ensures { Step (verdict result) (D.seen disk.old) (D.seen disk.new) (Reaches Begins result) }
 {
     if disk.len()? <= 1 {
         write_through(disk, 0, &[0])?;
@@ -22,15 +23,16 @@ fn begin<D: Disk>(disk: &mut D) -> Result<(), Failed>
     Ok(())
 }
 
-// Writes the magic where byte 0 is 0, and doesn't sync. Elsewhere the magic stands.
+// Writes the magic of a plain store where none stands, and doesn't sync.
 fn write_magic<D: Disk>(disk: &mut D) -> Result<(), Failed>
     requires begun { OfContent (D.seen disk.old) IsBegun }
     ensures { Step (verdict result) (D.seen disk.old) (D.seen disk.new) (Marks result) }
 {
-    if read_byte(disk, 0)? == 0 {
-        write(disk, 1, &MAGIC)?;
+    let head = read_head(disk)?;
+    if head.has_magic() {
+        return Ok(());
     }
-    Ok(())
+    write(disk, 1, &MAGIC)
 }
 
 // Writes the magic and zeros after it, as far as anything is looked at.
@@ -52,7 +54,7 @@ fn open_gate<D: Disk>(disk: &mut D) -> Result<(), Failed>
     write_through(disk, 0, &[GATE_OPEN])
 }
 
-// Formats an unborn file. Every slot is zeros before and after. What lies after the last slot that a file can have stays.
+// Formats an unborn file, and leaves its kind. Every slot is zeros before and after. What lies after the last slot that a file can have stays.
 pub fn give_birth<D: Disk>(disk: &mut D) -> Result<(), Failed>
     requires unborn { OfContent (D.seen disk.old) (λ content. IsTrue (is_unborn content)) }
     ensures { Step (verdict result) (D.seen disk.old) (D.seen disk.new) (Durably (Reaches (Leads IsShut)) result) }

@@ -1,13 +1,17 @@
 // The places and sizes of the file, in bytes.
 ghost use Rattle.std.specs.Prelude.{◌≡◌, ◌<◌, ◌≤◌};
 ghost use Rattle.ss_journal.specs.Gates.{entry_place};
-ghost use Rattle.ss_journal.specs.Format.{slot_place, slots_in};
+ghost use Rattle.ss_journal.specs.Format.{magic, slot_place, slots_in};
+
+use crate::kind::Kind;
 
 // A gate with this byte is open, and closed with any other.
 pub const GATE_OPEN: u8 = 0xA5;
 
-// It stands after the birth gate, from byte 1 on.
+// They stand after the birth gate, from byte 1 on: that of a plain store, and that of a checked one.
 pub const MAGIC: [u8; 8] = *b"SSTORE01";
+
+pub const CHECKED_MAGIC: [u8; 8] = *b"SSTORE02";
 
 // Where the magic ends.
 pub const MAGIC_END: u64 = 9;
@@ -52,6 +56,16 @@ pub const FIRST_SLOT: u64 = 36864;
 
 // Where the last slot that a file can have ends.
 pub const FILE_END: u64 = 134_254_592;
+
+// The magic of a kind.
+pub fn magic(kind: Kind) -> [u8; 8]
+    ensures { result ≡ magic kind }
+{
+    match kind {
+        Kind::Plain => MAGIC,
+        Kind::Checked => CHECKED_MAGIC,
+    }
+}
 
 // Where the entry begins.
 pub fn entry_place(n: u32) -> u64

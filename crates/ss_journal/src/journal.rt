@@ -1,11 +1,13 @@
 // The journal.
 use crate::JournalError;
 use crate::birth::give_birth;
+use crate::checks::{entry_form, slot_form};
 use crate::committing::add_entries;
 use crate::entry::{entry_of, extent_after};
 use crate::format::{ENTRIES, GATE_OPEN, MOST_PAGES, MOST_SLOTS, PAGE_SIZE, SLOT_SIZE, slots_in};
+use crate::kind::Kind;
 use crate::opening::{read_entries, read_head};
-use crate::paging::{clear_unused, lay_puts, read_slots};
+use crate::paging::{clear_unused, form_page, lay_puts, read_slots};
 use crate::phase::Phase;
 use crate::put::Txn;
 use crate::reading::read_slot;
@@ -29,6 +31,7 @@ pub struct Journal {
     // How many of these entries stand in the file, and the bytes of those after them, which don't yet.
     sealed: u32,
     staged: Staged,
+    kind: Kind,
 }
 
 impl Model for Journal {
@@ -36,10 +39,10 @@ impl Model for Journal {
 
     ghost Value = { JournalState };
 
-    ghost view = { λ s. record { phase = s.phase; extent = s.extent; in_use = s.in_use; waiting = s.waiting; sealed = s.sealed; staged = s.staged } };
+    ghost view = { λ s. record { phase = s.phase; extent = s.extent; in_use = s.in_use; waiting = s.waiting; sealed = s.sealed; staged = s.staged; kind = s.kind } };
 
     ghost invariant = { λ s.
-        IsBounded (record { phase = s.phase; extent = s.extent; in_use = s.in_use; waiting = s.waiting; sealed = s.sealed; staged = s.staged }) };
+        IsBounded (record { phase = s.phase; extent = s.extent; in_use = s.in_use; waiting = s.waiting; sealed = s.sealed; staged = s.staged; kind = s.kind }) };
 }
 
 impl Journal {
@@ -62,6 +65,7 @@ impl Journal {
     {
         let head = read_head(disk)?;
         let slots = slots_in(head.length);
+        let kind = head.kind();
         if head.is_unborn() {
             return Ok(Journal {
                 phase: Phase::Unborn,
@@ -70,12 +74,13 @@ impl Journal {
                 waiting: Waiting::new(alloc)?,
                 sealed: 0,
                 staged: Staged::new(alloc)?,
+                kind,
             });
         }
         if !head.is_born() {
             return Err(JournalError::NotAStore);
         }
-        let read = read_entries(alloc, disk, slots)?;
+        let read = read_entries(alloc, disk, kind, slots)?;
         Ok(Journal {
             phase: Phase::Born,
             extent: read.extent,
@@ -83,6 +88,7 @@ impl Journal {
             waiting: read.waiting,
             sealed: read.in_use,
             staged: Staged::new(alloc)?,
+            kind,
         })
     }
 
@@ -111,6 +117,7 @@ impl Journal {
             Phase::Unborn => give_birth(disk)?,
             Phase::Born | Phase::Settled | Phase::Stopped => settle_formed(
                 disk,
+                self.kind,
                 self.waiting.as_slice(),
             )?,
         }
@@ -138,7 +145,7 @@ impl Journal {
             return Ok(bytes);
         }
         match read_slot(disk, slot) {
-            Ok(bytes) => Ok(bytes),
+            Ok(bytes) => Ok(slot_form(self.kind, slot, bytes)),
             Err(failed) => {
                 self.phase = Phase::Stopped;
                 Err(failed)
@@ -162,6 +169,7 @@ impl Journal {
         let mut bytes = [0; PAGE_SIZE];
         match read_slots(disk, page, &mut bytes) {
             Ok(()) => {
+                form_page(&mut bytes, self.kind, page);
                 clear_unused(&mut bytes, page, self.extent);
                 lay_puts(&mut bytes, page, self.waiting.as_slice());
                 Ok(bytes)
@@ -189,7 +197,7 @@ impl Journal {
         }
         self.seal(disk)?;
         self.phase = Phase::Stopped;
-        settle_entries(disk, self.waiting.as_slice())?;
+        settle_entries(disk, self.kind, self.waiting.as_slice())?;
         self.waiting.clear();
         self.in_use = 0;
         self.sealed = 0;
@@ -209,7 +217,7 @@ impl Journal {
     {
         let mut entry = entry_of(txn);
         entry[0] = GATE_OPEN;
-        self.staged.add(&entry);
+        self.staged.add(&entry_form(self.kind, self.in_use, entry));
         self.extent = extent_after(txn, self.extent);
         self.waiting.add(txn);
         self.in_use += 1;

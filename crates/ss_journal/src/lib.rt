@@ -2,12 +2,15 @@
 #![tactic(auto)]
 
 mod birth;
+mod checks;
 mod committing;
 mod entry;
 mod format;
 mod journal;
 mod journal_error;
+mod kind;
 mod laws;
+mod marking;
 mod opening;
 mod paging;
 mod phase;
@@ -24,6 +27,8 @@ pub use format::{
 };
 pub use journal::Journal;
 pub use journal_error::JournalError;
+pub use kind::Kind;
 pub use laws::redo_is_idempotent;
+pub use marking::{is_plain, make_checked};
 pub use opening::Head;
 pub use put::{Put, Txn};

@@ -3,17 +3,21 @@ ghost use Rattle.std.specs.Prelude.{◌≡◌, ◌≤◌, ◌<◌, ℕ, List, le
 ghost use Rattle.ss_outside.specs.Disk.{OfContent};
 ghost use Rattle.ss_outside.specs.Step.{Step};
 ghost use Rattle.ss_outside.specs.Verdict.{verdict};
+ghost use Rattle.ss_journal.specs.Birth.{has_no_kind};
 ghost use Rattle.ss_journal.specs.Calls.{verdict_of_open};
-ghost use Rattle.ss_journal.specs.Format.{has_magic, is_unborn, is_born, entry_bytes, slots_in};
+ghost use Rattle.ss_journal.specs.Checks.{entry_in};
+ghost use Rattle.ss_journal.specs.Format.{has_magic, has_magic_of, is_unborn, is_born, entry_bytes, is_plain, kind_of, slots_in};
 ghost use Rattle.ss_journal.specs.Opening.{AreBounded, IsHead, NextAs, IfNext, InUseAs};
 ghost use Rattle.ss_journal.specs.Puts.{slots_fit, IsTxn};
 ghost use Rattle.ss_journal.specs.Steps.{Finds};
 
 use crate::JournalError;
+use crate::checks::entry_form;
 use crate::entry::{extent_after, is_good, puts_of};
 use crate::format::{
-    ENTRIES, ENTRY_SIZE, FIRST_SLOT, GATE_OPEN, MAGIC, MOST_PUTS, MOST_SLOTS, entry_place,
+    ENTRIES, ENTRY_SIZE, FIRST_SLOT, GATE_OPEN, MOST_PUTS, MOST_SLOTS, entry_place, magic,
 };
+use crate::kind::Kind;
 use crate::put::Txn;
 use crate::waiting::Waiting;
 use ss_outside::{Disk, Failed};
@@ -27,11 +31,29 @@ pub struct Head {
 }
 
 impl Head {
-    // Whether the magic stands after the birth gate.
-    fn has_magic(&self) -> bool
+    // Whether the magic of a kind stands after the birth gate.
+    fn has_magic_of(&self, kind: Kind) -> bool
+        ensures { (image : List ℕ) → IsHead self.now.length self.now.bytes image → result ≡ has_magic_of kind image }
+    {
+        self.bytes[1..].starts_with(&magic(kind))
+    }
+
+    /// Whether that of any kind does.
+    pub fn has_magic(&self) -> bool
         ensures { (image : List ℕ) → IsHead self.now.length self.now.bytes image → result ≡ has_magic image }
     {
-        self.bytes[1..].starts_with(&MAGIC)
+        self.has_magic_of(Kind::Plain) || self.has_magic_of(Kind::Checked)
+    }
+
+    /// The kind of the file.
+    pub fn kind(&self) -> Kind
+        ensures { (image : List ℕ) → IsHead self.now.length self.now.bytes image → result ≡ kind_of image }
+    {
+        if self.has_magic_of(Kind::Checked) {
+            Kind::Checked
+        } else {
+            Kind::Plain
+        }
     }
 
     /// Whether the file isn't formatted.
@@ -39,6 +61,20 @@ impl Head {
         ensures { (image : List ℕ) → IsHead self.now.length self.now.bytes image → result ≡ is_unborn image }
     {
         self.length <= 1 || self.bytes[0] == 0 || (self.has_magic() && self.bytes[0] != GATE_OPEN)
+    }
+
+    /// Whether no kind stays with a file that isn't formatted.
+    pub fn has_no_kind(&self) -> bool
+        ensures { (image : List ℕ) → IsHead self.now.length self.now.bytes image → result ≡ has_no_kind image }
+    {
+        self.length <= 1 || self.bytes[0] == 0
+    }
+
+    /// Whether a plain store stands there.
+    pub fn is_plain(&self) -> bool
+        ensures { (image : List ℕ) → IsHead self.now.length self.now.bytes image → result ≡ is_plain image }
+    {
+        (self.is_born() || self.is_unborn()) && self.bytes[0] != 0 && self.has_magic_of(Kind::Plain)
     }
 
     /// Whether the file is formatted.
@@ -72,18 +108,25 @@ pub fn read_entry<D: Disk>(disk: &mut D, n: u32) -> Result<[u8; ENTRY_SIZE], Fai
 }
 
 // The puts of the entry if its gate is open, or that it isn't sound over this extent.
-fn next_entry<D: Disk>(disk: &mut D, n: u32, extent: u32) -> Result<Option<Txn>, JournalError>
+fn next_entry<D: Disk>(
+    disk: &mut D,
+    kind: Kind,
+    n: u32,
+    extent: u32,
+) -> Result<Option<Txn>, JournalError>
+    requires kind { OfContent (D.seen disk.old) (λ content. kind ≡ kind_of content) }
     requires number { n < ENTRIES }
     requires extent { extent ≤ MOST_SLOTS }
     requires born { OfContent (D.seen disk.old) (λ content. IsTrue (is_born content)) }
     ensures entry { Step (verdict_of_open result) (D.seen disk.old) (D.seen disk.new)
-        (Finds (λ content. NextAs (entry_bytes content n) n extent result)) }
+        (Finds (λ content. NextAs (entry_in content n) n extent result)) }
     ensures sound { IfNext result (λ puts. IsTxn puts × IsTrue (slots_fit puts extent)) }
 {
     let entry = read_entry(disk, n)?;
     if entry[0] != GATE_OPEN {
         return Ok(None);
     }
+    let entry = entry_form(kind, n, entry);
     if !is_good(&entry, extent) {
         return Err(JournalError::BadEntry { n });
     }
@@ -104,8 +147,10 @@ pub struct EntriesRead {
 pub fn read_entries<D: Disk>(
     alloc: Global,
     disk: &mut D,
+    kind: Kind,
     slots: u32,
 ) -> Result<EntriesRead, JournalError>
+    requires kind { OfContent (D.seen disk.old) (λ content. kind ≡ kind_of content) }
     requires slots { slots ≤ MOST_SLOTS }
     requires born { OfContent (D.seen disk.old) (λ content. IsTrue (is_born content) × (slots ≡ slots_in (length content))) }
     ensures entries { Step (verdict_of_open result) (D.seen disk.old) (D.seen disk.new) (Finds (λ content. InUseAs content result)) }
@@ -114,7 +159,7 @@ pub fn read_entries<D: Disk>(
     let mut extent = slots;
     let mut waiting = Waiting::new(alloc)?;
     for n in 0..ENTRIES {
-        match next_entry(disk, n, extent)? {
+        match next_entry(disk, kind, n, extent)? {
             Some(puts) => {
                 extent = extent_after(&puts, extent);
                 waiting.add(&puts);

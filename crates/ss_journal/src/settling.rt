@@ -3,46 +3,46 @@ ghost use Rattle.std.specs.Prelude.{◌<◌, length};
 ghost use Rattle.ss_outside.specs.Disk.{OfContent};
 ghost use Rattle.ss_outside.specs.Step.{Step};
 ghost use Rattle.ss_outside.specs.Verdict.{verdict};
-ghost use Rattle.ss_journal.specs.Format.{IsShut};
 ghost use Rattle.ss_journal.specs.Redo.{HasEntries};
-ghost use Rattle.ss_journal.specs.Steps.{Clears, Reaches};
+ghost use Rattle.ss_journal.specs.Steps.{Clears, Reaches, StaysShut};
 ghost use Rattle.ss_journal.specs.Writes.{AreSlots};
 
 use crate::format::FIRST_ENTRY;
+use crate::kind::Kind;
 use crate::put::Put;
 use crate::writing::{write_slots, write_through};
 use ss_outside::{Disk, Failed};
 
 // Writes the puts of the open prefix into their slots, and closes the first gate. With it the whole prefix is closed.
-fn apply<D: Disk>(disk: &mut D, puts: &[Put]) -> Result<(), Failed>
+fn apply<D: Disk>(disk: &mut D, kind: Kind, puts: &[Put]) -> Result<(), Failed>
     // A write to a closed gate may open it in a crash.
     requires some { 0 < length puts.now }
     requires slots { AreSlots puts.now }
-    requires entries { OfContent (D.seen disk.old) (HasEntries puts.now) }
-    ensures { Step (verdict result) (D.seen disk.old) (D.seen disk.new) (Reaches (λ _ content. IsShut content) result) }
+    requires entries { OfContent (D.seen disk.old) (HasEntries kind puts.now) }
+    ensures { Step (verdict result) (D.seen disk.old) (D.seen disk.new) (Reaches StaysShut result) }
 {
-    write_slots(disk, puts)?;
+    write_slots(disk, kind, puts)?;
     write_through(disk, FIRST_ENTRY, &[0])
 }
 
 // Brings the entries of a formatted file into their slots, and closes the first gate. Later ones stay as they are behind it.
-pub fn settle_entries<D: Disk>(disk: &mut D, puts: &[Put]) -> Result<(), Failed>
+pub fn settle_entries<D: Disk>(disk: &mut D, kind: Kind, puts: &[Put]) -> Result<(), Failed>
     requires slots { AreSlots puts.now }
-    requires entries { OfContent (D.seen disk.old) (HasEntries puts.now) }
-    ensures { Step (verdict result) (D.seen disk.old) (D.seen disk.new) (Reaches (λ _ content. IsShut content) result) }
+    requires entries { OfContent (D.seen disk.old) (HasEntries kind puts.now) }
+    ensures { Step (verdict result) (D.seen disk.old) (D.seen disk.new) (Reaches StaysShut result) }
 {
     if puts.is_empty() {
         return Ok(());
     }
-    apply(disk, puts)
+    apply(disk, kind, puts)
 }
 
 // Makes what is pending durable, brings the entries in use into their slots, and closes the first gate.
-pub fn settle_formed<D: Disk>(disk: &mut D, puts: &[Put]) -> Result<(), Failed>
+pub fn settle_formed<D: Disk>(disk: &mut D, kind: Kind, puts: &[Put]) -> Result<(), Failed>
     requires slots { AreSlots puts.now }
-    requires entries { OfContent (D.seen disk.old) (HasEntries puts.now) }
+    requires entries { OfContent (D.seen disk.old) (HasEntries kind puts.now) }
     ensures { Step (verdict result) (D.seen disk.old) (D.seen disk.new) (Clears result) }
 {
     disk.sync()?;
-    settle_entries(disk, puts)
+    settle_entries(disk, kind, puts)
 }

@@ -1,28 +1,21 @@
-// Writes that a crash tears, and a read of what stands there.
-ghost use Rattle.std.specs.Prelude.{◌≡◌, ◌+◌, ◌-◌, ◌<◌, ◌≤◌, ◌^◌, length, slice_index, IfOk};
+// Writes that a crash tears.
+ghost use Rattle.std.specs.Prelude.{◌≡◌, ◌+◌, ◌-◌, ◌<◌, ◌≤◌, ◌^◌, length, slice_index};
 ghost use Rattle.ss_outside.specs.Disk.{OfContent};
 ghost use Rattle.ss_outside.specs.Step.{Step};
 ghost use Rattle.ss_outside.specs.Verdict.{verdict};
+ghost use Rattle.ss_journal.specs.Checks.{slot_form};
 ghost use Rattle.ss_journal.specs.Format.{slot_place};
-ghost use Rattle.ss_journal.specs.Steps.{Durably, Finds, Writes, WritesSlots, WritesZeros};
+ghost use Rattle.ss_journal.specs.Steps.{Durably, Writes, WritesSlots, WritesZeros};
 ghost use Rattle.ss_journal.specs.Writes.{AreSlots, HasSlotsFor};
 
+use crate::checks::slot_form;
 use crate::format::{MOST_SLOTS, SLOT_SIZE, slot_place};
+use crate::kind::Kind;
 use crate::put::Put;
 use ss_outside::{Disk, Failed, LONGEST_DISK};
 
 // The most bytes that one write of zeros has.
 const PIECE: usize = 4096;
-
-// The byte at a place, 0 past the end.
-pub fn read_byte<D: Disk>(disk: &mut D, at: u64) -> Result<u8, Failed>
-    ensures { Step (verdict result) (D.seen disk.old) (D.seen disk.new)
-        (Finds (λ content. IfOk result (λ byte. byte ≡ slice_index content at))) }
-{
-    let mut byte = [0];
-    disk.read_at(at, &mut byte)?;
-    Ok(byte[0])
-}
 
 // Writes the bytes, and doesn't sync.
 pub fn write<D: Disk>(disk: &mut D, at: u64, bytes: &[u8]) -> Result<(), Failed>
@@ -43,24 +36,25 @@ pub fn write_through<D: Disk>(disk: &mut D, at: u64, bytes: &[u8]) -> Result<(),
     disk.sync()
 }
 
-// Writes the put's bytes into its slot, and doesn't sync.
-fn write_slot<D: Disk>(disk: &mut D, put: &Put) -> Result<(), Failed>
+// Writes the put's bytes into its slot, in the form of a kind, and doesn't sync.
+fn write_slot<D: Disk>(disk: &mut D, kind: Kind, put: &Put) -> Result<(), Failed>
     requires slot { put.now.slot < MOST_SLOTS }
     requires within { OfContent (D.seen disk.old) (λ content. slot_place put.now.slot ≤ length content) }
-    ensures slot { Step (verdict result) (D.seen disk.old) (D.seen disk.new) (Writes (slot_place put.now.slot) put.now.bytes result) }
+    ensures slot { Step (verdict result) (D.seen disk.old) (D.seen disk.new) (Writes (slot_place put.now.slot) (slot_form kind put.now.slot put.now.bytes) result) }
     ensures whole { length put.now.bytes ≡ SLOT_SIZE }
 {
-    write(disk, slot_place(put.slot), &put.bytes)
+    let bytes = slot_form(kind, put.slot, put.bytes);
+    write(disk, slot_place(put.slot), &bytes)
 }
 
-// Writes each put's bytes into its slot, in order, and syncs.
-pub fn write_slots<D: Disk>(disk: &mut D, puts: &[Put]) -> Result<(), Failed>
+// Writes each put's bytes into its slot, in the form of a kind, in order, and syncs.
+pub fn write_slots<D: Disk>(disk: &mut D, kind: Kind, puts: &[Put]) -> Result<(), Failed>
     requires slots { AreSlots puts.now }
     requires places { OfContent (D.seen disk.old) (HasSlotsFor puts.now) }
-    ensures { Step (verdict result) (D.seen disk.old) (D.seen disk.new) (Durably (WritesSlots puts.now) result) }
+    ensures { Step (verdict result) (D.seen disk.old) (D.seen disk.new) (Durably (WritesSlots kind puts.now) result) }
 {
     for put in puts {
-        write_slot(disk, put)?;
+        write_slot(disk, kind, put)?;
     }
     disk.sync()
 }

@@ -1,4 +1,4 @@
-use Rattle.std.proofs.Common.{◌≡◌, List, ℕ, IsTrue, IsFalse, refl, sym, subst}
+use Rattle.std.proofs.Common.{◌≡◌, ◌∙◌, List, ℕ, IsTrue, IsFalse, refl, sym, subst}
 use Rattle.std.proofs.lemmas.Bool.{eq-eqb, ne_eqb}
 use Rattle.ss_journal.specs.declared.put.Put.{Put}
 use Rattle.ss_journal.specs.Entries.{is_good, puts_of}
@@ -6,30 +6,36 @@ use Rattle.ss_journal.specs.Gates.{is_open}
 use Rattle.ss_journal.specs.Puts.{IsTxn, slots_fit}
 use Rattle.ss_journal.proofs.HeaderLemmas.{is_born-parts}
 use Rattle.ss_journal.proofs.EntryLemmas.{IsTxn-good}
+use Rattle.ss_journal.proofs.OpenLemmas.{NextAs-closed, form-entry, open-form}
 use Rattle.ss_journal.proofs.StepLemmas.{step-from, step-refused}
 use Rattle.ss_journal.proofs.opening.next_entry.Goals as goal
 
 pub returns-then-entry-clause-entry : goal.returns-then-entry-clause-entry
 returns-then-entry-clause-entry g c =
     step-from c.in_ok-entry.ensures (λ told read. record {
-      found = subst (λ (e : List ℕ). IsFalse (is_open e)) (read.found (is_born-parts _ (c.requires.born told)).0) (ne_eqb _ 165 c.if-entry.true);
+      found = NextAs-closed _ c.args.n c.in_ok-entry.entry (read.found (is_born-parts _ (c.requires.born told)).0) (ne_eqb _ 165 c.if-entry.true);
       reads = read.reads;
     })
 
 pub returns-then-not-is_good-clause-entry : goal.returns-then-not-is_good-clause-entry
 returns-then-not-is_good-clause-entry g c =
+    let opened : IsTrue (is_open c.entry_form-entry.result) = open-form c.args.kind c.args.n c.in_ok-entry.entry _ c.entry_form-entry.ensures
+    (eq-eqb _ 165 c.if-entry.false) in
     step-refused c.in_ok-entry.ensures (λ told read. record {
       found = subst (λ (e : List ℕ). IsTrue (is_open e) × IsFalse (is_good e c.args.extent) × (c.args.n ≡ c.args.n))
-          (read.found (is_born-parts _ (c.requires.born told)).0)
-          (eq-eqb _ 165 c.if-entry.false, sym c.if-not-is_good.ensures.value, refl);
+          (c.entry_form-entry.ensures ∙ form-entry _ c.args.kind c.args.n _ (c.requires.kind told) (read.found (is_born-parts _ (c.requires.born told)).0))
+          (opened, sym c.if-not-is_good.ensures.value, refl);
       reads = read.reads;
     })
 
 pub returns-clause-entry : goal.returns-clause-entry
 returns-clause-entry g c =
+    let opened : IsTrue (is_open c.entry_form-entry.result) = open-form c.args.kind c.args.n c.in_ok-entry.entry _ c.entry_form-entry.ensures
+    (eq-eqb _ 165 c.if-entry.false) in
     step-from c.in_ok-entry.ensures (λ told read. record {
       found = subst (λ (e : List ℕ). IsTrue (is_open e) × IsTrue (is_good e c.args.extent) × (c.puts_of.result.items ≡ puts_of e))
-          (read.found (is_born-parts _ (c.requires.born told)).0) (eq-eqb _ 165 c.if-entry.false, sym c.if-not-is_good.ensures.value, c.puts_of.ensures);
+          (c.entry_form-entry.ensures ∙ form-entry _ c.args.kind c.args.n _ (c.requires.kind told) (read.found (is_born-parts _ (c.requires.born told)).0))
+          (opened, sym c.if-not-is_good.ensures.value, c.puts_of.ensures);
       reads = read.reads;
     })
 

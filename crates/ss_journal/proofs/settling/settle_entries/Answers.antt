@@ -1,9 +1,9 @@
-use Rattle.std.proofs.Common.{◌≡◌, length, sym, ◌∙◌}
+use Rattle.std.proofs.Common.{◌≡◌, length, refl, sym, ◌∙◌}
 use Rattle.std.proofs.lemmas.Bool.{eqb-true}
 use Rattle.std.proofs.lemmas.List.{nil_from_length}
 use Rattle.ss_outside.proofs.CrashLemmas.{reads-none}
 use Rattle.ss_outside.proofs.StepLemmas.{step-none}
-use Rattle.ss_journal.specs.Format.{IsShut}
+use Rattle.ss_journal.specs.Steps.{StaysShut}
 use Rattle.ss_journal.proofs.RedoLemmas.{first_closed-none}
 use Rattle.ss_journal.proofs.StepLemmas.{reaches-read}
 use Rattle.ss_journal.proofs.settling.settle_entries.Goals as goal
@@ -13,5 +13,7 @@ returns-then-is_empty g c =
     let none : length c.args.puts.now ≡ 0 = eqb-true (length c.args.puts.now) 0 (sym c.is_empty.ensures ∙ c.if-is_empty.true) in
     step-none _ _ (λ told.
     let entries = c.requires.entries told in
-    reaches-read (λ _ content. IsShut content) _ (g.met.D.Disk.knows_now c.args.disk.now told) (reads-none _)
-    (entries.born, first_closed-none _ entries.in_use.found entries.born entries.in_use.map (sym entries.in_use.all ∙ nil_from_length c.args.puts.now none)))
+    reaches-read StaysShut _ (g.met.D.Disk.knows_now c.args.disk.now told) (reads-none _) (
+      (entries.born, first_closed-none _ entries.in_use.found entries.born entries.in_use.map (sym entries.in_use.all ∙ nil_from_length c.args.puts.now none)),
+      refl,
+    ))

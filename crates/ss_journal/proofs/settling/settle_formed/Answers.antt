@@ -12,7 +12,7 @@ returns-in_err-sync g c =
 
 pub settle_entries-requires-clause-entries : goal.settle_entries-requires-clause-entries
 settle_entries-requires-clause-entries g c =
-    after-step c.in_ok-sync.ensures (λ told synced. subst (HasEntries c.args.puts.now) (sym synced.content) (c.requires.entries told))
+    after-step c.in_ok-sync.ensures (λ told synced. subst (HasEntries c.args.kind c.args.puts.now) (sym synced.content) (c.requires.entries told))
 
 pub returns : goal.returns
 returns g c =

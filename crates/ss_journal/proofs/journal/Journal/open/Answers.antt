@@ -9,8 +9,8 @@ use Rattle.ss_journal.proofs.journal.Journal.open.Goals as goal
 pub returns-then-is_unborn-clause-opens : goal.returns-then-is_unborn-clause-opens
 returns-then-is_unborn-clause-opens g c =
     step-from c.in_ok-head.ensures (λ told read. record {
-      opens = IsKept-unborn c.in_ok-head.head.length c.slots_in-slots.result c.in_ok-new.field-0 c.in_ok-new-2.field-0 _
-          read.found.whole c.slots_in-slots.ensures.value
+      opens = IsKept-unborn c.kind-kind.result c.in_ok-head.head.length c.slots_in-slots.result c.in_ok-new.field-0 c.in_ok-new-2.field-0 _
+          (c.kind-kind.ensures _ read.found) read.found.whole c.slots_in-slots.ensures.value
           c.in_ok-new.ensures
           (sym (c.if-is_unborn.ensures _ read.found)) c.in_ok-new-2.ensures;
       reads = read.reads;
@@ -28,7 +28,7 @@ returns-clause-opens g c =
     let read = c.in_ok-read.read in
     step-next c.in_ok-head.ensures c.in_ok-read.ensures.entries (λ told then head entries.
     record {
-      opens = IsKept-born _ read.in_use read.waiting read.extent c.in_ok-new-3.field-0 (sym (c.if-not-is_born.ensures _ head.found))
+      opens = IsKept-born c.kind-kind.result _ read.in_use read.waiting read.extent c.in_ok-new-3.field-0 (c.kind-kind.ensures _ head.found) (sym (c.if-not-is_born.ensures _ head.found))
           (subst (λ (list : List ℕ). AreEntries list read.in_use read.waiting read.extent) head.reads.same.content entries.found) c.in_ok-new-3.ensures;
       reads = reads-joined _ _ _ head.reads entries.reads;
     })

@@ -6,7 +6,7 @@ use Rattle.ss_journal.specs.contracts.phase.Phase.{the_type}
 use Rattle.ss_journal.specs.declared.phase.Phase.TheVariants.{Unborn}
 use Rattle.ss_journal.specs.Kept.{IsKept, JournalState}
 use Rattle.ss_journal.specs.Redo.{file_map}
-use Rattle.ss_journal.proofs.KeptLemmas.{ReadsSlot-as, unused_bytes, unborn-shown, born-shown, born_bytes, not_first, slot_lies, slot_bytes}
+use Rattle.ss_journal.proofs.KeptLemmas.{ReadsSlot-as, unused_bytes, unborn-shown, born-shown, born_bytes, not_first, slot_in-form, slot_lies, slot_bytes}
 use Rattle.ss_journal.proofs.ShownLemmas.{slot_at-shown}
 use Rattle.ss_journal.proofs.StepLemmas.{step-from}
 use Rattle.ss_journal.proofs.journal.Journal.read.Goals as goal
@@ -49,6 +49,6 @@ returns-in-Ok-clause-reads g c =
       bytes = λ found is.
           let lies = slot_lies _ _ found c.args.slot kept.shown is c.requires.slot born c.if-slot-self.false leaves in
           let same = slot_at-shown _ content c.self.invariant kept born c.args.slot lies in
-          read.found same.0 ∙ same.1 ∙ slot_bytes _ _ found c.args.slot kept.shown is c.requires.slot born c.if-slot-self.false leaves;
+          c.slot_form.ensures ∙ slot_in-form _ _ found c.args.slot kept.shown is c.requires.slot _ (read.found same.0 ∙ same.1) ∙ slot_bytes _ _ found c.args.slot kept.shown is c.requires.slot born c.if-slot-self.false leaves;
       reads = read.reads;
     }))

@@ -8,7 +8,7 @@ use Rattle.ss_journal.specs.declared.put.Put.{Put}
 use Rattle.ss_journal.specs.Calls.{slot_in_page}
 use Rattle.ss_journal.specs.Kept.{IsKept, JournalState}
 use Rattle.ss_journal.specs.Puts.{with_puts}
-use Rattle.ss_journal.proofs.KeptLemmas.{ReadsPage-as, born-shown, not_first, page_bytes, unborn-shown, unused_bytes}
+use Rattle.ss_journal.proofs.KeptLemmas.{ReadsPage-as, born-shown, not_first, page_bytes, slot_in-form, unborn-shown, unused_bytes}
 use Rattle.ss_journal.proofs.PageLemmas.{slot_in_page-zeros}
 use Rattle.ss_journal.proofs.ShownLemmas.{slot_at-shown}
 use Rattle.ss_journal.proofs.StepLemmas.{step-from}
@@ -38,9 +38,9 @@ returns-in-Ok-clause-reads g c =
       bytes = λ found is k lt.
           let slot = 32 * c.args.page + k in
           let below : slot < 2 ^ 20 = omega (arith, lt, c.requires.page) in
-          page_bytes _ _ found slot kept.shown is below born (slot_in_page c.read_slots.new.bytes k) (slot_in_page c.clear_unused.new.bytes k)
+          page_bytes _ _ found slot kept.shown is below born (slot_in_page c.form_page.new.bytes k) (slot_in_page c.clear_unused.new.bytes k)
           (slot_in_page c.lay_puts.new.bytes k)
-          (λ lies. let same = slot_at-shown _ content c.self.invariant kept born slot lies in read.found k lt same.0 ∙ same.1)
+          (λ lies. let same = slot_at-shown _ content c.self.invariant kept born slot lies in c.form_page.ensures k lt ∙ slot_in-form _ _ found slot kept.shown is below _ (read.found k lt same.0 ∙ same.1))
           (c.clear_unused.ensures.used k lt) (c.clear_unused.ensures.unused k lt)
           (c.lay_puts.ensures k lt
           ∙ ap (λ (puts : List Put). with_puts puts (λ _. slot_in_page c.clear_unused.new.bytes k) slot) c.as_slice.ensures);

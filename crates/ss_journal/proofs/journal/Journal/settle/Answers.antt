@@ -32,6 +32,7 @@ returns-clause-settles g c =
       waiting = c.clear.new.self;
       sealed = 0;
       staged = staged;
+      kind = c.self.inside.kind;
     } in
     elim c.match-phase.branch [
       | in-Unborn+in_ok-give_birth-in-Unborn w ↦ subst (λ d. Step fine (g.D.Disk.seen c.args.disk.now) (g.D.Disk.seen d) (Settles settled (Ok tt)))

@@ -1,0 +1,16 @@
+use Rattle.std.proofs.Common.{List, [], subst, sym, ℕ}
+use Rattle.std.proofs.lemmas.Bool.{cond-false}
+use Rattle.ss_journal.specs.Format.{has_magic, magic}
+use Rattle.ss_journal.specs.Steps.{Writes}
+use Rattle.ss_journal.specs.declared.kind.Kind.TheVariants.{Plain}
+use Rattle.ss_journal.proofs.StepLemmas.{step-next, writes-after_read}
+use Rattle.ss_journal.proofs.birth.write_magic.Goals as goal
+
+pub returns : goal.returns
+returns g c =
+    let before = (g.D.Disk.seen c.args.disk.now).told in
+    let after = (g.D.Disk.seen c.write.new.disk).told in
+    step-next c.in_ok-head.ensures c.write.ensures (λ told then head wrote.
+    let none = cond-false (has_magic before.content) [] (magic Plain) (sym (c.if-has_magic.ensures _ head.found)) in
+    subst (λ (bytes : List ℕ). Writes 1 bytes c.write.result before after) (sym none)
+    (writes-after_read 1 (magic Plain) before _ after (g.met.D.Disk.knows_now c.args.disk.now told) head.reads wrote))

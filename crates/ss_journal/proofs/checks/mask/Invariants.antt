@@ -1,0 +1,6 @@
+use Rattle.std.proofs.Common.{◌≡◌, take}
+use Rattle.ss_journal.specs.Checks.{masked_from}
+use Rattle.ss_journal.proofs.checks.mask.Given as goal
+
+abbrev pub invariant-loop-k : goal.invariant-loop-k
+invariant-loop-k l = l.bytes ≡ masked_from l.place (take l.k l.mask) l.initial.bytes
