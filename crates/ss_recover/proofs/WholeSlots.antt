@@ -4,11 +4,13 @@ use Rattle.std.specs.List.{AllByRecursion, range_with_len}
 use Rattle.std.proofs.lemmas.Bool.{cases_Bool, cases_lt, cond-false, cond-true, cond_both, le-ltb, lt-ltb}
 use Rattle.std.proofs.lemmas.List.{length-drop, length-replicate, length-take}
 use Rattle.std.proofs.lemmas.List.Elements.{All-head, All-tail}
-use Rattle.ss_journal.specs.Format.{is_born, is_unborn, slot_at, slot_place, slots_in}
+use Rattle.ss_journal.specs.Checks.{slot_in}
+use Rattle.ss_journal.specs.Format.{kind_of, is_born, is_unborn, slot_at, slot_place, slots_in}
 use Rattle.ss_journal.specs.Puts.{FillSlots, with_put, with_puts}
 use Rattle.ss_journal.specs.Redo.{SameMap, SlotMap, StandsFor, blank_map, file_map, not_a_store, puts_in_use, redo, stands, zeros}
 use Rattle.ss_journal.specs.declared.format.TheConstants.{MOST_SLOTS}
 use Rattle.ss_journal.specs.declared.put.Put.{Put}
+use Rattle.ss_journal.proofs.CheckLemmas.{length-slot_form}
 use Rattle.ss_journal.proofs.MapLemmas.{slot_within}
 use Rattle.ss_journal.proofs.PutLemmas.{extent_after-bound}
 use Rattle.ss_journal.proofs.RedoLemmas.{StandsFor-parts, redo-born, redo-neither, redo-unborn}
@@ -29,8 +31,9 @@ length-slot_at image slot below =
 
 length-file_map : (image : List ℕ) (slot : ℕ) → length ((file_map image).bytes slot) ≡ 128
 length-file_map image slot = elim (cases_lt slot (slots_in (length image))) [
-  | inl below ↦ ap length (cond-true _ (slot_at image slot) zeros (lt-ltb slot (slots_in (length image)) below)) ∙ length-slot_at image slot below
-  | inr past ↦ ap length (cond-false _ (slot_at image slot) zeros (le-ltb slot (slots_in (length image)) past)) ∙ length-zeros
+  | inl below ↦ ap length (cond-true _ (slot_in image slot) zeros (lt-ltb slot (slots_in (length image)) below))
+      ∙ length-slot_form (kind_of image) slot (slot_at image slot) ∙ length-slot_at image slot below
+  | inr past ↦ ap length (cond-false _ (slot_in image slot) zeros (le-ltb slot (slots_in (length image)) past)) ∙ length-zeros
 ]
 
 length-with_put : (put : Put) (bytes : ℕ → List ℕ) → length put.bytes ≡ 128 → ((slot : ℕ) → length (bytes slot) ≡ 128) → (slot : ℕ) →

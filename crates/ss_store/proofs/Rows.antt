@@ -14,7 +14,9 @@ use Rattle.ss_catalog.specs.Params.{exp, power}
 use Rattle.ss_windowing.specs.Windowing.{window_index}
 use Rattle.ss_power.specs.Power.{power_length}
 use Rattle.ss_journal.specs.declared.put.Put.{Put}
-use Rattle.ss_journal.specs.Format.{is_born, is_unborn, magic}
+use Rattle.ss_journal.specs.Checks.{entry_form, slot_form}
+use Rattle.ss_journal.specs.declared.kind.Kind.TheVariants.{Plain, Checked}
+use Rattle.ss_journal.specs.Format.{is_born, is_unborn, kind_of, magic}
 use Rattle.ss_journal.specs.Entries.{entries, entry_body, is_good, puts_of}
 use Rattle.ss_journal.specs.Redo.{redo, zeros}
 use Rattle.ss_codec.specs.Fields as Fields
@@ -32,7 +34,7 @@ use Rattle.ss_store.specs.Recover.{Recovers, recover, no_store, damaged_entry, d
 
 -- a formed file: its first two entries, and its slots
 abbrev pub image_of : List ℕ → List ℕ → List (List ℕ) → List ℕ
-image_of first second slots = 165 ∷ magic ++ replicate 503 0 ++ first ++ second ++ replicate 35264 0 ++ flat_map (λ slot. slot) slots
+image_of first second slots = 165 ∷ magic Plain ++ replicate 503 0 ++ first ++ second ++ replicate 35264 0 ++ flat_map (λ slot. slot) slots
 
 -- an entry that isn't in use, and one that is, with these puts
 abbrev pub no_entry : List ℕ
@@ -77,30 +79,30 @@ fives count t_first t_last =
 
 -- a file of length 0, and one that was formed without a slot
 recover-no_byte : recover [] ≡ recovers []
-unfolding recover redo is_born is_unborn carried spelled is_sound
+unfolding recover redo is_born kind_of slot_form entry_form is_unborn carried spelled is_sound
 recover-no_byte = refl
 
 recover-no_slot : recover (image_of no_entry no_entry []) ≡ recovers []
-unfolding recover redo is_born entries carried spelled is_sound decoded record_in stream_in window_in params_in is_valid spelling Names.is_name
+unfolding recover redo is_born kind_of slot_form entry_form entries carried spelled is_sound decoded record_in stream_in window_in params_in is_valid spelling Names.is_name
     Possible.is_possible bit_of filter_of full has union Fields.with_field Numbers.number_at Numbers.number_bytes Marks.lies_free
 recover-no_slot = refl
 
 -- before the file is formed nothing in it counts: byte 0 is 0, or the birth gate is closed before the magic
 recover-first_byte : recover (0 ∷ 83 ∷ 84 ∷ []) ≡ recovers []
-unfolding recover redo is_born is_unborn carried spelled is_sound
+unfolding recover redo is_born kind_of slot_form entry_form is_unborn carried spelled is_sound
 recover-first_byte = refl
 
 abbrev not_formed : List ℕ
 not_formed = slice_set (image_of no_entry no_entry (damaged ∷ [])) 0 164
 
 recover-not_formed : recover not_formed ≡ recovers []
-unfolding recover redo is_born is_unborn carried spelled is_sound decoded record_in stream_in window_in params_in is_valid spelling Names.is_name
+unfolding recover redo is_born kind_of slot_form entry_form is_unborn carried spelled is_sound decoded record_in stream_in window_in params_in is_valid spelling Names.is_name
     Possible.is_possible bit_of filter_of full has union Fields.with_field Numbers.number_at Numbers.number_bytes Marks.lies_free
 recover-not_formed = refl
 
 -- a stream without values
 recover-stream : recover (image_of no_entry no_entry (a_slot ∷ [])) ≡ recovers (a_stream [])
-unfolding recover redo is_born entries carried spelled is_sound decoded record_in stream_in window_in params_in is_valid spelling Names.is_name
+unfolding recover redo is_born kind_of slot_form entry_form entries carried spelled is_sound decoded record_in stream_in window_in params_in is_valid spelling Names.is_name
     Possible.is_possible bit_of filter_of full has union Fields.with_field Numbers.number_at Numbers.number_bytes Marks.lies_free
 recover-stream = refl
 
@@ -122,7 +124,7 @@ abbrev merged : List Stream
 merged = a_stream (window 1 (fives 2 10 20) ∷ window 3 (fives 1 30 30) ∷ [])
 
 recover-waiting : recover (image_of no_entry no_entry (a_slot ∷ first ∷ second ∷ third ∷ [])) ≡ recovers merged
-unfolding recover redo is_born entries carried spelled is_sound decoded record_in stream_in window_in params_in is_valid spelling Names.is_name
+unfolding recover redo is_born kind_of slot_form entry_form entries carried spelled is_sound decoded record_in stream_in window_in params_in is_valid spelling Names.is_name
     Possible.is_possible bit_of filter_of full has union Fields.with_field Numbers.number_at Numbers.number_bytes window_index Marks.lies_free
 recover-waiting = refl
 
@@ -138,23 +140,23 @@ stream_within step windows = record { number = 0; name = a; params = within step
 
 recover-two_steps : recover (waiting_within 20) ≡
     recovers (stream_within 20 (window 1 (fives 1 10 10) ∷ window 2 (fives 1 20 20) ∷ window 3 (fives 1 30 30) ∷ []))
-unfolding recover redo is_born entries carried spelled is_sound decoded record_in stream_in window_in params_in is_valid spelling Names.is_name
+unfolding recover redo is_born kind_of slot_form entry_form entries carried spelled is_sound decoded record_in stream_in window_in params_in is_valid spelling Names.is_name
     Possible.is_possible bit_of filter_of full has union Fields.with_field Numbers.number_at Numbers.number_bytes window_index Marks.lies_free
 recover-two_steps = refl
 
 recover-one_step : recover (waiting_within 25) ≡ recovers (stream_within 25 (window 1 (fives 2 10 20) ∷ window 3 (fives 1 30 30) ∷ []))
-unfolding recover redo is_born entries carried spelled is_sound decoded record_in stream_in window_in params_in is_valid spelling Names.is_name
+unfolding recover redo is_born kind_of slot_form entry_form entries carried spelled is_sound decoded record_in stream_in window_in params_in is_valid spelling Names.is_name
     Possible.is_possible bit_of filter_of full has union Fields.with_field Numbers.number_at Numbers.number_bytes window_index Marks.lies_free
 recover-one_step = refl
 
 -- a window that crosses a boundary is damage, unless its stream is dropped
 recover-crossing : recover (image_of no_entry no_entry (stream_slot 0 a (within 20) ∷ both ∷ third ∷ [])) ≡ damaged_stream 0
-unfolding recover redo is_born entries carried spelled is_sound decoded record_in stream_in window_in params_in is_valid spelling Names.is_name
+unfolding recover redo is_born kind_of slot_form entry_form entries carried spelled is_sound decoded record_in stream_in window_in params_in is_valid spelling Names.is_name
     Possible.is_possible bit_of filter_of full has union Fields.with_field Numbers.number_at Numbers.number_bytes window_index Marks.lies_free
 recover-crossing = refl
 
 recover-crossing_dropped : recover (image_of no_entry no_entry (spelling (records.Stream 0 a (within 20) true) ∷ both ∷ third ∷ [])) ≡ recovers []
-unfolding recover redo is_born entries carried spelled is_sound decoded record_in stream_in window_in params_in is_valid spelling Names.is_name
+unfolding recover redo is_born kind_of slot_form entry_form entries carried spelled is_sound decoded record_in stream_in window_in params_in is_valid spelling Names.is_name
     Possible.is_possible bit_of filter_of full has union Fields.with_field Numbers.number_at Numbers.number_bytes window_index Marks.lies_free
 recover-crossing_dropped = refl
 
@@ -162,14 +164,14 @@ recover-crossing_dropped = refl
 recover-window_in_entry : recover
     (image_of (entry_of (put 3 third ∷ [])) no_entry (a_slot ∷ first ∷ second ∷ []))
     ≡ recovers merged
-unfolding recover redo is_born entries is_good puts_of entry_body carried spelled is_sound decoded record_in stream_in window_in params_in is_valid spelling
+unfolding recover redo is_born kind_of slot_form entry_form entries is_good puts_of entry_body carried spelled is_sound decoded record_in stream_in window_in params_in is_valid spelling
     Names.is_name Possible.is_possible bit_of filter_of full has union Fields.with_field Numbers.number_at Numbers.number_bytes window_index Marks.lies_free
 recover-window_in_entry = refl
 
 recover-stream_in_entry : recover
     (image_of (entry_of (put 0 a_slot ∷ [])) no_entry (zeros ∷ first ∷ second ∷ third ∷ []))
     ≡ recovers merged
-unfolding recover redo is_born entries is_good puts_of entry_body carried spelled is_sound decoded record_in stream_in window_in params_in is_valid spelling
+unfolding recover redo is_born kind_of slot_form entry_form entries is_good puts_of entry_body carried spelled is_sound decoded record_in stream_in window_in params_in is_valid spelling
     Names.is_name Possible.is_possible bit_of filter_of full has union Fields.with_field Numbers.number_at Numbers.number_bytes window_index Marks.lies_free
 recover-stream_in_entry = refl
 
@@ -177,19 +179,19 @@ recover-stream_in_entry = refl
 recover-merge_in_entry : recover
     (image_of (entry_of (put 1 both ∷ put 2 zeros ∷ [])) no_entry (a_slot ∷ first ∷ second ∷ third ∷ []))
     ≡ recovers merged
-unfolding recover redo is_born entries is_good puts_of entry_body carried spelled is_sound decoded record_in stream_in window_in params_in is_valid spelling
+unfolding recover redo is_born kind_of slot_form entry_form entries is_good puts_of entry_body carried spelled is_sound decoded record_in stream_in window_in params_in is_valid spelling
     Names.is_name Possible.is_possible bit_of filter_of full has union Fields.with_field Numbers.number_at Numbers.number_bytes window_index Marks.lies_free
 recover-merge_in_entry = refl
 
 recover-merge_in_part : recover
     (image_of (entry_of (put 1 both ∷ put 2 zeros ∷ [])) no_entry (a_slot ∷ both ∷ damaged ∷ third ∷ []))
     ≡ recovers merged
-unfolding recover redo is_born entries is_good puts_of entry_body carried spelled is_sound decoded record_in stream_in window_in params_in is_valid spelling
+unfolding recover redo is_born kind_of slot_form entry_form entries is_good puts_of entry_body carried spelled is_sound decoded record_in stream_in window_in params_in is_valid spelling
     Names.is_name Possible.is_possible bit_of filter_of full has union Fields.with_field Numbers.number_at Numbers.number_bytes window_index Marks.lies_free
 recover-merge_in_part = refl
 
 recover-merge_made : recover (image_of no_entry no_entry (a_slot ∷ both ∷ zeros ∷ third ∷ [])) ≡ recovers merged
-unfolding recover redo is_born entries carried spelled is_sound decoded record_in stream_in window_in params_in is_valid spelling Names.is_name
+unfolding recover redo is_born kind_of slot_form entry_form entries carried spelled is_sound decoded record_in stream_in window_in params_in is_valid spelling Names.is_name
     Possible.is_possible bit_of filter_of full has union Fields.with_field Numbers.number_at Numbers.number_bytes window_index Marks.lies_free
 recover-merge_made = refl
 
@@ -197,7 +199,7 @@ recover-merge_made = refl
 recover-two_entries : recover
     (image_of (entry_of (put 2 second ∷ [])) (entry_of (put 1 both ∷ put 2 zeros ∷ [])) (a_slot ∷ first ∷ damaged ∷ third ∷ []))
     ≡ recovers merged
-unfolding recover redo is_born entries is_good puts_of entry_body carried spelled is_sound decoded record_in stream_in window_in params_in is_valid spelling
+unfolding recover redo is_born kind_of slot_form entry_form entries is_good puts_of entry_body carried spelled is_sound decoded record_in stream_in window_in params_in is_valid spelling
     Names.is_name Possible.is_possible bit_of filter_of full has union Fields.with_field Numbers.number_at Numbers.number_bytes window_index Marks.lies_free
 recover-two_entries = refl
 
@@ -205,7 +207,7 @@ recover-two_entries = refl
 recover-after_closed : recover
     (image_of no_entry (entry_of (put 0 zeros ∷ [])) (a_slot ∷ first ∷ second ∷ third ∷ []))
     ≡ recovers merged
-unfolding recover redo is_born entries carried spelled is_sound decoded record_in stream_in window_in params_in is_valid spelling Names.is_name
+unfolding recover redo is_born kind_of slot_form entry_form entries carried spelled is_sound decoded record_in stream_in window_in params_in is_valid spelling Names.is_name
     Possible.is_possible bit_of filter_of full has union Fields.with_field Numbers.number_at Numbers.number_bytes entry_body window_index Marks.lies_free
 recover-after_closed = refl
 
@@ -213,7 +215,7 @@ recover-after_closed = refl
 recover-cut : recover
     (image_of no_entry no_entry (a_slot ∷ first ∷ second ∷ third ∷ take 127 damaged ∷ []))
     ≡ recovers merged
-unfolding recover redo is_born entries carried spelled is_sound decoded record_in stream_in window_in params_in is_valid spelling Names.is_name
+unfolding recover redo is_born kind_of slot_form entry_form entries carried spelled is_sound decoded record_in stream_in window_in params_in is_valid spelling Names.is_name
     Possible.is_possible bit_of filter_of full has union Fields.with_field Numbers.number_at Numbers.number_bytes window_index Marks.lies_free
 recover-cut = refl
 
@@ -263,17 +265,17 @@ one_by_one = image_of no_entry no_entry
 recover-readings : recover
     as_they_came
     ≡ recovers (a_stream (window 1 (first_four filter_of_four) ∷ window 5 (next_two filter_of_two) ∷ window 7 (value 70 (pos 7)) ∷ []))
-unfolding recover redo is_born entries carried spelled is_sound decoded record_in stream_in window_in params_in is_valid spelling Names.is_name
+unfolding recover redo is_born kind_of slot_form entry_form entries carried spelled is_sound decoded record_in stream_in window_in params_in is_valid spelling Names.is_name
     Possible.is_possible bit_of filter_of full has union Fields.with_field Numbers.number_at Numbers.number_bytes window_index Marks.lies_free
 recover-readings = refl
 
 pub state-readings : Recovers (state (map added readings)) as_they_came
-unfolding state recover redo is_born entries carried spelled is_sound decoded record_in stream_in window_in params_in is_valid spelling Names.is_name
+unfolding state recover redo is_born kind_of slot_form entry_form entries carried spelled is_sound decoded record_in stream_in window_in params_in is_valid spelling Names.is_name
     Possible.is_possible bit_of filter_of full has union Fields.with_field Numbers.number_at Numbers.number_bytes window_index Marks.lies_free
 state-readings = refl
 
 state-unmerged : Recovers (state (map added readings)) one_by_one
-unfolding state recover redo is_born entries carried spelled is_sound decoded record_in stream_in window_in params_in is_valid spelling Names.is_name
+unfolding state recover redo is_born kind_of slot_form entry_form entries carried spelled is_sound decoded record_in stream_in window_in params_in is_valid spelling Names.is_name
     Possible.is_possible bit_of filter_of full has union Fields.with_field Numbers.number_at Numbers.number_bytes window_index Marks.lies_free
 state-unmerged = refl
 
@@ -304,21 +306,21 @@ b_stream = record {
 recover-two_streams : recover
     two_streams
     ≡ recovers (a_stream (window 1 (fives 1 10 10) ∷ window 2 (fives 1 20 20) ∷ []) ++ b_stream ∷ [])
-unfolding recover redo is_born entries carried spelled is_sound decoded record_in stream_in window_in params_in is_valid spelling Names.is_name
+unfolding recover redo is_born kind_of slot_form entry_form entries carried spelled is_sound decoded record_in stream_in window_in params_in is_valid spelling Names.is_name
     Possible.is_possible bit_of filter_of full has union Fields.with_field Numbers.number_at Numbers.number_bytes window_index power_length Marks.lies_free
 recover-two_streams = refl
 
 -- no store: another first byte, a file too short for its open birth gate, and another magic
 recover-other : recover (83 ∷ 83 ∷ []) ≡ no_store
-unfolding recover redo is_born is_unborn
+unfolding recover redo is_born kind_of slot_form entry_form is_unborn
 recover-other = refl
 
-recover-short : recover (165 ∷ magic) ≡ no_store
-unfolding recover redo is_born is_unborn
+recover-short : recover (165 ∷ magic Plain) ≡ no_store
+unfolding recover redo is_born kind_of slot_form entry_form is_unborn
 recover-short = refl
 
-recover-other_magic : recover (slice_set (image_of no_entry no_entry (a_slot ∷ [])) 8 50) ≡ no_store
-unfolding recover redo is_born is_unborn carried spelled is_sound decoded record_in stream_in window_in params_in is_valid spelling Names.is_name
+recover-other_magic : recover (slice_set (image_of no_entry no_entry (a_slot ∷ [])) 8 51) ≡ no_store
+unfolding recover redo is_born kind_of slot_form entry_form is_unborn carried spelled is_sound decoded record_in stream_in window_in params_in is_valid spelling Names.is_name
     Possible.is_possible bit_of filter_of full has union Fields.with_field Numbers.number_at Numbers.number_bytes Marks.lies_free
 recover-other_magic = refl
 
@@ -326,13 +328,13 @@ recover-other_magic = refl
 recover-damaged_entry : recover
     (image_of (entry_of (put 0 zeros ∷ [])) (entry_of (put 5 a_slot ∷ [])) (damaged ∷ []))
     ≡ damaged_entry 1
-unfolding recover redo is_born entries is_good puts_of entry_body carried spelled is_sound decoded record_in stream_in window_in params_in is_valid spelling
+unfolding recover redo is_born kind_of slot_form entry_form entries is_good puts_of entry_body carried spelled is_sound decoded record_in stream_in window_in params_in is_valid spelling
     Names.is_name Possible.is_possible bit_of filter_of full has union Fields.with_field Numbers.number_at Numbers.number_bytes Marks.lies_free
 recover-damaged_entry = refl
 
 -- a damaged slot, which is told before a damaged stream
 recover-damaged_slot : recover (image_of no_entry no_entry (second ∷ a_slot ∷ damaged ∷ [])) ≡ damaged_slot 2
-unfolding recover redo is_born entries carried spelled is_sound decoded record_in stream_in window_in params_in is_valid spelling Names.is_name
+unfolding recover redo is_born kind_of slot_form entry_form entries carried spelled is_sound decoded record_in stream_in window_in params_in is_valid spelling Names.is_name
     Possible.is_possible bit_of filter_of full has union Fields.with_field Numbers.number_at Numbers.number_bytes Marks.lies_free
 recover-damaged_slot = refl
 
@@ -340,20 +342,20 @@ recover-damaged_slot = refl
 recover-mended_slot : recover
     (image_of (entry_of (put 1 first ∷ [])) no_entry (a_slot ∷ damaged ∷ []))
     ≡ recovers (a_stream (window 1 (fives 1 10 10) ∷ []))
-unfolding recover redo is_born entries is_good puts_of entry_body carried spelled is_sound decoded record_in stream_in window_in params_in is_valid spelling
+unfolding recover redo is_born kind_of slot_form entry_form entries is_good puts_of entry_body carried spelled is_sound decoded record_in stream_in window_in params_in is_valid spelling
     Names.is_name Possible.is_possible bit_of filter_of full has union Fields.with_field Numbers.number_at Numbers.number_bytes window_index Marks.lies_free
 recover-mended_slot = refl
 
 -- a damaged stream: its second window is missing, in the slots or by an entry in use
 recover-damaged_stream : recover (image_of no_entry no_entry (a_slot ∷ first ∷ third ∷ [])) ≡ damaged_stream 0
-unfolding recover redo is_born entries carried spelled is_sound decoded record_in stream_in window_in params_in is_valid spelling Names.is_name
+unfolding recover redo is_born kind_of slot_form entry_form entries carried spelled is_sound decoded record_in stream_in window_in params_in is_valid spelling Names.is_name
     Possible.is_possible bit_of filter_of full has union Fields.with_field Numbers.number_at Numbers.number_bytes Marks.lies_free
 recover-damaged_stream = refl
 
 recover-damaged_by_entry : recover
     (image_of (entry_of (put 2 zeros ∷ [])) no_entry (a_slot ∷ first ∷ second ∷ third ∷ []))
     ≡ damaged_stream 0
-unfolding recover redo is_born entries is_good puts_of entry_body carried spelled is_sound decoded record_in stream_in window_in params_in is_valid spelling
+unfolding recover redo is_born kind_of slot_form entry_form entries is_good puts_of entry_body carried spelled is_sound decoded record_in stream_in window_in params_in is_valid spelling
     Names.is_name Possible.is_possible bit_of filter_of full has union Fields.with_field Numbers.number_at Numbers.number_bytes Marks.lies_free
 recover-damaged_by_entry = refl
 
@@ -372,14 +374,14 @@ abbrev moment : List Happened
 moment = map added (events.Create a (exp 2 1 1) ∷ events.Open a 100 ∷ events.Value a 100 (pos 7) ∷ events.Close a 100 ∷ [])
 
 state-moment : Recovers (state moment) (image_of no_entry no_entry (a_slot ∷ mark_slot ∷ mark_value_slot ∷ []))
-unfolding state recover redo is_born entries carried spelled is_sound decoded record_in stream_in window_in landmark_in value_in finish_in params_in is_valid
+unfolding state recover redo is_born kind_of slot_form entry_form entries carried spelled is_sound decoded record_in stream_in window_in landmark_in value_in finish_in params_in is_valid
     spelling Names.is_name Possible.is_possible bit_of filter_of full has union Fields.with_field Numbers.number_at Numbers.number_bytes Marks.lies_free
 state-moment = refl
 
 -- so it is where the closing is in an entry that is in use
 state-closing : Recovers (state moment)
     (image_of (entry_of (put 1 mark_slot ∷ [])) no_entry (a_slot ∷ open_slot ∷ mark_value_slot ∷ []))
-unfolding state recover redo is_born entries is_good puts_of entry_body carried spelled is_sound decoded record_in stream_in window_in landmark_in value_in
+unfolding state recover redo is_born kind_of slot_form entry_form entries is_good puts_of entry_body carried spelled is_sound decoded record_in stream_in window_in landmark_in value_in
     finish_in params_in is_valid spelling Names.is_name Possible.is_possible bit_of filter_of full has union Fields.with_field Numbers.number_at
     Numbers.number_bytes Marks.lies_free
 state-closing = refl
@@ -389,7 +391,7 @@ abbrev opening : List Happened
 opening = map added (events.Create a (exp 2 1 1) ∷ events.Open a 100 ∷ events.Value a 100 (pos 7) ∷ [])
 
 state-opening : Recovers (state opening) (image_of no_entry no_entry (a_slot ∷ open_slot ∷ mark_value_slot ∷ []))
-unfolding state recover redo is_born entries carried spelled is_sound decoded record_in stream_in window_in landmark_in value_in finish_in params_in is_valid
+unfolding state recover redo is_born kind_of slot_form entry_form entries carried spelled is_sound decoded record_in stream_in window_in landmark_in value_in finish_in params_in is_valid
     spelling Names.is_name Possible.is_possible bit_of filter_of full has union Fields.with_field Numbers.number_at Numbers.number_bytes Marks.lies_free
 state-opening = refl
 
@@ -406,17 +408,17 @@ recover-around : recover
       windows = window 1 (fives 2 10 50) ∷ [];
       landmarks = record { start = 20; finish = Some 40; values = [] } ∷ [];
     } ∷ [])
-unfolding recover redo is_born entries carried spelled is_sound decoded record_in stream_in window_in landmark_in value_in finish_in params_in is_valid
+unfolding recover redo is_born kind_of slot_form entry_form entries carried spelled is_sound decoded record_in stream_in window_in landmark_in value_in finish_in params_in is_valid
     spelling Names.is_name Possible.is_possible bit_of filter_of full has union Fields.with_field Numbers.number_at Numbers.number_bytes Marks.lies_free
 recover-around = refl
 
 recover-covered_end : recover (image_of no_entry no_entry (a_slot ∷ landmark_slot ∷ window_slot 0 1 (fives 2 10 30) ∷ [])) ≡ damaged_stream 0
-unfolding recover redo is_born entries carried spelled is_sound decoded record_in stream_in window_in landmark_in value_in finish_in params_in is_valid
+unfolding recover redo is_born kind_of slot_form entry_form entries carried spelled is_sound decoded record_in stream_in window_in landmark_in value_in finish_in params_in is_valid
     spelling Names.is_name Possible.is_possible bit_of filter_of full has union Fields.with_field Numbers.number_at Numbers.number_bytes Marks.lies_free
 recover-covered_end = refl
 
 -- a value of a landmark that has no record
 recover-no_landmark : recover (image_of no_entry no_entry (a_slot ∷ zeros ∷ mark_value_slot ∷ [])) ≡ damaged_stream 0
-unfolding recover redo is_born entries carried spelled is_sound decoded record_in stream_in window_in landmark_in value_in finish_in params_in is_valid
+unfolding recover redo is_born kind_of slot_form entry_form entries carried spelled is_sound decoded record_in stream_in window_in landmark_in value_in finish_in params_in is_valid
     spelling Names.is_name Possible.is_possible bit_of filter_of full has union Fields.with_field Numbers.number_at Numbers.number_bytes Marks.lies_free
 recover-no_landmark = refl
