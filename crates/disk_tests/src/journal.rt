@@ -1,3 +1,4 @@
+mod checked;
 mod commits;
 pub mod files;
 mod groups;

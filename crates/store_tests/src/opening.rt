@@ -86,7 +86,7 @@ type Damage = (&'static [u8], u8, &'static [Slot], OpenError);
 
 const DAMAGED: [Damage; 7] = [
     (b"hello", 0, &[], OpenError::NotAStore),
-    (b"\xA5SSTORE02", 0, &[Stream(0, b'a')], OpenError::NotAStore),
+    (b"\xA5SSTORE03", 0, &[Stream(0, b'a')], OpenError::NotAStore),
     (
         FORMATTED,
         5,

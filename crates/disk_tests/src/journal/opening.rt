@@ -8,9 +8,9 @@ use std::test::Fail;
 
 // What files begin with that are no store, and their length.
 const NO_STORES: [(&[u8], usize); 5] = [
-    (b"\xA5SSTORE02", 37120),
+    (b"\xA5SSTORE03", 37120),
     (b"\xA5TSTORE01", 37120),
-    (b"\x01SSTORE02", 37120),
+    (b"\x01SSTORE03", 37120),
     (b"\x01SSTORE0", 8),
     (b"\x01", 2),
 ];
