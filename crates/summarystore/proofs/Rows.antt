@@ -10,6 +10,7 @@ use Rattle.ss_journal.specs.Format.{is_unborn}
 use Rattle.summarystore.specs.FileDisk.{EndsAfterFault, KeepsFile, LooksAtFile, untold}
 use Rattle.summarystore.specs.Opening.{IsBlank, IsHeldAs, IsLockedAs, IsNative, IsSettledAs, MayHold, StaysHeld, StaysUnmade, is_writable}
 use Rattle.summarystore.specs.Opening.{makes, missing_for}
+use Rattle.summarystore.specs.Reason.{own}
 use Rattle.summarystore.specs.System.{Apart, Durable, Fact, IsUnsyncable, Keeps, KeepsAll, LockedBy, OpenFor, RegularFile, Synced, Unmade, Unsyncable}
 use Rattle.summarystore.specs.System.{Unwritten}
 use Rattle.summarystore.specs.System.{lasts_lock, lasts_open, lasts_write}
@@ -17,6 +18,7 @@ use Rattle.summarystore.specs.declared.opening.Missing.{Missing}
 use Rattle.summarystore.specs.declared.opening.Missing.TheVariants as missing
 use Rattle.summarystore.specs.declared.opening.Opened.{Opened}
 use Rattle.summarystore.specs.declared.opening.Opened.TheVariants.{Made, Nothing, ReadOnly, Writable}
+use Rattle.summarystore.specs.declared.reason.Trouble.TheVariants.{NoFile, NotChecked}
 use Rattle.summarystore.specs.declared.system.Access.TheVariants.{Make, Read, Write}
 use Rattle.summarystore.specs.declared.system.Lock.TheVariants.{Exclusive, Shared}
 
@@ -170,6 +172,13 @@ ends-faults failed same is ends = ends.faults
 
 ends-first : (failed same : Type 0) (is : ℕ) → EndsAfterFault 1 is failed same → failed × same
 ends-first failed same is ends = ends.ends (omega arith)
+
+-- a reason that the system didn't give
+own-trouble : map (λ trouble. (own trouble).trouble) (NotChecked ∷ NoFile ∷ []) ≡ NotChecked ∷ NoFile ∷ []
+own-trouble = refl
+
+own-error : (own NotChecked).error ≡ None
+own-error = refl
 
 writable-each :
     map is_writable (None ∷ Some Nothing ∷ Some ReadOnly ∷ Some Writable ∷ Some Made ∷ [])

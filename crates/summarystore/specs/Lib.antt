@@ -1,4 +1,5 @@
 pub mod FileDisk
 pub mod Opening
 pub mod Plan
+pub mod Reason
 pub mod System

@@ -1,8 +1,10 @@
 // The real disk: a file. It tells nothing of its bytes.
-ghost use Rattle.std.specs.Prelude.{◌≡◌, ◌+◌, ◌<◌, ◌^◌, ℕ, List, length, None, Some, IsErr, IsFalse, IfOk, OnOk};
+ghost use Rattle.std.specs.Prelude.{◌≡◌, ◌+◌, ◌<◌, ◌^◌, ℕ, List, length, None, Some, IsErr, IsFalse, IsSome, IfOk, OnOk};
 ghost use Rattle.ss_outside.specs.Disk.{IsReadFrom};
+ghost use Rattle.ss_outside.specs.Memory.{one_more};
 ghost use Rattle.summarystore.specs.FileDisk.{EndsAfterFault, KeepsFile, LooksAtFile};
 ghost use Rattle.summarystore.specs.Opening.{IsNative, IsSettledAs, MayHold, StaysHeld, is_writable};
+ghost use Rattle.summarystore.specs.Reason.{own};
 ghost use Rattle.summarystore.specs.System.{Synced, Unwritten};
 
 #[cfg(test)]
@@ -74,6 +76,17 @@ impl<S: System> FileDisk<S> {
     /// What stands behind it, once a call has been answered.
     pub fn opened(&self) -> Option<Opened> {
         self.opened
+    }
+
+    /// Fails from now on: no further call of the system is made. This is why, if no call has failed before.
+    pub fn refuse(&mut self, trouble: Trouble)
+        ensures ends { self.new.faults ≡ one_more self.old.faults }
+        ensures why { self.old.why ≡ None → self.new.why ≡ Some (own trouble) }
+        ensures first { IsSome self.old.why → self.new.why ≡ self.old.why }
+        ensures same { self.new ≡ record self.old { faults = self.new.faults; why = self.new.why } }
+    {
+        let refusal: Result<(), Reason> = Err(Reason::own(trouble));
+        let _ = judge(refusal, &mut self.faults, &mut self.why);
     }
 
     // Opens the file at the first call. After a fault nothing is done any more.

@@ -1,4 +1,7 @@
 // Why the file of a store can't be used.
+ghost use Rattle.std.specs.Prelude.{◌≡◌};
+ghost use Rattle.summarystore.specs.Reason.{own};
+
 use crate::system::{Kind, Stream};
 use std::io::{self, ErrorKind};
 
@@ -21,6 +24,7 @@ pub enum Trouble {
     NotWritten,
     NotSynced,
     NoFile,
+    NotChecked,
     FailedBefore,
 }
 
@@ -44,6 +48,7 @@ impl Trouble {
             Trouble::NotWritten => "a write failed",
             Trouble::NotSynced => "a sync failed",
             Trouble::NoFile => "no such file",
+            Trouble::NotChecked => "the store is plain, and --checked wants a checked one",
             Trouble::FailedBefore => "failed before",
         }
     }
@@ -78,7 +83,9 @@ pub struct Reason {
 
 impl Reason {
     /// A reason that the system didn't give.
-    pub fn own(trouble: Trouble) -> Reason {
+    pub fn own(trouble: Trouble) -> Reason
+        ensures { result ≡ own trouble }
+    {
         Reason {
             trouble,
             error: None,
