@@ -3,7 +3,11 @@ use Rattle.std.proofs.Common.{◌≡◌, ℕ, Bool, true, false, List, [], ◌�
 use Rattle.std.specs.Prelude.{codes}
 use Rattle.ss_arguments.specs.declared.mode.Form.{Form}
 use Rattle.ss_arguments.specs.declared.mode.Form.TheVariants.{Lines, Sessions, Frames, Follow}
-use Rattle.summarystore.specs.Plan.{Planned, Prints, Runs, notice_of, path_of, planned, status_with}
+use Rattle.ss_arguments.specs.declared.mode.Mode.TheVariants.{Serve, Check, Gen}
+use Rattle.ss_arguments.specs.declared.mode.Sealing.TheVariants.{Shared}
+use Rattle.summarystore.specs.Plan.{Planned, Prints, Runs, demand_of, notice_of, path_of, planned, status_with}
+use Rattle.summarystore.specs.declared.demand.Demand.{Demand}
+use Rattle.summarystore.specs.declared.demand.Demand.TheVariants as demand
 use Rattle.summarystore.specs.declared.notice.Notice.TheVariants.{Help, Version}
 use Rattle.summarystore.specs.declared.opening.Missing.{Missing}
 use Rattle.summarystore.specs.declared.opening.Missing.TheVariants.{Make, Fail, ReadEmpty, ReadFail}
@@ -13,15 +17,20 @@ abbrev over_s : List (List ℕ) → List (List ℕ)
 over_s arguments = codes "p" ∷ codes "s" ∷ arguments
 
 -- a run over `s` that gets these words after it: nothing is asked for beside, or some of it
-abbrev runs : List (List ℕ) → Missing → Bool → Bool → Form → Planned
-runs arguments missing explains is_strict form = Runs (record {
+abbrev runs_by : Demand → List (List ℕ) → Missing → Bool → Bool → Form → Planned
+runs_by asked arguments missing explains is_strict form = Runs (record {
   words = over_s arguments;
   path = codes "s";
   missing = missing;
+  demand = asked;
   explains = explains;
   is_strict = is_strict;
   form = form;
 })
+
+-- the same, where nothing is asked of the store
+abbrev runs : List (List ℕ) → Missing → Bool → Bool → Form → Planned
+runs arguments missing explains is_strict form = runs_by demand.Nothing arguments missing explains is_strict form
 
 -- a run over nothing, after the program's name
 abbrev runs_nothing : Missing → Bool → Bool → Planned
@@ -29,6 +38,7 @@ runs_nothing missing explains is_strict = Runs (record {
   words = codes "p" ∷ [];
   path = [];
   missing = missing;
+  demand = demand.Nothing;
   explains = explains;
   is_strict = is_strict;
   form = Lines false;
@@ -64,7 +74,7 @@ planned-check = refl
 planned-sessions : planned (over_s (codes "sessions" ∷ [])) ≡ runs (codes "sessions" ∷ []) Make false false (Sessions false)
 planned-sessions = refl
 
-planned-no_words : planned [] ≡ Runs (record { words = []; path = []; missing = Make; explains = false; is_strict = false; form = Lines false })
+planned-no_words : planned [] ≡ Runs (record { words = []; path = []; missing = Make; demand = demand.Nothing; explains = false; is_strict = false; form = Lines false })
 planned-no_words = refl
 
 planned-no_path : planned (codes "p" ∷ []) ≡ runs_nothing Make false false
@@ -87,15 +97,43 @@ planned-existing_check :
     planned (codes "p" ∷ codes "--existing" ∷ codes "s" ∷ codes "check" ∷ []) ≡ runs (codes "check" ∷ []) ReadFail false false (Lines false)
 planned-existing_check = refl
 
+-- a store that has to be checked: a run and a made-up file make it one, a check looks, and words that ask for no mode leave it alone
+planned-checked : planned (codes "p" ∷ codes "--checked" ∷ codes "s" ∷ []) ≡ runs_by demand.Make [] Make false false (Lines false)
+planned-checked = refl
+
+planned-checked_check :
+    planned (codes "p" ∷ codes "--checked" ∷ codes "s" ∷ codes "check" ∷ [])
+    ≡ runs_by demand.Look (codes "check" ∷ []) ReadEmpty false false (Lines false)
+planned-checked_check = refl
+
+planned-checked_unknown :
+    planned (codes "p" ∷ codes "--checked" ∷ codes "s" ∷ codes "Run" ∷ []) ≡ runs (codes "Run" ∷ []) Make false false (Lines false)
+planned-checked_unknown = refl
+
+planned-checked_without_path : planned (codes "p" ∷ codes "--checked" ∷ []) ≡ runs_nothing Make false false
+planned-checked_without_path = refl
+
+demand_of-each :
+    map (demand_of true) (Some (Serve Follow Shared) ∷ Some (Gen 1 2) ∷ Some Check ∷ None ∷ [])
+    ≡ demand.Make ∷ demand.Make ∷ demand.Look ∷ demand.Nothing ∷ []
+demand_of-each = refl
+
+demand_of-not_asked :
+    map (demand_of false) (Some (Serve Follow Shared) ∷ Some (Gen 1 2) ∷ Some Check ∷ None ∷ [])
+    ≡ demand.Nothing ∷ demand.Nothing ∷ demand.Nothing ∷ demand.Nothing ∷ []
+demand_of-not_asked = refl
+
 -- all of them, in two orders, and one twice
 planned-all :
-    planned (codes "p" ∷ codes "--explain" ∷ codes "--batch" ∷ codes "--framed" ∷ codes "--strict" ∷ codes "--existing" ∷ codes "s" ∷ [])
-    ≡ runs (codes "framed" ∷ codes "batch" ∷ []) Fail true true (Lines true)
+    planned (codes "p" ∷ codes "--explain" ∷ codes "--batch" ∷ codes "--framed" ∷ codes "--strict" ∷ codes "--existing" ∷ codes "--checked"
+    ∷ codes "s" ∷ [])
+    ≡ runs_by demand.Make (codes "framed" ∷ codes "batch" ∷ []) Fail true true (Lines true)
 planned-all = refl
 
 planned-all_but_one :
-    planned (codes "p" ∷ codes "--existing" ∷ codes "--batch" ∷ codes "--batch" ∷ codes "--explain" ∷ codes "s" ∷ codes "run" ∷ [])
-    ≡ runs (codes "batch" ∷ []) Fail true false (Lines false)
+    planned (codes "p" ∷ codes "--checked" ∷ codes "--existing" ∷ codes "--batch" ∷ codes "--batch" ∷ codes "--explain" ∷ codes "s"
+    ∷ codes "run" ∷ [])
+    ≡ runs_by demand.Make (codes "batch" ∷ []) Fail true false (Lines false)
 planned-all_but_one = refl
 
 -- `--batch` stands for the mode in place of `run`, and after `sessions`; after others it is a word too many

@@ -8,14 +8,16 @@ use Rattle.ss_arguments.specs.Modes.{mode_of, words_of}
 use Rattle.ss_arguments.specs.declared.mode.Form.{Form}
 use Rattle.ss_arguments.specs.declared.mode.Form.TheVariants.{Lines}
 use Rattle.ss_arguments.specs.declared.mode.Mode.{Mode}
-use Rattle.ss_arguments.specs.declared.mode.Mode.TheVariants.{Serve}
+use Rattle.ss_arguments.specs.declared.mode.Mode.TheVariants.{Serve, Check, Gen}
 use Rattle.summarystore.specs.Opening.{missing_for}
+use Rattle.summarystore.specs.declared.demand.Demand.{Demand}
+use Rattle.summarystore.specs.declared.demand.Demand.TheVariants as demand
 use Rattle.summarystore.specs.declared.notice.Notice.{Notice}
 use Rattle.summarystore.specs.declared.notice.Notice.TheVariants.{Help, Version}
 use Rattle.summarystore.specs.declared.opening.Missing.{Missing}
 use Rattle.summarystore.specs.declared.options.Options.{Options}
 use Rattle.summarystore.specs.declared.options.Switch.{Switch}
-use Rattle.summarystore.specs.declared.options.Switch.TheVariants.{Explain, Batch, Framed, Strict, Existing}
+use Rattle.summarystore.specs.declared.options.Switch.TheVariants.{Explain, Batch, Framed, Strict, Existing, Checked}
 use Rattle.summarystore.specs.declared.plan.Plan.{Plan}
 use Rattle.summarystore.specs.declared.plan.Plan.TheVariants as plan
 use Rattle.summarystore.specs.declared.plan.Run.{Run}
@@ -40,7 +42,8 @@ switch_of word =
     else (if bytes_eq word (codes "--framed") then Some Framed
     else (if bytes_eq word (codes "--strict") then Some Strict
     else (if bytes_eq word (codes "--existing") then Some Existing
-    else None))))
+    else (if bytes_eq word (codes "--checked") then Some Checked
+    else None)))))
 
 -- the option in the place of the path
 abbrev pub first_switch : List (List ℕ) → Option Switch
@@ -49,7 +52,14 @@ first_switch _ = None
 
 -- no option
 abbrev pub no_options : Options
-no_options = record { explains = false; batches = false; is_framed = false; is_strict = false; has_to_exist = false }
+no_options = record {
+  explains = false;
+  batches = false;
+  is_framed = false;
+  is_strict = false;
+  has_to_exist = false;
+  has_to_be_checked = false;
+}
 
 -- options with one more
 abbrev pub with_switch : Options → Switch → Options
@@ -58,6 +68,7 @@ with_switch options Batch = record options { batches = true }
 with_switch options Framed = record options { is_framed = true }
 with_switch options Strict = record options { is_strict = true }
 with_switch options Existing = record options { has_to_exist = true }
+with_switch options Checked = record options { has_to_be_checked = true }
 
 -- the options at the front of words, beside some that were met before
 abbrev pub options_from : Options → List (List ℕ) → Options
@@ -115,12 +126,26 @@ abbrev pub form_in : Option Mode → Form
 form_in (Some (Serve form sealing)) = form
 form_in _ = Lines false
 
--- A run over the file of a store: the words that it gets, the path, what is done where there is no file, whether standard error
--- says why lines are refused, whether a refused line shows in the exit status, and the form of the input.
+-- What is asked of a store that has to be a checked one: a mode that writes makes it one, and a check looks. Words that ask for no
+-- mode leave it alone.
+abbrev pub demand_of_mode : Option Mode → Demand
+demand_of_mode None = demand.Nothing
+demand_of_mode (Some (Serve form sealing)) = demand.Make
+demand_of_mode (Some Check) = demand.Look
+demand_of_mode (Some (Gen seed count)) = demand.Make
+
+-- what is asked of the store before a run, by whether it has to be a checked one and by the mode
+abbrev pub demand_of : Bool → Option Mode → Demand
+demand_of has_to_be_checked mode = if has_to_be_checked then demand_of_mode mode else demand.Nothing
+
+-- A run over the file of a store: the words that it gets, the path, what is done where there is no file, what is asked of the store
+-- before, whether standard error says why lines are refused, whether a refused line shows in the exit status, and the form of the
+-- input.
 pub record Asked : Type 0 where
   pub words : List (List ℕ)
   pub path : List ℕ
   pub missing : Missing
+  pub demand : Demand
   pub explains : Bool
   pub is_strict : Bool
   pub form : Form
@@ -136,6 +161,7 @@ run_of options words = record {
   words = words;
   path = path_of words;
   missing = missing_for options.has_to_exist words;
+  demand = demand_of options.has_to_be_checked (mode_of words);
   explains = options.explains || options.is_strict;
   is_strict = options.is_strict;
   form = form_in (mode_of words);
@@ -154,6 +180,7 @@ asked_by run = record {
   words = words_of run.words.items;
   path = string_bytes run.path;
   missing = run.missing;
+  demand = run.demand;
   explains = run.explains;
   is_strict = run.is_strict;
   form = run.form;

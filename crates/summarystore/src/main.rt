@@ -5,6 +5,7 @@
 mod adapter_tests;
 mod adapters;
 mod advice;
+mod demand;
 mod file_disk;
 mod foreign;
 mod host_system;
@@ -24,6 +25,7 @@ mod telling;
 mod writing;
 
 use adapters::{StdSink, StdSource};
+use demand::meet;
 use file_disk::FileDisk;
 use host_system::HostSystem;
 use plan::{Plan, Run, plan_of, status_with};
@@ -54,6 +56,7 @@ fn is_free<R: Files>(rt: &R, path: &str) -> bool {
 // The exit status of a run over the store's file, standard input and standard output, which is told.
 fn run_over<R: AllocGlobal + Input + Print + Eprint + Files<File = File>>(rt: &R, run: Run) -> u8 {
     let mut disk = FileDisk::new(HostSystem::new(rt), run.path, run.missing);
+    meet(&mut disk, run.demand);
     let mut source = StdSource::new(rt);
     let mut sink = StdSink::new(rt);
     let number = ss_program::run(rt.alloc(), &run.words, &mut disk, &mut source, &mut sink);
@@ -67,7 +70,8 @@ fn run_watched<R: AllocGlobal + Input + Print + Eprint + Clock + Files<File = Fi
     watch: Watch<'_, R>,
 ) -> u8 {
     let watch = RefCell::new(watch);
-    let disk = FileDisk::new(HostSystem::new(rt), run.path, run.missing);
+    let mut disk = FileDisk::new(HostSystem::new(rt), run.path, run.missing);
+    meet(&mut disk, run.demand);
     let mut disk = Watched::new(disk, &watch);
     let mut source = Watched::new(StdSource::new(rt), &watch);
     let mut sink = Watched::new(StdSink::new(rt), &watch);

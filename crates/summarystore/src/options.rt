@@ -15,6 +15,7 @@ pub enum Switch {
     Framed,
     Strict,
     Existing,
+    Checked,
 }
 
 /// What the options ask for.
@@ -30,6 +31,8 @@ pub struct Options {
     pub is_strict: bool,
     /// Whether the store has to be there.
     pub has_to_exist: bool,
+    /// Whether the store has to be a checked one.
+    pub has_to_be_checked: bool,
 }
 
 // No option.
@@ -42,6 +45,7 @@ fn no_options() -> Options
         is_framed: false,
         is_strict: false,
         has_to_exist: false,
+        has_to_be_checked: false,
     }
 }
 
@@ -55,6 +59,7 @@ pub fn switch_of(word: &str) -> Option<Switch>
         "--framed" => Some(Switch::Framed),
         "--strict" => Some(Switch::Strict),
         "--existing" => Some(Switch::Existing),
+        "--checked" => Some(Switch::Checked),
         _ => None,
     }
 }
@@ -82,6 +87,7 @@ impl Options {
             Switch::Framed => options.is_framed = true,
             Switch::Strict => options.is_strict = true,
             Switch::Existing => options.has_to_exist = true,
+            Switch::Checked => options.has_to_be_checked = true,
         }
         options
     }

@@ -4,6 +4,7 @@ ghost use Rattle.ss_arguments.specs.Modes.{words_of};
 ghost use Rattle.ss_arguments.specs.Modes.{mode_of};
 ghost use Rattle.summarystore.specs.Plan.{asked_by, asked_words, form_in, path_of, planned, planned_by, run_of, status_with};
 
+use crate::demand::{Demand, demand_of};
 use crate::notice::{Notice, notice_of};
 use crate::opening::{Missing, missing_for};
 use crate::options::{Options, put_word, take_options};
@@ -18,6 +19,8 @@ pub struct Run {
     /// The store's path, or the empty path where none is among the words.
     pub path: String,
     pub missing: Missing,
+    /// What is asked of the store before the run.
+    pub demand: Demand,
     /// Whether standard error says why lines are refused, also where it is no terminal.
     pub explains: bool,
     /// Whether a run that is done ends with status 1 where a line was refused.
@@ -59,14 +62,15 @@ fn run_of(alloc: Global, options: Options, words: Vec<String>) -> Result<Run, Al
 {
     let path = path_of(alloc, &words)?;
     let missing = missing_for(options.has_to_exist, &words);
-    let form = form_in(mode_of(alloc, &words)?);
+    let mode = mode_of(alloc, &words)?;
     Ok(Run {
         words,
         path,
         missing,
+        demand: demand_of(options.has_to_be_checked, mode),
         explains: options.explains || options.is_strict,
         is_strict: options.is_strict,
-        form,
+        form: form_in(mode),
     })
 }
 

@@ -1,0 +1,57 @@
+// What `--checked` asks of a store before a run.
+ghost use Rattle.std.specs.Prelude.{◌≡◌, Ok, true};
+ghost use Rattle.summarystore.specs.Plan.{demand_of};
+
+#[cfg(test)]
+mod tests;
+
+use crate::file_disk::FileDisk;
+use crate::reason::Trouble;
+use crate::system::System;
+use ss_arguments::Mode;
+use ss_journal::{is_plain, make_checked};
+use ss_outside::{Disk, Failed};
+
+/// What is asked of a store before a run. `Make` marks a file that isn't formatted, so that it becomes a checked store, and `Look`
+/// writes nothing. Both refuse a plain store. `Nothing` makes no call.
+#[derive(Clone, Copy, Debug, PartialEq, Eq)]
+pub enum Demand {
+    Nothing,
+    Make,
+    Look,
+}
+
+/// What is asked of the store, by whether it has to be a checked one and by the mode. Words that ask for no mode leave the file alone.
+pub fn demand_of(has_to_be_checked: bool, mode: Option<Mode>) -> Demand
+    ensures { result ≡ demand_of has_to_be_checked mode }
+{
+    if !has_to_be_checked {
+        return Demand::Nothing;
+    }
+    match mode {
+        Some(Mode::Serve { .. }) => Demand::Make,
+        Some(Mode::Gen { .. }) => Demand::Make,
+        Some(Mode::Check) => Demand::Look,
+        None => Demand::Nothing,
+    }
+}
+
+// Whether the store is as it has to be.
+fn is_met<D: Disk>(disk: &mut D, demand: Demand) -> Result<bool, Failed>
+    ensures nothing { demand ≡ Demand.Nothing → (result ≡ Ok true) × (disk.new ≡ disk.old) }
+{
+    match demand {
+        Demand::Nothing => Ok(true),
+        Demand::Make => make_checked(disk),
+        Demand::Look => Ok(!is_plain(disk)?),
+    }
+}
+
+/// Sees to it that the store is as it has to be. Where it isn't, or a call of the file failed, each later call fails.
+pub fn meet<S: System>(disk: &mut FileDisk<S>, demand: Demand)
+    ensures nothing { demand ≡ Demand.Nothing → disk.new ≡ disk.old }
+{
+    if let Ok(false) = is_met(disk, demand) {
+        disk.refuse(Trouble::NotChecked);
+    }
+}
