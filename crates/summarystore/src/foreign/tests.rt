@@ -4,7 +4,7 @@ use crate::made_up_system::MadeUpSystem;
 use std::alloc::{AllocError, Global};
 
 // The length of a file, its first bytes, where a byte of it is 1 while all others are 0, and whether it is foreign.
-const FOREIGN: [(usize, &[u8], usize, bool); 11] = [
+const FOREIGN: [(usize, &[u8], usize, bool); 13] = [
     (0, b"", 0, false),
     (1, b"\x07", 0, false),
     (36864, b"\0", 36863, false),
@@ -14,7 +14,9 @@ const FOREIGN: [(usize, &[u8], usize, bool); 11] = [
     (50000, b"\0SSTORE01", 40960, true),
     (50000, b"\xa4SSTORE01", 40959, true),
     (50000, b"\xa5SSTORE01", 40959, false),
-    (50000, b"\xa4SSTORE02", 40959, false),
+    (50000, b"\xa4SSTORE02", 40959, true),
+    (50000, b"\xa5SSTORE02", 40959, false),
+    (50000, b"\xa4SSTORE03", 40959, false),
     (50000, b"film", 40959, false),
 ];
 
