@@ -93,6 +93,8 @@ refused, for the first 20 of them, and in follow also what a gap lacks. With
 --strict before STORE it does so too, and the status is 1 where a line was
 refused, or a gap was left, and 0 otherwise would be.
 With --existing before STORE, STORE isn't made where there is none: status 4.
+With --checked before STORE, a new STORE has a checksum in each of its records.
+Where a store without them stands, the status is 4.
 A store whose name begins with - is ./-NAME.
 Documents: README.md, docs/GUIDE.md.
 ";
