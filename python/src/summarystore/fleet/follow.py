@@ -13,11 +13,9 @@ from collections.abc import Sequence
 from contextlib import nullcontext, suppress
 from typing import TYPE_CHECKING
 
-from ..errors import SummaryStoreError
-from ..server.errors import ConfigurationError
 from .deliveries import Part
 from .logs import QUORUM, STREAM
-from .options import FAILED, WRONG_USE, add_broker, brokers_of, log, log_to_stderr, missing, part_of
+from .options import add_broker, brokers_of, log_to_stderr, missing, part_of, status_of
 
 if TYPE_CHECKING:
     from .following import Follower
@@ -68,21 +66,16 @@ def main(arguments: Sequence[str] | None = None) -> int:
             from .serving import serving
     except ModuleNotFoundError as error:
         return missing(error)
-    try:
-        brokers = brokers_of(words)
-        follower = Follower(words.store, brokers, name=words.log, shards=words.shards,
+
+    def command() -> int:
+        follower = Follower(words.store, brokers_of(words), name=words.log, shards=words.shards,
                             shard=words.shard, part=words.part, kind=words.queue, follower=words.name,
                             program=words.program)
         served: Serving = nullcontext if words.serve is None else serving(words.serve, words.fresh,
                                                                           words.tokens)
         asyncio.run(follow(follower, served))
-    except ConfigurationError as error:
-        log.error("not started: reason=%s", error)
-        return WRONG_USE
-    except (SummaryStoreError, OSError) as error:
-        log.error("ended: reason=%s", error)
-        return FAILED
-    return 0
+        return 0
+    return status_of(command)
 
 
 if __name__ == "__main__":

@@ -6,8 +6,9 @@ import argparse
 import logging
 import os
 import sys
-from collections.abc import Sequence
+from collections.abc import Callable, Sequence
 
+from ..errors import SummaryStoreError
 from ..server.errors import ConfigurationError
 from ..server.private import private_lines
 from .deliveries import Part
@@ -63,6 +64,18 @@ def missing(error: ModuleNotFoundError) -> int:
     """Says which package of Debian is missing, and gives the status for that."""
     log.error("not started: python3-%s is missing", (error.name or "").partition(".")[0])
     return WRONG_USE
+
+
+def status_of(command: Callable[[], int]) -> int:
+    """The status of a command: its own, 2 for a wrong use, and 1 where it can't go on. Both are told."""
+    try:
+        return command()
+    except ConfigurationError as error:
+        log.error("not started: reason=%s", error)
+        return WRONG_USE
+    except (SummaryStoreError, OSError) as error:
+        log.error("ended: reason=%s", error)
+        return FAILED
 
 
 def log_to_stderr() -> None:

@@ -13,9 +13,7 @@ import sys
 from collections.abc import Callable, Sequence
 from typing import TYPE_CHECKING
 
-from ..errors import SummaryStoreError
-from ..server.errors import ConfigurationError
-from .options import FAILED, WRONG_USE, add_broker, brokers_of, log, log_to_stderr, missing, size_of
+from .options import FAILED, add_broker, brokers_of, log, log_to_stderr, missing, size_of, status_of
 from .spool import LIMIT
 
 if TYPE_CHECKING:
@@ -74,19 +72,16 @@ def main(arguments: Sequence[str] | None = None) -> int:
         from .sending import Sender     # it stands on pika
     except ModuleNotFoundError as error:
         return missing(error)
-    try:
-        brokers = brokers_of(words)
-        sender = Sender(words.store, brokers, name=words.log, shards=words.shards, spool=words.spool,
-                        spool_bytes=words.spool_bytes, copies=words.copies, program=words.program)
+
+    def command() -> int:
+        sender = Sender(words.store, brokers_of(words), name=words.log, shards=words.shards,
+                        spool=words.spool, spool_bytes=words.spool_bytes, copies=words.copies,
+                        program=words.program)
         return asyncio.run(send(sender, lambda: os.read(0, READ), _write, words.linger))
+    try:
+        return status_of(command)
     except KeyboardInterrupt:
         return INTERRUPTED
-    except ConfigurationError as error:
-        log.error("not started: reason=%s", error)
-        return WRONG_USE
-    except (SummaryStoreError, OSError) as error:
-        log.error("ended: reason=%s", error)
-        return FAILED
 
 
 if __name__ == "__main__":
