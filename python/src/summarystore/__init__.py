@@ -30,13 +30,18 @@ __version__ = "0.1.0"
 
 
 def open(path: StorePath, *, zone: str | datetime.tzinfo | None = None, existing: bool = False,
-         program: str | os.PathLike[str] | None = None) -> Store:
+         checked: bool | None = None, program: str | os.PathLike[str] | None = None) -> Store:
     """Opens a store, and makes it where there is none: with `existing` that raises NoStoreError.
+
+    A store that is made is checked: its file tells of each record whether it is as it was written. With
+    `checked=False` it is plain. One that stands stays what it is, and with `checked=True` it raises
+    StoreFileError where it is plain.
 
     Its streams may have long names, scales and clock times. Times without a zone are those of `zone`,
     where it is given, such as Europe/Berlin.
     """
-    return Store(path, program=program, translator=Names(path, zone), existing=existing)
+    return Store(path, program=program, translator=Names(path, zone), existing=existing,
+                 checked=checked)
 
 
 def now(resolution: str = "s") -> datetime.datetime:

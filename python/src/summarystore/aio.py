@@ -42,8 +42,8 @@ class Store(Base):
 
     def __init__(self, path: StorePath, *, program: str | os.PathLike[str] | None = None,
                  translator: Translator | None = None, existing: bool = False,
-                 renew_at: int = RENEW_AT) -> None:
-        super().__init__(path, program=program, translator=translator, existing=existing,
+                 checked: bool | None = None, renew_at: int = RENEW_AT) -> None:
+        super().__init__(path, program=program, translator=translator, existing=existing, checked=checked,
                          renew_at=renew_at)
         self._opening = asyncio.Lock()
         self._changed = asyncio.Condition()
@@ -406,8 +406,9 @@ class Store(Base):
 
 
 async def open(path: StorePath, *, zone: str | datetime.tzinfo | None = None, existing: bool = False,
-               program: str | os.PathLike[str] | None = None) -> Store:
+               checked: bool | None = None, program: str | os.PathLike[str] | None = None) -> Store:
     """Opens a store, and makes it where there is none, as `summarystore.open` does."""
-    store = Store(path, program=program, translator=Names(path, zone), existing=existing)
+    store = Store(path, program=program, translator=Names(path, zone), existing=existing,
+                  checked=checked)
     await store._up()
     return store

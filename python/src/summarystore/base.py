@@ -16,15 +16,20 @@ from .sessions import Sessions
 
 
 class Base:
-    """A store with at most one process. With `existing` it has to be there, and isn't made."""
+    """A store with at most one process. With `existing` it has to be there, and isn't made.
+
+    One that is made is checked, and with False for `checked` plain. With True one that stands has to be
+    checked.
+    """
 
     def __init__(self, path: StorePath, *, program: str | os.PathLike[str] | None = None,
                  translator: Translator | None = None, existing: bool = False,
-                 renew_at: int = RENEW_AT) -> None:
+                 checked: bool | None = None, renew_at: int = RENEW_AT) -> None:
         self.path = os.path.abspath(os.fsdecode(path))
         self._program = programs.find_program(program)
         self._translator: Translator = Plain() if translator is None else translator
         self._existing = existing
+        self._checked = checked
         self._renew_at = renew_at
         self._sessions = Sessions()
         self._connection: Connection | None = None
@@ -33,7 +38,7 @@ class Base:
     def _start(self) -> Connection:
         """A new process. A store that is gone by then isn't made anew."""
         self._sessions.forget_cursors()
-        connection = connect(self._program, self.path, self._translator, self._existing)
+        connection = connect(self._program, self.path, self._translator, self._existing, self._checked)
         self._existing = True
         return connection
 

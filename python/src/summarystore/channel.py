@@ -30,8 +30,8 @@ class Channel(Base):
 
     def __init__(self, path: StorePath, *, program: str | os.PathLike[str] | None = None,
                  translator: Translator | None = None, existing: bool = False,
-                 renew_at: int = RENEW_AT) -> None:
-        super().__init__(path, program=program, translator=translator, existing=existing,
+                 checked: bool | None = None, renew_at: int = RENEW_AT) -> None:
+        super().__init__(path, program=program, translator=translator, existing=existing, checked=checked,
                          renew_at=renew_at)
         self._changed = threading.Condition()
         self._mine = threading.local()

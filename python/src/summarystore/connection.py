@@ -17,8 +17,8 @@ RENEW_AT = 1 << 35
 class Connection:
     """A process that is up, and the requests that are open with it."""
 
-    def __init__(self, program: str, path: str, existing: bool) -> None:
-        self.process = Process(program, path, existing)
+    def __init__(self, program: str, path: str, existing: bool, checked: bool | None) -> None:
+        self.process = Process(program, path, existing, checked)
         self.pipeline = Pipeline()
         self.successor: Connection | None = None
         """The process that took its place, in order: who speaks with this one goes on with that."""
@@ -99,9 +99,10 @@ class Connection:
             raise self.failure()
 
 
-def connect(program: str, path: str, translator: Translator, existing: bool) -> Connection:
+def connect(program: str, path: str, translator: Translator, existing: bool, checked: bool | None
+            ) -> Connection:
     """Starts a process and waits until the store is open. Tells the streams, where they are asked for."""
-    connection = Connection(program, path, existing)
+    connection = Connection(program, path, existing, checked)
     request = Commands(0, [LIST if translator.lists else CURSOR_CLOSE])
     try:
         connection.add(request)

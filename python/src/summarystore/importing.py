@@ -435,6 +435,8 @@ def arguments() -> argparse.ArgumentParser:
     add("--lateness", help="sorts rows that are late by at most so much, as 15min")
     add("--dry-run", action="store_true", help="shows what is guessed, and stores nothing")
     add("--quiet", action="store_true", help="shows no progress")
+    add("--checked", action=argparse.BooleanOptionalAction,
+        help="whether a new store is checked (it is); with --checked one that stands has to be")
     add("--program", help="the path of the program summarystore")
     return parser
 
@@ -451,7 +453,7 @@ def main(given: Sequence[str] | None = None) -> int:
         if words.dry_run and not os.path.exists(words.store):
             return 0 if work.run(None) else 1
         with Store(words.store, program=words.program, translator=Names(words.store, words.zone),
-                   existing=words.dry_run) as store:
+                   existing=words.dry_run, checked=words.checked) as store:
             return 0 if work.run(store) else 1
     except (SummaryStoreError, OSError, UnicodeError, csv.Error, sqlite3.Error) as error:
         print(f"summarystore-import: {error}", file=sys.stderr)

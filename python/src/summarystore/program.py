@@ -4,6 +4,7 @@ from __future__ import annotations
 
 import os
 import shutil
+import stat
 import subprocess
 import weakref
 from pathlib import Path
@@ -45,18 +46,41 @@ def store_word(path: StorePath) -> str:
     return f"./{word}" if word.startswith("-") else word
 
 
+def is_unmade(path: str) -> bool:
+    """Whether no store stands there yet: there is no file, or one that isn't formatted."""
+    try:
+        if not stat.S_ISREG(os.stat(path).st_mode):
+            return False
+        with open(path, "rb") as file:
+            head = file.read(2)
+    except FileNotFoundError:
+        return True
+    except OSError:
+        return False    # the program says why
+    return len(head) < 2 or head[0] == 0
+
+
+def command(program: str, path: str, checked: bool | None, *options: str) -> list[str]:
+    """The words of a run over a store, up to its path.
+
+    A store that is made is a checked one, and with False for `checked` a plain one. One that stands stays
+    what it is, and with True it has to be checked.
+    """
+    wanted = is_unmade(path) if checked is None else checked
+    return [program, *options, *(["--checked"] if wanted else []), path]
+
+
 class Process:
     """One run of the program in the mode `sessions`. Its pipes don't block.
 
-    With `existing` the store has to be there.
+    With `existing` the store has to be there. `checked` is that of `command`.
     """
 
-    def __init__(self, program: str, path: str, existing: bool) -> None:
-        options = ["--batch", "--existing"] if existing else ["--batch"]
+    def __init__(self, program: str, path: str, existing: bool, checked: bool | None) -> None:
+        words = command(program, path, checked, "--batch", *(["--existing"] if existing else []))
         # A process group of its own: Ctrl-C at a terminal is for Python, which then ends it in order.
-        self._child = subprocess.Popen([program, *options, path, "sessions"], stdin=subprocess.PIPE,
-                                       stdout=subprocess.PIPE, stderr=subprocess.PIPE, bufsize=0,
-                                       start_new_session=True)
+        self._child = subprocess.Popen([*words, "sessions"], stdin=subprocess.PIPE, stdout=subprocess.PIPE,
+                                       stderr=subprocess.PIPE, bufsize=0, start_new_session=True)
         assert self._child.stdin and self._child.stdout and self._child.stderr
         self._stdin, self._stdout, self._stderr = (self._child.stdin, self._child.stdout,
                                                    self._child.stderr)
