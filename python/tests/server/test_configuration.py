@@ -9,7 +9,7 @@ import pytest
 from hypothesis import given, settings
 from hypothesis import strategies as st
 
-from summarystore.server.configuration import Configuration, parse, read
+from summarystore.server.configuration import Configuration, StoreSettings, parse, read
 from summarystore.server.errors import ConfigurationError
 from summarystore.server.globs import Glob, GlobError, matches
 from summarystore.server.intake import Incoming, Result
@@ -22,6 +22,7 @@ WHOLE = """
 [store]
 path = "/var/lib/a.store"
 program = "/usr/bin/summarystore"
+checked = false
 [http]
 listen = "[::1]:80"
 hosts = ["readings.example"]
@@ -66,6 +67,7 @@ LINES = st.sampled_from(WHOLE.splitlines())
 
 def test_all_of_it() -> None:
     found = parse(WHOLE, "a.toml")
+    assert found.store == StoreSettings("/var/lib/a.store", "/usr/bin/summarystore", False)
     assert found.http.listen == ("::1", 80) and found.graphite.listen == ("127.0.0.1", 2003)
     assert found.mqtt.receive_maximum == 7 and found.mqtt.certificates == "ca.pem"
     assert found.limits.queue == 500 and found.limits.idle_seconds == 1.5 and found.limits.rows == 2000
@@ -88,6 +90,7 @@ def test_nothing_is_enough() -> None:
     ("store = 1", "[store]", "a table is to stand here"),
     ("[store]\npath = 1", "[store] path", "not 1"),
     ("[store]\npath = ''", "[store] path", "a text"),
+    ("[store]\nchecked = 1", "[store] checked", "true or false"),
     ("[http]\nlisten = 8087", "[http] listen", "a text"),
     ("[http]\nlisten = '127.0.0.1'", "[http] listen", "HOST:PORT"),
     ("[http]\nlisten = '::1:80'", "[http] listen", "HOST:PORT"),

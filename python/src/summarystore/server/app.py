@@ -74,8 +74,7 @@ class Service:
         self.counters = Counters()
         self.hub = Hub(self.counters)
         self.unmatched = UnmatchedNames(limits.unmatched)
-        self.supervisor = Supervisor(path, configuration.store.program, self._learn, self.counters,
-                                     self._told)
+        self.supervisor = Supervisor(path, configuration.store, self._learn, self.counters, self._told)
         self.intake = Intake(self.supervisor, self._mappings(), queue=limits.queue, longest_name=limits.name,
                              unmatched=self.unmatched, hub=self.hub, counters=self.counters)
         self.landmarks = Landmarks(path, self, lambda: self.intake.streams)

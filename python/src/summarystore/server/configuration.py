@@ -5,6 +5,7 @@ A file may be `/etc/summarystore/summarystored.toml`, and each of its tables may
     [store]
     path = "/var/lib/summarystore/readings.store"
     program = "/usr/bin/summarystore"           # else the variable SUMMARYSTORE, or the one on PATH
+    checked = true                              # a plain store is refused; with false a new one is plain
 
     [http]
     listen = "127.0.0.1:8087"
@@ -60,10 +61,12 @@ PLACE = re.compile(r"\{([^{}]*)\}")
 
 @dataclass(frozen=True)
 class StoreSettings:
-    """The store: the path of its file, and the program, where it isn't the one that is found."""
+    """The store: the path of its file, the program, where it isn't the one that is found, and its kind,
+    where a new one isn't to be checked, or one that stands has to be."""
 
     path: str | None = None
     program: str | None = None
+    checked: bool | None = None
 
 
 @dataclass(frozen=True)
@@ -200,7 +203,7 @@ def section(file: str, top: Table, name: str) -> Table:
 
 
 def _store(table: Table) -> StoreSettings:
-    found = StoreSettings(table.text("path"), table.text("program"))
+    found = StoreSettings(table.text("path"), table.text("program"), table.truth_told("checked"))
     table.end()
     return found
 

@@ -16,6 +16,7 @@ from .. import aio
 from ..errors import (DamagedStoreError, DiskFullError, LockedError, NamesFileError, ProcessEndedError,
                       ProgramMissingError, StoreClosedError, StoreFileError, SummaryStoreError, UsageError)
 from ..records import Stream
+from .configuration import StoreSettings
 from .counters import Counters
 from .errors import UnavailableError
 
@@ -63,11 +64,11 @@ def state_of(error: Exception) -> State:
 class Supervisor:
     """Opens the store, and looks after it."""
 
-    def __init__(self, path: str, program: str | None, learn: Callable[[Sequence[Stream]], None],
+    def __init__(self, path: str, settings: StoreSettings, learn: Callable[[Sequence[Stream]], None],
                  counters: Counters | None = None,
                  changed: Callable[[State, str], None] | None = None) -> None:
         self.path = os.path.abspath(path)
-        self._program = program
+        self._settings = settings
         self._learn = learn
         self._counters = Counters() if counters is None else counters
         self._changed = changed
@@ -183,7 +184,8 @@ class Supervisor:
             # A new one in its place would hide that all of its data are missing.
             return self._fail(StoreClosedError(f"{self.path} is gone, and isn't made anew"))
         try:
-            store = await aio.open(self.path, program=self._program)
+            store = await aio.open(self.path, program=self._settings.program,
+                                   checked=self._settings.checked)
         except (SummaryStoreError, OSError) as error:
             return self._fail(error)
         self._paused_until = 0.0

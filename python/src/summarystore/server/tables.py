@@ -94,12 +94,16 @@ class Table:
             raise self.wrong(key, f"a decimal is to stand here, and not {shown(found)}")
         return str(found)
 
-    def truth(self, key: str) -> bool:
-        """`true` or `false`, and `false` where nothing stands."""
+    def truth_told(self, key: str) -> bool | None:
+        """`true` or `false`."""
         found = self.take(key)
         if not isinstance(found, bool) and found is not None:
             raise self.wrong(key, f"true or false is to stand here, and not {shown(found)}")
-        return bool(found)
+        return found
+
+    def truth(self, key: str) -> bool:
+        """`true` or `false`, and `false` where nothing stands."""
+        return bool(self.truth_told(key))
 
     def address(self, key: str) -> Address | None:
         """HOST:PORT."""
