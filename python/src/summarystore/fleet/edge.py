@@ -15,7 +15,7 @@ from dataclasses import dataclass, field
 from typing import NamedTuple
 
 from ..errors import ProtocolError, StoreClosedError, ending_of
-from ..program import StorePath, find_program, store_word
+from ..program import StorePath, command, find_program, store_word
 from ..wire import LONGEST_SENT, WORD, rows_after
 from .frames import CREATE, SIZE, VALUE, Event, event_of, name_of, number_of, probe, time_of, words_of
 from .spool import Spool
@@ -115,8 +115,10 @@ def _named(line: str) -> str:
 class Edge:
     """The store and the spool of one sender. Its calls wait for the disk."""
 
-    def __init__(self, path: StorePath, spool: Spool, program: str | None = None) -> None:
+    def __init__(self, path: StorePath, spool: Spool, program: str | None = None,
+                 checked: bool | None = None) -> None:
         self._program = find_program(program)
+        self._checked = checked
         self._path = store_word(path)
         self.spool = spool
         self.streams: dict[str, Standing] = {}
@@ -141,13 +143,13 @@ class Edge:
         asked = self._run([], "".join(f"last {name}\n" for name in names).encode())
         for name, reply in zip(names, asked):
             yield from self._counted(name, frames.get(name, []), reply)
-        self._process = subprocess.Popen([self._program, "--batch", "--framed", self._path],
-                                         stdin=subprocess.PIPE, stdout=subprocess.PIPE,
-                                         stderr=subprocess.PIPE, bufsize=0, start_new_session=True)
+        self._process = subprocess.Popen(
+            command(self._program, self._path, self._checked, "--batch", "--framed"), stdin=subprocess.PIPE,
+            stdout=subprocess.PIPE, stderr=subprocess.PIPE, bufsize=0, start_new_session=True)
 
     def _run(self, mode: Sequence[str], given: bytes) -> list[str]:
-        done = subprocess.run([self._program, self._path, *mode], input=given, capture_output=True,
-                              check=False)
+        words = command(self._program, self._path, self._checked)
+        done = subprocess.run([*words, *mode], input=given, capture_output=True, check=False)
         if done.returncode != 0:
             raise ending_of(done.returncode, done.stderr.decode("utf-8", "replace").strip())
         return done.stdout.decode("ascii").splitlines()

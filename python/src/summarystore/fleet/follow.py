@@ -70,7 +70,7 @@ def main(arguments: Sequence[str] | None = None) -> int:
     def command() -> int:
         follower = Follower(words.store, brokers_of(words), name=words.log, shards=words.shards,
                             shard=words.shard, part=words.part, kind=words.queue, follower=words.name,
-                            program=words.program)
+                            program=words.program, checked=words.checked)
         served: Serving = nullcontext if words.serve is None else serving(words.serve, words.fresh,
                                                                           words.tokens)
         asyncio.run(follow(follower, served))

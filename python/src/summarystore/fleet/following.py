@@ -52,8 +52,9 @@ class Follower:
 
     def __init__(self, path: StorePath, brokers: Sequence[str], *, name: str = "summarystore",
                  shards: int = 1, shard: int = 0, part: Part = Part(), kind: str = STREAM,
-                 follower: str | None = None, program: str | None = None) -> None:
-        self.store = Follow(path, program)
+                 follower: str | None = None, program: str | None = None,
+                 checked: bool | None = None) -> None:
+        self.store = Follow(path, program, checked)
         self._brokers = brokers
         self._log = Log(name, shards)
         self._shard = self._log.shard(shard)

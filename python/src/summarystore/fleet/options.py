@@ -29,6 +29,8 @@ def add_broker(made: argparse.ArgumentParser) -> None:
                            f"read; without either the variable {BROKER} has them, with blanks between")
     made.add_argument("--log", metavar="NAME", default="summarystore", help="the log at the broker")
     made.add_argument("--shards", metavar="N", type=int, default=1, help="how many shards the log has (1)")
+    made.add_argument("--checked", action=argparse.BooleanOptionalAction,
+                      help="whether a new store is checked (it is); with --checked one that stands has to be")
     made.add_argument("--program", metavar="PATH", help="the program summarystore")
 
 

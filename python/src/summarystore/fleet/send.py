@@ -76,7 +76,7 @@ def main(arguments: Sequence[str] | None = None) -> int:
     def command() -> int:
         sender = Sender(words.store, brokers_of(words), name=words.log, shards=words.shards,
                         spool=words.spool, spool_bytes=words.spool_bytes, copies=words.copies,
-                        program=words.program)
+                        program=words.program, checked=words.checked)
         return asyncio.run(send(sender, lambda: os.read(0, READ), _write, words.linger))
     try:
         return status_of(command)

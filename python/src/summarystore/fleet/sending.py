@@ -40,13 +40,14 @@ class Sender:
 
     def __init__(self, path: StorePath, brokers: Sequence[str], *, name: str = "summarystore",
                  shards: int = 1, spool: StorePath | None = None, spool_bytes: int = LIMIT, copies: int = 1,
-                 program: str | None = None) -> None:
+                 program: str | None = None, checked: bool | None = None) -> None:
         self._path = path
         self._brokers = brokers
         self._log = Log(name, shards)
         self._folder = Path(os.fsdecode(spool) if spool is not None else f"{os.fsdecode(path)}.spool")
         self._spool_bytes = spool_bytes
         self._program = program
+        self._checked = checked
         self.outgoing = Outgoing(copies)
         self._patience = Patience()
         self._done = 0
@@ -72,7 +73,7 @@ class Sender:
     def _open(self) -> None:
         spool = Spool(self._folder, self._spool_bytes)
         try:
-            self._begin(Edge(self._path, spool, self._program))
+            self._begin(Edge(self._path, spool, self._program, self._checked))
         except BaseException:
             spool.close()
             raise

@@ -13,7 +13,7 @@ from pathlib import Path
 from typing import TypeVar
 
 from ..errors import ProtocolError, SummaryStoreError, ending_of
-from ..program import StorePath, find_program, store_word
+from ..program import StorePath, command, find_program, store_word
 from .frames import SIZE, probe
 
 MOST = 1000
@@ -27,8 +27,9 @@ REFLINK = 0x40049409
 class Follow:
     """One store that takes frames. It has the store alone while it is up."""
 
-    def __init__(self, path: StorePath, program: str | None = None) -> None:
+    def __init__(self, path: StorePath, program: str | None = None, checked: bool | None = None) -> None:
         self.program = find_program(program)
+        self._checked = checked
         self.path = store_word(path)
         self._process: asyncio.subprocess.Process | None = None
         self._quiet = asyncio.Lock()
@@ -50,8 +51,8 @@ class Follow:
         return [row.split(" ")[0] for row in rows[1:]]
 
     def _plain(self, lines: str) -> list[str]:
-        done = subprocess.run([self.program, self.path], input=lines, capture_output=True, text=True,
-                              check=False)
+        done = subprocess.run(command(self.program, self.path, self._checked), input=lines,
+                              capture_output=True, text=True, check=False)
         if done.returncode != 0:
             raise ending_of(done.returncode, done.stderr.strip())
         return done.stdout.splitlines()
@@ -65,8 +66,9 @@ class Follow:
         if self._process is None:
             self._rest = b""
             self._process = await asyncio.create_subprocess_exec(
-                self.program, "--batch", self.path, "follow", stdin=asyncio.subprocess.PIPE,
-                stdout=asyncio.subprocess.PIPE, stderr=asyncio.subprocess.PIPE, start_new_session=True)
+                *command(self.program, self.path, self._checked, "--batch"), "follow",
+                stdin=asyncio.subprocess.PIPE, stdout=asyncio.subprocess.PIPE, stderr=asyncio.subprocess.PIPE,
+                start_new_session=True)
             await self._exchange(self._process, probe("opened"))    # its reply says that the store is open
         return self._process
 
