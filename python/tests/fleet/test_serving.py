@@ -69,6 +69,7 @@ def test_answers_come_from_a_copy(folder: Path, program: str) -> None:
             assert (await asking.get("/api/query", 404, stream="b", kind="sum"))["error"] == "unknown_stream"
             health = await asking.get("/healthz")
             assert health["status"] == "ok" and health["broker"].startswith("not connected")
+            assert health["names_refused"] == {}
             await asking.get("/api/append", 404)
             many = await asyncio.gather(*(asking.get("/api/windows", stream="a") for _ in range(20)))
             assert all(each == many[0] for each in many)

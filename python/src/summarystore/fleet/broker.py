@@ -13,6 +13,7 @@ from pika.adapters.asyncio_connection import AsyncioConnection
 from pika.exceptions import AMQPError
 
 from .errors import BrokerError
+from .deliveries import NAMED
 from .logs import Log
 
 log = logging.getLogger("summarystore.fleet")
@@ -156,6 +157,7 @@ async def keep_linked(urls: Sequence[str], work: Callable[[Link], Awaitable[None
         failures += 1
 
 
-def properties(sender: str, tag: int) -> Any:
-    """What goes with a message of frames."""
-    return pika.BasicProperties(delivery_mode=2, app_id=sender, message_id=str(tag))
+def properties(sender: str, tag: int, named: str = "") -> Any:
+    """What goes with a message of frames, of a stream with a long name also that."""
+    return pika.BasicProperties(delivery_mode=2, app_id=sender, message_id=str(tag),
+                                headers={NAMED: named} if named else None)

@@ -9,6 +9,10 @@ from zlib import crc32
 from .frames import SIZE, frames_in, name_of, number_of
 
 
+NAMED = "named"
+"""The header with the long name of a stream."""
+
+
 class Delivery(NamedTuple):
     """One message: frames of one stream with numbers one after the other."""
 
@@ -20,6 +24,8 @@ class Delivery(NamedTuple):
     """Of what is no message of a sender's it is empty."""
     first: int
     frames: bytes
+    named: str = ""
+    """What says the long name of the stream, where it has one."""
 
     @property
     def size(self) -> int:
@@ -49,7 +55,9 @@ def delivery_of(method: Any, properties: Any, body: bytes) -> Delivery:
     tag, offset = int(method.delivery_tag), offset_of(properties.headers)
     if frames is None:
         return Delivery(tag, offset, "", "", 0, b"")
-    return Delivery(tag, offset, str(properties.app_id or ""), name_of(frames), number_of(frames), frames)
+    named = (properties.headers or {}).get(NAMED)
+    return Delivery(tag, offset, str(properties.app_id or ""), name_of(frames), number_of(frames), frames,
+                    named if isinstance(named, str) else "")
 
 
 def offset_of(headers: Mapping[str, object] | None) -> int | None:

@@ -25,6 +25,7 @@ from .errors import BrokerError
 from .frames import SIZE
 from .gaps import Gap, Gaps, Step
 from .logs import STREAM, Log
+from .naming import TakenNames
 from .patience import Patience
 from .taking import MOST, Follow
 
@@ -63,6 +64,7 @@ class Follower:
         self._kind = kind
         self.follower = follower or _own_name(self.store.path)
         self._file = Path(f"{self.store.path}.position")
+        self.names = TakenNames(self.store.path)
         self._gaps = Gaps(self._stays)
         self._deliveries: deque[Delivery] = deque()
         self._held: dict[str, list[Delivery]] = {}
@@ -82,7 +84,7 @@ class Follower:
         """So many messages the queue had when it was asked, where none has come since."""
         self._pauses = 0
         self.version = 0
-        """Greater after each event that was done."""
+        """Greater after each event that was done, and each name that was kept."""
         self.put_aside = 0
         self.following = False
         """Whether its queue stands, and what comes is taken."""
@@ -229,8 +231,12 @@ class Follower:
         return found
 
     async def _do(self, link: Link, deliveries: Sequence[Delivery]) -> None:
-        """Gives frames to the store, and acknowledges what it has."""
+        """Gives frames to the store, and acknowledges what it has. Their names are on the disk by then."""
         ours = [delivery for delivery in deliveries if self._part.has(delivery.name)]
+        news = self.names.news((delivery.name, delivery.named) for delivery in ours)
+        if news:
+            await asyncio.to_thread(self.names.keep, news)
+            self.version += 1
         replies = deque(await self.store.take(b"".join(delivery.frames for delivery in ours)))
         self.trouble, self._pauses = "", 0
         done = []

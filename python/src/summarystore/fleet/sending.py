@@ -13,12 +13,17 @@ from typing import Any, Self
 
 from pika.exceptions import AMQPError
 
+from ..codec import Codec
+from ..description import description_of
+from ..errors import SummaryStoreError
+from ..names import Names
 from ..program import StorePath
 from .broker import Link, keep_linked, properties
 from .edge import Edge, Reply, Taken
 from .errors import BrokerError, SpoolError
 from .frames import message
 from .logs import Log
+from .naming import SentNames
 from .outgoing import Outgoing
 from .patience import Patience
 from .spool import LIMIT, Spool, write_whole
@@ -49,6 +54,7 @@ class Sender:
         self._program = program
         self._checked = checked
         self.outgoing = Outgoing(copies)
+        self._names = SentNames(path)
         self._patience = Patience()
         self._done = 0
         self._edge: Edge | None = None
@@ -79,6 +85,7 @@ class Sender:
             raise
 
     def _begin(self, edge: Edge) -> None:
+        self._names.look()
         needed = self._folder / "needed"
         for line in needed.read_text("utf-8").splitlines() if needed.exists() else ():
             name, first, until = line.split(" ")
@@ -114,6 +121,7 @@ class Sender:
         """Gives lines to the store. A reply that says `ok` comes when the frame is safe, too."""
         if self._edge is None:
             raise SpoolError("the sender is closed")
+        self._look_at_names()
         taken: Taken = await asyncio.to_thread(self._edge.take, list(lines))
         for frame in taken.frames:
             self.outgoing.add(frame)
@@ -122,6 +130,21 @@ class Sender:
             self._tell_needs()
         self._pump()
         return taken.replies
+
+    async def declare(self, name: str, **described: Any) -> Codec:
+        """Keeps the long name of a stream before it is made, with what `create` of a store takes: `scale`,
+        `unit` and so on. The codec has the short name for its lines, and makes the numbers in them of times
+        and values."""
+        names = Names(self._path)
+        names.learn((await self.take(["list"]))[0].rows)
+        return await asyncio.to_thread(names.declare, name, description_of(**described))
+
+    def _look_at_names(self) -> None:
+        """Where the names file is another one, it goes on with that. One that can't be understood is told."""
+        try:
+            self._names.look()
+        except (SummaryStoreError, OSError) as error:
+            log.error("names: reason=%s", error)
 
     async def drained(self, seconds: float) -> bool:
         """Waits until followers have all, for at most so long. Says whether they do."""
@@ -228,7 +251,8 @@ class Sender:
                 self._judged_at = self._sent_at[self._tag]
             try:
                 link.channel.basic_publish(self._log.entrance, piece.name, message(piece.frames),
-                                           properties(self._edge_name(), self._tag), mandatory=True)
+                                           properties(self._edge_name(), self._tag,
+                                                      self._names.text(piece.name)), mandatory=True)
             except AMQPError:
                 return      # the connection is ending, and what is under way goes again
 

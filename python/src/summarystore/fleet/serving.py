@@ -132,7 +132,8 @@ def endpoints(follower: Follower, copies: Copies) -> Sequence[Endpoint]:
         well = not follower.trouble
         return json_answer({"status": "ok" if well else "store_failed", "reason": follower.trouble,
                             "broker": follower.state, "gaps": follower.gaps, "needs": dict(follower.needs),
-                            "put_aside": follower.put_aside, "copied": copies.made}, 200 if well else 503)
+                            "put_aside": follower.put_aside, "names_refused": follower.names.refused,
+                            "copied": copies.made}, 200 if well else 503)
 
     return [*(Endpoint("GET", path, answering(path), Access.READ) for path in PATHS),
             Endpoint("GET", "/healthz", healthz, Access.OPEN)]
