@@ -20,8 +20,11 @@ from contextlib import suppress
 from dataclasses import dataclass
 from pathlib import Path
 
+from summarystore.description import Description
 from summarystore.fleet.broker import Link, keep_linked, properties
 from summarystore.fleet.logs import Log
+from summarystore.names import short_name
+from summarystore.namesfile import Described, read_names, write_names
 
 from ..conftest import HOME
 from ..waiting import TooLate, ended, joined, until
@@ -98,12 +101,19 @@ class Run:
         return status
 
 
+def named(store: Path) -> Described:
+    """What the names file of a store says."""
+    return read_names(f"{store}.names.json")
+
+
 class Edge:
-    """A store with streams of its own. It sends each line until it has a reply to it."""
+    """A store with streams of its own, half of them with long names. It sends each line until it has a reply
+    to it."""
 
     def __init__(self, number: int, size: Size, folder: Path, broker: Sequence[str]) -> None:
         self.store = folder / f"edge{number}.store"
         self.names = [f"e{number}.s{at}" for at in range(size.streams)]
+        self._name(number)
         self.lines = [f"create {name} {TARGETS[at % len(TARGETS)]}" for at, name in enumerate(self.names)]
         drawn = random.Random(number)
         self.lines += [f"append {name} {time} {drawn.randrange(-1000, 1000)}"
@@ -115,6 +125,16 @@ class Edge:
         self.status: int | None = None
         self._over = False
         self._thread = threading.Thread(target=self._live, daemon=True)
+
+    def _name(self, number: int) -> None:
+        """Gives every other stream a long name."""
+        described = {}
+        for at in range(0, len(self.names), 2):
+            name, description = f"edge {number}/stream {at}", Description(unit=f"{number}")
+            self.names[at] = short_name(name, description)
+            described[name] = self.names[at], description
+        self.store.touch()
+        write_names(f"{self.store}.names.json", described, str(self.store))
 
     def start(self) -> None:
         """Begins to send."""
@@ -270,14 +290,21 @@ class Chaos:
         until(lambda: not programs_of(replica.store))     # its program sees the end of its input
         if replica.store.exists():
             shutil.copyfile(replica.store, copy)
-            self.prefixes += self._are_prefixes(copy)
+            self.prefixes += self._are_prefixes(replica, copy)
             copy.unlink()
 
     # ---- what has to be -----------------------------------------------------------------
 
-    def _are_prefixes(self, store: Path) -> int:
+    def _are_named(self, replica: Replica, names: Sequence[str]) -> None:
+        """Each stream has the long name that it has at its edge."""
+        known = {name: entry for edge in self.edges for name, entry in named(edge.store).items()
+                 if entry[0] in names}
+        assert known.items() <= named(replica.store).items(), replica.store
+
+    def _are_prefixes(self, replica: Replica, store: Path) -> int:
         """Compares each stream of a store with that of a new one that was given the first events."""
         rows = asked(self.program, store, ["list"])[1:]
+        self._are_named(replica, [row.split(" ")[0] for row in rows])
         for row in rows:
             name, *_, values, _windows, _landmarks, _marked = row.split(" ")
             edge = next(edge for edge in self.edges if name in edge.names)
@@ -297,6 +324,7 @@ class Chaos:
             names = [row.split(" ")[0] for row in asked(self.program, replica.store, ["list"])[1:]]
             for name in names:
                 shards.setdefault(name, set()).add(replica.shard)
+            self._are_named(replica, names)
             self._same(replica, names)
         every = {name for edge in self.edges for name in edge.names}
         assert set(shards) == every and all(len(found) == 1 for found in shards.values())
