@@ -151,8 +151,28 @@ def test_two_streams_of_one_name(folder: Path, taken: TakenNames, caplog: pytest
     taken.keep(taken.news(other.items()))
     assert kept(folder) == described(ROOM)
     assert list(taken.refused) == [short(ROOM, "0.5")]
-    assert short(ROOM) in taken.refused[short(ROOM, "0.5")] and ROOM in caplog.text
+    assert "is another stream" in taken.refused[short(ROOM, "0.5")] and ROOM in caplog.text
     assert not taken.news(other.items())        # it is told once
+
+
+@pytest.mark.parametrize("when", ["stands", "comes first", "comes later", "comes with it"])
+def test_a_long_name_that_is_a_stream(folder: Path, taken: TakenNames, when: str) -> None:
+    """Who asks by that name means the stream that has it alone."""
+    came = [*written(folder / "edge.store", described("room", HALL)).items()]
+    if when == "stands":
+        taken.stand(["room"])
+    elif when == "comes first":
+        taken.keep(taken.news([("room", "")]))
+    taken.keep(taken.news([*came, ("room", "")] if when == "comes with it" else came))
+    if when == "comes later":
+        assert kept(folder) == described("room", HALL)
+        taken.keep(taken.news([("room", "")]))
+    assert kept(folder) == described(HALL) and list(taken.refused) == [short("room")]
+    assert not taken.news([*came, ("room", "")])
+    again = TakenNames(str(folder / "r.store"))
+    again.stand(["room", short("room"), short(HALL)])
+    again.keep(again.news(came))
+    assert kept(folder) == described(HALL) and list(again.refused) == [short("room")]
 
 
 def test_a_name_of_another_stream(folder: Path, taken: TakenNames) -> None:

@@ -96,8 +96,10 @@ class Follower:
     async def run(self) -> None:
         """Follows until it is cancelled."""
         self._offset = self._kept = self._read_position()
+        names = await self.store.names()
         if self._part.of > 1:
-            await self.store.drop([name for name in await self.store.names() if not self._part.has(name)])
+            await self.store.drop([name for name in names if not self._part.has(name)])
+        self.names.stand(filter(self._part.has, names))
         await self.store.take(b"")      # it is opened, and made where there is none
         try:
             await keep_linked(self._brokers, self._work, self._say)

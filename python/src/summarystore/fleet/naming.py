@@ -69,33 +69,58 @@ class TakenNames:
         self._file = f"{store}.names.json"
         self._described = read_names(self._file)
         self._texts: dict[str, str] = {}
+        self._streams: set[str] = set()
         self.refused: dict[str, str] = {}
         """The streams that go on by their short names, since what came can't be theirs, with the reason."""
 
+    def stand(self, names: Iterable[str]) -> None:
+        """Is told which streams stand: what is the name of one can't be the long name of another."""
+        self._streams.update(names)
+
     def news(self, came: Iterable[tuple[str, str]]) -> Mapping[str, str]:
-        """What came with frames of streams, without what is empty or came before."""
-        return {short: text for short, text in came if text and self._texts.get(short) != text}
+        """What came with frames of streams, without what came before. What is empty is news where the
+        stream's own name is the long name of another."""
+        found = {}
+        for short, text in came:
+            self._streams.add(short)
+            if self._texts.get(short) != text and (text or _stream_of(self._described, short) != short):
+                found[short] = text
+        return found
 
     def keep(self, news: Mapping[str, str]) -> None:
         """Brings news to the disk. What can't be the name of its stream is told."""
-        described, refused = dict(self._described), dict(self.refused)
-        names = {short: name for name, (short, _) in described.items()}
+        described = dict(self._described)
+        refused: dict[str, str] = {}
         for short, text in news.items():
-            refused.pop(short, None)
             try:
-                name, description = _named_in(short, text)
-                _refuse_another(described, names, short, name)
+                if text:
+                    self._put(described, short, *_named_in(short, text))
+                elif _stream_of(described, short) != short:
+                    refused[described.pop(short)[0]] = f"{short!r} is another stream"
             except SummaryStoreError as error:
                 refused[short] = str(error)
-                continue
-            described.pop(short, None)      # its long name was lost
-            described[name], names[short] = (short, description), name
         if described != self._described:
             write_names(self._file, described, self._store)
-        self._described, self.refused = described, refused
+        self._described = described
         self._texts.update(news)
-        for short in refused.keys() & news.keys():
-            log.error("name not taken: stream=%s reason=%s", short, refused[short])
+        self.refused = {short: why for short, why in self.refused.items() if short not in news} | refused
+        for short, why in refused.items():
+            log.error("name not taken: stream=%s reason=%s", short, why)
+
+    def _put(self, described: Described, short: str, name: str, description: Description) -> None:
+        """Puts a name among those that are known. A name has one stream, and a stream has one name."""
+        if name in self._streams or _stream_of(described, name) not in (name, short):
+            raise NameRefusedError(f"{name!r} is another stream")
+        known = next((each for each, (told, _) in described.items() if told == short), short)
+        if known not in (name, short):
+            raise NameRefusedError(f"it is {known!r}, and not {name!r}")
+        described.pop(short, None)      # its long name was lost
+        described[name] = short, description
+
+
+def _stream_of(described: Described, name: str) -> str:
+    """The stream that has this long name, or else the one of this name."""
+    return described[name][0] if name in described else name
 
 
 def _named_in(short: str, text: str) -> tuple[str, Description]:
@@ -110,11 +135,3 @@ def _named_in(short: str, text: str) -> tuple[str, Description]:
     if not isinstance(name, str) or not is_text(name) or meaning is None or meaning[0] != hash_of(name):
         raise NameRefusedError(f"{short} isn't the short name of {name!r}")
     return name, Description(*meaning[1][:3], *given[3:])
-
-
-def _refuse_another(described: Described, names: Mapping[str, str], short: str, name: str) -> None:
-    """A long name has one stream, and a stream has one long name."""
-    if name in described and described[name][0] != short:
-        raise NameRefusedError(f"{name!r} is the name of {described[name][0]}")
-    if names.get(short, name) not in (name, short):
-        raise NameRefusedError(f"{names[short]!r} is its name, and not {name!r}")
