@@ -241,7 +241,7 @@ STATUSES: dict[int, list[type[ProcessEndedError]]] = {}
 
 
 class UsageError(ProcessEndedError, status=2):
-    """The program doesn't know the mode `sessions`, so it is an older one."""
+    """The program doesn't know the mode `sessions` or the option `--checked`, so it is an older one."""
 
 
 class DamagedStoreError(ProcessEndedError, status=3):
