@@ -7,7 +7,7 @@ ENTRY, ENTRIES, ENTRY_SIZE = 512, 64, 544
 FIRST_SLOT, SLOT, SLOTS = 36864, 128, 2**20
 LAST_POSITION, LAST_TIME = 2**40, 2**62
 FULL = 2**256 - 1
-MAGIC, OPEN, FREE = b"SSTORE01", 0xA5, bytes(SLOT)
+PLAIN, CHECKED, OPEN, FREE = b"SSTORE01", b"SSTORE02", 0xA5, bytes(SLOT)
 NAME_BYTES = b"ABCDEFGHIJKLMNOPQRSTUVWXYZabcdefghijklmnopqrstuvwxyz0123456789_-."
 
 
@@ -19,12 +19,85 @@ class Holds(Exception):
     """A file that isn't formatted, but holds something where slots lie: the program refuses it before it looks further."""
 
 
+# Checks. In a checked store the last four bytes of a record, and of an entry, are xor-ed with a CRC-32C of their number and of what
+# is before them. Without it they are in plain form.
+
+
+def table_row(byte):
+    """What the CRC-32C makes of a byte: eight steps of division by the polynomial, lowest bits first."""
+    for _ in range(8):
+        byte = byte >> 1 ^ (0x82F63B78 if byte & 1 else 0)
+    return byte
+
+
+TABLE = [table_row(byte) for byte in range(256)]
+
+
+def crc32c(content):
+    crc = 0xFFFFFFFF
+    for byte in content:
+        crc = TABLE[(crc ^ byte) & 0xFF] ^ crc >> 8
+    return crc ^ 0xFFFFFFFF
+
+
+def with_check(number, content, start=0):
+    """Bytes of a checked store made plain, or plain ones made checked: the last four xor-ed with the check of those from `start` on."""
+    check = crc32c(number.to_bytes(4, "big") + content[start:-4])
+    last = int.from_bytes(content[-4:], "little") ^ check
+    return content[:-4] + last.to_bytes(4, "little")
+
+
+def slot_with_check(n, content):
+    """A slot of a checked store made plain, or the other way. One whose byte 0 is 0 has no check."""
+    return with_check(n, content) if content[0] else content
+
+
+def entry_with_check(n, content):
+    """An entry of a checked store made plain, or the other way. Its gate isn't under the check."""
+    return with_check(n, content, 1)
+
+
+def is_checked(image):
+    return image[1:9] == CHECKED
+
+
+def slot_at(image, n):
+    """A slot of the file in plain form."""
+    content = image[FIRST_SLOT + SLOT * n : FIRST_SLOT + SLOT * (n + 1)]
+    return slot_with_check(n, content) if is_checked(image) else content
+
+
+def entry_at(image, n):
+    """An entry of the file in plain form."""
+    content = image[ENTRY + ENTRY_SIZE * n : ENTRY + ENTRY_SIZE * (n + 1)]
+    return entry_with_check(n, content) if is_checked(image) else content
+
+
+def slot_count(image):
+    return max(0, min((len(image) - FIRST_SLOT) // SLOT, SLOTS))
+
+
+def other_kind(image):
+    """A formatted plain store as a checked one of the same content, and a checked one as a plain one. Entries that were never
+    written stay zeros."""
+    made = bytearray(image)
+    made[1:9] = PLAIN if is_checked(image) else CHECKED
+    for n in range(ENTRIES):
+        at = ENTRY + ENTRY_SIZE * n
+        if any(made[at + 1 : at + ENTRY_SIZE - 4]):
+            made[at : at + ENTRY_SIZE] = entry_with_check(n, bytes(made[at : at + ENTRY_SIZE]))
+    for n in range(slot_count(image)):
+        at = FIRST_SLOT + SLOT * n
+        made[at : at + SLOT] = slot_with_check(n, bytes(made[at : at + SLOT]))
+    return bytes(made)
+
+
 # The map of slots.
 
 
 def is_formatted(image):
     """Whether the file is formatted or not; one that is neither is refused."""
-    has_magic = image[1:9] == MAGIC
+    has_magic = image[1:9] in (PLAIN, CHECKED)
     if len(image) < 2 or image[0] == 0 or (has_magic and image[0] != OPEN):
         return False
     if len(image) >= FIRST_SLOT and has_magic and image[0] == OPEN:
@@ -51,13 +124,11 @@ def puts_of(entry, extent):
 
 def slots_of(image):
     """The slots below the extent, with the puts of the entries in use over them."""
-    extent = min((len(image) - FIRST_SLOT) // SLOT, SLOTS)
-    slots = [image[FIRST_SLOT + SLOT * n : FIRST_SLOT + SLOT * (n + 1)] for n in range(extent)]
+    slots = [slot_at(image, n) for n in range(slot_count(image))]
     for n in range(ENTRIES):
-        entry = image[ENTRY + ENTRY_SIZE * n : ENTRY + ENTRY_SIZE * (n + 1)]
-        if entry[0] != OPEN:
+        if image[ENTRY + ENTRY_SIZE * n] != OPEN:
             break
-        found = puts_of(entry, len(slots))
+        found = puts_of(entry_at(image, n), len(slots))
         if found is None:
             raise Refused(f"damaged entry {n}")
         for slot, bytes in found[0]:
