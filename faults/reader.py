@@ -19,7 +19,7 @@ class Holds(Exception):
     """A file that isn't formatted, but holds something where slots lie: the program refuses it before it looks further."""
 
 
-# Checks. In a checked store the last four bytes of a record, and of an entry, are xor-ed with a CRC-32C of their number and of what
+# Checksums. In a checked store the last four bytes of a record, and of an entry, are xor-ed with a CRC-32C of their number and of what
 # is before them. Without it they are in plain form.
 
 
@@ -40,21 +40,21 @@ def crc32c(content):
     return crc ^ 0xFFFFFFFF
 
 
-def with_check(number, content, start=0):
-    """Bytes of a checked store made plain, or plain ones made checked: the last four xor-ed with the check of those from `start` on."""
-    check = crc32c(number.to_bytes(4, "big") + content[start:-4])
-    last = int.from_bytes(content[-4:], "little") ^ check
+def with_checksum(number, content, start=0):
+    """Bytes of a checked store made plain, or plain ones made checked: the last four xor-ed with the checksum of those from `start` on."""
+    checksum = crc32c(number.to_bytes(4, "big") + content[start:-4])
+    last = int.from_bytes(content[-4:], "little") ^ checksum
     return content[:-4] + last.to_bytes(4, "little")
 
 
-def slot_with_check(n, content):
-    """A slot of a checked store made plain, or the other way. One whose byte 0 is 0 has no check."""
-    return with_check(n, content) if content[0] else content
+def slot_with_checksum(n, content):
+    """A slot of a checked store made plain, or the other way. One whose byte 0 is 0 has no checksum."""
+    return with_checksum(n, content) if content[0] else content
 
 
-def entry_with_check(n, content):
-    """An entry of a checked store made plain, or the other way. Its gate isn't under the check."""
-    return with_check(n, content, 1)
+def entry_with_checksum(n, content):
+    """An entry of a checked store made plain, or the other way. Its gate isn't under it."""
+    return with_checksum(n, content, 1)
 
 
 def is_checked(image):
@@ -64,13 +64,13 @@ def is_checked(image):
 def slot_at(image, n):
     """A slot of the file in plain form."""
     content = image[FIRST_SLOT + SLOT * n : FIRST_SLOT + SLOT * (n + 1)]
-    return slot_with_check(n, content) if is_checked(image) else content
+    return slot_with_checksum(n, content) if is_checked(image) else content
 
 
 def entry_at(image, n):
     """An entry of the file in plain form."""
     content = image[ENTRY + ENTRY_SIZE * n : ENTRY + ENTRY_SIZE * (n + 1)]
-    return entry_with_check(n, content) if is_checked(image) else content
+    return entry_with_checksum(n, content) if is_checked(image) else content
 
 
 def slot_count(image):
@@ -85,10 +85,10 @@ def other_kind(image):
     for n in range(ENTRIES):
         at = ENTRY + ENTRY_SIZE * n
         if any(made[at + 1 : at + ENTRY_SIZE - 4]):
-            made[at : at + ENTRY_SIZE] = entry_with_check(n, bytes(made[at : at + ENTRY_SIZE]))
+            made[at : at + ENTRY_SIZE] = entry_with_checksum(n, bytes(made[at : at + ENTRY_SIZE]))
     for n in range(slot_count(image)):
         at = FIRST_SLOT + SLOT * n
-        made[at : at + SLOT] = slot_with_check(n, bytes(made[at : at + SLOT]))
+        made[at : at + SLOT] = slot_with_checksum(n, bytes(made[at : at + SLOT]))
     return bytes(made)
 
 
