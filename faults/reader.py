@@ -368,14 +368,19 @@ class Held:
 
 
 def streams_of(image):
-    """The streams for which a file stands, in order, their windows joined where they are due. One that is dropped
-    doesn't count. Raises `Refused`, or `Holds`."""
-    if not is_formatted(image):
-        if any(image[FIRST_SLOT:]):
-            raise Holds()
-        return []
+    """The streams for which a file stands. Raises `Refused`, or `Holds`."""
+    if is_formatted(image):
+        return streams_in(slots_of(image))
+    if any(image[FIRST_SLOT:]):
+        raise Holds()
+    return []
+
+
+def streams_in(slots):
+    """The streams for which slots in plain form stand, in order, their windows joined where they are due. One that is dropped
+    doesn't count. Raises `Refused`."""
     held = {}
-    for n, bytes in enumerate(slots_of(image)):
+    for n, bytes in enumerate(slots):
         if bytes == FREE:
             continue
         record = record_in(bytes)
