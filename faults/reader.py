@@ -330,11 +330,14 @@ class Held:
     def add(self, record):
         {Stream: self.streams, Window: self.windows, Landmark: self.landmarks, Value: self.values}[type(record)].append(record)
 
-    def is_sound(self, earlier):
-        """Whether the conditions are met, after stream records with these names."""
+    def sort(self):
         self.windows.sort(key=lambda window: window.first)
         self.landmarks.sort(key=lambda mark: mark.own)
         self.values.sort(key=lambda value: (value.landmark, value.index))
+
+    def is_sound(self, earlier):
+        """Whether the conditions are met, after stream records with these names."""
+        self.sort()
         if len(self.streams) != 1 or len(earlier) > 4095 or self.streams[0].name in earlier:
             return False
         if self.streams[0].dropped:
