@@ -29,6 +29,7 @@ faults: ## tries the program that was built last on files while something goes w
 	@faults/images $(PROGRAM)
 	@faults/flips $(PROGRAM)
 	@faults/damage $(PROGRAM) 10000
+	@faults/bits $(PROGRAM) 100
 	@faults/memory $(PROGRAM)
 
 python: ## tries the Python package over the program that was built last: python/README.md
@@ -54,6 +55,7 @@ bench: ## times the programs that were built last: bench/README.md
 	@bench/durable $(PROGRAM)
 	@bench/appends $(PROGRAM)
 	@bench/drops $(PROGRAM)
+	@bench/checked $(PROGRAM)
 	@bench/queries $(PROGRAM)
 	@bench/presence $(PROGRAM)
 	@bench/guesses $(PROGRAM)
