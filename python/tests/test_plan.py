@@ -148,6 +148,26 @@ def test_no_smaller_one_is_missed() -> None:
     assert planner.plan().choices[0].records == best
 
 
+def test_steps_take_windows() -> None:
+    """Within a step there are two windows more for each further one, and widths are those of the target."""
+    wish = Wish.of("day after 1y within 5%")
+    plain, stepped = Planner(MINUTES, [wish]), Planner(MINUTES, [wish], within=DAY)
+    assert (plain.steps, stepped.steps) == (1, 3654)
+    for target in (Target.of("exp 2 60 1"), Target.of("power 1 1 4 1")):
+        one, other = plain.choice(target), stepped.choice(target)
+        assert other.windows == one.windows + 2 * 3653 and other.halves == one.halves
+        assert other.bytes == bytes_of(1 + (1 + other.windows))
+    assert all(choice.windows > 2 * 3653 for choice in stepped.plan().choices)
+    few = Planner(MINUTES, [wish], streams=100, within=DAY).plan()
+    assert few.why and few.larger and f"{few.larger.records:,}" in few.why
+    hours = Readings(Fraction(3600), 2 * DAY)
+    short = Planner(hours, [Wish.of("day after 1h within 50")], within=Fraction(60))
+    assert short.choice(Target.of("exp 2 1 1")).windows == 2 * (6 + 48 - 1) - 1
+    for wrong in (Fraction(0), Fraction(-1)):
+        with pytest.raises(SourceError):
+            Planner(MINUTES, [wish], within=wrong)
+
+
 def test_what_cannot_be_met() -> None:
     tight = Planner(MINUTES, [Wish.of("day after 1y within 5%")], most_bytes=10**6).plan()
     assert tight.why and tight.larger and tight.nearest and not tight.choices
@@ -225,6 +245,14 @@ def test_the_command(folder: Path, capsys: pytest.CaptureFixture[str]) -> None:
     assert plan.main([*words, "--bytes", "1MB", "--plot", str(folder / "near.svg")]) == 1
     said = capsys.readouterr().out
     assert "no target surely meets this" in said and "comes nearest" in said
+    assert plan.main([*words, "--within", "day", "--show", "1"]) == 0
+    first_line, *_, row = capsys.readouterr().out.splitlines()
+    assert first_line.endswith(", no window across a multiple of day")
+    assert int(row.split()[4].replace(",", "")) > 2 * 3653
+    assert plan.main([*words, "--within", "1.5h", "--json"]) == 0
+    assert json.loads(capsys.readouterr().out)["step"] == "5400" and facts["step"] is None
+    assert plan.main([*words, "--within", "0s"]) == 2
+    assert "no step" in capsys.readouterr().err
     assert plan.main([*words, "--plot", str(folder / "wide.xyz")]) == 3
     assert plan.main([*words[:-1], "day after 1y"]) == 2
     assert "not a wish" in capsys.readouterr().err
@@ -232,18 +260,24 @@ def test_the_command(folder: Path, capsys: pytest.CaptureFixture[str]) -> None:
 
 # ---- the program -------------------------------------------------------------------------
 
-@pytest.mark.parametrize("text, streams_", [("exp 2 1 1", 3), ("power 1 1 4 1", 1), ("exp 3 5 2", 2),
-                                            ("power 2 3 1 7", 1)])
-def test_the_file_is_no_longer_than_told(store: Store, path: Path, text: str, streams_: int) -> None:
+@pytest.mark.parametrize("text, within, streams_", [
+    ("exp 2 1 1", None, 3), ("power 1 1 4 1", None, 1), ("exp 3 5 2", None, 2), ("power 2 3 1 7", None, 1),
+    ("exp 2 1 1", 24, 2), ("power 1 1 4 1", 10, 1), ("exp 2 1 1", 1, 1), ("exp 16 1 60", 365, 1)])
+def test_the_file_is_no_longer_than_told(store: Store, path: Path, text: str, within: int | None,
+                                         streams_: int) -> None:
     """Up to each of some numbers of values, where the windows are those of the definition."""
     target = Target.of(text)
     names, taken = [f"s{number}" for number in range(streams_)], 0
+    steps = [time // within if within else 0 for time in range(1, 398)]
+    defined = list(defined_boundaries(target, 397, steps))
     for name in names:
-        store.create(name, text)
+        store.create(name, text, within)
     for values in (1, 2, 5, 40, 397):
         for name in names:
             store.append_many(name, [(time, time % 7) for time in range(taken + 1, values + 1)])
         taken = values
-        assert {stream.windows for stream in store.list()} == {len(boundaries(target, values)) + 1}
-        assert len(boundaries(target, values)) < target.most_windows(values)
-        assert os.path.getsize(path) <= bytes_of(records_of(target, values, streams_))
+        met = len(set(steps[:values]))
+        assert {stream.windows for stream in store.list()} == {len(defined[values - 1]) + 1}
+        assert within or len(defined[values - 1]) == len(boundaries(target, values))
+        assert len(defined[values - 1]) < target.most_windows(values, met)
+        assert os.path.getsize(path) <= bytes_of(records_of(target, values, streams_, met))

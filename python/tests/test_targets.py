@@ -2,13 +2,16 @@
 
 from __future__ import annotations
 
-from itertools import islice
+from collections.abc import Sequence
+from fractions import Fraction
+from itertools import accumulate, islice
 
 import pytest
-from hypothesis import given
+from hypothesis import given, settings
 from hypothesis import strategies as st
 
 from summarystore.targets import GREATEST, Target, boundaries, defined_boundaries, power_sum
+from summarystore.wishes import Readings
 
 small = st.one_of(
     st.builds(lambda *numbers: Target("exp", numbers), st.integers(2, 16), st.integers(1, 9),
@@ -64,6 +67,31 @@ def test_more_windows_in_a_group(target: Target, age: int, repeat: int) -> None:
     one, more = (Target(target.family, (*shape, number, scale)) for number in sorted((fewer, repeat)))
     assert more.length_at(age) <= one.length_at(age)
     assert more.cover(age) >= one.cover(age)
+
+
+@settings(max_examples=50)
+@given(small, st.lists(st.integers(1, 9), min_size=1, max_size=120), st.integers(0, 30), st.integers(1, 30))
+def test_what_stands_within_steps(target: Target, gaps: Sequence[int], start: int, within: int) -> None:
+    """No window crosses a multiple of the step, none is longer than without it, and how many there are."""
+    times = list(accumulate(gaps, initial=start))
+    steps = [time // within for time in times]
+    for values, ends in enumerate(defined_boundaries(target, len(times), steps), 1):
+        met = len(set(steps[:values]))
+        span = Fraction(times[values - 1] - start + 1)
+        assert met <= Readings(Fraction(min(gaps)), span).steps(Fraction(within))
+        assert len(ends) + 1 <= target.most_windows(values, met) <= target.most_windows(values + 1, met)
+        assert target.most_windows(values, met) <= target.most_windows(values, met + 1)
+        for before, end in zip([0, *ends], [*ends, values]):
+            assert steps[before] == steps[end - 1] and end - before <= target.length_at(values - end)
+
+
+def test_rows_of_steps() -> None:
+    """Two windows more for each further step, and no more steps than values."""
+    target = Target.of("exp 2 1 1")
+    assert [target.most_windows(7, steps) for steps in (1, 2, 7, 8)] == [5, 7, 17, 17]
+    assert [target.most_windows(values, 3) for values in (0, 1, 2)] == [0, 1, 5]
+    day = Readings(Fraction(60), Fraction(86400))
+    assert [day.steps(Fraction(step)) for step in (86400, 86399, 43200, 3600)] == [2, 3, 3, 25]
 
 
 @given(small)

@@ -33,6 +33,9 @@ told: no window is longer than the target's at its age, which is reckoned by the
 above the closed forms of the guide. What no wish is about may be wide, the recent past too. The least
 R is told, so each greater one does as well, and takes more.
 
+With --within windows get no longer, and two more may stand for each further step that has readings. A
+range of whole steps is then known exactly, which no wish asks for.
+
 Ends with 0 where a target meets all wishes, with 1 where none does, and with 2 where something that was
 given has no meaning."""
 
@@ -59,8 +62,8 @@ def shown(number: Fraction) -> str:
 class Report:
     """A plan in words."""
 
-    def __init__(self, planner: Planner, plan: Plan, every: str) -> None:
-        self.planner, self.plan, self.every = planner, plan, every
+    def __init__(self, planner: Planner, plan: Plan, every: str, within: str | None = None) -> None:
+        self.planner, self.plan, self.every, self.within = planner, plan, every, within
 
     def half(self, choice: Choice, at: int) -> str:
         """How far the middle is from the truth at most, and beside it which part of the truth that is."""
@@ -77,7 +80,8 @@ class Report:
         """All that is told."""
         planner, plan = self.planner, self.plan
         each = f"{planner.streams:,} streams of " if planner.streams > 1 else ""
-        yield f"{each}{planner.readings.count:,} readings, at most one each {self.every}"
+        step = "" if self.within is None else f", no window across a multiple of {self.within}"
+        yield f"{each}{planner.readings.count:,} readings, at most one each {self.every}{step}"
         for number, (wish, allowed) in enumerate(zip(planner.wishes, planner.allowed), 1):
             given = f": {shown(allowed)} of {shown(wish.truth(planner.readings))}" if wish.share else ""
             yield f"wish {number}: {wish.text}{given}"
@@ -100,8 +104,9 @@ class Report:
         wishes = [{"wish": wish.text, "kind": wish.kind, "within": str(allowed),
                    "truth": str(wish.truth(planner.readings))}
                   for wish, allowed in zip(planner.wishes, planner.allowed)]
-        return {"readings": planner.readings.count, "streams": planner.streams, "wishes": wishes,
-                "met": plan.why is None, "why": plan.why,
+        step = None if self.within is None else str(span_of(self.within))
+        return {"readings": planner.readings.count, "streams": planner.streams, "step": step,
+                "wishes": wishes, "met": plan.why is None, "why": plan.why,
                 "targets": [_facts(choice) for choice in plan.choices],
                 "larger": _facts(plan.larger), "nearest": _facts(plan.nearest)}
 
@@ -178,6 +183,7 @@ def arguments() -> argparse.ArgumentParser:
     add("--bytes", metavar="N", help="the most that the file may take, as 5MB (default: what a store has)")
     add("--range", nargs=2, metavar=("LO", "HI"), help="the least and the greatest value; for sums and means")
     add("--wish", action="append", default=[], metavar="WISH", help="what is to be known; may come again")
+    add("--within", metavar="SPAN", help="no window crosses a multiple of it, as day: create .. within E")
     add("--scale", type=int, metavar="S", help="tries this S alone, as 1: the newest readings one by one")
     add("--show", type=int, default=SHOWN, metavar="N", help=f"how many targets at most (default: {SHOWN})")
     add("--json", action="store_true", help="writes all of them as JSON")
@@ -191,7 +197,8 @@ def planner_of(words: argparse.Namespace) -> Planner:
     seconds = number_of(words.years) * span_of("year")
     readings = Readings(every_of(words.every), seconds, values)
     most = None if words.bytes is None else bytes_of(words.bytes)
-    return Planner(readings, [Wish.of(text) for text in words.wish], words.streams, most, words.scale)
+    within = None if words.within is None else span_of(words.within)
+    return Planner(readings, [Wish.of(text) for text in words.wish], words.streams, most, words.scale, within)
 
 
 def main(given: Sequence[str] | None = None) -> int:
@@ -203,7 +210,7 @@ def main(given: Sequence[str] | None = None) -> int:
         print(f"summarystore-plan: {error}", file=sys.stderr)
         return 2
     plan = planner.plan()
-    report = Report(planner, plan, words.every)
+    report = Report(planner, plan, words.every, words.within)
     if words.json:
         print(json.dumps(report.facts(), indent=2))
     else:

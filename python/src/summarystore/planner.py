@@ -36,10 +36,10 @@ def _scales() -> Iterator[int]:
 SCALES = sorted(set(_scales()))
 
 
-def records_of(target: Target, values: int, streams: int) -> int:
-    """No more records stand at any moment, up to so many values of each stream: one of each stream, those
-    of its windows, and the window of one more value before it is joined."""
-    return streams * (1 + target.most_windows(values)) + 1
+def records_of(target: Target, values: int, streams: int, steps: int = 1) -> int:
+    """No more records stand at any moment, up to so many values of each stream in so many steps: one of
+    each stream, those of its windows, and the window of one more value before it is joined."""
+    return streams * (1 + target.most_windows(values, steps)) + 1
 
 
 def bytes_of(records: int) -> int:
@@ -76,19 +76,24 @@ class Plan:
 
 
 class Planner:
-    """Some streams of the same readings, the wishes, and how many records there may be."""
+    """Some streams of the same readings, the wishes, and how many records there may be; and the seconds
+    of a step, where no window crosses a multiple of it."""
 
     def __init__(self, readings: Readings, wishes: Sequence[Wish], streams: int = 1,
-                 most_bytes: int | None = None, scale: int | None = None) -> None:
+                 most_bytes: int | None = None, scale: int | None = None,
+                 within: Fraction | None = None) -> None:
         if not 1 <= streams <= MOST_STREAMS:
             raise SourceError(f"a store has 1 to {MOST_STREAMS:,} streams")
         if not wishes:
             raise SourceError("nothing is wished: --wish 'day after 1y within 5%'")
         if scale is not None and not 1 <= scale <= GREATEST:
             raise SourceError(f"S is 1 to {GREATEST:,}")
+        if within is not None and within <= 0:
+            raise SourceError("no step is so short: --within day")
         for wish in wishes:
             wish.check(readings)
         self.readings, self.wishes, self.streams = readings, tuple(wishes), streams
+        self.steps = 1 if within is None else readings.steps(within)
         room = MOST_RECORDS if most_bytes is None else (most_bytes - EMPTY_FILE) // RECORD
         self.room = min(MOST_RECORDS, room)
         self.scales = SCALES if scale is None else [scale]
@@ -97,7 +102,7 @@ class Planner:
     def choice(self, target: Target) -> Choice:
         """What a target keeps to."""
         values = self.readings.count
-        return Choice(target, target.most_windows(values), records_of(target, values, self.streams),
+        return Choice(target, target.most_windows(values, self.steps), self._records(target),
                       tuple(wish.half(target, self.readings) for wish in self.wishes))
 
     def meets(self, target: Target) -> bool:
@@ -107,7 +112,10 @@ class Planner:
 
     def has_room(self, target: Target) -> bool:
         """Whether the records are no more than there may be."""
-        return records_of(target, self.readings.count, self.streams) <= self.room
+        return self._records(target) <= self.room
+
+    def _records(self, target: Target) -> int:
+        return records_of(target, self.readings.count, self.streams, self.steps)
 
     def plan(self) -> Plan:
         """All that meet the wishes, one of each shape: exp B, or power P Q."""

@@ -119,9 +119,10 @@ class Target(NamedTuple):
         group = self.group_at(values - 1)
         return self.windows_before(group) + (values - 1 - self.start(group)) // self.length(group) + 1
 
-    def most_windows(self, values: int) -> int:
-        """No more windows than these stand after so many values, nor after fewer."""
-        return max(0, 2 * self.cover(values) - 1)
+    def most_windows(self, values: int, steps: int = 1) -> int:
+        """No more windows than these stand after so many values, nor after fewer, where their times lie in
+        no more steps of `within` than these. Without it they lie in one."""
+        return max(0, 2 * (self.cover(values) + min(steps, values) - 1) - 1)
 
     def length_by_form(self, age: int) -> int:
         """No target window at this age is longer: by the closed form."""
@@ -174,9 +175,10 @@ def boundaries(target: Target, values: int) -> Sequence[int]:
     return sorted(ends)
 
 
-def defined_boundaries(target: Target, values: int) -> Iterator[Sequence[int]]:
+def defined_boundaries(target: Target, values: int, steps: Sequence[int] | None = None) \
+        -> Iterator[Sequence[int]]:
     """The boundaries after each count of values, by the definition: what stands side by side in one
-    target window is joined."""
+    target window is joined, where it lies in one step too. The steps are those of the values."""
     starts = [0]
     for number, length in target.groups():
         starts += [starts[-1] + length * i for i in range(1, number + 1)]
@@ -187,7 +189,8 @@ def defined_boundaries(target: Target, values: int) -> Iterator[Sequence[int]]:
         tried, ends, first = ends + [now - 1] * (now > 1), [], 1
         for at, end in enumerate(tried):
             last = tried[at + 1] if at + 1 < len(tried) else now
-            if bisect_right(starts, now - first) != bisect_right(starts, now - last):
+            apart = steps is not None and steps[first - 1] != steps[last - 1]
+            if apart or bisect_right(starts, now - first) != bisect_right(starts, now - last):
                 ends.append(end)
                 first = end + 1
         yield ends

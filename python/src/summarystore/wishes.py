@@ -78,6 +78,10 @@ class Readings:
         """How many lie at most in a span, one of its ends included."""
         return math.ceil(seconds / self.every)
 
+    def steps(self, within: Fraction) -> int:
+        """In how many steps of so many seconds they lie at most: the first may begin in the middle of one."""
+        return math.ceil(self.seconds / within) + 1
+
     @property
     def distance(self) -> Fraction:
         """From the lesser of 0 and the least value to the greater of 0 and the greatest."""
