@@ -8,6 +8,7 @@ pub mod GreaterLemmas
 pub mod LesserLemmas
 pub mod PartLemmas
 pub mod PowerMeasures
+pub mod RoomLemmas
 pub mod RowLemmas
 pub mod SideLemmas
 pub mod SizeLemmas

@@ -1,5 +1,5 @@
 -- The definitions of ages, of parts of a range and of sizes at some rows, and where the laws leave no room.
-use Rattle.std.proofs.Common.{◌≡◌, ◌+◌, ◌-◌, ◌*◌, [], ◌∷◌, arith, true, false, refl}
+use Rattle.std.proofs.Common.{◌≡◌, ◌+◌, ◌-◌, ◌*◌, [], ◌∷◌, Some, arith, true, false, refl}
 use Rattle.std.specs.Prelude.{List, max, pos}
 use Rattle.std.proofs.lemmas.Int.{ints}
 use Rattle.ss_bounds.specs.Several.{greatest_of_all, least_of_all, sum_of_counts, sum_of_sums}
@@ -11,7 +11,8 @@ use Rattle.ss_catalog.specs.declared.query.Kind.TheVariants as kinds
 use Rattle.ss_catalog.specs.declared.series.Series.{Series}
 use Rattle.ss_measures.specs.Ages.{cuts, open_at, values_since}
 use Rattle.ss_measures.specs.Parts.{IsCountWithin, IsExtremeWithin, IsSumWithin, count_of, greatest_of, least_of, of_rows, sum_of}
-use Rattle.ss_model.specs.State.{Stream, records_of}
+use Rattle.ss_model.specs.State.{Stream, live, records_of}
+use Rattle.ss_model.specs.declared.types.TheConstants.{MOST_RECORDS}
 use Rattle.ss_model.specs.Decay.{cover, steps_met}
 use Rattle.ss_target.specs.Rule.{Rule, without_step}
 use Rattle.ss_model.specs.Windows.{windows}
@@ -223,3 +224,17 @@ records-one_minute = refl
 records-minutes : records_of (record one { windows = windows within_minutes seven }) ≡ records_of one + 1
 unfolding window_index
 records-minutes = refl
+
+-- two streams without a value need one record each, and a landmark with a value two more: the bounds of whole stores
+live-none : live (record one { windows = [] } ∷ record one { windows = [] } ∷ []) ≡ 2 * (max 1 (2 * 0) + 0)
+live-none = refl
+
+live-marked : live (record one {
+  windows = [];
+  landmarks = record { start = 10; finish = Some 20; values = record { t = 11; v = pos 1 } ∷ [] } ∷ [];
+} ∷ []) ≡ 1 * (max 1 (2 * 0) + 2)
+live-marked = refl
+
+-- as many records as a store has
+most_records : MOST_RECORDS ≡ 1048576
+most_records = refl

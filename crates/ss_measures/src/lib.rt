@@ -6,6 +6,7 @@ mod exp_laws;
 mod laws;
 mod part_laws;
 mod power_laws;
+mod room_laws;
 mod size_laws;
 
 pub use exp_laws::{exp_lengths_grow_with_age, exp_windows_are_few};
@@ -14,4 +15,5 @@ pub use part_laws::{
     exact_rows_add_up, ranges_lie_within_their_parts, ranges_lie_within_their_rows,
 };
 pub use power_laws::{power_lengths_grow_with_age, power_windows_are_few};
+pub use room_laws::{small_stores_have_room, stores_are_small};
 pub use size_laws::{records_are_few, slots_are_few};
