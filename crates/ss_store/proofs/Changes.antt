@@ -28,7 +28,7 @@ IsRecord-put : (slot : ℕ) (r : Record) → IsTrue (is_valid r) → r ≢ Free 
 IsRecord-put slot r valid some = record { spelled = record { valid = valid; spelled = refl }; some = some }
 
 -- the map that records show which are kept: its extent is theirs, and a slot that isn't live is zeros
-extent-kept : (records : RecordsState) (content : List ℕ) (found : SlotMap) → AreKept records content → StandsFor (shown_by records content) found →
+pub extent-kept : (records : RecordsState) (content : List ℕ) (found : SlotMap) → AreKept records content → StandsFor (shown_by records content) found →
     found.extent ≡ records.journal.extent
 extent-kept records content found kept is =
     let its = kept.journal.shown.found in

@@ -74,3 +74,5 @@ pub mod Dropped
 pub mod KeyedWindows
 pub mod Rising
 pub mod IndexedStreams
+mod Extents
+mod ExtentRows

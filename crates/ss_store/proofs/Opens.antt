@@ -1,5 +1,5 @@
 -- What opening reads, and what it leaves of the disk.
-use Rattle.std.proofs.Common.{◌≡◌, ℕ, List, flat_map, zip, refl, ap, subst, sym, ◌∙◌, Result, Ok, Err}
+use Rattle.std.proofs.Common.{◌≡◌, ◌≤◌, ℕ, List, arith, flat_map, zip, refl, ap, subst, sym, ◌∙◌, Result, Ok, Err}
 use Rattle.std.specs.Prelude.{IsErr}
 use Rattle.ss_outside.specs.Crash.{KnowsNow, OnlyReads}
 use Rattle.ss_outside.specs.Disk.{Told}
@@ -38,6 +38,7 @@ use Rattle.ss_store.specs.declared.error.OpenError.{OpenError}
 use Rattle.ss_query.specs.declared.read_error.ReadError.{ReadError}
 use Rattle.ss_query.specs.declared.read_error.ReadError.TheVariants as fault
 use Rattle.ss_store.proofs.Among.{Recovers-held, recover-StandsFor}
+use Rattle.ss_store.proofs.Changes.{extent-kept}
 use Rattle.ss_store.proofs.Calls.{Turns-answers, Turns-failed, Turns-reads, Turns-then, Turns-weaker}
 use Rattle.ss_store.proofs.ClosingAll.{IsState-closed_state, closed_state-again}
 use Rattle.ss_store.proofs.KeptStates.{Recovers-same}
@@ -98,6 +99,12 @@ StandsFor-kept records content kept sealed =
     let found = kept.journal.shown.found in
     subst (λ (image : List ℕ). StandsFor image found) (shown-sealed records.journal content sealed)
     (StandsFor-from (shown_by records content) found found kept.journal.shown.map (SameMap-refl found))
+
+-- the extent of the map of a content that records keep is theirs
+extent-opened : (records : RecordsState) (content : List ℕ) (found : SlotMap) → AreKept records content → IsSealed records.journal →
+    StandsFor content found → found.extent ≡ records.journal.extent
+extent-opened records content found kept sealed is =
+    extent-kept records content found kept (subst (λ (image : List ℕ). StandsFor image found) (sym (shown-sealed records.journal content sealed)) is)
 
 -- What was rebuilt of the records that are kept.
 pub IsRebuilt-from : (records : RecordsState) (parts : Parts) (content : List ℕ) → IsSealed records.journal → AreKept records content →
@@ -237,6 +244,7 @@ OpensStore-read error old new knows reads opens =
       history = KeepsHistory-state old new (Err error) keeps;
       unwritten = undone (verdict_of_opening {T = StoreState} (Err error)) (OnlyReads old new) reads;
       judged = λ none. reads;
+      extent = λ found is. tt;
     }
 
 -- what was read was settled and closed, or it failed at that
@@ -258,11 +266,13 @@ module _ (slots : List ℕ) (parts now : List StreamParts) (old read new : Told)
         history = KeepsHistory-state old new failed keeps;
         unwritten = unwritten-fault why (OnlyReads old new);
         judged = judged-rebuilt;
+        extent = λ found is. tt;
       }
 
   pub OpensStore-closed : (store : StoreState) → SettlesAll slots parts now records (Ok tt) read new → store.streams ≡ now → store.records ≡ records →
-      IsSealed store.records.journal → OpensStore (Ok store) old new
-  OpensStore-closed store closes same same_records sealed =
+      IsSealed store.records.journal → (first : RecordsState) → AreKept first read.content → IsSealed first.journal →
+      store.records.journal.extent ≤ first.journal.extent → OpensStore (Ok store) old new
+  OpensStore-closed store closes same same_records sealed first opened first_sealed less =
       let has = held_read slots parts now old read new knows is reads in
       let agree = closes.agree is.streams is.state is.agree has in
       let turns = closes.turns is.streams is.state is.agree in
@@ -275,4 +285,5 @@ module _ (slots : List ℕ) (parts now : List StreamParts) (old read new : Told)
         history = KeepsHistory-state old new (Ok store) keeps;
         unwritten = tt;
         judged = judged-rebuilt;
+        extent = λ found is. omega (arith, extent-opened first read.content found opened first_sealed (rw reads.same.content is), less);
       }

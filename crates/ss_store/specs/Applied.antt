@@ -6,6 +6,7 @@ use Rattle.ss_outside.specs.Disk.{DiskView, Told, OfContent}
 use Rattle.ss_outside.specs.Step.{Step}
 use Rattle.ss_outside.specs.Verdict.{Verdict, IfChanged, IfUndone, IsFirm, OnFine, OnNoMemory, OnRefused}
 use Rattle.ss_outside.specs.declared.source.Failed.{Failed}
+use Rattle.ss_journal.specs.Redo.{SlotMap, StandsFor}
 use Rattle.ss_catalog.specs.Events.{event_name}
 use Rattle.ss_catalog.specs.declared.event.Event.{Event}
 use Rattle.ss_catalog.specs.declared.event.Event.TheVariants.{Create, Value, Open, Close, Drop}
@@ -150,6 +151,8 @@ pub record OpensStore (result : Result StoreState OpenError) (old new : Told) : 
   pub unwritten : IfUndone (verdict_of_opening result) (OnlyReads old new)
   -- over a content that recovers to nothing nothing is written, whatever the answer
   pub judged : ((streams : List Stream) → Recovers streams old.content → ⊥) → OnlyReads old new
+  -- no more slots are used than the content uses
+  pub extent : (found : SlotMap) → StandsFor old.content found → IfOk result (λ store. store.records.journal.extent ≤ found.extent)
 
 -- A store is surveyed: what the state has to which the content recovers, or why it recovers to none. Content and images stay.
 pub record SurveysStore (result : Result Survey OpenError) (old new : Told) : Type 0 where

@@ -17,6 +17,7 @@ pub mod Changing
 pub mod Indexed
 pub mod Dropping
 pub mod Applied
+pub mod Extents
 pub mod Newest
 pub mod Values
 pub mod Events

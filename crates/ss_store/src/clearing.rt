@@ -43,6 +43,7 @@ pub fn clear_all<D: Disk>(records: &mut Records, disk: &mut D, doomed: &[u32]) -
         (Makes (ClearsSlots doomed.now result) records.new result) }
     ensures at_rest { OnOk result (AreAtRest records.new) }
     ensures live { OnOk result (LiveSlotsGo doomed.now [] records.old.live records.new.live) }
+    ensures extent { OnOk result (records.new.journal.extent ≡ records.old.journal.extent) }
 {
     stage_clearing(records, disk, doomed)?;
     records.seal(disk)

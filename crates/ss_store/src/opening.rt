@@ -76,6 +76,7 @@ pub fn close_all<D: Disk, L: Ledger>(
     requires one_disk { OfContent (D.seen disk.old) (AreKept records.old) }
     ensures closes { Step (verdict_of_read result) (D.seen disk.old) (D.seen disk.new)
         (ClosesAll streams.old streams.new records.new result) }
+    ensures extent { OnOk result (records.new.journal.extent ≤ records.old.journal.extent) }
     ensures entries { map entry_of streams.new ≡ map entry_of streams.old }
     ensures whole { OnOk result (AreWhole streams.new records.new.live) }
     ensures at_rest { OnOk result (AreAtRest records.new) }
@@ -110,6 +111,7 @@ pub fn settle_all<D: Disk, L: Ledger>(
     requires one_disk { OfContent (D.seen disk.old) (AreKept records.old) }
     ensures settles { Step (verdict_of_read result) (D.seen disk.old) (D.seen disk.new)
         (SettlesAll doomed.now streams.old streams.new records.new result) }
+    ensures extent { OnOk result (records.new.journal.extent ≤ records.old.journal.extent) }
     ensures entries { map entry_of streams.new ≡ map entry_of streams.old }
     ensures whole { OnOk result (AreWhole streams.new records.new.live) }
     ensures at_rest { OnOk result (AreAtRest records.new) }

@@ -1,4 +1,4 @@
-use Rattle.std.proofs.Common.{refl}
+use Rattle.std.proofs.Common.{◌∙◌, refl}
 use Rattle.std.proofs.lemmas.Result.{err_from_is_err_and, on_ok_weaker}
 use Rattle.ss_outside.proofs.StepLemmas.{step-as}
 use Rattle.ss_journal.proofs.StepLemmas.{after-step, step-next}
@@ -25,3 +25,6 @@ returns-clause-clears g c =
           seals.keeps_shown;
       kept = seals.kept;
     })
+
+pub returns-clause-extent : goal.returns-clause-extent
+returns-clause-extent g c = on_ok_weaker c.seal.result (λ sealed. sealed.extent ∙ c.in_ok-stage_clearing.ensures.extent) c.seal.ensures.sealed

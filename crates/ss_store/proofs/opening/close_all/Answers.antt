@@ -22,6 +22,7 @@ loop-place-init g c = record {
     kept = c.requires.one_disk told;
   });
   at_rest = c.requires.at_rest;
+  extent = omega arith;
   whole = c.requires.whole;
   entries = refl;
   closed = AreClosedTo-none c.args.streams.now c.args.indexes.now c.requires.keyed;
@@ -97,6 +98,7 @@ loop-place-preserved g c =
         kept = second.kept;
       });
       at_rest = (after.whole.whole.settled, after.whole.sealed);
+      extent = omega (arith, before.extent, after.whole.whole.extent);
       whole = AreWhole-set now c.loop-place.records.live c.close_windows.new.records.live place part new before.whole at same
           (IsNoEarlier-same part.last_time new.last_time after.holds.last_time) after.whole.whole.ordered after.whole.whole.live;
       entries = map-set_same entry_of now place part new at (λ i. (same.name i, same.id i)) ∙ before.entries;

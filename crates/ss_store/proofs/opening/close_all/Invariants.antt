@@ -1,4 +1,4 @@
-use Rattle.std.proofs.Common.{◌≡◌, Ok, map}
+use Rattle.std.proofs.Common.{◌≡◌, ◌≤◌, Ok, map}
 use Rattle.ss_outside.specs.Step.{Step}
 use Rattle.ss_outside.specs.Verdict.{fine}
 use Rattle.ss_records.specs.Kept.{AreAtRest}
@@ -15,6 +15,7 @@ invariant-loop-place g l = record {
   step : Step fine (g.D.Disk.seen l.fn.disk) (g.D.Disk.seen l.disk)
       (Makes {T = Unit {0}} {E = ReadError} (ClosesFirst l.fn.streams l.streams l.place) l.records (Ok tt));
   at_rest : AreAtRest l.records;
+  extent : l.records.journal.extent ≤ l.fn.records.journal.extent;
   whole : AreWhole l.streams l.records.live;
   entries : map entry_of l.streams ≡ map entry_of l.fn.streams;
   closed : AreClosedTo l.place l.streams l.indexes;

@@ -1,5 +1,5 @@
-use Rattle.std.proofs.Common.{[], Ok, flat_map, refl, subst, sym, List, Bool}
-use Rattle.std.proofs.lemmas.Result.{err_from_is_err_and}
+use Rattle.std.proofs.Common.{◌≤◌, [], Ok, arith, flat_map, refl, subst, sym, List, Bool}
+use Rattle.std.proofs.lemmas.Result.{err_from_is_err_and, on_ok_weaker}
 use Rattle.ss_outside.specs.declared.source.Failed.{Failed}
 use Rattle.ss_outside.proofs.StepLemmas.{step-as, step-then}
 use Rattle.ss_journal.proofs.StepLemmas.{after-step, step-pair}
@@ -72,3 +72,10 @@ returns-clause-settles g c =
           ((Turns-settled slots was all {F = Failed} {E = Failed} _ _ _ tt (Ok tt) cleared.1.keeps_map cleared.2.changes).content has);
       kept = third.kept;
     })
+
+pub returns-clause-extent : goal.returns-clause-extent
+returns-clause-extent g c =
+    let settled = c.in_ok-settle.ensures.settled.extent in
+    let cleared = c.in_ok-clear_all.ensures.extent in
+    on_ok_weaker c.close_all.result (λ (closed : c.close_all.new.records.journal.extent ≤ c.clear_all.new.records.journal.extent).
+    omega (arith, settled, cleared, closed)) c.close_all.ensures.extent

@@ -99,7 +99,8 @@ returns-clause-opens g c =
     step-next c.in_ok-records.ensures.reads c.in_ok-settle_all.ensures.settles (λ told told_read read closes.
     OpensStore-closed c.deref-3.result.now parts now _ _ _ (g.met.D.Disk.knows_now c.args.disk.now told)
     (rw (c.deref_mut.ensures.value, c.deref-3.ensures.value) read.rebuilt) read.reads
-    c.settle_all.new.records store closes same refl c.in_ok-settle_all.ensures.at_rest.1)
+    c.settle_all.new.records store closes same refl c.in_ok-settle_all.ensures.at_rest.1
+    c.in_ok-records.records read.kept c.in_ok-records.ensures.sealed c.in_ok-settle_all.ensures.extent)
 
 pub returns-in_err-indexes-clause-opens : goal.returns-in_err-indexes-clause-opens
 returns-in_err-indexes-clause-opens g c =
