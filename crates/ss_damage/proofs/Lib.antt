@@ -1,0 +1,5 @@
+pub mod DamageLemmas
+pub mod FormLemmas
+pub mod NumberLemmas
+mod Rows
+pub mod SpelledLemmas
