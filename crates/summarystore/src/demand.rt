@@ -1,5 +1,10 @@
 // What `--checked` asks of a store before a run.
-ghost use Rattle.std.specs.Prelude.{◌≡◌, Ok, true};
+ghost use Rattle.std.specs.Prelude.{◌≡◌, not, IfOk, Ok, true};
+ghost use Rattle.ss_outside.specs.Step.{Step};
+ghost use Rattle.ss_outside.specs.Verdict.{verdict};
+ghost use Rattle.ss_journal.specs.Calls.{MakesChecked};
+ghost use Rattle.ss_journal.specs.Format.{is_plain};
+ghost use Rattle.ss_journal.specs.Steps.{Finds};
 ghost use Rattle.summarystore.specs.Plan.{demand_of};
 
 #[cfg(test)]
@@ -39,11 +44,17 @@ pub fn demand_of(has_to_be_checked: bool, mode: Option<Mode>) -> Demand
 // Whether the store is as it has to be.
 fn is_met<D: Disk>(disk: &mut D, demand: Demand) -> Result<bool, Failed>
     ensures nothing { demand ≡ Demand.Nothing → (result ≡ Ok true) × (disk.new ≡ disk.old) }
+    ensures made { demand ≡ Demand.Make → Step (verdict result) (D.seen disk.old) (D.seen disk.new) (MakesChecked result) }
+    ensures looked { demand ≡ Demand.Look → Step (verdict result) (D.seen disk.old) (D.seen disk.new)
+        (Finds (λ content. IfOk result (λ met. met ≡ not (is_plain content)))) }
 {
     match demand {
         Demand::Nothing => Ok(true),
         Demand::Make => make_checked(disk),
-        Demand::Look => Ok(!is_plain(disk)?),
+        Demand::Look => {
+            let plain = is_plain(disk)?;
+            Ok(!plain)
+        }
     }
 }
 
