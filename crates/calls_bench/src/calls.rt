@@ -38,11 +38,11 @@ impl Calls {
         own == (other.reads, other.writes, other.syncs, other.bytes)
     }
 
-    /// Those of opening and settling an empty file, by the steps in docs/FORMAT.md: the length twice over, the first bytes and
-    /// the birth gate are read; a 0, the magic, the zeros after it in pieces and the gate are written, with three syncs.
+    /// Those of opening and settling an empty file, by the steps in docs/FORMAT.md: the length four times and the first bytes twice are
+    /// read; a 0, the magic, the zeros after it in pieces and the gate are written, with three syncs.
     pub fn of_birth() -> Calls {
         Calls {
-            reads: 5,
+            reads: 6,
             writes: 12,
             syncs: 3,
             bytes: 36_865,
