@@ -1,9 +1,10 @@
--- Worked rows: the vectors of RFC 3720 (B.4), the usual one, also in two parts, and how bytes differ as numbers.
+-- Worked rows: the vectors of RFC 3720 (B.4), the usual one, also in two parts, the last table, and how bytes differ as numbers.
 use Rattle.std.proofs.Common.{◌≡◌, ◌+◌, ◌*◌, [], ◌∷◌, ◌++◌, codes, refl}
-use Rattle.std.specs.Prelude.{replicate}
+use Rattle.std.specs.Prelude.{replicate, slice_index_or}
 use Rattle.ss_checksum.specs.Changes.{difference, number_of}
-use Rattle.ss_checksum.specs.Checksum.{checksum}
+use Rattle.ss_checksum.specs.Checksum.{after_bits, checksum}
 use Rattle.ss_checksum.specs.Codeword.{IsChecked, check_bytes}
+use Rattle.ss_checksum.specs.declared.tables.TheConstants.{TABLES}
 
 checksum-none : checksum [] ≡ 0
 unfolding checksum
@@ -37,6 +38,16 @@ checksum-read : checksum
     0 ∷ 0 ∷ 0 ∷ 0 ∷ 0 ∷ 0 ∷ 2 ∷ 0 ∷ 0 ∷ 0 ∷ 0 ∷ 0 ∷ 0 ∷ 0 ∷ []) ≡ 3650501206
 unfolding checksum
 checksum-read = refl
+
+-- the last table has what 128 steps leave, at its second index and at its last
+tables-second : slice_index_or (slice_index_or TABLES 15 []) 1 0 ≡ after_bits 128 1
+tables-second = refl
+
+tables-last : slice_index_or (slice_index_or TABLES 15 []) 255 0 ≡ 2413460986
+tables-last = refl
+
+after_bits-last : after_bits 128 255 ≡ 2413460986
+after_bits-last = refl
 
 -- as RFC 3720 prints the checksum of 32 zeros
 check_bytes-zeros : check_bytes 2324772522 ≡ 170 ∷ 54 ∷ 145 ∷ 138 ∷ []

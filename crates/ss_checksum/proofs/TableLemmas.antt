@@ -25,7 +25,7 @@ abbrev rows : ℕ → List ℕ → List (List ℕ)
 rows zero row = []
 rows (suc more) row = row ∷ rows more (map (after_bits 8) row)
 
-tables-are : TABLES ≡ rows 8 (left_by 0 256)
+tables-are : TABLES ≡ rows 16 (left_by 0 256)
 tables-are = refl
 
 row-at : (row : List ℕ) (index : ℕ) → index < length row → slice_index_or (map (after_bits 8) row) index 0 ≡ after_bits 8 (slice_index_or row index 0)
@@ -46,11 +46,11 @@ rows-at (suc more) (suc k) index row few inside =
 abbrev pub entry : ℕ → ℕ → ℕ
 entry k index = slice_index_or (slice_index_or TABLES k []) index 0
 
-entry-is : (k index : ℕ) → k < 8 → index < 256 → entry k index ≡ after_bits (8 + k * 8) index
+entry-is : (k index : ℕ) → k < 16 → index < 256 → entry k index ≡ after_bits (8 + k * 8) index
 entry-is k index few inside =
     let same : 0 + index ≡ index = omega arith in
     ap (λ tables. slice_index_or (slice_index_or tables k []) index 0) tables-are
-    ∙ rows-at 8 k index (left_by 0 256) few inside
+    ∙ rows-at 16 k index (left_by 0 256) few inside
     ∙ ap (after_bits (k * 8)) (left_by-at 0 256 index inside ∙ ap (after_bits 8) same)
     ∙ sym (after_bits-add 8 (k * 8) index)
 
@@ -70,10 +70,10 @@ abbrev pub entries : ℕ → List ℕ → ℕ
 entries k bytes = bit_xor (bit_xor (bit_xor (entry (3 + k) (slice_index_or bytes 0 0)) (entry (2 + k) (slice_index_or bytes 1 0)))
     (entry (1 + k) (slice_index_or bytes 2 0))) (entry k (slice_index_or bytes 3 0))
 
-pub entries-are : (k number : ℕ) → k ≤ 4 → number < 2 ^ 32 → entries k (to_le_bytes w32 number) ≡ after_bits (32 + k * 8) number
+pub entries-are : (k number : ℕ) → k ≤ 12 → number < 2 ^ 32 → entries k (to_le_bytes w32 number) ≡ after_bits (32 + k * 8) number
 entries-are k number few small =
     let wide : 8 + (8 + (8 + (8 + k * 8))) ≡ 32 + k * 8 = omega arith in
-    let at = λ (j : ℕ) (index : ℕ) (steps : ℕ) (below : j < 8) (inside : index < 256) (same : 8 + j * 8 ≡ steps).
+    let at = λ (j : ℕ) (index : ℕ) (steps : ℕ) (below : j < 16) (inside : index < 256) (same : 8 + j * 8 ≡ steps).
     entry-is j index below inside ∙ ap (λ n. after_bits n index) same in
     ap₂ bit_xor (ap₂ bit_xor (ap₂ bit_xor
     (at (3 + k) (number % 256) (8 + (8 + (8 + (8 + k * 8)))) (omega arith) (omega arith) (omega arith))

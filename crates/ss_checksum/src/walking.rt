@@ -1,8 +1,19 @@
-// The checksum of bytes: eight at a time, then four, and the last one by one.
+// The checksum of bytes: sixteen at a time, then eight, then four, and the last one by one.
 ghost use Rattle.std.specs.Prelude.{◌≡◌, ◌++◌, fold};
 ghost use Rattle.ss_checksum.specs.Checksum.{after_bytes, checksum};
 
-use crate::steps::{with_byte, with_eight, with_four};
+use crate::steps::{with_byte, with_eight, with_four, with_sixteen};
+
+// With more bytes, sixteen at a time.
+fn by_sixteens(start: u32, quads: &[[[u8; 4]; 4]]) -> u32
+    ensures { result ≡ fold (fold after_bytes) start quads.now }
+{
+    let mut state = start;
+    'quads: for [one, two, three, four] in quads {
+        state = with_sixteen(state, one, two, three, four);
+    }
+    state
+}
 
 // With more bytes, eight at a time.
 fn by_eights(start: u32, pairs: &[[[u8; 4]; 2]]) -> u32
@@ -42,8 +53,12 @@ fn advance(start: u32, bytes: &[u8]) -> u32
     ensures { result ≡ after_bytes start bytes.now }
 {
     let (fours, rest) = bytes.as_chunks::<4>();
-    let (pairs, last) = fours.as_chunks::<2>();
-    by_bytes(by_fours(by_eights(start, pairs), last), rest)
+    let (quads, few) = fours.as_chunks::<4>();
+    let (pairs, last) = few.as_chunks::<2>();
+    by_bytes(
+        by_fours(by_eights(by_sixteens(start, quads), pairs), last),
+        rest,
+    )
 }
 
 /// The CRC-32C of some bytes and of others behind them. docs/DEFINITIONS.md ("Checksums") has its definition.
