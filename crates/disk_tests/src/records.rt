@@ -156,7 +156,13 @@ fn slots_are_freed_and_taken_again(rt: HostRuntime) -> Result<(), Fail> {
 // The slots of a formatted file, and what is seen of them. The first has none.
 type Opening = (Map<'static>, Seen);
 
-const OPENINGS: [Opening; 3] = [(&[], (0, 0, 0)), (&[7], (1, 1, 1)), (&[7, 0, 7], (2, 3, 1))];
+const OPENINGS: [Opening; 5] = [
+    (&[], (0, 0, 0)),
+    (&[7], (1, 1, 1)),
+    (&[7, 0, 7], (2, 3, 1)),
+    (&[7; 32], (32, 32, 32)),
+    (&[7; 33], (33, 33, 33)),
+];
 
 fn opens_with<D: Disk>(alloc: Global, disk: &mut D, seen: Seen) -> Result<bool, JournalError> {
     let records = Records::open(alloc, disk)?;
@@ -174,7 +180,7 @@ fn calls(alloc: Global, row: &Opening) -> Result<Option<u64>, JournalError> {
     calls_on(alloc, &mut disk, row.1)
 }
 
-// The first row of which something else is seen, or opening takes another number of calls than one more for each slot.
+// The first row of which something else is seen, or opening takes another number of calls than one more for each page.
 fn first_unread(alloc: Global) -> Result<Option<usize>, JournalError> {
     let mut none = 0u64;
     for (k, row) in OPENINGS.iter().enumerate() {
@@ -184,7 +190,7 @@ fn first_unread(alloc: Global) -> Result<Option<usize>, JournalError> {
         if k == 0 {
             none = calls;
         }
-        if calls != none.saturating_add(row.0.len() as u64) {
+        if calls != none.saturating_add(row.0.len().div_ceil(32) as u64) {
             return Ok(Some(k));
         }
     }
@@ -192,6 +198,6 @@ fn first_unread(alloc: Global) -> Result<Option<usize>, JournalError> {
 }
 
 #[test]
-fn opening_reads_each_slot_once(rt: HostRuntime) -> Result<(), Fail> {
+fn opening_reads_each_page_once(rt: HostRuntime) -> Result<(), Fail> {
     pass(first_unread(rt.alloc()))
 }

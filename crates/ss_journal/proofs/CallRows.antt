@@ -1,22 +1,25 @@
 -- Rows that pin what the calls of a journal leave, field by field.
-use Rattle.std.proofs.Common.{◌≡◌, ◌⊎◌, ◌+◌, ◌*◌, ◌<◌, ℕ, List, [], ◌∷◌, length, Result, Ok, Err, IsTrue, IsFalse, Bool, true, not, ◌&&◌, ◌||◌, refl, lit≤}
+use Rattle.std.proofs.Common.{◌≡◌, ◌⊎◌, ◌∙◌, ap, ◌+◌, ◌*◌, ◌<◌, ◌≤◌, ℕ, List, [], ◌∷◌, length, Result, Ok, Err, IsTrue, IsFalse, Bool, true, not, ◌&&◌, ◌||◌, refl, lit≤}
 use Rattle.ss_outside.specs.Crash.{LeavesOnly, OnlyReads}
 use Rattle.ss_outside.specs.Disk.{NothingPending, Told}
 use Rattle.ss_outside.specs.declared.source.Failed.{Failed}
 use Rattle.ss_journal.specs.declared.journal_error.JournalError.{JournalError}
 use Rattle.ss_journal.specs.declared.journal_error.JournalError.TheVariants.{NotAStore, BadEntry}
-use Rattle.ss_journal.specs.declared.phase.Phase.TheVariants.{Settled}
+use Rattle.ss_journal.specs.declared.phase.Phase.TheVariants.{Settled, Unborn}
 use Rattle.ss_journal.specs.declared.put.Put.{Put}
 use Rattle.ss_journal.specs.Calls.{ChangesMap, Commits, HasCommitted, HasMadeRoom, HasSealed, HasSettled, HasStaged, KeepsMap, KeepsShown, MakesDurable}
 use Rattle.ss_journal.specs.Calls.{MakesChecked, MakesRoom, Opens, ReadsPage, ReadsSlot, Seals, Settles, Stages, entries_after, slot_in_page}
 use Rattle.ss_journal.specs.Birth.{has_no_kind}
-use Rattle.ss_journal.specs.Format.{is_born, is_plain, is_unborn, kind_of, magic}
-use Rattle.ss_journal.specs.Kept.{IsKept, IsSealed, IsSettled, IsShown, JournalState, shown}
+use Rattle.ss_journal.specs.Format.{is_born, is_plain, is_unborn, kind_of, magic, slots_in}
+use Rattle.ss_journal.specs.Gates.{IsClosed}
+use Rattle.ss_journal.specs.Kept.{HasRoomFor, IsBounded, IsInPhase, IsKept, IsSealed, IsSettled, IsShown, JournalState, shown}
 use Rattle.ss_journal.specs.declared.kind.Kind.TheVariants.{Plain, Checked}
-use Rattle.ss_journal.specs.Puts.{extent_after}
-use Rattle.ss_journal.specs.Redo.{SameMap, SlotMap, StandsFor, bad_entry, changed, not_a_store, redo}
+use Rattle.ss_journal.specs.Groups.{entry_count}
+use Rattle.ss_journal.specs.Newest.{DoAs, newest_after}
+use Rattle.ss_journal.specs.Puts.{FillSlots, extent_after, is_put, slots_fit}
+use Rattle.ss_journal.specs.Redo.{SameMap, SlotMap, StandsFor, bad_entry, changed, entries_in_use, not_a_store, puts_in_use, redo, stands, zeros}
 use Rattle.ss_journal.specs.Writes.{SameRest}
-use Rattle.std.specs.Prelude.{codes, slice_index}
+use Rattle.std.specs.Prelude.{All, codes, slice_index}
 
 -- the bytes that stand after the birth gate
 magic-plain : magic Plain ≡ codes "SSTORE01"
@@ -81,7 +84,7 @@ module _ (old new : Told) (found : SlotMap) where
 
     KeepsShown-any_moment : (before : SlotMap) (result : Result Unit Failed) → KeepsShown was then old new result → NothingPending old →
         StandsFor old.content before → StandsFor (shown was old.content) found → LeavesOnly old new (λ image. StandsFor image before ⊎ StandsFor image found)
-    KeepsShown-any_moment before result keeps nothing stands is = keeps.any_moment nothing before found stands is
+    KeepsShown-any_moment before result keeps nothing stood is = keeps.any_moment nothing before found stood is
 
     KeepsShown-durable : KeepsShown {T = Unit {0}} {E = Failed} was then old new (Ok tt) → NothingPending old → NothingPending new
     KeepsShown-durable keeps = keeps.durable
@@ -123,7 +126,7 @@ module _ (old new : Told) (journal : JournalState) where
 
 -- a journal with something staged
 abbrev one_staged : JournalState
-one_staged = record { phase = Settled; extent = 1; in_use = 1; waiting = []; sealed = 0; staged = 165 ∷ 1 ∷ []; kind = Plain }
+one_staged = record { phase = Settled; extent = 1; in_use = 1; waiting = []; sealed = 0; staged = record { slot = 0; bytes = zeros } ∷ []; kind = Plain }
 
 module _ (old new : Told) (was then : JournalState) where
   MakesRoom-kept : MakesRoom was then (Ok tt) old new → IsKept then new.content
@@ -206,8 +209,17 @@ module _ (old new : JournalState) where
   HasStaged-extent : (puts : List Put) → HasStaged puts old new → new.extent ≡ extent_after puts old.extent
   HasStaged-extent puts has = has.extent
 
-  HasStaged-in_use : (puts : List Put) → HasStaged puts old new → new.in_use ≡ old.in_use + 1
+  HasStaged-staged : (puts : List Put) → HasStaged puts old new → new.staged ≡ newest_after puts old.staged
+  HasStaged-staged puts has = has.staged
+
+  HasStaged-number : (puts : List Put) → HasStaged puts old new → new.in_use ≡ old.sealed + entry_count (length new.staged)
+  HasStaged-number puts has = has.number
+
+  HasStaged-in_use : (puts : List Put) → HasStaged puts old new → new.in_use ≤ old.in_use + 1
   HasStaged-in_use puts has = has.in_use
+
+  HasStaged-first : (puts : List Put) → HasStaged puts old new → IsSealed old → new.in_use ≡ old.in_use + 1
+  HasStaged-first puts has = has.first
 
   HasStaged-some : (puts : List Put) → HasStaged puts old new → 0 < length new.staged
   HasStaged-some puts has = has.some
@@ -226,6 +238,88 @@ module _ (old new : JournalState) where
 
   HasCommitted-sealed : (puts : List Put) → HasCommitted puts old new → IsSealed new
   HasCommitted-sealed puts has = has.sealed
+
+-- with one entry in the file and puts for the slots 1, 2 and 3 staged, two are in use: two puts more for the slots 2 and 4 take none, and
+-- for the slots 4 and 5 one
+abbrev put_into : ℕ → Put
+put_into slot = record { slot = slot; bytes = zeros }
+
+abbrev three_staged : JournalState
+three_staged = record {
+  phase = Settled;
+  extent = 9;
+  in_use = 2;
+  sealed = 1;
+  kind = Plain;
+  waiting = put_into 1 ∷ put_into 2 ∷ put_into 3 ∷ [];
+  staged = put_into 1 ∷ put_into 2 ∷ put_into 3 ∷ [];
+}
+
+module _ (then : JournalState) where
+  HasStaged-none_more : HasStaged (put_into 2 ∷ put_into 4 ∷ []) three_staged then → then.in_use ≡ 2
+  HasStaged-none_more has = has.number ∙ ap (λ (staged : List Put). 1 + entry_count (length staged)) has.staged
+
+  HasStaged-one_more : HasStaged (put_into 4 ∷ put_into 5 ∷ []) three_staged then → then.in_use ≡ 3
+  HasStaged-one_more has = has.number ∙ ap (λ (staged : List Put). 1 + entry_count (length staged)) has.staged
+
+-- what is true of each journal
+module _ (journal : JournalState) (is : IsBounded journal) where
+  IsBounded-extent : journal.extent ≤ 1048576
+  IsBounded-extent = is.extent
+
+  IsBounded-waiting : All (λ put. put.slot < journal.extent) journal.waiting
+  IsBounded-waiting = is.waiting
+
+  IsBounded-unborn : journal.phase ≡ Unborn → journal.waiting ≡ []
+  IsBounded-unborn = is.unborn
+
+  IsBounded-in_use : journal.in_use ≤ 64
+  IsBounded-in_use = is.in_use
+
+  IsBounded-few : length journal.waiting ≤ 4 * journal.sealed + length journal.staged
+  IsBounded-few = is.few
+
+  IsBounded-held : (slot : ℕ) → IsTrue (is_put journal.staged slot) → IsTrue (is_put journal.waiting slot)
+  IsBounded-held = is.held
+
+  IsBounded-number : journal.in_use ≡ journal.sealed + entry_count (length journal.staged)
+  IsBounded-number = is.number
+
+  IsBounded-whole : FillSlots journal.staged
+  IsBounded-whole = is.whole
+
+-- what a journal shows is as it keeps it, and where something is staged there is room for it before its entries
+module _ (journal : JournalState) (content : List ℕ) where
+  IsKept-shown : IsKept journal content → IsShown journal (shown journal content)
+  IsKept-shown kept = kept.shown
+
+  IsKept-before : IsKept one_staged content → HasRoomFor 0 (record { slot = 0; bytes = zeros } ∷ []) content
+  IsKept-before kept = kept.before
+
+  IsShown-phase : IsShown journal content → IsInPhase journal.phase journal.in_use content
+  IsShown-phase is = is.phase
+
+  IsShown-number : IsShown journal content → journal.in_use ≡ length (entries_in_use content)
+  IsShown-number is = is.number
+
+  IsShown-waiting : IsShown journal content → DoAs (puts_in_use content) (slots_in (length content)) journal.waiting
+  IsShown-waiting is = is.waiting
+
+  IsShown-map : (is : IsShown journal content) → (redo content ≡ stands is.found) × (is.found.extent ≡ journal.extent)
+  IsShown-map is = (is.map, is.extent)
+
+module _ (n : ℕ) (puts : List Put) (content : List ℕ) (room : HasRoomFor n puts content) where
+  HasRoomFor-born : IsTrue (is_born content)
+  HasRoomFor-born = room.ends.born
+
+  HasRoomFor-closed : IsClosed n content
+  HasRoomFor-closed = room.ends.closed
+
+  HasRoomFor-number : n ≡ length (entries_in_use content)
+  HasRoomFor-number = room.ends.number
+
+  HasRoomFor-fit : (redo content ≡ stands room.ends.found) × IsTrue (slots_fit puts room.ends.found.extent)
+  HasRoomFor-fit = (room.ends.map, room.fit)
 
 -- the last slot that a file can have is part of a map, and the first byte after it is part of the rest
 SameMap-last : (first second : SlotMap) → SameMap first second → first.bytes 1048575 ≡ second.bytes 1048575

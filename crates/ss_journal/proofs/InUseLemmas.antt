@@ -1,6 +1,7 @@
 -- Entries in use, whose puts are written into their slots, lost, torn or whole.
-use Rattle.std.proofs.Common.{IsFalse, IsTrue, List, [], ap, arith, inl, inr, length, refl, subst, sym, ℕ, ◌<◌, ◌∙◌, ◌∷◌, ◌≡◌, ◌≤◌}
-use Rattle.std.proofs.lemmas.Bool.{cases_Bool, cases_eq, cases_lt, eqb-true}
+use Rattle.std.proofs.Common.{IsFalse, IsTrue, List, [], ap, arith, inl, inr, length, nat_eq, refl, subst, sym, ℕ, ◌<◌, ◌^◌, ◌∙◌, ◌∷◌, ◌≡◌, ◌≤◌}
+use Rattle.std.proofs.lemmas.Bool.{cases_Bool, cases_eq, cases_lt, eqb-false, eqb-true, or_parts}
+use Rattle.std.proofs.lemmas.List.Elements.{All-weaker}
 use Rattle.std.proofs.lemmas.List.{ext_get_or}
 use Rattle.std.specs.Prelude.{flat_map, slice_index}
 use Rattle.ss_outside.proofs.DiskLemmas.{get_or-overwrite_inside}
@@ -9,30 +10,72 @@ use Rattle.ss_journal.specs.Entries.{entries, open_prefix, puts_of}
 use Rattle.ss_journal.specs.declared.kind.Kind.{Kind}
 use Rattle.ss_journal.specs.Format.{is_born, kind_of, slots_in}
 use Rattle.ss_journal.specs.Gates.{opens}
-use Rattle.ss_journal.specs.Puts.{FillSlots, slots_fit}
-use Rattle.ss_journal.specs.Redo.{CameInPart, entries_in_use, Gives, InUse, Redone, SameMap, SlotMap, StandsFor, changed, file_map, redo, redo_entries, stands}
+use Rattle.ss_journal.specs.Newest.{DoAs}
+use Rattle.ss_journal.specs.Puts.{FillSlots, extent_after, is_put, slots_fit, with_puts}
+use Rattle.ss_journal.specs.Redo.{CameInPart, entries_in_use, Gives, InUse, Redone, SameMap, SlotMap, StandsFor, changed, file_map, puts_in_use}
+use Rattle.ss_journal.specs.Redo.{redo, redo_entries, stands}
 use Rattle.ss_journal.specs.Steps.{StaysShut}
 use Rattle.ss_journal.specs.Writes.{AreSlots, DiffersAt, DiffersIn, HasSlotsFor, length_with, slot_ranges, slots_written}
 use Rattle.ss_journal.specs.declared.put.Put.{Put}
 use Rattle.ss_journal.proofs.GateLemmas.{StandsFor-first_closed}
 use Rattle.ss_journal.proofs.HeaderLemmas.{is_born-parts, is_born-same, kind_of-same}
 use Rattle.ss_journal.proofs.MapLemmas.{SameMap-refl, SameMap-trans, file_map-same}
+use Rattle.ss_journal.proofs.NewestLemmas.{beside-DoAs}
+use Rattle.ss_journal.proofs.PutLemmas.{extent_after-again, extent_after-bound, is_put-none, slots_fit-again, slots_fit-below}
 use Rattle.ss_journal.proofs.RangeLemmas.{DiffersIn-overwrite, get_or-differs, length-differs}
 use Rattle.ss_journal.proofs.RedoLemmas.{StandsFor-from, StandsFor-also, StandsFor-parts, StandsFor-same, entries_in_use-formed, redo-born, redo-first_closed}
 use Rattle.ss_journal.proofs.RedoLemmas.{redo-formed, redo-same_header, redo_entries-idempotent}
 use Rattle.ss_journal.proofs.SlotLemmas.{AgreeBeside-torn, DiffersIn-slots_written, file_map-slots_written, outside_slots, slots_in-mono, slots_in-torn}
 
--- the entries in use, by the file and the puts
+-- puts that leave every map are none
+none_from_leaves : (puts : List Put) → ((map : ℕ → List ℕ) (slot : ℕ) → with_puts puts map slot ≡ map slot) → puts ≡ []
+none_from_leaves [] leaves = refl
+none_from_leaves (put ∷ puts) leaves =
+    let none = is_put-none (put ∷ puts) put.slot (λ map. leaves map put.slot) in
+    let apart = or_parts (nat_eq put.slot put.slot) (is_put puts put.slot) none in
+    absurd (eqb-false put.slot put.slot apart.0 refl)
+
+-- no put does as none alone
+pub DoAs-none_few : {all few : List Put} {size : ℕ} → DoAs all size few → few ≡ [] → all ≡ []
+DoAs-none_few {all} {few} {size} does none =
+    none_from_leaves all (λ map slot. sym (subst (λ (puts : List Put). with_puts puts map slot ≡ with_puts all map slot) none (does.bytes map slot)))
+
+DoAs-none_all : {all few : List Put} {size : ℕ} → DoAs all size few → all ≡ [] → few ≡ []
+DoAs-none_all {all} {few} {size} does none =
+    none_from_leaves few (λ map slot. subst (λ (puts : List Put). with_puts few map slot ≡ with_puts puts map slot) none (does.bytes map slot))
+
+-- few puts are for slots that a file can have, where all of them are
+AreSlots-few : {all few : List Put} {size : ℕ} → DoAs all size few → AreSlots all → size ≤ 2 ^ 20 → AreSlots few
+AreSlots-few {all} {few} {size} does slots le =
+    let most = extent_after-bound all size (2 ^ 20) slots le in
+    All-weaker (λ (put : Put). put.slot < extent_after few size) (λ (put : Put). put.slot < 2 ^ 20) (λ put lt. omega (arith, lt, does.extent, most)) few
+    (slots_fit-below few size does.fit)
+
+-- they do the same in a file that grew by some of the puts
+DoAs-grown : {all few : List Put} {old new : ℕ} → DoAs all old few → IsTrue (slots_fit all old) → old ≤ new → new ≤ extent_after all old → DoAs all new few
+DoAs-grown {all} {few} {old} {new} does fit le most = record {
+  bytes = does.bytes;
+  fit = slots_fit-again few old new does.fit le;
+  extent = extent_after-again few old new does.fit le (omega (arith, most, does.extent)) ∙ does.extent ∙ sym (extent_after-again all old new fit le most);
+  whole = does.whole;
+}
+
+-- the entries in use, by the file and the puts that do what theirs do
 module _ (puts : List Put) (content : List ℕ) (born : IsTrue (is_born content)) (in_use : InUse puts content) where
-  redone : (in_use.found ≡ changed (file_map content) puts) × IsTrue (slots_fit puts (slots_in (length content))) × AreSlots puts × FillSlots puts
-  redone = subst (λ (p : List Put). (in_use.found ≡ changed (file_map content) p) × IsTrue (slots_fit p (slots_in (length content))) × AreSlots p × FillSlots p)
-      (sym in_use.all) (redo-born content in_use.found born in_use.map)
+  redone : (in_use.found ≡ changed (file_map content) (puts_in_use content)) × IsTrue (slots_fit (puts_in_use content) (slots_in (length content)))
+      × AreSlots (puts_in_use content) × FillSlots (puts_in_use content)
+  redone = redo-born content in_use.found born in_use.map
+
+  -- the puts make the same map of the file
+  few_map : SameMap (changed (file_map content) puts) in_use.found
+  few_map = subst (SameMap (changed (file_map content) puts)) (sym redone.0)
+      (record { bytes = λ slot lt. in_use.all.bytes (file_map content).bytes slot; extent = in_use.all.extent })
 
   same_map : (found : SlotMap) → StandsFor content found → SameMap in_use.found found
   same_map found is = subst (λ (r : Redone). Gives r found) in_use.map is
 
-  pub in_use-fit : IsTrue (slots_fit puts (slots_in (length content)))
-  in_use-fit = redone.1
+  in_use-slots : AreSlots puts
+  in_use-slots = AreSlots-few in_use.all redone.2 (omega arith)
 
   pub long-in_use : 36864 ≤ length content
   long-in_use = (is_born-parts content born).0
@@ -42,11 +85,11 @@ module _ (puts : List Put) (content : List ℕ) (born : IsTrue (is_born content)
 
   -- any of the puts may have come to the file, in whole or in part
   module _ (image : List ℕ) (differs : DiffersIn (slot_ranges puts) content image) where
-    part : CameInPart puts (file_map content) in_use.found (file_map image)
+    part : CameInPart (puts_in_use content) (file_map content) in_use.found (file_map image)
     part = record {
-      beside = AgreeBeside-torn puts content image in_use-fit differs;
+      beside = λ slot none. AgreeBeside-torn puts content image in_use.all.fit differs slot (beside-DoAs in_use.all slot none);
       no_less = slots_in-mono (length content) (length image) differs.no_shorter;
-      no_more = subst (λ (m : SlotMap). slots_in (length image) ≤ m.extent) (sym redone.0) (slots_in-torn puts content image in_use-fit differs);
+      no_more = subst (λ (n : ℕ). slots_in (length image) ≤ n) few_map.extent (slots_in-torn puts content image in_use.all.fit differs);
     }
 
     header : IsTrue (is_born image) × (entries image ≡ entries content) × (kind_of image ≡ kind_of content)
@@ -64,8 +107,7 @@ module _ (puts : List Put) (content : List ℕ) (born : IsTrue (is_born content)
         let its : redo image ≡ redo_entries 0 (entries_in_use content) (file_map image) = redo-formed image header.0
         ∙ ap (λ (list : List (List ℕ)). redo_entries 0 list (file_map image)) same_entries in
         subst (λ (r : Redone). Gives r in_use.found) (sym its)
-        (redo_entries-idempotent 0 (entries_in_use content) (file_map content) in_use.found (file_map image) was
-        (subst (λ (p : List Put). CameInPart p (file_map content) in_use.found (file_map image)) in_use.all part))
+        (redo_entries-idempotent 0 (entries_in_use content) (file_map content) in_use.found (file_map image) was part)
 
     -- the map stays, since the entries stand
     pub StandsFor-slots_torn : (found : SlotMap) → StandsFor content found → StandsFor image found
@@ -79,7 +121,9 @@ module _ (puts : List Put) (content : List ℕ) (born : IsTrue (is_born content)
         let parts = StandsFor-parts image in_use.found again in (
           header.0,
           record {
-            all = in_use.all ∙ ap (flat_map puts_of) (sym same_entries ∙ sym (entries_in_use-formed image header.0));
+            all = subst (λ (list : List (List ℕ)). DoAs (flat_map puts_of list) (slots_in (length image)) puts)
+                (sym same_entries ∙ sym (entries_in_use-formed image header.0))
+                (DoAs-grown in_use.all redone.1 part.no_less (subst (λ (m : SlotMap). slots_in (length image) ≤ m.extent) redone.0 part.no_more));
             found = parts.0;
             map = parts.1;
           },
@@ -89,15 +133,15 @@ module _ (puts : List Put) (content : List ℕ) (born : IsTrue (is_born content)
   pub SameMap-slots_written : (kind : Kind) → kind ≡ kind_of content → (found : SlotMap) → StandsFor content found
       → SameMap (file_map (slots_written kind puts content)) found
   SameMap-slots_written kind same found is =
-      SameMap-trans _ _ _ (file_map-slots_written kind puts content same long-in_use redone.1 redone.2 redone.3)
-      (subst (λ (map : SlotMap). SameMap map found) redone.0 (same_map found is))
+      SameMap-trans _ _ _ (file_map-slots_written kind puts content same long-in_use in_use.all.fit in_use-slots in_use.all.whole)
+      (SameMap-trans _ _ _ few_map (same_map found is))
 
 -- with puts in use the first gate is open
 first_open : (puts : List Put) (content : List ℕ) → 0 < length puts → IsTrue (is_born content) → InUse puts content → IsTrue (opens (slice_index content 512))
 first_open puts content some born in_use = elim (cases_Bool (opens (slice_index content 512))) [
   | inl opened ↦ opened
   | inr closed ↦
-      let none : puts ≡ [] = in_use.all ∙ (redo-first_closed content born closed).1 in
+      let none : puts ≡ [] = DoAs-none_all in_use.all (redo-first_closed content born closed).1 in
       absurd (omega (arith, some, ap length none))
 ]
 
@@ -130,14 +174,14 @@ StandsFor-first_gate puts content image found some formed in_use is same differs
       kind,
     )
 
-module _ (kind : Kind) (puts : List Put) (content : List ℕ) (same : kind ≡ kind_of content) (born : IsTrue (is_born content)) (in_use : InUse puts content) where
+module _ (kind : Kind) (puts : List Put) (content : List ℕ) (same : kind ≡ kind_of content) (born : IsTrue (is_born content))
+    (in_use : InUse puts content) where
   pub HasSlotsFor-in_use : HasSlotsFor puts content
-  HasSlotsFor-in_use = record { long = long-in_use puts content born in_use; fit = in_use-fit puts content born in_use }
+  HasSlotsFor-in_use = record { long = long-in_use puts content born in_use; fit = in_use.all.fit }
 
   pub differs-written : DiffersIn (slot_ranges puts) content (slots_written kind puts content)
   differs-written =
-      let all = redone puts content born in_use in
-      DiffersIn-slots_written kind puts content (long-in_use puts content born in_use) all.1 all.2 all.3
+      DiffersIn-slots_written kind puts content (long-in_use puts content born in_use) in_use.all.fit (in_use-slots puts content born in_use) in_use.all.whole
 
   pub long-slots_written : 36864 ≤ length (slots_written kind puts content)
   long-slots_written = omega (arith, differs-written.no_shorter, long-in_use puts content born in_use)

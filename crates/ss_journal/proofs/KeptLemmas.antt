@@ -1,9 +1,9 @@
 -- A journal and the content of its disk: opened, settled, read and committed.
-use Rattle.std.proofs.Common.{◌++◌, ◌+◌, Ok, Result, IsTrue, List, [], ap, arith, inl, inr, length, nat_lt, refl, subst, sym, ℕ, ⊎_elim, ◌<◌, ◌^◌, ◌∙◌, ◌≡◌}
+use Rattle.std.proofs.Common.{Ok, Result, IsTrue, List, [], ap, arith, inl, inr, length, nat_lt, refl, subst, sym, ℕ, ⊎_elim, ◌<◌, ◌^◌, ◌∙◌, ◌≡◌}
 use Rattle.std.proofs.Common.{false, ◌≢◌, ◌≤◌, ◌⊎◌}
 use denote.Enum.Bare.{sameb}
 use Rattle.std.proofs.lemmas.Bool.{both_ways, cases_Bool, cases_lt, cond-false, cond-true, le-ltb, lt-ltb}
-use Rattle.ss_journal.proofs.NextEntry.{AddsEntry, IsReadyFor}
+use Rattle.ss_journal.proofs.NextEntry.{IsReadyFor}
 use Rattle.std.specs.Prelude.{IsErr, OnOk, flat_map}
 use Rattle.ss_outside.specs.Disk.{NothingPending, Told}
 use Rattle.ss_outside.specs.declared.source.Failed.{Failed}
@@ -17,8 +17,9 @@ use Rattle.ss_journal.specs.Format.{IsShut, is_born, is_unborn, kind_of, slot_at
 use Rattle.ss_journal.specs.Gates.{EndsAt, IsClosed}
 use Rattle.ss_journal.specs.Kept.{IsInPhase, IsKept, IsShown, JournalState}
 use Rattle.ss_journal.specs.Opening.{AreEntries}
+use Rattle.ss_journal.specs.Newest.{DoAs}
 use Rattle.ss_journal.specs.Puts.{extent_after, is_put, slots_fit, with_puts}
-use Rattle.ss_journal.specs.Redo.{Gives, Redone, SameMap, SlotMap, StandsFor, blank_map, changed, file_map, zeros}
+use Rattle.ss_journal.specs.Redo.{Gives, Redone, SameMap, SlotMap, StandsFor, blank_map, changed, file_map, puts_in_use, zeros}
 use Rattle.ss_journal.specs.Steps.{Clears, Durably, Reaches}
 use Rattle.ss_journal.specs.declared.phase.Phase.TheVariants.{Born, Settled, Stopped, Unborn}
 use Rattle.ss_journal.specs.declared.phase.Phase.{Phase}
@@ -26,10 +27,11 @@ use Rattle.ss_journal.specs.declared.put.Put.{Put}
 use Rattle.ss_journal.proofs.GateLemmas.{file_map-first_closed}
 use Rattle.ss_journal.proofs.HeaderLemmas.{is_born-unborn}
 use Rattle.ss_journal.proofs.MapLemmas.{SameMap-refl}
+use Rattle.ss_journal.proofs.NewestLemmas.{DoAs-none}
 use Rattle.ss_journal.proofs.PutLemmas.{below_extent, is_put-none, past_extent, with_puts-beside, with_puts-put}
 use Rattle.ss_journal.proofs.ShownLemmas.{IsKept-sealed}
 use Rattle.ss_journal.proofs.TearLemmas.{keeps-err, on_err}
-use Rattle.ss_journal.proofs.RedoLemmas.{StandsFor-from, StandsFor-parts, entries_in_use-unborn, redo-born, redo-first_closed, redo-unborn}
+use Rattle.ss_journal.proofs.RedoLemmas.{StandsFor-from, entries_in_use-unborn, redo-born, redo-first_closed, redo-unborn}
 
 -- the file of a journal that has not failed is formatted or not
 pub cases_phase : (phase : Phase) (in_use : ℕ) (content : List ℕ) → IsInPhase phase in_use content → IsTrue (is_unborn content) ⊎ IsTrue (is_born content)
@@ -72,23 +74,28 @@ durable-unborn old new result unborn durable = record {
   any_moment = λ born found is. absurd (both_ways (is_born old.content) (is_born-unborn old.content unborn) born);
 }
 
+-- where no entry is in use no put waits
+DoAs-no_puts : {all waiting : List Put} (size : ℕ) → all ≡ [] → waiting ≡ [] → DoAs all size waiting
+DoAs-no_puts {all} {waiting} size unused none =
+    subst (λ (puts : List Put). DoAs puts size waiting) (sym unused) (subst (DoAs [] size) (sym none) (DoAs-none size))
+
 -- a journal over an unformatted file
-pub IsKept-unborn : (kind : Kind) (size slots : ℕ) (waiting : List Put) (staged content : List ℕ) → kind ≡ kind_of content → size ≡ length content → slots ≡ slots_in size → waiting ≡ []
-    → IsTrue (is_unborn content) → staged ≡ []
+pub IsKept-unborn : (kind : Kind) (size slots : ℕ) (waiting staged : List Put) (content : List ℕ) → kind ≡ kind_of content → size ≡ length content
+    → slots ≡ slots_in size → waiting ≡ [] → IsTrue (is_unborn content) → staged ≡ []
     → IsKept (record { phase = Unborn; extent = slots; in_use = 0; waiting = waiting; sealed = 0; staged = staged; kind = kind }) content
 IsKept-unborn kind size slots waiting staged content same long counted none unborn sealed = IsKept-sealed _ content sealed (record {
   kind = same;
   phase = unborn;
   number = ap length (sym (entries_in_use-unborn content unborn));
-  waiting = none ∙ ap (flat_map puts_of) (sym (entries_in_use-unborn content unborn));
+  waiting = DoAs-no_puts _ (ap (flat_map puts_of) (entries_in_use-unborn content unborn)) none;
   found = blank_map content;
   map = redo-unborn content unborn;
   extent = sym (counted ∙ ap slots_in long);
 })
 
 -- a journal over a formatted file, of which the entries were read
-pub IsKept-born : (kind : Kind) (content : List ℕ) (in_use : ℕ) (waiting : List Put) (extent : ℕ) (staged : List ℕ) → kind ≡ kind_of content → IsTrue (is_born content)
-    → AreEntries content in_use waiting extent → staged ≡ []
+pub IsKept-born : (kind : Kind) (content : List ℕ) (in_use : ℕ) (waiting : List Put) (extent : ℕ) (staged : List Put) → kind ≡ kind_of content
+    → IsTrue (is_born content) → AreEntries content in_use waiting extent → staged ≡ []
     → IsKept (record { phase = Born; extent = extent; in_use = in_use; waiting = waiting; sealed = in_use; staged = staged; kind = kind }) content
 IsKept-born kind content in_use waiting extent staged same born read sealed = IsKept-sealed _ content sealed (record {
   kind = same;
@@ -108,8 +115,8 @@ born_formed phase in_use content (inr (inl is)) now = (subst (λ p. IsInPhase p 
 born_formed phase in_use content (inr (inr is)) now = absurd (subst (λ p. IsInPhase p in_use content) is now)
 
 -- a settled journal: the file alone gives the map, and no put waits
-pub IsKept-settled : (kind : Kind) (extent : ℕ) (waiting : List Put) (staged content : List ℕ) (found : SlotMap) → kind ≡ kind_of content → IsTrue (is_born content) → IsClosed 0 content
-    → StandsFor content found → found.extent ≡ extent → waiting ≡ [] → staged ≡ []
+pub IsKept-settled : (kind : Kind) (extent : ℕ) (waiting staged : List Put) (content : List ℕ) (found : SlotMap) → kind ≡ kind_of content
+    → IsTrue (is_born content) → IsClosed 0 content → StandsFor content found → found.extent ≡ extent → waiting ≡ [] → staged ≡ []
     → IsKept (record { phase = Settled; extent = extent; in_use = 0; waiting = waiting; sealed = 0; staged = staged; kind = kind }) content
 IsKept-settled kind extent waiting staged content found same_kind born closed is same none sealed =
     let alone = redo-first_closed content born closed in
@@ -117,14 +124,14 @@ IsKept-settled kind extent waiting staged content found same_kind born closed is
       kind = same_kind;
       phase = (born, λ lt. closed);
       number = ap length (sym alone.2);
-      waiting = none ∙ sym alone.1;
+      waiting = DoAs-no_puts _ alone.1 none;
       found = file_map content;
       map = alone.0;
       extent = (file_map-first_closed content found born closed is).extent ∙ same;
     })
 
 -- what a settling leaves of the disk and the map, by what stood in the file
-module _ (journal : JournalState) (old new : Told) (kept : IsShown journal old.content) (waiting : List Put) (staged : List ℕ) where
+module _ (journal : JournalState) (old new : Told) (kept : IsShown journal old.content) (waiting staged : List Put) where
   -- the journal then
   abbrev settled : JournalState
   settled = record { phase = Settled; extent = journal.extent; in_use = 0; waiting = waiting; sealed = 0; staged = staged; kind = journal.kind }
@@ -172,24 +179,21 @@ module _ (journal : JournalState) (content : List ℕ) (found : SlotMap) (slot :
       same.bytes slot lt
 
   module _ (born : IsTrue (is_born content)) where
-    map_is : kept.found ≡ changed (file_map content) journal.waiting
-    map_is = (redo-born content kept.found born kept.map).0 ∙ ap (λ (puts : List Put). changed (file_map content) puts) (sym kept.waiting)
+    map_is : kept.found ≡ changed (file_map content) (puts_in_use content)
+    map_is = (redo-born content kept.found born kept.map).0
 
     extent_is : journal.extent ≡ extent_after journal.waiting (slots_in (length content))
-    extent_is = sym kept.extent ∙ ap (λ (m : SlotMap). m.extent) map_is
+    extent_is = sym kept.extent ∙ ap (λ (m : SlotMap). m.extent) map_is ∙ sym kept.waiting.extent
 
-    fit : IsTrue (slots_fit journal.waiting (slots_in (length content)))
-    fit = subst (λ (puts : List Put). IsTrue (slots_fit puts (slots_in (length content)))) (sym kept.waiting) (redo-born content kept.found born kept.map).1
-
-    -- the puts in use over the file
+    -- the puts that wait, over the file
     pub born_bytes : with_puts journal.waiting (file_map content).bytes slot ≡ found.bytes slot
     born_bytes =
         let same : SameMap kept.found found = subst (λ (r : Redone). Gives r found) kept.map is in
-        sym (ap (λ (m : SlotMap). m.bytes slot) map_is) ∙ same.bytes slot lt
+        kept.waiting.bytes (file_map content).bytes slot ∙ sym (ap (λ (m : SlotMap). m.bytes slot) map_is) ∙ same.bytes slot lt
 
     past_bytes : journal.extent ≤ slot → zeros ≡ found.bytes slot
     past_bytes past =
-        let out = past_extent journal.waiting (slots_in (length content)) slot fit (omega (arith, extent_is, past)) in
+        let out = past_extent journal.waiting (slots_in (length content)) slot kept.waiting.fit (omega (arith, extent_is, past)) in
         sym (with_puts-beside journal.waiting (file_map content).bytes slot out.0 ∙ cond-false (nat_lt slot (slots_in (length content))) _ _
         (le-ltb slot (slots_in (length content)) out.1)) ∙ born_bytes
 
@@ -202,13 +206,13 @@ module _ (journal : JournalState) (content : List ℕ) (found : SlotMap) (slot :
           sym (leaves (file_map content).bytes ∙ cond-true (nat_lt slot (slots_in (length content))) _ _ (lt-ltb slot (slots_in (length content)) slot_lies))
           ∙ born_bytes
 
-    -- a slot of a page: what was read of the file, zeros from the extent on, and the puts in use over it
+    -- a slot of a page: what was read of the file, zeros from the extent on, and the puts that wait over it
     pub page_bytes : (read laid got : List ℕ) → (slot < slots_in (length content) → read ≡ slot_in content slot)
         → (slot < journal.extent → laid ≡ read) → (journal.extent ≤ slot → laid ≡ zeros) → got ≡ with_puts journal.waiting (λ _. laid) slot
         → got ≡ found.bytes slot
     page_bytes read laid got lies used unused puts = elim (cases_lt slot journal.extent) [
       | inr past ↦
-          let out = past_extent journal.waiting (slots_in (length content)) slot fit (omega (arith, extent_is, past)) in
+          let out = past_extent journal.waiting (slots_in (length content)) slot kept.waiting.fit (omega (arith, extent_is, past)) in
           puts ∙ with_puts-beside journal.waiting (λ _. laid) slot out.0 ∙ unused past ∙ past_bytes past
       | inl below ↦ elim (cases_Bool (is_put journal.waiting slot)) [
         | inl put ↦ puts ∙ with_puts-put journal.waiting slot (λ _. laid) (file_map content).bytes put ∙ born_bytes
@@ -244,19 +248,3 @@ module _ (journal : JournalState) (content : List ℕ) (settled : journal.phase 
 
   pub StandsFor-kept : StandsFor content kept.found
   StandsFor-kept = StandsFor-from content kept.found kept.found kept.map (SameMap-refl kept.found)
-
-  -- with the transaction in the next entry
-  pub IsShown-staged : (puts : List Put) (is : JournalState) (new : List ℕ) → AddsEntry journal.in_use puts content new
-      → StandsFor new (changed kept.found puts) → is.phase ≡ Settled → is.extent ≡ extent_after puts journal.extent → is.in_use ≡ journal.in_use + 1
-      → is.waiting ≡ journal.waiting ++ puts → is.kind ≡ journal.kind → IsShown is new
-  IsShown-staged puts is new added stands phase after more joins same =
-      let parts = StandsFor-parts new (changed kept.found puts) stands in
-      record {
-        kind = same ∙ kept.kind ∙ sym added.kind;
-        phase = subst (λ (p : Phase). IsInPhase p is.in_use new) (sym phase) (added.born, subst (λ (n : ℕ). EndsAt n new) (sym more) added.closed);
-        number = more ∙ added.number;
-        waiting = joins ∙ ap (λ (p : List Put). p ++ puts) kept.waiting ∙ sym added.all;
-        found = parts.0;
-        map = parts.1;
-        extent = parts.2.extent ∙ ap (extent_after puts) kept.extent ∙ sym after;
-      }

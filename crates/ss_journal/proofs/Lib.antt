@@ -4,11 +4,13 @@ pub mod CommitLemmas
 pub mod EnterSteps
 pub mod EntryLemmas
 pub mod GateLemmas
+pub mod GroupLemmas
 pub mod HeaderLemmas
 pub mod InUseLemmas
 pub mod KeptLemmas
 pub mod MapLemmas
 pub mod MarkLemmas
+pub mod NewestLemmas
 pub mod NextEntry
 pub mod OpenLemmas
 pub mod PageLemmas
@@ -17,7 +19,9 @@ pub mod PutLemmas
 pub mod RangeLemmas
 pub mod RedoLemmas
 mod CallRows
+pub mod RoomLemmas
 pub mod Rows
+pub mod RunLemmas
 pub mod SealSteps
 pub mod SettleSteps
 pub mod ShownLemmas

@@ -3,6 +3,7 @@ use Rattle.std.specs.Prelude.{◌≡◌, ℕ, ◌+◌, List, ◌++◌, length, I
 use Rattle.ss_journal.specs.declared.put.Put.{Put}
 use Rattle.ss_journal.specs.Gates.{EndsAt}
 use Rattle.ss_journal.specs.Format.{is_born, kind_of}
+use Rattle.ss_journal.specs.Groups.{entry_count}
 use Rattle.ss_journal.specs.Puts.{slots_fit}
 use Rattle.ss_journal.specs.Redo.{SlotMap, stands, redo, entries_in_use, puts_in_use}
 
@@ -21,4 +22,13 @@ pub record AddsEntry (n : ℕ) (puts : List Put) (old new : List ℕ) : Type 0 w
   pub born : IsTrue (is_born new)
   pub closed : EndsAt (n + 1) new
   pub number : n + 1 ≡ length (entries_in_use new)
+  pub all : puts_in_use new ≡ puts_in_use old ++ puts
+
+-- the entries from number n on, of these puts, are in use after those before them, and the gate after them is closed
+pub record AddsGroup (n : ℕ) (puts : List Put) (old new : List ℕ) : Type 0 where
+  pub size : length new ≡ length old
+  pub kind : kind_of new ≡ kind_of old
+  pub born : IsTrue (is_born new)
+  pub closed : EndsAt (n + entry_count (length puts)) new
+  pub number : n + entry_count (length puts) ≡ length (entries_in_use new)
   pub all : puts_in_use new ≡ puts_in_use old ++ puts

@@ -1,9 +1,10 @@
 -- How the entries of a formatted file are read one after another.
 use Rattle.std.proofs.Common.{Err, IsFalse, IsTrue, List, Ok, Some, [], ap, append_assoc, arith, drop, length, subst, sym, ℕ, ◌++◌, ◌+◌, ◌<◌, ◌∙◌, ◌∷◌, ◌≡◌}
 use Rattle.std.proofs.lemmas.Bool.{cond-false, cond-true}
+use Rattle.std.proofs.lemmas.List.Elements.{All-weaker}
 use Rattle.std.proofs.lemmas.List.FromFn.{length-map-range_with_len}
 use Rattle.std.proofs.lemmas.List.{append-nil, drop_all}
-use Rattle.std.specs.Prelude.{flat_map, slice_index}
+use Rattle.std.specs.Prelude.{All, flat_map, slice_index}
 use Rattle.arrayvec.specs.ArrayVec.{ArrayVec}
 use Rattle.ss_journal.specs.Entries.{entries, is_good, open_prefix, puts_of}
 use Rattle.ss_journal.specs.Checks.{entry_form, entry_in}
@@ -11,13 +12,17 @@ use Rattle.ss_journal.specs.declared.kind.Kind.{Kind}
 use Rattle.ss_journal.specs.Format.{entry_bytes, is_born, kind_of, slots_in}
 use Rattle.ss_journal.specs.Gates.{is_open, opens}
 use Rattle.ss_journal.specs.Opening.{AreEntries, InUseAs, NextAs}
-use Rattle.ss_journal.specs.Puts.{extent_after}
+use Rattle.ss_journal.specs.Newest.{DoAs, newest_after}
+use Rattle.ss_journal.specs.Puts.{FillSlots, extent_after, slots_fit, slots_rise_from}
 use Rattle.ss_journal.specs.Redo.{entries_in_use, SlotMap, bad_entry, changed, file_map, puts_in_use, redo, redo_entries}
 use Rattle.ss_journal.specs.declared.journal_error.JournalError.TheVariants.{BadEntry, Disk, NotAStore, OutOfMemory}
 use Rattle.ss_journal.specs.declared.journal_error.JournalError.{JournalError}
 use Rattle.ss_journal.specs.declared.put.Put.{Put}
 use Rattle.ss_journal.proofs.CheckLemmas.{gate-entry_form}
+use Rattle.ss_journal.proofs.EntryLemmas.{IsSoundEntry-good}
+use Rattle.ss_journal.proofs.NewestLemmas.{All-newest_after, DoAs-added, DoAs-none}
 use Rattle.ss_journal.proofs.PrefixLemmas.{open_prefix-drop}
+use Rattle.ss_journal.proofs.PutLemmas.{AreSlots-rise, extent_after-append, le-extent_after, slots_fit-below}
 use Rattle.ss_journal.proofs.RedoLemmas.{entries_in_use-formed, puts_in_use-formed, redo-formed}
 
 -- an entry that was read, taken out of the form of its file's kind
@@ -36,12 +41,23 @@ NextAs-closed content n entry is closed =
     subst (λ (byte : ℕ). IsFalse (opens byte))
     (ap (λ (e : List ℕ). slice_index e 0) is ∙ sym (gate-entry_form (kind_of content) n (entry_bytes content n))) closed
 
--- the entries before number n are in use: these are their puts, and the extent after them
+-- the puts that wait lie below the extent after more
+pub below-newest_after : (waiting puts : List Put) (extent : ℕ) → IsTrue (slots_fit puts extent) → All (λ put. put.slot < extent) waiting
+    → All (λ put. put.slot < extent_after puts extent) (newest_after puts waiting)
+below-newest_after waiting puts extent fit below =
+    let P = λ (p : Put). p.slot < extent_after puts extent in
+    All-newest_after P puts waiting (slots_fit-below puts extent fit)
+    (All-weaker (λ (p : Put). p.slot < extent) P (λ p lt. omega (arith, lt, le-extent_after puts extent)) waiting below)
+
+-- the entries before number n are in use: these puts do what theirs do, and this is the extent after them
 pub record IsReadTo (content : List ℕ) (n extent : ℕ) (puts : List Put) : Type 0 where
   pub current : SlotMap
   pub same_extent : current.extent ≡ extent
   pub number : n + length (open_prefix (drop n (entries content))) ≡ length (entries_in_use content)
-  pub in_use : puts ++ flat_map puts_of (open_prefix (drop n (entries content))) ≡ puts_in_use content
+  pub all : List Put
+  pub in_use : all ++ flat_map puts_of (open_prefix (drop n (entries content))) ≡ puts_in_use content
+  pub does : DoAs all (slots_in (length content)) puts
+  pub after : extent_after all (slots_in (length content)) ≡ extent
   pub redone : redo content ≡ redo_entries n (open_prefix (drop n (entries content))) current
 
 pub IsReadTo-none : (content : List ℕ) (slots : ℕ) → IsTrue (is_born content) → slots ≡ slots_in (length content) → IsReadTo content 0 slots []
@@ -49,7 +65,10 @@ IsReadTo-none content slots born counted = record {
   current = file_map content;
   same_extent = sym counted;
   number = omega (arith, ap length (sym (entries_in_use-formed content born)));
+  all = [];
   in_use = sym (puts_in_use-formed content born);
+  does = DoAs-none (slots_in (length content));
+  after = sym counted;
   redone = redo-formed content born;
 }
 
@@ -59,7 +78,8 @@ module _ (content : List ℕ) (n extent : ℕ) (puts : List Put) (read : IsReadT
   IsReadTo-closed none = record {
     number = omega (arith, read.number, ap length none);
     in_use = record {
-      all = sym (append-nil puts) ∙ sym (ap (λ (list : List (List ℕ)). puts ++ flat_map puts_of list) none) ∙ read.in_use;
+      all = subst (λ (list : List Put). DoAs list (slots_in (length content)) puts)
+          (sym (append-nil read.all) ∙ sym (ap (λ (list : List (List ℕ)). read.all ++ flat_map puts_of list) none) ∙ read.in_use) read.does;
       found = read.current;
       map = read.redone ∙ ap (λ (list : List (List ℕ)). redo_entries n list read.current) none;
     };
@@ -88,16 +108,21 @@ module _ (content : List ℕ) (n extent : ℕ) (puts : List Put) (read : IsReadT
           let here = ap (is_good (entry_in content n)) read.same_extent ∙ bad in
           redo-here ∙ cond-false (is_good (entry_in content n) read.current.extent) _ _ here
 
-      pub IsReadTo-more : IsTrue (is_good (entry_in content n) extent)
-          → IsReadTo content (n + 1) (extent_after (puts_of (entry_in content n)) extent) (puts ++ puts_of (entry_in content n))
-      IsReadTo-more good =
+      pub IsReadTo-more : IsTrue (is_good (entry_in content n) extent) → IsTrue (slots_rise_from 0 puts) → FillSlots (puts_of (entry_in content n))
+          → IsReadTo content (n + 1) (extent_after (puts_of (entry_in content n)) extent) (newest_after (puts_of (entry_in content n)) puts)
+      IsReadTo-more good rise whole =
           let own = puts_of (entry_in content n) in
           let here = ap (is_good (entry_in content n)) read.same_extent ∙ good in
+          let sound = IsSoundEntry-good (entry_in content n) extent good in
           record {
             current = changed read.current own;
             same_extent = ap (extent_after own) read.same_extent;
             number = omega (arith, read.number, ap length open_prefix-here);
-            in_use = append_assoc puts own _ ∙ sym (ap (λ (list : List (List ℕ)). puts ++ flat_map puts_of list) open_prefix-here) ∙ read.in_use;
+            all = read.all ++ own;
+            in_use = append_assoc read.all own _ ∙ sym (ap (λ (list : List (List ℕ)). read.all ++ flat_map puts_of list) open_prefix-here) ∙ read.in_use;
+            does = DoAs-added read.all own puts (slots_in (length content)) rise (AreSlots-rise 0 own sound.rise) whole read.does
+                (subst (λ (last : ℕ). IsTrue (slots_fit own last)) (sym read.after) sound.fit);
+            after = extent_after-append read.all own (slots_in (length content)) ∙ ap (extent_after own) read.after;
             redone = redo-here ∙ cond-true (is_good (entry_in content n) read.current.extent) _ _ here;
           }
 
@@ -110,8 +135,9 @@ module _ (content : List ℕ) (n extent : ℕ) (puts : List Put) (lt : n < 64) (
   InUseAs-next (BadEntry bad) is = IsReadTo-bad content n extent puts read lt is.0 is.1 ∙ ap bad_entry (sym is.2)
 
   pub IsReadTo-next : (own : ArrayVec Put) (last : ℕ) (more : List Put) → NextAs (entry_in content n) n extent (Ok (Some own))
-      → last ≡ extent_after own.items extent → more ≡ puts ++ own.items → IsReadTo content (n + 1) last more
-  IsReadTo-next own last more is after joins =
+      → IsTrue (slots_rise_from 0 puts) → FillSlots own.items → last ≡ extent_after own.items extent → more ≡ newest_after own.items puts
+      → IsReadTo content (n + 1) last more
+  IsReadTo-next own last more is rise whole after joins =
       let last_is = after ∙ ap (λ (l : List Put). extent_after l extent) is.2 in
-      let more_is = joins ∙ ap (λ (l : List Put). puts ++ l) is.2 in
-      rw (last_is, more_is) (IsReadTo-more content n extent puts read lt is.0 is.1)
+      let more_is = joins ∙ ap (λ (l : List Put). newest_after l puts) is.2 in
+      rw (last_is, more_is) (IsReadTo-more content n extent puts read lt is.0 is.1 rise (subst FillSlots is.2 whole))

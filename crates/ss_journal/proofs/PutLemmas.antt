@@ -3,7 +3,7 @@ use Rattle.std.proofs.Common.{IsFalse, IsTrue, List, [], ap, arith, cond, drop, 
 use Rattle.std.proofs.Common.{take, true, ℕ, ⊎_elim, ◌++◌, ◌+◌, ◌<◌, ◌^◌, ◌∙◌, ◌∷◌, ◌≡◌, ◌≤◌}
 use Rattle.std.proofs.lemmas.Bool.Decides.{nat_tests}
 use Rattle.std.proofs.lemmas.Bool.{both_ways, cases_Bool, cases_lt, cond-false, cond-true, eq-eqb, false_from_ne_true, ne_eqb, or_cases, or_from, or_parts}
-use Rattle.std.proofs.lemmas.List.Elements.{All-append, All-cons, All-head, All-nil, All-tail, All-weaker}
+use Rattle.std.proofs.lemmas.List.Elements.{All-cons, All-head, All-nil, All-tail}
 use Rattle.std.proofs.lemmas.List.{drop_more, take-append-drop}
 use Rattle.std.specs.Prelude.{All}
 use Rattle.ss_journal.specs.Puts.{AgreeBeside, IsTxn, extent_after, is_put, slots_fit, slots_rise_from, with_put, with_puts}
@@ -22,7 +22,7 @@ pub next-mono : (slot old new : ℕ) → slot ≤ old → old ≤ new → next s
 next-mono slot old new fits le = grind (arith, nat_tests)
 
 -- a slot below the extent adds nothing
-next-below : (slot extent : ℕ) → slot < extent → next slot extent ≡ extent
+pub next-below : (slot extent : ℕ) → slot < extent → next slot extent ≡ extent
 next-below slot extent below = grind (arith, nat_tests)
 
 pub lt-next : (slot extent : ℕ) → slot ≤ extent → slot < next slot extent
@@ -125,7 +125,7 @@ pub slots_fit-cases : (put : Put) (puts : List Put) (extent : ℕ) → IsTrue (s
     → (put.slot ≤ extent) × IsTrue (slots_fit puts (next put.slot extent))
 slots_fit-cases put puts extent fit = grind (arith, nat_tests, fit)
 
-slots_fit-make : (put : Put) (puts : List Put) (extent : ℕ) → put.slot ≤ extent → IsTrue (slots_fit puts (next put.slot extent))
+pub slots_fit-make : (put : Put) (puts : List Put) (extent : ℕ) → put.slot ≤ extent → IsTrue (slots_fit puts (next put.slot extent))
     → IsTrue (slots_fit (put ∷ puts) extent)
 slots_fit-make put puts extent first rest = grind (arith, nat_tests)
 
@@ -177,14 +177,6 @@ slots_fit-below (put ∷ puts) extent fit =
     let least = le-extent_after puts (next put.slot extent) in
     All-cons (λ (p : Put). p.slot < extent_after puts (next put.slot extent)) put puts
     (omega (arith, lt-next put.slot extent cases.0, least)) (slots_fit-below puts (next put.slot extent) cases.1)
-
--- so do those before them
-pub waiting-below : (waiting puts : List Put) (extent : ℕ) → IsTrue (slots_fit puts extent) → All (λ put. put.slot < extent) waiting
-    → All (λ put. put.slot < extent_after puts extent) (waiting ++ puts)
-waiting-below waiting puts extent fit below =
-    let P = λ (p : Put). p.slot < extent_after puts extent in
-    All-append P waiting puts (All-weaker (λ (p : Put). p.slot < extent) P (λ p lt. omega (arith, lt, le-extent_after puts extent)) waiting below)
-    (slots_fit-below puts extent fit)
 
 below_next : (own extent slot : ℕ) → slot < next own extent → IsFalse (nat_eq slot own) → slot < extent
 below_next own extent slot below apart = grind (arith, nat_tests)

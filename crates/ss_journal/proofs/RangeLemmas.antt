@@ -2,7 +2,7 @@
 use Rattle.std.proofs.Common.{List, [], ap, arith, drop, inl, inr, length, max, refl, replicate, sym, take, ℕ, ⊎_elim, ◌++◌, ◌+◌, ◌-◌, ◌∙◌, ◌∷◌, ◌≡◌, ◌≤◌}
 use Rattle.std.proofs.lemmas.Bool.{cases_lt}
 use Rattle.std.proofs.lemmas.List.{append_assoc, drop-drop, drop_at, get_or_past, length-append, length-replicate, length-take-le, replicate-append-replicate}
-use Rattle.std.proofs.lemmas.List.{take_at}
+use Rattle.std.proofs.lemmas.List.{append-nil, take-append-drop, take_at}
 use Rattle.std.specs.Prelude.{slice_index}
 use Rattle.ss_outside.proofs.DiskLemmas.{get_or-overwrite_outside, length-overwrite}
 use Rattle.ss_outside.specs.Disk.{IsOutside, IsOutsideAll, Torn, overwrite}
@@ -100,6 +100,13 @@ Covers-part at count from part low high = record {
   outside = λ place out. ⊎_elim (λ below. inl (omega (arith, below, low))) (λ above. inr (omega (arith, above, high))) out.0;
   end = λ size. omega (arith, high);
 }
+
+-- to write nothing leaves all
+pub overwrite-none : (content : List ℕ) (at : ℕ) → at ≤ length content → content ≡ overwrite content at []
+overwrite-none content at within =
+    let here : at + 0 ≡ at = omega arith in
+    sym (ap (λ (front : List ℕ). front ++ drop (at + 0) content) (append-nil (take at content))
+    ∙ ap (λ (n : ℕ). take at content ++ drop n content) here ∙ take-append-drop at content)
 
 -- two writes, one after the other, are one
 pub overwrite-overwrite : (content first second : List ℕ) (at mid : ℕ) → at ≤ length content → at + length first ≡ mid

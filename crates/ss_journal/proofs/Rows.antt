@@ -1,5 +1,11 @@
 -- Worked images, whole and in parts, and the numbers that are rules.
 use Rattle.std.proofs.Common.{◌≡◌, ℕ, ◌+◌, ◌*◌, ◌^◌, true, false, List, [], ◌∷◌, ◌++◌, drop, length, map, replicate, take, Ok, Err, refl}
+use Rattle.std.proofs.Common.{◌<◌, ap, arith}
+use Rattle.std.proofs.lemmas.Bool.{both_ways}
+use Rattle.std.proofs.lemmas.List.Elements.{All-cons, All-nil}
+use Rattle.std.proofs.lemmas.List.{append-nil}
+use Rattle.std.specs.Prelude.{slice_index}
+use Rattle.ss_journal.proofs.NewestLemmas.{DoAs-added, DoAs-none}
 use Rattle.ss_fields.specs.Fields as Fields
 use Rattle.ss_outside.specs.Verdict.{fine, refused, no_memory, failed}
 use Rattle.ss_journal.specs.declared.format.TheConstants.{GATE_OPEN, MAGIC_END, ENTRIES, ENTRY_SIZE, FIRST_ENTRY, MOST_PUTS, PUT_SIZE, MOST_WAITING, SLOT_SIZE}
@@ -8,11 +14,16 @@ use Rattle.ss_journal.specs.Calls.{entries_after, slot_in_page, verdict_of_open}
 use Rattle.ss_journal.specs.declared.journal_error.JournalError.{JournalError}
 use Rattle.ss_journal.specs.declared.journal_error.JournalError.TheVariants.{Disk, NotAStore, BadEntry, OutOfMemory}
 use Rattle.ss_journal.specs.declared.kind.Kind.TheVariants.{Plain, Checked}
+use Rattle.ss_journal.specs.declared.phase.Phase.TheVariants.{Settled}
 use Rattle.ss_checksum.specs.Checksum as Checksum
 use Rattle.ss_journal.specs.Birth.{has_no_kind, magic_bytes}
 use Rattle.ss_journal.specs.Format.{is_plain, kind_of, magic, is_unborn, is_born, slots_in}
 use Rattle.ss_journal.specs.Checks.{slot_form, entry_form}
-use Rattle.ss_journal.specs.Kept.{gate_behind, with_entries}
+use Rattle.ss_journal.specs.Groups.{entry_count, group_bytes, open_entry, part}
+use Rattle.ss_journal.specs.Kept.{JournalState, closed_behind, gate_behind, shown, staged_bytes, with_entries}
+use Rattle.ss_journal.specs.Newest.{DoAs, newest_after, with_newest}
+use Rattle.ss_journal.specs.Writes.{run_bytes, run_length}
+use Rattle.ss_journal.specs.declared.put.Put.{Put}
 use Rattle.ss_journal.specs.Entries.{puts_of, is_good, open_prefix, entries, entry_body}
 use Rattle.ss_journal.specs.Redo.{SlotMap, Redone, stands, bad_entry, not_a_store, redo_entries, redo, changed, zeros, entries_in_use}
 
@@ -384,3 +395,204 @@ slot-checked = refl
 pub redo-unchecked : redo (checked_image (one_put 0 5) []) ≡ bad_entry 0
 unfolding redo is_born entries kind_of slot_form entry_form is_good puts_of Checksum.checksum Fields.number_at Fields.number_bytes
 redo-unchecked = refl
+
+-- a put that fills its slot with this byte
+abbrev pub full_put : ℕ → ℕ → Put
+full_put slot byte = record { slot = slot; bytes = replicate 128 byte }
+
+-- one more put among those for slots 2 and 5: before them, in place of one, between them, and behind them
+abbrev pub two_held : List Put
+two_held = full_put 2 7 ∷ full_put 5 8 ∷ []
+
+pub with_newest-none_row : with_newest (full_put 3 9) [] ≡ full_put 3 9 ∷ []
+with_newest-none_row = refl
+
+pub with_newest-before_row : with_newest (full_put 1 9) two_held ≡ full_put 1 9 ∷ full_put 2 7 ∷ full_put 5 8 ∷ []
+with_newest-before_row = refl
+
+pub with_newest-same_row : with_newest (full_put 2 9) two_held ≡ full_put 2 9 ∷ full_put 5 8 ∷ []
+with_newest-same_row = refl
+
+pub with_newest-between_row : with_newest (full_put 3 9) two_held ≡ full_put 2 7 ∷ full_put 3 9 ∷ full_put 5 8 ∷ []
+with_newest-between_row = refl
+
+pub with_newest-same_last_row : with_newest (full_put 5 9) two_held ≡ full_put 2 7 ∷ full_put 5 9 ∷ []
+with_newest-same_last_row = refl
+
+pub with_newest-last_row : with_newest (full_put 6 9) two_held ≡ full_put 2 7 ∷ full_put 5 8 ∷ full_put 6 9 ∷ []
+with_newest-last_row = refl
+
+-- of two puts for a slot the later one stays, and what was held for another slot too
+pub newest_after-row : newest_after (full_put 5 1 ∷ full_put 3 2 ∷ full_put 5 3 ∷ []) two_held ≡ full_put 2 7 ∷ full_put 3 2 ∷ full_put 5 3 ∷ []
+newest_after-row = refl
+
+pub newest_after-none_row : newest_after [] two_held ≡ two_held
+newest_after-none_row = refl
+
+-- how many entries hold so many puts
+pub entry_count-none_row : entry_count 0 ≡ 0
+entry_count-none_row = refl
+
+pub entry_count-one_row : entry_count 1 ≡ 1
+entry_count-one_row = refl
+
+pub entry_count-four_row : entry_count 4 ≡ 1
+entry_count-four_row = refl
+
+pub entry_count-five_row : entry_count 5 ≡ 2
+entry_count-five_row = refl
+
+pub entry_count-eight_row : entry_count 8 ≡ 2
+entry_count-eight_row = refl
+
+pub entry_count-most_row : entry_count 256 ≡ 64
+entry_count-most_row = refl
+
+-- six puts: four, the other two, and none
+abbrev pub six_puts : List Put
+six_puts = full_put 0 1 ∷ full_put 1 1 ∷ full_put 2 1 ∷ full_put 3 1 ∷ full_put 4 1 ∷ full_put 5 1 ∷ []
+
+pub part-first_row : part 0 six_puts ≡ full_put 0 1 ∷ full_put 1 1 ∷ full_put 2 1 ∷ full_put 3 1 ∷ []
+part-first_row = refl
+
+pub part-rest_row : part 1 six_puts ≡ full_put 4 1 ∷ full_put 5 1 ∷ []
+part-rest_row = refl
+
+pub part-none_row : part 2 six_puts ≡ []
+part-none_row = refl
+
+-- an entry of a group: its gate is open, and in a checked file its check has its own number
+pub open_entry-row : open_entry Plain 3 (full_put 2 7 ∷ []) ≡ one_put 2 7
+unfolding entry_form entry_body Fields.number_bytes
+open_entry-row = refl
+
+pub open_entry-checked_row : drop 540 (open_entry Checked 4 (part 1 six_puts)) ≡ 171 ∷ 97 ∷ 3 ∷ 73 ∷ []
+unfolding entry_form entry_body Checksum.checksum Fields.number_bytes
+open_entry-checked_row = refl
+
+-- six puts from entry 3 on are entry 3 with four of them and entry 4 with the other two
+pub group_bytes-none_row : group_bytes Checked 3 0 six_puts ≡ []
+group_bytes-none_row = refl
+
+pub group_bytes-row : group_bytes Checked 3 2 six_puts ≡
+    open_entry Checked 3 (full_put 0 1 ∷ full_put 1 1 ∷ full_put 2 1 ∷ full_put 3 1 ∷ []) ++ open_entry Checked 4 (full_put 4 1 ∷ full_put 5 1 ∷ [])
+group_bytes-row = refl
+
+-- behind one entry, which is the last of the file or the one before it
+pub closed_behind-room_row : closed_behind 62 (replicate 544 165) ≡ replicate 544 165 ++ 0 ∷ []
+closed_behind-room_row = refl
+
+pub closed_behind-full_row : closed_behind 63 (replicate 544 165) ≡ replicate 544 165
+closed_behind-full_row = refl
+
+-- two entries in the file and six puts staged: two entries more from place 1,600 on, and the gate behind them is closed
+abbrev pub six_staged : JournalState
+six_staged = record { phase = Settled; extent = 6; in_use = 4; waiting = six_puts; sealed = 2; staged = six_puts; kind = Plain }
+
+pub staged_bytes-row : staged_bytes six_staged ≡ open_entry Plain 2 (part 0 six_puts) ++ open_entry Plain 3 (part 1 six_puts)
+staged_bytes-row = refl
+
+pub shown-before_row : take 1600 (shown six_staged (replicate 2690 165)) ≡ replicate 1600 165
+unfolding entry_form entry_body Fields.number_bytes
+shown-before_row = refl
+
+pub shown-staged_row : drop 1600 (shown six_staged (replicate 2690 165)) ≡ staged_bytes six_staged ++ 0 ∷ 165 ∷ []
+unfolding entry_form entry_body Fields.number_bytes
+shown-staged_row = refl
+
+-- where nothing is staged the content is shown
+pub shown-sealed_row : (content : List ℕ) → shown (record { phase = Settled; extent = 6; in_use = 2; waiting = six_puts; sealed = 2; staged = []; kind = Plain }) content ≡ content
+shown-sealed_row content = refl
+
+-- the newest put of each slot do what all do, over a file without slots
+abbrev pub zero_twice : List Put
+zero_twice = full_put 0 1 ∷ full_put 1 1 ∷ full_put 0 2 ∷ []
+
+pub DoAs-newest_row : DoAs zero_twice 0 (full_put 0 2 ∷ full_put 1 1 ∷ [])
+DoAs-newest_row =
+    let In = λ (put : Put). put.slot < 2 ^ 20 in
+    let Full = λ (put : Put). length put.bytes ≡ 128 in
+    DoAs-added [] zero_twice [] 0 refl
+    (All-cons In (full_put 0 1) (full_put 1 1 ∷ full_put 0 2 ∷ []) (omega arith)
+    (All-cons In (full_put 1 1) (full_put 0 2 ∷ []) (omega arith) (All-cons In (full_put 0 2) [] (omega arith) (All-nil In))))
+    (All-cons Full (full_put 0 1) (full_put 1 1 ∷ full_put 0 2 ∷ []) refl
+    (All-cons Full (full_put 1 1) (full_put 0 2 ∷ []) refl (All-cons Full (full_put 0 2) [] refl (All-nil Full))))
+    (DoAs-none 0) refl
+
+-- the older of two doesn't
+pub DoAs-older_row : DoAs zero_twice 0 (full_put 0 1 ∷ full_put 1 1 ∷ []) → ⊥
+DoAs-older_row does =
+    let first : 1 ≡ 2 = ap (λ (bytes : List ℕ). slice_index bytes 0) (does.bytes (λ slot. []) 0) in
+    absurd (omega (arith, first))
+
+-- nor does a put too few, though the extent is the same
+pub DoAs-fewer_row : DoAs (full_put 0 1 ∷ full_put 1 1 ∷ []) 2 (full_put 0 1 ∷ []) → ⊥
+DoAs-fewer_row does =
+    let none : 0 ≡ 1 = ap (λ (bytes : List ℕ). slice_index bytes 0) (does.bytes (λ slot. []) 1) in
+    absurd (omega (arith, none))
+
+-- nor one too many
+pub DoAs-more_row : DoAs (full_put 0 1 ∷ []) 2 (full_put 0 1 ∷ full_put 1 1 ∷ []) → ⊥
+DoAs-more_row does =
+    let one : 1 ≡ 0 = ap (λ (bytes : List ℕ). slice_index bytes 0) (does.bytes (λ slot. []) 1) in
+    absurd (omega (arith, one))
+
+-- puts that don't fit don't even do as they do themselves
+pub DoAs-beyond_row : DoAs (full_put 1 1 ∷ []) 0 (full_put 1 1 ∷ []) → ⊥
+DoAs-beyond_row does = both_ways false refl does.fit
+
+-- in this order the slots don't fit, and the extent is less than in the other
+pub DoAs-extent_row : DoAs (full_put 1 1 ∷ full_put 0 1 ∷ []) 0 (full_put 0 1 ∷ full_put 1 1 ∷ []) → ⊥
+DoAs-extent_row does =
+    let extent : 2 ≡ 1 = does.extent in
+    absurd (omega (arith, extent))
+
+-- each of the few fills its slot
+pub DoAs-short_row : DoAs (record { slot = 0; bytes = [] } ∷ []) 0 (record { slot = 0; bytes = [] } ∷ []) → ⊥
+DoAs-short_row does =
+    let short : 0 ≡ 128 = does.whole 0 (full_put 0 0) (omega arith) in
+    absurd (omega (arith, short))
+
+-- how many puts at the front are for neighbouring slots, up to a gap
+abbrev pub gap_puts : List Put
+gap_puts = full_put 3 1 ∷ full_put 4 2 ∷ full_put 6 3 ∷ []
+
+pub run_length-gap_row : run_length 3 gap_puts ≡ 2
+run_length-gap_row = refl
+
+-- up to the end
+pub run_length-end_row : run_length 3 (full_put 3 1 ∷ full_put 4 2 ∷ []) ≡ 2
+run_length-end_row = refl
+
+pub run_length-none_row : run_length 3 [] ≡ 0
+run_length-none_row = refl
+
+-- none where the first put is for another slot
+pub run_length-other_row : run_length 2 gap_puts ≡ 0
+run_length-other_row = refl
+
+-- the same slot again is no neighbour, and neither is the one before
+pub run_length-again_row : run_length 3 (full_put 3 1 ∷ full_put 3 2 ∷ full_put 4 3 ∷ []) ≡ 1
+run_length-again_row = refl
+
+pub run_length-back_row : run_length 3 (full_put 3 1 ∷ full_put 2 2 ∷ []) ≡ 1
+run_length-back_row = refl
+
+-- the bytes of two puts, in their order
+pub run_bytes-two_row : run_bytes Plain (full_put 3 1 ∷ full_put 4 2 ∷ []) ≡ replicate 128 1 ++ replicate 128 2
+unfolding slot_form
+run_bytes-two_row = refl
+
+pub run_bytes-order_row : run_bytes Plain (full_put 4 2 ∷ full_put 3 1 ∷ []) ≡ replicate 128 1 ++ replicate 128 2 → ⊥
+unfolding slot_form
+run_bytes-order_row is =
+    let first : 2 ≡ 1 = ap (λ (bytes : List ℕ). slice_index bytes 0) is in
+    absurd (omega (arith, first))
+
+pub run_bytes-none_row : run_bytes Plain [] ≡ []
+run_bytes-none_row = refl
+
+-- each in the form of a kind for its own slot
+pub run_bytes-checked_row : run_bytes Checked (full_put 3 1 ∷ full_put 4 1 ∷ [])
+    ≡ slot_form Checked 3 (replicate 128 1) ++ slot_form Checked 4 (replicate 128 1)
+run_bytes-checked_row = ap (λ (rest : List ℕ). slot_form Checked 3 (replicate 128 1) ++ rest) (append-nil (slot_form Checked 4 (replicate 128 1)))

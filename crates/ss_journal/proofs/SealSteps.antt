@@ -1,20 +1,27 @@
 -- The steps of a journal: what is staged is sealed, room is made, and a transaction is committed.
-use Rattle.std.proofs.Common.{ap, Err, List, Ok, Result, [], ◌∙◌, inl, inr, length, subst, sym, ℕ, ⊎_elim, ◌<◌, ◌≡◌, ◌⊎◌}
+use Rattle.std.proofs.Common.{ap, arith, ◌*◌, ◌+◌, ◌≤◌, Err, List, Ok, Result, [], ◌∙◌, inl, inr, length, subst, sym, ℕ, ⊎_elim, ◌<◌, ◌≡◌, ◌⊎◌}
 use Rattle.std.proofs.lemmas.Result.{on_ok_weaker}
-use Rattle.std.specs.Prelude.{IsErr, OnOk}
+use Rattle.std.specs.Prelude.{IsErr, OnOk, slice_index}
 use Rattle.ss_outside.proofs.CrashLemmas.{joined, weaker}
 use Rattle.ss_outside.specs.Disk.{Told, overwrite}
 use Rattle.ss_outside.specs.declared.source.Failed.{Failed}
 use Rattle.ss_journal.specs.Calls.{Commits, KeepsMap, KeepsShown, MakesRoom, Seals, Stages}
 use Rattle.ss_journal.specs.Gates.{entry_place}
-use Rattle.ss_journal.specs.Kept.{IsInPhase, IsKept, IsSealed, IsShown, JournalState, closed_behind, shown}
-use Rattle.ss_journal.specs.Redo.{SlotMap, StandsFor, changed}
+use Rattle.ss_journal.specs.Format.{slots_in}
+use Rattle.ss_journal.specs.Groups.{entry_count, group_bytes}
+use Rattle.ss_journal.specs.Kept.{IsBounded, IsInPhase, IsKept, IsSealed, IsShown, JournalState, closed_behind, shown, staged_bytes}
+use Rattle.ss_journal.specs.Puts.{FillSlots}
+use Rattle.ss_journal.specs.declared.kind.Kind.{Kind}
+use Rattle.ss_journal.proofs.GroupLemmas.{opens-closed_behind}
+use Rattle.ss_journal.proofs.NewestLemmas.{entry_count-some}
+use Rattle.ss_journal.specs.Newest.{DoAs}
+use Rattle.ss_journal.specs.Redo.{SlotMap, StandsFor, changed, puts_in_use}
 use Rattle.ss_journal.specs.Steps.{Enters, Reaches, StaysShut}
 use Rattle.ss_journal.specs.declared.phase.Phase.TheVariants.{Settled}
 use Rattle.ss_journal.specs.declared.phase.Phase.{Phase}
 use Rattle.ss_journal.specs.declared.put.Put.{Put}
 use Rattle.ss_journal.proofs.KeptLemmas.{settled-kept}
-use Rattle.ss_journal.proofs.ShownLemmas.{IfStaged-from, IfStaged-some, IsKept-sealed, IsShown-sealed, shown-sealed, with_entries-some}
+use Rattle.ss_journal.proofs.ShownLemmas.{IfStaged-from, IfStaged-some, IsKept-sealed, IsShown-sealed, closed_behind-fits, length-group_bytes, shown-sealed, with_entries-some}
 use Rattle.ss_journal.proofs.TearLemmas.{on_err}
 
 -- once all is sealed the map of the content is kept
@@ -45,13 +52,39 @@ pub Seals-of : {was journal then : JournalState} {result : Result (Unit {0}) Fai
     → Seals journal then result old new
 Seals-of {was} {journal} {then} {result} {old} {new} same = subst (λ (j : JournalState). Seals j then result old new) same
 
+-- what is staged begins with an open gate, and has its place among the entries
+pub gate-staged : (staged puts : List Put) → puts ≡ staged → (kind : Kind) (n : ℕ) → 0 < length staged → (bytes : List ℕ)
+    → bytes ≡ closed_behind n (group_bytes kind n (entry_count (length puts)) puts) → slice_index bytes 0 ≡ 165
+gate-staged staged puts same kind n some bytes all =
+    let spelled : bytes ≡ closed_behind n (group_bytes kind n (entry_count (length staged)) staged) =
+    all ∙ ap (λ (list : List Put). closed_behind n (group_bytes kind n (entry_count (length list)) list)) same in
+    let count : 0 < entry_count (length staged) = entry_count-some (length staged) some in
+    ap (λ (list : List ℕ). slice_index list 0) spelled ∙ opens-closed_behind kind n (entry_count (length staged)) staged count
+
+pub fits-staged : (journal : JournalState) → IsBounded journal → (puts : List Put) → puts ≡ journal.staged → (bytes : List ℕ)
+    → bytes ≡ closed_behind journal.sealed (group_bytes journal.kind journal.sealed (entry_count (length puts)) puts)
+    → 544 * journal.sealed + length bytes ≤ 34816
+fits-staged journal bounded puts same bytes all =
+    let spelled : bytes ≡ closed_behind journal.sealed (staged_bytes journal) =
+    all ∙ ap (λ (list : List Put). closed_behind journal.sealed (group_bytes journal.kind journal.sealed (entry_count (length list)) list)) same in
+    let size = length-group_bytes journal.kind journal.sealed (entry_count (length journal.staged)) journal.staged bounded.whole in
+    omega (
+      arith,
+      ap (λ (list : List ℕ). length list) spelled,
+      closed_behind-fits journal.sealed (staged_bytes journal) (omega (arith, size, bounded.number, bounded.in_use)),
+    )
+
 -- entries that came into the file are those that the journal showed
-module _ (was is : JournalState) (n : ℕ) (first : n ≡ was.sealed) (bytes : List ℕ) (all : bytes ≡ closed_behind was.sealed was.staged) (old new : Told)
-    (kept : IsKept was old.content) (some : 0 < length was.staged) (value : Unit {0}) (enters : Enters n bytes (Ok value) old new)
+module _ (was is : JournalState) (n : ℕ) (first : n ≡ was.sealed) (bytes : List ℕ) (all : bytes ≡ closed_behind was.sealed (staged_bytes was)) (old new : Told)
+    (kept : IsKept was old.content) (whole : FillSlots was.staged) (some : 0 < length was.staged) (value : Unit {0}) (enters : Enters n bytes (Ok value) old new)
     (phase : was.phase ≡ is.phase) (extent : is.extent ≡ was.extent) (in_use : is.in_use ≡ was.in_use) (waiting : is.waiting ≡ was.waiting)
     (sealed : IsSealed is) (kind : is.kind ≡ was.kind) where
   same : overwrite old.content (entry_place n) bytes ≡ shown was old.content
-  same = ap (λ (k : ℕ). overwrite old.content (entry_place k) bytes) first ∙ ap (overwrite old.content (entry_place was.sealed)) all ∙ sym (with_entries-some was.sealed was.staged old.content some)
+  same = ap (λ (k : ℕ). overwrite old.content (entry_place k) bytes) first ∙ ap (overwrite old.content (entry_place was.sealed)) all ∙ sym (with_entries-some was.sealed (staged_bytes was) old.content (omega (
+    arith,
+    entry_count-some (length was.staged) some,
+    length-group_bytes was.kind was.sealed (entry_count (length was.staged)) was.staged whole,
+  )))
 
   content : new.content ≡ shown was old.content
   content = enters.written ∙ same
@@ -62,7 +95,7 @@ module _ (was is : JournalState) (n : ℕ) (first : n ≡ was.sealed) (bytes : L
     phase = subst (λ (n : ℕ). IsInPhase is.phase n (shown was old.content)) (sym in_use)
         (subst (λ (p : Phase). IsInPhase p was.in_use (shown was old.content)) phase before.phase);
     number = in_use ∙ before.number;
-    waiting = waiting ∙ before.waiting;
+    waiting = subst (DoAs (puts_in_use (shown was old.content)) (slots_in (length (shown was old.content)))) (sym waiting) before.waiting;
     found = before.found;
     map = before.map;
     extent = before.extent ∙ sym extent;

@@ -2,14 +2,22 @@
 use Rattle.std.proofs.Common.{IsTrue, List, [], ap, arith, drop, inl, inr, length, nat_lt, refl, subst, sym, ℕ, ◌++◌, ◌+◌, ◌*◌, ◌<◌}
 use Rattle.std.proofs.Common.{◌∙◌, ◌∷◌, ◌≡◌, ◌≤◌, ◌⊎◌}
 use Rattle.std.proofs.lemmas.Bool.{cases_Bool, cases_lt, cond-false, cond-true, le-ltb, lt-ltb}
-use Rattle.std.proofs.lemmas.List.{append-nil, append_assoc, length-append}
-use Rattle.std.specs.Prelude.{slice_index}
+use Rattle.std.proofs.lemmas.List.{append-nil, append_assoc, length-append, length-take}
+use Rattle.std.specs.Prelude.{slice_index, zero, suc}
 use Rattle.ss_outside.proofs.DiskLemmas.{get_or-overwrite_outside, length-overwrite}
 use Rattle.ss_outside.specs.Disk.{overwrite}
-use Rattle.ss_journal.specs.Format.{is_born, slot_at, slot_place, slots_in}
+use Rattle.ss_journal.specs.Format.{is_born, kind_of, slot_at, slot_place, slots_in}
 use Rattle.ss_journal.specs.Gates.{entry_place}
-use Rattle.ss_journal.specs.Kept.{BeginsOpen, EndsBefore, IfStaged, IsBounded, IsKept, IsSealed, IsShown, JournalState, closed_behind, gate_behind, shown, with_entries}
-use Rattle.ss_journal.proofs.HeaderLemmas.{is_born-parts, piece-same}
+use Rattle.ss_journal.specs.Entries.{entry_body}
+use Rattle.ss_journal.specs.Groups.{entry_count, group_bytes, open_entry, part}
+use Rattle.ss_journal.specs.Puts.{FillSlots}
+use Rattle.ss_journal.proofs.CheckLemmas.{length-entry_form}
+use Rattle.ss_journal.proofs.EntryLemmas.{length-entry_body}
+use Rattle.std.proofs.lemmas.List.Elements.{All-drop, All-take}
+use Rattle.ss_journal.specs.Kept.{HasRoomFor, IfStaged, IsBounded, IsKept, IsSealed, IsShown, JournalState, closed_behind, gate_behind, shown, staged_bytes, with_entries}
+use Rattle.ss_journal.specs.declared.kind.Kind.{Kind}
+use Rattle.ss_journal.specs.declared.put.Put.{Put}
+use Rattle.ss_journal.proofs.HeaderLemmas.{is_born-parts, kind_of-same, piece-same}
 use Rattle.ss_journal.proofs.MapLemmas.{slot_within}
 use Rattle.ss_journal.proofs.RangeLemmas.{overwrite-end}
 
@@ -78,11 +86,11 @@ module _ (n : ℕ) where
       get_or-overwrite_outside content (closed_behind n (gate ∷ bytes)) (entry_place n) (omega (arith, long, few)) place
       (inr (omega (arith, from, closed_behind-fits n (gate ∷ bytes) few)))
 
-  -- a formatted content shows a formatted one
-  pub born-with_entries : (bytes content : List ℕ) → IfStaged bytes (EndsBefore n content) → IsTrue (is_born (with_entries n bytes content))
-      → IsTrue (is_born content)
-  born-with_entries [] content before born = born
-  born-with_entries (gate ∷ bytes) content before born = before.born
+  pub kind-with_entries : (bytes content : List ℕ) → 36864 ≤ length content → 544 * n + length bytes ≤ 544 * 64
+      → kind_of (with_entries n bytes content) ≡ kind_of content
+  kind-with_entries bytes content long few =
+      kind_of-same content (with_entries n bytes content) (omega (arith, long)) (omega (arith, long, length-with_entries bytes content long few))
+      (λ place low high. beside-with_entries bytes content long few place (inl (omega (arith, high))))
 
   -- one entry more is written after them
   pub with_entries-more : (next gate : ℕ) (bytes entry content : List ℕ) → entry_place n ≤ length content → 544 * n + length bytes ≡ 544 * next
@@ -96,21 +104,13 @@ module _ (n : ℕ) where
       ∙ sym (overwrite-end content (first ∷ bytes) end (closed_behind next (gate ∷ entry)) (entry_place n) (entry_place next) within (omega (arith, there))
       (omega (arith, gate_behind-few (544 * n + length (first ∷ bytes)))))
 
-  -- where the next entry is free the content ends before the staged ones
-  pub EndsBefore-staged : (next : ℕ) (bytes content : List ℕ) → 544 * n + length bytes ≡ 544 * next → IfStaged bytes (EndsBefore n content)
-      → EndsBefore next (with_entries n bytes content) → EndsBefore n content
-  EndsBefore-staged next [] content there before ends =
-      let same : next ≡ n = omega (arith, there) in
-      subst (λ (k : ℕ). EndsBefore k content) same ends
-  EndsBefore-staged next (gate ∷ bytes) content there before ends = before
-
-pub IfStaged-from : (staged : List ℕ) {P : Type 0} → P → IfStaged staged P
+pub IfStaged-from : (staged : List Put) {P : Type 0} → P → IfStaged staged P
 IfStaged-from [] is = tt
-IfStaged-from (gate ∷ bytes) is = is
+IfStaged-from (put ∷ puts) is = is
 
-pub IfStaged-some : (staged : List ℕ) {P : Type 0} → 0 < length staged → IfStaged staged P → P
+pub IfStaged-some : (staged : List Put) {P : Type 0} → 0 < length staged → IfStaged staged P → P
 IfStaged-some [] some is = absurd (omega (arith, some))
-IfStaged-some (gate ∷ bytes) some is = is
+IfStaged-some (put ∷ puts) some is = is
 
 -- what is staged is written from its entry on
 pub with_entries-some : (n : ℕ) (bytes content : List ℕ) → 0 < length bytes
@@ -118,23 +118,38 @@ pub with_entries-some : (n : ℕ) (bytes content : List ℕ) → 0 < length byte
 with_entries-some n [] content some = absurd (omega (arith, some))
 with_entries-some n (gate ∷ bytes) content some = refl
 
-pub BeginsOpen-more : (staged entry : List ℕ) → BeginsOpen staged → BeginsOpen (staged ++ 165 ∷ entry)
-BeginsOpen-more [] entry opens = refl
-BeginsOpen-more (gate ∷ bytes) entry opens = opens
-
-pub BeginsOpen-first : (staged : List ℕ) → BeginsOpen staged → 0 < length staged → slice_index staged 0 ≡ 165
-BeginsOpen-first [] opens some = absurd (omega (arith, some))
-BeginsOpen-first (gate ∷ bytes) opens some = opens
-
 -- bytes with an open gate
 pub open-bytes : (bytes : List ℕ) → 0 < length bytes → slice_index bytes 0 ≡ 165 → bytes ≡ 165 ∷ drop 1 bytes
 open-bytes [] some gate = absurd (omega (arith, some))
 open-bytes (first ∷ rest) some gate = ap (λ (byte : ℕ). byte ∷ rest) gate
 
+-- entries of a group have their length
+pub length-group_bytes : (kind : Kind) (n k : ℕ) (puts : List Put) → FillSlots puts → length (group_bytes kind n k puts) ≡ 544 * k
+length-group_bytes kind n zero puts whole = refl
+length-group_bytes kind n (suc k) puts whole =
+    let rest = drop (4 * k) puts in
+    let few : length (part k puts) ≤ 4 = omega (arith, length-take 4 rest) in
+    let filled : FillSlots (part k puts) = All-take (λ (put : Put). length put.bytes ≡ 128) 4 rest
+    (All-drop (λ (put : Put). length put.bytes ≡ 128) (4 * k) puts whole) in
+    omega (
+      arith,
+      length-group_bytes kind n k puts whole,
+      length-append (group_bytes kind n k puts) (open_entry kind (n + k) (part k puts)),
+      length-entry_form kind (n + k) (165 ∷ entry_body (part k puts)),
+      length-entry_body (part k puts) filled few,
+    )
+
+-- a formatted content shows a formatted one
+born-group : (kind : Kind) (n : ℕ) (puts : List Put) (content : List ℕ) → IfStaged puts (HasRoomFor n puts content)
+    → IsTrue (is_born (with_entries n (group_bytes kind n (entry_count (length puts)) puts) content)) → IsTrue (is_born content)
+born-group kind n [] content before born = born
+born-group kind n (put ∷ puts) content before born = before.ends.born
+
 module _ (journal : JournalState) (content : List ℕ) where
   -- where nothing is staged a journal shows the content
   pub shown-sealed : IsSealed journal → shown journal content ≡ content
-  shown-sealed sealed = ap (λ (bytes : List ℕ). with_entries journal.sealed bytes content) sealed
+  shown-sealed sealed =
+      ap (λ (puts : List Put). with_entries journal.sealed (group_bytes journal.kind journal.sealed (entry_count (length puts)) puts) content) sealed
 
   pub IsShown-sealed : IsSealed journal → IsKept journal content → IsShown journal content
   IsShown-sealed sealed kept = subst (IsShown journal) (shown-sealed sealed) kept.shown
@@ -142,22 +157,27 @@ module _ (journal : JournalState) (content : List ℕ) where
   pub IsKept-sealed : IsSealed journal → IsShown journal content → IsKept journal content
   IsKept-sealed sealed is = record {
     shown = subst (IsShown journal) (sym (shown-sealed sealed)) is;
-    before = subst (λ (bytes : List ℕ). IfStaged bytes (EndsBefore journal.sealed content)) (sym sealed) tt;
+    before = subst (λ (puts : List Put). IfStaged puts (HasRoomFor journal.sealed puts content)) (sym sealed) tt;
   }
 
   -- the slots of what it shows are those of the content
   module _ (bounded : IsBounded journal) (kept : IsKept journal content) (born : IsTrue (is_born (shown journal content))) where
-    few : 544 * journal.sealed + length journal.staged ≤ 544 * 64
-    few = omega (arith, bounded.staged, bounded.in_use)
+    few : 544 * journal.sealed + length (staged_bytes journal) ≤ 544 * 64
+    few = omega (
+      arith,
+      bounded.number,
+      bounded.in_use,
+      length-group_bytes journal.kind journal.sealed (entry_count (length journal.staged)) journal.staged bounded.whole,
+    )
 
     born-content : IsTrue (is_born content)
-    born-content = born-with_entries journal.sealed journal.staged content kept.before born
+    born-content = born-group journal.kind journal.sealed journal.staged content kept.before born
 
     long : 36864 ≤ length content
     long = (is_born-parts content born-content).0
 
     pub length-shown : length (shown journal content) ≡ length content
-    length-shown = length-with_entries journal.sealed journal.staged content long few
+    length-shown = length-with_entries journal.sealed (staged_bytes journal) content long few
 
     pub slot_at-shown : (slot : ℕ) → slot < slots_in (length (shown journal content))
         → (slot < slots_in (length content)) × (slot_at content slot ≡ slot_at (shown journal content) slot)
@@ -166,5 +186,5 @@ module _ (journal : JournalState) (content : List ℕ) where
           lies,
           sym (piece-same content (shown journal content) (slot_place slot) 128 (slot_within (length content) slot lies)
               (slot_within (length (shown journal content)) slot lt)
-              (λ place low high. beside-with_entries journal.sealed journal.staged content long few place (inr (omega (arith, low))))),
+              (λ place low high. beside-with_entries journal.sealed (staged_bytes journal) content long few place (inr (omega (arith, low))))),
         )

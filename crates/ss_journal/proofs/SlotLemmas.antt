@@ -1,23 +1,23 @@
 -- Puts that are written into their slots, and slots that a crash tears.
-use Rattle.std.proofs.Common.{IsFalse, IsTrue, List, [], ap, arith, drop, get_or, inl, inr, length, max, nat_eq, subst, suc, sym, take, zero, ℕ, ◌++◌, ◌+◌, ◌<◌}
+use Rattle.std.proofs.Common.{IsFalse, IsTrue, List, [], ap, arith, drop, inl, inr, length, max, nat_eq, subst, sym, take, ℕ, ◌++◌, ◌+◌, ◌<◌}
 use Rattle.std.proofs.Common.{◌^◌, ◌∙◌, ◌∷◌, ◌≡◌, ◌≤◌}
 use Rattle.std.proofs.lemmas.Bool.{cases_eq, cases_lt, cases_order, cond-false, cond-true, eq-eqb, eqb-false, le-ltb, lt-ltb, ne_eqb, or_parts}
 use Rattle.std.proofs.lemmas.List.Elements.{All-head, All-tail}
-use Rattle.std.proofs.lemmas.List.{append_assoc, drop_at, drop_more, length-take-le, take_at}
+use Rattle.std.proofs.lemmas.List.{append_assoc, drop_at, length-take-le, take_at}
 use Rattle.ss_outside.proofs.DiskLemmas.{get_or-overwrite_outside, length-overwrite}
-use Rattle.ss_outside.specs.Disk.{IsOutside, IsOutsideAll, overwrite}
+use Rattle.ss_outside.specs.Disk.{IsOutsideAll, overwrite}
 use Rattle.ss_journal.specs.Checks.{slot_form, slot_in}
 use Rattle.ss_journal.specs.declared.kind.Kind.{Kind}
 use Rattle.ss_journal.specs.Format.{kind_of, slot_at, slot_place, slots_in}
 use Rattle.ss_journal.specs.Puts.{AgreeBeside, FillSlots, extent_after, is_put, slots_fit}
 use Rattle.ss_journal.specs.Redo.{SameMap, changed, file_map}
-use Rattle.ss_journal.specs.Writes.{AreSlots, DiffersAt, DiffersIn, HasSlotsFor, length_with, slot_ranges, slots_written}
+use Rattle.ss_journal.specs.Writes.{AreSlots, DiffersAt, DiffersIn, length_with, slot_ranges, slots_written}
 use Rattle.ss_journal.specs.declared.put.Put.{Put}
 use Rattle.ss_journal.proofs.CheckLemmas.{length-slot_form, slot_form-twice}
 use Rattle.ss_journal.proofs.HeaderLemmas.{kind_of-same, piece-same}
 use Rattle.ss_journal.proofs.MapLemmas.{SameMap-refl, SameMap-trans, changed-same, slot_in-same, slot_within}
 use Rattle.ss_journal.proofs.PutLemmas.{below_extent, le-extent_after, lt-next, next, next-le, slots_fit-cases}
-use Rattle.ss_journal.proofs.RangeLemmas.{Covers, DiffersIn-append, DiffersIn-overwrite, DiffersIn-refl}
+use Rattle.ss_journal.proofs.RangeLemmas.{DiffersIn-append, DiffersIn-overwrite, DiffersIn-refl}
 
 -- the header lies outside each slot
 pub outside_slots : (puts : List Put) (place : ℕ) → place < 36864 → IsOutsideAll (slot_ranges puts) place
@@ -180,43 +180,6 @@ file_map-slots_written kind (put ∷ puts) content is long fit slots whole =
     (subst (λ (n : ℕ). IsTrue (slots_fit puts n)) (sym first.extent) cases.1)
     (All-tail (λ (p : Put). p.slot < 2 ^ 20) put puts slots) (All-tail (λ (p : Put). length p.bytes ≡ 128) put puts whole) in
     SameMap-trans _ _ _ rest (changed-same puts _ _ first)
-
--- room for the rest, with the first written
-pub HasSlotsFor-more : (kind : Kind) (puts : List Put) (k : ℕ) (d : Put) (content : List ℕ) → k < length puts → (get_or puts k d).slot < 2 ^ 20
-    → length (get_or puts k d).bytes ≡ 128 → HasSlotsFor (drop k puts) content
-    → HasSlotsFor (drop (k + 1) puts)
-    (overwrite content (slot_place (get_or puts k d).slot) (slot_form kind (get_or puts k d).slot (get_or puts k d).bytes))
-HasSlotsFor-more kind puts k d content lt below whole room =
-    let put = get_or puts k d in
-    let fit = subst (λ (list : List Put). IsTrue (slots_fit list (slots_in (length content)))) (drop_more puts k d lt) room.fit in
-    let cases = slots_fit-cases put (drop (k + 1) puts) (slots_in (length content)) fit in
-    let grown = length-written kind put content room.long cases.0 below whole in
-    record {
-      long = omega (arith, grown, room.long);
-      fit = subst (λ (n : ℕ). IsTrue (slots_fit (drop (k + 1) puts) n)) (sym (slots-written kind put content room.long cases.0 below whole)) cases.1;
-    }
-
-pub slots_written-more : (kind : Kind) (puts : List Put) (k : ℕ) (d : Put) (content : List ℕ) → k < length puts
-    → slots_written kind (drop (k + 1) puts)
-    (overwrite content (slot_place (get_or puts k d).slot) (slot_form kind (get_or puts k d).slot (get_or puts k d).bytes))
-    ≡ slots_written kind (drop k puts) content
-slots_written-more kind puts k d content lt = ap (λ (list : List Put). slots_written kind list content) (sym (drop_more puts k d lt))
-
--- one of the slots
-outside_at : (puts : List Put) (k : ℕ) (d : Put) (place : ℕ) → k < length puts → IsOutsideAll (slot_ranges puts) place
-    → IsOutside (slot_place (get_or puts k d).slot) 128 place
-outside_at [] k d place lt out = absurd (omega (arith, lt))
-outside_at (put ∷ puts) zero d place lt out = out.0
-outside_at (put ∷ puts) (suc k) d place lt out = outside_at puts k d place (omega (arith, lt)) out.1
-
-end_of_at : (puts : List Put) (k : ℕ) (d : Put) (size : ℕ) → k < length puts
-    → slot_place (get_or puts k d).slot + 128 ≤ length_with (slot_ranges puts) size
-end_of_at [] k d size lt = absurd (omega (arith, lt))
-end_of_at (put ∷ puts) zero d size lt = omega arith
-end_of_at (put ∷ puts) (suc k) d size lt = omega (arith, end_of_at puts k d size (omega (arith, lt)))
-
-pub Covers-slot : (puts : List Put) (k : ℕ) (d : Put) → k < length puts → Covers (slot_ranges puts) (slot_place (get_or puts k d).slot) 128
-Covers-slot puts k d lt = record { outside = λ place out. outside_at puts k d place lt out; end = λ size. end_of_at puts k d size lt }
 
 -- the puts that are written are one way to tear their slots
 pub DiffersIn-slots_written : (kind : Kind) (puts : List Put) (content : List ℕ) → 36864 ≤ length content → IsTrue (slots_fit puts (slots_in (length content)))

@@ -1,165 +1,235 @@
--- A transaction is staged: its entry follows those that are staged, and what the journal shows has its puts.
-use Rattle.std.proofs.Common.{IsFalse, IsTrue, List, [], ap, arith, drop, inl, inr, length, nat_lt, refl, subst, sym, ℕ, ◌++◌, ◌+◌, ◌*◌, ◌<◌, ◌∙◌, ◌∷◌, ◌≡◌, ◌≤◌, ◌⊎◌}
-use Rattle.std.proofs.Math.Seq.{get_or-append_seam}
-use Rattle.std.proofs.lemmas.Bool.{cond-true, lt-ltb}
-use Rattle.std.proofs.lemmas.List.{length-append, length-drop}
-use Rattle.std.specs.Prelude.{slice_index}
-use Rattle.ss_outside.proofs.DiskLemmas.{get_or-overwrite_inside, get_or-overwrite_outside, length-overwrite}
-use Rattle.ss_outside.specs.Disk.{overwrite}
-use Rattle.ss_journal.specs.Calls.{Stages}
-use Rattle.ss_journal.proofs.NextEntry.{AddsEntry, IsReadyFor}
-use Rattle.ss_journal.specs.Entries.{entry_body}
-use Rattle.ss_journal.specs.Checks.{entry_form, entry_in}
+-- A transaction is staged: what the journal shows has its puts.
+use Rattle.std.proofs.Common.{IsTrue, List, [], ap, arith, length, refl, subst, sym, ℕ, ◌++◌, ◌+◌, ◌<◌, ◌∙◌, ◌∷◌, ◌≡◌, ◌≤◌}
+use Rattle.std.proofs.lemmas.List.Elements.{All-weaker}
+use Rattle.std.specs.Prelude.{All}
+use Rattle.ss_journal.specs.Calls.{HasStaged, Stages}
+use Rattle.ss_journal.proofs.NextEntry.{AddsGroup, IsReadyFor}
 use Rattle.ss_journal.specs.declared.kind.Kind.{Kind}
-use Rattle.ss_journal.specs.Format.{entry_bytes, kind_of}
-use Rattle.ss_journal.specs.Gates.{EndsAt, entry_place, opens}
-use Rattle.ss_journal.specs.Kept.{BeginsOpen, EndsBefore, IsBounded, IsKept, IsSettled, JournalState, closed_behind, gate_behind, shown, with_entries}
-use Rattle.ss_journal.specs.Puts.{FillSlots, IsTxn, extent_after, slots_fit}
-use Rattle.ss_journal.specs.Redo.{SlotMap, StandsFor, changed}
+use Rattle.ss_journal.specs.Format.{kind_of, slots_in}
+use Rattle.ss_journal.specs.Gates.{EndsAt}
+use Rattle.ss_journal.specs.Groups.{entry_count, group_bytes}
+use Rattle.ss_journal.specs.Kept.{EndsBefore, HasRoomFor, IfStaged, IsBounded, IsInPhase, IsKept, IsSealed, IsSettled, IsShown, JournalState, shown, staged_bytes, with_entries}
+use Rattle.ss_journal.specs.Newest.{DoAs, newest_after}
+use Rattle.ss_journal.specs.Puts.{FillSlots, IsTxn, extent_after, slots_fit, slots_rise_from}
+use Rattle.ss_journal.specs.Redo.{SameMap, SlotMap, StandsFor, changed, puts_in_use}
+use Rattle.ss_journal.specs.Writes.{AreSlots}
 use Rattle.ss_journal.specs.declared.phase.Phase.TheVariants.{Settled}
+use Rattle.ss_journal.specs.declared.phase.Phase.{Phase}
 use Rattle.ss_journal.specs.declared.put.Put.{Put}
-use Rattle.ss_journal.proofs.CommitLemmas.{AddsEntry-opened, EndsBefore-ready, StandsFor-opened, entry-overwrite}
-use Rattle.ss_journal.proofs.EntryLemmas.{length-entry_body}
-use Rattle.ss_journal.proofs.CheckLemmas.{entry_form-gate, entry_form-twice, length-entry_form}
-use Rattle.ss_journal.proofs.HeaderLemmas.{is_born-parts, kind_of-same}
-use Rattle.ss_journal.proofs.KeptLemmas.{IsReadyFor-settled, IsShown-staged, StandsFor-kept}
-use Rattle.ss_journal.proofs.PutLemmas.{extent_after-most, waiting-below}
-use Rattle.ss_journal.proofs.ShownLemmas.{BeginsOpen-more, EndsBefore-staged, IfStaged-from, closed_behind-fits, with_entries-more}
-
--- an entry of these puts behind its gate, in the form of a kind
-abbrev pub body_of : Kind → ℕ → List Put → List ℕ
-body_of kind n puts = drop 1 (entry_form kind n (165 ∷ entry_body puts))
-
-length-body_of : (kind : Kind) (n : ℕ) (puts : List Put) → FillSlots puts → length puts ≤ 4 → length (body_of kind n puts) ≡ 543
-length-body_of kind n puts whole few =
-    omega (
-      arith,
-      length-drop 1 (entry_form kind n (165 ∷ entry_body puts)),
-      length-entry_form kind n (165 ∷ entry_body puts),
-      length-entry_body puts whole few,
-    )
-
--- an entry that is written over a content with room for it
-module _ (kind : Kind) (n : ℕ) (puts : List Put) (content : List ℕ) (same_kind : kind ≡ kind_of content) (ready : IsReadyFor n puts content) (free : n < 64) (whole : FillSlots puts) (txn : IsTxn puts) where
-  abbrev written : List ℕ
-  written = closed_behind n (165 ∷ body_of kind n puts)
-
-  abbrev image : List ℕ
-  image = overwrite content (entry_place n) written
-
-  long : 36864 ≤ length content
-  long = (is_born-parts content ready.born).0
-
-  within : entry_place n ≤ length content
-  within = omega (arith, long, free)
-
-  size-body : length (body_of kind n puts) ≡ 543
-  size-body = length-body_of kind n puts whole txn.few
-
-  fits : 544 * n + length written ≤ 544 * 64
-  fits = closed_behind-fits n (165 ∷ body_of kind n puts) (omega (arith, free, size-body))
-
-  size : length image ≡ length content
-  size = omega (arith, long, fits, length-overwrite content written (entry_place n) within)
-
-  beside : (place : ℕ) → (place < entry_place n) ⊎ (36864 ≤ place) → slice_index image place ≡ slice_index content place
-  beside place (inl below) = get_or-overwrite_outside content written (entry_place n) within place (inl below)
-  beside place (inr from) = get_or-overwrite_outside content written (entry_place n) within place (inr (omega (arith, from, fits)))
-
-  same-image : kind_of image ≡ kind
-  same-image = kind_of-same content image (omega (arith, long)) (omega (arith, long, size)) (λ place low high. beside place (inl (omega (arith, high))))
-      ∙ sym same_kind
-
-  bytes-entry : entry_bytes image n ≡ 165 ∷ body_of kind n puts
-  bytes-entry = entry-overwrite n content (165 ∷ body_of kind n puts) (gate_behind (544 * n + length (165 ∷ body_of kind n puts))) within (omega (arith, size-body))
-
-  is_entry : entry_in image n ≡ 165 ∷ entry_body puts
-  is_entry =
-      ap (λ (k : Kind). entry_form k n (entry_bytes image n)) same-image
-      ∙ ap (entry_form kind n) (bytes-entry ∙ sym (entry_form-gate kind n 165 (entry_body puts)))
-      ∙ entry_form-twice kind n (165 ∷ entry_body puts)
-
-  -- the gate behind it is closed
-  closed-after : EndsAt (n + 1) image
-  closed-after lt =
-      let end = 544 * n + length (165 ∷ body_of kind n puts) in
-      let before : end < 544 * 64 = omega (arith, lt, size-body) in
-      let one : gate_behind end ≡ 0 ∷ [] = cond-true (nat_lt end (544 * 64)) (0 ∷ []) [] (lt-ltb end (544 * 64) before) in
-      let all : written ≡ 165 ∷ body_of kind n puts ++ 0 ∷ [] = ap (λ (list : List ℕ). 165 ∷ body_of kind n puts ++ list) one in
-      let there : entry_place n + length (165 ∷ body_of kind n puts) ≡ entry_place (n + 1) = omega (arith, size-body) in
-      let inside : length (165 ∷ body_of kind n puts) < length written = omega (arith, ap length all, length-append (165 ∷ body_of kind n puts) (0 ∷ [])) in
-      let byte : slice_index image (entry_place (n + 1)) ≡ 0 =
-      ap (slice_index image) (sym there) ∙ get_or-overwrite_inside content written (entry_place n) within (length (165 ∷ body_of kind n puts)) inside
-      ∙ ap (λ (list : List ℕ). slice_index list (length (165 ∷ body_of kind n puts))) all ∙ get_or-append_seam (165 ∷ body_of kind n puts) 0 [] 0 in
-      subst (λ (b : ℕ). IsFalse (opens b)) (sym byte) refl
-
-  pub AddsEntry-written : AddsEntry n puts content image
-  AddsEntry-written = AddsEntry-opened n puts content image ready free size beside whole txn is_entry closed-after
-
-  pub StandsFor-written : (found : SlotMap) → StandsFor content found → StandsFor image (changed found puts)
-  StandsFor-written = StandsFor-opened n puts content image ready free size beside whole txn is_entry closed-after
+use Rattle.ss_journal.proofs.CommitLemmas.{EndsBefore-ready}
+use Rattle.ss_journal.proofs.GroupLemmas.{AddsGroup-written, StandsFor-written}
+use Rattle.ss_journal.proofs.HeaderLemmas.{is_born-parts}
+use Rattle.ss_journal.proofs.KeptLemmas.{IsReadyFor-settled, StandsFor-kept}
+use Rattle.ss_journal.proofs.MapLemmas.{SameMap-refl, SameMap-trans, changed-same}
+use Rattle.ss_journal.proofs.NewestLemmas.{All-newest_after, DoAs-staged, entry_count-more, entry_count-mono, few-newest_after, first-newest_after, fit-newest_after, rise-newest_after, some-newest_after, with_puts-newest_after}
+use Rattle.ss_journal.proofs.PutLemmas.{AreSlots-rise, extent_after-append, extent_after-most, le-extent_after, slots_fit-below}
+use Rattle.ss_journal.proofs.RedoLemmas.{StandsFor-also, StandsFor-from, StandsFor-parts, StandsFor-same, redo-born}
+use Rattle.ss_journal.proofs.RoomLemmas.{held-after, room-after}
+use Rattle.ss_journal.proofs.ShownLemmas.{IfStaged-from, kind-with_entries, length-group_bytes}
 
 -- what staging makes of a journal
 pub record IsStaged (puts : List Put) (was then : JournalState) : Type 0 where
   pub phase : then.phase ≡ Settled
   pub extent : then.extent ≡ extent_after puts was.extent
-  pub in_use : then.in_use ≡ was.in_use + 1
-  pub waiting : then.waiting ≡ was.waiting ++ puts
+  pub in_use : then.in_use ≡ was.sealed + entry_count (length then.staged)
+  pub waiting : then.waiting ≡ newest_after puts was.waiting
   pub sealed : then.sealed ≡ was.sealed
-  pub staged : then.staged ≡ was.staged ++ 165 ∷ body_of was.kind was.in_use puts
+  pub staged : then.staged ≡ newest_after puts was.staged
   pub kind : then.kind ≡ was.kind
 
+-- the content has room for what is staged
+room-staged : (kind : Kind) (n : ℕ) (staged : List Put) (content : List ℕ) → IfStaged staged (HasRoomFor n staged content)
+    → (staged ≡ [] → EndsBefore n content) → HasRoomFor n staged content
+room-staged kind n [] content before ends = record { ends = ends refl; fit = refl }
+room-staged kind n (put ∷ puts) content before ends = before
+
 module _ (was then : JournalState) (puts : List Put) (bounded : IsBounded was) (settled : IsSettled was) (whole : FillSlots puts) (txn : IsTxn puts)
-    (fit : IsTrue (slots_fit puts was.extent)) (free : was.in_use < 64) (is : IsStaged puts was then) where
-  size-staged : length then.staged ≡ length was.staged + 544
-  size-staged = omega (
-    arith,
-    ap length is.staged,
-    length-append was.staged (165 ∷ body_of was.kind was.in_use puts),
-    length-body_of was.kind was.in_use puts whole txn.few,
-  )
+    (fit : IsTrue (slots_fit puts was.extent)) (free : was.in_use < 64) (rise-waiting : IsTrue (slots_rise_from 0 was.waiting))
+    (rise-staged : IsTrue (slots_rise_from 0 was.staged)) (is : IsStaged puts was then) where
+  are-slots : AreSlots puts
+  are-slots = AreSlots-rise 0 puts txn.rise
+
+  abbrev staged : List Put
+  staged = newest_after puts was.staged
+
+  whole-staged : FillSlots staged
+  whole-staged = All-newest_after (λ (put : Put). length put.bytes ≡ 128) puts was.staged whole bounded.whole
+
+  count-same : entry_count (length then.staged) ≡ entry_count (length staged)
+  count-same = ap (λ (list : List Put). entry_count (length list)) is.staged
+
+  -- an entry more at most
+  in_use-staged : then.in_use ≤ was.in_use + 1
+  in_use-staged =
+      let most : length staged ≤ length was.staged + 4 = omega (arith, few-newest_after puts was.staged, txn.few) in
+      omega (
+        arith,
+        is.in_use,
+        bounded.number,
+        count-same,
+        entry_count-mono (length staged) (length was.staged + 4) most,
+        entry_count-more 4 (length was.staged) (omega arith),
+      )
+
+  -- and one where nothing was staged
+  first-staged : IsSealed was → then.in_use ≡ was.in_use + 1
+  first-staged sealed =
+      let all : staged ≡ puts = ap (newest_after puts) sealed ∙ first-newest_after puts txn.rise in
+      let none : entry_count (length was.staged) ≡ 0 = ap (λ (list : List Put). entry_count (length list)) sealed in
+      omega (arith, is.in_use, bounded.number, none, count-same, ap (λ (list : List Put). length list) all, txn.few, txn.some)
+
+  some-staged : 0 < length then.staged
+  some-staged = subst (λ (list : List Put). 0 < length list) (sym is.staged) (some-newest_after puts was.staged txn.some)
 
   -- its numbers stay in their bounds
   pub IsBounded-staged : IsBounded then
   IsBounded-staged = record {
     extent = omega (arith, is.extent, extent_after-most puts was.extent txn bounded.extent);
-    waiting = rw (is.waiting, is.extent) (waiting-below was.waiting puts was.extent fit bounded.waiting);
+    waiting = rw (is.waiting, is.extent) (All-newest_after (λ (put : Put). put.slot < extent_after puts was.extent) puts was.waiting
+        (slots_fit-below puts was.extent fit) (All-more was.waiting was.extent (extent_after puts was.extent) (le-extent_after puts was.extent) bounded.waiting));
     unborn = λ same. absurd (cc (is.phase, same));
-    in_use = omega (arith, is.in_use, free);
-    few = omega (arith, is.in_use, bounded.few, txn.few, ap length is.waiting, length-append was.waiting puts);
-    staged = omega (arith, is.in_use, is.sealed, size-staged, bounded.staged);
-    gate = subst BeginsOpen (sym is.staged) (BeginsOpen-more was.staged (body_of was.kind was.in_use puts) bounded.gate);
+    in_use = omega (arith, in_use-staged, free);
+    few = rw (is.waiting, is.staged, is.sealed) (omega (arith, bounded.few, room-after puts was.staged was.waiting bounded.held rise-waiting are-slots));
+    held = rw (is.waiting, is.staged) (held-after puts was.staged was.waiting bounded.held);
+    number = is.in_use ∙ ap (λ (n : ℕ). n + entry_count (length then.staged)) (sym is.sealed);
+    whole = subst FillSlots (sym is.staged) whole-staged;
   }
+    where
+      All-more : (list : List Put) (low high : ℕ) → low ≤ high → All (λ put. put.slot < low) list → All (λ put. put.slot < high) list
+      All-more list low high le all = All-weaker (λ (p : Put). p.slot < low) (λ (p : Put). p.slot < high) (λ p lt. omega (arith, lt, le)) list all
+
+  -- what that makes of the journal
+  pub has-staged : (journal : JournalState) → was ≡ journal → HasStaged puts journal then
+  has-staged journal same = subst (λ (j : JournalState). HasStaged puts j then) same (record {
+    kind = is.kind;
+    settled = is.phase;
+    extent = is.extent;
+    staged = is.staged;
+    some = some-staged;
+    number = is.in_use;
+    in_use = in_use-staged;
+    first = first-staged;
+  })
 
   -- over a content that it keeps
   module _ (content : List ℕ) (kept : IsKept was content) where
     ready : IsReadyFor was.in_use puts (shown was content)
     ready = IsReadyFor-settled was (shown was content) settled kept.shown puts fit
 
-    ends : EndsBefore was.sealed content
-    ends = EndsBefore-staged was.sealed was.in_use was.staged content bounded.staged kept.before
-        (EndsBefore-ready was.in_use puts (shown was content) ready free)
+    sealed-ends : was.staged ≡ [] → EndsBefore was.sealed content
+    sealed-ends none =
+        let count : was.in_use ≡ was.sealed = omega (arith, bounded.number, ap (λ (list : List Put). entry_count (length list)) none) in
+        let same : shown was content ≡ content = ap (λ (list : List Put). with_entries was.sealed (group_bytes was.kind was.sealed (entry_count (length list)) list) content) none in
+        subst (λ (n : ℕ). EndsBefore n content) count
+        (subst (EndsBefore was.in_use) same (EndsBefore-ready was.in_use puts (shown was content) ready free))
 
-    within-sealed : entry_place was.sealed ≤ length content
-    within-sealed = omega (arith, (is_born-parts content ends.born).0, bounded.staged, free)
+    room : HasRoomFor was.sealed was.staged content
+    room = room-staged was.kind was.sealed was.staged content kept.before sealed-ends
 
-    more : shown then content ≡ overwrite (shown was content) (entry_place was.in_use)
-        (closed_behind was.in_use (165 ∷ body_of was.kind was.in_use puts))
+    abbrev base : SlotMap
+    base = room.ends.found
+
+    long : 36864 ≤ length content
+    long = (is_born-parts content room.ends.born).0
+
+    kind-same : was.kind ≡ kind_of content
+    kind-same = kept.shown.kind ∙ kind-with_entries was.sealed (staged_bytes was) content long
+        (omega (arith, bounded.number, free, length-group_bytes was.kind was.sealed (entry_count (length was.staged)) was.staged bounded.whole))
+
+    -- the content, with what was staged
+    before-added : AddsGroup was.sealed was.staged content (shown was content)
+    before-added = AddsGroup-written was.kind was.sealed was.staged content kind-same room rise-staged bounded.whole (omega (arith, bounded.number, free))
+
+    before-stands : (found : SlotMap) → StandsFor content found → StandsFor (shown was content) (changed found was.staged)
+    before-stands = StandsFor-written was.kind was.sealed was.staged content kind-same room rise-staged bounded.whole (omega (arith, bounded.number, free))
+
+    base-stands : StandsFor content base
+    base-stands = StandsFor-from content base base room.ends.map (SameMap-refl base)
+
+    same-shown : (found : SlotMap) → StandsFor (shown was content) found → SameMap (changed base was.staged) found
+    same-shown found stands = StandsFor-same (shown was content) (changed base was.staged) found (before-stands base base-stands) stands
+
+    extent-shown : extent_after was.staged base.extent ≡ was.extent
+    extent-shown = (same-shown kept.shown.found (StandsFor-kept was (shown was content) settled kept.shown)).extent ∙ kept.shown.extent
+
+    -- the new puts fit behind them
+    both-fit : IsTrue (slots_fit staged base.extent) × (extent_after staged base.extent ≡ extent_after puts (extent_after was.staged base.extent))
+    both-fit = fit-newest_after puts was.staged base.extent rise-staged are-slots room.fit
+        (subst (λ (n : ℕ). IsTrue (slots_fit puts n)) (sym extent-shown) fit)
+
+    room-then : HasRoomFor was.sealed staged content
+    room-then = record { ends = room.ends; fit = both-fit.0 }
+
+    rise-then : IsTrue (slots_rise_from 0 staged)
+    rise-then = rise-newest_after puts was.staged rise-staged are-slots
+
+    free-then : was.sealed + entry_count (length staged) ≤ 64
+    free-then = omega (arith, in_use-staged, is.in_use, count-same, free)
+
+    more : shown then content ≡ with_entries was.sealed (group_bytes was.kind was.sealed (entry_count (length staged)) staged) content
     more =
-        ap (λ (n : ℕ). with_entries n then.staged content) is.sealed ∙ ap (λ (bytes : List ℕ). with_entries was.sealed bytes content) is.staged
-        ∙ with_entries-more was.sealed was.in_use 165 was.staged (body_of was.kind was.in_use puts) content within-sealed bounded.staged
+        ap (λ (n : ℕ). with_entries n (group_bytes then.kind n (entry_count (length then.staged)) then.staged) content) is.sealed
+        ∙ ap (λ (k : Kind). with_entries was.sealed (group_bytes k was.sealed (entry_count (length then.staged)) then.staged) content) is.kind
+        ∙ ap (λ (list : List Put). with_entries was.sealed (group_bytes was.kind was.sealed (entry_count (length list)) list) content) is.staged
+
+    added : AddsGroup was.sealed staged content (shown then content)
+    added = subst (AddsGroup was.sealed staged content) (sym more)
+        (AddsGroup-written was.kind was.sealed staged content kind-same room-then rise-then whole-staged free-then)
+
+    same-changed : (found : SlotMap) → StandsFor (shown was content) found → SameMap (changed base staged) (changed found puts)
+    same-changed found stands = SameMap-trans (changed base staged) (changed (changed base was.staged) puts) (changed found puts)
+        (record {
+          bytes = λ slot lt. with_puts-newest_after puts was.staged rise-staged are-slots base.bytes slot;
+          extent = both-fit.1;
+        })
+        (changed-same puts (changed base was.staged) found (same-shown found stands))
 
     pub StandsFor-staged : (found : SlotMap) → StandsFor (shown was content) found → StandsFor (shown then content) (changed found puts)
     StandsFor-staged found stands = subst (λ (list : List ℕ). StandsFor list (changed found puts)) (sym more)
-        (StandsFor-written was.kind was.in_use puts (shown was content) kept.shown.kind ready free whole txn found stands)
+        (StandsFor-also _ (changed base staged) (changed found puts)
+        (StandsFor-written was.kind was.sealed staged content kind-same room-then rise-then whole-staged free-then base base-stands)
+        (same-changed found stands))
+
+    -- the puts that wait do what those of the entries do
+    waits : DoAs (puts_in_use (shown then content)) (slots_in (length (shown then content))) then.waiting
+    waits =
+        let size = slots_in (length content) in
+        let redone = redo-born content base room.ends.born room.ends.map in
+        let base-extent : base.extent ≡ extent_after (puts_in_use content) size = ap (λ (m : SlotMap). m.extent) redone.0 in
+        let did : DoAs (puts_in_use content ++ was.staged) size was.waiting =
+        subst (λ (list : List Put). DoAs list size was.waiting) before-added.all
+        (subst (λ (n : ℕ). DoAs (puts_in_use (shown was content)) (slots_in n) was.waiting) before-added.size kept.shown.waiting) in
+        let all-extent : extent_after (puts_in_use content ++ was.staged) size ≡ was.extent =
+        extent_after-append (puts_in_use content) was.staged size ∙ ap (extent_after was.staged) (sym base-extent) ∙ extent-shown in
+        let does : DoAs (puts_in_use content ++ staged) size (newest_after puts was.waiting) =
+        DoAs-staged (puts_in_use content) was.staged puts was.waiting size rise-waiting rise-staged are-slots whole did
+        (subst (λ (n : ℕ). IsTrue (slots_fit was.staged n)) base-extent room.fit)
+        (subst (λ (n : ℕ). IsTrue (slots_fit puts n)) (sym all-extent) fit) in
+        subst (DoAs (puts_in_use (shown then content)) (slots_in (length (shown then content)))) (sym is.waiting)
+        (subst (λ (n : ℕ). DoAs (puts_in_use (shown then content)) (slots_in n) (newest_after puts was.waiting)) (sym added.size)
+        (subst (λ (list : List Put). DoAs list size (newest_after puts was.waiting)) (sym added.all) does))
+
+    shows-then : IsShown then (shown then content)
+    shows-then =
+        let parts = StandsFor-parts (shown then content) (changed kept.shown.found puts)
+        (StandsFor-staged kept.shown.found (StandsFor-kept was (shown was content) settled kept.shown)) in
+        let all : then.in_use ≡ was.sealed + entry_count (length staged) = omega (arith, is.in_use, count-same) in
+        record {
+          kind = is.kind ∙ kind-same ∙ sym added.kind;
+          phase = subst (λ (p : Phase). IsInPhase p then.in_use (shown then content)) (sym is.phase)
+              (added.born, subst (λ (n : ℕ). EndsAt n (shown then content)) (sym all) added.closed);
+          number = all ∙ added.number;
+          waiting = waits;
+          found = parts.0;
+          map = parts.1;
+          extent = parts.2.extent ∙ ap (extent_after puts) kept.shown.extent ∙ sym is.extent;
+        }
 
     pub IsKept-staged : IsKept then content
     IsKept-staged = record {
-      shown = IsShown-staged was (shown was content) settled kept.shown puts then (shown then content)
-          (subst (AddsEntry was.in_use puts (shown was content)) (sym more)
-          (AddsEntry-written was.kind was.in_use puts (shown was content) kept.shown.kind ready free whole txn))
-          (StandsFor-staged kept.shown.found (StandsFor-kept was (shown was content) settled kept.shown)) is.phase is.extent is.in_use is.waiting is.kind;
-      before = IfStaged-from then.staged (subst (λ (n : ℕ). EndsBefore n content) (sym is.sealed) ends);
+      shown = shows-then;
+      before = IfStaged-from then.staged (subst (λ (n : ℕ). HasRoomFor n then.staged content) (sym is.sealed)
+          (subst (λ (list : List Put). HasRoomFor was.sealed list content) (sym is.staged) room-then));
     }
 
   pub stages : (journal : JournalState) (content : List ℕ) → was ≡ journal → Stages puts journal then content

@@ -1,22 +1,22 @@
--- Puts are written into their slots one after another, and zeros piece by piece.
-use Rattle.std.proofs.Common.{List, Ok, Result, [], ap, arith, drop, get_or, length, refl, replicate, sym, subst, take, ℕ, ◌++◌, ◌+◌, ◌-◌, ◌<◌, ◌^◌, ◌∙◌, ◌∷◌}
+-- Puts are written into their slots run by run, and zeros piece by piece.
+use Rattle.std.proofs.Common.{List, Ok, Result, [], ap, arith, drop, length, refl, replicate, sym, subst, take, ℕ, ◌++◌, ◌+◌, ◌*◌, ◌-◌, ◌<◌, ◌^◌, ◌∙◌, ◌∷◌}
 use Rattle.std.proofs.Common.{◌≡◌, ◌≤◌}
-use Rattle.std.proofs.lemmas.List.{append-nil, drop_all, length-replicate, take-append-drop, take-replicate}
+use Rattle.std.proofs.lemmas.List.Elements.{All-drop, All-take}
+use Rattle.std.proofs.lemmas.List.{drop-drop, drop_all, length-replicate, length-take-le, take-append-drop, take-replicate}
 use Rattle.std.proofs.lemmas.Result.{on_ok_weaker}
-use Rattle.std.specs.Prelude.{IsErr}
+use Rattle.std.specs.Prelude.{All, IsErr}
 use Rattle.ss_outside.specs.Crash.{KnowsNow}
 use Rattle.ss_outside.specs.Disk.{Told, overwrite}
 use Rattle.ss_outside.specs.Step.{Syncs}
 use Rattle.ss_outside.specs.declared.source.Failed.{Failed}
-use Rattle.ss_journal.specs.Checks.{slot_form}
 use Rattle.ss_journal.specs.declared.kind.Kind.{Kind}
 use Rattle.ss_journal.specs.Format.{slot_place}
+use Rattle.ss_journal.specs.Puts.{FillSlots}
 use Rattle.ss_journal.specs.Steps.{Durably, Rewrites, Writes, WritesSlots, WritesZeros}
-use Rattle.ss_journal.specs.Writes.{HasSlotsFor, Tears, slot_ranges, slots_written}
+use Rattle.ss_journal.specs.Writes.{AreSlots, HasSlotsFor, Tears, run_bytes, run_length, slot_ranges, slots_written}
 use Rattle.ss_journal.specs.declared.put.Put.{Put}
-use Rattle.ss_journal.proofs.CheckLemmas.{length-slot_form}
-use Rattle.ss_journal.proofs.RangeLemmas.{Covers-part, overwrite-zeros}
-use Rattle.ss_journal.proofs.SlotLemmas.{Covers-slot, HasSlotsFor-more, slots_written-more}
+use Rattle.ss_journal.proofs.RangeLemmas.{Covers-part, overwrite-none, overwrite-zeros}
+use Rattle.ss_journal.proofs.RunLemmas.{Covers-run, HasSlotsFor-append, length-run_bytes, run_length-le, slots_written-append, slots_written-run, within-run}
 use Rattle.ss_journal.proofs.StepLemmas.{rewrites-synced}
 use Rattle.ss_journal.proofs.TearLemmas.{on_err, tears-more, tears-none}
 
@@ -29,29 +29,44 @@ pub record WrittenTo (kind : Kind) (puts : List Put) (k : ℕ) (old new : Told) 
 pub WrittenTo-none : (kind : Kind) (puts : List Put) (disk : Told) → KnowsNow disk → HasSlotsFor puts disk.content → WrittenTo kind puts 0 disk disk
 WrittenTo-none kind puts disk knows places = record { tears = tears-none (slot_ranges puts) disk knows; written = refl; places = places }
 
-module _ (kind : Kind) (puts : List Put) (k : ℕ) (d : Put) (old mid new : Told) (knows : KnowsNow mid) (lt : k < length puts)
-    (so_far : WrittenTo kind puts k old mid) where
-  abbrev bytes : List ℕ
-  bytes = slot_form kind (get_or puts k d).slot (get_or puts k d).bytes
+-- a run of the puts that are left
+module _ (kind : Kind) (puts rest : List Put) (k n slot : ℕ) (old mid new : Told) (knows : KnowsNow mid) (left : rest ≡ drop k puts) (some : 0 < n)
+    (neighbours : n ≤ run_length slot rest) (whole : FillSlots (take n rest)) (so_far : WrittenTo kind puts k old mid) where
+  abbrev run : List Put
+  run = take n rest
 
-  tears-slot : {result : Result (Unit {0}) Failed} → length (get_or puts k d).bytes ≡ 128
-      → Writes (slot_place (get_or puts k d).slot) bytes result mid new → Tears (slot_ranges puts) old new
-  tears-slot whole step = tears-more old mid new (slot_ranges puts) knows so_far.tears (slot_place (get_or puts k d).slot) 128
-      (Covers-slot puts k d lt) (subst (λ (n : ℕ). Tears ((slot_place (get_or puts k d).slot, n) ∷ []) mid new)
-      (length-slot_form kind (get_or puts k d).slot (get_or puts k d).bytes ∙ whole) step.tears)
+  tears-run : {result : Result (Unit {0}) Failed} → Writes (slot_place slot) (run_bytes kind run) result mid new → Tears (slot_ranges puts) old new
+  tears-run step =
+      let count : length run ≡ n = length-take-le n rest (run_length-le slot n rest neighbours) in
+      let size : length (run_bytes kind run) ≡ 128 * n = omega (arith, count, length-run_bytes kind run whole) in
+      tears-more old mid new (slot_ranges puts) knows so_far.tears (slot_place slot) (128 * n)
+      (Covers-run puts k slot n some (subst (λ (list : List Put). n ≤ run_length slot list) left neighbours))
+      (subst (λ (bytes : ℕ). Tears ((slot_place slot, bytes) ∷ []) mid new) size step.tears)
 
-  pub WrittenTo-more : (value : Unit {0}) → (get_or puts k d).slot < 2 ^ 20 → length (get_or puts k d).bytes ≡ 128
-      → Writes (slot_place (get_or puts k d).slot) bytes (Ok value) mid new → WrittenTo kind puts (k + 1) old new
-  WrittenTo-more value few whole step = record {
-    tears = tears-slot whole step;
-    written = rw step.written (slots_written-more kind puts k d mid.content lt ∙ so_far.written);
-    places = rw step.written (HasSlotsFor-more kind puts k d mid.content lt few whole so_far.places);
-  }
+  pub WrittenTo-more : (value : Unit {0}) → AreSlots puts → Writes (slot_place slot) (run_bytes kind run) (Ok value) mid new
+      → WrittenTo kind puts (k + n) old new
+  WrittenTo-more value slots step =
+      let In = λ (put : Put). put.slot < 2 ^ 20 in
+      let behind = drop (k + n) puts in
+      let after : drop n rest ≡ behind = ap (drop n) left ∙ drop-drop n k puts in
+      let all : run ++ behind ≡ drop k puts = ap (λ (list : List Put). run ++ list) (sym after) ∙ take-append-drop n rest ∙ left in
+      let room = subst (λ (list : List Put). HasSlotsFor list mid.content) (sym left) so_far.places in
+      let within = within-run rest slot mid.content (omega (arith, some, neighbours)) room in
+      let wrote : slots_written kind run mid.content ≡ new.content = slots_written-run kind rest slot n mid.content neighbours whole within
+      ∙ sym step.written in
+      record {
+        tears = tears-run step;
+        written = ap (slots_written kind behind) (sym wrote) ∙ sym (slots_written-append kind run behind mid.content)
+            ∙ ap (λ (list : List Put). slots_written kind list mid.content) all ∙ so_far.written;
+        places = subst (HasSlotsFor behind) wrote (HasSlotsFor-append kind run behind mid.content
+            (All-take In n rest (subst (All In) (sym left) (All-drop In k puts slots))) whole
+            (subst (λ (list : List Put). HasSlotsFor list mid.content) (sym all) so_far.places));
+      }
 
-  pub WrittenTo-failed : {step : Result (Unit {0}) Failed} (result : Result (Unit {0}) Failed) → IsErr result → length (get_or puts k d).bytes ≡ 128
-      → Writes (slot_place (get_or puts k d).slot) bytes step mid new → Durably (WritesSlots kind puts) result old new
-  WrittenTo-failed result is whole step = record {
-    step = record { tears = tears-slot whole step; written = on_err result _ is };
+  pub WrittenTo-failed : {step : Result (Unit {0}) Failed} (result : Result (Unit {0}) Failed) → IsErr result
+      → Writes (slot_place slot) (run_bytes kind run) step mid new → Durably (WritesSlots kind puts) result old new
+  WrittenTo-failed result is step = record {
+    step = record { tears = tears-run step; written = on_err result _ is };
     durable = on_err result _ is;
   }
 
@@ -70,17 +85,12 @@ pub record BlankTo (at from end : ℕ) (old new : Told) : Type 0 where
   pub tears : Tears ((at, end - at) ∷ []) old new
   pub written : new.content ≡ overwrite old.content at (replicate (from - at) 0)
 
-overwrite-none : (content : List ℕ) (at : ℕ) → at ≤ length content → content ≡ overwrite content at (replicate (at - at) 0)
-overwrite-none content at within =
-    let none : at - at ≡ 0 = omega arith in
-    let here : at + 0 ≡ at = omega arith in
-    sym (ap (λ (n : ℕ). overwrite content at (replicate n 0)) none ∙ ap (λ (front : List ℕ). front ++ drop (at + 0) content) (append-nil (take at content))
-    ∙ ap (λ (n : ℕ). take at content ++ drop n content) here ∙ take-append-drop at content)
-
 pub BlankTo-none : (at end : ℕ) (disk : Told) → KnowsNow disk → at ≤ length disk.content → BlankTo at at end disk disk
 BlankTo-none at end disk knows within = record {
   tears = tears-none ((at, end - at) ∷ []) disk knows;
-  written = overwrite-none disk.content at within;
+  written =
+      let none : at - at ≡ 0 = omega arith in
+      overwrite-none disk.content at within ∙ sym (ap (λ (n : ℕ). overwrite disk.content at (replicate n 0)) none);
 }
 
 module _ (at from end count : ℕ) (old mid new : Told) (knows : KnowsNow mid) (low : at ≤ from) (high : from + count ≤ end)

@@ -1,5 +1,5 @@
 -- What the calls of a journal leave of the map, also in a crash, and what they make of the journal.
-use Rattle.std.specs.Prelude.{Bool, true, not, ◌&&◌, ◌||◌, ◌≡◌, ◌⊎◌, ℕ, ◌+◌, ◌*◌, ◌<◌, nat_lt, if◌then◌else◌, List, length, take, drop}
+use Rattle.std.specs.Prelude.{Bool, true, not, ◌&&◌, ◌||◌, ◌≡◌, ◌⊎◌, ℕ, ◌+◌, ◌*◌, ◌<◌, ◌≤◌, nat_lt, if◌then◌else◌, List, length, take, drop}
 use Rattle.std.specs.Prelude.{Result, Ok, Err, IfOk, OnOk, IsTrue, IsFalse}
 use Rattle.ss_outside.specs.Crash.{LeavesOnly, OnlyReads}
 use Rattle.ss_outside.specs.Verdict.{Verdict, fine, refused, no_memory, failed}
@@ -12,7 +12,9 @@ use Rattle.ss_journal.specs.declared.format.TheConstants.{ENTRIES, PAGE_SLOTS, S
 use Rattle.ss_journal.specs.declared.kind.Kind.TheVariants.{Checked}
 use Rattle.ss_journal.specs.Birth.{has_no_kind}
 use Rattle.ss_journal.specs.Format.{is_unborn, is_born, is_plain, kind_of}
+use Rattle.ss_journal.specs.Groups.{entry_count}
 use Rattle.ss_journal.specs.Kept.{IfStaged, JournalState, IsKept, IsSealed, IsSettled, OpensMapAs, shown}
+use Rattle.ss_journal.specs.Newest.{newest_after}
 use Rattle.ss_journal.specs.Puts.{extent_after}
 use Rattle.ss_journal.specs.Redo.{SlotMap, StandsFor, changed}
 use Rattle.ss_journal.specs.Writes.{SameRest}
@@ -148,13 +150,17 @@ pub record HasSealed (old new : JournalState) : Type 0 where
   pub waiting : new.waiting ≡ old.waiting
   pub sealed : IsSealed new
 
--- What staging these puts makes of a journal, over every disk: they are in an entry more, which is staged.
+-- What staging these puts makes of a journal, over every disk: of all that is staged each slot's newest put alone, in as few entries as
+-- hold them. So they take an entry more at most, and just one where nothing was staged.
 pub record HasStaged (puts : List Put) (old new : JournalState) : Type 0 where
   pub kind : new.kind ≡ old.kind
   pub settled : IsSettled new
   pub extent : new.extent ≡ extent_after puts old.extent
-  pub in_use : new.in_use ≡ old.in_use + 1
+  pub staged : new.staged ≡ newest_after puts old.staged
   pub some : 0 < length new.staged
+  pub number : new.in_use ≡ old.sealed + entry_count (length new.staged)
+  pub in_use : new.in_use ≤ old.in_use + 1
+  pub first : IsSealed old → new.in_use ≡ old.in_use + 1
 
 -- A journal over a content became another by staging these puts: it shows the map with them.
 pub record Stages (puts : List Put) (was is : JournalState) (content : List ℕ) : Type 0 where

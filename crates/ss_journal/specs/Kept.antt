@@ -2,31 +2,29 @@
 use Rattle.std.specs.Prelude.{◌≡◌, ◌≢◌, ℕ, ◌+◌, ◌*◌, ◌<◌, ◌≤◌, nat_lt, if◌then◌else◌, List, [], ◌∷◌, ◌++◌, length, IsTrue, All, Result, Ok, Err, ⊤}
 use Rattle.ss_outside.specs.Disk.{overwrite}
 use Rattle.ss_journal.specs.declared.put.Put.{Put}
-use Rattle.ss_journal.specs.declared.format.TheConstants.{ENTRIES, ENTRY_SIZE, GATE_OPEN, MOST_PUTS, MOST_SLOTS}
+use Rattle.ss_journal.specs.declared.format.TheConstants.{ENTRIES, ENTRY_SIZE, MOST_PUTS, MOST_SLOTS}
 use Rattle.ss_journal.specs.declared.phase.Phase.{Phase}
 use Rattle.ss_journal.specs.declared.phase.Phase.TheVariants.{Unborn, Born, Settled, Stopped}
 use Rattle.ss_journal.specs.declared.journal_error.JournalError.{JournalError}
 use Rattle.ss_journal.specs.declared.journal_error.JournalError.TheVariants.{Disk, NotAStore, BadEntry, OutOfMemory}
 use Rattle.ss_journal.specs.Gates.{EndsAt, IsClosed, entry_place}
 use Rattle.ss_journal.specs.declared.kind.Kind.{Kind}
-use Rattle.ss_journal.specs.Format.{is_unborn, is_born, kind_of}
+use Rattle.ss_journal.specs.Format.{is_unborn, is_born, kind_of, slots_in}
+use Rattle.ss_journal.specs.Groups.{entry_count, group_bytes}
+use Rattle.ss_journal.specs.Newest.{DoAs}
+use Rattle.ss_journal.specs.Puts.{FillSlots, is_put, slots_fit}
 use Rattle.ss_journal.specs.Redo.{SlotMap, not_a_store, bad_entry, stands, redo, entries_in_use, puts_in_use}
 
--- a journal: its phase, its extent, the number of entries in use, and their puts; how many of the entries stand in the file, and
--- the bytes of those after them, which are staged; and the kind of the file
+-- a journal: its phase, its extent, the number of entries in use, and the newest of their puts; how many of the entries stand in the
+-- file, and the puts of those after them, which are staged; and the kind of the file
 pub record JournalState : Type 0 where
   pub phase : Phase
   pub extent : ℕ
   pub in_use : ℕ
   pub waiting : List Put
   pub sealed : ℕ
-  pub staged : List ℕ
+  pub staged : List Put
   pub kind : Kind
-
--- bytes of entries, if any, begin with an open gate
-abbrev pub BeginsOpen : List ℕ → Type 0
-BeginsOpen [] = ⊤
-BeginsOpen (gate ∷ bytes) = gate ≡ GATE_OPEN
 
 -- what is true of each journal, whatever the disk tells
 pub record IsBounded (journal : JournalState) : Type 0 where
@@ -34,10 +32,12 @@ pub record IsBounded (journal : JournalState) : Type 0 where
   pub waiting : All (λ put. put.slot < journal.extent) journal.waiting
   pub unborn : journal.phase ≡ Unborn → journal.waiting ≡ []
   pub in_use : journal.in_use ≤ ENTRIES
-  pub few : length journal.waiting ≤ MOST_PUTS * journal.in_use
-  pub staged : ENTRY_SIZE * journal.sealed + length journal.staged ≡ ENTRY_SIZE * journal.in_use
-  -- what is staged begins with an open gate
-  pub gate : BeginsOpen journal.staged
+  pub few : length journal.waiting ≤ MOST_PUTS * journal.sealed + length journal.staged
+  -- what is staged waits too
+  pub held : (slot : ℕ) → IsTrue (is_put journal.staged slot) → IsTrue (is_put journal.waiting slot)
+  -- the entries in use are those of the file and those that hold what is staged
+  pub number : journal.in_use ≡ journal.sealed + entry_count (length journal.staged)
+  pub whole : FillSlots journal.staged
 
 -- no call has failed
 abbrev pub IsRunning : JournalState → Type 0
@@ -75,17 +75,21 @@ abbrev pub with_entries : ℕ → List ℕ → List ℕ → List ℕ
 with_entries n [] content = content
 with_entries n (gate ∷ bytes) content = overwrite content (entry_place n) (closed_behind n (gate ∷ bytes))
 
--- what a journal shows over a content: the content with the entries that are staged
-abbrev pub shown : JournalState → List ℕ → List ℕ
-shown journal content = with_entries journal.sealed journal.staged content
+-- the entries of what is staged
+abbrev pub staged_bytes : JournalState → List ℕ
+staged_bytes journal = group_bytes journal.kind journal.sealed (entry_count (length journal.staged)) journal.staged
 
--- One disk: what the journal shows over the content is as it keeps it. The entries in use are those that the journal keeps, and
--- once settled the gate after them is closed.
+-- what a journal shows over a content: the content with the entries of what is staged
+abbrev pub shown : JournalState → List ℕ → List ℕ
+shown journal content = with_entries journal.sealed (staged_bytes journal) content
+
+-- One disk: what the journal shows over the content is as it keeps it. The puts that the journal keeps do what those of the entries in
+-- use do, and once settled the gate after these is closed.
 pub record IsShown (journal : JournalState) (content : List ℕ) : Type 0 where
   pub kind : journal.kind ≡ kind_of content
   pub phase : IsInPhase journal.phase journal.in_use content
   pub number : journal.in_use ≡ length (entries_in_use content)
-  pub waiting : journal.waiting ≡ puts_in_use content
+  pub waiting : DoAs (puts_in_use content) (slots_in (length content)) journal.waiting
   pub found : SlotMap
   pub map : redo content ≡ stands found
   pub extent : found.extent ≡ journal.extent
@@ -98,15 +102,20 @@ pub record EndsBefore (n : ℕ) (content : List ℕ) : Type 0 where
   pub found : SlotMap
   pub map : redo content ≡ stands found
 
--- a fact where something is staged
-abbrev pub IfStaged : List ℕ → Type 0 → Type 0
-IfStaged [] P = ⊤
-IfStaged (gate ∷ bytes) P = P
+-- a content that ends before entry n, and that stands for a map into which these puts fit
+pub record HasRoomFor (n : ℕ) (puts : List Put) (content : List ℕ) : Type 0 where
+  pub ends : EndsBefore n content
+  pub fit : IsTrue (slots_fit puts ends.found.extent)
 
--- One disk: what the journal shows is as it keeps it, and where entries are staged the content ends before them.
+-- a fact where something is staged
+abbrev pub IfStaged : List Put → Type 0 → Type 0
+IfStaged [] P = ⊤
+IfStaged (put ∷ puts) P = P
+
+-- One disk: what the journal shows is as it keeps it, and where puts are staged the content ends before their entries.
 pub record IsKept (journal : JournalState) (content : List ℕ) : Type 0 where
   pub shown : IsShown journal (shown journal content)
-  pub before : IfStaged journal.staged (EndsBefore journal.sealed content)
+  pub before : IfStaged journal.staged (HasRoomFor journal.sealed journal.staged content)
 
 -- what opening a content answers
 abbrev pub OpensMapAs : List ℕ → Result JournalState JournalError → Type 0

@@ -10,3 +10,5 @@ pub mod Birth
 pub mod Calls
 pub mod Opening
 pub mod Steps
+pub mod Newest
+pub mod Groups

@@ -33,7 +33,7 @@ IfNext (Ok (Some puts)) P = P puts.items
 IfNext (Ok None) P = ⊤
 IfNext (Err error) P = ⊤
 
--- so many entries of a content are in use, with these puts, and this is the extent after them
+-- so many entries of a content are in use, these puts do what theirs do, and this is the extent after them
 pub record AreEntries (content : List ℕ) (count : ℕ) (puts : List Put) (last : ℕ) : Type 0 where
   pub number : count ≡ length (entries_in_use content)
   pub in_use : InUse puts content

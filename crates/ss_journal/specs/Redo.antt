@@ -6,6 +6,7 @@ use Rattle.ss_journal.specs.Format.{is_unborn, is_born, kind_of, slots_in}
 use Rattle.ss_journal.specs.declared.kind.Kind.{Kind}
 use Rattle.ss_journal.specs.declared.format.TheConstants.{SLOT_SIZE, MOST_SLOTS}
 use Rattle.ss_journal.specs.Puts.{with_puts, extent_after, AgreeBeside}
+use Rattle.ss_journal.specs.Newest.{DoAs}
 use Rattle.ss_journal.specs.Entries.{puts_of, is_good, open_prefix, entries}
 
 -- a map from slots to their 128 bytes, and its extent: slots from there on were never used
@@ -73,13 +74,13 @@ entries_in_use image = if is_born image then open_prefix (entries image) else []
 abbrev pub puts_in_use : List ℕ → List Put
 puts_in_use image = flat_map puts_of (entries_in_use image)
 
--- the content stands for a map, and these are the puts of its entries in use, in order
+-- the content stands for a map, and these puts do what those of its entries in use do
 pub record InUse (puts : List Put) (content : List ℕ) : Type 0 where
-  pub all : puts ≡ puts_in_use content
+  pub all : DoAs (puts_in_use content) (slots_in (length content)) puts
   pub found : SlotMap
   pub map : redo content ≡ stands found
 
--- a formatted file of a kind, with these puts in its entries in use
+-- a formatted file of a kind, and puts that do what those of its entries in use do
 pub record HasEntries (is : Kind) (puts : List Put) (content : List ℕ) : Type 0 where
   pub kind : is ≡ kind_of content
   pub born : IsTrue (is_born content)

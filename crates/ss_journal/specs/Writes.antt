@@ -1,5 +1,5 @@
 -- What the journal's writes make of a content, and what a crash may make of it before they are synced.
-use Rattle.std.specs.Prelude.{◌≡◌, ℕ, ◌+◌, ◌<◌, ◌≤◌, max, List, [], ◌∷◌, length, slice_index, EachIndex, All, IsTrue, map}
+use Rattle.std.specs.Prelude.{◌≡◌, ℕ, ◌+◌, ◌<◌, ◌≤◌, max, nat_eq, if◌then◌else◌, List, [], ◌∷◌, length, slice_index, EachIndex, All, IsTrue, map, flat_map}
 use Rattle.ss_outside.specs.Crash.{LeavesOnly}
 use Rattle.ss_outside.specs.Disk.{Told, overwrite, IsOutsideAll}
 use Rattle.ss_journal.specs.declared.put.Put.{Put}
@@ -43,6 +43,15 @@ abbrev pub slots_written : Kind → List Put → List ℕ → List ℕ
 slots_written kind [] content = content
 slots_written kind (put ∷ puts) content =
     slots_written kind puts (overwrite content (slot_place put.slot) (slot_form kind put.slot put.bytes))
+
+-- how many puts at the front are for neighbouring slots, from `slot` on
+abbrev pub run_length : ℕ → List Put → ℕ
+run_length slot [] = 0
+run_length slot (put ∷ puts) = if nat_eq put.slot slot then run_length (slot + 1) puts + 1 else 0
+
+-- the puts' bytes one after the other, each in the form of a kind
+abbrev pub run_bytes : Kind → List Put → List ℕ
+run_bytes kind puts = flat_map (λ put. slot_form kind put.slot put.bytes) puts
 
 -- the slots that a file can have
 abbrev pub AreSlots : List Put → Type 0

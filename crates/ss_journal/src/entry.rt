@@ -127,12 +127,11 @@ fn write_put(entry: &mut [u8; ENTRY_SIZE], k: usize, put: &Put)
 }
 
 // The entry of the puts, with its gate closed.
-pub fn entry_of(puts: &Txn) -> [u8; ENTRY_SIZE]
-    requires { IsTxn puts.now.items }
-    ensures value { result ≡ 0 ∷ entry_body puts.now.items }
-    ensures whole { FillSlots puts.now.items }
+pub fn entry_of(puts: &[Put]) -> [u8; ENTRY_SIZE]
+    requires { length puts.now ≤ MOST_PUTS }
+    ensures value { result ≡ 0 ∷ entry_body puts.now }
+    ensures whole { FillSlots puts.now }
 {
-    let puts = puts.as_slice();
     let mut entry = [0; ENTRY_SIZE];
     entry[1] = puts.len() as u8;
     for k in 0..puts.len() {

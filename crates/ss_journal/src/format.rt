@@ -24,7 +24,7 @@ pub const ENTRY_SIZE: usize = 544;
 /// Where the first entry begins.
 pub const FIRST_ENTRY: u64 = 512;
 
-/// How many puts a transaction has at most. An entry holds one transaction.
+/// How many puts a transaction has at most, and an entry.
 pub const MOST_PUTS: usize = 4;
 
 // The size of a put in an entry: the number of the slot, then its bytes.

@@ -1,19 +1,19 @@
 // The journal.
 use crate::JournalError;
 use crate::birth::give_birth;
-use crate::checks::{entry_form, slot_form};
+use crate::checks::slot_form;
 use crate::committing::add_entries;
-use crate::entry::{entry_of, extent_after};
-use crate::format::{ENTRIES, GATE_OPEN, MOST_PAGES, MOST_SLOTS, PAGE_SIZE, SLOT_SIZE, slots_in};
+use crate::entry::extent_after;
+use crate::format::{ENTRIES, MOST_PAGES, MOST_SLOTS, PAGE_SIZE, SLOT_SIZE, slots_in};
+use crate::group::{Group, entry_count};
 use crate::kind::Kind;
+use crate::newest::Newest;
 use crate::opening::{read_entries, read_head};
 use crate::paging::{clear_unused, form_page, lay_puts, read_slots};
 use crate::phase::Phase;
 use crate::put::Txn;
 use crate::reading::read_slot;
 use crate::settling::{settle_entries, settle_formed};
-use crate::staged::Staged;
-use crate::waiting::Waiting;
 use ss_outside::{Disk, Failed};
 use std::alloc::Global;
 use std::marker::Model;
@@ -25,12 +25,14 @@ pub struct Journal {
     phase: Phase,
     // The slots from here on were never used.
     extent: u32,
-    // How many entries are in use, and their puts in order, which may not have come into their slots.
+    // How many entries are in use, and the newest of their puts, which may not have come into their slots.
     in_use: u32,
-    waiting: Waiting,
-    // How many of these entries stand in the file, and the bytes of those after them, which don't yet.
+    waiting: Newest,
+    // How many of these entries stand in the file, and the newest puts of those after them, which don't yet.
     sealed: u32,
-    staged: Staged,
+    staged: Newest,
+    // Room to spell these entries.
+    group: Group,
     kind: Kind,
 }
 
@@ -71,9 +73,10 @@ impl Journal {
                 phase: Phase::Unborn,
                 extent: slots,
                 in_use: 0,
-                waiting: Waiting::new(alloc)?,
+                waiting: Newest::new(alloc)?,
                 sealed: 0,
-                staged: Staged::new(alloc)?,
+                staged: Newest::new(alloc)?,
+                group: Group::new(alloc)?,
                 kind,
             });
         }
@@ -87,7 +90,8 @@ impl Journal {
             in_use: read.in_use,
             waiting: read.waiting,
             sealed: read.in_use,
-            staged: Staged::new(alloc)?,
+            staged: Newest::new(alloc)?,
+            group: Group::new(alloc)?,
             kind,
         })
     }
@@ -141,7 +145,7 @@ impl Journal {
         if self.phase == Phase::Unborn || slot >= self.extent {
             return Ok([0; SLOT_SIZE]);
         }
-        if let Some(bytes) = self.waiting.newest(slot) {
+        if let Some(bytes) = self.waiting.find(slot) {
             return Ok(bytes);
         }
         match read_slot(disk, slot) {
@@ -205,7 +209,8 @@ impl Journal {
         Ok(())
     }
 
-    /// Stages a transaction in memory, for the next `seal`: the journal shows its puts from now on. The disk stays as it is.
+    /// Stages a transaction in memory, for the next `seal`: the journal shows its puts from now on. Of those that are staged the
+    /// newest of each slot counts alone. The disk stays as it is.
     pub fn stage(&mut self, txn: &Txn)
         requires settled { IsSettled self.old }
         requires txn { IsTxn txn.now.items }
@@ -215,12 +220,10 @@ impl Journal {
         ensures stages { (content : List ℕ) → Stages txn.now.items self.old self.new content }
         ensures staged { HasStaged txn.now.items self.old self.new }
     {
-        let mut entry = entry_of(txn);
-        entry[0] = GATE_OPEN;
-        self.staged.add(&entry_form(self.kind, self.in_use, entry));
         self.extent = extent_after(txn, self.extent);
         self.waiting.add(txn);
-        self.in_use += 1;
+        self.staged.add(txn);
+        self.in_use = self.sealed + entry_count(self.staged.as_slice().len());
     }
 
     /// Brings all staged transactions to the disk together, by two syncs. A crash at any moment of the call leaves the map from
@@ -238,10 +241,9 @@ impl Journal {
             return Ok(());
         }
         self.phase = Phase::Stopped;
-        if self.in_use < ENTRIES {
-            self.staged.add(&[0]);
-        }
-        let added = add_entries(disk, self.sealed, self.staged.as_slice());
+        self.group
+            .spell(self.kind, self.sealed, self.staged.as_slice());
+        let added = add_entries(disk, self.sealed, self.group.as_slice());
         self.staged.clear();
         self.sealed = self.in_use;
         added?;

@@ -6,19 +6,19 @@ mod checks;
 mod committing;
 mod entry;
 mod format;
+mod group;
 mod journal;
 mod journal_error;
 mod kind;
 mod laws;
 mod marking;
+mod newest;
 mod opening;
 mod paging;
 mod phase;
 mod put;
 mod reading;
 mod settling;
-mod staged;
-mod waiting;
 mod writing;
 
 pub use format::{

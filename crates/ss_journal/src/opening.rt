@@ -18,8 +18,8 @@ use crate::format::{
     ENTRIES, ENTRY_SIZE, FIRST_SLOT, GATE_OPEN, MOST_PUTS, MOST_SLOTS, entry_place, magic,
 };
 use crate::kind::Kind;
+use crate::newest::Newest;
 use crate::put::Txn;
-use crate::waiting::Waiting;
 use ss_outside::{Disk, Failed};
 use std::alloc::Global;
 
@@ -136,9 +136,9 @@ fn next_entry<D: Disk>(
 // The entries in use of a formatted file.
 #[derive(Drop)]
 pub struct EntriesRead {
-    // How many they are, and their puts in order.
+    // How many they are, and the newest of their puts.
     pub in_use: u32,
-    pub waiting: Waiting,
+    pub waiting: Newest,
     // The extent after them.
     pub extent: u32,
 }
@@ -157,7 +157,7 @@ pub fn read_entries<D: Disk>(
     ensures bounded { IfOk result AreBounded }
 {
     let mut extent = slots;
-    let mut waiting = Waiting::new(alloc)?;
+    let mut waiting = Newest::new(alloc)?;
     for n in 0..ENTRIES {
         match next_entry(disk, kind, n, extent)? {
             Some(puts) => {

@@ -1,21 +1,26 @@
 // Writes that a crash tears.
-ghost use Rattle.std.specs.Prelude.{◌≡◌, ◌+◌, ◌-◌, ◌<◌, ◌≤◌, ◌^◌, length, slice_index};
+ghost use Rattle.std.specs.Prelude.{◌≡◌, ◌+◌, ◌-◌, ◌<◌, ◌≤◌, ◌^◌, ◌++◌, length, min, slice_index};
 ghost use Rattle.ss_outside.specs.Disk.{OfContent};
 ghost use Rattle.ss_outside.specs.Step.{Step};
 ghost use Rattle.ss_outside.specs.Verdict.{verdict};
 ghost use Rattle.ss_journal.specs.Checks.{slot_form};
 ghost use Rattle.ss_journal.specs.Format.{slot_place};
 ghost use Rattle.ss_journal.specs.Steps.{Durably, Writes, WritesSlots, WritesZeros};
-ghost use Rattle.ss_journal.specs.Writes.{AreSlots, HasSlotsFor};
+ghost use Rattle.ss_journal.specs.Puts.{FillSlots};
+ghost use Rattle.ss_journal.specs.Writes.{AreSlots, HasSlotsFor, run_bytes, run_length};
 
 use crate::checks::slot_form;
 use crate::format::{MOST_SLOTS, SLOT_SIZE, slot_place};
 use crate::kind::Kind;
 use crate::put::Put;
+use arrayvec::ArrayVec;
 use ss_outside::{Disk, Failed, LONGEST_DISK};
 
-// The most bytes that one write of zeros has.
+// The most bytes that one write of slots or of zeros has.
 const PIECE: usize = 4096;
+
+// How many slots those are.
+const PIECE_SLOTS: usize = 32;
 
 // Writes the bytes, and doesn't sync.
 pub fn write<D: Disk>(disk: &mut D, at: u64, bytes: &[u8]) -> Result<(), Failed>
@@ -36,25 +41,67 @@ pub fn write_through<D: Disk>(disk: &mut D, at: u64, bytes: &[u8]) -> Result<(),
     disk.sync()
 }
 
-// Writes the put's bytes into its slot, in the form of a kind, and doesn't sync.
-fn write_slot<D: Disk>(disk: &mut D, kind: Kind, put: &Put) -> Result<(), Failed>
-    requires slot { put.now.slot < MOST_SLOTS }
-    requires within { OfContent (D.seen disk.old) (λ content. slot_place put.now.slot ≤ length content) }
-    ensures slot { Step (verdict result) (D.seen disk.old) (D.seen disk.new) (Writes (slot_place put.now.slot) (slot_form kind put.now.slot put.now.bytes) result) }
-    ensures whole { length put.now.bytes ≡ SLOT_SIZE }
+// How many puts at the front are for neighbouring slots, from `slot` on, as far as one write goes.
+fn run_length(puts: &[Put], slot: u32) -> usize
+    ensures { result ≡ min (run_length slot puts.now) PIECE_SLOTS }
 {
-    let bytes = slot_form(kind, put.slot, put.bytes);
-    write(disk, slot_place(put.slot), &bytes)
+    let mut count = 0;
+    for put in puts {
+        if count == PIECE_SLOTS || put.slot as usize != slot as usize + count {
+            return count;
+        }
+        count += 1;
+    }
+    count
 }
 
-// Writes each put's bytes into its slot, in the form of a kind, in order, and syncs.
+// Adds a put's bytes, in the form of a kind.
+fn add_slot(bytes: &mut ArrayVec<u8, PIECE>, kind: Kind, put: &Put)
+    requires { length bytes.old.items + SLOT_SIZE ≤ PIECE }
+    ensures value { bytes.new.items ≡ bytes.old.items ++ slot_form kind put.now.slot put.now.bytes }
+    ensures whole { length put.now.bytes ≡ SLOT_SIZE }
+{
+    let _ = bytes.try_extend_from_slice(&slot_form(kind, put.slot, put.bytes));
+}
+
+// The puts' bytes one after the other, each in the form of a kind.
+fn run_bytes(kind: Kind, run: &[Put]) -> ArrayVec<u8, PIECE>
+    requires { length run.now ≤ PIECE_SLOTS }
+    ensures value { result.items ≡ run_bytes kind run.now }
+    ensures whole { FillSlots run.now }
+{
+    let mut bytes = ArrayVec::new();
+    for put in run {
+        add_slot(&mut bytes, kind, put);
+    }
+    bytes
+}
+
+// Writes puts for neighbouring slots, from `slot` on, by one write, and doesn't sync.
+fn write_run<D: Disk>(disk: &mut D, kind: Kind, slot: u32, run: &[Put]) -> Result<(), Failed>
+    requires few { length run.now ≤ PIECE_SLOTS }
+    requires slot { slot < MOST_SLOTS }
+    requires within { OfContent (D.seen disk.old) (λ content. slot_place slot ≤ length content) }
+    ensures run { Step (verdict result) (D.seen disk.old) (D.seen disk.new) (Writes (slot_place slot) (run_bytes kind run.now) result) }
+    ensures whole { FillSlots run.now }
+{
+    let bytes = run_bytes(kind, run);
+    write(disk, slot_place(slot), &bytes)
+}
+
+// Writes each put's bytes into its slot, in the form of a kind, in order, and syncs. Neighbouring slots are written at once.
 pub fn write_slots<D: Disk>(disk: &mut D, kind: Kind, puts: &[Put]) -> Result<(), Failed>
     requires slots { AreSlots puts.now }
     requires places { OfContent (D.seen disk.old) (HasSlotsFor puts.now) }
     ensures { Step (verdict result) (D.seen disk.old) (D.seen disk.new) (Durably (WritesSlots kind puts.now) result) }
 {
-    for put in puts {
-        write_slot(disk, kind, put)?;
+    let mut from = 0;
+    while from < puts.len() {
+        let rest = &puts[from..];
+        let slot = rest[0].slot;
+        let count = run_length(rest, slot);
+        write_run(disk, kind, slot, &rest[..count])?;
+        from += count;
     }
     disk.sync()
 }

@@ -14,7 +14,7 @@ use std::test::Fail;
 const COMMITS: u8 = 70;
 
 // Commit number k puts k into slot 0, and an even one into slot 1 too.
-pub fn commit_of(k: u8) -> Commit {
+fn commit_of(k: u8) -> Commit {
     (k, if k % 2 == 0 { k } else { 0 })
 }
 
@@ -33,12 +33,12 @@ fn commits_before_failure<D: Disk>(alloc: Global, disk: &mut D) -> u8 {
 }
 
 // The bytes of the slots after so many commits. Slot 1 is used from the second on.
-pub fn bytes_after(commits: u8) -> [u8; 2] {
+fn bytes_after(commits: u8) -> [u8; 2] {
     [commits, commits - commits % 2]
 }
 
 // How many slots are used after so many commits.
-pub fn used_after(commits: u8) -> usize
+fn used_after(commits: u8) -> usize
     ensures { result ≤ 2 }
 {
     if commits < 2 { 1 } else { 2 }

@@ -26,6 +26,9 @@ fn set(bytes: &mut [u8], place: usize, new: &[u8]) {
     }
 }
 
+// The most slots of a map that are compared.
+const MOST: usize = 300;
+
 // An open entry of a single put.
 pub fn set_entry(bytes: &mut [u8], n: usize, slot: u8, byte: u8) {
     let place = n.wrapping_mul(544).wrapping_add(512);
@@ -83,6 +86,17 @@ pub fn is_file(disk: &MemDisk, length: usize, in_use: usize) -> bool {
     bytes.len() == length
 }
 
+// How many of a file's entries are in use.
+pub fn entries_in(disk: &MemDisk) -> usize {
+    let bytes = disk.content();
+    for n in 0..64usize {
+        if bytes.get(512 + n * 544).copied() != Some(0xA5) {
+            return n;
+        }
+    }
+    64
+}
+
 pub fn byte_at(map: Map<'_>, slot: usize) -> u8 {
     if slot < map.len() { map[slot] } else { 0 }
 }
@@ -91,23 +105,23 @@ fn is_filled(bytes: &[u8; 128], byte: u8) -> bool {
     *bytes == [byte; 128]
 }
 
-// Whether a journal has this map, of at most two slots.
+// Whether a journal has this map.
 pub fn has<D: Disk>(journal: &mut Journal, disk: &mut D, map: Map<'_>) -> Result<bool, JournalError>
     requires running { IsRunning journal.old }
     requires one_disk { OfContent (D.seen disk.old) (IsKept journal.old) }
     ensures journal { OnOk result (journal.new ≡ journal.old) }
     ensures one_disk { OfContent (D.seen disk.new) (λ content. OnOk result (IsKept journal.new content)) }
 {
-    let first = journal.read(disk, 0)?;
-    let second = journal.read(disk, 1)?;
-    Ok(
-        journal.extent() as usize == map.len()
-            && is_filled(&first, byte_at(map, 0))
-            && is_filled(&second, byte_at(map, 1)),
-    )
+    // Two slots at least.
+    let mut is_right = journal.extent() as usize == map.len();
+    for slot in 0..map.len().max(2).min(MOST) {
+        let bytes = journal.read(disk, slot as u32)?;
+        is_right = is_right && is_filled(&bytes, byte_at(map, slot));
+    }
+    Ok(is_right)
 }
 
-// Whether the disk opens with this map, of at most two slots.
+// Whether the disk opens with this map.
 pub fn holds<D: Disk>(alloc: Global, disk: &mut D, map: Map<'_>) -> Result<bool, JournalError> {
     let mut journal = Journal::open(alloc, disk)?;
     has(&mut journal, disk, map)

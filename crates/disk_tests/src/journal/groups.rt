@@ -1,46 +1,156 @@
 // Groups of transactions, which are staged in memory and come to the disk together.
-ghost use Rattle.std.specs.Prelude.{IfOk};
+ghost use Rattle.std.specs.Prelude.{◌≤◌, IfOk, IfSome, IsTrue, OnOk};
 ghost use Rattle.ss_outside.specs.Disk.{OfContent};
 ghost use Rattle.ss_journal.specs.Kept.{IsKept, IsSettled};
+ghost use Rattle.ss_journal.specs.Puts.{slots_fit, IsTxn};
 
-use super::commits::{bytes_after, commit_of, used_after};
-use super::files::{File, Map, bytes_of, disk_of, disk_with, has};
-use super::runs::{settled, stage};
-use super::stops::{survives, survives_twice};
+use super::files::{File, Map, bytes_of, disk_of, entries_in, has};
+use super::runs::{put_of, settled, stage};
+use super::stops::{CRASHES, survives, survives_again, survives_twice};
 use crate::passing::pass;
-use ss_journal::{Journal, JournalError};
-use ss_outside::{Disk, MemDisk};
+use ss_journal::{Journal, JournalError, Txn};
+use ss_outside::{Disk, Failed, MemDisk};
 use std::alloc::Global;
 use std::test::Fail;
 
-// How many transactions a group has. Of the greatest the entries are all in use before the last one, and room is made.
-const SIZES: [u8; 5] = [1, 2, 63, 64, 65];
+#[derive(Clone, Copy, PartialEq, Eq)]
+enum Slots {
+    // Each transaction puts into slot 0, and each second one into slot 1 too.
+    Shared,
+    // Each puts into the slot that is next, the first one into slot 0.
+    Own,
+}
 
-// A journal over a file of one slot, with so many transactions staged after it was settled. Of more than 64 the first 64 are
-// sealed.
-fn staged<D: Disk>(alloc: Global, disk: &mut D, count: u8) -> Result<Journal, JournalError>
+// Transactions on a file of one slot: how many are sealed one by one before the group, how many the group has, after how many of
+// all the entries are used up and room is made, or 0, and how many entries are in use at the end.
+#[derive(Clone, Copy)]
+struct Row(Slots, u32, u32, u32, usize);
+
+// Of shared slots a group has one entry. Of slots of their own each four transactions have one.
+const ROWS: [Row; 14] = [
+    Row(Slots::Shared, 0, 1, 0, 1),
+    Row(Slots::Shared, 0, 2, 0, 1),
+    Row(Slots::Shared, 0, 63, 0, 1),
+    Row(Slots::Shared, 0, 64, 0, 1),
+    Row(Slots::Shared, 0, 65, 0, 1),
+    Row(Slots::Shared, 0, 300, 0, 1),
+    Row(Slots::Shared, 63, 2, 64, 1),
+    Row(Slots::Own, 0, 1, 0, 1),
+    Row(Slots::Own, 0, 2, 0, 1),
+    Row(Slots::Own, 0, 63, 0, 16),
+    Row(Slots::Own, 0, 64, 0, 16),
+    Row(Slots::Own, 0, 65, 0, 17),
+    Row(Slots::Own, 0, 300, 253, 12),
+    Row(Slots::Own, 60, 14, 73, 1),
+];
+
+// The most transactions of a row.
+const MOST: usize = 300;
+
+// The byte that transaction k puts.
+fn byte_of(k: u32) -> u8 {
+    (k % 255) as u8 + 1
+}
+
+// Transaction k, if it fits the extent.
+fn txn_of(slots: Slots, k: u32, extent: u32) -> Option<Txn>
+    ensures { IfSome result (λ txn. IsTxn txn.items × IsTrue (slots_fit txn.items extent)) }
+{
+    let slot = if slots == Slots::Own { k } else { 0 };
+    if slot > extent || extent == 0 {
+        return None;
+    }
+    let mut txn = Txn::new();
+    txn.push(put_of(slot, byte_of(k)));
+    if slot == 0 && k % 2 == 1 {
+        txn.push(put_of(1, byte_of(k)));
+    }
+    Some(txn)
+}
+
+// How many slots are used after so many transactions.
+fn used_after(slots: Slots, count: u32) -> usize
+    ensures { result ≤ MOST }
+{
+    let most = if slots == Slots::Own { MOST } else { 2 };
+    (count as usize).max(1).min(most)
+}
+
+// The bytes of the slots after so many transactions.
+fn bytes_after(slots: Slots, count: u32) -> [u8; MOST] {
+    let mut bytes = [0; MOST];
+    for k in 0..count.min(MOST as u32) {
+        if slots == Slots::Own {
+            bytes[k as usize] = byte_of(k);
+        } else {
+            bytes[0] = byte_of(k);
+            bytes[1] = if k % 2 == 1 { byte_of(k) } else { bytes[1] };
+        }
+    }
+    bytes
+}
+
+// Makes room and stages transaction k, and seals it if it is one of those before the group.
+fn take<D: Disk>(journal: &mut Journal, disk: &mut D, row: &Row, k: u32) -> Result<(), Failed>
+    requires settled { IsSettled journal.old }
+    requires one_disk { OfContent (D.seen disk.old) (IsKept journal.old) }
+    ensures settled { OnOk result (IsSettled journal.new) }
+    ensures one_disk { OfContent (D.seen disk.new) (λ content. OnOk result (IsKept journal.new content)) }
+{
+    if let Some(txn) = txn_of(row.0, k, journal.extent()) {
+        stage(journal, disk, &txn)?;
+    }
+    if k < row.1 {
+        return journal.seal(disk);
+    }
+    Ok(())
+}
+
+// A journal with the first transactions of a row.
+fn staged<D: Disk>(
+    alloc: Global,
+    disk: &mut D,
+    row: &Row,
+    count: u32,
+) -> Result<Journal, JournalError>
     ensures settled { IfOk result (λ journal. IsSettled journal) }
     ensures one_disk { OfContent (D.seen disk.new) (λ content. IfOk result (λ journal. IsKept journal content)) }
 {
     let mut journal = settled(alloc, disk)?;
     for k in 0..count {
-        stage(&mut journal, disk, commit_of(k.saturating_add(1)))?;
+        take(&mut journal, disk, row, k)?;
     }
     Ok(journal)
 }
 
 // Stages and seals a group, and answers whether the journal shows its map before and after it is sealed.
-fn group<D: Disk>(
-    alloc: Global,
-    disk: &mut D,
-    count: u8,
-    map: Map<'_>,
-) -> Result<bool, JournalError> {
-    let mut journal = staged(alloc, disk, count)?;
+fn group<D: Disk>(alloc: Global, disk: &mut D, row: &Row) -> Result<bool, JournalError> {
+    let count = row.1.saturating_add(row.2);
+    let bytes = bytes_after(row.0, count);
+    let map = &bytes[..used_after(row.0, count)];
+    let mut journal = staged(alloc, disk, row, count)?;
     let before = has(&mut journal, disk, map)?;
     journal.seal(disk)?;
     let after = has(&mut journal, disk, map)?;
     Ok(before && after)
+}
+
+// Whether each crash of a second stop leaves one of the maps. Over many stops it comes at each call of an opening and a settling.
+// Where room is made, each stop is followed by one choice of crash, each in turn, and else by each.
+fn survives_more(
+    alloc: Global,
+    disk: &MemDisk,
+    row: &Row,
+    stop: u64,
+    maps: &[Map<'_>],
+) -> Result<bool, JournalError> {
+    if row.3 > 0 {
+        let choice = CRASHES[(stop % 5) as usize];
+        survives_again(alloc, disk, choice, stop % 90 * 7 % 90, maps)
+    } else {
+        let calls = row.4.min(64) as u64 + 10;
+        survives_twice(alloc, disk, stop % calls * 7 % calls, maps)
+    }
 }
 
 // Whether a group that stops at this call comes to its end, if each crash leaves the map before the group or the one after
@@ -48,37 +158,50 @@ fn group<D: Disk>(
 fn ended(
     alloc: Global,
     disk: &mut MemDisk,
-    count: u8,
+    row: &Row,
     stop: u64,
 ) -> Result<Option<bool>, JournalError> {
-    let after = bytes_after(count);
-    let middle = bytes_after(64);
-    let maps = [&after[..used_after(count)], &[0], &middle[..]];
-    let ended = matches!(group(alloc, disk, count, maps[0]), Ok(true));
+    let Row(slots, sealed, count, room, entries) = *row;
+    let all = sealed.saturating_add(count);
+    let after = bytes_after(slots, all);
+    let before = bytes_after(slots, sealed);
+    let middle = bytes_after(slots, room);
+    let maps = [
+        &after[..used_after(slots, all)],
+        &before[..used_after(slots, sealed)],
+        &middle[..used_after(slots, room)],
+    ];
+    let ended = matches!(group(alloc, disk, row), Ok(true)) && entries_in(disk) == entries;
     let left = if ended {
         1
-    } else if count <= 64 {
+    } else if room == 0 {
         2
     } else {
         3
     };
-    // Over all stops the second comes at each call of a settling.
-    let second = stop % 270 * 7 % 270;
     let safe = survives(alloc, disk, &maps[..left])?
-        && survives_twice(alloc, disk, second, &maps[..left])?;
+        && survives_more(alloc, disk, row, stop, &maps[..left])?;
     Ok(if safe { Some(ended) } else { None })
 }
 
-fn ends(alloc: Global, bytes: &[u8], count: u8, stop: u64) -> Result<Option<bool>, JournalError> {
+fn ends(alloc: Global, bytes: &[u8], row: &Row, stop: u64) -> Result<Option<bool>, JournalError> {
     let mut disk = disk_of(alloc, bytes)?;
     disk.stop_from(stop);
-    ended(alloc, &mut disk, count, stop)
+    ended(alloc, &mut disk, row, stop)
+}
+
+// How many calls come before the group.
+fn calls_before(alloc: Global, bytes: &[u8], row: &Row) -> Result<u64, JournalError> {
+    let mut disk = disk_of(alloc, bytes)?;
+    staged(alloc, &mut disk, row, row.1)?;
+    Ok(disk.calls())
 }
 
 // Whether each stop of such a group is safe, until one comes after its end.
-fn stops_are_safe(alloc: Global, bytes: &[u8], count: u8) -> Result<bool, JournalError> {
+fn stops_are_safe(alloc: Global, bytes: &[u8], row: &Row) -> Result<bool, JournalError> {
+    let before = calls_before(alloc, bytes, row)?;
     for stop in 0..1000 {
-        match ends(alloc, bytes, count, stop)? {
+        match ends(alloc, bytes, row, before.saturating_add(stop))? {
             Some(true) => return Ok(true),
             Some(false) => {}
             None => return Ok(false),
@@ -89,9 +212,9 @@ fn stops_are_safe(alloc: Global, bytes: &[u8], count: u8) -> Result<bool, Journa
 
 fn first_unsafe(alloc: Global) -> Result<Option<usize>, JournalError> {
     let bytes = bytes_of(alloc, &File::Formed(&[], &[0]))?;
-    for count in SIZES {
-        if !stops_are_safe(alloc, &bytes, count)? {
-            return Ok(Some(usize::from(count)));
+    for (k, row) in ROWS.iter().enumerate() {
+        if !stops_are_safe(alloc, &bytes, row)? {
+            return Ok(Some(k));
         }
     }
     Ok(None)
@@ -103,18 +226,19 @@ fn groups_are_stopped_at_each_call(rt: HostRuntime) -> Result<(), Fail> {
 }
 
 // How many syncs the sealing of such a group takes.
-fn syncs_of(alloc: Global, count: u8) -> Result<u64, JournalError> {
-    let mut disk = disk_with(alloc, &File::Formed(&[], &[0]))?;
-    let mut journal = staged(alloc, &mut disk, count)?;
+fn syncs_of(alloc: Global, bytes: &[u8], row: &Row) -> Result<u64, JournalError> {
+    let mut disk = disk_of(alloc, bytes)?;
+    let mut journal = staged(alloc, &mut disk, row, row.1.saturating_add(row.2))?;
     let before = disk.syncs();
     journal.seal(&mut disk)?;
     Ok(disk.syncs().saturating_sub(before))
 }
 
 fn first_slow(alloc: Global) -> Result<Option<usize>, JournalError> {
-    for count in SIZES {
-        if syncs_of(alloc, count)? != 2 {
-            return Ok(Some(usize::from(count)));
+    let bytes = bytes_of(alloc, &File::Formed(&[], &[0]))?;
+    for (k, row) in ROWS.iter().enumerate() {
+        if syncs_of(alloc, &bytes, row)? != 2 {
+            return Ok(Some(k));
         }
     }
     Ok(None)

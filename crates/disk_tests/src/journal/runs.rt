@@ -14,7 +14,7 @@ pub type Commit = (u8, u8);
 
 pub const NOTHING: Commit = (0, 0);
 
-fn put_of(slot: u32, byte: u8) -> Put
+pub fn put_of(slot: u32, byte: u8) -> Put
     ensures { result.slot ≡ slot }
 {
     Put {
@@ -65,19 +65,17 @@ pub fn commit<D: Disk>(journal: &mut Journal, disk: &mut D, bytes: Commit) -> Re
     journal.commit(disk, &txn)
 }
 
-// Makes room and stages, if there is a slot 0.
-pub fn stage<D: Disk>(journal: &mut Journal, disk: &mut D, bytes: Commit) -> Result<(), Failed>
+// Makes room and stages.
+pub fn stage<D: Disk>(journal: &mut Journal, disk: &mut D, txn: &Txn) -> Result<(), Failed>
     requires settled { IsSettled journal.old }
+    requires txn { IsTxn txn.now.items }
+    requires fit { IsTrue (slots_fit txn.now.items journal.old.extent) }
     requires one_disk { OfContent (D.seen disk.old) (IsKept journal.old) }
     ensures settled { OnOk result (IsSettled journal.new) }
     ensures one_disk { OfContent (D.seen disk.new) (λ content. OnOk result (IsKept journal.new content)) }
 {
-    if bytes.0 == 0 || journal.extent() == 0 {
-        return Ok(());
-    }
-    let txn = txn_of(bytes, journal.extent());
     journal.make_room(disk)?;
-    journal.stage(&txn);
+    journal.stage(txn);
     Ok(())
 }
 

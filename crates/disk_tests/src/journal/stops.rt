@@ -72,7 +72,7 @@ pub fn survives(alloc: Global, disk: &MemDisk, maps: &[Map<'_>]) -> Result<bool,
 }
 
 // The same of a crash of a settling that stops at this call, after a first crash.
-fn survives_again(
+pub fn survives_again(
     alloc: Global,
     disk: &MemDisk,
     choice: Choice,

@@ -1,26 +1,24 @@
-use Rattle.std.proofs.Common.{◌≡◌, ◌-◌, ◌*◌, ◌≤◌, ℕ, List, [], ◌∷◌, ◌++◌, length, take, replicate, ◌∙◌, ap, subst, arith}
+use Rattle.std.proofs.Common.{[], arith, length, replicate, subst, take, ℕ, ◌++◌, ◌*◌, ◌-◌, ◌∙◌, ◌∷◌, ◌≡◌}
 use Rattle.std.proofs.lemmas.List.Elements.{All-more}
 use Rattle.std.specs.Prelude.{flat_map}
 use Rattle.ss_journal.specs.declared.put.Put.{Put}
-use Rattle.ss_journal.specs.Entries.{entry_body, put_bytes}
+use Rattle.ss_journal.specs.Entries.{put_bytes}
 use Rattle.ss_journal.proofs.EntryLemmas.{entry-more, entry-all}
 use Rattle.ss_journal.proofs.entry.entry_of.Goals as goal
 
 pub loop-k-preserved : goal.loop-k-preserved
 loop-k-preserved c =
-    let puts = c.as_slice-puts.result.now in
+    let puts = c.args.puts.now in
     let d : Put = record { slot = 0; bytes = [] } in
-    let few : length puts ≤ 4 = omega (arith, c.requires.few, ap length c.as_slice-puts.ensures.value) in
     record {
-      entry = c.write_put.ensures.written ∙ entry-more puts c.loop-k.k d c.loop-k.entry c.loop-k-test.true few c.loop-k.invariant.whole
+      entry = c.write_put.ensures.written ∙ entry-more puts c.loop-k.k d c.loop-k.entry c.loop-k-test.true c.requires c.loop-k.invariant.whole
           c.loop-k.invariant.entry;
       whole = All-more (λ (p : Put). length p.bytes ≡ 128) puts c.loop-k.k d c.loop-k-test.true c.loop-k.invariant.whole c.write_put.ensures.whole;
     }
 
 pub returns-clause-value : goal.returns-clause-value
 returns-clause-value c =
-    let puts = c.as_slice-puts.result.now in
+    let puts = c.args.puts.now in
     let all : c.loop-k.k ≡ length puts = omega arith in
     entry-all puts c.loop-k.entry (subst (λ (n : ℕ). c.loop-k.entry ≡ 0 ∷ length puts ∷ flat_map put_bytes (take n puts) ++ replicate (542 - 132 * n) 0) all
     c.loop-k.invariant.entry)
-    ∙ ap (λ (list : List Put). 0 ∷ entry_body list) c.as_slice-puts.ensures.value

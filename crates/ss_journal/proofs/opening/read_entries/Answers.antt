@@ -1,5 +1,4 @@
-use Rattle.std.proofs.Common.{◌≡◌, ◌<◌, ◌≤◌, ◌^◌, ◌++◌, List, ℕ, [], IsTrue, Option, Ok, length, sym, ◌∙◌, ap, subst, arith}
-use Rattle.std.proofs.lemmas.List.{length-append}
+use Rattle.std.proofs.Common.{◌≡◌, ◌<◌, ◌≤◌, ◌^◌, List, ℕ, [], IsTrue, Option, Ok, length, sym, ◌∙◌, ap, subst, arith}
 use Rattle.std.proofs.lemmas.List.Elements.{All-same, All-nil}
 use Rattle.std.proofs.lemmas.Result.{err_from_is_err_and}
 use Rattle.arrayvec.specs.ArrayVec.{ArrayVec}
@@ -8,9 +7,11 @@ use Rattle.ss_outside.proofs.StepLemmas.{step-none}
 use Rattle.ss_journal.specs.declared.put.Put.{Put}
 use Rattle.ss_journal.specs.Format.{is_born}
 use Rattle.ss_journal.specs.Opening.{IfNext}
-use Rattle.ss_journal.specs.Puts.{IsTxn, extent_after, slots_fit}
-use Rattle.ss_journal.proofs.OpenLemmas.{IsReadTo, IsReadTo-none, IsReadTo-next, IsReadTo-all, IsReadTo-shut, InUseAs-next}
-use Rattle.ss_journal.proofs.PutLemmas.{extent_after-most, waiting-below}
+use Rattle.ss_journal.specs.Newest.{newest_after}
+use Rattle.ss_journal.specs.Puts.{FillSlots, IsTxn, extent_after, slots_fit, slots_rise_from}
+use Rattle.ss_journal.proofs.OpenLemmas.{IsReadTo, IsReadTo-none, IsReadTo-next, IsReadTo-all, IsReadTo-shut, InUseAs-next, below-newest_after}
+use Rattle.ss_journal.proofs.NewestLemmas.{few-newest_after}
+use Rattle.ss_journal.proofs.PutLemmas.{AreSlots-rise, extent_after-most}
 use Rattle.ss_journal.proofs.StepLemmas.{after-step, finds-joined, step-from, step-next}
 use Rattle.ss_journal.proofs.opening.read_entries.Goals as goal
 
@@ -50,19 +51,21 @@ loop-n-preserved g c =
     let before = c.loop-n.invariant in
     let puts = c.in-Some.puts.items in
     let extent = c.loop-n.extent in
-    let more : c.add.new.self ≡ c.loop-n.waiting ++ puts = c.add.ensures ∙ ap (λ (l : List Put). c.loop-n.waiting ++ l) c.deref-in-Some.ensures.0 in
+    let more : c.add.new.self ≡ newest_after puts c.loop-n.waiting = c.add.ensures.kept
+    ∙ ap (λ (l : List Put). newest_after l c.loop-n.waiting) c.deref-in-Some.ensures.0 in
+    let whole = subst FillSlots c.deref-in-Some.ensures.0 c.add.ensures.whole in
     let last : c.extent_after-extent.result ≡ extent_after puts extent = c.extent_after-extent.ensures
     ∙ ap (λ (l : List Put). extent_after l extent) c.deref.ensures.0 in
     let sound = subst (λ (o : Option (ArrayVec Put)). IfNext (Ok o) (λ puts. IsTxn puts × IsTrue (slots_fit puts extent))) c.in-Some.is
     c.in_ok-puts.ensures.sound in
     let next = rw c.in-Some.is at c.in_ok-puts.ensures.entry in
     record {
-      few = omega (arith, ap length more, length-append c.loop-n.waiting puts, sound.0.few, before.few);
+      few = omega (arith, ap length more, few-newest_after puts c.loop-n.waiting, sound.0.few, before.few);
       extent = subst (λ (n : ℕ). n ≤ 2 ^ 20) (sym last) (extent_after-most puts extent sound.0 before.extent);
-      waiting = rw (more, last) (waiting-below c.loop-n.waiting puts extent sound.1 before.waiting);
+      waiting = rw (more, last) (below-newest_after c.loop-n.waiting puts extent sound.1 before.waiting);
       step = step-next before.step next
-          (λ told then before next. finds-joined before next (λ was is. IsReadTo-next _ c.loop-n.n extent c.loop-n.waiting c.loop-n-test.true was c.in-Some.puts
-          _ _ is last more));
+          (λ told then first next. finds-joined first next (λ was is. IsReadTo-next _ c.loop-n.n extent c.loop-n.waiting c.loop-n-test.true was c.in-Some.puts
+          _ _ is c.add.ensures.rise whole last more));
     }
 
 pub returns-clause-entries : goal.returns-clause-entries
@@ -72,8 +75,14 @@ returns-clause-entries g c =
       reads = before.reads;
     })
 
-pub add-requires : goal.add-requires
-add-requires g c =
+pub add-requires-clause-slots : goal.add-requires-clause-slots
+add-requires-clause-slots g c =
+    let sound = subst (λ (o : Option (ArrayVec Put)). IfNext (Ok o) (λ puts. IsTxn puts × IsTrue (slots_fit puts c.loop-n.extent))) c.in-Some.is
+    c.in_ok-puts.ensures.sound in
+    AreSlots-rise 0 _ (subst (λ (puts : List Put). IsTrue (slots_rise_from 0 puts)) (sym c.deref-in-Some.ensures.0) sound.0.rise)
+
+pub add-requires-clause-room : goal.add-requires-clause-room
+add-requires-clause-room g c =
     let before = c.loop-n.invariant in
     let sound = subst (λ (o : Option (ArrayVec Put)). IfNext (Ok o) (λ puts. IsTxn puts × IsTrue (slots_fit puts c.loop-n.extent))) c.in-Some.is
     c.in_ok-puts.ensures.sound in

@@ -4,6 +4,7 @@ use Rattle.std.proofs.lemmas.List.{nil_from_length}
 use Rattle.ss_outside.proofs.CrashLemmas.{reads-none}
 use Rattle.ss_outside.proofs.StepLemmas.{step-none}
 use Rattle.ss_journal.specs.Steps.{StaysShut}
+use Rattle.ss_journal.proofs.InUseLemmas.{DoAs-none_few}
 use Rattle.ss_journal.proofs.RedoLemmas.{first_closed-none}
 use Rattle.ss_journal.proofs.StepLemmas.{reaches-read}
 use Rattle.ss_journal.proofs.settling.settle_entries.Goals as goal
@@ -14,6 +15,10 @@ returns-then-is_empty g c =
     step-none _ _ (λ told.
     let entries = c.requires.entries told in
     reaches-read StaysShut _ (g.met.D.Disk.knows_now c.args.disk.now told) (reads-none _) (
-      (entries.born, first_closed-none _ entries.in_use.found entries.born entries.in_use.map (sym entries.in_use.all ∙ nil_from_length c.args.puts.now none)),
+      (
+        entries.born,
+        first_closed-none _ entries.in_use.found entries.born entries.in_use.map
+            (DoAs-none_few entries.in_use.all (nil_from_length c.args.puts.now none)),
+      ),
       refl,
     ))

@@ -1,7 +1,14 @@
+use Rattle.std.proofs.Common.{◌≤◌, ◌-◌, length}
 use Rattle.ss_outside.specs.Step.{Step}
 use Rattle.ss_outside.specs.Verdict.{fine}
 use Rattle.ss_journal.proofs.WriteSteps.{WrittenTo}
 use Rattle.ss_journal.proofs.writing.write_slots.Given as goal
 
-abbrev pub invariant-loop-put : goal.invariant-loop-put
-invariant-loop-put g l = Step fine (g.D.Disk.seen l.fn.disk) (g.D.Disk.seen l.disk) (WrittenTo l.kind l.puts l.put-index)
+abbrev pub invariant-loop-from : goal.invariant-loop-from
+invariant-loop-from g l = record {
+  high : l.from ≤ length l.puts;
+  step : Step fine (g.D.Disk.seen l.fn.disk) (g.D.Disk.seen l.disk) (WrittenTo l.kind l.puts l.from);
+}
+
+abbrev pub decreases-loop-from : goal.decreases-loop-from
+decreases-loop-from g l = length l.puts - l.from

@@ -28,7 +28,8 @@ returns-clause-opens g c =
     let read = c.in_ok-read.read in
     step-next c.in_ok-head.ensures c.in_ok-read.ensures.entries (λ told then head entries.
     record {
-      opens = IsKept-born c.kind-kind.result _ read.in_use read.waiting read.extent c.in_ok-new-3.field-0 (c.kind-kind.ensures _ head.found) (sym (c.if-not-is_born.ensures _ head.found))
-          (subst (λ (list : List ℕ). AreEntries list read.in_use read.waiting read.extent) head.reads.same.content entries.found) c.in_ok-new-3.ensures;
+      opens = IsKept-born c.kind-kind.result _ read.in_use read.waiting read.extent c.in_ok-new-4.field-0
+          (c.kind-kind.ensures _ head.found) (sym (c.if-not-is_born.ensures _ head.found))
+          (subst (λ (list : List ℕ). AreEntries list read.in_use read.waiting read.extent) head.reads.same.content entries.found) c.in_ok-new-4.ensures;
       reads = reads-joined _ _ _ head.reads entries.reads;
     })

@@ -49,6 +49,7 @@ returns-in-Ok-clause-reads g c =
       bytes = λ found is.
           let lies = slot_lies _ _ found c.args.slot kept.shown is c.requires.slot born c.if-slot-self.false leaves in
           let same = slot_at-shown _ content c.self.invariant kept born c.args.slot lies in
-          c.slot_form.ensures ∙ slot_in-form _ _ found c.args.slot kept.shown is c.requires.slot _ (read.found same.0 ∙ same.1) ∙ slot_bytes _ _ found c.args.slot kept.shown is c.requires.slot born c.if-slot-self.false leaves;
+          c.slot_form.ensures ∙ slot_in-form _ _ found c.args.slot kept.shown is c.requires.slot _ (read.found same.0 ∙ same.1)
+          ∙ slot_bytes _ _ found c.args.slot kept.shown is c.requires.slot born c.if-slot-self.false leaves;
       reads = read.reads;
     }))

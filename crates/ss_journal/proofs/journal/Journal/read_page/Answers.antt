@@ -40,9 +40,11 @@ returns-in-Ok-clause-reads g c =
           let below : slot < 2 ^ 20 = omega (arith, lt, c.requires.page) in
           page_bytes _ _ found slot kept.shown is below born (slot_in_page c.form_page.new.bytes k) (slot_in_page c.clear_unused.new.bytes k)
           (slot_in_page c.lay_puts.new.bytes k)
-          (λ lies. let same = slot_at-shown _ content c.self.invariant kept born slot lies in c.form_page.ensures k lt ∙ slot_in-form _ _ found slot kept.shown is below _ (read.found k lt same.0 ∙ same.1))
+          (λ lies.
+          let same = slot_at-shown _ content c.self.invariant kept born slot lies in
+          c.form_page.ensures k lt ∙ slot_in-form _ _ found slot kept.shown is below _ (read.found k lt same.0 ∙ same.1))
           (c.clear_unused.ensures.used k lt) (c.clear_unused.ensures.unused k lt)
           (c.lay_puts.ensures k lt
-          ∙ ap (λ (puts : List Put). with_puts puts (λ _. slot_in_page c.clear_unused.new.bytes k) slot) c.as_slice.ensures);
+          ∙ ap (λ (puts : List Put). with_puts puts (λ _. slot_in_page c.clear_unused.new.bytes k) slot) c.as_slice.ensures.all);
       reads = read.reads;
     }))

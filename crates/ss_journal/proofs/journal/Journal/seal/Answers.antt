@@ -1,32 +1,31 @@
-use Rattle.std.proofs.Common.{ap, arith, length, subst, sym, ◌∙◌, ◌≡◌}
+use Rattle.std.proofs.Common.{List, ap, arith, length, refl, subst, sym, ◌∙◌, ◌≡◌}
 use Rattle.std.proofs.lemmas.Bool.{eqb-false}
-use Rattle.ss_journal.specs.Kept.{IsKept, JournalState}
-use Rattle.ss_journal.proofs.SealSteps.{Seals-of, seals-entered}
-use Rattle.ss_journal.proofs.ShownLemmas.{closed_behind-free, closed_behind-full}
+use Rattle.ss_journal.specs.Groups.{entry_count, group_bytes}
+use Rattle.ss_journal.specs.Kept.{IsKept, JournalState, closed_behind}
+use Rattle.ss_journal.specs.declared.put.Put.{Put}
+use Rattle.ss_journal.proofs.SealSteps.{Seals-of, fits-staged, gate-staged, seals-entered}
 use Rattle.ss_journal.proofs.StepLemmas.{step-from}
-use Rattle.ss_journal.proofs.journal.Journal.seal.Goals.{then-self-lt-ENTRIES, else-self-lt-ENTRIES}
 use Rattle.ss_journal.proofs.journal.Journal.seal.Goals as goal
+
+pub add_entries-added-requires-clause-gate : goal.add_entries-added-requires-clause-gate
+add_entries-added-requires-clause-gate g c =
+    let some : length c.self.inside.staged ≡ 0 → ⊥ = λ none. eqb-false (length c.as_slice.result.now) 0 (sym c.is_empty.ensures ∙ c.if-is_empty.false)
+    (ap (λ (list : List Put). length list) c.as_slice.ensures.all ∙ none) in
+    gate-staged c.self.inside.staged c.as_slice-2.result.now c.as_slice-2.ensures.all c.self.inside.kind c.self.inside.sealed (omega (arith, some))
+    c.as_slice-3.result.now (c.as_slice-3.ensures ∙ c.spell.ensures)
+
+pub add_entries-added-requires-clause-few : goal.add_entries-added-requires-clause-few
+add_entries-added-requires-clause-few g c =
+    fits-staged _ c.self.invariant c.as_slice-2.result.now c.as_slice-2.ensures.all c.as_slice-3.result.now (c.as_slice-3.ensures ∙ c.spell.ensures)
 
 pub returns-clause-seals : goal.returns-clause-seals
 returns-clause-seals g c =
-    let inside = c.if-self-lt-ENTRIES.self-inside in
-    let content = (g.D.Disk.seen c.args.disk.now).told.content in
-    let some : length c.self.inside.staged ≡ 0 → ⊥ = λ none. eqb-false (length c.as_slice.result.now) 0 (sym c.is_empty.ensures ∙ c.if-is_empty.false) (cc) in
-    elim c.if-self-lt-ENTRIES.branch [
-      | then-self-lt-ENTRIES w ↦ step-from c.in_ok-added.ensures (λ told enters.
-          let is = w.self-inside-is in
-          let kept = subst (λ (j : JournalState). IsKept j content) (sym c.self.view_is) (c.requires.one_disk told) in
-          let all = closed_behind-free c.self.inside.sealed c.self.inside.in_use c.self.inside.staged c.self.invariant.staged w.if-self-lt-ENTRIES.true in
-          Seals-of c.self.view_is (seals-entered _ _ inside.sealed (λ i. (is i).sealed) c.as_slice-2.result.now
-          (c.as_slice-2.ensures ∙ (λ i. (is i).staged) ∙ w.add.ensures ∙ all) _ _ kept (omega (arith, some)) _ enters
-          (ap (λ (j : JournalState). j.phase) c.self.view_is ∙ c.requires.settled) (λ i. (is i).extent) (λ i. (is i).in_use) (λ i. (is i).waiting)
-          c.clear.ensures (λ i. (is i).kind)))
-      | else-self-lt-ENTRIES w ↦ step-from c.in_ok-added.ensures (λ told enters.
-          let is = w.self-inside-is in
-          let kept = subst (λ (j : JournalState). IsKept j content) (sym c.self.view_is) (c.requires.one_disk told) in
-          let all = closed_behind-full c.self.inside.sealed c.self.inside.in_use c.self.inside.staged c.self.invariant.staged w.if-self-lt-ENTRIES.false in
-          Seals-of c.self.view_is (seals-entered _ _ inside.sealed (λ i. (is i).sealed) c.as_slice-2.result.now
-          (c.as_slice-2.ensures ∙ (λ i. (is i).staged) ∙ all) _ _ kept (omega (arith, some)) _ enters
-          (ap (λ (j : JournalState). j.phase) c.self.view_is ∙ c.requires.settled) (λ i. (is i).extent) (λ i. (is i).in_use) (λ i. (is i).waiting)
-          c.clear.ensures (λ i. (is i).kind)))
-    ]
+    let some : length c.self.inside.staged ≡ 0 → ⊥ = λ none. eqb-false (length c.as_slice.result.now) 0 (sym c.is_empty.ensures ∙ c.if-is_empty.false)
+    (ap (λ (list : List Put). length list) c.as_slice.ensures.all ∙ none) in
+    step-from c.in_ok-added.ensures (λ told enters.
+    let kept = subst (λ (j : JournalState). IsKept j (g.D.Disk.seen c.args.disk.now).told.content) (sym c.self.view_is) (c.requires.one_disk told) in
+    let all = c.as_slice-3.ensures ∙ c.spell.ensures
+    ∙ ap (λ (list : List Put). closed_behind c.self.inside.sealed (group_bytes c.self.inside.kind c.self.inside.sealed (entry_count (length list)) list))
+    c.as_slice-2.ensures.all in
+    Seals-of c.self.view_is (seals-entered _ _ c.self.inside.sealed refl c.as_slice-3.result.now all _ _ kept c.self.invariant.whole (omega (arith, some)) _ enters
+    (ap (λ (j : JournalState). j.phase) c.self.view_is ∙ c.requires.settled) refl refl refl c.clear.ensures refl))

@@ -1,46 +1,92 @@
-use Rattle.std.proofs.Common.{IsTrue, List, ap, refl, subst, sym, ℕ, ◌++◌, ◌<◌, ◌∙◌}
-use Rattle.std.proofs.Math.ListN.{set}
+use Rattle.std.proofs.Common.{IsTrue, List, ap, arith, length, refl, subst, sym, ℕ, ◌+◌, ◌<◌, ◌∙◌}
 use Rattle.ss_journal.specs.declared.put.Put.{Put}
-use Rattle.ss_journal.specs.Checks.{entry_form}
-use Rattle.ss_journal.specs.Entries.{entry_body}
+use Rattle.ss_journal.specs.Groups.{entry_count}
 use Rattle.ss_journal.specs.Kept.{IsSettled, JournalState}
-use Rattle.ss_journal.specs.Puts.{extent_after, slots_fit}
-use Rattle.ss_journal.proofs.CheckLemmas.{entry_form-gate}
-use Rattle.ss_journal.proofs.StageLemmas.{IsBounded-staged, stages}
+use Rattle.ss_journal.specs.Newest.{newest_after}
+use Rattle.ss_journal.specs.Puts.{FillSlots, extent_after, slots_fit}
+use Rattle.ss_journal.specs.Writes.{AreSlots}
+use Rattle.ss_journal.proofs.NewestLemmas.{few-newest_after}
+use Rattle.ss_journal.proofs.PutLemmas.{AreSlots-rise}
+use Rattle.ss_journal.proofs.StageLemmas.{IsBounded-staged, has-staged, stages}
 use Rattle.ss_journal.proofs.journal.Journal.stage.Goals as goal
+
+pub add-requires-clause-slots : goal.add-requires-clause-slots
+add-requires-clause-slots c = subst AreSlots (sym c.deref-2.ensures.0) (AreSlots-rise 0 _ c.requires.txn.rise)
+
+pub add-requires-2-clause-slots : goal.add-requires-2-clause-slots
+add-requires-2-clause-slots c = subst AreSlots (sym c.deref-3.ensures.0) (AreSlots-rise 0 _ c.requires.txn.rise)
+
+pub entry_count-requires : goal.entry_count-requires
+entry_count-requires c =
+    let free : c.self.inside.in_use < 64 = subst (λ (j : JournalState). j.in_use < 64) (sym c.self.view_is) c.requires.room in
+    omega (
+      arith,
+      free,
+      c.self.invariant.number,
+      ap (λ (list : List Put). length list) (c.as_slice.ensures.all ∙ c.add-2.ensures.kept),
+      few-newest_after c.deref-3.result.now c.self.inside.staged,
+      ap (λ (list : List Put). length list) c.deref-3.ensures.0,
+      c.requires.txn.few,
+    )
+
+pub overflow_add-self : goal.overflow_add-self
+overflow_add-self c =
+    let free : c.self.inside.in_use < 64 = subst (λ (j : JournalState). j.in_use < 64) (sym c.self.view_is) c.requires.room in
+    omega (
+      arith,
+      free,
+      c.self.invariant.number,
+      c.entry_count.ensures,
+      ap (λ (list : List Put). length list) (c.as_slice.ensures.all ∙ c.add-2.ensures.kept),
+      few-newest_after c.deref-3.result.now c.self.inside.staged,
+      ap (λ (list : List Put). length list) c.deref-3.ensures.0,
+      c.requires.txn.few,
+    )
 
 pub invariant_of-self : goal.invariant_of-self
 invariant_of-self c =
     let puts = c.args.txn.now.items in
-    let room : c.self.inside.in_use < 64 = subst (λ (j : JournalState). j.in_use < 64) (sym c.self.view_is) c.requires.room in
-    let staged = c.add.ensures ∙ ap (λ (entry : List ℕ). c.self.inside.staged ++ entry)
-    (c.entry_form.ensures ∙ ap (λ (entry : List ℕ). entry_form c.self.inside.kind c.self.inside.in_use (set entry 0 165)) c.entry_of-entry.ensures.value
-    ∙ entry_form-gate c.self.inside.kind c.self.inside.in_use 165 (entry_body puts)) in
-    IsBounded-staged _ _ puts c.self.invariant (subst IsSettled (sym c.self.view_is) c.requires.settled) c.entry_of-entry.ensures.whole c.requires.txn
-    (subst (λ (j : JournalState). IsTrue (slots_fit puts j.extent)) (sym c.self.view_is) c.requires.fit) room (record {
+    let free : c.self.inside.in_use < 64 = subst (λ (j : JournalState). j.in_use < 64) (sym c.self.view_is) c.requires.room in
+    IsBounded-staged _ _ puts c.self.invariant (subst IsSettled (sym c.self.view_is) c.requires.settled)
+    (subst FillSlots c.deref-2.ensures.0 c.add.ensures.whole) c.requires.txn
+    (subst (λ (j : JournalState). IsTrue (slots_fit puts j.extent)) (sym c.self.view_is) c.requires.fit) free c.add.ensures.rise c.add-2.ensures.rise (record {
       phase = subst IsSettled (sym c.self.view_is) c.requires.settled;
       extent = c.extent_after-self-inside.ensures ∙ ap (λ (list : List Put). extent_after list c.self.inside.extent) c.deref.ensures.0;
-      in_use = refl;
-      waiting = c.add-2.ensures ∙ ap (λ (list : List Put). c.self.inside.waiting ++ list) c.deref-2.ensures.0;
+      in_use = ap (λ (n : ℕ). c.self.inside.sealed + n) (c.entry_count.ensures ∙ ap (λ (list : List Put). entry_count (length list)) c.as_slice.ensures.all);
+      waiting = c.add.ensures.kept ∙ ap (λ (list : List Put). newest_after list c.self.inside.waiting) c.deref-2.ensures.0;
       sealed = refl;
-      staged = staged;
+      staged = c.add-2.ensures.kept ∙ ap (λ (list : List Put). newest_after list c.self.inside.staged) c.deref-3.ensures.0;
       kind = refl;
     })
 
 pub returns-clause-stages : goal.returns-clause-stages
 returns-clause-stages c content =
     let puts = c.args.txn.now.items in
-    let room : c.self.inside.in_use < 64 = subst (λ (j : JournalState). j.in_use < 64) (sym c.self.view_is) c.requires.room in
-    let staged = c.add.ensures ∙ ap (λ (entry : List ℕ). c.self.inside.staged ++ entry)
-    (c.entry_form.ensures ∙ ap (λ (entry : List ℕ). entry_form c.self.inside.kind c.self.inside.in_use (set entry 0 165)) c.entry_of-entry.ensures.value
-    ∙ entry_form-gate c.self.inside.kind c.self.inside.in_use 165 (entry_body puts)) in
-    stages _ _ puts c.self.invariant (subst IsSettled (sym c.self.view_is) c.requires.settled) c.entry_of-entry.ensures.whole c.requires.txn
-    (subst (λ (j : JournalState). IsTrue (slots_fit puts j.extent)) (sym c.self.view_is) c.requires.fit) room (record {
+    let free : c.self.inside.in_use < 64 = subst (λ (j : JournalState). j.in_use < 64) (sym c.self.view_is) c.requires.room in
+    stages _ _ puts c.self.invariant (subst IsSettled (sym c.self.view_is) c.requires.settled)
+    (subst FillSlots c.deref-2.ensures.0 c.add.ensures.whole) c.requires.txn
+    (subst (λ (j : JournalState). IsTrue (slots_fit puts j.extent)) (sym c.self.view_is) c.requires.fit) free c.add.ensures.rise c.add-2.ensures.rise (record {
       phase = subst IsSettled (sym c.self.view_is) c.requires.settled;
       extent = c.extent_after-self-inside.ensures ∙ ap (λ (list : List Put). extent_after list c.self.inside.extent) c.deref.ensures.0;
-      in_use = refl;
-      waiting = c.add-2.ensures ∙ ap (λ (list : List Put). c.self.inside.waiting ++ list) c.deref-2.ensures.0;
+      in_use = ap (λ (n : ℕ). c.self.inside.sealed + n) (c.entry_count.ensures ∙ ap (λ (list : List Put). entry_count (length list)) c.as_slice.ensures.all);
+      waiting = c.add.ensures.kept ∙ ap (λ (list : List Put). newest_after list c.self.inside.waiting) c.deref-2.ensures.0;
       sealed = refl;
-      staged = staged;
+      staged = c.add-2.ensures.kept ∙ ap (λ (list : List Put). newest_after list c.self.inside.staged) c.deref-3.ensures.0;
       kind = refl;
     }) c.args.self.now content c.self.view_is
+
+pub returns-clause-staged : goal.returns-clause-staged
+returns-clause-staged c =
+    let puts = c.args.txn.now.items in
+    let free : c.self.inside.in_use < 64 = subst (λ (j : JournalState). j.in_use < 64) (sym c.self.view_is) c.requires.room in
+    has-staged _ _ puts c.self.invariant (subst IsSettled (sym c.self.view_is) c.requires.settled)
+    (subst FillSlots c.deref-2.ensures.0 c.add.ensures.whole) c.requires.txn
+    (subst (λ (j : JournalState). IsTrue (slots_fit puts j.extent)) (sym c.self.view_is) c.requires.fit) free c.add.ensures.rise c.add-2.ensures.rise (record {
+      phase = subst IsSettled (sym c.self.view_is) c.requires.settled;
+      extent = c.extent_after-self-inside.ensures ∙ ap (λ (list : List Put). extent_after list c.self.inside.extent) c.deref.ensures.0;
+      in_use = ap (λ (n : ℕ). c.self.inside.sealed + n) (c.entry_count.ensures ∙ ap (λ (list : List Put). entry_count (length list)) c.as_slice.ensures.all);
+      waiting = c.add.ensures.kept ∙ ap (λ (list : List Put). newest_after list c.self.inside.waiting) c.deref-2.ensures.0;
+      sealed = refl;
+      staged = c.add-2.ensures.kept ∙ ap (λ (list : List Put). newest_after list c.self.inside.staged) c.deref-3.ensures.0;
+      kind = refl;
+    }) c.args.self.now c.self.view_is

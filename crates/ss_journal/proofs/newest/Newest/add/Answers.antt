@@ -1,0 +1,28 @@
+use Rattle.std.proofs.Common.{◌+◌, ◌∙◌, ◌≡◌, drop, get_or, List, [], ap, arith, length, subst, sym}
+use Rattle.std.proofs.lemmas.List.{at_drop_more, take_all}
+use Rattle.std.proofs.lemmas.List.Elements.{All-more}
+use Rattle.ss_journal.specs.Newest.{newest_after}
+use Rattle.ss_journal.specs.Puts.{FillSlots}
+use Rattle.ss_journal.specs.declared.put.Put.{Put}
+use Rattle.ss_journal.proofs.NewestLemmas.{few-with_newest}
+use Rattle.ss_journal.proofs.newest.Newest.add.Goals as goal
+
+pub loop-put-preserved : goal.loop-put-preserved
+loop-put-preserved c =
+    let d : Put = record { slot = 0; bytes = [] } in
+    let puts = c.args.puts.now in
+    let k = c.loop-put.put-index in
+    let put = get_or puts k d in
+    let held = c.loop-put.self in
+    let more = few-with_newest put held in
+    let grown = ap (λ (list : List Put). length list) c.put.ensures.kept in
+    record {
+      kept = ap (newest_after (drop (k + 1) puts)) c.put.ensures.kept
+          ∙ sym (at_drop_more (λ (list : List Put). newest_after list held) puts k d c.loop-put-test.true)
+          ∙ c.loop-put.invariant.kept;
+      few = omega (arith, more, grown, c.loop-put.invariant.few);
+      whole = All-more (λ (p : Put). length p.bytes ≡ 128) puts k d c.loop-put-test.true c.loop-put.invariant.whole c.put.ensures.whole;
+    }
+
+pub returns-clause-whole : goal.returns-clause-whole
+returns-clause-whole c = subst FillSlots (take_all c.loop-put.put-index c.args.puts.now c.loop-put-test.false) c.loop-put.invariant.whole

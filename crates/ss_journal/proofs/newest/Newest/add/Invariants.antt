@@ -1,0 +1,12 @@
+use Rattle.std.proofs.Common.{◌+◌, ◌≡◌, ◌≤◌, drop, length, take}
+use Rattle.ss_journal.specs.Newest.{newest_after}
+use Rattle.ss_journal.specs.Puts.{FillSlots}
+use Rattle.ss_journal.proofs.newest.Newest.add.Given as goal
+
+-- the newest of those to come, after those so far, are the newest of all
+abbrev pub invariant-loop-put : goal.invariant-loop-put
+invariant-loop-put l = record {
+  kept : newest_after (drop l.put-index l.puts) l.self ≡ newest_after l.puts l.initial.self;
+  few : length l.self ≤ length l.initial.self + l.put-index;
+  whole : FillSlots (take l.put-index l.puts);
+}
