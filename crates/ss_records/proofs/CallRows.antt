@@ -6,13 +6,14 @@ use Rattle.ss_outside.specs.Crash.{OnlyReads}
 use Rattle.ss_outside.specs.Disk.{NothingPending, Told}
 use Rattle.ss_outside.specs.declared.source.Failed.{Failed}
 use Rattle.ss_journal.specs.Calls.{ChangesMap, KeepsMap, KeepsShown, MakesDurable}
+use Rattle.ss_journal.specs.Groups.{entry_count, group_bytes}
 use Rattle.ss_journal.specs.Kept.{IfStaged, IsKept, IsRunning, IsSettled, OpensMapAs, shown, with_entries}
 use Rattle.ss_journal.specs.Redo.{SlotMap, StandsFor, changed}
 use Rattle.ss_journal.specs.declared.format.TheConstants.{MOST_SLOTS}
 use Rattle.ss_journal.specs.declared.journal_error.JournalError.{JournalError}
 use Rattle.ss_journal.specs.declared.put.Put.{Put}
 use Rattle.ss_records.specs.Calls.{AppliesPuts, MakesRoomFor, OpensRecords, ReadsRecord, SealsRecords, SettlesRecords, StagesPuts}
-use Rattle.ss_records.specs.Kept.{AreAtRest, AreKept, AreSound, RecordsState, journal_of, shown_by}
+use Rattle.ss_records.specs.Kept.{AreAtRest, AreKept, AreLiveOver, AreSound, RecordsState, journal_of, shown_by, uncached}
 use Rattle.ss_records.specs.Live.{AreLiveIn, are_zeros, is_live}
 use Rattle.ss_records.specs.Pages.{ArePages, IsPage, Recalls}
 
@@ -62,9 +63,9 @@ module _ (was is : RecordsState) (old new : Told) where
   SealsRecords-keeps_shown : (result : Result Unit Failed) → SealsRecords was is result old new → KeepsShown was.journal is.journal old new result
   SealsRecords-keeps_shown result seals = seals.keeps_shown
 
-  -- where an entry is staged nothing is pending after it
-  SealsRecords-durable : (gate : ℕ) (bytes : List ℕ) → was.journal.staged ≡ gate ∷ bytes → SealsRecords was is (Ok tt) old new → NothingPending new
-  SealsRecords-durable gate bytes staged seals = subst (λ (some : List ℕ). IfStaged some (NothingPending new)) staged seals.durable
+  -- where a put is staged nothing is pending after it
+  SealsRecords-durable : (put : Put) (puts : List Put) → was.journal.staged ≡ put ∷ puts → SealsRecords was is (Ok tt) old new → NothingPending new
+  SealsRecords-durable put puts staged seals = subst (λ (some : List Put). IfStaged some (NothingPending new)) staged seals.durable
 
   ReadsRecord-Ok : (slot : ℕ) (bytes : List ℕ) (found : SlotMap) → ReadsRecord was is slot (Ok bytes) old new
       → StandsFor (shown was.journal old.content) found → bytes ≡ found.bytes slot
@@ -88,9 +89,23 @@ module _ (records : RecordsState) where
       → ArePages records.cached found.bytes
   AreKept-cached content found kept is = kept.cached found is
 
+  -- records that were just made have no page cached
+  uncached-is : uncached records.journal records.live ≡ record { journal = records.journal; live = records.live; cached = [] }
+  uncached-is = refl
+
+  -- a slot below the extent is live as it is in the map that is shown
+  AreLiveOver-slot : (content : List ℕ) (found : SlotMap) (slot : ℕ) → AreLiveOver records.journal records.live content
+      → StandsFor (shown records.journal content) found → slot < records.journal.extent
+      → is_live records.live slot ≡ not (are_zeros (found.bytes slot))
+  AreLiveOver-slot content found slot over stands lt = over found stands slot lt
+
   -- at rest nothing is staged, and every slot that is shown is that of the content
   AreAtRest-shown : AreAtRest records → IsSettled records.journal × ((content : List ℕ) → shown_by records content ≡ content)
-  AreAtRest-shown rest = (rest.0, λ content. ap (λ (staged : List ℕ). with_entries records.journal.sealed staged content) rest.1)
+  AreAtRest-shown rest = (
+    rest.0,
+    λ content. ap (λ (staged : List Put). with_entries records.journal.sealed
+        (group_bytes records.journal.kind records.journal.sealed (entry_count (length staged)) staged) content) rest.1,
+  )
 
   AreSound-slots : AreSound records → length records.live ≡ MOST_SLOTS
   AreSound-slots sound = sound.slots

@@ -27,9 +27,9 @@ use Rattle.ss_journal.proofs.PutLemmas.{AreSlots-rise}
 use Rattle.ss_journal.proofs.RedoLemmas.{StandsFor-from, StandsFor-same}
 use Rattle.ss_journal.proofs.ShownLemmas.{shown-sealed}
 use Rattle.ss_records.specs.Calls.{AppliesPuts, MakesRoomFor, OpensRecords, ReadsLive, ReadsRecord, SealsRecords, SettlesRecords, StagesPuts}
-use Rattle.ss_records.specs.Live.{are_zeros, is_live, live_after, AreLiveIn}
-use Rattle.ss_records.specs.Kept.{AreKept, AreSound, RecordsState}
-use Rattle.ss_records.specs.Pages.{cached_slot, ArePages}
+use Rattle.ss_records.specs.Live.{are_zeros, is_live, live_after, AreBelow, AreLiveBelow, AreLiveIn}
+use Rattle.ss_records.specs.Kept.{uncached, AreKept, AreLiveOver, AreSound, RecordsState}
+use Rattle.ss_records.specs.Pages.{cached_slot, ArePages, IsPage}
 use Rattle.ss_records.proofs.PageLemmas.{cached_slot-is, ArePages-kept, ArePages-none, ArePages-promoted, ArePages-same}
 use Rattle.ss_records.proofs.LiveLemmas.{AreLiveIn-puts, is_live-set, below-live_after, length-live_after}
 
@@ -118,39 +118,48 @@ pub on_err_always : {T E P : Type 0} (result : Result T E) → P → OnErr resul
 on_err_always (Ok value) is = tt
 on_err_always (Err error) is = is
 
+-- from the extent on every slot is zeros, and none is live
+pub AreLiveIn-below : (journal : JournalState) (live : List Bool) (content : List ℕ) (found : SlotMap) → IsKept journal content
+    → StandsFor (shown journal content) found → AreBelow journal.extent live → AreLiveBelow journal.extent live found.bytes → AreLiveIn live found.bytes
+AreLiveIn-below journal live content found kept is bounded are slot lt = elim (cases_lt slot journal.extent) [
+  | inl used ↦ are slot used
+  | inr past ↦ false_from_ne_true (is_live live slot) (λ lives. absurd (omega (arith, bounded.below slot lives, past)))
+      ∙ sym (ap not (are_zeros-unused journal content found slot kept is lt past))
+]
+
+-- records over a journal are kept where their live slots are those of its map
+pub AreKept-uncached : (journal : JournalState) (live : List Bool) (content : List ℕ) → IsKept journal content → AreBelow journal.extent live
+    → AreLiveOver journal live content → AreKept (uncached journal live) content
+AreKept-uncached journal live content is bounded are = record {
+  journal = is;
+  free = λ found stands. AreLiveIn-below journal live content found is stands bounded (are found stands);
+  cached = λ found stands. ArePages-none found.bytes;
+}
+
 -- the slots below number n are read: of each the list tells whether it is live in the map that the journal shows
 pub record ReadTo (journal : JournalState) (n : ℕ) (live : List Bool) (old new : Told) : Type 0 where
-  pub are : (found : SlotMap) → StandsFor (shown journal old.content) found → (slot : ℕ) → slot < n
-      → is_live live slot ≡ not (are_zeros (found.bytes slot))
+  pub are : (found : SlotMap) → StandsFor (shown journal old.content) found → AreLiveBelow n live found.bytes
   pub reads : OnlyReads old new
 
 module _ (journal : JournalState) where
   pub ReadTo-none : (live : List Bool) (disk : Told) → ReadTo journal 0 live disk disk
   ReadTo-none live disk = record { are = λ found is slot lt. absurd (omega (arith, lt)); reads = reads-none disk }
 
-  pub ReadTo-more : (now : JournalState) (n : ℕ) (live more : List Bool) (bytes : List ℕ) (old mid new : Told) → now ≡ journal → n < length live
-      → more ≡ set live n (not (are_zeros bytes)) → ReadTo journal n live old mid → ReadsSlot now n (Ok bytes) mid new → ReadTo journal (n + 1) more old new
-  ReadTo-more now n live more bytes old mid new same within noted before read = record {
-    are = λ found is slot lt.
+  pub ReadTo-more : (now : JournalState) (n next : ℕ) (live more : List Bool) (page : List ℕ) (old mid new : Told) → now ≡ journal
+      → ((map : ℕ → List ℕ) → IsPage map (n / 32) page → AreLiveBelow n live map → AreLiveBelow next more map)
+      → ReadTo journal n live old mid → ReadsPage now (n / 32) (Ok page) mid new → ReadTo journal next more old new
+  ReadTo-more now n next live more page old mid new same notes before read = record {
+    are = λ found is.
         let there = subst (λ (content : List ℕ). StandsFor (shown journal content) found) (sym before.reads.same.content) is in
         let here = read.bytes found (subst (λ (j : JournalState). StandsFor (shown j mid.content) found) (sym same) there) in
-        ap (λ (list : List Bool). is_live list slot) noted ∙ is_live-set live n slot (not (are_zeros bytes)) within ∙ elim (cases_eq slot n) [
-          | inl same ↦ cond-true (nat_eq slot n) _ _ (eq-eqb slot n same) ∙ ap (λ (list : List ℕ). not (are_zeros list)) here
-              ∙ ap (λ (k : ℕ). not (are_zeros (found.bytes k))) (sym same)
-          | inr other ↦ cond-false (nat_eq slot n) _ _ (ne_eqb slot n other) ∙ before.are found is slot (omega (arith, lt, other))
-        ];
+        notes found.bytes here (before.are found is);
     reads = reads-joined old mid new before.reads read.reads;
   }
 
-  -- from the extent on every slot is zeros, and none is live
-  pub ReadTo-all : (n : ℕ) (live : List Bool) (old new : Told) → IsKept journal old.content → journal.extent ≤ n
-      → ((slot : ℕ) → is_live live slot ≡ true → slot < n) → ReadTo journal n live old new → ReadsLive journal (Ok live) old new
-  ReadTo-all n live old new kept all below before = record {
-    live = λ found is slot lt. elim (cases_lt slot n) [
-      | inl read ↦ before.are found is slot read
-      | inr past ↦ false_from_ne_true (is_live live slot) (λ lives. absurd (omega (arith, below slot lives, past)))
-          ∙ sym (ap not (are_zeros-unused journal old.content found slot kept is lt (omega (arith, past, all))))
-    ];
+  pub ReadTo-all : (n : ℕ) (live : List Bool) (old new : Told) → IsKept journal old.content → journal.extent ≡ n → AreBelow n live
+      → ReadTo journal n live old new → ReadsLive journal (Ok live) old new
+  ReadTo-all n live old new kept all bounded before = record {
+    live = λ found is. AreLiveIn-below journal live old.content found kept is (rw all bounded) (rw all (before.are found is));
     reads = before.reads;
   }
 
@@ -176,12 +185,12 @@ opens-starved journal live old mid new opened read = record {
 pub step-starved : {old new : DiskView} {R : Told → Told → Type 0} → Step fine old new R → Step no_memory old new R
 step-starved step = record { tells = step.tells; counted = step.counted; told = step.told }
 
-pub opens-read : (journal now : JournalState) (live : List Bool) (old mid new : Told) → now ≡ journal → Opens (Ok journal) old mid
-    → ReadsLive journal (Ok live) mid new → OpensRecords (Ok (record { journal = now; live = live; cached = [] })) old new
-opens-read journal now live old mid new same opened read =
+pub opens-read : (journal now : JournalState) (live : List Bool) (records : RecordsState) (old mid new : Told) → now ≡ journal
+    → records ≡ uncached now live → Opens (Ok journal) old mid → ReadsLive journal (Ok live) mid new → OpensRecords (Ok records) old new
+opens-read journal now live records old mid new same over opened read =
     let reads = reads-joined old mid new opened.reads read.reads in
     let is : IsKept now old.content = subst (λ (j : JournalState). IsKept j old.content) (sym same) opened.opens in
-    record {
+    subst (λ (r : RecordsState). OpensRecords (Ok r) old new) (sym over) (record {
       opens = is;
       kept = record {
         journal = subst (IsKept now) (sym reads.same.content) is;
@@ -191,7 +200,7 @@ opens-read journal now live old mid new same opened read =
         cached = λ found stands. ArePages-none found.bytes;
       };
       reads = reads;
-    }
+    })
 
 -- records, and what becomes of them over a disk that they keep
 module _ (journal : JournalState) (live : List Bool) (cached : List (ℕ × List ℕ)) (was : RecordsState)

@@ -1,10 +1,10 @@
 -- Records and the content of their disk.
-use Rattle.std.specs.Prelude.{◌≡◌, ℕ, ◌<◌, ◌≤◌, Bool, true, List, length, Result, Ok, Err}
+use Rattle.std.specs.Prelude.{◌≡◌, ℕ, ◌<◌, ◌≤◌, Bool, true, List, [], length, Result, Ok, Err}
 use Rattle.ss_journal.specs.declared.format.TheConstants.{MOST_SLOTS}
 use Rattle.ss_journal.specs.declared.journal_error.JournalError.{JournalError}
 use Rattle.ss_journal.specs.Kept.{JournalState, IsKept, IsRunning, IsSealed, IsSettled, shown}
 use Rattle.ss_journal.specs.Redo.{SlotMap, StandsFor}
-use Rattle.ss_records.specs.Live.{is_live, AreLiveIn}
+use Rattle.ss_records.specs.Live.{is_live, AreLiveBelow, AreLiveIn}
 use Rattle.ss_records.specs.Pages.{ArePages}
 use Rattle.ss_records.specs.declared.pages.TheConstants.{MOST_CACHED}
 
@@ -17,6 +17,14 @@ pub record RecordsState : Type 0 where
 -- what records show over a content: the content with the transactions that are staged
 abbrev pub shown_by : RecordsState → List ℕ → List ℕ
 shown_by records content = shown records.journal content
+
+-- records over a journal, of which these slots are live, and no page is cached
+abbrev pub uncached : JournalState → List Bool → RecordsState
+uncached journal live = record { journal = journal; live = live; cached = [] }
+
+-- the slots below the journal's extent are live as they are in the map that it shows over a content
+abbrev pub AreLiveOver : JournalState → List Bool → List ℕ → Type 0
+AreLiveOver journal live content = (found : SlotMap) → StandsFor (shown journal content) found → AreLiveBelow journal.extent live found.bytes
 
 -- One disk: what is said of a journal; and the free slots and every cached page are those of the map that the records show.
 pub record AreKept (records : RecordsState) (content : List ℕ) : Type 0 where

@@ -29,6 +29,10 @@ live_after (put ∷ puts) live = live_after puts (slice_set live put.slot (not (
 abbrev pub AreLiveIn : List Bool → (ℕ → List ℕ) → Type 0
 AreLiveIn live map = (slot : ℕ) → slot < MOST_SLOTS → is_live live slot ≡ not (are_zeros (map slot))
 
+-- the same of the slots below one
+abbrev pub AreLiveBelow : ℕ → List Bool → (ℕ → List ℕ) → Type 0
+AreLiveBelow slot live map = (k : ℕ) → k < slot → is_live live k ≡ not (are_zeros (map k))
+
 -- the list tells of each slot that a file can have, and each live one lies below the extent
 pub record AreBelow (extent : ℕ) (live : List Bool) : Type 0 where
   pub slots : length live ≡ MOST_SLOTS

@@ -1,28 +1,42 @@
 // Which slots are live: read once, and kept up with what is put.
-ghost use Rattle.std.specs.Prelude.{◌≡◌, ◌<◌, ℕ, List, length, All, Err, IfOk, IfErr, OnOk};
+ghost use Rattle.std.specs.Prelude.{◌≡◌, ◌+◌, ◌/◌, ◌%◌, ◌<◌, ◌≤◌, ℕ, List, length, All, Err, IfOk, IfErr, OnOk};
 ghost use Rattle.ss_outside.specs.Disk.{OfContent};
 ghost use Rattle.ss_outside.specs.Step.{Step};
 ghost use Rattle.ss_journal.specs.Calls.{verdict_of_open};
 ghost use Rattle.ss_journal.specs.Kept.{IsKept, IsRunning, OpensMapAs};
 ghost use Rattle.ss_records.specs.Calls.{ReadsLive};
-ghost use Rattle.ss_records.specs.Live.{are_zeros, live_after, AreBelow};
+ghost use Rattle.ss_records.specs.Live.{are_zeros, live_after, AreBelow, AreLiveBelow};
+ghost use Rattle.ss_records.specs.Pages.{IsPage};
 
+use crate::pages::slot_of;
 use crate::slot_set::SlotSet;
-use ss_journal::{Journal, JournalError, MOST_SLOTS, Put};
+use ss_journal::{Journal, JournalError, MOST_SLOTS, PAGE_SIZE, PAGE_SLOTS, Put};
 use ss_outside::Disk;
 use std::alloc::Global;
 
-// How many words of a set's top level stand for all slots.
-const TOPS: usize = 4;
-
-// Whether the bytes of a slot are zeros.
-fn are_zeros(bytes: &[u8]) -> bool
+/// Whether the bytes of a slot are zeros.
+pub fn are_zeros(bytes: &[u8]) -> bool
     ensures { result ≡ are_zeros bytes.now }
 {
     bytes.iter().all(|byte| *byte == 0)
 }
 
-// Reads each slot below the extent once.
+// Notes of each slot of a page, whose first is `from`, up to another one, whether it is live.
+fn note_page(live: &mut SlotSet, from: u32, to: u32, page: &[u8; PAGE_SIZE])
+    requires first { from % PAGE_SLOTS ≡ 0 }
+    requires within { from ≤ to × to ≤ from + PAGE_SLOTS × to ≤ MOST_SLOTS }
+    requires bounded { AreBelow from live.old }
+    ensures bounded { AreBelow to live.new }
+    ensures live { (map : ℕ → List ℕ) → IsPage map (from / PAGE_SLOTS) page.now →
+        AreLiveBelow from live.old map → AreLiveBelow to live.new map }
+{
+    for slot in from..to {
+        let bytes = slot_of(page, slot % PAGE_SLOTS);
+        live.put(slot as usize, !are_zeros(&bytes));
+    }
+}
+
+// Reads each page of slots below the extent once.
 pub fn read_live<D: Disk>(
     alloc: Global,
     journal: &mut Journal,
@@ -36,10 +50,14 @@ pub fn read_live<D: Disk>(
     ensures bounded { IfOk result (AreBelow journal.old.extent) }
     ensures journal { OnOk result (journal.new ≡ journal.old) }
 {
-    let mut live = SlotSet::new(alloc, TOPS)?;
-    for slot in 0..journal.extent() {
-        let bytes = journal.read(disk, slot)?;
-        live.put(slot as usize, !are_zeros(&bytes));
+    let mut live = SlotSet::new(alloc)?;
+    let end = journal.extent();
+    let mut slot = 0;
+    while slot < end {
+        let next = end.min(slot + PAGE_SLOTS);
+        let page = journal.read_page(disk, slot / PAGE_SLOTS)?;
+        note_page(&mut live, slot, next, &page);
+        slot = next;
     }
     Ok(live)
 }

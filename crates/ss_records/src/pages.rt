@@ -106,7 +106,7 @@ fn is_valid(cache: &LruCache<u32, [u8; PAGE_SIZE]>)
     let _ = cache.len();
 }
 
-// The bytes of slot number `k` of a page.
+/// The bytes of slot number `k` of a page.
 pub fn slot_of(page: &[u8; PAGE_SIZE], k: u32) -> [u8; SLOT_SIZE]
     requires { k < PAGE_SLOTS }
     ensures { result ≡ slot_in_page page.now k }

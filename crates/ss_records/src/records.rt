@@ -4,7 +4,7 @@ use crate::pages::{Pages, slot_of};
 use crate::slot_set::SlotSet;
 use ss_journal::{Journal, JournalError, MOST_SLOTS, PAGE_SLOTS, SLOT_SIZE, Txn};
 use ss_outside::{Disk, Failed};
-use std::alloc::Global;
+use std::alloc::{AllocError, Global};
 use std::marker::Model;
 
 /// A map from 2^20 slots to 128 bytes each, which knows the slots that aren't zeros. It lies on a disk that it doesn't
@@ -38,14 +38,30 @@ impl Records {
     ghost use Rattle.ss_journal.specs.Calls.{HasCommitted, HasMadeRoom, HasSealed, HasSettled, HasStaged, verdict_of_open};
     ghost use Rattle.ss_journal.specs.Puts.{slots_fit, IsTxn};
     ghost use Rattle.ss_journal.specs.Redo.{zeros};
-    ghost use Rattle.ss_journal.specs.Kept.{HasStopped, IsRunning, IsSealed, IsSettled};
+    ghost use Rattle.ss_journal.specs.Kept.{HasStopped, IsKept, IsRunning, IsSealed, IsSettled};
     ghost use Rattle.ss_journal.specs.declared.format.TheConstants.{ENTRIES};
     ghost use Rattle.ss_records.specs.Calls.{AppliesPuts, MakesRoomFor, OpensRecords, ReadsRecord, SealsRecords, SettlesRecords, StagesPuts};
-    ghost use Rattle.ss_records.specs.Live.{is_live, live_count, lowest_free, live_after};
+    ghost use Rattle.ss_records.specs.Live.{is_live, live_count, lowest_free, live_after, AreBelow};
     ghost use Rattle.ss_records.specs.Pages.{cached_slot, page_numbers, Recalls};
-    ghost use Rattle.ss_records.specs.Kept.{AreKept, AreSound};
+    ghost use Rattle.ss_records.specs.Kept.{uncached, AreKept, AreLiveOver, AreSound};
 
-    /// Opens a disk, formatted or not. It reads the entries in use, and each slot below the extent once, and writes nothing.
+    /// Records over a journal that was opened, of which these slots are live. They are those of the journal's map where the slots
+    /// are: who read them says so. It takes memory for the index of cached pages.
+    pub fn over(alloc: Global, journal: Journal, live: SlotSet) -> Result<Records, AllocError>
+        // Each live slot lies below the extent.
+        requires bounded { AreBelow journal.extent live }
+        ensures over { IfOk result (λ records. records ≡ uncached journal live) }
+        ensures kept { (content : List ℕ) → IsKept journal content → AreLiveOver journal live content → IfOk result (λ records. AreKept records content) }
+    {
+        let pages = Pages::new(alloc)?;
+        Ok(Records {
+            journal,
+            live,
+            pages,
+        })
+    }
+
+    /// Opens a disk, formatted or not. It reads the entries in use, and each page of slots below the extent once, and writes nothing.
     pub fn open<D: Disk>(alloc: Global, disk: &mut D) -> Result<Records, JournalError>
         // The map of the content, or why it has none. Nothing is written.
         ensures opens { Step (verdict_of_open result) (D.seen disk.old) (D.seen disk.new) (OpensRecords result) }
@@ -55,12 +71,8 @@ impl Records {
     {
         let mut journal = Journal::open(alloc, disk)?;
         let live = read_live(alloc, &mut journal, disk)?;
-        let pages = Pages::new(alloc)?;
-        Ok(Records {
-            journal,
-            live,
-            pages,
-        })
+        let records = Records::over(alloc, journal, live)?;
+        Ok(records)
     }
 
     /// How many slots were used: those of the file, and one more for each put into the slot that was next.

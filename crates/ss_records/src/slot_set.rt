@@ -2,6 +2,7 @@
 ghost use Rattle.std.specs.Prelude.{◌≡◌, ◌+◌, ◌-◌, ◌*◌, ◌^◌, ◌<◌, ◌≤◌, false, true, length, slice_index, slice_set, replicate, count_by, All, IfOk, not};
 ghost use Rattle.std.specs.Prelude.{if◌then◌else◌};
 ghost use Rattle.std.specs.List.{position, position_or_len, slice_index_or};
+ghost use Rattle.ss_journal.specs.declared.format.TheConstants.{MOST_SLOTS};
 ghost use Rattle.ss_records.specs.Bits.{is_full};
 ghost use Rattle.ss_records.specs.Tree.{members, IsTree, FullBefore};
 
@@ -9,10 +10,12 @@ use crate::bits::{first_clear, has_bit, put_bit};
 use std::alloc::{AllocError, Global};
 use std::marker::Model;
 
-// How many slots lie under one word of the top level.
-pub const SLOTS_PER_TOP: usize = 1 << 18;
+// How many slots lie under one word of the top level, and how many of these words there are for all slots.
+const SLOTS_PER_TOP: usize = 1 << 18;
 
-// A tree of bitmaps of 64 branches. It takes memory when it is made, and none later.
+const TOPS: usize = 4;
+
+/// A set of the slots that a file can have: a tree of bitmaps of 64 branches. It takes memory when it is made, and none later.
 #[derive(Drop)]
 pub struct SlotSet {
     // A bit for each slot: whether it is in the set.
@@ -36,8 +39,16 @@ impl Model for SlotSet {
 }
 
 impl SlotSet {
+    /// No slot.
+    pub fn new(alloc: Global) -> Result<SlotSet, AllocError>
+        ensures slots { IfOk result (λ set. length set ≡ MOST_SLOTS) }
+        ensures empty { IfOk result (All (λ is. is ≡ false)) }
+    {
+        SlotSet::under(alloc, TOPS)
+    }
+
     // An empty set of the slots under so many words of the top level.
-    pub fn new(alloc: Global, tops: usize) -> Result<SlotSet, AllocError>
+    fn under(alloc: Global, tops: usize) -> Result<SlotSet, AllocError>
         requires { tops ≤ 4 }
         ensures slots { IfOk result (λ set. length set ≡ SLOTS_PER_TOP * tops) }
         ensures empty { IfOk result (All (λ is. is ≡ false)) }
@@ -50,14 +61,14 @@ impl SlotSet {
         })
     }
 
-    // How many slots are in the set.
+    /// How many slots are in the set.
     pub fn len(&self) -> u32
         ensures { result ≡ count_by (λ is. is) self.now }
     {
         self.count
     }
 
-    // Puts a slot into the set, or takes it out.
+    /// Puts a slot into the set, or takes it out.
     pub fn put(&mut self, slot: usize, is_in: bool)
         requires { slot < length self.old }
         ensures { self.new ≡ slice_set self.old slot is_in }
@@ -69,7 +80,7 @@ impl SlotSet {
         self.count = counted(self.count, was_in, is_in);
     }
 
-    // Whether a slot is in the set.
+    /// Whether a slot is in the set.
     pub fn contains(&self, slot: usize) -> bool
         requires { slot < length self.now }
         ensures { result ≡ slice_index_or self.now slot false }
@@ -77,7 +88,7 @@ impl SlotSet {
         has_bit(&self.low, slot)
     }
 
-    // The least slot outside the set.
+    /// The least slot outside the set.
     pub fn least_outside(&self) -> Option<u32>
         ensures { result ≡ position not self.now }
     {

@@ -1,42 +1,38 @@
 -- The slots that were read, and one more.
-use Rattle.std.proofs.Common.{◌≡◌, ◌∙◌, ℕ, zero, suc, ◌+◌, ◌-◌, ◌<◌, ◌≤◌, Bool, true, false, not, cond, List, [], ◌∷◌, ◌++◌, map, filter, length}
-use Rattle.std.proofs.Common.{replicate, get_or, Option, Some, None, Result, Err, refl, sym, ap, ap₂, subst, inl, inr, arith, append-nil}
-use Rattle.std.specs.Prelude.{◌≢◌, count_by, is_none}
-use Rattle.std.specs.List.{position_or_len, range_with_len}
-use Rattle.std.proofs.lemmas.Bool.{cases_lt, true≢false, cond-true, cond-false, lt-ltb, false_from_ne_true}
-use Rattle.std.proofs.lemmas.List.{get_or_default, length-append, map-append, same_lists}
-use Rattle.std.proofs.lemmas.List.Elements.{filter-append}
-use Rattle.std.proofs.lemmas.List.FromFn.{get_or-map-range_with_len, length-map-range_with_len}
-use Rattle.std.proofs.lemmas.List.Sums.{length-filter, position_or_len_is, sum_by-cons}
-use Rattle.ss_outside.specs.Disk.{DiskView}
-use Rattle.ss_outside.specs.Step.{Step}
-use Rattle.ss_outside.specs.Verdict.{Verdict, fine}
-use Rattle.ss_outside.proofs.CrashLemmas.{reads-joined}
-use Rattle.ss_outside.proofs.StepLemmas.{step-as, step-then}
-use Rattle.ss_journal.specs.Kept.{JournalState, IsKept, IsSealed}
+use Rattle.std.proofs.Common.{◌≡◌, ◌∙◌, ℕ, zero, suc, ◌+◌, ◌-◌, ◌<◌, ◌≤◌, ◌^◌, ◌*◌, ◌/◌, ◌%◌, All, Bool, true, false, not, cond, nat_eq, List, [], ◌∷◌, ◌++◌, map, filter, length, set}
+use Rattle.std.proofs.Common.{replicate, get_or, Option, Some, None, Result, Ok, Err, refl, sym, ap, ap₂, subst, inl, inr, arith, append-nil}
+use Rattle.std.specs.Prelude.{◌≢◌, is_none, ◌⊎◌}
+use Rattle.std.specs.List.{AllByRecursion, position_or_len, range_with_len}
+use Rattle.std.proofs.lemmas.Bool.{cases_lt, true≢false, cond-true, cond-false, eq-eqb, ne_eqb, lt-ltb, false_from_ne_true}
+use Rattle.std.proofs.lemmas.List.{get_or_default, length-append, length-map, length-set, map-append}
+use Rattle.std.proofs.lemmas.List.Elements.{All-push, filter-append}
+use Rattle.std.proofs.lemmas.List.FromFn.{get_or-map-range_with_len, length-map-range_with_len, length-range_with_len}
+use Rattle.std.proofs.lemmas.List.Sums.{length-filter, count_by-le-length, position_or_len_is}
+use Rattle.ss_journal.specs.Kept.{JournalState, IsKept, IsSealed, shown}
 use Rattle.ss_journal.specs.Redo.{SlotMap, StandsFor}
-use Rattle.ss_journal.specs.declared.format.TheConstants.{MOST_SLOTS}
 use Rattle.ss_journal.proofs.MapLemmas.{SameMap-refl}
 use Rattle.ss_journal.proofs.RedoLemmas.{StandsFor-from, StandsFor-same}
 use Rattle.ss_journal.proofs.ShownLemmas.{shown-sealed, IsShown-sealed}
-use Rattle.ss_records.specs.Kept.{AreKept, RecordsState, shown_by}
-use Rattle.ss_records.specs.Live.{are_zeros, is_live, live_count}
+use Rattle.ss_records.specs.Kept.{AreLiveOver}
+use Rattle.ss_records.specs.Live.{are_zeros, is_live, AreBelow, AreLiveBelow}
+use Rattle.ss_records.specs.Pages.{IsPage}
+use Rattle.ss_records.proofs.LiveLemmas.{is_live-below, is_live-set}
 use Rattle.ss_codec.specs.Decoded.{decoded}
 use Rattle.ss_codec.specs.declared.record.Record.{Record}
 use Rattle.ss_codec.specs.declared.record.Record.TheVariants.{Free}
-use Rattle.ss_recover.specs.Carried.{spelled}
 use Rattle.ss_codec.proofs.RecordLemmas.{Spells-decoded, spelling-free}
-use Rattle.ss_recover.specs.Gathered.{FindsOut, GathersAs, ReadsAs, SpellsNone}
+use Rattle.ss_recover.specs.Carried.{spelled}
+use Rattle.ss_recover.specs.Gathered.{AreFound, AreFoundBelow, AreGathered, IsLowestBad, SpellsNone, below}
 use Rattle.ss_recover.specs.Rebuilt.{verdict_of_rebuild}
 use Rattle.ss_recover.specs.declared.recover_error.RecoverError.{RecoverError}
 use Rattle.ss_recover.specs.declared.recover_error.RecoverError.TheVariants.{BadSlot, BadStream, Disk, OutOfMemory}
 use Rattle.ss_recover.specs.Parts.{lowest_bad_slot}
-use Rattle.ss_recover.specs.Usable.{in_slot}
+use Rattle.ss_recover.specs.Usable.{IsUsable, in_slot}
 use Rattle.ss_recover.specs.declared.found.Found.{Found}
+use Rattle.ss_recover.specs.declared.gathering.Gathered.{Gathered}
 use Rattle.ss_recover.proofs.FreeSlots.{decoded-free}
-use Rattle.ss_recover.proofs.Lists.{range_with_len-append}
+use Rattle.ss_recover.proofs.Lists.{all_weaker, range-within, range_with_len-append}
 use Rattle.ss_recover.proofs.Occupied.{filled, filled-append, filled-live, filled-zeros}
-use Rattle.ss_recover.proofs.WholeSlots.{HasWholeSlots-StandsFor}
 
 -- where nothing is staged, a map's extent is that of the journal
 pub extent-kept : (journal : JournalState) (content : List ℕ) (found : SlotMap) → IsSealed journal → IsKept journal content → StandsFor content found →
@@ -57,33 +53,6 @@ below-more P slot below here k lt = elim (cases_lt k slot) [
   | inr more ↦ let same : slot ≡ k = omega (arith, lt, more) in subst P same here
 ]
 
--- What was read of the slots below one.
-pub record AreRead (all : List Found) (found : SlotMap) (slot : ℕ) : Type 0 where
-  pub occupied_by : map in_slot all ≡ filled found.bytes (range_with_len 0 slot)
-  pub spelled_all : (k : ℕ) → k < slot → decoded (found.bytes k) ≢ None
-
-pub AreRead-live : (all : List Found) (found : SlotMap) (slot : ℕ) (f : Found) → AreRead all found slot → are_zeros (found.bytes slot) ≡ false →
-    f.slot ≡ slot → decoded (found.bytes slot) ≡ Some f.holds → AreRead (all ++ f ∷ []) found (slot + 1)
-AreRead-live all found slot f read live same is = record {
-  occupied_by =
-      map-append in_slot all (f ∷ [])
-      ∙ ap₂ (λ a b. a ++ b ∷ []) read.occupied_by (λ i. (same i, sym is i))
-      ∙ sym (ap (filled found.bytes) (range-more slot) ∙ filled-append found.bytes (range_with_len 0 slot) (slot ∷ [])
-      ∙ ap (λ l. filled found.bytes (range_with_len 0 slot) ++ l) (filled-live found.bytes slot [] live));
-  spelled_all = below-more (λ k. decoded (found.bytes k) ≢ None) slot read.spelled_all (λ none. cc);
-}
-
-pub AreRead-zeros : (all : List Found) (found : SlotMap) (slot : ℕ) → AreRead all found slot → are_zeros (found.bytes slot) ≡ true →
-    decoded (found.bytes slot) ≡ Some Free → AreRead all found (slot + 1)
-AreRead-zeros all found slot read zeros is = record {
-  occupied_by =
-      read.occupied_by
-      ∙ sym (ap (filled found.bytes) (range-more slot) ∙ filled-append found.bytes (range_with_len 0 slot) (slot ∷ [])
-      ∙ ap (λ l. filled found.bytes (range_with_len 0 slot) ++ l) (filled-zeros found.bytes slot [] zeros)
-      ∙ append-nil (filled found.bytes (range_with_len 0 slot)));
-  spelled_all = below-more (λ k. decoded (found.bytes k) ≢ None) slot read.spelled_all (λ none. cc);
-}
-
 -- the slots that were read are those that are live
 pub slots-more : (live : List Bool) (slots : List ℕ) (slot : ℕ) → slots ≡ filter (is_live live) (range_with_len 0 slot) →
     cond (is_live live slot) (slots ++ slot ∷ []) slots ≡ filter (is_live live) (range_with_len 0 (slot + 1))
@@ -95,57 +64,110 @@ slots-more live slots slot is =
     go true ks same = ap (λ l. l ++ slot ∷ []) same
     go false ks same = same ∙ sym (append-nil ks)
 
--- no slot from the extent on is live
-pub slots-all : (live : List Bool) (n m : ℕ) → n ≤ m → ((slot : ℕ) → is_live live slot ≡ true → slot < n) →
-    filter (is_live live) (range_with_len 0 n) ≡ filter (is_live live) (range_with_len 0 m)
-slots-all live n m le below =
-    let rest : filter (is_live live) (range_with_len n (m - n)) ≡ [] = none n (m - n) (omega arith) in
-    sym (ap (filter (is_live live)) (range_with_len-append 0 n (m - n) m n (omega arith) (omega arith))
-    ∙ filter-append (is_live live) (range_with_len 0 n) (range_with_len n (m - n)) ∙ ap (λ l. filter (is_live live) (range_with_len 0 n) ++ l) rest
-    ∙ append-nil (filter (is_live live) (range_with_len 0 n)))
-  where
-    none : (a k : ℕ) → n ≤ a → filter (is_live live) (range_with_len a k) ≡ []
-    none a zero le = refl
-    none a (suc k) le =
-        cond-false (is_live live a) _ _ (false_from_ne_true (is_live live a) (λ is. absurd (omega (arith, below a is, le)))) ∙ none (a + 1) k (omega arith)
+-- no slot is live from there on
+pub not_live : (slot : ℕ) (live : List Bool) → AreBelow slot live → is_live live slot ≡ false
+not_live slot live bounded = false_from_ne_true (is_live live slot) (λ is. absurd (omega (arith, bounded.below slot is)))
 
--- how many slots are live, counted slot by slot
-pub length-live : (live : List Bool) → length (filter (is_live live) (range_with_len 0 (length live))) ≡ live_count live
-length-live live =
-    length-filter (is_live live) (range_with_len 0 (length live))
-    ∙ count_by-map (λ (is : Bool). is) (is_live live) (range_with_len 0 (length live))
-    ∙ ap (λ l. live_count l) (map-is_live live)
-  where
-    count_by-map : {X Y : Type 0} (p : Y → Bool) (f : X → Y) (xs : List X) → count_by (λ x. p (f x)) xs ≡ count_by p (map f xs)
-    count_by-map p f [] = refl
-    count_by-map p f (x ∷ xs) =
-        omega (arith, count_by-map p f xs, sum_by-cons (λ y. cond (p (f y)) 1 0) x xs, sum_by-cons (λ y. cond (p y) 1 0) (f x) (map f xs))
-
-    map-is_live : (slots : List Bool) → map (is_live slots) (range_with_len 0 (length slots)) ≡ slots
-    map-is_live slots =
-        same_lists (map (is_live slots) (range_with_len 0 (length slots))) slots (length-map-range_with_len (is_live slots) 0 (length slots))
-        (λ k d inside.
-        let within : k < length slots = omega (arith, inside, length-map-range_with_len (is_live slots) 0 (length slots)) in
-        get_or-map-range_with_len (is_live slots) 0 (length slots) k k d within (omega arith) ∙ get_or_default slots k false d within)
-
--- below a live slot there are fewer than all
-pub length-live_below : (live : List Bool) (slot : ℕ) → slot < length live → is_live live slot ≡ true →
-    length (filter (is_live live) (range_with_len 0 slot)) < live_count live
-length-live_below live slot lt is =
-    let one : filter (is_live live) (range_with_len 0 (slot + 1)) ≡ filter (is_live live) (range_with_len 0 slot) ++ slot ∷ [] =
-    sym (slots-more live _ slot refl) ∙ cond-true (is_live live slot) _ _ is in
-    let rest = range_with_len (slot + 1) (length live - (slot + 1)) in
-    let all : filter (is_live live) (range_with_len 0 (length live)) ≡ filter (is_live live) (range_with_len 0 (slot + 1)) ++ filter (is_live live) rest =
-    ap (filter (is_live live)) (range_with_len-append 0 (slot + 1) (length live - (slot + 1)) (length live) (slot + 1) (omega arith) (omega arith))
-    ∙ filter-append (is_live live) (range_with_len 0 (slot + 1)) rest in
+-- there are at most as many records as slots
+pub length-gathered : (slot : ℕ) (read : Gathered) → AreGathered slot read → length read.all.items ≤ slot
+length-gathered slot read are =
     omega (
       arith,
-      length-live live,
-      ap length all,
-      length-append (filter (is_live live) (range_with_len 0 (slot + 1))) (filter (is_live live) rest),
-      ap length one,
-      length-append (filter (is_live live) (range_with_len 0 slot)) (slot ∷ []),
+      ap (λ (ns : List ℕ). length ns) are.slots,
+      length-map read.all.items (λ (f : Found). f.slot),
+      length-filter (is_live read.live) (range_with_len 0 slot),
+      count_by-le-length (is_live read.live) (range_with_len 0 slot),
+      length-range_with_len 0 slot,
     )
+
+-- a free slot is read
+pub AreGathered-free : (slot : ℕ) (read : Gathered) → AreGathered slot read → AreGathered (slot + 1) read
+AreGathered-free slot read are = record {
+  usable = are.usable;
+  slots = are.slots ∙ sym (cond-false (is_live read.live slot) _ _ (not_live slot read.live are.bounded))
+      ∙ slots-more read.live (filter (is_live read.live) (range_with_len 0 slot)) slot refl;
+  bounded = record { slots = are.bounded.slots; below = λ k is. let lt = are.bounded.below k is in omega (arith, lt) };
+}
+
+pub AreFoundBelow-free : (slot : ℕ) (read : Gathered) (found : SlotMap) → AreGathered slot read → length (found.bytes slot) ≡ 128
+    → are_zeros (found.bytes slot) ≡ true → AreFoundBelow slot read found → AreFoundBelow (slot + 1) read found
+AreFoundBelow-free slot read found gathered whole zeros before = record {
+  are = record {
+    occupied_by =
+        before.are.occupied_by
+        ∙ sym (ap (filled found.bytes) (range-more slot) ∙ filled-append found.bytes (range_with_len 0 slot) (slot ∷ [])
+        ∙ ap (λ l. filled found.bytes (range_with_len 0 slot) ++ l) (filled-zeros found.bytes slot [] zeros)
+        ∙ append-nil (filled found.bytes (range_with_len 0 slot)));
+    spelled_all =
+        let free = decoded-free (found.bytes slot) whole zeros in
+        below-more (λ k. decoded (found.bytes k) ≢ None) slot before.are.spelled_all (λ none. cc);
+  };
+  live = below-more (λ k. is_live read.live k ≡ not (are_zeros (found.bytes k))) slot before.live
+      (not_live slot read.live gathered.bounded ∙ sym (ap not zeros));
+}
+
+filter-same : (p q : ℕ → Bool) (xs : List ℕ) → AllByRecursion (λ x. p x ≡ q x) xs → filter p xs ≡ filter q xs
+filter-same p q [] same = refl
+filter-same p q (x ∷ xs) same = ap₂ (λ (b : Bool) (rest : List ℕ). cond b (x ∷ rest) rest) same.0 (filter-same p q xs same.1)
+
+-- a slot that is live now, and those before it
+module _ (live : List Bool) (slot : ℕ) (lt : slot < length live) where
+  is_live-now : is_live (set live slot true) slot ≡ true
+  is_live-now = is_live-set live slot slot true lt ∙ cond-true (nat_eq slot slot) _ _ (eq-eqb slot slot refl)
+
+  is_live-other : (k : ℕ) → k ≢ slot → is_live (set live slot true) k ≡ is_live live k
+  is_live-other k other = is_live-set live slot k true lt ∙ cond-false (nat_eq k slot) _ _ (ne_eqb k slot other)
+
+  is_live-before : (k : ℕ) → k < slot → is_live (set live slot true) k ≡ is_live live k
+  is_live-before k less = is_live-other k (λ same. omega (arith, less, same))
+
+  slots-now : filter (is_live (set live slot true)) (range_with_len 0 (slot + 1)) ≡ filter (is_live live) (range_with_len 0 slot) ++ slot ∷ []
+  slots-now =
+      sym (slots-more (set live slot true) (filter (is_live (set live slot true)) (range_with_len 0 slot)) slot refl)
+      ∙ cond-true (is_live (set live slot true) slot) _ _ is_live-now
+      ∙ ap (λ (l : List ℕ). l ++ slot ∷ []) (filter-same (is_live (set live slot true)) (is_live live) (range_with_len 0 slot)
+      (all_weaker (λ k. k < slot) (λ k. is_live (set live slot true) k ≡ is_live live k) is_live-before
+      (range_with_len 0 slot) (range-within 0 slot slot (omega arith))))
+
+-- a live slot is read
+module _ (slot : ℕ) (read new : Gathered) (f : Found) (added : new.all.items ≡ read.all.items ++ f ∷ []) (same : f.slot ≡ slot)
+    (noted : new.live ≡ set read.live slot true) (gathered : AreGathered slot read) (lt : slot < 2 ^ 20) where
+  within : slot < length read.live
+  within = let long = gathered.bounded.slots in omega (arith, long, lt)
+
+  pub AreGathered-live : IsUsable f.holds → AreGathered (slot + 1) new
+  AreGathered-live usable = record {
+    usable = subst (λ fs. All (λ (g : Found). IsUsable g.holds) fs) (sym added)
+        (All-push (λ (g : Found). IsUsable g.holds) read.all.items f gathered.usable usable);
+    slots =
+        ap (λ (fs : List Found). map (λ g. g.slot) fs) added ∙ map-append (λ (g : Found). g.slot) read.all.items (f ∷ [])
+        ∙ ap₂ (λ (a : List ℕ) (k : ℕ). a ++ k ∷ []) gathered.slots same ∙ sym (slots-now read.live slot within)
+        ∙ ap (λ (l : List Bool). filter (is_live l) (range_with_len 0 (slot + 1))) (sym noted);
+    bounded = subst (AreBelow (slot + 1)) (sym noted) (record {
+      slots = length-set read.live slot true ∙ gathered.bounded.slots;
+      below = λ k is. elim (cases_lt slot k) [
+        | inl past ↦ (let lives : is_live read.live k ≡ true = sym (is_live-other read.live slot within k (λ here. omega (arith, here, past))) ∙ is in
+            omega (arith, gathered.bounded.below k lives))
+        | inr not_past ↦ omega (arith, not_past)
+      ];
+    });
+  }
+
+  pub AreFoundBelow-live : (found : SlotMap) → are_zeros (found.bytes slot) ≡ false → decoded (found.bytes slot) ≡ Some f.holds
+      → AreFoundBelow slot read found → AreFoundBelow (slot + 1) new found
+  AreFoundBelow-live found live is before = record {
+    are = record {
+      occupied_by =
+          ap (map in_slot) added ∙ map-append in_slot read.all.items (f ∷ [])
+          ∙ ap₂ (λ a b. a ++ b ∷ []) before.are.occupied_by (λ i. (same i, sym is i))
+          ∙ sym (ap (filled found.bytes) (range-more slot) ∙ filled-append found.bytes (range_with_len 0 slot) (slot ∷ [])
+          ∙ ap (λ l. filled found.bytes (range_with_len 0 slot) ++ l) (filled-live found.bytes slot [] live));
+      spelled_all = below-more (λ k. decoded (found.bytes k) ≢ None) slot before.are.spelled_all (λ none. cc);
+    };
+    live = subst (λ (l : List Bool). AreLiveBelow (slot + 1) l found.bytes) (sym noted)
+        (below-more (λ k. is_live (set read.live slot true) k ≡ not (are_zeros (found.bytes k))) slot
+        (λ k less. is_live-before read.live slot within k less ∙ before.live k less) (is_live-now read.live slot within ∙ sym (ap not live)));
+  }
 
 -- the lowest slot that spells nothing
 pub lowest-is : (found : SlotMap) (slot : ℕ) → slot < found.extent → ((k : ℕ) → k < slot → decoded (found.bytes k) ≢ None) → decoded (found.bytes slot) ≡ None →
@@ -165,76 +187,88 @@ lowest-is found slot lt below none =
     is_some-not None other = absurd (other refl)
     is_some-not (Some r) other = refl
 
+-- one that spells no record
+pub spells-none : (bytes : List ℕ) → are_zeros bytes ≡ false → SpellsNone bytes → decoded bytes ≡ None
+spells-none bytes live (inl none) = none
+spells-none bytes live (inr free) =
+    let is : bytes ≡ replicate 128 0 = (Spells-decoded bytes Free free).spelled ∙ spelling-free in
+    let zeros : are_zeros bytes ≡ true = ap are_zeros is in
+    absurd (true≢false (sym zeros ∙ live))
+
+pub IsLowestBad-here : (slot : ℕ) (read : Gathered) (found : SlotMap) → AreFoundBelow slot read found → decoded (found.bytes slot) ≡ None
+    → IsLowestBad (slot + 1) slot found
+IsLowestBad-here slot read found before none = record { below = omega arith; spelled_before = before.are.spelled_all; none = none }
+
+pub IsLowestBad-more : (slot more n : ℕ) (found : SlotMap) → slot ≤ more → IsLowestBad slot n found → IsLowestBad more n found
+IsLowestBad-more slot more n found le is = record {
+  below = let lt = is.below in omega (arith, le, lt);
+  spelled_before = is.spelled_before;
+  none = is.none;
+}
+
+pub IsLowestBad-told : (slot n : ℕ) (found : SlotMap) → slot ≤ found.extent → IsLowestBad slot n found → lowest_bad_slot (spelled found) ≡ Some n
+IsLowestBad-told slot n found le is = let lt = is.below in lowest-is found n (omega (arith, le, lt)) is.spelled_before is.none
+
+-- where nothing is staged, a journal shows the map of the content
+pub StandsFor-sealed : (journal : JournalState) (content : List ℕ) (found : SlotMap) → IsSealed journal → StandsFor content found
+    → StandsFor (shown journal content) found
+StandsFor-sealed journal content found sealed stands = subst (λ image. StandsFor image found) (sym (shown-sealed journal content sealed)) stands
+
+-- no slot from there on is live, so the live ones are those of the list
+pub slots-gathered : (slot : ℕ) (read : Gathered) → AreGathered slot read
+    → map (λ (f : Found). f.slot) read.all.items ≡ filter (is_live read.live) (range_with_len 0 (length read.live))
+slots-gathered slot read are = are.slots ∙ elim (cases_lt (length read.live) slot) [
+  | inl more ↦ sym (slots-all read.live (length read.live) slot (omega (arith, more)) (is_live-below read.live))
+  | inr less ↦ slots-all read.live slot (length read.live) less are.bounded.below
+]
+  where
+    none : (live : List Bool) (n a k : ℕ) → n ≤ a → ((k : ℕ) → is_live live k ≡ true → k < n) → filter (is_live live) (range_with_len a k) ≡ []
+    none live n a zero le below = refl
+    none live n a (suc k) le below =
+        cond-false (is_live live a) _ _ (false_from_ne_true (is_live live a) (λ is. absurd (omega (arith, below a is, le))))
+        ∙ none live n (a + 1) k (omega arith) below
+
+    slots-all : (live : List Bool) (n m : ℕ) → n ≤ m → ((k : ℕ) → is_live live k ≡ true → k < n) →
+        filter (is_live live) (range_with_len 0 n) ≡ filter (is_live live) (range_with_len 0 m)
+    slots-all live n m le below =
+        sym (ap (filter (is_live live)) (range_with_len-append 0 n (m - n) m n (omega arith) (omega arith))
+        ∙ filter-append (is_live live) (range_with_len 0 n) (range_with_len n (m - n))
+        ∙ ap (λ l. filter (is_live live) (range_with_len 0 n) ++ l) (none live n n (m - n) (omega arith) below)
+        ∙ append-nil (filter (is_live live) (range_with_len 0 n)))
+
+pub few-gathered : (slot : ℕ) (read : Gathered) → AreGathered slot read → length read.all.items ≤ 2 ^ 20
+few-gathered slot read are =
+    omega (
+      arith,
+      ap (λ (ns : List ℕ). length ns) (slots-gathered slot read are),
+      length-map read.all.items (λ (f : Found). f.slot),
+      length-filter (is_live read.live) (range_with_len 0 (length read.live)),
+      count_by-le-length (is_live read.live) (range_with_len 0 (length read.live)),
+      length-range_with_len 0 (length read.live),
+      are.bounded.slots,
+    )
+
+-- where a slot lies in its page
+pub slot-of_page : (slot from : ℕ) → from % 32 ≡ 0 → from ≤ slot → slot < from + 32 → 32 * (from / 32) + slot % 32 ≡ slot
+slot-of_page slot from first least most = omega (arith, first, least, most)
+
+-- what was read of a disk, which keeps a journal as before
+module _ (journal now : JournalState) (old new : List ℕ) (same : now ≡ journal) (content : new ≡ old) (kept : IsKept journal old) where
+  pub IsKept-read : IsKept now new
+  IsKept-read = subst (λ (j : JournalState). IsKept j new) (sym same) (subst (IsKept journal) (sym content) kept)
+
+  pub AreLiveOver-read : (read : Gathered) → IsSealed journal → ((found : SlotMap) → StandsFor old found → AreFoundBelow found.extent read found)
+      → AreLiveOver now read.live new
+  AreLiveOver-read read sealed finds =
+      subst (λ (j : JournalState). AreLiveOver j read.live new) (sym same)
+      (subst (λ (image : List ℕ). AreLiveOver journal read.live image) (sym content) (λ found shows.
+      let stands : StandsFor old found = subst (λ (image : List ℕ). StandsFor image found) (shown-sealed journal old sealed) shows in
+      let are = finds found stands in
+      subst (λ (n : ℕ). AreLiveBelow n read.live found.bytes) (extent-kept journal old found sealed kept stands) are.live))
+
 -- errors that are told on have one verdict
-pub verdict-same : {A B : Type 0} (answer : Result A RecoverError) (result : Result B RecoverError) (e : RecoverError) →
-    answer ≡ Err e → result ≡ Err e → verdict_of_rebuild answer ≡ verdict_of_rebuild result
-verdict-same {A} {B} answer result e is gives = ap (verdict_of_rebuild {T = A}) is ∙ go e ∙ sym (ap (verdict_of_rebuild {T = B}) gives)
-  where
-    go : (d : RecoverError) → verdict_of_rebuild {T = A} (Err d) ≡ verdict_of_rebuild {T = B} (Err d)
-    go (BadSlot n) = refl
-    go (BadStream number) = refl
-    go Disk = refl
-    go OutOfMemory = refl
-
--- what a live slot that spells no record makes of the reading
-pub gather-refused : (found : SlotMap) (slot : ℕ) (all : List Found) (e : RecoverError) → ReadsAs (found.bytes slot) slot (Err e) →
-    AreRead all found slot → slot < found.extent → are_zeros (found.bytes slot) ≡ false → GathersAs found (Err e)
-gather-refused found slot all (BadSlot n) refused read lt live =
-    lowest-is found slot lt read.spelled_all (spells-none refused.1) ∙ ap Some (sym refused.0)
-  where
-    spells-none : SpellsNone (found.bytes slot) → decoded (found.bytes slot) ≡ None
-    spells-none (inl none) = none
-    spells-none (inr free) =
-        let bytes : found.bytes slot ≡ replicate 128 0 = (Spells-decoded (found.bytes slot) Free free).spelled ∙ spelling-free in
-        let zeros : are_zeros (found.bytes slot) ≡ true = ap are_zeros bytes in
-        absurd (true≢false (sym zeros ∙ live))
-gather-refused found slot all (BadStream number) refused read lt live = refused
-gather-refused found slot all Disk refused read lt live = tt
-gather-refused found slot all OutOfMemory refused read lt live = tt
-
--- where nothing is staged, records show the map of the content
-pub StandsFor-sealed : (records : RecordsState) (content : List ℕ) (found : SlotMap) → IsSealed records.journal → StandsFor content found →
-    StandsFor (shown_by records content) found
-StandsFor-sealed records content found sealed stands =
-    subst (λ image. StandsFor image found) (sym (shown-sealed records.journal content sealed)) stands
-
--- a live slot isn't zeros, and a slot that isn't live is free
-pub live-zeros : (records : RecordsState) (content : List ℕ) (found : SlotMap) (slot : ℕ) (b : Bool) → IsSealed records.journal → AreKept records content →
-    StandsFor content found → slot < MOST_SLOTS →
-    is_live records.live slot ≡ not b → are_zeros (found.bytes slot) ≡ b
-live-zeros records content found slot b sealed kept stands lt is =
-    let shows = StandsFor-sealed records content found sealed stands in
-    not-same (are_zeros (found.bytes slot)) b (sym (kept.free found shows slot lt) ∙ is)
-  where
-    not-same : (x y : Bool) → not x ≡ not y → x ≡ y
-    not-same true true same = refl
-    not-same false false same = refl
-    not-same true false same = sym same
-    not-same false true same = sym same
-
-pub free-zeros : (content : List ℕ) (found : SlotMap) (slot : ℕ) → StandsFor content found → slot < MOST_SLOTS → are_zeros (found.bytes slot) ≡ true →
-    decoded (found.bytes slot) ≡ Some Free
-free-zeros content found slot stands lt zeros = decoded-free (found.bytes slot) ((HasWholeSlots-StandsFor content found stands).whole slot lt) zeros
-
--- more is found out of what was read
-pub finds-more : {old new : DiskView} {r : RecordsState} {P Q : SlotMap → Type 0} → Step fine old new (FindsOut fine r P) →
-    ((found : SlotMap) → StandsFor new.told.content found → AreKept r new.told.content → P found → Q found) → Step fine old new (FindsOut fine r Q)
-finds-more step gives = step-as step (λ finds. record {
-  found = λ found stands.
-      gives found (subst (λ content. StandsFor content found) (sym finds.reads.same.content) stands) finds.kept (finds.found found stands);
-  kept = finds.kept;
-  reads = finds.reads;
-})
-
--- what one reading after another finds out
-pub finds-then : {old mid new : DiskView} {r s : RecordsState} {v : Verdict} {P Q R : SlotMap → Type 0} →
-    Step fine old mid (FindsOut fine r P) → Step v mid new (FindsOut v s Q) →
-    ((found : SlotMap) → StandsFor mid.told.content found → AreKept r mid.told.content → P found → Q found → R found) →
-    Step v old new (FindsOut v s R)
-finds-then step next joins = step-then step next (λ first second. record {
-  found = λ found stands.
-      let stands' = subst (λ content. StandsFor content found) (sym first.reads.same.content) stands in
-      joins found stands' first.kept (first.found found stands) (second.found found stands');
-  kept = second.kept;
-  reads = reads-joined _ _ _ first.reads second.reads;
-})
+pub verdict-told : (S T : Type 0) (error : RecoverError) → verdict_of_rebuild {T = S} (Err error) ≡ verdict_of_rebuild {T = T} (Err error)
+verdict-told S T (BadSlot n) = refl
+verdict-told S T (BadStream number) = refl
+verdict-told S T Disk = refl
+verdict-told S T OutOfMemory = refl

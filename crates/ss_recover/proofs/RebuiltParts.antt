@@ -306,13 +306,8 @@ walk-verdict F all (Err Disk) walks is other none = absurd walks
 walk-verdict F all (Err OutOfMemory) walks is other none = none
 
 -- what reading refuses is what the map carries
-pub refuses-found : (found : SlotMap) (answer : Result (Vec Found Global) RecoverError) (result : Result Parts RecoverError) (e : RecoverError) →
-    GathersAs found answer → answer ≡ Err e →
-    result ≡ Err e → RebuildsAs found result
-refuses-found found answer result e gathers is gives = subst (RebuildsAs found) (sym gives) (go e (subst (GathersAs found) is gathers))
-  where
-    go : (d : RecoverError) → GathersAs found (Err d) → RebuildsAs found (Err d)
-    go (BadSlot n) none = carried-bad_slot found n none
-    go (BadStream n) none = absurd none
-    go Disk none = tt
-    go OutOfMemory none = tt
+pub refuses-found : (found : SlotMap) (e : RecoverError) → GathersAs found (Err e) → RebuildsAs found (Err e)
+refuses-found found (BadSlot n) none = carried-bad_slot found n none
+refuses-found found (BadStream n) none = absurd none
+refuses-found found Disk none = tt
+refuses-found found OutOfMemory none = tt

@@ -1,6 +1,6 @@
 -- Worked maps of a few slots, and what each carries or where it is damaged.
 use Rattle.std.specs.Prelude.{◌≡◌, ℕ, ◌+◌, ◌-◌, ◌*◌, ◌^◌, true, false, pos, negsuc, List, [], ◌∷◌, length, replicate, slice_index_or, slice_set, map, Ok, Err}
-use Rattle.std.specs.Prelude.{◌≤◌, Bool, Option, Some, None, filter}
+use Rattle.std.specs.Prelude.{◌≤◌, Bool, Option, Some, None, Result, filter}
 use Rattle.std.proofs.Common.{refl, ◌∙◌}
 use Rattle.ss_fields.specs.Fields as Numbers
 use Rattle.ss_summary.specs.Figures.{Figures}
@@ -13,7 +13,7 @@ use Rattle.ss_catalog.specs.Names as Names
 use Rattle.ss_catalog.specs.declared.TheConstants.{MOST_STREAMS}
 use Rattle.ss_catalog.specs.Params.{exp as Exp}
 use Rattle.ss_windowing.specs.declared.decay.TheConstants.{MOST_VALUES}
-use Rattle.ss_journal.specs.Redo.{SlotMap, zeros}
+use Rattle.ss_journal.specs.Redo.{SlotMap, StandsFor, zeros}
 use Rattle.ss_codec.specs.Fields as Fields
 use Rattle.ss_codec.specs.Record.{spelling, is_valid}
 use Rattle.ss_codec.specs.Decoded.{decoded, finish_in, landmark_in, params_in, record_in, stream_in, value_in, window_in}
@@ -28,6 +28,7 @@ use Rattle.ss_recover.specs.Parts.{Carried, bad_slot, bad_stream, carries, carri
 use Rattle.std.specs.List.{range_with_len}
 use Rattle.std.specs.List.Sorted.{IsPermutation}
 use Rattle.ss_records.specs.Live.{is_live}
+use Rattle.ss_outside.specs.Crash.{OnlyReads}
 use Rattle.ss_outside.specs.Disk.{Told}
 use Rattle.ss_outside.specs.Verdict.{fine, refused, failed, no_memory}
 use Rattle.ss_records.specs.Kept.{AreKept, RecordsState}
@@ -36,6 +37,7 @@ use Rattle.ss_recover.specs.Held.{AreWhole, AreWholeBeside, occupied}
 use Rattle.ss_recover.specs.Rebuilt.{HasParts, Rebuilds, verdict_of_rebuild}
 use Rattle.ss_recover.specs.declared.parts.Parts.{Parts}
 use Rattle.ss_recover.specs.declared.parts.StreamParts.{StreamParts}
+use Rattle.ss_recover.specs.declared.recover_error.RecoverError.{RecoverError}
 use Rattle.ss_recover.specs.declared.recover_error.RecoverError.TheVariants.{BadSlot, BadStream, Disk, OutOfMemory}
 
 -- a map of these slots, and none after them
@@ -373,13 +375,16 @@ verdicts-rebuild = refl
 verdict-Ok : verdict_of_rebuild {T = ℕ} (Ok 7) ≡ fine
 verdict-Ok = refl
 
--- the records are kept also where a slot or a stream is damaged
-module _ (records : RecordsState) (n : ℕ) (old new : Told) where
-  rebuilds-bad_slot : Rebuilds records (Err (BadSlot n)) old new → AreKept records new.content
-  rebuilds-bad_slot rebuilds = rebuilds.kept
+-- what is answered of a map, and that its records are kept
+module _ (records : RecordsState) (parts : Parts) (found : SlotMap) (old new : Told) where
+  rebuilds-Ok : Rebuilds (Ok (records, parts)) old new → StandsFor old.content found → HasParts parts found
+  rebuilds-Ok rebuilds stands = rebuilds.carried found stands
 
-  rebuilds-bad_stream : Rebuilds records (Err (BadStream n)) old new → AreKept records new.content
-  rebuilds-bad_stream rebuilds = rebuilds.kept
+  rebuilds-kept : Rebuilds (Ok (records, parts)) old new → AreKept records new.content
+  rebuilds-kept rebuilds = rebuilds.kept
+
+  rebuilds-reads : (result : Result (RecordsState × Parts) RecoverError) → Rebuilds result old new → OnlyReads old new
+  rebuilds-reads result rebuilds = rebuilds.reads
 
 -- no more streams are held than may stand
 whole-few : (parts : List StreamParts) (live : List Bool) → AreWhole parts live → length parts ≤ 4096

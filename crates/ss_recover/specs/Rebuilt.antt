@@ -1,8 +1,8 @@
 -- What rebuilding answers.
-use Rattle.std.specs.Prelude.{◌≡◌, ℕ, List, flat_map, map, zip, Option, Result, Ok, Err, ⊤}
+use Rattle.std.specs.Prelude.{◌≡◌, ℕ, List, flat_map, map, zip, Option, Result, Ok, Err, IfOk, ⊤}
 use Rattle.ss_outside.specs.Crash.{OnlyReads}
 use Rattle.ss_outside.specs.Disk.{Told}
-use Rattle.ss_outside.specs.Verdict.{Verdict, UnlessFailed, fine, refused, no_memory, failed}
+use Rattle.ss_outside.specs.Verdict.{Verdict, fine, refused, no_memory, failed}
 use Rattle.ss_journal.specs.Redo.{SlotMap, StandsFor}
 use Rattle.ss_records.specs.Kept.{AreKept, RecordsState}
 use Rattle.ss_codec.specs.declared.record.Record.{Record}
@@ -40,9 +40,14 @@ verdict_of_rebuild (Err (BadSlot n)) = refused
 verdict_of_rebuild (Err (BadStream id)) = refused
 verdict_of_rebuild (Err OutOfMemory) = no_memory
 
--- The streams of the content's map are rebuilt, or its lowest damaged slot is told, or else its lowest damaged stream. The
--- records are these then. Content and images stay.
-pub record Rebuilds (records : RecordsState) (result : Result Parts RecoverError) (old new : Told) : Type 0 where
-  pub carried : (found : SlotMap) → StandsFor old.content found → RebuildsAs found result
-  pub kept : UnlessFailed (verdict_of_rebuild result) (AreKept records new.content)
+-- the parts of what is answered
+abbrev pub parts_of : Result (RecordsState × Parts) RecoverError → Result Parts RecoverError
+parts_of (Ok read) = Ok read.1
+parts_of (Err error) = Err error
+
+-- The streams of the content's map are rebuilt, with its records, or its lowest damaged slot is told, or else its lowest damaged
+-- stream. Content and images stay.
+pub record Rebuilds (result : Result (RecordsState × Parts) RecoverError) (old new : Told) : Type 0 where
+  pub carried : (found : SlotMap) → StandsFor old.content found → RebuildsAs found (parts_of result)
+  pub kept : IfOk result (λ read. AreKept read.0 new.content)
   pub reads : OnlyReads old new

@@ -34,14 +34,23 @@ impl Times {
         }
     }
 
+    /// Notes a window that begins after all others, and its place. An error leaves what was there.
+    pub fn push(&mut self, t: u64, at: At) -> Result<(), AllocError>
+        requires { All (λ e. e.0 < t) self.old }
+        ensures ok { OnOk result (self.new ≡ self.old ++ (t, at) ∷ []) }
+        ensures err { OnErr result (self.new ≡ self.old) }
+    {
+        self.places.insert(t, at)?;
+        Ok(())
+    }
+
     /// Notes the time of a window that begins after all others; its place is told later. An error leaves what was there.
     pub fn reserve(&mut self, t: u64) -> Result<(), AllocError>
         requires { All (λ e. e.0 < t) self.old }
         ensures ok { OnOk result (self.new ≡ self.old ++ (t, record { 0 = 0 }) ∷ []) }
         ensures err { OnErr result (self.new ≡ self.old) }
     {
-        self.places.insert(t, At(0))?;
-        Ok(())
+        self.push(t, At(0))
     }
 
     /// Tells the place of the window that begins at a time. Where none begins then, nothing changes. It takes no memory.

@@ -4,10 +4,9 @@ ghost use Rattle.ss_steps.specs.Steps.{IsFresh};
 use crate::images::Slot::{self, Dropped, Filtered, Free, Landmark, Stream, Value, Window};
 use crate::images::{FORMATTED, image};
 use crate::passing::pass;
-use ss_journal::JournalError;
+use ss_journal::{Journal, JournalError};
 use ss_landmarks::Landmarks;
 use ss_line::{Entry, Line};
-use ss_records::Records;
 use ss_recover::{Parts, RecoverError, StreamParts, rebuild};
 use ss_steps::Steps;
 use std::alloc::Global;
@@ -80,8 +79,14 @@ fn are_read(parts: &Parts, want: &[Read]) -> bool {
 
 fn rebuilt(alloc: Global, slots: &[Slot]) -> Result<Result<Parts, RecoverError>, JournalError> {
     let mut disk = image(alloc, FORMATTED, slots)?;
-    let mut records = Records::open(alloc, &mut disk)?;
-    Ok(rebuild(alloc, &mut records, &mut disk))
+    let journal = Journal::open(alloc, &mut disk)?;
+    match rebuild(alloc, journal, &mut disk) {
+        Ok(read) => {
+            let (_records, parts) = read;
+            Ok(Ok(parts))
+        }
+        Err(error) => Ok(Err(error)),
+    }
 }
 
 /// The damage that is told of an image.

@@ -4,8 +4,8 @@ use Rattle.ss_journal.proofs.StepLemmas.{after-step, step-from}
 use Rattle.ss_records.proofs.RecordLemmas.{ReadTo-all}
 use Rattle.ss_records.proofs.live.read_live.Goals as goal
 
-pub read-requires-clause-one_disk : goal.read-requires-clause-one_disk
-read-requires-clause-one_disk g c =
+pub read_page-requires-clause-one_disk : goal.read_page-requires-clause-one_disk
+read_page-requires-clause-one_disk g c =
     after-step c.loop-slot.invariant.step (λ told before.
     subst (λ (journal : JournalState). IsKept journal (g.D.Disk.seen c.loop-slot.disk).told.content) (sym c.loop-slot.invariant.journal)
     (subst (IsKept c.args.journal.now) (sym before.reads.same.content) (c.requires.one_disk told)))
@@ -14,5 +14,5 @@ pub returns-clause-live : goal.returns-clause-live
 returns-clause-live g c =
     step-from c.loop-slot.invariant.step (λ told before.
     ReadTo-all c.args.journal.now c.loop-slot.slot c.loop-slot.live _ _ (c.requires.one_disk told)
-    (omega (arith, c.loop-slot-test.false, c.extent-slot-end.ensures.value))
-    c.loop-slot.invariant.bounded.below before)
+    (omega (arith, c.loop-slot-test.false, c.loop-slot.invariant.within, c.extent-end.ensures.value))
+    c.loop-slot.invariant.bounded before)

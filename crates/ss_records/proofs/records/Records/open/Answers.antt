@@ -17,11 +17,12 @@ returns-in_err-live-clause-opens g c =
 
 pub returns-clause-opens : goal.returns-clause-opens
 returns-clause-opens g c =
-    rw c.in_ok-pages.ensures (step-next c.in_ok-journal.ensures.opens c.in_ok-live.ensures.live
-    (λ told then opened read. opens-read c.in_ok-journal.journal c.read_live.new.journal c.in_ok-live.live _ _ _ c.in_ok-live.ensures.journal opened read))
+    step-next c.in_ok-journal.ensures.opens c.in_ok-live.ensures.live
+    (λ told then opened read. opens-read c.in_ok-journal.journal c.read_live.new.journal c.in_ok-live.live c.in_ok-records.records _ _ _
+    c.in_ok-live.ensures.journal c.in_ok-records.ensures.over opened read)
 
-pub returns-in_err-pages-clause-opens : goal.returns-in_err-pages-clause-opens
-returns-in_err-pages-clause-opens g c =
-    let error = err_from_is_err_and c.from_residual-in_err-pages.result c.from_residual-in_err-pages.ensures.1 in
+pub returns-in_err-records-clause-opens : goal.returns-in_err-records-clause-opens
+returns-in_err-records-clause-opens g c =
+    let error = err_from_is_err_and c.from_residual-in_err-records.result c.from_residual-in_err-records.ensures.1 in
     rw (error.1, error.2) (step-starved (step-next c.in_ok-journal.ensures.opens c.in_ok-live.ensures.live
     (λ told then opened read. opens-starved c.in_ok-journal.journal c.in_ok-live.live _ _ _ opened read)))

@@ -3,10 +3,9 @@ use Rattle.std.specs.BTreeMap.{insert_entry}
 use Rattle.std.specs.Ordering.{nat_cmp}
 use Rattle.ss_line.specs.declared.entry.At.{At}
 use Rattle.ss_times.proofs.OrderLemmas.{insert_entry-last}
-use Rattle.ss_times.proofs.times.Times.reserve.Goals as goal
+use Rattle.ss_times.proofs.times.Times.push.Goals as goal
 
 pub returns-clause-ok : goal.returns-clause-ok
 returns-clause-ok c =
-    let none : At = record { 0 = 0 } in
-    c.in_ok-insert.ensures.entries ∙ ap (λ (es : List (ℕ × At)). insert_entry nat_cmp es c.args.t none) c.self.view_is ∙
-    insert_entry-last c.args.self.now c.args.t none c.requires
+    c.in_ok-insert.ensures.entries ∙ ap (λ (es : List (ℕ × At)). insert_entry nat_cmp es c.args.t c.args.at) c.self.view_is ∙
+    insert_entry-last c.args.self.now c.args.t c.args.at c.requires

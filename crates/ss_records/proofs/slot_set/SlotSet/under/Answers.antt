@@ -1,6 +1,6 @@
 use Rattle.std.proofs.Common.{◌*◌, sym, arith}
 use Rattle.ss_records.proofs.TreeLemmas.{IsTree-zeros, count-zeros, members-zeros, length-members-zeros}
-use Rattle.ss_records.proofs.slot_set.SlotSet.new.Goals as goal
+use Rattle.ss_records.proofs.slot_set.SlotSet.under.Goals as goal
 
 pub invariant_of-result : goal.invariant_of-result
 invariant_of-result c =

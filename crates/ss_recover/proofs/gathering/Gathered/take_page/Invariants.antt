@@ -1,0 +1,13 @@
+use Rattle.std.proofs.Common.{◌≡◌, ◌/◌}
+use Rattle.std.specs.Vec.{vec_capacity}
+use Rattle.ss_journal.specs.Redo.{SlotMap}
+use Rattle.ss_records.specs.Pages.{IsPage}
+use Rattle.ss_recover.specs.Gathered.{AreFoundBelow, AreGathered}
+use Rattle.ss_recover.proofs.gathering.Gathered.take_page.Given as goal
+
+abbrev pub invariant-loop-slot : goal.invariant-loop-slot
+invariant-loop-slot l = record {
+  gathered : AreGathered l.slot l.self;
+  found : (found : SlotMap) → IsPage found.bytes (l.from / 32) l.page → AreFoundBelow l.from l.fn.self found → AreFoundBelow l.slot l.self found;
+  room : vec_capacity l.self.all ≡ vec_capacity l.fn.self.all;
+}
