@@ -14,7 +14,7 @@ pub enum Command {
     Windows(Name),
     /// All streams.
     List,
-    /// Why an end of what a query answers is no narrower. What it asks for adds up.
+    /// Why an end of what a query answers is no narrower, filters aside. What it asks for adds up.
     Certify { query: Query, end: End },
     /// How far a stream has come, and its newest value.
     Last(Name),

@@ -1,5 +1,5 @@
 -- Worked rows: the verdicts of reading, which window may come next, and what is answered from what is known.
-use Rattle.std.proofs.Common.{◌≡◌, ℕ, ◌<◌, ◌≤◌, All, List, [], ◌∷◌, ◌++◌, map, ap, refl, arith, Option, None, Some, Err, Ok, pos}
+use Rattle.std.proofs.Common.{◌≡◌, ℕ, ◌<◌, ◌≤◌, All, List, [], ◌∷◌, ◌++◌, drop, map, ap, refl, arith, Option, None, Some, Err, Ok, pos}
 use Rattle.std.specs.Prelude.{◌+◌, ◌-◌, ◌^◌, IfSome, ℤ}
 use Rattle.std.specs.Option.{option_map_or}
 use Rattle.ss_outside.specs.Disk.{Told}
@@ -24,7 +24,7 @@ use Rattle.ss_recover.specs.Held.{entries_of}
 use Rattle.ss_recover.specs.declared.parts.StreamParts.{StreamParts}
 use Rattle.ss_summary.specs.Figures.{Figures}
 use Rattle.ss_summary.specs.Filters.{bit_of, filter_of, has, union}
-use Rattle.ss_query.specs.Answered.{AnswersStream, BeginsAt, IsAnswered, IsSeenAs, SeesStream, window_slots_of}
+use Rattle.ss_query.specs.Answered.{AnswersStream, BeginsAt, BeginsNear, IsAnswered, IsSeenAs, SeesStream, begun_in, window_slots_of}
 use Rattle.ss_query.specs.Asked.{Follows, HasCuts, HasRoom, IsCut, cut_of, marks_seen, outcome_seen, seen_after, seen_of, seen_with}
 use Rattle.ss_query.specs.Reading.{IsRead, IsWindowOf, KeepsRecords, ReadsWindow, verdict_of_read}
 use Rattle.ss_query.specs.declared.asking.Seen.{Seen}
@@ -136,6 +136,34 @@ IsSeenAs-Ok seen now fact = fact
 BeginsAt-early : (entries : List (At × Entry)) (from : ℕ) (start : Option At) (begins : BeginsAt entries from start) →
     (entries ≡ begins.before ++ begins.rest) × All (λ (e : At × Entry). e.1.t_last < from) begins.before × (start ≡ place_at begins.rest 0)
 BeginsAt-early entries from start begins = (begins.is, begins.early, begins.place)
+
+-- of the windows from a place near a time on, only the first may begin by that time
+BeginsNear-behind : (entries : List (At × Entry)) (from : ℕ) (start : Option At) (near : BeginsNear entries from start) →
+    (entries ≡ near.before ++ near.rest) × (start ≡ place_at near.rest 0) × All (λ (e : At × Entry). from < e.1.t_first) (drop 1 near.rest)
+BeginsNear-behind entries from start near = (near.is, near.place, near.behind)
+
+-- three windows that begin at 10, 20 and 30, and last so long that each is met by every range below
+abbrev begun_at : ℕ → At × Entry
+begun_at t = (record { 0 = t }, record { first = t; last = t; t_first = t; t_last = 100; slot = t })
+
+abbrev three : List (At × Entry)
+three = begun_at 10 ∷ begun_at 20 ∷ begun_at 30 ∷ []
+
+-- of them those begin in a range that begin after its first time, and by its last
+begun-first : begun_in 10 30 three ≡ 2
+begun-first = refl
+
+begun-before_first : begun_in 9 30 three ≡ 3
+begun-before_first = refl
+
+begun-before_last : begun_in 10 29 three ≡ 1
+begun-before_last = refl
+
+begun-behind : begun_in 30 40 three ≡ 0
+begun-behind = refl
+
+begun-none : begun_in 0 100 [] ≡ 0
+begun-none = refl
 
 -- a window that lies whole in the range counts with the landmarks; one that lies apart of it doesn't
 known : Kind → ℕ → Seen

@@ -1,5 +1,5 @@
 // What one stream answers to a query.
-ghost use Rattle.std.specs.Prelude.{◌≡◌, ◌+◌, ◌*◌, ◌<◌, ◌≤◌, All, IfOk};
+ghost use Rattle.std.specs.Prelude.{◌≡◌, ◌<◌, ◌≤◌, All, IfOk};
 ghost use Rattle.std.specs.List.{Contains};
 ghost use Rattle.ss_outside.specs.Disk.{OfContent};
 ghost use Rattle.ss_outside.specs.Step.{Step};
@@ -8,28 +8,25 @@ ghost use Rattle.ss_journal.specs.Kept.{IsRunning};
 ghost use Rattle.ss_journal.specs.declared.format.TheConstants.{MOST_SLOTS};
 ghost use Rattle.ss_records.specs.Kept.{AreKept};
 ghost use Rattle.ss_model.specs.Answers.{IsOfKind};
-ghost use Rattle.ss_steps.specs.Steps.{IsFresh};
-ghost use Rattle.ss_query.specs.Answered.{AnswersStream, BeginsAt, BeginsNear, begun_in, window_slots_of};
+ghost use Rattle.ss_query.specs.Answered.{AnswersStream, window_slots_of};
 ghost use Rattle.ss_query.specs.Reading.{KeepsRecords, verdict_of_read};
 
 use crate::{Outcome, ReadError, outcome_seen, see_from};
 use ss_catalog::Query;
-use ss_line::At;
 use ss_outside::Disk;
 use ss_records::Records;
 use ss_recover::StreamParts;
 use ss_steps::Steps;
-use std::marker::Brand;
-use std::sync::ledger::{Blank, Ledger};
+use std::sync::ledger::Ledger;
 
-/// What a stream answers to a query: it tallies the values of landmarks in the range, and reads the records of those windows,
-/// oldest first, that have times in the range. It looks at each window from the first one on, up to the first that begins after
-/// the range. It writes nothing, and takes no memory.
-pub fn answer<D: Disk>(
+/// What a stream answers to a query: what is known of it from its first window on, as an answer. It writes nothing, and takes no
+/// memory.
+pub fn answer<D: Disk, L: Ledger>(
     part: &StreamParts,
     records: &mut Records,
     disk: &mut D,
     query: &Query,
+    steps: &mut Steps<L>,
 ) -> Result<Outcome, ReadError>
     requires order { query.now.from ≤ query.now.to }
     requires running { IsRunning records.old.journal }
@@ -44,55 +41,6 @@ pub fn answer<D: Disk>(
     ensures changed { IfChanged (verdict_of_read result) (Contains (window_slots_of part.now)) }
     ensures records { KeepsRecords (verdict_of_read result) records.old records.new }
 {
-    answer_in::<D, Brand>(part, records, disk, query, Blank::new(1))
-}
-
-// The same, with a counter.
-fn answer_in<D: Disk, L: Ledger>(
-    part: &StreamParts,
-    records: &mut Records,
-    disk: &mut D,
-    query: &Query,
-    blank: Blank,
-) -> Result<Outcome, ReadError>
-    requires fresh { IsFresh L.name L.parts blank }
-    requires order { query.now.from ≤ query.now.to }
-    requires running { IsRunning records.old.journal }
-    requires slots { All (λ slot. slot < MOST_SLOTS) (window_slots_of part.now) }
-    requires one_disk { OfContent (D.seen disk.old) (AreKept records.old) }
-    ensures answers { Step (verdict_of_read result) (D.seen disk.old) (D.seen disk.new)
-        (AnswersStream part.now query.now records.old records.new result) }
-    ensures kind { IfOk result (IsOfKind query.now.kind) }
-    ensures changed { IfChanged (verdict_of_read result) (Contains (window_slots_of part.now)) }
-    ensures records { KeepsRecords (verdict_of_read result) records.old records.new }
-{
-    let mut steps = Steps::<L>::new(blank);
-    answer_from(part, part.line.first(), records, disk, query, &mut steps)
-}
-
-/// The same from a place on, before which each window ends before the range.
-pub fn answer_from<D: Disk, L: Ledger>(
-    part: &StreamParts,
-    start: Option<At>,
-    records: &mut Records,
-    disk: &mut D,
-    query: &Query,
-    steps: &mut Steps<L>,
-) -> Result<Outcome, ReadError>
-    requires begins { BeginsAt part.now.line.entries query.now.from start }
-    requires order { query.now.from ≤ query.now.to }
-    requires running { IsRunning records.old.journal }
-    requires slots { All (λ slot. slot < MOST_SLOTS) (window_slots_of part.now) }
-    requires one_disk { OfContent (D.seen disk.old) (AreKept records.old) }
-    ensures answers { Step (verdict_of_read result) (D.seen disk.old) (D.seen disk.new)
-        (AnswersStream part.now query.now records.old records.new result) }
-    ensures kind { IfOk result (IsOfKind query.now.kind) }
-    ensures changed { IfChanged (verdict_of_read result) (Contains (window_slots_of part.now)) }
-    ensures records { KeepsRecords (verdict_of_read result) records.old records.new }
-    // Two looks at the first window, two at each other one that begins in the range, and one at the one after these.
-    ensures looks { BeginsNear part.now.line.entries query.now.from start
-        → steps.new ≤ steps.old + 2 * begun_in query.now.from query.now.to part.now.line.entries + 3 }
-{
-    let seen = see_from(part, start, records, disk, query, steps)?;
+    let seen = see_from(part, part.line.first(), records, disk, query, steps)?;
     Ok(outcome_seen(seen, query.kind))
 }

@@ -9,7 +9,7 @@ mod read_error;
 mod reading;
 mod walking;
 
-pub use answering::{answer, answer_from};
+pub use answering::answer;
 pub use asking::{Seen, outcome_seen};
 pub use cut::Cut;
 pub use read_error::ReadError;

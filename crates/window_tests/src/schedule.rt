@@ -11,9 +11,7 @@ ghost use Rattle.ss_steps.specs.Steps.{IsFresh};
 use super::target::are_positions;
 use ss_catalog::{Family, Params};
 use ss_line::{At, Entry, Line, MOST_PLACES};
-use ss_schedule::{
-    Schedule, keyed_at_the_next_count, merge_due, take_up_last, the_last_one_pushed,
-};
+use ss_schedule::{Schedule, keyed_at_the_next_count, the_last_one_pushed};
 use ss_steps::Steps;
 use ss_target::Target;
 use ss_windowing::MOST_VALUES;
@@ -96,6 +94,18 @@ fn push<L: Ledger>(
     Ok(true)
 }
 
+// Joins the pairs that are due when n values are held, until none is.
+fn merge_due<L: Ledger>(schedule: &mut Schedule, line: &mut Line, n: u64, steps: &mut Steps<L>)
+    requires { IsKeyed n line.old.entries schedule.old }
+    ensures keyed { IsKeyed n line.new.entries schedule.new }
+    ensures none { NoPairFits (merge_rule schedule.new) n line.new.entries }
+{
+    let _len = line.len();
+    while let Some(pair) = schedule.due(line, n, steps) {
+        schedule.merged(line, pair, n, steps);
+    }
+}
+
 // Puts one value more into a line of which no pair is due after n, and joins the pairs that are due then. Whether it did.
 fn append<L: Ledger>(
     line: &mut Line,
@@ -113,7 +123,8 @@ fn append<L: Ledger>(
     let Some(at) = put_last(line, schedule, 1, n + 1, steps)? else {
         return Ok(false);
     };
-    take_up_last(schedule, line, at, n + 1, steps);
+    schedule.add_window(line, at, n + 1, steps);
+    merge_due(schedule, line, n + 1, steps);
     Ok(true)
 }
 
