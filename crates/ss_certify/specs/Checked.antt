@@ -1,4 +1,4 @@
--- When evidence shows that an end of an answer can't be narrower.
+-- When evidence shows that an end of an answer can't be narrower, filters aside.
 use Rattle.std.specs.Prelude.{◌≡◌, ◌⊎◌, ◌-◌, ◌≤◌, ℤ, ◌+ℤ◌, List, ◌++◌, length, Contains}
 use Rattle.ss_bounds.specs.Split.{SplitFigures, least_count, greatest_count}
 use Rattle.ss_bounds.specs.Truth.{AllBetween, total}

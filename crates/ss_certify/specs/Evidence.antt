@@ -61,7 +61,7 @@ AllCertify [] (c ∷ certs) = ⊥
 AllCertify (cut ∷ cuts) [] = ⊥
 AllCertify (cut ∷ cuts) (c ∷ certs) = Certifies cut c × AllCertify cuts certs
 
--- Evidence shows that an end of an answer can't be narrower, from what is known of a stream.
+-- Evidence shows that an end of an answer can't be narrower, filters aside, from what is known of a stream.
 pub record IsEvidence (kind : Kind) (end : End) (seen : Seen) (w : Evidence) : Type 0 where
   pub certificates : AllCertify (cuts_of seen) w.certs.items
   pub base : w.base ≡ base_of kind seen

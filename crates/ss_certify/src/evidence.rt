@@ -1,4 +1,4 @@
-// Why an end of an answer can't be narrower.
+// Why an end of an answer can't be narrower, filters aside.
 use arrayvec::ArrayVec;
 use ss_bounds::Split;
 use ss_model::Run;

@@ -1,4 +1,4 @@
-// Whether evidence shows that an end of an answer can't be narrower.
+// Whether evidence shows that an end of an answer can't be narrower, filters aside.
 ghost use Rattle.std.specs.Prelude.{◌≡◌, ◌↔◌, ◌≤◌, ◌^◌, ◌+ℤ◌, [], ◌∷◌, All, IsTrue, length, Some, unsigned_abs};
 ghost use Rattle.ss_bounds.specs.Extremes.{listed};
 ghost use Rattle.ss_query.specs.Asked.{IsFewMarked, outcome_seen};
@@ -90,8 +90,8 @@ fn is_asked(seen: &Seen, kind: Kind, end: End, answer: i128) -> bool
     end_asked(end, outcome_seen(*seen, kind)) == Some(answer)
 }
 
-/// Whether evidence shows, from what is known of a stream, that an end of its answer can't be narrower: there is a certificate
-/// of each window that the range splits, and with what is known exactly their values give this end.
+/// Whether evidence shows, from what is known of a stream, that an end of its answer can't be narrower, filters aside: there is
+/// a certificate of each window that the range splits, and with what is known exactly their values give this end.
 pub fn shows(seen: &Seen, kind: Kind, end: End, w: &Evidence) -> bool
     requires { IsFewMarked seen.now.marked }
     ensures { IsTrue result ↔ IsEvidence kind end seen.now w.now }

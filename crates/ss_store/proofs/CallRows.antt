@@ -1,6 +1,6 @@
 -- What some definitions come to at one answer each, where nothing else would tell if they said less.
 use Rattle.std.proofs.Common.{◌≡◌, ◌⊎◌, ℕ, ◌+◌, ◌-◌, ◌*◌, ◌≤◌, Bool, true, false, List, [], ◌∷◌, ◌++◌, map, length, Err, None, Ok, Some, pos, refl}
-use Rattle.std.specs.Prelude.{Contains, IfSome, flat_map, max, option_map}
+use Rattle.std.specs.Prelude.{Contains, IfSome, Option, flat_map, max, option_map}
 use Rattle.ss_outside.specs.Crash.{LeavesOnly, OnlyReads}
 use Rattle.ss_outside.specs.Disk.{DiskView, NothingPending, Told}
 use Rattle.ss_outside.specs.Verdict as verdicts
@@ -38,6 +38,7 @@ use Rattle.ss_store.specs.Held.{ends_held}
 use Rattle.ss_store.specs.Kept.{SameButSpare, StoreState, is_of_landmark, part_named}
 use Rattle.ss_store.specs.declared.error.ApplyError.{ApplyError}
 use Rattle.ss_store.specs.Recover.{Recovers, Stands}
+use Rattle.ss_store.specs.Uses.{IsShort, StandsShort}
 use Rattle.ss_store.specs.Surveyed.{survey_of}
 use Rattle.ss_store.specs.declared.error.ApplyError.TheVariants as apply
 use Rattle.ss_store.specs.declared.error.OpenError.TheVariants as opening
@@ -162,20 +163,24 @@ module _ (old new : Told) where
       Recovers streams (shown_by was.records old.content) → Recovers streams (shown_by is.records new.content)
   seals-state was is u streams seals = (seals.state streams).content
 
-  seals-history : (was is : StoreState) (u : Unit {0}) (sealed history : List Happened) → SealsStore was is (Ok u) old new → NothingPending old →
-      Stands sealed old.content → Stands history (shown_by was.records old.content) →
-      LeavesOnly old new (λ image. Stands sealed image ⊎ Stands history image) × NothingPending new
-  seals-history was is u sealed history seals none before shown =
-      ((seals.history history).any_moment none sealed before shown, (seals.history history).durable none)
+  seals-history : (was is : StoreState) (u : Unit {0}) (used : Option ℕ) (sealed history : List Happened) → SealsStore was is (Ok u) old new →
+      NothingPending old → StandsShort used sealed old.content → StandsShort used history (shown_by was.records old.content) →
+      LeavesOnly old new (λ image. StandsShort used sealed image ⊎ StandsShort used history image) × NothingPending new
+  seals-history was is u used sealed history seals none before shown =
+      ((seals.history history).any_moment none used sealed before shown, (seals.history history).durable none)
 
   -- what staging leaves, at Ok and in a crash
-  stages-history : (event : Event) (was is : RecordsState) (ack : Ack) (sealed history : List Happened) →
-      StagesEvent {E = ApplyError} event was is (Ok ack) old new → NothingPending old → Stands sealed old.content →
-      Stands history (shown_by was old.content) →
-      Stands (history ++ added event ∷ []) (shown_by is new.content)
-      × LeavesOnly old new (λ image. Stands sealed image ⊎ StandsForEither history event image) × NothingPending new
-  stages-history event was is ack sealed history stages none before shown =
-      ((stages history).content shown, (stages history).any_moment none sealed before shown, (stages history).durable none)
+  stages-history : (event : Event) (was is : RecordsState) (ack : Ack) (used : Option ℕ) (sealed history : List Happened) →
+      StagesEvent {E = ApplyError} event was is (Ok ack) old new → NothingPending old → StandsShort used sealed old.content →
+      StandsShort used history (shown_by was old.content) →
+      StandsShort used (history ++ added event ∷ []) (shown_by is new.content)
+      × LeavesOnly old new (λ image. StandsShort used sealed image ⊎ (StandsForEither history event image × IsShort used history image))
+      × NothingPending new
+  stages-history event was is ack used sealed history stages none before shown = (
+    ((stages history).content shown.0, (stages history).short used shown),
+    (stages history).any_moment none used sealed before shown,
+    (stages history).durable none,
+  )
 
 -- a survey counts streams, windows, landmarks and the values of these
 surveyed : Stream

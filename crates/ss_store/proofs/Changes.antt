@@ -5,7 +5,7 @@ use borrow.Author.Tests.{ltb-true, ltb-false}
 use Rattle.std.proofs.lemmas.Bool.{cases_Bool, cases_eq, cond-false, cond-true, cond_both, not-false}
 use Rattle.std.proofs.lemmas.Bool.Decides.{nat_tests}
 use Rattle.std.proofs.lemmas.List.Sorted.{IsPermutation-cons, IsPermutation-trans}
-use Rattle.std.specs.Prelude.{nat_eq, nat_le, nat_lt}
+use Rattle.std.specs.Prelude.{max, nat_eq, nat_le, nat_lt}
 use Rattle.ss_journal.specs.Puts.{IsTxn, extent_after, slots_fit}
 use Rattle.ss_journal.specs.Redo.{SlotMap, StandsFor, changed}
 use Rattle.ss_journal.specs.declared.format.TheConstants.{MOST_SLOTS}
@@ -91,6 +91,12 @@ module _ (put : Put) where
 
   pub extent_after-one : (extent : ℕ) → put.slot < extent → extent_after (put ∷ []) extent ≡ extent
   extent_after-one extent below = let other : nat_eq put.slot extent ≡ false = grind (arith, nat_tests) in rw other refl
+
+  -- one at the extent, or below it
+  pub extent_after-next : (extent : ℕ) → extent_after (put ∷ []) extent ≤ max extent (put.slot + 1)
+  extent_after-next extent =
+      cond_both (nat_eq put.slot extent) (extent + 1) extent (λ e. e ≤ max extent (put.slot + 1))
+      (λ same. let is : put.slot ≡ extent = grind (arith, nat_tests) in omega arith) (λ other. omega arith)
 
 -- zeros in place of the record of a slot
 pub LiveSlotsGo-zeros : (live : List Bool) (slot : ℕ) → LiveSlotsGo (slot ∷ []) [] live (live_after (zeros_put slot ∷ []) live)

@@ -22,6 +22,7 @@ use Rattle.ss_store.specs.Applied.{Applies, Looks, OpensStore}
 use Rattle.ss_store.specs.Extents.{AllGrowLittle, GrowsLittle, records_in}
 use Rattle.ss_store.specs.Kept.{StoreIsKept, StoreState}
 use Rattle.ss_store.specs.Recover.{Stands}
+use Rattle.ss_store.specs.Uses.{UsesAtMost}
 use Rattle.ss_store.proofs.KeptStates.{AllAgree-recovered}
 use Rattle.ss_store.proofs.LiveCounts.{length-slots}
 use Rattle.ss_store.proofs.Opens.{StandsFor-kept}
@@ -61,7 +62,7 @@ pub length-kept : (store : StoreState) (content : List ℕ) → StoreIsKept stor
 length-kept store content kept sealed few =
     let found = kept.records.journal.shown.found in
     let same = kept.records.journal.shown.extent in
-    let long = length-stands content found (StandsFor-kept store.records content kept.records sealed) (omega arith) in
+    let long = length-stands content found (StandsFor-kept store.records.journal content kept.records.journal sealed) (omega arith) in
     omega (arith, same, long)
 
 pub GrowsLittle-applied : (event : Event) (old new : StoreState) (before after : DiskView) (ack : Ack) →
@@ -100,3 +101,9 @@ length-AllGrowLittle old new found first last stores most content opens is grow 
     let ends = extent-AllGrowLittle first last stores most grow in
     let long = length-kept last content kept sealed (omega (arith, begins, ends)) in
     omega (arith, begins, ends, long)
+
+-- the same of an image that uses at most so many slots
+pub length-uses : (n : ℕ) (image : List ℕ) → UsesAtMost n image → n < MOST_SLOTS → length image < FIRST_SLOT + SLOT_SIZE * (n + 1)
+length-uses n image uses few =
+    let long = length-stands image uses.found uses.map (omega (arith, uses.few, few)) in
+    omega (arith, long, uses.few)

@@ -74,5 +74,8 @@ pub mod Dropped
 pub mod KeyedWindows
 pub mod Rising
 pub mod IndexedStreams
-mod Extents
+pub mod Within
+pub mod Uses
+pub mod Extents
 mod ExtentRows
+mod UsesRows

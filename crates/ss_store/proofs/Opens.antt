@@ -7,14 +7,14 @@ use Rattle.ss_outside.specs.Verdict as verdicts
 use Rattle.ss_outside.specs.Verdict.{IfUndone, IsFirm, Verdict}
 use Rattle.ss_journal.specs.Calls.{verdict_of_open}
 use Rattle.ss_journal.specs.Kept as Journals
-use Rattle.ss_journal.specs.Kept.{IsSealed, JournalState}
+use Rattle.ss_journal.specs.Kept.{IsKept, IsSealed, JournalState, shown}
 use Rattle.ss_journal.specs.Redo.{SlotMap, StandsFor}
 use Rattle.ss_journal.specs.declared.journal_error.JournalError.{JournalError}
 use Rattle.ss_journal.specs.declared.journal_error.JournalError.TheVariants as journal
 use Rattle.ss_journal.proofs.MapLemmas.{SameMap-refl}
 use Rattle.ss_journal.proofs.RedoLemmas.{StandsFor-from}
 use Rattle.ss_journal.proofs.ShownLemmas.{shown-sealed}
-use Rattle.ss_records.specs.Kept.{AreKept, RecordsState, shown_by}
+use Rattle.ss_records.specs.Kept.{AreKept, RecordsState}
 use Rattle.ss_model.specs.ClosedState.{closed_state}
 use Rattle.ss_model.specs.Standing.{IsState}
 use Rattle.ss_model.specs.State.{Stream, state}
@@ -24,7 +24,7 @@ use Rattle.ss_recover.specs.declared.parts.Parts.{Parts}
 use Rattle.ss_recover.specs.declared.parts.StreamParts.{StreamParts}
 use Rattle.ss_recover.specs.declared.recover_error.RecoverError.{RecoverError}
 use Rattle.ss_recover.specs.declared.recover_error.RecoverError.TheVariants as recovering
-use Rattle.ss_store.specs.Calls.{KeepsHistory, KeepsState, Turns}
+use Rattle.ss_store.specs.Calls.{KeepsHistory, KeepsState, KeepsWithin, Turns}
 use Rattle.ss_store.specs.Applied.{OpensStore}
 use Rattle.ss_store.specs.Causes.{OpensAs}
 use Rattle.ss_store.specs.Settling.{SettlesAll}
@@ -42,6 +42,7 @@ use Rattle.ss_store.proofs.Changes.{extent-kept}
 use Rattle.ss_store.proofs.Calls.{Turns-answers, Turns-failed, Turns-reads, Turns-then, Turns-weaker}
 use Rattle.ss_store.proofs.ClosingAll.{IsState-closed_state, closed_state-again}
 use Rattle.ss_store.proofs.KeptStates.{Recovers-same}
+use Rattle.ss_store.proofs.Within.{KeepsWithin-answers, KeepsWithin-failed, KeepsWithin-reads, KeepsWithin-then}
 use Rattle.ss_store.proofs.Settlings.{Recovers-beside}
 
 -- why there is no store
@@ -92,13 +93,12 @@ firm-recover T (recovering.BadStream id) = tt
 firm-recover T recovering.Disk = tt
 firm-recover T recovering.OutOfMemory = tt
 
--- the map of a content that records keep
-pub StandsFor-kept : (records : RecordsState) (content : List ℕ) (kept : AreKept records content) → IsSealed records.journal →
-    StandsFor content kept.journal.shown.found
-StandsFor-kept records content kept sealed =
-    let found = kept.journal.shown.found in
-    subst (λ (image : List ℕ). StandsFor image found) (shown-sealed records.journal content sealed)
-    (StandsFor-from (shown_by records content) found found kept.journal.shown.map (SameMap-refl found))
+-- the map of a content that a journal keeps
+pub StandsFor-kept : (journal : JournalState) (content : List ℕ) (kept : IsKept journal content) → IsSealed journal → StandsFor content kept.shown.found
+StandsFor-kept journal content kept sealed =
+    let found = kept.shown.found in
+    subst (λ (image : List ℕ). StandsFor image found) (shown-sealed journal content sealed)
+    (StandsFor-from (shown journal content) found found kept.shown.map (SameMap-refl found))
 
 -- the extent of the map of a content that records keep is theirs
 extent-opened : (records : RecordsState) (content : List ℕ) (found : SlotMap) → AreKept records content → IsSealed records.journal →
@@ -106,12 +106,12 @@ extent-opened : (records : RecordsState) (content : List ℕ) (found : SlotMap) 
 extent-opened records content found kept sealed is =
     extent-kept records content found kept (subst (λ (image : List ℕ). StandsFor image found) (sym (shown-sealed records.journal content sealed)) is)
 
--- What was rebuilt of the records that are kept.
-pub IsRebuilt-from : (records : RecordsState) (parts : Parts) (content : List ℕ) → IsSealed records.journal → AreKept records content →
+-- What was rebuilt of the records of a journal that is kept.
+pub IsRebuilt-from : (journal : JournalState) (parts : Parts) (content : List ℕ) → IsSealed journal → IsKept journal content →
     ((found : SlotMap) → StandsFor content found → RebuildsAs found (Ok parts)) → IsRebuilt parts.doomed.items parts.streams.items content
-IsRebuilt-from records parts content sealed kept rebuilds =
-    let found = kept.journal.shown.found in
-    let is = StandsFor-kept records content kept sealed in
+IsRebuilt-from journal parts content sealed kept rebuilds =
+    let found = kept.shown.found in
+    let is = StandsFor-kept journal content kept sealed in
     let built = rebuilds found is in
     record {
       streams = built.streams;
@@ -123,13 +123,6 @@ IsRebuilt-from records parts content sealed kept rebuilds =
         records = record { found = found; map = is; occupied = built.held.records; carried = built.carried; in_turn = built.in_turn };
       };
     }
-
--- what was rebuilt of a disk that was only read
-pub IsRebuilt-opened : (records : RecordsState) (parts : Parts) (old opened : Told) → OnlyReads old opened → IsSealed records.journal →
-    AreKept records opened.content → ((found : SlotMap) → StandsFor opened.content found → RebuildsAs found (Ok parts)) →
-    IsRebuilt parts.doomed.items parts.streams.items old.content
-IsRebuilt-opened records parts old opened reads sealed kept rebuilds =
-    rw (← reads.same.content) (IsRebuilt-from records parts opened.content sealed kept rebuilds)
 
 pub Recovers-rebuilt : (slots : List ℕ) (parts : List StreamParts) (content : List ℕ) (is : IsRebuilt slots parts content) →
     Recovers (closed_state is.streams) content
@@ -244,6 +237,7 @@ OpensStore-read error old new knows reads opens =
       history = KeepsHistory-state old new (Err error) keeps;
       unwritten = undone (verdict_of_opening {T = StoreState} (Err error)) (OnlyReads old new) reads;
       judged = λ none. reads;
+      within = KeepsWithin-reads (Err error) knows reads;
       extent = λ found is. tt;
     }
 
@@ -253,8 +247,13 @@ module _ (slots : List ℕ) (parts now : List StreamParts) (old read new : Told)
   judged-rebuilt : ((streams : List Stream) → Recovers streams old.content → ⊥) → OnlyReads old new
   judged-rebuilt none = absurd (none (closed_state is.streams) (Recovers-rebuilt slots parts old.content is))
 
-  pub OpensStore-unclosed : (why : ReadError) → SettlesAll slots parts now records (Err why) read new → OpensStore (Err (open_of_fault why)) old new
-  OpensStore-unclosed why closes =
+  -- how many slots are used by then
+  within-read : {T E : Type 0} (result : Result T E) → KeepsWithin 0 result read new → KeepsWithin 0 result old new
+  within-read result within = KeepsWithin-then result (KeepsWithin-reads {T = Unit {0}} {E = Unit {0}} (Ok tt) knows reads) within
+
+  pub OpensStore-unclosed : (why : ReadError) → SettlesAll slots parts now records (Err why) read new →
+      KeepsWithin {T = Unit {0}} 0 (Err why) read new → OpensStore (Err (open_of_fault why)) old new
+  OpensStore-unclosed why closes within =
       let failed : Result StoreState OpenError = Err (open_of_fault why) in
       let has = held_read slots parts now old read new knows is reads in
       let keeps : KeepsState old new failed =
@@ -266,13 +265,14 @@ module _ (slots : List ℕ) (parts now : List StreamParts) (old read new : Told)
         history = KeepsHistory-state old new failed keeps;
         unwritten = unwritten-fault why (OnlyReads old new);
         judged = judged-rebuilt;
+        within = KeepsWithin-failed failed refl (within-read (Err why) within);
         extent = λ found is. tt;
       }
 
   pub OpensStore-closed : (store : StoreState) → SettlesAll slots parts now records (Ok tt) read new → store.streams ≡ now → store.records ≡ records →
       IsSealed store.records.journal → (first : RecordsState) → AreKept first read.content → IsSealed first.journal →
-      store.records.journal.extent ≤ first.journal.extent → OpensStore (Ok store) old new
-  OpensStore-closed store closes same same_records sealed first opened first_sealed less =
+      store.records.journal.extent ≤ first.journal.extent → KeepsWithin {T = Unit {0}} {E = ReadError} 0 (Ok tt) read new → OpensStore (Ok store) old new
+  OpensStore-closed store closes same same_records sealed first opened first_sealed less within =
       let has = held_read slots parts now old read new knows is reads in
       let agree = closes.agree is.streams is.state is.agree has in
       let turns = closes.turns is.streams is.state is.agree in
@@ -285,5 +285,6 @@ module _ (slots : List ℕ) (parts now : List StreamParts) (old read new : Told)
         history = KeepsHistory-state old new (Ok store) keeps;
         unwritten = tt;
         judged = judged-rebuilt;
+        within = KeepsWithin-answers (Ok store) (within-read (Ok tt) within);
         extent = λ found is. omega (arith, extent-opened first read.content found opened first_sealed (rw reads.same.content is), less);
       }

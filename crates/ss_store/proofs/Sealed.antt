@@ -1,7 +1,7 @@
 -- Events that were staged are sealed: what the store shows comes to the disk.
 use Rattle.std.proofs.Common.{◌≡◌, ◌∙◌, ◌⊎◌, ⊎_elim, Bool, true, List, [], ◌∷◌, ◌++◌, ℕ, Err, Ok, Result, arith, inl, inr, subst, sym}
 use Rattle.std.proofs.lemmas.Result.{on_ok_weaker}
-use Rattle.std.specs.Prelude.{IsErr, IsTrue, OnOk}
+use Rattle.std.specs.Prelude.{IsErr, IsTrue, None, OnOk, ⊤}
 use Rattle.ss_outside.proofs.CrashLemmas.{joined, now, weaker}
 use Rattle.ss_outside.specs.Crash.{KnowsNow, LeavesOnly}
 use Rattle.ss_outside.specs.Disk.{DiskView, NothingPending, Told}
@@ -29,10 +29,13 @@ use Rattle.ss_store.specs.Calls.{AddsEvent, RecoversToEither, SealsHistory, Stag
 use Rattle.ss_store.specs.Causes.{said_of_held}
 use Rattle.ss_store.specs.Kept.{StoreIsIn, StoreIsKept, StoreState, part_named, refuses_held}
 use Rattle.ss_store.specs.Recover.{Recovers, Stands}
+use Rattle.ss_store.specs.Uses.{IsShort, StandsShort}
 use Rattle.ss_store.specs.declared.error.ApplyError.TheVariants as apply
 use Rattle.ss_store.proofs.Applying.{Applies-failed}
 use Rattle.ss_store.proofs.KeptStates.{Recovers-of_map, Stands-of_map}
 use Rattle.ss_store.proofs.ShownCalls.{TurnsShown-kept, TurnsShown-then}
+use Rattle.ss_store.proofs.Uses.{StandsShort-also}
+use Rattle.ss_store.proofs.Within.{StaysWithin-kept}
 use Rattle.ss_store.proofs.Stepping.{StepsState-answers, StepsState-failed, not_refused}
 
 -- what is shown stays the history, and comes to the disk as a whole
@@ -43,11 +46,18 @@ SealsHistory-keeps was is old new result keeps =
       content = λ stands.
           let its = Stands-of_map history (shown_by was old.content) stands in
           on_ok_weaker result (its.2 (shown_by is new.content)) (keeps.map its.0 its.1);
-      any_moment = λ none sealed before stands.
-          let first = Stands-of_map sealed old.content before in
-          let its = Stands-of_map history (shown_by was old.content) stands in
-          weaker old new (λ image. StandsFor image first.0 ⊎ StandsFor image its.0) (λ image. Stands sealed image ⊎ Stands history image)
-          (λ image. ⊎_elim (λ stays. inl (first.2 image stays)) (λ comes. inr (its.2 image comes)))
+      short = λ used shown.
+          let its = Stands-of_map history (shown_by was old.content) shown.0 in
+          on_ok_weaker result (λ (stands : StandsFor (shown_by is new.content) its.0). (StandsShort-also used history (shown_by was old.content)
+          (shown_by is new.content) shown stands).1)
+          (keeps.map its.0 its.1);
+      any_moment = λ none used sealed before shown.
+          let first = Stands-of_map sealed old.content before.0 in
+          let its = Stands-of_map history (shown_by was old.content) shown.0 in
+          weaker old new (λ image. StandsFor image first.0 ⊎ StandsFor image its.0)
+          (λ image. StandsShort used sealed image ⊎ (Stands history image × IsShort used history image))
+          (λ image. ⊎_elim (λ stays. inl (StandsShort-also used sealed old.content image before stays))
+          (λ comes. inr (StandsShort-also used history (shown_by was old.content) image shown comes)))
           (keeps.any_moment none first.0 its.0 first.1 its.1);
       durable = keeps.durable;
     }
@@ -80,6 +90,7 @@ SealsStore-records was is stopped old new result seals kept = record {
   kept = StoreIsKept-sealed was is stopped old new result seals kept;
   state = λ streams. TurnsShown-kept was.records is (Recovers streams) old new result (Recovers-of_map streams) kept.records seals.keeps_shown;
   history = SealsHistory-keeps was.records is old new result seals.keeps_shown;
+  within = StaysWithin-kept result kept.records seals.keeps_shown;
 }
 
 -- ---- an event is staged where nothing was, and then sealed
@@ -97,8 +108,9 @@ module _ (event : Event) (was between : RecordsState) (old mid : Told) (at_rest 
   left-staged : {T E : Type 0} (result : Result T E) (history : List Happened) → StagesEvent event was between result old mid → NothingPending old →
       Stands history old.content → LeavesOnly old mid (StandsForEither history event)
   left-staged result history stages none has =
-      weaker old mid (λ image. Stands history image ⊎ StandsForEither history event image) (StandsForEither history event)
-      (λ image. ⊎_elim (λ still. inl still) (λ either. either)) ((stages history).any_moment none history has (shown-first history has))
+      weaker old mid (λ image. StandsShort None history image ⊎ (StandsForEither history event image × ⊤)) (StandsForEither history event)
+      (λ image. ⊎_elim (λ still. inl still.0) (λ either. either.0))
+      ((stages history).any_moment none None history (has, tt) (shown-first history has, tt))
 
   -- it wasn't sealed, since staging failed
   pub AddsEvent-unsealed : {S F T E : Type 0} (call : Result S F) (result : Result T E) → IsErr result → StagesEvent event was between call old mid →
@@ -125,9 +137,10 @@ module _ (event : Event) (was between : RecordsState) (old mid : Told) (at_rest 
             let durable = (stages history).durable none in
             let after : LeavesOnly mid new (StandsForEither history event) = elim (now old mid (StandsForEither history event) knows before mid.content
             knows.content_is_image) [
-              | inl still ↦ (seals then).any_moment durable history still staged
-              | inr also ↦ weaker mid new (λ image. Stands then image ⊎ Stands then image) (StandsForEither history event)
-                  (λ image. ⊎_elim (λ is. inr is) (λ is. inr is)) ((seals then).any_moment durable then also staged)
+              | inl still ↦ weaker mid new (λ image. StandsShort None history image ⊎ (Stands then image × ⊤)) (StandsForEither history event)
+                  (λ image. ⊎_elim (λ is. inl is.0) (λ is. inr is.0)) ((seals then).any_moment durable None history (still, tt) (staged, tt))
+              | inr also ↦ weaker mid new (λ image. StandsShort None then image ⊎ (Stands then image × ⊤)) (StandsForEither history event)
+                  (λ image. ⊎_elim (λ is. inr is.0) (λ is. inr is.0)) ((seals then).any_moment durable None then (also, tt) (staged, tt))
             ] in
             joined old mid new (StandsForEither history event) before after;
         durable = λ none. (seals then).durable ((stages history).durable none);

@@ -1,13 +1,15 @@
 -- What calls in a row make of what records show, of which some is staged, and what a seal makes of it. In each lemma the disks
 -- are plain values: a caller strips the premise that the disk tells.
-use Rattle.std.proofs.Common.{◌≡◌, ◌⊎◌, ⊎_elim, inl, inr, ℕ, List, [], ◌∷◌, Err, Ok, Option, Result, refl, subst, sym, IsPermutation}
+use Rattle.std.proofs.Common.{◌≡◌, ◌⊎◌, ⊎_elim, inl, inr, ℕ, List, [], ◌∷◌, Err, Ok, Option, Result, length, refl, subst, sym, IsPermutation}
 use Rattle.std.proofs.lemmas.Result.{on_ok_weaker}
 use Rattle.std.specs.Prelude.{IsErr, OnOk}
 use Rattle.ss_outside.proofs.CrashLemmas.{joined, now, read_leaves, nothing_pending-same, weaker}
 use Rattle.ss_outside.specs.Crash.{KnowsNow, LeavesOnly, OnlyReads}
 use Rattle.ss_outside.specs.Disk.{NothingPending, Told}
 use Rattle.ss_journal.specs.Calls.{KeepsShown}
-use Rattle.ss_journal.specs.Kept.{EndsBefore, IfStaged, IsSealed, JournalState, shown, with_entries}
+use Rattle.ss_journal.specs.Groups.{entry_count, group_bytes}
+use Rattle.ss_journal.specs.declared.kind.Kind.{Kind}
+use Rattle.ss_journal.specs.Kept.{HasRoomFor, IfStaged, IsSealed, JournalState, shown, with_entries}
 use Rattle.ss_journal.specs.Redo.{SlotMap, StandsFor, changed}
 use Rattle.ss_journal.specs.declared.put.Put.{Put}
 use Rattle.ss_journal.proofs.MapLemmas.{SameMap-refl}
@@ -123,10 +125,13 @@ pub of_map-like : (P : List ℕ → Type 0) → IsOfMap P → (image : List ℕ)
 of_map-like P maps image like = let its = maps like.0 like.1 in its.2 image (like.2 its.0 its.1)
 
 -- a content of which something may be staged stands for a map
-content-stands : (n : ℕ) (staged content : List ℕ) → ((found : SlotMap) × StandsFor (with_entries n staged content) found) →
-    IfStaged staged (EndsBefore n content) → (found : SlotMap) × StandsFor content found
-content-stands n [] content stands before = stands
-content-stands n (gate ∷ bytes) content stands before = (before.found, StandsFor-from content before.found before.found before.map (SameMap-refl before.found))
+content-stands : (kind : Kind) (n : ℕ) (staged : List Put) (content : List ℕ)
+    → ((found : SlotMap) × StandsFor (with_entries n (group_bytes kind n (entry_count (length staged)) staged) content) found)
+    → IfStaged staged (HasRoomFor n staged content) → (found : SlotMap) × StandsFor content found
+content-stands kind n [] content stands before = stands
+content-stands kind n (put ∷ puts) content stands before =
+    let ends = before.ends in
+    (ends.found, StandsFor-from content ends.found ends.found ends.map (SameMap-refl ends.found))
 
 -- room is made, or what is staged is sealed: a property of maps stays
 pub TurnsShown-kept : {T E : Type 0} (was is : RecordsState) (P : List ℕ → Type 0) (old new : Told) (result : Result T E) → IsOfMap P →
@@ -136,7 +141,7 @@ TurnsShown-kept was is P old new result maps kept keeps = record {
       let its = maps (shown_by was old.content) has in on_ok_weaker result (its.2 (shown_by is new.content)) (keeps.map its.0 its.1);
   any_moment = λ none has.
       let its = maps (shown_by was old.content) has in
-      let it = content-stands was.journal.sealed was.journal.staged old.content (its.0, its.1) kept.journal.before in
+      let it = content-stands was.journal.kind was.journal.sealed was.journal.staged old.content (its.0, its.1) kept.journal.before in
       weaker old new (λ image. StandsFor image it.0 ⊎ StandsFor image its.0) (StaysOr old P)
       (λ image either. elim either [
         | inl stays ↦ (

@@ -1,8 +1,8 @@
 -- Calls that make a step of the state that records show, and so stage an event after the history.
-use Rattle.std.proofs.Common.{◌≡◌, ◌⊎◌, ℕ, List, [], ◌∷◌, ◌++◌, sym, ◌∙◌, subst, refl, None, Some, Option, Result, Ok, Err, inl, inr}
+use Rattle.std.proofs.Common.{◌≡◌, ◌⊎◌, ◌+◌, ℕ, List, [], ◌∷◌, ◌++◌, sym, ◌∙◌, subst, refl, None, Some, Option, Result, Ok, Err, inl, inr}
 use Rattle.std.proofs.lemmas.Result.{on_ok_weaker}
 use Rattle.std.specs.Prelude.{◌↔◌, IsTrue}
-use Rattle.ss_outside.proofs.CrashLemmas.{at_start, of_content, weaker}
+use Rattle.ss_outside.proofs.CrashLemmas.{at_start, of_content}
 use Rattle.ss_outside.specs.Crash.{KnowsNow}
 use Rattle.ss_outside.specs.Disk.{DiskView, Told}
 use Rattle.ss_outside.specs.Verdict.{IfUndone}
@@ -11,22 +11,27 @@ use Rattle.ss_catalog.specs.declared.refusal.Refusal.{Refusal}
 use Rattle.ss_summary.specs.Points.{New}
 use Rattle.ss_model.specs.History.{CanBeSaid, Happened, added}
 use Rattle.ss_model.specs.Refusals.{refuses}
-use Rattle.ss_model.specs.State.{Stream, state}
+use Rattle.ss_model.specs.State.{Stream, live, state}
 use Rattle.ss_model.specs.Steps.{stepped}
 use Rattle.ss_model.proofs.HistoryLemmas.{IsHistory_push}
 use Rattle.ss_model.proofs.StepLemmas.{state-push}
 use Rattle.ss_model.specs.declared.types.Ack.{Ack}
+use Rattle.ss_journal.specs.Redo.{StandsFor}
 use Rattle.ss_records.specs.Kept.{RecordsState, shown_by}
-use Rattle.ss_store.specs.Calls.{RecoversToEither, StagesEvent, StandsForEither, StepsState, TurnsShown}
+use Rattle.ss_store.specs.Calls.{RecoversToEither, StagesEvent, StandsForEither, StaysWithin, StepsState, TurnsShown}
 use Rattle.ss_store.specs.Applied.{Applies}
 use Rattle.ss_store.specs.Errors.{verdict_of_apply}
 use Rattle.ss_store.specs.Kept.{StoreIsKept, StoreState, refuses_held}
 use Rattle.ss_store.specs.declared.error.ApplyError.{ApplyError}
 use Rattle.ss_store.specs.declared.error.ApplyError.TheVariants as apply
 use Rattle.ss_store.specs.Recover.{Recovers, Stands}
+use Rattle.ss_store.specs.Uses.{IsShort, StandsShort}
+use Rattle.ss_store.specs.Extents.{records_in}
 use Rattle.ss_store.proofs.KeptStates.{AllAgree-recovered, Recovers-of_map, Recovers-same, Stands-of_map}
+use Rattle.ss_store.proofs.Extents.{records_in-kept}
 use Rattle.ss_store.proofs.Refusals.{refuses_held-is}
-use Rattle.ss_store.proofs.ShownCalls.{StaysOr, TurnsShown-answers, TurnsShown-failed, TurnsShown-weaker, of_map-like}
+use Rattle.ss_store.proofs.ShownCalls.{TurnsShown-answers, TurnsShown-failed, TurnsShown-weaker, of_map-like}
+use Rattle.ss_store.proofs.Uses.{IsShort-staged, StandsShort-also, moments-staged}
 
 -- what a call does to the records that are shown it does to the state that they are of
 pub StepsState-turns : {T E : Type 0} (event : Event) (was is : RecordsState) (old new : Told) (result : Result T E) (streams : List Stream)
@@ -65,8 +70,9 @@ Stands-push history event content image said stands none is = record {
 -- and so a call that makes a step of the state stages an event after each history of it, where the event isn't refused
 StagesEvent-accepted : {T E : Type 0} (event : Event) (was is : RecordsState) (old new : Told) (result : Result T E) → CanBeSaid event →
     ((streams : List Stream) → Recovers streams (shown_by was old.content) → refuses streams event ≡ None) → StepsState event was is result old new →
-    StagesEvent event was is result old new
-StagesEvent-accepted event was is old new result said none steps =
+    (records : ℕ) → ((history : List Happened) → Stands history (shown_by was old.content) → live (state history) ≡ records) →
+    StaysWithin (records + 1) was is result old new → StagesEvent event was is result old new
+StagesEvent-accepted event was is old new result said none steps records few within =
     λ history.
     let streams = state history in
     let turns = steps streams in
@@ -75,20 +81,33 @@ StagesEvent-accepted event was is old new result said none steps =
       content = λ stands.
           on_ok_weaker result (λ after. Stands-push history event content (shown_by is new.content) said stands (none streams stands.state) after)
           (turns.content stands.state);
-      any_moment = λ nothing sealed before stands.
-          weaker old new (StaysOr old (RecoversToEither streams event)) (λ image. Stands sealed image ⊎ StandsForEither history event image)
-          (λ image left. elim left.1 [
+      short = λ used shown.
+          IsShort-staged was is old new result records within history (few history shown.0) used (added event ∷ []) shown.1;
+      any_moment = λ nothing used sealed before shown.
+          let stands = shown.0 in
+          let its = Stands-of_map sealed old.content before.0 in
+          moments-staged was is old new result records within history (few history stands) used (RecoversToEither streams event)
+          (λ image. StandsShort used sealed image ⊎ (StandsForEither history event image × IsShort used history image)) nothing shown.1
+          (λ image like. inl (StandsShort-also used sealed old.content image before (like its.0 its.1)))
+          (λ image left short. elim left.1 [
             | inl same ↦
-                inl (of_map-like (Stands sealed) (Stands-of_map sealed) image (left.0, subst (λ (i : List ℕ). Stands sealed i) (sym same) before, left.2))
+                inl (StandsShort-also used sealed old.content image before
+                (left.2 its.0 (subst (λ (i : List ℕ). StandsFor i its.0) (sym same) its.1)))
             | inr either ↦ elim either [
               | inl still ↦
-                  inr (inl (record {
-                    is_history = stands.is_history;
-                    state = of_map-like (Recovers streams) (Recovers-of_map streams) image (left.0, still, left.2);
-                  }))
+                  inr (
+                    inl (record {
+                      is_history = stands.is_history;
+                      state = of_map-like (Recovers streams) (Recovers-of_map streams) image (left.0, still, left.2);
+                    }),
+                    short,
+                  )
               | inr after ↦
-                  inr (inr (Stands-push history event content image said stands (none streams stands.state)
-                  (of_map-like (Recovers (stepped streams event)) (Recovers-of_map (stepped streams event)) image (left.0, after, left.2))))
+                  inr (
+                    inr (Stands-push history event content image said stands (none streams stands.state)
+                        (of_map-like (Recovers (stepped streams event)) (Recovers-of_map (stepped streams event)) image (left.0, after, left.2))),
+                    short,
+                  )
             ]
           ])
           (turns.any_moment nothing stands.state);
@@ -101,9 +120,10 @@ StagesEvent-uncalled : {T E : Type 0} (event : Event) (was is : RecordsState) (d
 StagesEvent-uncalled event was is disk e knows =
     λ history. record {
       content = λ stands. tt;
-      any_moment = λ nothing sealed before stands.
-          at_start disk (λ image. Stands sealed image ⊎ StandsForEither history event image) knows
-          (of_content disk (λ image. Stands sealed image ⊎ StandsForEither history event image) nothing (inl before));
+      short = λ used shown. tt;
+      any_moment = λ nothing used sealed before shown.
+          let left = λ (image : List ℕ). StandsShort used sealed image ⊎ (StandsForEither history event image × IsShort used history image) in
+          at_start disk left knows (of_content disk left nothing (inl before));
       durable = λ nothing. tt;
     }
 
@@ -135,18 +155,22 @@ module _ {X : Type 0} (event : Event) (old new : StoreState) (seen : X → DiskV
       subst (λ (d : X). StagesEvent {T = Ack} event old.records new.records (Err e) (seen was).told (seen d).told) (sym same)
       (StagesEvent-uncalled event old.records new.records (seen was).told e knows)
 
+  few : StoreIsKept old (seen was).told.content → (history : List Happened) → Stands history shown → live (state history) ≡ records_in old
+  few kept history stands = sym (records_in-kept old (seen was).told.content history kept stands)
+
   pub StagesEvent-applied : (result : Result Ack ApplyError) → Applies event old new (seen was) (seen is) result → CanBeSaid event →
+      StaysWithin (records_in old + 1) old.records new.records result (seen was).told (seen is).told →
       IfUndone (verdict_of_apply result) (is ≡ was) → IsTrue (seen was).tells → KnowsNow (seen was).told → StoreIsKept old (seen was).told.content →
       StagesEvent event old.records new.records result (seen was).told (seen is).told
-  StagesEvent-applied (Ok ack) applied said same told knows kept =
+  StagesEvent-applied (Ok ack) applied said within same told knows kept =
       StagesEvent-accepted event old.records new.records (seen was).told (seen is).told (Ok ack) said
-      (none-recovered (Ok ack) kept applied.refused (λ r wrong. cc)) (applied.step.told told)
-  StagesEvent-applied (Err apply.Disk) applied said same told knows kept =
+      (none-recovered (Ok ack) kept applied.refused (λ r wrong. cc)) (applied.step.told told) (records_in old) (few kept) within
+  StagesEvent-applied (Err apply.Disk) applied said within same told knows kept =
       StagesEvent-accepted event old.records new.records (seen was).told (seen is).told (Err apply.Disk) said
-      (none-recovered (Err apply.Disk) kept applied.refused (λ r wrong. cc)) (applied.step.told told)
-  StagesEvent-applied (Err (apply.Changed slot)) applied said same told knows kept =
+      (none-recovered (Err apply.Disk) kept applied.refused (λ r wrong. cc)) (applied.step.told told) (records_in old) (few kept) within
+  StagesEvent-applied (Err (apply.Changed slot)) applied said within same told knows kept =
       StagesEvent-accepted event old.records new.records (seen was).told (seen is).told (Err (apply.Changed slot)) said
-      (none-recovered (Err (apply.Changed slot)) kept applied.refused (λ r wrong. cc)) (applied.step.told told)
-  StagesEvent-applied (Err (apply.Refused r)) applied said same told knows kept = unchanged (apply.Refused r) knows same
-  StagesEvent-applied (Err apply.Stopped) applied said same told knows kept = unchanged apply.Stopped knows same
-  StagesEvent-applied (Err apply.OutOfMemory) applied said same told knows kept = unchanged apply.OutOfMemory knows same
+      (none-recovered (Err (apply.Changed slot)) kept applied.refused (λ r wrong. cc)) (applied.step.told told) (records_in old) (few kept) within
+  StagesEvent-applied (Err (apply.Refused r)) applied said within same told knows kept = unchanged (apply.Refused r) knows same
+  StagesEvent-applied (Err apply.Stopped) applied said within same told knows kept = unchanged apply.Stopped knows same
+  StagesEvent-applied (Err apply.OutOfMemory) applied said within same told knows kept = unchanged apply.OutOfMemory knows same

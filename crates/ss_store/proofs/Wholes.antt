@@ -9,6 +9,7 @@ use Rattle.ss_journal.specs.Kept.{IsSettled}
 use Rattle.ss_records.specs.Kept.{AreKept, RecordsState}
 use Rattle.ss_recover.specs.Held.{entries_of, slots_held}
 use Rattle.ss_recover.specs.declared.parts.StreamParts.{StreamParts}
+use Rattle.ss_store.specs.Calls.{StaysWithin}
 use Rattle.ss_store.specs.Changing.{HoldsUntil, JoinsWindows, KeepsAtRest, KeepsWhole}
 use Rattle.ss_store.specs.Held.{IsOrdered, IsSameStream, values_held, with_windows}
 use Rattle.ss_store.specs.Slots.{LiveSlotsGo}
@@ -72,6 +73,7 @@ JoinsWindows-more {part} {mid} {now} {was} {between} {is} {old} {then} {new} res
 -- Joins from one moment to another: what they make of each stream that may be held, and what they leave as it was.
 pub record IsClosing (old now : DiskView) (records is : RecordsState) (part left : StreamParts) : Type 0 where
   pub step : Step fine old now (JoinsWindows part left records is (Ok tt))
+  pub within : Step fine old now (StaysWithin {T = Unit {0}} {E = ReadError} 0 records is (Ok tt))
   pub same : IsSameStream part left
   pub whole : KeepsWhole part left records is 0
   pub holds : HoldsUntil left (values_held (entries_of part)) part.last_time

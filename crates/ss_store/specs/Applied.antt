@@ -28,7 +28,7 @@ use Rattle.ss_model.specs.declared.types.Placed.{Placed}
 use Rattle.ss_recover.specs.Held.{entries_of, slots_held}
 use Rattle.ss_recover.specs.declared.parts.StreamParts.{StreamParts}
 use Rattle.ss_records.specs.Kept.{RecordsState, shown_by}
-use Rattle.ss_store.specs.Calls.{KeepsHistory, KeepsState, SealsHistory, StepsState, TurnsShown}
+use Rattle.ss_store.specs.Calls.{KeepsHistory, KeepsState, KeepsWithin, SealsHistory, StaysWithin, StepsState, TurnsShown}
 use Rattle.ss_store.specs.Causes.{OpensAs, said_of_held}
 use Rattle.ss_query.specs.Answered.{window_slots_of}
 use Rattle.ss_query.specs.Asked.{seen_of}
@@ -101,6 +101,8 @@ pub record SealsStore (was is : StoreState) (result : Result Unit Failed) (old n
   pub state : (streams : List Stream) →
       TurnsShown was.records is.records (Recovers streams) (Recovers streams) (Recovers streams) old new result
   pub history : SealsHistory was.records is.records result old new
+  -- no more slots are used, also in a crash
+  pub within : StaysWithin 0 was.records is.records result old new
 
 -- What a look does to a store, whatever was asked: it writes nothing, and leaves all but the flag, where it stops.
 pub record Looks (v : Verdict) (old new : StoreState) (before after : DiskView) : Type 0 where
@@ -151,7 +153,8 @@ pub record OpensStore (result : Result StoreState OpenError) (old new : Told) : 
   pub unwritten : IfUndone (verdict_of_opening result) (OnlyReads old new)
   -- over a content that recovers to nothing nothing is written, whatever the answer
   pub judged : ((streams : List Stream) → Recovers streams old.content → ⊥) → OnlyReads old new
-  -- no more slots are used than the content uses
+  -- no more slots are used than the content uses, also in a crash
+  pub within : KeepsWithin 0 result old new
   pub extent : (found : SlotMap) → StandsFor old.content found → IfOk result (λ store. store.records.journal.extent ≤ found.extent)
 
 -- A store is surveyed: what the state has to which the content recovers, or why it recovers to none. Content and images stay.

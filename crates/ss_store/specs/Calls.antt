@@ -1,5 +1,5 @@
 -- What a call makes of what a disk stands for, also in a crash.
-use Rattle.std.specs.Prelude.{◌≡◌, ◌⊎◌, ℕ, List, [], ◌∷◌, ◌++◌, Result, OnOk}
+use Rattle.std.specs.Prelude.{◌≡◌, ◌⊎◌, ℕ, ◌≤◌, List, [], ◌∷◌, ◌++◌, Option, Result, OnOk}
 use Rattle.ss_catalog.specs.declared.event.Event.{Event}
 use Rattle.ss_outside.specs.Crash.{LeavesOnly}
 use Rattle.ss_outside.specs.Disk.{Told, NothingPending}
@@ -9,6 +9,7 @@ use Rattle.ss_model.specs.History.{Happened, added}
 use Rattle.ss_model.specs.State.{Stream}
 use Rattle.ss_model.specs.Steps.{stepped}
 use Rattle.ss_store.specs.Recover.{Recovers, Stands}
+use Rattle.ss_store.specs.Uses.{IsShort, StandsShort, UsesAtMost}
 
 -- A call turns a content that has P into one that has Q. With nothing pending at the call, a crash at any moment of it leaves
 -- only images that have M, and at Ok nothing is pending.
@@ -56,12 +57,15 @@ StepsState event was is result old new =
     TurnsShown was is (Recovers streams) (RecoversToEither streams event) (Recovers (stepped streams event)) old new result
 
 -- A call turns the history that records show, which are others then, into another. With nothing pending at the call, a crash at any
--- moment of it leaves only images that stand for a history that the content stood for, or that have M, and at Ok nothing is pending.
+-- moment of it leaves only images that stand for a history that the content stood for, or that have M, and at Ok nothing is pending. Where the
+-- content and what is shown use no more slots than they may, neither does any of these.
 pub record TurnsHistory {T E : Type 0} (was is : RecordsState) (history : List Happened) (M : List ℕ → Type 0) (then : List Happened) (old new : Told)
     (result : Result T E) : Type 0 where
   pub content : Stands history (shown_by was old.content) → OnOk result (Stands then (shown_by is new.content))
-  pub any_moment : NothingPending old → (sealed : List Happened) → Stands sealed old.content → Stands history (shown_by was old.content) →
-      LeavesOnly old new (λ image. Stands sealed image ⊎ M image)
+  pub short : (used : Option ℕ) → StandsShort used history (shown_by was old.content) → OnOk result (IsShort used then (shown_by is new.content))
+  pub any_moment : NothingPending old → (used : Option ℕ) (sealed : List Happened) → StandsShort used sealed old.content →
+      StandsShort used history (shown_by was old.content) →
+      LeavesOnly old new (λ image. StandsShort used sealed image ⊎ (M image × IsShort used history image))
   pub durable : NothingPending old → OnOk result (NothingPending new)
 
 -- A call stages an event after the history that records show, wholly or not at all.
@@ -72,3 +76,12 @@ StagesEvent event was is result old new =
 -- A call brings the history that records show to the disk, wholly or not at all.
 abbrev pub SealsHistory : {T E : Type 0} → RecordsState → RecordsState → Result T E → Told → Told → Type 0
 SealsHistory was is result old new = (history : List Happened) → TurnsHistory was is history (Stands history) history old new result
+
+-- A call that stages uses no more slots than so many, where no more were used, and none of the images does that a crash leaves.
+abbrev pub StaysWithin : {T E : Type 0} → ℕ → RecordsState → RecordsState → Result T E → Told → Told → Type 0
+StaysWithin used was is result old new =
+    (n : ℕ) → used ≤ n → TurnsShown was is (UsesAtMost n) (UsesAtMost n) (UsesAtMost n) old new result
+
+-- and so does one that leaves nothing staged
+abbrev pub KeepsWithin : {T E : Type 0} → ℕ → Result T E → Told → Told → Type 0
+KeepsWithin used result old new = (n : ℕ) → used ≤ n → Turns (UsesAtMost n) (UsesAtMost n) (UsesAtMost n) old new result

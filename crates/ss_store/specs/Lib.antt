@@ -1,4 +1,5 @@
 pub mod Recover
+pub mod Uses
 pub mod Calls
 pub mod Slots
 pub mod Clearing

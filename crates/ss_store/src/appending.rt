@@ -1,5 +1,5 @@
 // One more value of a stream.
-ghost use Rattle.std.specs.Prelude.{◌≡◌, ◌+◌, ◌≤◌, Some, OnOk, OnErr};
+ghost use Rattle.std.specs.Prelude.{◌≡◌, ◌+◌, ◌*◌, ◌≤◌, ℕ, length, Some, OnOk, OnErr};
 ghost use Rattle.ss_outside.specs.Disk.{OfContent};
 ghost use Rattle.ss_outside.specs.Step.{Step};
 ghost use Rattle.ss_outside.specs.Verdict.{IsFirm};
@@ -7,6 +7,7 @@ ghost use Rattle.ss_journal.specs.Kept.{IsSettled};
 ghost use Rattle.ss_records.specs.Kept.{AreKept};
 ghost use Rattle.ss_records.specs.Live.{lowest_free};
 ghost use Rattle.ss_recover.specs.Held.{entries_of, slots_held};
+ghost use Rattle.ss_store.specs.Calls.{StaysWithin};
 ghost use Rattle.ss_store.specs.Changing.{ChangedIsHeld, HoldsUntil, KeepsWhole, PutsValue, TakesValue};
 ghost use Rattle.ss_query.specs.Reading.{verdict_of_read};
 ghost use Rattle.ss_store.specs.Held.{IsSameStream, values_held};
@@ -48,9 +49,12 @@ fn put_value<D: Disk, L: Ledger>(
     ensures firm { IsFirm (verdict_of_read result) }
     ensures same { IsSameStream part.old part.new }
     ensures whole { OnOk result (KeepsWhole part.old part.new records.old records.new (slot + 1)) }
+    ensures within { Step (verdict_of_read result) (D.seen disk.old) (D.seen disk.new) (StaysWithin (slot + 1) records.old records.new result) }
     ensures holds { OnOk result (HoldsUntil part.new (values_held (entries_of part.old) + 1) (Some t)) }
     ensures keyed { OnOk result (IsKeyedFor part.new index.new) }
     ensures err { OnErr result (part.new ≡ part.old) }
+    ensures one_more { OnOk result (length part.new.line.entries ≡ length part.old.line.entries + 1) }
+    ensures looks { OnOk result (steps.new ≤ steps.old + 6) }
 {
     let position = values_held(part, steps) + 1;
     let window = Record::Window {
@@ -94,9 +98,13 @@ pub fn append_value<D: Disk, L: Ledger>(
         (TakesValue part.old part.new t v records.old records.new result) }
     ensures same { IsSameStream part.old part.new }
     ensures whole { OnOk result (KeepsWhole part.old part.new records.old records.new (slot + 1)) }
+    ensures within { Step (verdict_of_read result) (D.seen disk.old) (D.seen disk.new) (StaysWithin (slot + 1) records.old records.new result) }
     ensures holds { OnOk result (HoldsUntil part.new (values_held (entries_of part.old) + 1) (Some t)) }
     ensures scheduled { OnOk result (IsScheduled part.new index.new) }
     ensures changed { ChangedIsHeld (verdict_of_read result) part.new }
+    // With so many joins it looks at the line at most 7 times and 11 times for each of them, however many windows stand in it.
+    ensures looks { OnOk result ((joins : ℕ) → length part.new.line.entries + joins ≡ length part.old.line.entries + 1
+        → steps.new ≤ steps.old + 7 + 11 * joins) }
 {
     put_value(records, disk, part, index, slot, t, v, steps)?;
     stage_joins(records, disk, part, index, steps)

@@ -5,6 +5,7 @@ ghost use Rattle.ss_outside.specs.Step.{Step};
 ghost use Rattle.ss_outside.specs.Verdict.{verdict};
 ghost use Rattle.ss_journal.specs.Kept.{IsSettled};
 ghost use Rattle.ss_records.specs.Kept.{AreAtRest, AreKept};
+ghost use Rattle.ss_store.specs.Calls.{KeepsWithin, StaysWithin};
 ghost use Rattle.ss_store.specs.Changing.{Makes};
 ghost use Rattle.ss_store.specs.Clearing.{ClearsSlots, StagesClearing};
 ghost use Rattle.ss_store.specs.Slots.{AreSomeLive, LiveSlotsGo};
@@ -27,6 +28,7 @@ pub fn stage_clearing<D: Disk>(
     ensures settled { OnOk result (IsSettled records.new.journal) }
     ensures live { OnOk result (LiveSlotsGo doomed.now [] records.old.live records.new.live) }
     ensures extent { OnOk result (records.new.journal.extent ≡ records.old.journal.extent) }
+    ensures within { Step (verdict result) (D.seen disk.old) (D.seen disk.new) (StaysWithin 0 records.old records.new result) }
 {
     for slot in doomed {
         stage_zeros(records, disk, *slot)?;
@@ -44,6 +46,7 @@ pub fn clear_all<D: Disk>(records: &mut Records, disk: &mut D, doomed: &[u32]) -
     ensures at_rest { OnOk result (AreAtRest records.new) }
     ensures live { OnOk result (LiveSlotsGo doomed.now [] records.old.live records.new.live) }
     ensures extent { OnOk result (records.new.journal.extent ≡ records.old.journal.extent) }
+    ensures within { Step (verdict result) (D.seen disk.old) (D.seen disk.new) (KeepsWithin 0 result) }
 {
     stage_clearing(records, disk, doomed)?;
     records.seal(disk)

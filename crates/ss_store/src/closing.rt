@@ -1,5 +1,5 @@
 // The merges that are due in one stream.
-ghost use Rattle.std.specs.Prelude.{◌≡◌, ◌⊎◌, ◌+◌, ◌<◌, ◌≤◌, [], ◌∷◌, length, IfOk, OnOk, OnErr};
+ghost use Rattle.std.specs.Prelude.{◌≡◌, ◌⊎◌, ◌+◌, ◌*◌, ◌≤◌, [], ◌∷◌, length, IfOk, OnOk, OnErr};
 ghost use Rattle.ss_outside.specs.Disk.{OfContent};
 ghost use Rattle.ss_outside.specs.Step.{Step};
 ghost use Rattle.ss_outside.specs.Verdict.{IfChanged};
@@ -7,6 +7,7 @@ ghost use Rattle.ss_journal.specs.Kept.{IsRunning, IsSettled};
 ghost use Rattle.ss_records.specs.Kept.{AreAtRest, AreKept};
 ghost use Rattle.ss_summary.specs.Figures.{IsPossible};
 ghost use Rattle.ss_recover.specs.Held.{entries_of, slots_held};
+ghost use Rattle.ss_store.specs.Calls.{KeepsWithin, StaysWithin};
 ghost use Rattle.ss_store.specs.Changing.{StandBeside, ChangedIsHeld, ClosesStream, HoldsUntil, JoinsWindows, KeepsAtRest, KeepsWhole, ReadsJoined};
 ghost use Rattle.ss_store.specs.Changing.{StagesJoins};
 ghost use Rattle.ss_query.specs.Reading.{verdict_of_read};
@@ -29,7 +30,8 @@ use std::sync::ledger::Ledger;
 
 /// How many values the windows of a stream hold.
 pub fn values_held<L: Ledger>(part: &StreamParts, steps: &mut Steps<L>) -> u64
-    ensures { result ≡ values_held (entries_of part.now) }
+    ensures value { result ≡ values_held (entries_of part.now) }
+    ensures looks { steps.new ≤ steps.old + 1 }
 {
     if part.line.len() == 0 {
         return 0;
@@ -84,11 +86,13 @@ fn join<D: Disk, L: Ledger>(
         (JoinsWindows part.old part.new records.old records.new result) }
     ensures same { IsSameStream part.old part.new }
     ensures whole { OnOk result (KeepsWhole part.old part.new records.old records.new 0) }
+    ensures within { Step (verdict_of_read result) (D.seen disk.old) (D.seen disk.new) (StaysWithin 0 records.old records.new result) }
     ensures holds { OnOk result (HoldsUntil part.new (values_held (entries_of part.old)) part.old.last_time) }
-    ensures fewer { OnOk result (length part.new.line.entries < length part.old.line.entries) }
+    ensures fewer { OnOk result (length part.new.line.entries + 1 ≡ length part.old.line.entries) }
     ensures keyed { OnOk result (IsKeyedFor part.new index.new) }
     ensures err { OnErr result (part.new ≡ part.old) }
     ensures changed { ChangedIsHeld (verdict_of_read result) part.old }
+    ensures looks { OnOk result (steps.new ≤ steps.old + 9) }
 {
     let window = part.line.get(pair.left, steps);
     let next = part.line.get(pair.right, steps);
@@ -121,9 +125,12 @@ pub fn stage_joins<D: Disk, L: Ledger>(
         (StagesJoins part.old part.new records.old records.new result) }
     ensures same { IsSameStream part.old part.new }
     ensures whole { OnOk result (KeepsWhole part.old part.new records.old records.new 0) }
+    ensures within { Step (verdict_of_read result) (D.seen disk.old) (D.seen disk.new) (StaysWithin 0 records.old records.new result) }
     ensures holds { OnOk result (HoldsUntil part.new (values_held (entries_of part.old)) part.old.last_time) }
     ensures scheduled { OnOk result (IsScheduled part.new index.new) }
     ensures changed { ChangedIsHeld (verdict_of_read result) part.new }
+    // It looks at the line 11 times for each join, and once besides.
+    ensures looks { OnOk result (steps.new + 11 * length part.new.line.entries ≤ steps.old + 11 * length part.old.line.entries + 1) }
 {
     let n = values_held(part, steps);
     while let Some(pair) = index.due(&part.line, n, steps) {
@@ -149,6 +156,7 @@ pub fn close_windows<D: Disk, L: Ledger>(
         (ClosesStream part.old part.new records.new result) }
     ensures same { IsSameStream part.old part.new }
     ensures whole { OnOk result (KeepsAtRest part.old part.new records.old records.new 0) }
+    ensures within { Step (verdict_of_read result) (D.seen disk.old) (D.seen disk.new) (KeepsWithin 0 result) }
     ensures holds { OnOk result (HoldsUntil part.new (values_held (entries_of part.old)) part.old.last_time) }
     ensures scheduled { OnOk result (IsScheduled part.new index.new) }
     ensures changed { ChangedIsHeld (verdict_of_read result) part.new }

@@ -25,7 +25,8 @@ impl Model for Index {
 }
 
 impl Index {
-    ghost use Rattle.std.specs.Prelude.{◌≡◌, ◌+◌, ◌<◌, ◌≤◌, ℕ, max, true, List, [], ◌∷◌, ◌++◌, All, length, map, take, IfNone, IfSome, OnErr, OnOk};
+    ghost use Rattle.std.specs.Prelude.{◌≡◌, ◌+◌, ◌<◌, ◌≤◌, ℕ, max, true, List, [], ◌∷◌, ◌++◌, All, length, map, take};
+    ghost use Rattle.std.specs.Prelude.{IfNone, IfSome, MatchOption, OnErr, OnOk};
     ghost use Rattle.ss_line.specs.Line.{StandsIn, index_of};
     ghost use Rattle.ss_line.specs.declared.entry.At.{At};
     ghost use Rattle.ss_line.specs.declared.entry.Entry.{Entry};
@@ -99,6 +100,7 @@ impl Index {
         ensures target { self.new.schedule.target ≡ self.old.schedule.target }
         ensures room { length self.new.schedule.keys ≡ length self.old.schedule.keys }
         ensures placed { (before : List (ℕ × At)) (was : At) → self.old.times ≡ before ++ (t, was) ∷ [] → self.new.times ≡ before ++ (t, at) ∷ [] }
+        ensures looks { steps.new ≤ steps.old + 4 }
     {
         self.schedule.add_window(line, at, n, steps);
         self.times.put(t, at);
@@ -125,8 +127,8 @@ impl Index {
         ensures room { OnOk result (length self.new.schedule.keys ≡ length self.old.schedule.keys) }
     {
         let t = line.get(at, steps).t_first;
-        self.times.reserve(t)?;
-        self.add_window(line, at, n, t, steps);
+        self.times.push(t, at)?;
+        self.schedule.add_window(line, at, n, steps);
         Ok(())
     }
 
@@ -136,6 +138,7 @@ impl Index {
         ensures pair { IfSome result (IsPairIn line.now.entries) }
         ensures due { IfSome result (λ pair. may_join (merge_rule self.now.schedule) n pair ≡ true) }
         ensures none { IfNone result (NoPairFits (merge_rule self.now.schedule) n line.now.entries) }
+        ensures looks { MatchOption result (steps.new ≡ steps.old) (λ _. steps.new ≤ steps.old + 2) }
     {
         self.schedule.due(line, n, steps)
     }
@@ -162,6 +165,7 @@ impl Index {
         ensures room { length self.new.schedule.keys ≡ length self.old.schedule.keys }
         ensures times { (before behind : List (ℕ × At)) (was : At) → self.old.times ≡ before ++ (t, was) ∷ behind
             → self.new.times ≡ before ++ behind }
+        ensures looks { steps.new ≤ steps.old + 6 }
     {
         self.schedule.merged(line, pair, n, steps);
         self.times.cut_out(t);

@@ -11,6 +11,7 @@ ghost use Rattle.ss_journal.specs.declared.format.TheConstants.{MOST_SLOTS};
 ghost use Rattle.ss_records.specs.Kept.{AreAtRest, AreKept};
 ghost use Rattle.ss_recover.specs.Held.{AreWhole, AreWholeBeside};
 ghost use Rattle.ss_recover.specs.declared.parts.StreamParts.{StreamParts};
+ghost use Rattle.ss_store.specs.Calls.{KeepsWithin};
 ghost use Rattle.ss_store.specs.Changing.{ClosesAll, SomeChangedIsHeld};
 ghost use Rattle.ss_store.specs.Errors.{verdict_of_opening};
 ghost use Rattle.ss_query.specs.Reading.{verdict_of_read};
@@ -24,6 +25,7 @@ use crate::clearing::clear_all;
 use crate::closing::close_windows;
 use crate::index::Index;
 use ss_catalog::Catalog;
+use ss_journal::Journal;
 use ss_outside::Disk;
 use ss_query::ReadError;
 use ss_records::Records;
@@ -41,9 +43,9 @@ pub fn read_all<D: Disk>(alloc: Global, disk: &mut D) -> Result<(Records, Parts)
     ensures running { IfOk result (λ read. IsRunning read.0.journal) }
     ensures sealed { IfOk result (λ read. IsSealed read.0.journal) }
 {
-    let mut records = Records::open(alloc, disk)?;
-    let parts = rebuild(alloc, &mut records, disk)?;
-    Ok((records, parts))
+    let journal = Journal::open(alloc, disk)?;
+    let read = rebuild(alloc, journal, disk)?;
+    Ok(read)
 }
 
 // The names and numbers of streams.
@@ -77,6 +79,7 @@ pub fn close_all<D: Disk, L: Ledger>(
     ensures closes { Step (verdict_of_read result) (D.seen disk.old) (D.seen disk.new)
         (ClosesAll streams.old streams.new records.new result) }
     ensures extent { OnOk result (records.new.journal.extent ≤ records.old.journal.extent) }
+    ensures within { Step (verdict_of_read result) (D.seen disk.old) (D.seen disk.new) (KeepsWithin 0 result) }
     ensures entries { map entry_of streams.new ≡ map entry_of streams.old }
     ensures whole { OnOk result (AreWhole streams.new records.new.live) }
     ensures at_rest { OnOk result (AreAtRest records.new) }
@@ -112,6 +115,7 @@ pub fn settle_all<D: Disk, L: Ledger>(
     ensures settles { Step (verdict_of_read result) (D.seen disk.old) (D.seen disk.new)
         (SettlesAll doomed.now streams.old streams.new records.new result) }
     ensures extent { OnOk result (records.new.journal.extent ≤ records.old.journal.extent) }
+    ensures within { Step (verdict_of_read result) (D.seen disk.old) (D.seen disk.new) (KeepsWithin 0 result) }
     ensures entries { map entry_of streams.new ≡ map entry_of streams.old }
     ensures whole { OnOk result (AreWhole streams.new records.new.live) }
     ensures at_rest { OnOk result (AreAtRest records.new) }

@@ -13,14 +13,16 @@ use ss_windowing::MOST_VALUES;
 use std::sync::ledger::{Blank, Ledger};
 
 impl Store {
-    ghost use Rattle.std.specs.Prelude.{◌≡◌, ◌≢◌, ◌≤◌, false, Some, IfOk, OnOk, IfErr, Err, None, ℤ};
-    ghost use Rattle.ss_outside.specs.Disk.{OfContent};
+    ghost use Rattle.std.specs.Prelude.{◌≡◌, ◌+◌, ◌≢◌, ◌≤◌, false, Some, IfOk, OnOk, IfErr, Err, None, ℤ};
+    ghost use Rattle.ss_outside.specs.Disk.{Between, OfContent};
     ghost use Rattle.ss_outside.specs.Verdict.{IfUndone};
     ghost use Rattle.ss_catalog.specs.declared.event.Event.TheVariants.{Value};
     ghost use Rattle.ss_model.specs.Marks.{has_open};
     ghost use Rattle.ss_store.specs.Admitted.{IsTaker};
     ghost use Rattle.ss_store.specs.Applied.{Applies};
+    ghost use Rattle.ss_store.specs.Calls.{StaysWithin};
     ghost use Rattle.ss_store.specs.Errors.{verdict_of_apply};
+    ghost use Rattle.ss_store.specs.Extents.{records_in};
     ghost use Rattle.ss_store.specs.Kept.{StoreIsKept, of_part, refuses_held};
     ghost use Rattle.ss_steps.specs.Steps.{IsFresh};
 
@@ -69,6 +71,8 @@ impl Store {
         requires plain { of_part name.now self.old.streams (λ part. has_open part.landmarks.landmarks) ≡ false }
         requires one_disk { OfContent (D.seen disk.old) (StoreIsKept self.old) }
         ensures applies { Applies (Value name.now t v) self.old self.new (D.seen disk.old) (D.seen disk.new) result }
+        ensures within { Between (D.seen disk.old) (D.seen disk.new)
+            (StaysWithin (records_in self.old + 1) self.old.records self.new.records result) }
         ensures running { result ≢ Err ApplyError.Stopped }
         ensures uncalled { IfUndone (verdict_of_apply result) (disk.new ≡ disk.old) }
     {

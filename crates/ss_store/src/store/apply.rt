@@ -10,7 +10,7 @@ use std::marker::Brand;
 use std::sync::ledger::Blank;
 
 impl Store {
-    ghost use Rattle.std.specs.Prelude.{◌≡◌, ◌↔◌, true, false, map, Err, OnOk, OnErr};
+    ghost use Rattle.std.specs.Prelude.{◌≡◌, ◌+◌, ◌↔◌, true, false, map, Err, OnOk, OnErr};
     ghost use Rattle.ss_outside.specs.Disk.{Between, OfContent};
     ghost use Rattle.ss_outside.specs.Step.{Step};
     ghost use Rattle.ss_outside.specs.Verdict.{IfUndone, OnFailed, verdict};
@@ -19,8 +19,9 @@ impl Store {
     ghost use Rattle.ss_journal.specs.Kept.{IsSealed};
     ghost use Rattle.ss_model.specs.Marks.{has_open};
     ghost use Rattle.ss_store.specs.Applied.{Applies, SealsStore, StandsOn};
-    ghost use Rattle.ss_store.specs.Calls.{AddsEvent, StagesEvent};
+    ghost use Rattle.ss_store.specs.Calls.{AddsEvent, KeepsWithin, StagesEvent, StaysWithin};
     ghost use Rattle.ss_store.specs.Errors.{verdict_of_apply};
+    ghost use Rattle.ss_store.specs.Extents.{records_in};
     ghost use Rattle.ss_store.specs.Kept.{StoreIsKept, is_of_landmark, of_part, without_spare};
 
     /// Applies an event, and answers what is replied to it. A crash at any moment of the call leaves the history from before
@@ -36,6 +37,8 @@ impl Store {
         ensures idle { self.old.stopped ≡ true → self.new ≡ self.old }
         ensures applies { self.old.stopped ≡ false → Applies event.now self.old self.new (D.seen disk.old) (D.seen disk.new) result }
         ensures sealed { self.new.stopped ≡ false → IsSealed self.new.records.journal }
+        // No image uses more slots than were used before, or than the records need that were held then and one.
+        ensures within { self.old.stopped ≡ false → Between (D.seen disk.old) (D.seen disk.new) (KeepsWithin (records_in self.old + 1) result) }
         // The event is added to the history that the disk stands for, wholly or not at all, also in a crash.
         ensures history { self.old.stopped ≡ false → Between (D.seen disk.old) (D.seen disk.new) (AddsEvent event.now result) }
         ensures uncalled { IfUndone (verdict_of_apply result) (disk.new ≡ disk.old) }
@@ -59,6 +62,8 @@ impl Store {
         // The event comes after the history that is shown, wholly or not at all, also in a crash.
         ensures history { self.old.stopped ≡ false →
             Between (D.seen disk.old) (D.seen disk.new) (StagesEvent event.now self.old.records self.new.records result) }
+        ensures within { self.old.stopped ≡ false → Between (D.seen disk.old) (D.seen disk.new)
+            (StaysWithin (records_in self.old + 1) self.old.records self.new.records result) }
         // An event of landmarks that fails leaves the streams as they were, but for the room to spare.
         ensures failed { is_of_landmark self.old.streams event.now ≡ true →
             OnFailed (verdict_of_apply result) (map without_spare self.new.streams ≡ map without_spare self.old.streams) }

@@ -66,14 +66,16 @@ fn record_of(id: u32, name: &Name, params: Params) -> Record
 }
 
 impl Store {
-    ghost use Rattle.std.specs.Prelude.{◌≡◌, ◌≢◌, false, Some, IfOk, OnOk, IfErr, Err, None};
-    ghost use Rattle.ss_outside.specs.Disk.{OfContent};
+    ghost use Rattle.std.specs.Prelude.{◌≡◌, ◌+◌, ◌≢◌, false, Some, IfOk, OnOk, IfErr, Err, None};
+    ghost use Rattle.ss_outside.specs.Disk.{Between, OfContent};
     ghost use Rattle.ss_outside.specs.Verdict.{IfUndone};
     ghost use Rattle.ss_catalog.specs.declared.event.Event.TheVariants.{Create};
     ghost use Rattle.ss_target.specs.Targets.{params_of};
     ghost use Rattle.ss_store.specs.Admitted.{IsNew};
     ghost use Rattle.ss_store.specs.Applied.{Applies};
+    ghost use Rattle.ss_store.specs.Calls.{StaysWithin};
     ghost use Rattle.ss_store.specs.Errors.{verdict_of_apply};
+    ghost use Rattle.ss_store.specs.Extents.{records_in};
     ghost use Rattle.ss_store.specs.Kept.{StoreIsKept, refuses_held};
 
     // The target, the number and the slot of a stream that is created, or why it isn't.
@@ -109,6 +111,8 @@ impl Store {
         requires runs { self.old.stopped ≡ false }
         requires one_disk { OfContent (D.seen disk.old) (StoreIsKept self.old) }
         ensures applies { Applies (Create name params) self.old self.new (D.seen disk.old) (D.seen disk.new) result }
+        ensures within { Between (D.seen disk.old) (D.seen disk.new)
+            (StaysWithin (records_in self.old + 1) self.old.records self.new.records result) }
         ensures running { result ≢ Err ApplyError.Stopped }
         ensures uncalled { IfUndone (verdict_of_apply result) (disk.new ≡ disk.old) }
     {

@@ -6,6 +6,7 @@ ghost use Rattle.ss_outside.specs.Verdict.{verdict};
 ghost use Rattle.ss_journal.specs.Kept.{IsSettled};
 ghost use Rattle.ss_records.specs.Kept.{AreKept};
 ghost use Rattle.ss_codec.specs.Record.{is_valid};
+ghost use Rattle.ss_store.specs.Calls.{StaysWithin};
 ghost use Rattle.ss_store.specs.Changing.{Makes};
 ghost use Rattle.ss_store.specs.Dropping.{StagesDrop, dropped_record, slots_in_turn};
 ghost use Rattle.ss_store.specs.Slots.{AreSomeLive, LiveSlotsGo};
@@ -106,17 +107,20 @@ fn stage_doomed<D: Disk>(
     ensures settled { OnOk result (IsSettled records.new.journal) }
     ensures live { OnOk result (LiveSlotsGo slots.now [] records.old.live records.new.live) }
     ensures extent { OnOk result (records.new.journal.extent ≡ records.old.journal.extent) }
+    ensures within { Step (verdict result) (D.seen disk.old) (D.seen disk.new) (StaysWithin 0 records.old records.new result) }
 {
     stage_replaced(records, disk, part.slot, &record_of(part))?;
     stage_clearing(records, disk, slots)
 }
 
 impl Store {
-    ghost use Rattle.std.specs.Prelude.{◌≢◌, false, Err};
+    ghost use Rattle.std.specs.Prelude.{◌≢◌, ◌+◌, false, Err};
+    ghost use Rattle.ss_outside.specs.Disk.{Between};
     ghost use Rattle.ss_outside.specs.Verdict.{IfUndone};
     ghost use Rattle.ss_catalog.specs.declared.event.Event.TheVariants.{Drop};
     ghost use Rattle.ss_store.specs.Applied.{Applies};
     ghost use Rattle.ss_store.specs.Errors.{verdict_of_apply};
+    ghost use Rattle.ss_store.specs.Extents.{records_in};
     ghost use Rattle.ss_store.specs.Kept.{StoreIsKept};
     ghost use Rattle.ss_steps.specs.Steps.{IsFresh};
 
@@ -131,6 +135,8 @@ impl Store {
         requires runs { self.old.stopped ≡ false }
         requires one_disk { OfContent (D.seen disk.old) (StoreIsKept self.old) }
         ensures applies { Applies (Drop name.now) self.old self.new (D.seen disk.old) (D.seen disk.new) result }
+        ensures within { Between (D.seen disk.old) (D.seen disk.new)
+            (StaysWithin (records_in self.old + 1) self.old.records self.new.records result) }
         ensures running { result ≢ Err ApplyError.Stopped }
         ensures uncalled { IfUndone (verdict_of_apply result) (disk.new ≡ disk.old) }
     {

@@ -38,14 +38,16 @@ fn refuses(stream: &StreamParts, t: u64, mark: Mark) -> Option<Refusal>
 
 impl Store {
     ghost use Rattle.std.specs.Prelude.{◌≡◌, ◌≢◌, ◌+◌, ◌≤◌, true, false, length, flat_map, map, Some, IsNone, IfOk, IfSome, OnOk, IfErr, Err, None};
-    ghost use Rattle.ss_outside.specs.Disk.{OfContent};
+    ghost use Rattle.ss_outside.specs.Disk.{Between, OfContent};
     ghost use Rattle.ss_outside.specs.Verdict.{IfUndone, OnFailed};
     ghost use Rattle.ss_catalog.specs.declared.refusal.Refusal.{Refusal};
     ghost use Rattle.ss_model.specs.Marks.{has_open};
     ghost use Rattle.ss_recover.specs.Held.{slots_held};
     ghost use Rattle.ss_store.specs.Admitted.{IsMarker};
     ghost use Rattle.ss_store.specs.Applied.{Applies};
+    ghost use Rattle.ss_store.specs.Calls.{StaysWithin};
     ghost use Rattle.ss_store.specs.Errors.{verdict_of_apply};
+    ghost use Rattle.ss_store.specs.Extents.{records_in};
     ghost use Rattle.ss_store.specs.Kept.{StoreIsKept, has_all_slots, of_part, refuses_held, without_spare};
     ghost use Rattle.ss_store.specs.Marking.{IsClosing, IsInOpen, IsItsSlot, event_of, slot_refusal, slots_used};
     ghost use Rattle.ss_steps.specs.Steps.{IsFresh};
@@ -107,6 +109,8 @@ impl Store {
         requires one_disk { OfContent (D.seen disk.old) (StoreIsKept self.old) }
         ensures applies { Applies (event_of name.now t what) self.old self.new (D.seen disk.old) (D.seen disk.new) result }
         ensures failed { OnFailed (verdict_of_apply result) (map without_spare self.new.streams ≡ map without_spare self.old.streams) }
+        ensures within { Between (D.seen disk.old) (D.seen disk.new)
+            (StaysWithin (records_in self.old + 1) self.old.records self.new.records result) }
         ensures running { result ≢ Err ApplyError.Stopped }
         ensures uncalled { IfUndone (verdict_of_apply result) (disk.new ≡ disk.old) }
     {

@@ -1,18 +1,20 @@
-use Rattle.std.proofs.Common.{Ok, inl, refl, w64}
+use Rattle.std.proofs.Common.{◌≡◌, ℕ, ◌+◌, ◌*◌, ◌≤◌, Result, Ok, Err, OnOk, length, inl, refl, arith, w64}
 use Rattle.std.proofs.lemmas.Int.{to_z-of_z}
 use Rattle.std.proofs.lemmas.Result.{err_from_is_err_and}
 use Rattle.ss_outside.proofs.StepLemmas.{step-as}
-use Rattle.ss_journal.proofs.StepLemmas.{after-step}
+use Rattle.ss_journal.proofs.StepLemmas.{after-step, step-next}
 use Rattle.ss_summary.specs.Points.{New}
 use Rattle.ss_model.specs.Steps.{with_plain_value}
 use Rattle.ss_recover.specs.Held.{slots_held}
 use Rattle.ss_query.specs.Held.{IsHeldIn}
+use Rattle.ss_query.specs.declared.read_error.ReadError.{ReadError}
 use Rattle.ss_store.specs.Held.{IsHalfway, with_single}
 use Rattle.ss_store.proofs.Closings.{IsSameStream-more}
 use Rattle.ss_store.proofs.LiveSlots.{AreSomeLive-go}
 use Rattle.ss_store.proofs.Sealings.{step-valued}
 use Rattle.ss_store.proofs.ShownCalls.{TurnsShown-failed}
 use Rattle.ss_store.proofs.Wholes.{HoldsUntil-then, KeepsWhole-then}
+use Rattle.ss_store.proofs.Within.{StaysWithin-failed, StaysWithin-then}
 use Rattle.ss_store.proofs.appending.append_value.Goals as goal
 
 pub returns-in_err-put_value-clause-takes : goal.returns-in_err-put_value-clause-takes
@@ -49,3 +51,25 @@ returns-clause-takes g c =
 pub returns-clause-same : goal.returns-clause-same
 returns-clause-same g c =
     IsSameStream-more c.args.part.now c.put_value.new.part c.stage_joins.new.part c.put_value.ensures.same c.stage_joins.ensures.same
+
+-- a value is one window more, and each join one less
+looks-joins : (result : Result (Unit {0}) ReadError) (start mid end was between is : ℕ) → between ≡ was + 1 → mid ≤ start + 6 →
+    OnOk result (end + 11 * is ≤ mid + 11 * between + 1) → OnOk result ((joins : ℕ) → is + joins ≡ was + 1 → end ≤ start + 7 + 11 * joins)
+looks-joins (Ok u) start mid end was between is more first rest = λ joins all. omega (arith, more, first, rest, all)
+looks-joins (Err e) start mid end was between is more first rest = tt
+
+pub returns-clause-looks : goal.returns-clause-looks
+returns-clause-looks g c =
+    looks-joins c.stage_joins.result c.args.steps.now c.put_value.new.steps c.stage_joins.new.steps (length c.args.part.now.line.entries)
+    (length c.put_value.new.part.line.entries) (length c.stage_joins.new.part.line.entries) c.in_ok-put_value.ensures.one_more
+    c.in_ok-put_value.ensures.looks c.stage_joins.ensures.looks
+
+pub returns-in_err-put_value-clause-within : goal.returns-in_err-put_value-clause-within
+returns-in_err-put_value-clause-within g c =
+    let p = err_from_is_err_and c.from_residual.result c.from_residual.ensures.1 in
+    rw (p.1, p.2) (step-as c.in_err-put_value.ensures.within (λ put. StaysWithin-failed _ refl (omega arith) put))
+
+pub returns-clause-within : goal.returns-clause-within
+returns-clause-within g c =
+    step-next c.in_ok-put_value.ensures.within c.stage_joins.ensures.within (λ told then first second.
+    StaysWithin-then {first = c.args.slot + 1} {second = 0} _ (g.met.D.Disk.knows_now c.put_value.new.disk then) (omega arith) (omega arith) first second)

@@ -24,13 +24,14 @@ use Rattle.ss_store.proofs.Additions.{IsAdded, IsOrdered-added, LiveSlotsGo-adde
 use Rattle.ss_store.proofs.KeyedWindows.{FollowUpTo-take, FollowUpTo-tiles, NoPairFits-entries, take-all}
 use Rattle.ss_store.proofs.Rising.{IsTimed-added}
 use Rattle.ss_store.proofs.ShownCalls.{TurnsShown-answers, TurnsShown-failed}
+use Rattle.ss_store.proofs.Within.{StaysWithin-answers, StaysWithin-failed}
 use Rattle.ss_store.proofs.appending.put_value.Goals as goal
 
 pub stage_record-requires-clause-valid : goal.stage_record-requires-clause-valid
 stage_record-requires-clause-valid g c =
     let count : c.one.result.count ≡ 1 = ap (λ f. f.count) c.one.ensures in
     is_valid-IsWindow c.number_of.result (c.values_held-position.result + 1) c.one.result (omega arith) (omega arith)
-    (omega (arith, count, c.values_held-position.ensures, c.requires.can.room)) (assumption c.one.type_inv)
+    (omega (arith, count, c.values_held-position.ensures.value, c.requires.can.room)) (assumption c.one.type_inv)
 
 -- the stream with an entry more
 abbrev added_part : StreamParts → ℕ → ℕ → StreamParts
@@ -66,7 +67,7 @@ returns-in_err-stage_record-clause-puts g c =
           (IsHalfway others part s c.args.t c.args.v) (IsHeldIn others new (with_single s c.args.t c.args.v)) _ _ _ _ _ refl
           (TurnsShown-added part new c.args.slot c.args.t (added_part-added part c.args.slot c.args.t) c.args.v c.one.result single
           (assumption c.one.type_inv) can.room can.plain can.later others s c.args.records.now c.stage_record.new.records _ _ _
-          (rw (c.values_held-position.ensures, c.number_of.ensures) at made.changes));
+          (rw (c.values_held-position.ensures.value, c.number_of.ensures) at made.changes));
       firm = λ others s held. tt;
       kept = tt;
     }))
@@ -100,9 +101,9 @@ returns-clause-puts g c =
           _ _ c.in_ok-stage_record.field-0 _
           (TurnsShown-added part new c.args.slot c.args.t
           (added part c.push-at.new.self c.push-at.result c.values_held-position.result c.args.slot c.args.t c.push-at.ensures.pushed
-          c.values_held-position.ensures) c.args.v c.one.result single (assumption c.one.type_inv)
+          c.values_held-position.ensures.value) c.args.v c.one.result single (assumption c.one.type_inv)
           can.room can.plain can.later others s c.args.records.now c.stage_record.new.records _ _ _
-          (rw (c.values_held-position.ensures, c.number_of.ensures) at made.changes));
+          (rw (c.values_held-position.ensures.value, c.number_of.ensures) at made.changes));
       firm = λ others s held. tt;
       kept = made.kept;
     })
@@ -113,7 +114,7 @@ returns-clause-holds g c =
     record {
       values = values_held-added part (record part { last_time = Some c.args.t; line = c.push-at.new.self }) c.args.slot c.args.t
           (added part c.push-at.new.self c.push-at.result c.values_held-position.result c.args.slot c.args.t c.push-at.ensures.pushed
-          c.values_held-position.ensures);
+          c.values_held-position.ensures.value);
       last_time = refl;
     }
 
@@ -125,10 +126,10 @@ returns-clause-whole g c =
     record {
       ordered = IsOrdered-added part new c.args.slot c.args.t
           (added part c.push-at.new.self c.push-at.result c.values_held-position.result c.args.slot c.args.t c.push-at.ensures.pushed
-          c.values_held-position.ensures) c.requires.can.ordered c.requires.can.room c.requires.can.later;
+          c.values_held-position.ensures.value) c.requires.can.ordered c.requires.can.room c.requires.can.later;
       live = LiveSlotsGo-added part new c.args.slot c.args.t
           (added part c.push-at.new.self c.push-at.result c.values_held-position.result c.args.slot c.args.t c.push-at.ensures.pushed
-          c.values_held-position.ensures) c.args.records.now.live c.stage_record.new.records.live done.live;
+          c.values_held-position.ensures.value) c.args.records.now.live c.stage_record.new.records.live done.live;
       settled = done.settled;
       extent = done.extent;
     }
@@ -151,19 +152,20 @@ add_window-requires-clause-keyed g c =
     ap (λ es. take (index_of es c.push-at.result) es) c.push-at.ensures.pushed
     ∙ ap (λ k. take k (part.line.entries ++ (c.push-at.result, entry) ∷ [])) index ∙ take-seam part.line.entries ((c.push-at.result, entry) ∷ []) in
     subst (λ n. IsKeyed (n + 1) (take (index_of c.push-at.new.self.entries c.push-at.result) c.push-at.new.self.entries) c.args.index.now.schedule)
-    (sym c.values_held-position.ensures)
+    (sym c.values_held-position.ensures.value)
     (subst (λ es. IsKeyed (values_held (entries_of part) + 1) es c.args.index.now.schedule) (sym front) later)
 
 pub add_window-requires-clause-follow : goal.add_window-requires-clause-follow
 add_window-requires-clause-follow g c =
     let part = c.args.part.now in
     let is = added part c.push-at.new.self c.push-at.result c.values_held-position.result c.args.slot c.args.t c.push-at.ensures.pushed
-    c.values_held-position.ensures in
+    c.values_held-position.ensures.value in
     let new = record part { last_time = Some c.args.t; line = c.push-at.new.self } in
     let all = values_held-added part new c.args.slot c.args.t is in
     FollowUpTo-take (c.values_held-position.result + 1) _ c.push-at.new.self.entries
     (FollowUpTo-tiles (c.values_held-position.result + 1) c.push-at.new.self.entries
-    (TileFrom-added part new c.args.slot c.args.t is c.requires.can.ordered.tiles c.requires.can.room) (omega (arith, all, c.values_held-position.ensures)))
+    (TileFrom-added part new c.args.slot c.args.t is c.requires.can.ordered.tiles c.requires.can.room)
+    (omega (arith, all, c.values_held-position.ensures.value)))
 
 pub returns-clause-keyed : goal.returns-clause-keyed
 returns-clause-keyed g c =
@@ -180,8 +182,25 @@ returns-clause-keyed g c =
     take-all new.entries (index_of new.entries c.push-at.result + 1) (omega (arith, long, index)) in
     record {
       target = c.add_window.ensures.target ∙ c.requires.can.reserved.target;
-      keyed = subst (λ n. IsKeyed n new.entries c.add_window.new.self.schedule) (omega (arith, all, c.values_held-position.ensures))
+      keyed = subst (λ n. IsKeyed n new.entries c.add_window.new.self.schedule) (omega (arith, all, c.values_held-position.ensures.value))
           (subst (λ es. IsKeyed (c.values_held-position.result + 1) es c.add_window.new.self.schedule) whole c.add_window.ensures.keyed);
       timed = IsTimed-added part.line.entries new.entries c.add_window.new.self.times c.push-at.result entry c.args.t c.push-at.ensures.pushed refl
           (c.add_window.ensures.placed (map begun_at part.line.entries) (record { 0 = 0 }) c.requires.can.reserved.noted);
     }
+
+pub returns-clause-one_more : goal.returns-clause-one_more
+returns-clause-one_more g c =
+    let part = c.args.part.now in
+    let entry : Entry = single_entry (c.values_held-position.result + 1) c.args.t c.args.slot in
+    ap (λ es. length es) c.push-at.ensures.pushed ∙ length-append part.line.entries ((c.push-at.result, entry) ∷ [])
+
+pub returns-clause-looks : goal.returns-clause-looks
+returns-clause-looks g c = omega (arith, c.values_held-position.ensures.looks, c.push-at.ensures.look, c.add_window.ensures.looks)
+
+pub returns-in_err-stage_record-clause-within : goal.returns-in_err-stage_record-clause-within
+returns-in_err-stage_record-clause-within g c =
+    let p = err_from_is_err_and c.from_residual.result c.from_residual.ensures.1 in
+    rw (p.1, p.2) (step-as c.in_err-stage_record.ensures.within (λ made. StaysWithin-failed _ refl (omega arith) made))
+
+pub returns-clause-within : goal.returns-clause-within
+returns-clause-within g c = step-as c.in_ok-stage_record.ensures.within (λ made. StaysWithin-answers _ (omega arith) made)

@@ -3,6 +3,7 @@ use Rattle.std.proofs.lemmas.Result.{err_from_is_err_and, on_ok_weaker}
 use Rattle.ss_outside.proofs.StepLemmas.{step-as}
 use Rattle.ss_journal.proofs.StepLemmas.{after-step, step-next}
 use Rattle.ss_store.proofs.Clearings.{ClearsSlots-not_sealed, ClearsSlots-sealed}
+use Rattle.ss_store.proofs.Within.{KeepsWithin-not_sealed, KeepsWithin-sealed}
 use Rattle.ss_store.proofs.clearing.clear_all.Goals as goal
 
 pub returns-in_err-stage_clearing-clause-clears : goal.returns-in_err-stage_clearing-clause-clears
@@ -28,3 +29,14 @@ returns-clause-clears g c =
 
 pub returns-clause-extent : goal.returns-clause-extent
 returns-clause-extent g c = on_ok_weaker c.seal.result (λ sealed. sealed.extent ∙ c.in_ok-stage_clearing.ensures.extent) c.seal.ensures.sealed
+
+pub returns-in_err-stage_clearing-clause-within : goal.returns-in_err-stage_clearing-clause-within
+returns-in_err-stage_clearing-clause-within g c =
+    let p = err_from_is_err_and c.from_residual.result c.from_residual.ensures.1 in
+    rw (p.1, p.2) (step-as c.in_err-stage_clearing.ensures.within (λ staged. KeepsWithin-not_sealed c.requires.at_rest.1 _ refl staged))
+
+pub returns-clause-within : goal.returns-clause-within
+returns-clause-within g c =
+    step-next c.in_ok-stage_clearing.ensures.within c.seal.ensures.seals (λ told then staged seals.
+    KeepsWithin-sealed c.requires.at_rest.1 c.seal.new.self _ (g.met.D.Disk.knows_now c.stage_clearing.new.disk then)
+    (on_ok_weaker c.seal.result (λ sealed. sealed.sealed) c.seal.ensures.sealed) staged seals.keeps_shown)

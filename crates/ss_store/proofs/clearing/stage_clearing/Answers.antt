@@ -6,6 +6,7 @@ use Rattle.ss_outside.proofs.StepLemmas.{step-as, step-none}
 use Rattle.ss_journal.proofs.StepLemmas.{after-step, step-next}
 use Rattle.ss_store.specs.Slots.{LiveSlotsGo}
 use Rattle.ss_store.proofs.Clearings.{AreSomeLive-next, LiveSlotsGo-more, StagesClearing-all, StagesClearing-failed, StagesFirst-more, StagesFirst-none}
+use Rattle.ss_store.proofs.Within.{StaysWithin-failed, StaysWithin-none, StaysWithin-then}
 use Rattle.ss_store.proofs.clearing.stage_clearing.Goals as goal
 
 pub loop-slot-init : goal.loop-slot-init
@@ -14,6 +15,7 @@ loop-slot-init g c = record {
     changes = StagesFirst-none c.args.doomed.now c.args.records.now _ (g.met.D.Disk.knows_now c.args.disk.now told);
     kept = c.requires.one_disk told;
   });
+  within = step-none (g.D.Disk.seen c.args.disk.now) _ (λ told. StaysWithin-none (Ok tt) (g.met.D.Disk.knows_now c.args.disk.now told) refl);
   settled = c.requires.settled;
   live = λ others is. is;
   extent = refl;
@@ -39,6 +41,8 @@ loop-slot-preserved g c =
             c.loop-slot-test.true (g.met.D.Disk.knows_now c.loop-slot.disk then) first.changes second.changes);
         kept = second.kept;
       });
+      within = step-next before.within after.within (λ told then first second.
+          StaysWithin-then {first = 0} {second = 0} (Ok tt) (g.met.D.Disk.knows_now c.loop-slot.disk then) (omega arith) (omega arith) first second);
       settled = after.settled;
       live = rw add-one
           (LiveSlotsGo-more c.loop-slot.slot-index slots c.args.records.now.live c.loop-slot.records.live c.stage_zeros.new.records.live
@@ -69,3 +73,14 @@ pub returns-clause-live : goal.returns-clause-live
 returns-clause-live g c =
     subst (λ (l : List ℕ). LiveSlotsGo l [] c.args.records.now.live c.loop-slot.records.live)
     (take_all c.loop-slot.slot-index c.args.doomed.now (omega arith)) c.loop-slot.invariant.live
+
+pub returns-in_err-stage_zeros-clause-within : goal.returns-in_err-stage_zeros-clause-within
+returns-in_err-stage_zeros-clause-within g c =
+    let p = err_from_is_err_and c.from_residual.result c.from_residual.ensures.1 in
+    rw (p.1, p.2)
+    (step-next c.loop-slot.invariant.within c.in_err-stage_zeros.ensures.within (λ told then first second.
+    StaysWithin-then {first = 0} {second = 0} _ (g.met.D.Disk.knows_now c.loop-slot.disk then) (omega arith) (omega arith) first
+    (StaysWithin-failed _ refl (omega arith) second)))
+
+pub returns-clause-within : goal.returns-clause-within
+returns-clause-within g c = c.loop-slot.invariant.within

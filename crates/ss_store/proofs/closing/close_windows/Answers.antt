@@ -10,6 +10,7 @@ use Rattle.ss_store.proofs.Calls.{Turns-answers, Turns-failed}
 use Rattle.ss_store.proofs.Joinings.{IsPartlyJoined-none}
 use Rattle.ss_store.proofs.Sealings.{IsHeldIn-of_map, IsPartlyJoined-closed, IsPartlyJoined-of_map, TurnsStream-not_sealed, TurnsStream-sealed}
 use Rattle.ss_store.proofs.Wholes.{KeepsAtRest-sealed}
+use Rattle.ss_store.proofs.Within.{KeepsWithin-answers, KeepsWithin-failed, KeepsWithin-not_sealed, KeepsWithin-sealed}
 use Rattle.ss_store.proofs.closing.close_windows.Goals as goal
 
 pub returns-in_err-stage_joins-clause-closes : goal.returns-in_err-stage_joins-clause-closes
@@ -62,3 +63,23 @@ returns-clause-closes g c =
 
 pub returns-clause-whole : goal.returns-clause-whole
 returns-clause-whole g c = KeepsAtRest-sealed c.in_ok-stage_joins.ensures.whole c.seal.ensures.live c.in_ok-seal.ensures.sealed
+
+pub returns-in_err-stage_joins-clause-within : goal.returns-in_err-stage_joins-clause-within
+returns-in_err-stage_joins-clause-within g c =
+    let p = err_from_is_err_and c.from_residual.result c.from_residual.ensures.1 in
+    rw (p.1, p.2) (step-as c.in_err-stage_joins.ensures.within (λ staged. KeepsWithin-not_sealed c.requires.at_rest.1 _ refl staged))
+
+pub returns-in_err-seal-clause-within : goal.returns-in_err-seal-clause-within
+returns-in_err-seal-clause-within g c =
+    let p = err_from_is_err_and c.from_residual-in_err-seal.result c.from_residual-in_err-seal.ensures.1 in
+    rw (p.1, p.2)
+    (step-next c.in_ok-stage_joins.ensures.within c.in_err-seal.ensures.seals (λ told then staged seals.
+    KeepsWithin-failed _ refl
+    (KeepsWithin-sealed c.requires.at_rest.1 c.seal.new.self _ (g.met.D.Disk.knows_now c.stage_joins.new.disk then) tt staged seals.keeps_shown)))
+
+pub returns-clause-within : goal.returns-clause-within
+returns-clause-within g c =
+    step-next c.in_ok-stage_joins.ensures.within c.in_ok-seal.ensures.seals (λ told then staged seals.
+    KeepsWithin-answers _
+    (KeepsWithin-sealed c.requires.at_rest.1 c.seal.new.self _ (g.met.D.Disk.knows_now c.stage_joins.new.disk then) c.in_ok-seal.ensures.sealed.sealed staged
+    seals.keeps_shown))

@@ -1,4 +1,4 @@
-use Rattle.std.proofs.Common.{◌≡◌, ◌∙◌, ℕ, List, [], ◌∷◌, ◌++◌, map, refl, sym, ap, subst, arith, Err, MatchOption}
+use Rattle.std.proofs.Common.{◌≡◌, ◌∙◌, ℕ, List, [], ◌∷◌, ◌++◌, map, refl, sym, ap, subst, arith, Err, MatchOption, Ok}
 use Rattle.ss_line.specs.declared.entry.At.{At}
 use Rattle.ss_line.specs.declared.entry.Entry.{Entry}
 use Rattle.std.proofs.lemmas.Result.{err_from_is_err_and}
@@ -23,6 +23,8 @@ use Rattle.ss_store.specs.Indexed.{IsTimed, begun_at}
 use Rattle.ss_store.proofs.Rising.{IsTimed-joined, IsTimed-seam, TimesRise-any, TimesRise-seam, rise-joined}
 use Rattle.ss_store.proofs.ShownCalls.{TurnsShown-answers, TurnsShown-failed}
 use Rattle.ss_store.proofs.Spans.{TileFrom-joined, values_held-joined}
+use Rattle.ss_query.specs.declared.read_error.ReadError.{ReadError}
+use Rattle.ss_store.proofs.Within.{StaysWithin-answers, StaysWithin-failed, StaysWithin-reads, StaysWithin-then}
 use Rattle.ss_store.proofs.closing.join.Goals as goal
 
 pub get-window-requires : goal.get-window-requires
@@ -171,7 +173,7 @@ returns-clause-holds g c =
     }
 
 pub returns-clause-fewer : goal.returns-clause-fewer
-returns-clause-fewer g c = (line g c).fewer
+returns-clause-fewer g c = c.merged.ensures.fewer
 
 pub returns-clause-whole : goal.returns-clause-whole
 returns-clause-whole g c =
@@ -214,7 +216,7 @@ timed_joined g c =
 pub returns-clause-keyed : goal.returns-clause-keyed
 returns-clause-keyed g c = record {
   target = c.merged.ensures.target ∙ c.requires.due.keyed.target;
-  keyed = subst (λ n. IsKeyed n c.merged.new.line.entries c.merged.new.self.schedule) (c.values_held-n.ensures ∙ sym (returns-clause-holds g c).values)
+  keyed = subst (λ n. IsKeyed n c.merged.new.line.entries c.merged.new.self.schedule) (c.values_held-n.ensures.value ∙ sym (returns-clause-holds g c).values)
       c.merged.ensures.keyed;
   timed = timed_joined g c;
 }
@@ -223,8 +225,37 @@ pub merged-requires-clause-neighbours : goal.merged-requires-clause-neighbours
 merged-requires-clause-neighbours g c = c.requires.due.stands
 
 pub merged-requires-clause-due : goal.merged-requires-clause-due
-merged-requires-clause-due g c = rw (c.requires.due.keyed.target, c.values_held-n.ensures) c.requires.due.due
+merged-requires-clause-due g c = rw (c.requires.due.keyed.target, c.values_held-n.ensures.value) c.requires.due.due
 
 pub merged-requires-clause-keyed : goal.merged-requires-clause-keyed
 merged-requires-clause-keyed g c =
-    subst (λ n. IsKeyed n c.args.part.now.line.entries c.args.index.now.schedule) (sym c.values_held-n.ensures) c.requires.due.keyed.keyed
+    subst (λ n. IsKeyed n c.args.part.now.line.entries c.args.index.now.schedule) (sym c.values_held-n.ensures.value) c.requires.due.keyed.keyed
+
+pub returns-clause-looks : goal.returns-clause-looks
+returns-clause-looks g c =
+    omega (arith, c.get-window.ensures.look, c.get-next.ensures.look, c.values_held-n.ensures.looks, c.merged.ensures.looks)
+
+pub returns-in_err-read_joined-clause-within : goal.returns-in_err-read_joined-clause-within
+returns-in_err-read_joined-clause-within g c =
+    let p = err_from_is_err_and c.from_residual.result c.from_residual.ensures.1 in
+    rw (p.1, p.2)
+    (step-from c.in_err-read_joined.ensures.joined (λ told read.
+    StaysWithin-reads _ (g.met.D.Disk.knows_now c.args.disk.now told) read.reads tt))
+
+pub returns-in_err-stage_two-clause-within : goal.returns-in_err-stage_two-clause-within
+returns-in_err-stage_two-clause-within g c =
+    let p = err_from_is_err_and c.from_residual-in_err-stage_two.result c.from_residual-in_err-stage_two.ensures.1 in
+    rw (p.1, p.2)
+    (step-next c.in_ok-read_joined.ensures.joined c.in_err-stage_two.ensures.within (λ told told_read read staged.
+    StaysWithin-then {first = 0} {second = 0} {used = 0} _ (g.met.D.Disk.knows_now c.read_joined.new.disk told_read) (omega arith) (omega arith)
+    (StaysWithin-reads {T = Unit {0}} {E = ReadError} (Ok tt) (g.met.D.Disk.knows_now c.args.disk.now told) read.reads
+    c.in_ok-read_joined.ensures.journal)
+    (StaysWithin-failed _ refl (omega arith) staged)))
+
+pub returns-clause-within : goal.returns-clause-within
+returns-clause-within g c =
+    step-next c.in_ok-read_joined.ensures.joined c.in_ok-stage_two.ensures.within (λ told told_read read staged.
+    StaysWithin-then {first = 0} {second = 0} {used = 0} _ (g.met.D.Disk.knows_now c.read_joined.new.disk told_read) (omega arith) (omega arith)
+    (StaysWithin-reads {T = Unit {0}} {E = ReadError} (Ok tt) (g.met.D.Disk.knows_now c.args.disk.now told) read.reads
+    c.in_ok-read_joined.ensures.journal)
+    (StaysWithin-answers _ (omega arith) staged))

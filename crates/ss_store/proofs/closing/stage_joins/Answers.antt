@@ -1,4 +1,4 @@
-use Rattle.std.proofs.Common.{◌∙◌, refl, sym, subst}
+use Rattle.std.proofs.Common.{◌∙◌, refl, sym, subst, arith, Ok}
 use Rattle.std.proofs.lemmas.Result.{err_from_is_err_and}
 use Rattle.ss_outside.proofs.StepLemmas.{step-as, step-none}
 use Rattle.ss_journal.proofs.StepLemmas.{after-step, step-next}
@@ -14,6 +14,7 @@ use Rattle.ss_store.proofs.Closings.{IsSameStream-more, TurnsShown-closes}
 use Rattle.ss_store.proofs.LiveSlots.{AreSomeLive-go}
 use Rattle.ss_store.proofs.ShownCalls.{TurnsShown-failed}
 use Rattle.ss_store.proofs.Wholes.{HoldsUntil-then, JoinsWindows-more, JoinsWindows-none, KeepsWhole-none, KeepsWhole-then}
+use Rattle.ss_store.proofs.Within.{StaysWithin-failed, StaysWithin-none, StaysWithin-then}
 use Rattle.ss_store.proofs.closing.stage_joins.Goals as goal
 
 pub loop-pair-init : goal.loop-pair-init
@@ -21,24 +22,26 @@ loop-pair-init g c = (
   record {
     step = step-none (g.D.Disk.seen c.args.disk.now) _ (λ told.
         JoinsWindows-none c.args.part.now c.args.records.now _ (g.met.D.Disk.knows_now c.args.disk.now told) (c.requires.one_disk told));
+    within = step-none (g.D.Disk.seen c.args.disk.now) _ (λ told. StaysWithin-none (Ok tt) (g.met.D.Disk.knows_now c.args.disk.now told) refl);
     same = record { id = refl; name = refl; target = refl; slot = refl; landmarks = refl };
     whole = KeepsWhole-none c.args.part.now c.args.records.now c.requires.ordered c.requires.settled;
     holds = record { values = refl; last_time = refl };
   },
   c.requires.keyed,
+  omega (arith, c.values_held-n.ensures.looks),
 )
 
 pub due-requires : goal.due-requires
 due-requires g c =
     subst (λ n. IsKeyed n c.loop-pair.part.line.entries c.loop-pair.index.schedule)
-    (c.loop-pair.invariant.0.holds.values ∙ sym c.values_held-n.ensures) c.loop-pair.invariant.1.keyed
+    (c.loop-pair.invariant.0.holds.values ∙ sym c.values_held-n.ensures.value) c.loop-pair.invariant.1.keyed
 
 pub join-requires-clause-due : goal.join-requires-clause-due
 join-requires-clause-due g c = record {
   ordered = c.loop-pair.invariant.0.whole.ordered;
   keyed = c.loop-pair.invariant.1;
   stands = c.in-Some.ensures.pair;
-  due = rw (c.loop-pair.invariant.0.holds.values, ← c.values_held-n.ensures, ← c.loop-pair.invariant.1.target) c.in-Some.ensures.due;
+  due = rw (c.loop-pair.invariant.0.holds.values, ← c.values_held-n.ensures.value, ← c.loop-pair.invariant.1.target) c.in-Some.ensures.due;
 }
 
 pub join-requires-clause-settled : goal.join-requires-clause-settled
@@ -53,7 +56,7 @@ pub join-requires-clause-one_disk : goal.join-requires-clause-one_disk
 join-requires-clause-one_disk g c = after-step c.loop-pair.invariant.0.step (λ told has. has.kept)
 
 pub loop-pair-smaller : goal.loop-pair-smaller
-loop-pair-smaller g c = c.in_ok-join.ensures.fewer
+loop-pair-smaller g c = omega (arith, c.in_ok-join.ensures.fewer)
 
 pub loop-pair-preserved : goal.loop-pair-preserved
 loop-pair-preserved g c =
@@ -62,11 +65,14 @@ loop-pair-preserved g c =
       record {
         step = step-next before.step after.joins (λ told then first second.
             JoinsWindows-more _ (g.met.D.Disk.knows_now c.loop-pair.disk then) first second);
+        within = step-next before.within after.within (λ told then first second.
+            StaysWithin-then {first = 0} {second = 0} (Ok tt) (g.met.D.Disk.knows_now c.loop-pair.disk then) (omega arith) (omega arith) first second);
         same = IsSameStream-more c.args.part.now c.loop-pair.part c.join.new.part before.same c.join.ensures.same;
         whole = KeepsWhole-then before.whole after.whole;
         holds = HoldsUntil-then before.holds after.holds;
       },
       after.keyed,
+      omega (arith, c.loop-pair.invariant.2, c.in-Some.ensures.looks, after.fewer, after.looks),
     )
 
 pub returns-in_err-join-clause-closes : goal.returns-in_err-join-clause-closes
@@ -105,7 +111,7 @@ returns-clause-closes g c =
     step-as c.loop-pair.invariant.0.step (λ has. record {
       turns = λ others s.
           TurnsShown-closes c.args.records.now c.loop-pair.records others c.args.part.now c.loop-pair.part s c.values_held-n.result _ _
-          (c.values_held-n.ensures ∙ sym c.loop-pair.invariant.0.holds.values) (none_due g c) has.turns;
+          (c.values_held-n.ensures.value ∙ sym c.loop-pair.invariant.0.holds.values) (none_due g c) has.turns;
       firm = λ others s held. tt;
       kept = has.kept;
     })
@@ -123,5 +129,19 @@ pub returns-clause-scheduled : goal.returns-clause-scheduled
 returns-clause-scheduled g c = (
   c.loop-pair.invariant.1,
   subst (λ n. NoEntriesAreDue (rule_of (params_of c.loop-pair.part.target)) n (entries_of c.loop-pair.part))
-      (c.values_held-n.ensures ∙ sym c.loop-pair.invariant.0.holds.values) (none_due g c),
+      (c.values_held-n.ensures.value ∙ sym c.loop-pair.invariant.0.holds.values) (none_due g c),
 )
+
+pub returns-clause-looks : goal.returns-clause-looks
+returns-clause-looks g c = omega (arith, c.loop-pair.invariant.2, c.in_default.ensures.looks)
+
+pub returns-in_err-join-clause-within : goal.returns-in_err-join-clause-within
+returns-in_err-join-clause-within g c =
+    let p = err_from_is_err_and c.from_residual.result c.from_residual.ensures.1 in
+    rw (p.1, p.2)
+    (step-next c.loop-pair.invariant.0.within c.in_err-join.ensures.within (λ told then first second.
+    StaysWithin-then {first = 0} {second = 0} _ (g.met.D.Disk.knows_now c.loop-pair.disk then) (omega arith) (omega arith) first
+    (StaysWithin-failed _ refl (omega arith) second)))
+
+pub returns-clause-within : goal.returns-clause-within
+returns-clause-within g c = c.loop-pair.invariant.0.within

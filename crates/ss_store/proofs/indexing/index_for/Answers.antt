@@ -9,8 +9,8 @@ pub add_windows-requires-clause-fresh : goal.add_windows-requires-clause-fresh
 add_windows-requires-clause-fresh g c =
     c.reserve_places.ensures.keyed c.values_held-n.result []
     (c.new-index.ensures.keyed c.values_held-n.result
-    (subst (λ n. n ≤ MOST_VALUES) (sym c.values_held-n.ensures) (held-few (entries_of c.args.part.now) c.requires.tiles)))
+    (subst (λ n. n ≤ MOST_VALUES) (sym c.values_held-n.ensures.value) (held-few (entries_of c.args.part.now) c.requires.tiles)))
 
 pub returns : goal.returns
 returns g c =
-    subst (λ n. IsKeyedAt n c.args.part.now c.add_windows.new.index) c.values_held-n.ensures c.in_ok-add_windows.ensures
+    subst (λ n. IsKeyedAt n c.args.part.now c.add_windows.new.index) c.values_held-n.ensures.value c.in_ok-add_windows.ensures

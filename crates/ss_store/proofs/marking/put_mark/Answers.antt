@@ -16,6 +16,7 @@ use Rattle.ss_store.proofs.MarkedCalls.{AreSomeLive-last, FitsMark-valid, IsAddi
 use Rattle.ss_store.proofs.MarkedCalls.{LiveSlotsGo-mark_closed, Turns-added, Turns-closed, marked_part, slots_used-adding}
 use Rattle.ss_store.proofs.OpenMarks.{AllEndBy-after}
 use Rattle.ss_store.proofs.Rising.{no-earlier, rise-later}
+use Rattle.ss_store.proofs.Within.{StaysWithin-answers, StaysWithin-failed}
 use Rattle.ss_store.proofs.marking.put_mark.Goals as goal
 use Rattle.ss_store.proofs.marking.put_mark.Goals.{in-Open+in_ok-stage_record-in-Open, in-Close+in_ok-stage_replaced-in-Close}
 
@@ -185,3 +186,28 @@ returns-in_err-stage_replaced-in-Close-clause-fits g c =
 pub returns-clause-fits : goal.returns-clause-fits
 returns-clause-fits g c =
     FitsMark-valid c.args.part.now c.args.t c.args.mark (rw c.record_of-written.ensures.value at c.record_of-written.ensures.valid)
+
+pub returns-in_err-stage_record-in-Open-clause-within : goal.returns-in_err-stage_record-in-Open-clause-within
+returns-in_err-stage_record-in-Open-clause-within g c =
+    let used = slots_used-adding c.args.mark c.args.slot (IsAdding-is c.args.mark c.in-Open.is) in
+    let p = err_from_is_err_and c.from_residual.result c.from_residual.ensures.1 in
+    rw (p.1, p.2) (step-as c.in_err-stage_record-in-Open.ensures.within (λ made. StaysWithin-failed _ refl (omega (arith, used)) made))
+
+pub returns-in_err-stage_replaced-in-Close-clause-within : goal.returns-in_err-stage_replaced-in-Close-clause-within
+returns-in_err-stage_replaced-in-Close-clause-within g c =
+    let p = err_from_is_err_and c.from_residual-in_err-stage_replaced-in-Close.result c.from_residual-in_err-stage_replaced-in-Close.ensures.1 in
+    rw (p.1, p.2) (step-as c.in_err-stage_replaced-in-Close.ensures.within (λ made. StaysWithin-failed _ refl (omega arith) made))
+
+pub returns-clause-within : goal.returns-clause-within
+returns-clause-within g c =
+    let mark = c.args.mark in
+    let slot = c.args.slot in
+    elim c.match-mark.branch [
+      | in-Open+in_ok-stage_record-in-Open w ↦
+          (let used = slots_used-adding mark slot (IsAdding-is mark w.in-Open.is) in
+          rw (w.records-is, w.disk-is)
+          (step-as w.in_ok-stage_record-in-Open.ensures.within (λ made. StaysWithin-answers _ (omega (arith, used)) made)))
+      | in-Close+in_ok-stage_replaced-in-Close w ↦
+          rw (w.records-is, w.disk-is)
+          (step-as w.in_ok-stage_replaced-in-Close.ensures.within (λ made. StaysWithin-answers _ (omega arith) made))
+    ]

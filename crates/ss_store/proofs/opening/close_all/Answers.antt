@@ -13,6 +13,8 @@ use Rattle.ss_store.proofs.ClosingAll.{AreHeldIn, ClosesFirst-more, ClosesFirst-
 use Rattle.ss_store.proofs.ClosingAll.{firm-ClosesFirst}
 use Rattle.ss_store.proofs.OneOfMany.{map-set_same}
 use Rattle.ss_store.proofs.IndexedStreams.{AreClosedTo-all, AreClosedTo-at, AreClosedTo-long, AreClosedTo-more, AreClosedTo-none}
+use Rattle.ss_outside.proofs.CrashLemmas.{reads-none}
+use Rattle.ss_store.proofs.Within.{KeepsWithin-failed, KeepsWithin-reads, KeepsWithin-then}
 use Rattle.ss_store.proofs.opening.close_all.Goals as goal
 
 pub loop-place-init : goal.loop-place-init
@@ -21,6 +23,8 @@ loop-place-init g c = record {
     changes = ClosesFirst-none c.args.streams.now _ (g.met.D.Disk.knows_now c.args.disk.now told);
     kept = c.requires.one_disk told;
   });
+  within = step-none (g.D.Disk.seen c.args.disk.now) _ (λ told.
+      KeepsWithin-reads (Ok tt) (g.met.D.Disk.knows_now c.args.disk.now told) (reads-none (g.D.Disk.seen c.args.disk.now).told));
   at_rest = c.requires.at_rest;
   extent = omega arith;
   whole = c.requires.whole;
@@ -97,6 +101,7 @@ loop-place-preserved g c =
         changes = rw add-one (ClosesFirst-more was now part new place _ _ _ (Ok tt) at c.loop-place-test.true first.changes second.turns);
         kept = second.kept;
       });
+      within = step-then before.within after.within (λ first second. KeepsWithin-then (Ok tt) first second);
       at_rest = (after.whole.whole.settled, after.whole.sealed);
       extent = omega (arith, before.extent, after.whole.whole.extent);
       whole = AreWhole-set now c.loop-place.records.live c.close_windows.new.records.live place part new before.whole at same
@@ -138,3 +143,13 @@ close_windows-requires-clause-keyed g c =
 pub bounds-indexes-place : goal.bounds-indexes-place
 bounds-indexes-place g c =
     let long = AreClosedTo-long c.loop-place.place c.loop-place.streams c.loop-place.indexes c.loop-place.invariant.closed in omega (arith, long)
+
+pub returns-in_err-close_windows-clause-within : goal.returns-in_err-close_windows-clause-within
+returns-in_err-close_windows-clause-within g c =
+    let p = err_from_is_err_and c.from_residual.result c.from_residual.ensures.1 in
+    rw (p.1, p.2)
+    (step-then c.loop-place.invariant.within c.in_err-close_windows.ensures.within (λ first second.
+    KeepsWithin-then _ first (KeepsWithin-failed _ refl second)))
+
+pub returns-clause-within : goal.returns-clause-within
+returns-clause-within g c = c.loop-place.invariant.within

@@ -10,6 +10,7 @@ use Rattle.ss_store.specs.Recover.{Recovers}
 use Rattle.ss_store.specs.Slots.{AreSomeLive, LiveSlotsGo}
 use Rattle.ss_store.proofs.Calls.{Turns-failed, Turns-joined}
 use Rattle.ss_store.proofs.Settlings.{AreWhole-cleared, Turns-settled, Turns-unsettled}
+use Rattle.ss_store.proofs.Within.{KeepsWithin-failed, KeepsWithin-map, KeepsWithin-then}
 use Rattle.ss_store.proofs.opening.settle_all.Goals as goal
 
 pub returns-in_err-settle-clause-settles : goal.returns-in_err-settle-clause-settles
@@ -79,3 +80,21 @@ returns-clause-extent g c =
     let cleared = c.in_ok-clear_all.ensures.extent in
     on_ok_weaker c.close_all.result (λ (closed : c.close_all.new.records.journal.extent ≤ c.clear_all.new.records.journal.extent).
     omega (arith, settled, cleared, closed)) c.close_all.ensures.extent
+
+pub returns-in_err-settle-clause-within : goal.returns-in_err-settle-clause-within
+returns-in_err-settle-clause-within g c =
+    let p = err_from_is_err_and c.from_residual.result c.from_residual.ensures.1 in
+    rw (p.1, p.2)
+    (step-as c.in_err-settle.ensures.settles (λ settled. KeepsWithin-failed _ refl (KeepsWithin-map _ settled.keeps_map)))
+
+pub returns-in_err-clear_all-clause-within : goal.returns-in_err-clear_all-clause-within
+returns-in_err-clear_all-clause-within g c =
+    let p = err_from_is_err_and c.from_residual-in_err-clear_all.result c.from_residual-in_err-clear_all.ensures.1 in
+    rw (p.1, p.2)
+    (step-then c.in_ok-settle.ensures.settles c.in_err-clear_all.ensures.within (λ first second.
+    KeepsWithin-then _ (KeepsWithin-map _ first.keeps_map) (KeepsWithin-failed _ refl second)))
+
+pub returns-clause-within : goal.returns-clause-within
+returns-clause-within g c =
+    step-then (step-pair c.in_ok-settle.ensures.settles c.in_ok-clear_all.ensures.within) c.close_all.ensures.within (λ cleared third.
+    KeepsWithin-then _ (KeepsWithin-map _ cleared.1.keeps_map) (KeepsWithin-then _ cleared.2 third))

@@ -36,10 +36,10 @@ pub may_be_joined-requires-clause-order : goal.may_be_joined-requires-clause-ord
 may_be_joined-requires-clause-order g c = (counted g c).order
 
 pub may_be_joined-requires-clause-taken : goal.may_be_joined-requires-clause-taken
-may_be_joined-requires-clause-taken g c = let taken = (counted g c).taken in omega (arith, taken, c.values_held-n.ensures)
+may_be_joined-requires-clause-taken g c = let taken = (counted g c).taken in omega (arith, taken, c.values_held-n.ensures.value)
 
 pub may_be_joined-requires-clause-few : goal.may_be_joined-requires-clause-few
-may_be_joined-requires-clause-few g c = let few = (counted g c).few in omega (arith, few, c.values_held-n.ensures)
+may_be_joined-requires-clause-few g c = let few = (counted g c).few in omega (arith, few, c.values_held-n.ensures.value)
 
 counted_apart : (g : _) (c : goal.Then-not-may_be_joined g) →
     IsCountedNext (rule_of (params_of c.args.part.now.target)) c.values_held-n.result c.args.part.now.line.entries c.loop-next.at c.in-Some-1₀.next
@@ -74,4 +74,4 @@ returns-clause-windows g c s is agrees =
     let rule = rule_of (params_of c.args.part.now.target) in
     let all = windows_left-counted rule c.values_held-n.result c.args.part.now.line.entries c.loop-next.at c.loop-next.first c.loop-next.count
     c.loop-next.invariant (sym c.in_default-1₀.is ∙ c.neighbours.ensures.behind) in
-    all.0 ∙ ap (λ n. windows_left rule n (entries_of c.args.part.now)) c.values_held-n.ensures ∙ windows_left-Agrees c.args.part.now s is agrees
+    all.0 ∙ ap (λ n. windows_left rule n (entries_of c.args.part.now)) c.values_held-n.ensures.value ∙ windows_left-Agrees c.args.part.now s is agrees

@@ -1,13 +1,15 @@
-use Rattle.std.proofs.Common.{Bool, List, Some, [], ap₂, arith, refl, subst, sym, ◌∷◌, ◌≡◌, ◌≤◌, ◌∙◌}
+use Rattle.std.proofs.Common.{Bool, List, Some, [], ap, ap₂, arith, refl, subst, sym, ◌∷◌, ◌≡◌, ◌≤◌, ◌∙◌}
 use Rattle.std.proofs.lemmas.Result.{err_from_is_err_and}
 use Rattle.ss_journal.specs.Kept.{IsRunning}
+use Rattle.ss_journal.specs.Puts.{extent_after}
 use Rattle.ss_journal.proofs.StepLemmas.{step-from}
 use Rattle.ss_records.specs.Live.{live_after}
 use Rattle.ss_query.specs.Slots.{HasRecords}
 use Rattle.ss_store.specs.Slots.{LiveSlotsGo, record_put}
-use Rattle.ss_store.proofs.Changes.{LiveSlotsGo-added, moves-added}
+use Rattle.ss_store.proofs.Changes.{LiveSlotsGo-added, extent_after-next, moves-added}
 use Rattle.ss_store.proofs.LiveSlots.{lowest_free-is_free}
 use Rattle.ss_store.proofs.ShownCalls.{TurnsShown-failed, TurnsShown-keeps, TurnsShown-staged}
+use Rattle.ss_store.proofs.Within.{StaysWithin-failed, StaysWithin-kept, StaysWithin-staged}
 use Rattle.ss_store.proofs.writing.stage_record.Goals as goal
 
 pub returns-in_err-make_room-clause-stages : goal.returns-in_err-make_room-clause-stages
@@ -53,3 +55,20 @@ returns-clause-live g c =
     c.stage.ensures.live ∙ ap₂ live_after c.put_of.ensures c.make_room.ensures.live in
     subst (λ (now : List Bool). LiveSlotsGo [] (slot ∷ []) live now) (sym is)
     (LiveSlotsGo-added slot c.args.written.now c.requires.valid c.requires.some live free.0 free.1)
+
+pub returns-in_err-make_room-clause-within : goal.returns-in_err-make_room-clause-within
+returns-in_err-make_room-clause-within g c =
+    let p = err_from_is_err_and c.from_residual.result c.from_residual.ensures.1 in
+    rw (p.1, p.2)
+    (step-from c.in_err-make_room.ensures.makes_room (λ told made.
+    StaysWithin-failed {used = 0} _ refl (omega arith) (StaysWithin-kept {is = c.make_room.new.self} _ (c.requires.one_disk told) made.keeps_shown)))
+
+pub returns-clause-within : goal.returns-clause-within
+returns-clause-within g c =
+    let slot = c.args.slot in
+    let made_extent = c.in_ok-make_room.ensures.made.extent in
+    let between = c.make_room.new.self.journal.extent in
+    let staged = c.stage.ensures.staged.extent ∙ ap (λ l. extent_after l between) c.put_of.ensures in
+    let next = extent_after-next (record_put slot c.args.written.now) between in
+    step-from c.in_ok-make_room.ensures.makes_room (λ told made.
+    StaysWithin-staged c.make_room.new.self _ (c.requires.one_disk told) ((c.stage.ensures.stages _).kept made.kept) (omega (arith, staged, next, made_extent)) made.keeps_shown)

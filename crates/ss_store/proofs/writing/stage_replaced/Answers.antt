@@ -12,6 +12,7 @@ use Rattle.ss_store.specs.Slots.{record_put}
 use Rattle.ss_store.proofs.Changes.{IsTxn-one, extent_after-one, live_after-again, moves-replaced, slots_fit-one}
 use Rattle.ss_store.proofs.LiveSlots.{IsOneLive-permutation}
 use Rattle.ss_store.proofs.ShownCalls.{StandsFor-of_map, TurnsShown-changed, TurnsShown-failed, TurnsShown-kept, TurnsShown-keeps, TurnsShown-staged}
+use Rattle.ss_store.proofs.Within.{StaysWithin-failed, StaysWithin-kept, StaysWithin-staged}
 use Rattle.ss_store.proofs.writing.stage_replaced.Goals as goal
 
 pub stage-requires-clause-txn : goal.stage-requires-clause-txn
@@ -88,3 +89,15 @@ returns-clause-extent g c =
     let below = c.live.ensures.sound.below (λ stopped. absurd (cc)) in
     c.stage.ensures.staged.extent ∙ ap₂ extent_after c.put_of.ensures c.in_ok-make_room.ensures.made.extent
     ∙ extent_after-one (record_put c.args.slot c.args.written.now) extent (below c.args.slot one.is)
+
+pub returns-in_err-make_room-clause-within : goal.returns-in_err-make_room-clause-within
+returns-in_err-make_room-clause-within g c =
+    let p = err_from_is_err_and c.from_residual.result c.from_residual.ensures.1 in
+    rw (p.1, p.2)
+    (step-from c.in_err-make_room.ensures.makes_room (λ told made.
+    StaysWithin-failed {used = 0} _ refl (omega arith) (StaysWithin-kept {is = c.make_room.new.self} _ (c.requires.one_disk told) made.keeps_shown)))
+
+pub returns-clause-within : goal.returns-clause-within
+returns-clause-within g c =
+    step-from c.in_ok-make_room.ensures.makes_room (λ told made.
+    StaysWithin-staged c.make_room.new.self _ (c.requires.one_disk told) ((c.stage.ensures.stages _).kept made.kept) (omega (arith, returns-clause-extent g c)) made.keeps_shown)

@@ -4,8 +4,8 @@ use Rattle.ss_store.specs.Indexed.{IndexState}
 use Rattle.ss_store.proofs.Rising.{IsTimed-next, begin-next}
 use Rattle.ss_store.proofs.index.Index.push_window.Goals as goal
 
-pub reserve-requires : goal.reserve-requires
-reserve-requires g c =
+pub push-requires : goal.push-requires
+push-requires g c =
     let same : c.self.inside.times ≡ c.args.self.now.times = ap (λ (i : IndexState). i.times) c.self.view_is in
     rw same
     (begin-next c.args.line.now.entries c.args.at c.get-t.result c.args.self.now.times c.requires.rise.0 c.get-t.ensures.entry c.requires.timed
@@ -14,6 +14,5 @@ reserve-requires g c =
 pub returns-clause-timed : goal.returns-clause-timed
 returns-clause-timed g c =
     let same : c.self.inside.times ≡ c.args.self.now.times = ap (λ (i : IndexState). i.times) c.self.view_is in
-    let placed = c.add_window.ensures.placed c.self.inside.times (record { 0 = 0 }) c.in_ok-reserve.ensures.ok in
-    IsTimed-next c.args.line.now.entries c.args.at c.get-t.result c.args.self.now.times c.add_window.new.self.times c.get-t.ensures.entry c.requires.timed
-    (placed ∙ ap (λ (ts : List (ℕ × At)). ts ++ (c.get-t.result.t_first, c.args.at) ∷ []) same)
+    IsTimed-next c.args.line.now.entries c.args.at c.get-t.result c.args.self.now.times c.push.new.self c.get-t.ensures.entry c.requires.timed
+    (c.in_ok-push.ensures.ok ∙ ap (λ (ts : List (ℕ × At)). ts ++ (c.get-t.result.t_first, c.args.at) ∷ []) same)

@@ -1,10 +1,12 @@
-use Rattle.std.proofs.Common.{◌∙◌, ◌++◌, ◌∷◌, [], Err, Ok, refl, sym}
+use Rattle.std.proofs.Common.{◌∙◌, ◌+◌, ◌++◌, ◌∷◌, [], Err, Ok, arith, refl, sym}
 use Rattle.std.proofs.lemmas.Result.{err_from_is_err_and}
 use Rattle.ss_model.specs.History.{added}
 use Rattle.ss_store.specs.Calls.{StandsForEither}
 use Rattle.ss_store.specs.Recover.{Stands}
 use Rattle.ss_store.proofs.Calls.{Turns-answers, Turns-failed}
 use Rattle.ss_store.proofs.Sealed.{AddsEvent-sealed, AddsEvent-unsealed, Applies-sealed, Applies-unsealed}
+use Rattle.ss_store.specs.Extents.{records_in}
+use Rattle.ss_store.proofs.Within.{KeepsWithin-not_sealed, KeepsWithin-rest, StaysWithin-answers, StaysWithin-failed, StaysWithin-then}
 use Rattle.ss_store.proofs.store.Store.apply.Goals as goal
 
 pub returns-in_err-ack-clause-history : goal.returns-in_err-ack-clause-history
@@ -44,3 +46,24 @@ returns-in-Err-clause-history g c runs told history =
     (AddsEvent-sealed event c.args.self.now.records c.stage.new.self.records _ _ (c.requires.sealed runs) c.seal.new.self.records _ c.in_ok-ack.ack
     (Err c.in-Err.field-0) (g.met.D.Disk.knows_now c.stage.new.disk then) tt (c.in_ok-ack.ensures.history runs told)
     (c.in-Err.ensures.seals.told then).history history)
+
+pub returns-in_err-ack-clause-within : goal.returns-in_err-ack-clause-within
+returns-in_err-ack-clause-within g c runs told =
+    let p = err_from_is_err_and c.from_residual.result c.from_residual.ensures.1 in
+    rw (p.1, p.2) (KeepsWithin-not_sealed (c.requires.sealed runs) _ refl (c.in_err-ack.ensures.within runs told))
+
+pub returns-in-Ok-clause-within : goal.returns-in-Ok-clause-within
+returns-in-Ok-clause-within g c runs told =
+    let then = (c.in_ok-ack.ensures.applies runs).step.tells ∙ told in
+    KeepsWithin-rest (Ok c.in_ok-ack.ack) (c.requires.sealed runs) c.in-Ok.ensures.sealed.sealed
+    (StaysWithin-then {first = records_in c.args.self.now + 1} {second = 0} (Ok c.in_ok-ack.ack) (g.met.D.Disk.knows_now c.stage.new.disk then)
+    (omega arith) (omega arith) (c.in_ok-ack.ensures.within runs told)
+    (StaysWithin-answers (Ok c.in_ok-ack.ack) (omega arith) (c.in-Ok.ensures.seals.told then).within))
+
+pub returns-in-Err-clause-within : goal.returns-in-Err-clause-within
+returns-in-Err-clause-within g c runs told =
+    let then = (c.in_ok-ack.ensures.applies runs).step.tells ∙ told in
+    KeepsWithin-rest {is = c.seal.new.self.records} _ (c.requires.sealed runs) tt
+    (StaysWithin-then {first = records_in c.args.self.now + 1} {second = 0} _ (g.met.D.Disk.knows_now c.stage.new.disk then)
+    (omega arith) (omega arith) (c.in_ok-ack.ensures.within runs told)
+    (StaysWithin-failed _ refl (omega arith) (c.in-Err.ensures.seals.told then).within))

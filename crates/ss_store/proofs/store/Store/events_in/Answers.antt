@@ -16,7 +16,7 @@ returns-clause-held g c runs =
     let whole = c.self.invariant.0.whole (ap (λ (s : StoreState). s.stopped) c.self.view_is ∙ runs) in
     let few = few-held parts number part c.self.inside.records.live whole found in
     subst (λ o. IfSome o (λ (p : StreamParts). c.saturating_add.result ≡ events_held p)) (sym c.part-part.ensures)
-    (sum-held part c.values_held-values.result c.mark_events-marks.result c.saturating_add.result c.values_held-values.ensures
+    (sum-held part c.values_held-values.result c.mark_events-marks.result c.saturating_add.result c.values_held-values.ensures.value
     c.mark_events-marks.ensures.value c.mark_events-marks.ensures.few few c.saturating_add.ensures)
 
 pub returns-clause-history : goal.returns-clause-history
@@ -24,5 +24,5 @@ returns-clause-history g c history whole agree =
     let part = c.part-part.result.now in
     let counted = counted-held c.args.self.now.streams c.args.id.0 part history whole agree c.part-part.ensures in
     subst (λ o. IfSome o (λ (p : StreamParts). c.saturating_add.result ≡ 1 + length (events_of history p.name))) (sym c.part-part.ensures)
-    (sum-held part c.values_held-values.result c.mark_events-marks.result c.saturating_add.result c.values_held-values.ensures
+    (sum-held part c.values_held-values.result c.mark_events-marks.result c.saturating_add.result c.values_held-values.ensures.value
     c.mark_events-marks.ensures.value c.mark_events-marks.ensures.few counted.few c.saturating_add.ensures ∙ counted.events)

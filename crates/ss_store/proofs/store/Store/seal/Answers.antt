@@ -1,4 +1,4 @@
-use Rattle.std.proofs.Common.{Err, Ok, false, true}
+use Rattle.std.proofs.Common.{true}
 use Rattle.ss_journal.proofs.StepLemmas.{step-from}
 use Rattle.ss_store.proofs.Sealed.{SealsStore-records}
 use Rattle.ss_store.proofs.store.Store.seal.Goals as goal

@@ -28,7 +28,7 @@ returns-in-Create-clause-history g c runs told =
     StagesEvent-applied c.args.event.now c.args.self.now c.stage_create.new.self (λ d. g.D.Disk.seen d) c.args.disk.now c.stage_create.new.disk
     c.stage_create.result applied
     (subst (λ e. CanBeSaid e) (sym is) tt)
-    c.stage_create.ensures.uncalled told (g.met.D.Disk.knows_now c.args.disk.now told)
+    (c.stage_create.ensures.within told) c.stage_create.ensures.uncalled told (g.met.D.Disk.knows_now c.args.disk.now told)
     (c.requires.one_disk runs told)
 
 pub returns-then-has_open-clause-applies : goal.returns-then-has_open-clause-applies
@@ -50,7 +50,7 @@ returns-then-has_open-clause-history g c runs told =
     StagesEvent-applied c.args.event.now c.args.self.now c.stage_mark.new.self (λ d. g.D.Disk.seen d) c.args.disk.now c.stage_mark.new.disk
     c.stage_mark.result applied
     (subst (λ e. CanBeSaid e) (sym c.in-Value.is) (subst (λ e. IsInTime e) c.in-Value.is c.requires.in_time, fits))
-    c.stage_mark.ensures.uncalled told (g.met.D.Disk.knows_now c.args.disk.now told)
+    (c.stage_mark.ensures.within told) c.stage_mark.ensures.uncalled told (g.met.D.Disk.knows_now c.args.disk.now told)
     (c.requires.one_disk runs told)
 
 pub returns-else-has_open-clause-applies : goal.returns-else-has_open-clause-applies
@@ -72,7 +72,7 @@ returns-else-has_open-clause-history g c runs told =
     StagesEvent-applied c.args.event.now c.args.self.now c.stage_value.new.self (λ d. g.D.Disk.seen d) c.args.disk.now c.stage_value.new.disk
     c.stage_value.result applied
     (subst (λ e. CanBeSaid e) (sym c.in-Value.is) (subst (λ e. IsInTime e) c.in-Value.is c.requires.in_time, fits))
-    c.stage_value.ensures.uncalled told (g.met.D.Disk.knows_now c.args.disk.now told)
+    (c.stage_value.ensures.within told) c.stage_value.ensures.uncalled told (g.met.D.Disk.knows_now c.args.disk.now told)
     (c.requires.one_disk runs told)
 
 pub returns-in-Open-clause-applies : goal.returns-in-Open-clause-applies
@@ -92,7 +92,7 @@ returns-in-Open-clause-history g c runs told =
     StagesEvent-applied c.args.event.now c.args.self.now c.stage_mark-in-Open.new.self (λ d. g.D.Disk.seen d) c.args.disk.now
     c.stage_mark-in-Open.new.disk c.stage_mark-in-Open.result applied
     (subst (λ e. CanBeSaid e) (sym is) (subst (λ e. IsInTime e) is c.requires.in_time))
-    c.stage_mark-in-Open.ensures.uncalled told (g.met.D.Disk.knows_now c.args.disk.now told)
+    (c.stage_mark-in-Open.ensures.within told) c.stage_mark-in-Open.ensures.uncalled told (g.met.D.Disk.knows_now c.args.disk.now told)
     (c.requires.one_disk runs told)
 
 pub returns-in-Close-clause-applies : goal.returns-in-Close-clause-applies
@@ -112,7 +112,7 @@ returns-in-Close-clause-history g c runs told =
     StagesEvent-applied c.args.event.now c.args.self.now c.stage_mark-in-Close.new.self (λ d. g.D.Disk.seen d) c.args.disk.now
     c.stage_mark-in-Close.new.disk c.stage_mark-in-Close.result applied
     (subst (λ e. CanBeSaid e) (sym is) (subst (λ e. IsInTime e) is c.requires.in_time))
-    c.stage_mark-in-Close.ensures.uncalled told (g.met.D.Disk.knows_now c.args.disk.now told)
+    (c.stage_mark-in-Close.ensures.within told) c.stage_mark-in-Close.ensures.uncalled told (g.met.D.Disk.knows_now c.args.disk.now told)
     (c.requires.one_disk runs told)
 
 pub returns-in-Create-clause-failed : goal.returns-in-Create-clause-failed
@@ -144,7 +144,7 @@ returns-in-Drop-clause-history g c runs told =
     StagesEvent-applied c.args.event.now c.args.self.now c.stage_drop.new.self (λ d. g.D.Disk.seen d) c.args.disk.now c.stage_drop.new.disk
     c.stage_drop.result applied
     (subst (λ e. CanBeSaid e) (sym is) tt)
-    c.stage_drop.ensures.uncalled told (g.met.D.Disk.knows_now c.args.disk.now told)
+    (c.stage_drop.ensures.within told) c.stage_drop.ensures.uncalled told (g.met.D.Disk.knows_now c.args.disk.now told)
     (c.requires.one_disk runs told)
 
 pub returns-in-Drop-clause-failed : goal.returns-in-Drop-clause-failed

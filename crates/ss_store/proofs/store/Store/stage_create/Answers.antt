@@ -1,4 +1,4 @@
-use Rattle.std.proofs.Common.{◌≡◌, None, ap, arith, false, refl, true}
+use Rattle.std.proofs.Common.{◌≡◌, ◌+◌, ◌≤◌, None, ap, arith, false, refl, true}
 use Rattle.ss_catalog.specs.declared.event.Event.TheVariants.{Create}
 use Rattle.ss_line.specs.Line.{LineState}
 use Rattle.ss_recover.specs.declared.parts.StreamParts.{StreamParts}
@@ -9,6 +9,8 @@ use Rattle.ss_store.proofs.IndexedStreams.{AllZip-more}
 use Rattle.ss_store.proofs.Applying.{Applies-refused, Applies-starved}
 use Rattle.ss_store.proofs.Created.{IsFreshPart-made}
 use Rattle.ss_store.proofs.Creating.{applies-created, applies-unwritten, creating, sound-created, sound-unwritten}
+use Rattle.ss_store.proofs.Within.{StaysWithin-answers, StaysWithin-failed, StaysWithin-none}
+use Rattle.ss_store.specs.Extents.{records_in}
 use Rattle.ss_store.proofs.store.Store.stage_create.Goals as goal
 
 pub returns-in-Err-clause-applies : goal.returns-in-Err-clause-applies
@@ -96,3 +98,19 @@ returns-in-Err-stage_record-clause-applies g c =
     (IsFreshPart-made part c.args.params c.in-Ok.ensures.target refl (ap (λ (l : LineState). l.entries) c.new.ensures) c.new-2.ensures) c.in-Ok.ensures.new in
     rw (← c.self.view_is, c.in-Ok-grow.ensures.streams)
     (applies-unwritten is c.stage_record.new.records _ _ (rw c.record_of.ensures.value at c.in-Err-stage_record.ensures.stages))
+
+pub returns-in-Err-clause-within : goal.returns-in-Err-clause-within
+returns-in-Err-clause-within g c told = StaysWithin-none _ (g.met.D.Disk.knows_now c.args.disk.now told) tt
+
+pub returns-in-Err-grow-clause-within : goal.returns-in-Err-grow-clause-within
+returns-in-Err-grow-clause-within g c told = StaysWithin-none _ (g.met.D.Disk.knows_now c.args.disk.now told) tt
+
+pub returns-in-Ok-stage_record-clause-within : goal.returns-in-Ok-stage_record-clause-within
+returns-in-Ok-stage_record-clause-within g c told =
+    let low : c.in-Ok.new.2 + 1 ≤ records_in c.args.self.now + 1 = omega (arith, c.in-Ok.ensures.new.low) in
+    rw (← c.self.view_is) (StaysWithin-answers _ (rw (← c.self.view_is) at low) (c.in-Ok-stage_record.ensures.within.told told))
+
+pub returns-in-Err-stage_record-clause-within : goal.returns-in-Err-stage_record-clause-within
+returns-in-Err-stage_record-clause-within g c told =
+    let low : c.in-Ok.new.2 + 1 ≤ records_in c.args.self.now + 1 = omega (arith, c.in-Ok.ensures.new.low) in
+    rw (← c.self.view_is) (StaysWithin-failed _ refl (rw (← c.self.view_is) at low) (c.in-Err-stage_record.ensures.within.told told))

@@ -1,4 +1,4 @@
-use Rattle.std.proofs.Common.{◌≡◌, ◌∙◌, ◌<◌, List, ℕ, None, Some, ap, arith, false, length, refl, subst, sym, true}
+use Rattle.std.proofs.Common.{◌≡◌, ◌+◌, ◌≤◌, ◌∙◌, ◌<◌, List, ℕ, None, Some, ap, arith, false, length, refl, subst, sym, true}
 use Rattle.std.specs.Prelude.{is_some, slice_get}
 use Rattle.std.proofs.lemmas.Option.{same_Some}
 use Rattle.std.proofs.lemmas.Slice.Zip.{AllZip-long}
@@ -14,6 +14,8 @@ use Rattle.ss_store.proofs.Dropped.{applies-dropped, applies-undropped, dropping
 use Rattle.ss_store.proofs.Named.{IsAtPlace, IsAtPlace-listed, IsListed-catalog, is_some-listed}
 use Rattle.ss_store.proofs.Refusals.{none_is_some, refuses_held-dropped, refuses_held-undropped}
 use Rattle.ss_store.proofs.Removed.{AllZip-remove}
+use Rattle.ss_store.proofs.Within.{StaysWithin-answers, StaysWithin-failed, StaysWithin-none}
+use Rattle.ss_store.specs.Extents.{records_in}
 use Rattle.ss_store.proofs.store.Store.stage_drop.Goals as goal
 
 pub returns-in_default-clause-applies : goal.returns-in_default-clause-applies
@@ -168,3 +170,19 @@ returns-clause-applies g c =
     (g.D.Disk.seen c.args.disk.now) c.self.view_is c.requires.one_disk c.self.invariant.0 c.requires.runs at in
     rw (← c.self.view_is, c.remove-part.ensures.items)
     (applies-undropped is c.stage_doomed.new.records _ _ c.in-Err-stage_doomed.ensures.drops)
+
+pub returns-in_default-clause-within : goal.returns-in_default-clause-within
+returns-in_default-clause-within g c told = StaysWithin-none _ (g.met.D.Disk.knows_now c.args.disk.now told) tt
+
+pub returns-in-Err-clause-within : goal.returns-in-Err-clause-within
+returns-in-Err-clause-within g c told = StaysWithin-none _ (g.met.D.Disk.knows_now c.args.disk.now told) tt
+
+pub returns-in-Ok-stage_doomed-clause-within : goal.returns-in-Ok-stage_doomed-clause-within
+returns-in-Ok-stage_doomed-clause-within g c told =
+    let low : 0 ≤ records_in c.args.self.now + 1 = omega arith in
+    rw (← c.self.view_is) (StaysWithin-answers _ (rw (← c.self.view_is) at low) (c.in-Ok-stage_doomed.ensures.within.told told))
+
+pub returns-clause-within : goal.returns-clause-within
+returns-clause-within g c told =
+    let low : 0 ≤ records_in c.args.self.now + 1 = omega arith in
+    rw (← c.self.view_is) (StaysWithin-failed _ refl (rw (← c.self.view_is) at low) (c.in-Err-stage_doomed.ensures.within.told told))

@@ -1,11 +1,13 @@
-use Rattle.std.proofs.Common.{◌≡◌, ap, false, refl, true}
+use Rattle.std.proofs.Common.{◌≡◌, ◌+◌, ◌≤◌, ap, arith, false, refl, true}
 use Rattle.ss_line.specs.Line.{LineState}
 use Rattle.ss_store.proofs.IndexedStreams.{AreScheduled-other}
-use Rattle.ss_store.specs.Marking.{event_of}
+use Rattle.ss_store.specs.Marking.{event_of, slots_used}
 use Rattle.ss_store.proofs.Applying.{Applies-refused, Applies-starved}
 use Rattle.ss_store.proofs.MarkTaking.{applies-taken, applies-untaken, can-mark, live-spared, same-spared, same-untaken, sound-spared, sound-stopped}
 use Rattle.ss_store.proofs.MarkTaking.{sound-taken}
 use Rattle.ss_store.proofs.MarkTaking.{stands-spared, taking-mark}
+use Rattle.ss_store.proofs.Within.{StaysWithin-answers, StaysWithin-failed, StaysWithin-none}
+use Rattle.ss_store.specs.Extents.{records_in}
 use Rattle.ss_store.proofs.store.Store.stage_mark.Goals as goal
 
 pub returns-in-Err-clause-applies : goal.returns-in-Err-clause-applies
@@ -82,7 +84,7 @@ returns-in-Ok-put_mark-clause-applies g c =
     let done = c.in-Ok-put_mark.ensures in
     rw (← c.self.view_is)
     (applies-taken is c.put_mark.new.part c.put_mark.new.records c.put_mark.ensures.same c.put_mark.ensures.fits done.whole done.taken _ _ _ _
-    done.takes c.values_held.ensures c.len.ensures.value)
+    done.takes c.values_held.ensures.value c.len.ensures.value)
 
 pub returns-in-Err-put_mark-clause-applies : goal.returns-in-Err-put_mark-clause-applies
 returns-in-Err-put_mark-clause-applies g c =
@@ -101,3 +103,19 @@ returns-in-Err-put_mark-clause-failed g c =
     c.requires.marked c.index_mut-stream.ensures.value c.reserve.ensures.grown in
     rw (← c.self.view_is)
     (same-untaken is c.put_mark.new.part c.put_mark.new.records c.put_mark.ensures.same c.put_mark.ensures.fits c.in-Err-put_mark.ensures.err)
+
+pub returns-in-Err-clause-within : goal.returns-in-Err-clause-within
+returns-in-Err-clause-within g c told = StaysWithin-none _ (g.met.D.Disk.knows_now c.args.disk.now told) tt
+
+pub returns-in-Err-reserve-clause-within : goal.returns-in-Err-reserve-clause-within
+returns-in-Err-reserve-clause-within g c told = StaysWithin-none _ (g.met.D.Disk.knows_now c.args.disk.now told) tt
+
+pub returns-in-Ok-put_mark-clause-within : goal.returns-in-Ok-put_mark-clause-within
+returns-in-Ok-put_mark-clause-within g c told =
+    let low : slots_used c.args.what c.in-Ok.marker.1 ≤ records_in c.args.self.now + 1 = c.in-Ok.ensures.marker.low in
+    rw (← c.self.view_is) (StaysWithin-answers _ (rw (← c.self.view_is) at low) (c.in-Ok-put_mark.ensures.within.told told))
+
+pub returns-in-Err-put_mark-clause-within : goal.returns-in-Err-put_mark-clause-within
+returns-in-Err-put_mark-clause-within g c told =
+    let low : slots_used c.args.what c.in-Ok.marker.1 ≤ records_in c.args.self.now + 1 = c.in-Ok.ensures.marker.low in
+    rw (← c.self.view_is) (StaysWithin-failed _ refl (rw (← c.self.view_is) at low) (c.in-Err-put_mark.ensures.within.told told))

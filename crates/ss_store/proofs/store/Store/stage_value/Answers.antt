@@ -1,4 +1,4 @@
-use Rattle.std.proofs.Common.{◌≡◌, ◌<◌, ℕ, List, All, arith, refl, subst, sym, true, false, w64}
+use Rattle.std.proofs.Common.{◌≡◌, ◌+◌, ◌≤◌, ◌<◌, ℕ, List, All, arith, refl, subst, sym, true, false, w64}
 use Rattle.ss_line.specs.declared.entry.At.{At}
 use Rattle.std.proofs.lemmas.Int.{to_z-of_z}
 use Rattle.ss_catalog.specs.declared.event.Event.TheVariants.{Value}
@@ -10,6 +10,8 @@ use Rattle.ss_store.proofs.IndexedStreams.{AllZip-set, IsScheduled-at}
 use Rattle.ss_store.proofs.Applying.{Applies-refused, Applies-starved}
 use Rattle.ss_store.proofs.Taking.{applies-taken, applies-untaken, can-append, live-spared, same-spared, sound-spared, sound-stopped, sound-taken}
 use Rattle.ss_store.proofs.Taking.{few-taker, inside-taker, later-taker, ordered-spared, runs-taker, stands-spared, taking}
+use Rattle.ss_store.proofs.Within.{StaysWithin-answers, StaysWithin-failed, StaysWithin-none}
+use Rattle.ss_store.specs.Extents.{records_in}
 use Rattle.ss_store.proofs.store.Store.stage_value.Goals as goal
 
 pub returns-in-Err-clause-applies : goal.returns-in-Err-clause-applies
@@ -95,7 +97,7 @@ returns-in-Ok-append_value-clause-applies g c =
     let done = c.in-Ok-append_value.ensures in
     rw (← c.self.view_is)
     (applies-taken is c.append_value.new.part c.append_value.new.records c.append_value.ensures.same done.whole done.holds _ _ _ _
-    (rw (to_z-of_z w64 c.args.v c.ranges.v) at done.takes) done.scheduled.1 c.values_held.ensures c.len.ensures.value)
+    (rw (to_z-of_z w64 c.args.v c.ranges.v) at done.takes) done.scheduled.1 c.values_held.ensures.value c.len.ensures.value)
 
 pub returns-clause-applies : goal.returns-clause-applies
 returns-clause-applies g c =
@@ -129,3 +131,19 @@ reserve_window-requires g c =
           (begin-by_last c.index_mut-stream.result.now.last_time c.args.t c.index_mut-stream.result.now.line.entries (ordered-spared is).times
           (later-taker is));
     }
+
+pub returns-in-Err-clause-within : goal.returns-in-Err-clause-within
+returns-in-Err-clause-within g c told = StaysWithin-none _ (g.met.D.Disk.knows_now c.args.disk.now told) tt
+
+pub returns-in-Err-reserve_window-clause-within : goal.returns-in-Err-reserve_window-clause-within
+returns-in-Err-reserve_window-clause-within g c told = StaysWithin-none _ (g.met.D.Disk.knows_now c.args.disk.now told) tt
+
+pub returns-in-Ok-append_value-clause-within : goal.returns-in-Ok-append_value-clause-within
+returns-in-Ok-append_value-clause-within g c told =
+    let low : c.in-Ok.taker.1 + 1 ≤ records_in c.args.self.now + 1 = omega (arith, c.in-Ok.ensures.taker.low) in
+    rw (← c.self.view_is) (StaysWithin-answers _ (rw (← c.self.view_is) at low) (c.in-Ok-append_value.ensures.within.told told))
+
+pub returns-clause-within : goal.returns-clause-within
+returns-clause-within g c told =
+    let low : c.in-Ok.taker.1 + 1 ≤ records_in c.args.self.now + 1 = omega (arith, c.in-Ok.ensures.taker.low) in
+    rw (← c.self.view_is) (StaysWithin-failed _ refl (rw (← c.self.view_is) at low) (c.in-Err-append_value.ensures.within.told told))

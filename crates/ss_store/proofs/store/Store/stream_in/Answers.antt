@@ -15,7 +15,13 @@ returns-clause-held g c =
     slice_get_read parts (length parts) c.args.place part refl
     (subst (λ (s : StoreState). c.args.place < length s.streams) (sym c.self.view_is) c.requires.place) c.index-stream.ensures in
     ap (λ (s : StoreState). option_map row_of_held (slice_get s.streams c.args.place)) (sym c.self.view_is) ∙ ap (option_map row_of_held) at
-    ∙ ap (λ (r : StreamRow). Some r) (rw (c.params.ensures, c.values_held.ensures, c.len.ensures.value, c.count.ensures.value, c.values.ensures.value) refl)
+    ∙ ap (λ (r : StreamRow). Some r) (rw (
+      c.params.ensures,
+      c.values_held.ensures.value,
+      c.len.ensures.value,
+      c.count.ensures.value,
+      c.values.ensures.value,
+    ) refl)
 
 pub returns-clause-row : goal.returns-clause-row
 returns-clause-row g c streams state each =
@@ -26,4 +32,10 @@ returns-clause-row g c streams state each =
     slice_get_read parts (length parts) c.args.place part refl
     (subst (λ (s : StoreState). c.args.place < length s.streams) (sym c.self.view_is) c.requires.place) c.index-stream.ensures in
     row-at parts streams c.args.place part _ state held at
-    (rw (c.params.ensures, c.values_held.ensures, c.len.ensures.value, c.count.ensures.value, c.values.ensures.value) refl)
+    (rw (
+      c.params.ensures,
+      c.values_held.ensures.value,
+      c.len.ensures.value,
+      c.count.ensures.value,
+      c.values.ensures.value,
+    ) refl)

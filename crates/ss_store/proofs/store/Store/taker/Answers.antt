@@ -59,7 +59,7 @@ returns-then-values_held-ge-MOST_VALUES-clause-refused g c v =
     sym (of_part-named parts c.args.name.now part (λ p. has_open p.landmarks.landmarks) at.named)
     ∙ ap (λ (s : StoreState). of_part c.args.name.now s.streams (λ p. has_open p.landmarks.landmarks)) c.self.view_is ∙ c.requires.plain in
     let later : is_past part.last_time c.args.t ≡ false = cc in
-    let full : nat_le MOST_VALUES (values_held (entries_of part)) ≡ true = rw (← c.values_held.ensures) (grind (arith, nat_tests)) in
+    let full : nat_le MOST_VALUES (values_held (entries_of part)) ≡ true = rw (← c.values_held.ensures.value) (grind (arith, nat_tests)) in
     subst (λ (s : StoreState). refuses_held s.streams (Value c.args.name.now c.args.t v) ≡ Some StreamFull) c.self.view_is
     (refuses_held-value parts c.args.name.now c.args.t v part false true _ at.named plain later full refl)
 
@@ -75,7 +75,7 @@ returns-in-Some-free_slot-clause-accepted g c v =
     sym (of_part-named parts c.args.name.now part (λ p. has_open p.landmarks.landmarks) at.named)
     ∙ ap (λ (s : StoreState). of_part c.args.name.now s.streams (λ p. has_open p.landmarks.landmarks)) c.self.view_is ∙ c.requires.plain in
     let later : is_past part.last_time c.args.t ≡ false = cc in
-    let few : nat_le MOST_VALUES (values_held (entries_of part)) ≡ false = rw (← c.values_held.ensures) (grind (arith, nat_tests)) in
+    let few : nat_le MOST_VALUES (values_held (entries_of part)) ≡ false = rw (← c.values_held.ensures.value) (grind (arith, nat_tests)) in
     let stored : nat_le MOST_RECORDS (length (flat_map slots_held parts)) ≡ false =
     ap (λ (s : StoreState). nat_le MOST_RECORDS (length (flat_map slots_held s.streams))) c.self.view_is
     ∙ not-true _ (λ full. let wrong : true ≡ false = c.in-Some-free_slot.ensures.full.1 full in cc) in
@@ -94,7 +94,7 @@ returns-in-None-clause-refused g c v =
     sym (of_part-named parts c.args.name.now part (λ p. has_open p.landmarks.landmarks) at.named)
     ∙ ap (λ (s : StoreState). of_part c.args.name.now s.streams (λ p. has_open p.landmarks.landmarks)) c.self.view_is ∙ c.requires.plain in
     let later : is_past part.last_time c.args.t ≡ false = cc in
-    let few : nat_le MOST_VALUES (values_held (entries_of part)) ≡ false = rw (← c.values_held.ensures) (grind (arith, nat_tests)) in
+    let few : nat_le MOST_VALUES (values_held (entries_of part)) ≡ false = rw (← c.values_held.ensures.value) (grind (arith, nat_tests)) in
     let stored : nat_le MOST_RECORDS (length (flat_map slots_held parts)) ≡ true =
     ap (λ (s : StoreState). nat_le MOST_RECORDS (length (flat_map slots_held s.streams))) c.self.view_is ∙ c.in-None.ensures.full.0 refl in
     subst (λ (s : StoreState). refuses_held s.streams (Value c.args.name.now c.args.t v) ≡ Some StoreFull) c.self.view_is
@@ -121,7 +121,7 @@ returns-in-Some-free_slot-clause-taker g c =
       at = ap (λ (s : StoreState). slice_get s.streams c.place_of-place.result) (sym c.self.view_is) ∙ at.at;
       plain = plain;
       later = later;
-      room = omega (arith, c.values_held.ensures);
+      room = omega (arith, c.values_held.ensures.value);
       free = sym c.in-Some-free_slot.ensures.least;
       low = c.in-Some-free_slot.ensures.low;
       few = few-entries parts c.place_of-place.result part at.at stored;

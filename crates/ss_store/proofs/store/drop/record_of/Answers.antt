@@ -1,6 +1,6 @@
 use Rattle.std.proofs.Common.{◌≡◌, ◌∙◌, ℕ, zero, suc, ap, arith, refl, true}
 use Rattle.std.proofs.lemmas.Bool.Decides.{nat_tests}
-use Rattle.ss_catalog.specs.Params.{in_range, is_family, is_step, step_for, step_number}
+use Rattle.ss_catalog.specs.Params.{in_range, is_family, is_step, step_for}
 use Rattle.ss_catalog.specs.declared.params.Family.TheVariants as families
 use Rattle.ss_codec.proofs.RecordLemmas.{is_valid-IsStream}
 use Rattle.ss_power.specs.Power.{IsPower}

@@ -1,9 +1,10 @@
-use Rattle.std.proofs.Common.{◌≡◌, ◌∙◌, List, ℕ, refl, subst, sym, true}
+use Rattle.std.proofs.Common.{◌≡◌, ◌∙◌, List, ℕ, arith, refl, subst, sym, true}
 use Rattle.std.proofs.lemmas.Result.{err_from_is_err_and}
 use Rattle.ss_codec.specs.Record.{is_valid}
 use Rattle.ss_journal.proofs.StepLemmas.{after-step, step-from, step-next}
 use Rattle.ss_store.specs.Slots.{AreSomeLive}
 use Rattle.ss_store.proofs.Dropping.{TurnsShown-dropped, TurnsShown-undropped, own-live}
+use Rattle.ss_store.proofs.Within.{StaysWithin-failed, StaysWithin-then}
 use Rattle.ss_store.proofs.store.drop.stage_doomed.Goals as goal
 
 pub stage_replaced-requires-clause-some : goal.stage_replaced-requires-clause-some
@@ -46,3 +47,13 @@ returns-clause-drops g c =
 
 pub returns-clause-live : goal.returns-clause-live
 returns-clause-live g c = rw (← c.stage_replaced.ensures.live) c.stage_clearing.ensures.live
+
+pub returns-in_err-stage_replaced-clause-within : goal.returns-in_err-stage_replaced-clause-within
+returns-in_err-stage_replaced-clause-within g c =
+    let p = err_from_is_err_and c.from_residual.result c.from_residual.ensures.1 in
+    rw (p.1, p.2) (step-from c.in_err-stage_replaced.ensures.within (λ told made. StaysWithin-failed _ refl (omega arith) made))
+
+pub returns-clause-within : goal.returns-clause-within
+returns-clause-within g c =
+    step-next c.in_ok-stage_replaced.ensures.within c.stage_clearing.ensures.within (λ told then first second.
+    StaysWithin-then {first = 0} {second = 0} _ (g.met.D.Disk.knows_now c.stage_replaced.new.disk then) (omega arith) (omega arith) first second)

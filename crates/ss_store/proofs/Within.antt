@@ -1,0 +1,166 @@
+-- How many slots calls in a row use, also in a crash. In each lemma the disks are plain values: a caller strips the premise that the disk tells.
+use Rattle.std.proofs.Common.{◌≡◌, ◌≤◌, ⊎_elim, ℕ, List, Err, Ok, Result, arith, subst, sym}
+use Rattle.std.specs.Prelude.{IsErr, OnOk, max}
+use Rattle.ss_outside.proofs.CrashLemmas.{reads-none, weaker}
+use Rattle.ss_outside.specs.Crash.{KnowsNow, OnlyReads}
+use Rattle.ss_outside.specs.Disk.{Told}
+use Rattle.ss_journal.specs.Calls.{KeepsMap, KeepsShown}
+use Rattle.ss_journal.specs.Kept.{IsSealed}
+use Rattle.ss_journal.specs.Redo.{SlotMap, StandsFor}
+use Rattle.ss_journal.proofs.MapLemmas.{SameMap-refl}
+use Rattle.ss_journal.proofs.RedoLemmas.{StandsFor-also, StandsFor-from, StandsFor-same}
+use Rattle.ss_journal.proofs.ShownLemmas.{shown-sealed}
+use Rattle.ss_journal.proofs.TearLemmas.{on_ok}
+use Rattle.ss_records.specs.Kept.{AreKept, RecordsState, shown_by}
+use Rattle.ss_store.specs.Calls.{KeepsWithin, StaysWithin, Turns, TurnsShown}
+use Rattle.ss_store.specs.Uses.{UsesAtMost}
+use Rattle.ss_store.proofs.Calls.{Turns-answers, Turns-failed, Turns-joined, Turns-reads}
+use Rattle.ss_store.proofs.Changes.{extent-kept}
+use Rattle.ss_store.proofs.ShownCalls.{IsOfMap, StaysOr, Turns-not_sealed, Turns-sealed, TurnsShown-answers, TurnsShown-failed, TurnsShown-kept}
+use Rattle.ss_store.proofs.ShownCalls.{TurnsShown-reads, TurnsShown-then, of_map-like}
+use Rattle.ss_store.proofs.Slots.{Turns-kept}
+
+pub UsesAtMost-of_map : (n : ℕ) → IsOfMap (UsesAtMost n)
+UsesAtMost-of_map n image uses = (uses.found, uses.map, λ other also. record { found = uses.found; map = also; few = uses.few })
+
+pub UsesAtMost-more : (n m : ℕ) (image : List ℕ) → n ≤ m → UsesAtMost n image → UsesAtMost m image
+UsesAtMost-more n m image less uses = record { found = uses.found; map = uses.map; few = omega (arith, less, uses.few) }
+
+-- an image that stands for the same map uses no more
+pub UsesAtMost-also : (n : ℕ) (content image : List ℕ) (its : SlotMap) → StandsFor content its → StandsFor image its → UsesAtMost n content → UsesAtMost n image
+UsesAtMost-also n content image its is also uses = record {
+  found = uses.found;
+  map = StandsFor-also image its uses.found also (StandsFor-same content its uses.found is uses.map);
+  few = uses.few;
+}
+
+-- what records show uses as many slots as their journal says
+pub UsesAtMost-kept : (n : ℕ) (records : RecordsState) (content : List ℕ) → AreKept records content → records.journal.extent ≤ n →
+    UsesAtMost n (shown_by records content)
+UsesAtMost-kept n records content kept few =
+    let its = kept.journal.shown in
+    record {
+      found = its.found;
+      map = StandsFor-from (shown_by records content) its.found its.found its.map (SameMap-refl its.found);
+      few = omega (arith, its.extent, few);
+    }
+
+pub extent-uses : (n : ℕ) (records : RecordsState) (content : List ℕ) → AreKept records content → UsesAtMost n (shown_by records content) →
+    records.journal.extent ≤ n
+extent-uses n records content kept uses = omega (arith, extent-kept records content uses.found kept uses.map, uses.few)
+
+-- ---- what is staged
+
+module _ {S F T E : Type 0} {used more : ℕ} {was is : RecordsState} {old new : Told} where
+  -- a step answered Ok, and the call answers whatever it answers
+  pub StaysWithin-answers : {value : S} (result : Result T E) → used ≤ more → StaysWithin {T = S} {E = F} used was is (Ok value) old new →
+      StaysWithin more was is result old new
+  StaysWithin-answers {value} result less stays n few =
+      TurnsShown-answers was is (UsesAtMost n) (UsesAtMost n) (UsesAtMost n) old new value result (stays n (omega (arith, less, few)))
+
+  -- a step failed, and its failure is handed on
+  pub StaysWithin-failed : {between : RecordsState} {step : Result S F} (result : Result T E) → IsErr result → used ≤ more →
+      StaysWithin used was between step old new → StaysWithin more was is result old new
+  StaysWithin-failed {between} {step} result failed less stays n few =
+      TurnsShown-failed was between is (UsesAtMost n) (UsesAtMost n) (UsesAtMost n) (UsesAtMost n) old new step result failed
+      (stays n (omega (arith, less, few)))
+
+-- one call after another
+pub StaysWithin-then : {S F T E : Type 0} {first second used : ℕ} {was between is : RecordsState} {old mid new : Told} {value : S} (result : Result T E) →
+    KnowsNow mid → first ≤ used → second ≤ used → StaysWithin {T = S} {E = F} first was between (Ok value) old mid →
+    StaysWithin second between is result mid new → StaysWithin used was is result old new
+StaysWithin-then {was = was} {between = between} {is = is} {old = old} {mid = mid} {new = new} {value = value} result knows less also one two n few =
+    let uses = UsesAtMost n in
+    TurnsShown-then was between is uses uses uses uses uses uses old mid new value result knows (one n (omega (arith, less, few)))
+    (two n (omega (arith, also, few))) (λ image left. left) (λ image left. left)
+
+-- a call that only reads
+pub StaysWithin-reads : {T E : Type 0} {used : ℕ} {was is : RecordsState} {old new : Told} (result : Result T E) → KnowsNow old → OnlyReads old new →
+    OnOk result (is.journal ≡ was.journal) → StaysWithin used was is result old new
+StaysWithin-reads {was = was} {is = is} {old = old} {new = new} result knows reads same n few =
+    TurnsShown-reads was is (UsesAtMost n) (UsesAtMost n) old new result knows reads same
+
+-- no call
+pub StaysWithin-none : {T E : Type 0} {used : ℕ} {was is : RecordsState} {disk : Told} (result : Result T E) → KnowsNow disk →
+    OnOk result (is.journal ≡ was.journal) → StaysWithin used was is result disk disk
+StaysWithin-none {disk = disk} result knows same = StaysWithin-reads result knows (reads-none disk) same
+
+-- room is made, or what is staged is sealed
+pub StaysWithin-kept : {T E : Type 0} {used : ℕ} {was is : RecordsState} {old new : Told} (result : Result T E) → AreKept was old.content →
+    KeepsShown was.journal is.journal old new result → StaysWithin used was is result old new
+StaysWithin-kept {was = was} {is = is} {old = old} {new = new} result kept keeps n few =
+    TurnsShown-kept was is (UsesAtMost n) old new result (UsesAtMost-of_map n) kept keeps
+
+-- room is made, and then puts are staged
+pub StaysWithin-staged : {S F T E : Type 0} {used : ℕ} {was is : RecordsState} {old mid : Told} {value : S} (between : RecordsState) (result : Result T E) →
+    AreKept was old.content → AreKept is mid.content → is.journal.extent ≤ max was.journal.extent used →
+    KeepsShown {T = S} {E = F} was.journal between.journal old mid (Ok value) → StaysWithin used was is result old mid
+StaysWithin-staged {F = F} {used = used} {was = was} {is = is} {old = old} {mid = mid} {value = value} between result kept then extent keeps n few =
+    let room = StaysWithin-kept {E = F} {used = used} {was = was} {is = between} {old = old} {new = mid} (Ok value) kept keeps n few in
+    record {
+      content = λ uses. on_ok result (UsesAtMost-kept n is mid.content then (omega (arith, extent, few, extent-uses n was old.content kept uses)));
+      any_moment = room.any_moment;
+      durable = λ none. on_ok result (room.durable none);
+    }
+
+-- ---- and what comes to the disk
+
+module _ {S F T E : Type 0} {used : ℕ} {old new : Told} where
+  pub KeepsWithin-answers : {value : S} (result : Result T E) → KeepsWithin {T = S} {E = F} used (Ok value) old new → KeepsWithin used result old new
+  KeepsWithin-answers {value} result keeps n few = Turns-answers (UsesAtMost n) (UsesAtMost n) (UsesAtMost n) old new value result (keeps n few)
+
+  pub KeepsWithin-failed : {step : Result S F} (result : Result T E) → IsErr result → KeepsWithin used step old new → KeepsWithin used result old new
+  KeepsWithin-failed {step} result failed keeps n few =
+      Turns-failed (UsesAtMost n) (UsesAtMost n) (UsesAtMost n) (UsesAtMost n) old new step result failed (keeps n few)
+
+pub KeepsWithin-then : {S F T E : Type 0} {used : ℕ} {old mid new : Told} {value : S} (result : Result T E) →
+    KeepsWithin {T = S} {E = F} used (Ok value) old mid → KeepsWithin used result mid new → KeepsWithin used result old new
+KeepsWithin-then {old = old} {mid = mid} {new = new} {value = value} result first second n few =
+    Turns-joined (UsesAtMost n) (UsesAtMost n) (UsesAtMost n) (UsesAtMost n) old mid new value result (first n few) (second n few)
+
+pub KeepsWithin-reads : {T E : Type 0} {used : ℕ} {old new : Told} (result : Result T E) → KnowsNow old → OnlyReads old new →
+    KeepsWithin used result old new
+KeepsWithin-reads {old = old} {new = new} result knows reads n few =
+    Turns-reads (UsesAtMost n) (UsesAtMost n) old new result knows reads (λ uses. uses)
+
+pub KeepsWithin-map : {T E : Type 0} {used : ℕ} {old new : Told} (result : Result T E) → KeepsMap old new result → KeepsWithin used result old new
+KeepsWithin-map {old = old} {new = new} result keeps n few = Turns-kept (UsesAtMost n) old new result (UsesAtMost-of_map n) keeps
+
+-- what was staged since nothing was is sealed, or it failed before
+module _ {S F T E : Type 0} {used : ℕ} {was between : RecordsState} {old mid : Told} (at_rest : IsSealed was.journal) where
+  pub KeepsWithin-not_sealed : {step : Result S F} (result : Result T E) → IsErr result → StaysWithin used was between step old mid →
+      KeepsWithin used result old mid
+  KeepsWithin-not_sealed {step} result failed stays n few =
+      let uses = UsesAtMost n in
+      Turns-not_sealed was uses uses uses old at_rest (λ image has. has) (λ image has. has) (UsesAtMost-of_map n) between between uses mid mid step result
+      uses failed (stays n few)
+
+  pub KeepsWithin-sealed : {new : Told} {value : S} (is : RecordsState) (result : Result T E) → KnowsNow mid → OnOk result (IsSealed is.journal) →
+      StaysWithin {T = S} {E = F} used was between (Ok value) old mid → KeepsShown between.journal is.journal mid new result →
+      KeepsWithin used result old new
+  KeepsWithin-sealed {new} {value} is result knows sealed stays keeps n few =
+      let uses = UsesAtMost n in
+      Turns-sealed was uses uses uses old at_rest (λ image has. has) (λ image has. has) (UsesAtMost-of_map n) between is uses mid new value result
+      (UsesAtMost-of_map n) (λ image has. has) knows sealed (stays n few) keeps
+
+-- what is shown where all is sealed is the content
+sealed-uses : {T E : Type 0} (n : ℕ) (is : RecordsState) (content : List ℕ) (result : Result T E) → OnOk result (IsSealed is.journal) →
+    OnOk result (UsesAtMost n (shown_by is content)) → OnOk result (UsesAtMost n content)
+sealed-uses n is content (Ok value) sealed uses = subst (UsesAtMost n) (shown-sealed is.journal content sealed) uses
+sealed-uses n is content (Err e) sealed uses = tt
+
+-- calls in a row that begin and end with nothing staged
+pub KeepsWithin-rest : {T E : Type 0} {used : ℕ} {was is : RecordsState} {old new : Told} (result : Result T E) → IsSealed was.journal →
+    OnOk result (IsSealed is.journal) → StaysWithin used was is result old new → KeepsWithin used result old new
+KeepsWithin-rest {was = was} {is = is} {old = old} {new = new} result at_rest sealed stays n few =
+    let turns = stays n few in
+    let uses = UsesAtMost n in
+    let shown : uses old.content → uses (shown_by was old.content) = λ has. subst uses (sym (shown-sealed was.journal old.content at_rest)) has in
+    record {
+      content = λ has. sealed-uses n is new.content result sealed (turns.content (shown has));
+      any_moment = λ none has.
+          weaker old new (StaysOr old uses) uses
+          (λ image left. of_map-like uses (UsesAtMost-of_map n) image
+          (left.0, ⊎_elim (λ same. subst uses (sym same) has) (λ some. some) left.1, left.2)) (turns.any_moment none (shown has));
+      durable = turns.durable;
+    }
