@@ -105,15 +105,29 @@ fn fatal_call(alloc: Global, disk: &MemDisk) -> Result<u64, AllocError> {
     Ok(200)
 }
 
-// Where the gate of the seventh append's first merge lies: the worked row's 8 events and 4 merges have an entry each.
-const MERGE_GATE: usize = 512 + 544 * 10;
+// Where the two entries of the seventh append lie. The first has what its merges put into the slots 1 to 4, and the second its
+// value, in slot 5: each event before it has one entry.
+const MERGES: usize = 512 + 544 * 7;
+
+const VALUE: usize = MERGES + 544;
+
+// Copies the second over the first, and closes the gate of the second.
+fn leave_value(bytes: &mut [u8]) {
+    for k in 0..544usize {
+        let byte = bytes.get(VALUE + k).copied().unwrap_or(0);
+        if let Some(held) = bytes.get_mut(MERGES + k) {
+            *held = byte;
+        }
+    }
+    if let Some(gate) = bytes.get_mut(VALUE) {
+        *gate = 0;
+    }
+}
 
 // The disk after the worked row, where the merges of the seventh append aren't in use: they are due when it is opened.
 fn waiting(alloc: Global) -> Result<MemDisk, AllocError> {
     let mut bytes = disk_at(alloc, 300)?.content().to_vec(alloc)?;
-    if let Some(gate) = bytes.get_mut(MERGE_GATE) {
-        *gate = 0;
-    }
+    leave_value(bytes.as_mut_slice());
     disk_of(alloc, bytes.as_slice())
 }
 
@@ -161,10 +175,10 @@ fn the_gate_of_an_append_decides(rt: HostRuntime) -> Result<(), Fail> {
 }
 
 // The worked row after so many streams that its seventh append has the last entry of the file for its value, and none for its
-// merges: 9 entries are taken by the row before it, and 54 by the streams.
+// merges: 7 entries are taken by the row before it, and 56 by the streams.
 fn crowded(alloc: Global) -> Result<String, AllocError> {
     let mut lines = String::new(alloc);
-    for stream in 0..54 {
+    for stream in 0..56 {
         write!(lines, "create s{stream} exp 2 1 1\n")?;
     }
     lines.push_str(READINGS)?;
@@ -188,8 +202,8 @@ fn shows_windows(alloc: Global, disk: &MemDisk) -> Result<bool, AllocError> {
     )
 }
 
-// Birth, 54 streams and the seven events before it: so many syncs come before the seventh append.
-const BEFORE: u64 = 3 + 2 * (54 + 7);
+// Birth, 56 streams and the seven events before it: so many syncs come before the seventh append.
+const BEFORE: u64 = 3 + 2 * (56 + 7);
 
 // How many of its calls are stopped safely, and how many syncs it takes with room made in its middle: two for the value, two to
 // settle and two for the merges.

@@ -90,8 +90,8 @@ pub fn dropped(alloc: Global) -> Result<Script, AllocError> {
 }
 
 // How many streams come and go so that the drop of another has the last entry of the file for its first transaction, and none for
-// those after it: 12 entries are taken by the worked row, and 3 by each of these streams.
-pub const PASSING: u64 = 17;
+// those after it: 9 entries are taken by the worked row, and 2 by each of these streams.
+pub const PASSING: u64 = 27;
 
 const BESIDE: &str = "windows 3\n1 4 4 11 -3 8 10 40\n5 6 2 11 2 9 50 60\n7 7 1 7 7 7 70 70\n\
     list 2\na exp 2 1 1 7 3 0 0\ns exp 2 1 1 0 0 0 0\n";
@@ -178,7 +178,7 @@ fn counted(alloc: Global, ends: &[u64]) -> Result<String, AllocError> {
 }
 
 // With so many values and their merges the 64 entries of the file are used up twice.
-const VALUES: u64 = 70;
+const VALUES: u64 = 104;
 
 // The values 1, 2, 3 and so on at the times 10, 20, 30.
 pub fn counting(alloc: Global) -> Result<Script, AllocError> {
@@ -194,6 +194,37 @@ pub fn counting(alloc: Global) -> Result<Script, AllocError> {
         write!(script.input, "append a {n}0 {n}\n")?;
         write!(script.report, "ok {n} {}\n", ends.len())?;
         script.shown.push(counted(alloc, &ends)?)?;
+    }
+    Ok(script)
+}
+
+// With so many values of which each is a window of its own, in a slot of its own, the entries are used up in the middle of a batch.
+const WIDE: u64 = 260;
+
+// What is shown of the first of the values 1 at the times 1, 2, 3 and so on, so many, where none are joined.
+fn unjoined(alloc: Global, n: u64) -> Result<String, AllocError> {
+    let mut text = String::new(alloc);
+    write!(text, "windows {n}\n")?;
+    for k in 1..=n {
+        write!(text, "{k} {k} 1 1 1 1 {k} {k}\n")?;
+    }
+    write!(text, "list 1\np power 1 0 1 1 {n} {n} 0 0\n")?;
+    Ok(text)
+}
+
+// These values.
+pub fn wide(alloc: Global) -> Result<Script, AllocError> {
+    let mut script = Script {
+        input: String::from_str(alloc, "create p power 1 0 1 1\n")?,
+        report: String::from_str(alloc, "ok 0 0\n")?,
+        asks: "windows p\nlist\n",
+        shown: words_of(alloc, &[NOTHING])?,
+    };
+    script.shown.push(unjoined(alloc, 0)?)?;
+    for n in 1..=WIDE {
+        write!(script.input, "append p {n} 1\n")?;
+        write!(script.report, "ok {n} {n}\n")?;
+        script.shown.push(unjoined(alloc, n)?)?;
     }
     Ok(script)
 }

@@ -3,7 +3,7 @@ use crate::devices::{
     BATCH, READINGS, RUN, answer_in_pieces, answer_on, disk_of, front, run_on, source_of,
 };
 use crate::images::{CRASHES, is_like_lost, shown_at, shows};
-use crate::scripts::{ASKS, Script, counting, readings, spanned};
+use crate::scripts::{ASKS, Script, counting, readings, spanned, wide};
 use ss_outside::{Choice, MemDisk, MemSink};
 use std::alloc::{AllocError, Global};
 use std::test::Fail;
@@ -143,6 +143,18 @@ fn each_stop_leaves_what_was_acknowledged(rt: HostRuntime) -> Result<(), Fail> {
             None
         );
     }
+    Ok(())
+}
+
+#[test]
+fn each_stop_of_a_batch_that_makes_room_leaves_its_first_events(
+    rt: HostRuntime,
+) -> Result<(), Fail> {
+    let script = wide(rt.alloc())?;
+    assert_eq!(rt;
+        first_lost(rt.alloc(), &script, &at_once(&script), true)?,
+        None
+    );
     Ok(())
 }
 

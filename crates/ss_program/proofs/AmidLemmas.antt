@@ -1,5 +1,5 @@
 -- Between two lines of a session: how it begins, how it goes on, and where a run stops.
-use Rattle.std.proofs.Common.{◌≡◌, ℕ, ◌≤◌, ◌++◌, List, [], ◌∷◌, length, Option, Some, None, Result, Ok, Err, refl, sym, ap, ◌∙◌, subst}
+use Rattle.std.proofs.Common.{◌≡◌, ℕ, ◌≤◌, ◌++◌, List, [], ◌∷◌, length, Option, Some, None, Result, Ok, Err, OnOk, refl, sym, ap, ◌∙◌, subst}
 use Rattle.std.proofs.Common.{append_assoc, arith}
 use Rattle.std.proofs.lemmas.List.{append-nil, length-append}
 use Rattle.ss_outside.proofs.CrashLemmas.{at_start, joined, of_content, weaker}
@@ -9,9 +9,9 @@ use Rattle.ss_records.specs.Kept.{shown_by}
 use Rattle.ss_sessions.specs.Cursors.{Cursors}
 use Rattle.ss_store.specs.Kept.{StoreState}
 use Rattle.ss_store.specs.Recover.{Stands}
-use Rattle.ss_program.specs.Amid.{Amid, AreOwed, GoesAmid, HasRoom, IsAmid, IsReady, Takes, TakesNone, one_more, owed_by}
+use Rattle.ss_program.specs.Amid.{Amid, AreOwed, GoesAmid, HasRoom, IsAmid, IsAtRest, IsReady, Takes, TakesNone, one_more, owed_by}
 use Rattle.ss_program.specs.Answer.{IsOpen}
-use Rattle.ss_program.specs.Progress.{NoneWait, StandsBeyond, StandsWithin, StopsIn, sealing_by}
+use Rattle.ss_program.specs.Progress.{NoneWait, SessionState, StandsBeyond, StandsWithin, StopsIn, sealing_by, HoldsTalk}
 use Rattle.ss_program.specs.Sent.{appended}
 use Rattle.ss_program.specs.Session.{after_lines, text_of}
 use Rattle.ss_program.specs.Talk.{Talk}
@@ -51,6 +51,12 @@ pub IsReady-open : (disk : DiskView) (store : StoreState) (waiting : Option (Lis
 IsReady-open disk store None opens = record { serves = opens.serves; staged = opens.sealed }
 IsReady-open disk store (Some replies) opens = record { serves = opens.serves; staged = tt }
 
+-- a session whose store can be called, with nothing staged, and in which no reply waits is at rest
+pub IsAtRest-ok : (result : Result (Unit {0}) Status) (disk : DiskView) (session : SessionState) → OnOk result (IsOpen disk session.store) →
+    OnOk result (NoneWait session.waiting) → OnOk result (IsAtRest disk session)
+IsAtRest-ok (Ok u) disk session can_be_called none = record { is_open = can_be_called; unsaid = none }
+IsAtRest-ok (Err status) disk session can_be_called none = tt
+
 pub HasRoom-none : (waiting : Option (List ℕ)) → NoneWait waiting → HasRoom waiting
 HasRoom-none None none = tt
 HasRoom-none (Some replies) none = let short = ap (λ (r : List ℕ). length r) none in omega (arith, short)
@@ -62,7 +68,7 @@ StandsWithin-out talk out rest image some = (
   out ++ some.0,
   some.1,
   ap (λ ls. out ++ ls) some.2 ∙ sym (append_assoc out some.0 some.1),
-  subst (λ (t : Talk). Stands t.history image) (sym (after_lines-append talk out some.0)) some.3,
+  subst (λ (t : Talk). HoldsTalk t image) (sym (after_lines-append talk out some.0)) some.3,
 )
 
 -- and nothing need be sent of what is said to them
@@ -71,7 +77,7 @@ StandsBeyond-none talk ls image some = (some.0, some.1, some.2, omega arith, som
 
 -- an image of all lines, to which so many bytes were sent
 pub StandsBeyond-all : (talk : Talk) (ls : List (List ℕ)) (bytes : ℕ) (image : List ℕ) → bytes ≤ length (text_of talk ls) →
-    Stands (after_lines talk ls).history image → StandsBeyond talk ls bytes image
+    HoldsTalk (after_lines talk ls) image → StandsBeyond talk ls bytes image
 StandsBeyond-all talk ls bytes image few stands = (ls, [], sym (append-nil ls), few, stands)
 
 -- the moments of the rest of some lines
@@ -110,7 +116,7 @@ GoesAmid-none sealing talk ls before at disk knows is = record {
 -- where nothing is owed and nothing is staged, the session is between two lines
 pub IsAmid-begin : (sealing : Sealing) (talk : Talk) (ls : List (List ℕ)) (before : Option (List ℕ)) (at : Amid) (disk : Told) →
     at.owed.text ≡ [] → AreOwed sealing at.owed.lines [] → shown_by at.records disk.content ≡ disk.content →
-    Stands (after_lines talk ls).history disk.content → NothingPending disk → at.held ≡ appended before (text_of talk ls) →
+    HoldsTalk (after_lines talk ls) disk.content → NothingPending disk → at.held ≡ appended before (text_of talk ls) →
     at.cursors ≡ (after_lines talk ls).cursors → IsAmid sealing talk ls before at disk
 IsAmid-begin sealing talk ls before at disk none few same stands durable said cursors = record {
   out = ls;
@@ -119,7 +125,7 @@ IsAmid-begin sealing talk ls before at disk none few same stands durable said cu
   said = said;
   owes = none;
   few = few;
-  shown = subst (Stands (after_lines talk ls).history) (sym same) stands;
+  shown = subst (HoldsTalk (after_lines talk ls)) (sym same) stands;
   within = ([], [], refl, stands);
   durable = durable;
   cursors = cursors;

@@ -9,7 +9,7 @@ use Rattle.ss_program.specs.Amid.{AreOwed, IsReady, owed_by, with_text}
 use Rattle.ss_program.specs.Answer.{IsOpen, IsServing}
 use Rattle.ss_program.specs.Held.{HoldsAcked}
 use Rattle.ss_program.specs.Outcome.{HoldsBy, steps_within}
-use Rattle.ss_program.specs.Progress.{BeginsWithWant, HasTaken, NoneWait, SessionState, StandsBeyond, StopsAmong, sealing_by}
+use Rattle.ss_program.specs.Progress.{HoldsTalk, BeginsWithWant, HasTaken, NoneWait, SessionState, StandsBeyond, StopsAmong, sealing_by}
 use Rattle.ss_program.specs.Sent.{appended}
 use Rattle.ss_program.specs.Session.{after_lines, text_of}
 use Rattle.ss_program.specs.Talk.{Talk, turn_of}
@@ -41,7 +41,7 @@ module _ (sealing : Sealing) (talk : Talk) (ls : List (List ℕ)) (before after 
   among-left status at image may = at.left image may
 
   among-starved : (at : StopsAmong sealing talk ls before after disk OutOfMemory) → (at.bytes ≡ 0) × BeginsWithWant (after_lines talk at.out) at.now
-      × ((image : List ℕ) → disk.may_leave image → Stands (after_lines talk at.out).history image)
+      × ((image : List ℕ) → disk.may_leave image → HoldsTalk (after_lines talk at.out) image)
   among-starved at = at.starved refl
 
   -- one byte more than is said is too many
@@ -66,7 +66,7 @@ module _ (talk : Talk) (ls : List (List ℕ)) (before after : Option (List ℕ))
 
 -- to the lines that an image holds as many bytes are said as were sent, and not one less
 module _ (talk : Talk) (done others : List (List ℕ)) (bytes : ℕ) (image : List ℕ) where
-  beyond-holds : bytes ≤ length (text_of talk done) → Stands (after_lines talk done).history image → StandsBeyond talk (done ++ others) bytes image
+  beyond-holds : bytes ≤ length (text_of talk done) → HoldsTalk (after_lines talk done) image → StandsBeyond talk (done ++ others) bytes image
   beyond-holds few stands = (done, others, refl, few, stands)
 
   beyond-one_less : (b : StandsBeyond talk (done ++ others) bytes image) → length (text_of talk b.0) + 1 ≡ bytes → ⊥

@@ -4,7 +4,7 @@ use Rattle.std.proofs.Common.{IfErr, refl, sym, ap, ◌∙◌, subst, arith, inl
 use Rattle.std.proofs.lemmas.Bool.{cases_lt, cond-true, cond-false, le-leb, lt-leb, lt-ltb}
 use Rattle.std.proofs.lemmas.List.{append-nil, length-append}
 use Rattle.std.specs.List.{flat_map}
-use Rattle.std.specs.Prelude.{nat_le, IsTrue}
+use Rattle.std.specs.Prelude.{◌+◌, nat_le, IsErr, IsTrue}
 use Rattle.ss_catalog.specs.declared.event.Event.{Event}
 use Rattle.ss_catalog.specs.declared.query.End.{End}
 use Rattle.ss_catalog.specs.declared.query.Query.{Query}
@@ -24,7 +24,7 @@ use Rattle.ss_model.specs.Newest.{refuses_values}
 use Rattle.ss_model.specs.Steps.{ack_of}
 use Rattle.ss_model.specs.Refusals.{refuses, refuses_reading}
 use Rattle.ss_model.specs.Series.{refuses_series}
-use Rattle.ss_model.specs.State.{Stream, state, stream_named}
+use Rattle.ss_model.specs.State.{Stream, live, state, stream_named}
 use Rattle.ss_model.specs.declared.outcome.Outcome.{Outcome}
 use Rattle.ss_model.specs.declared.types.Ack.{Ack}
 use Rattle.ss_outside.specs.declared.source.Failed.{Failed}
@@ -38,7 +38,7 @@ use Rattle.ss_journal.proofs.ShownLemmas.{shown-sealed}
 use Rattle.ss_journal.specs.Kept.{IsSealed}
 use Rattle.ss_records.specs.Kept.{RecordsState, shown_by}
 use Rattle.ss_store.specs.Asked.{refuses_query_held}
-use Rattle.ss_store.specs.Calls.{StandsForEither, Turns}
+use Rattle.ss_store.specs.Calls.{KeepsWithin, StandsForEither, Turns}
 use Rattle.ss_store.specs.Kept.{StoreIsIn, StoreIsKept, StoreState}
 use Rattle.ss_store.specs.Recover.{Stands}
 use Rattle.ss_store.specs.declared.error.ApplyError.{ApplyError}
@@ -46,7 +46,8 @@ use Rattle.ss_store.specs.declared.error.ApplyError.TheVariants as errors
 use Rattle.ss_store.specs.declared.error.AskError.{AskError}
 use Rattle.ss_store.specs.declared.error.AskError.TheVariants as asking
 use Rattle.ss_store.proofs.AskedStreams.{refuses_query_held-is}
-use Rattle.ss_store.proofs.Calls.{Turns-reads, Turns-weaker}
+use Rattle.ss_store.proofs.Calls.{Turns-answers, Turns-failed, Turns-reads, Turns-weaker}
+use Rattle.ss_store.proofs.Within.{KeepsWithin-answers, KeepsWithin-failed, KeepsWithin-reads}
 use Rattle.ss_store.proofs.KeptStates.{AllAgree-recovered}
 use Rattle.ss_program.specs.Answer.{Adds, IsOpen, Replies, at_sink}
 use Rattle.ss_program.specs.Line.{accepted_in, command_in, framed_replies, answer_replies, brings, brings_in, Brought, command_brings, History, history_after, kept_in, line_text, meaning_in, only_replies, refused, text_said, the_event, unless_refused, window_rows}
@@ -301,14 +302,36 @@ module _ (speaker : Option ℕ) where
 pub text-some : (history : History) (line : List ℕ) → IsSome (brings history line).event → 0 < length (line_text history line)
 text-some history line some = meaning-some None false history (meaning line) some
 
+-- what a call answers
+abbrev answered : {T : Type 0} → T → Result T Status
+answered value = Ok value
+
 -- A call that only reads adds nothing, where the line brings no event.
 pub Adds-reads : {T : Type 0} (history : History) (brought : Brought) (old new : Told) (result : Result T Status) →
     (Stands history old.content → brought.event ≡ None) → KnowsNow old → OnlyReads old new → Adds history brought old new result
-Adds-reads history brought old new result none knows reads =
-    Turns-weaker (Stands history) (Stands history) (Stands history) (StandsAround history brought) (Stands history) (Stands (history_after history brought))
-    old new result
-    (λ has. has) (λ has image is. inl is) (λ has image is. subst (λ h. Stands h image) (sym (history-still history brought (none has))) is)
-    (Turns-reads (Stands history) (Stands history) old new result knows reads (λ has. has))
+Adds-reads history brought old new result none knows reads = record {
+  turns = Turns-weaker (Stands history) (Stands history) (Stands history) (StandsAround history brought) (Stands history)
+      (Stands (history_after history brought)) old new result (λ has. has) (λ has image is. inl is)
+      (λ has image is. subst (λ h. Stands h image) (sym (history-still history brought (none has))) is)
+      (Turns-reads (Stands history) (Stands history) old new result knows reads (λ has. has));
+  within = λ stands. KeepsWithin-reads result knows reads;
+}
+
+-- a step answered Ok, and the call whatever it answers, or the failure of the step is handed on
+pub Adds-answers : {S T : Type 0} (history : History) (brought : Brought) (old new : Told) (value : S) (result : Result T Status) →
+    Adds history brought old new (answered value) → Adds history brought old new result
+Adds-answers history brought old new value result adds = record {
+  turns = Turns-answers (Stands history) (StandsAround history brought) (Stands (history_after history brought)) old new value result adds.turns;
+  within = λ stands. KeepsWithin-answers result (adds.within stands);
+}
+
+pub Adds-failed : {S T : Type 0} (history : History) (brought : Brought) (old new : Told) (step : Result S Status) (result : Result T Status) →
+    IsErr result → Adds history brought old new step → Adds history brought old new result
+Adds-failed history brought old new step result failed adds = record {
+  turns = Turns-failed (Stands history) (StandsAround history brought) (Stands (history_after history brought)) (Stands (history_after history brought))
+      old new step result failed adds.turns;
+  within = λ stands. KeepsWithin-failed result failed (adds.within stands);
+}
 
 -- and so doesn't no call
 pub Adds-none : {T : Type 0} (history : History) (brought : Brought) (disk : Told) (result : Result T Status) →
@@ -319,11 +342,15 @@ Adds-none history brought disk result none knows = Adds-reads history brought di
 pub Adds-applied : {T : Type 0} (history : History) (event : Event) (old new : Told) (result : Result T Status) →
     (Stands history old.content → refuses (state history) event ≡ None) →
     Turns (Stands history) (StandsForEither history event) (Stands (history ++ added event ∷ [])) old new result →
+    (Stands history old.content → KeepsWithin (live (state history) + 1) result old new) →
     Adds history (command_brings history (Do event)) old new result
-Adds-applied history event old new result accepted turns =
+Adds-applied history event old new result accepted turns within =
     let brought = command_brings history (Do event) in
     let after = λ (has : Stands history old.content). ap (λ (b : Brought). history_after history b) (sym (brings-accepted false history event (accepted has))) in
-    Turns-weaker (Stands history) (Stands history) (StandsForEither history event) (StandsAround history brought) (Stands (history ++ added event ∷ []))
-    (Stands (history_after history brought)) old new result (λ has. has)
-    (λ has image either. ⊎_elim (λ is. inl is) (λ is. inr (subst (λ h. Stands h image) (after has) is)) either)
-    (λ has image is. subst (λ h. Stands h image) (after has) is) turns
+    record {
+      turns = Turns-weaker (Stands history) (Stands history) (StandsForEither history event) (StandsAround history brought)
+          (Stands (history ++ added event ∷ [])) (Stands (history_after history brought)) old new result (λ has. has)
+          (λ has image either. ⊎_elim (λ is. inl is) (λ is. inr (subst (λ h. Stands h image) (after has) is)) either)
+          (λ has image is. subst (λ h. Stands h image) (after has) is) turns;
+      within = within;
+    }

@@ -21,7 +21,7 @@ use Rattle.ss_store.specs.Recover.{Stands}
 use Rattle.ss_program.specs.Amid.{Amid, GoesAmid, IsAmid, Owed, StagesBrought, TakesBrought, TakesNone, TakesTurn, amid, owed_by, with_text}
 use Rattle.ss_program.specs.Answer.{IsOpen}
 use Rattle.ss_program.specs.Line.{Brought, History, command_in, history_after, nothing, text_said}
-use Rattle.ss_program.specs.Progress.{IsAlone, StandsAround, StandsWithin, StopsIn}
+use Rattle.ss_program.specs.Progress.{IsAlone, HoldsTalk, StandsAround, StandsWithin, StopsIn}
 use Rattle.ss_program.specs.Sent.{appended}
 use Rattle.ss_program.specs.Session.{after_line, after_lines, text_of}
 use Rattle.ss_program.specs.Talk.{Talk, Turn, after_turn, silent, turn_brought, turn_of}
@@ -30,7 +30,7 @@ use Rattle.ss_arguments.specs.declared.mode.Sealing.{Sealing}
 use Rattle.ss_arguments.specs.declared.mode.Sealing.TheVariants.{Each, Shared}
 use Rattle.ss_program.specs.declared.status.Status.{Status}
 use Rattle.ss_program.specs.declared.status.Status.TheVariants.{OutOfMemory}
-use Rattle.ss_program.proofs.AmidLemmas.{GoesAmid-none, StandsBeyond-none, Takes-next, Takes-then, said-all}
+use Rattle.ss_program.proofs.AmidLemmas.{GoesAmid-none, Takes-next, Takes-then, said-all}
 use Rattle.ss_program.proofs.AnswerLemmas.{event-some}
 use Rattle.ss_program.proofs.SealLemmas.{line-owed, line-stopped}
 use Rattle.ss_program.proofs.SessionLemmas.{
@@ -40,7 +40,7 @@ use Rattle.ss_program.proofs.SessionLemmas.{
   text_of-one,
   text_of-push,
 }
-use Rattle.ss_program.proofs.StagingLemmas.{Turns-looked, shown-still}
+use Rattle.ss_program.proofs.StagingLemmas.{Turns-looked}
 
 -- what a call answers
 abbrev pub given : {T : Type 0} → T → Result T Status
@@ -86,7 +86,7 @@ module _ (turn : Talk → Turn) (was is : RecordsState) (waiting : Option (List 
   TakesTurn-owed value after text u turns says sealing talk ls before line known = record {
     goes = λ at.
         let here = after_lines talk ls in
-        let said = says here (sym at.cursors) at.shown in
+        let said = says here (sym at.cursors) at.shown.0 in
         line-owed sealing talk ls before (amid was (owed_by waiting) held cursors) old new knows at line is (given value)
         (turns-after (given value) here line known (turns here))
         (amid is (with_text (owed_by waiting) text) held after) value refl
@@ -106,7 +106,7 @@ module _ (turn : Talk → Turn) (was is : RecordsState) (waiting : Option (List 
         subst (λ o. StopsIn sealing talk (ls ++ line ∷ []) old new before o status) same
         (line-stopped sealing talk ls before (amid was (owed_by waiting) held cursors) old new knows at line is (halted {T = T} status)
         (turns-after (halted {T = T} status) here line known (turns here)) waiting status refl other
-        (subst (λ (t : Turn). 0 < length t.says) (sym known) (some here at.shown)));
+        (subst (λ (t : Turn). 0 < length t.says) (sym known) (some here at.shown.0)));
   }
 
 -- the same by what it brings
@@ -154,13 +154,12 @@ pub TakesBrought-still : {was : RecordsState} (speaker : Option ℕ) (brought : 
     (Ok u) disk disk
 TakesBrought-still {was = was} speaker brought waiting held disk reply u knows none one =
     TakesBrought-owed speaker (λ history. brought) was was waiting held disk disk knows reply u (record {
-      turns = λ history. Turns-looked was was history disk disk brought (Ok reply) knows (reads-none disk)
-          (λ stands. shown-still was was history brought disk.content disk.content none refl stands);
+      turns = λ history. Turns-looked was was history disk disk brought (Ok reply) knows (reads-none disk) refl (λ stands. none);
       reply = λ history stands. one;
     })
 
 -- no line is none of the rest
-within-none : (talk : Talk) (image : List ℕ) → StandsWithin talk [] image → Stands talk.history image
+within-none : (talk : Talk) (image : List ℕ) → StandsWithin talk [] image → HoldsTalk talk image
 within-none talk image ([], others, are, stands) = stands
 within-none talk image (line ∷ done, others, are, stands) = cc
 
@@ -177,7 +176,7 @@ module _ (speaker : Option ℕ) (was : RecordsState) (held : Option (List ℕ)) 
   silent-talk =
       let here = after_lines talk ls in
       after_lines-push talk ls line ∙ ap (λ (t : Turn). after_turn here t) turn
-      ∙ ap (λ (h : History). record { form = here.form; history = h; cursors = here.cursors }) (append-nil here.history)
+      ∙ ap (λ (h : History). record { form = here.form; history = h; cursors = here.cursors; used = here.used }) (append-nil here.history)
 
   silent-text : text_of talk (ls ++ line ∷ []) ≡ text_of talk ls
   silent-text = text_of-push talk ls line ∙ ap (λ (t : Turn). text_of talk ls ++ t.says) turn ∙ append-nil (text_of talk ls)
@@ -196,8 +195,8 @@ module _ (speaker : Option ℕ) (was : RecordsState) (held : Option (List ℕ)) 
         said = at.said ∙ ap (λ l. appended before (text_of talk l)) (sym out) ∙ ap (λ (t : List ℕ). appended before t) (sym silent-text);
         owes = refl;
         few = refl;
-        shown = subst (λ (t : Talk). Stands t.history (shown_by was disk.content)) (sym silent-talk) at.shown;
-        within = ([], [], refl, subst (λ (t : Talk). Stands t.history disk.content) (ap (λ l. after_lines talk l) (sym out) ∙ sym silent-talk) stands);
+        shown = subst (λ (t : Talk). HoldsTalk t (shown_by was disk.content)) (sym silent-talk) at.shown;
+        within = ([], [], refl, subst (λ (t : Talk). HoldsTalk t disk.content) (ap (λ l. after_lines talk l) (sym out) ∙ sym silent-talk) stands);
         durable = at.durable;
         cursors = at.cursors ∙ ap (λ (t : Talk). t.cursors) (sym silent-talk);
       })
@@ -209,8 +208,7 @@ module _ (speaker : Option ℕ) (was : RecordsState) (held : Option (List ℕ)) 
       line-owed Shared talk ls before from disk disk knows at line was (the_answer tt)
       (subst (λ (t : Turn). TurnsHistory was was here.history (λ image. Stands here.history image ⊎ Stands (after_turn here t).history image)
       (after_turn here t).history disk disk (the_answer tt)) (sym turn)
-      (Turns-looked was was here.history disk disk nothing (the_answer tt) knows (reads-none disk)
-      (λ stands. shown-still was was here.history nothing disk.content disk.content refl refl stands)))
+      (Turns-looked was was here.history disk disk nothing (the_answer tt) knows (reads-none disk) refl (λ stands. refl)))
       from tt refl (ap (λ (t : Turn). t.cursors) turn ∙ sym at.cursors) refl
       (ap (λ (t : List ℕ). record { text = t; lines = None }) (sym (append-nil replies))
       ∙ ap (λ (t : Turn). with_text (owed_by (Some replies)) t.says) (sym turn)) refl
@@ -226,7 +224,7 @@ pub TakesTurn-silent : (turn : Talk → Turn) (was : RecordsState) (waiting : Op
     TakesTurn turn (amid was (owed_by waiting) held cursors) (amid was (owed_by waiting) held cursors) (Ok u) disk disk
 TakesTurn-silent turn was waiting held cursors disk u knows none sealing talk ls before line is = record {
   goes = λ at.
-      silent-goes None was held cursors disk knows talk ls line before (is ∙ none (after_lines talk ls) at.shown) sealing waiting at;
+      silent-goes None was held cursors disk knows talk ls line before (is ∙ none (after_lines talk ls) at.shown.0) sealing waiting at;
   stops = tt;
 }
 
@@ -253,8 +251,8 @@ module _ {was is : RecordsState} {owed left : Owed} {held after : Option (List �
         let here = after_lines talk ls in
         let to = amid is left after cursors in
         let goes = subst (λ l. GoesAmid sealing talk l before to old new) (append-nil ls) ((takes cursors sealing talk ls before).goes at) in
-        let rests = of_content new (Stands here.history) goes.amid.durable (subst (Stands here.history) sealed goes.amid.shown) in
-        let want = wants here (sym at.cursors) at.shown in
+        let rests = of_content new (HoldsTalk here) goes.amid.durable (subst (HoldsTalk here) sealed goes.amid.shown) in
+        let want = wants here (sym at.cursors) at.shown.0 in
         record {
           at = record {
             out = ls;
@@ -266,7 +264,7 @@ module _ {was is : RecordsState} {owed left : Owed} {held after : Option (List �
             alone = IsAlone-one sealing here line 0 (subst (λ (t : Turn). 0 < length t.says) (sym known) want.1);
             sent = said-all sealing talk ls before to new none goes.amid
                 ∙ ap (λ (t : List ℕ). appended before t) (sym (append-nil (text_of talk ls)));
-            left = λ image is. StandsBeyond-none here (line ∷ []) image ([], line ∷ [], refl, rests image is);
+            left = λ image is. ([], line ∷ [], refl, omega arith, rests image is);
             starved = λ memory. (refl, subst (λ (t : Turn). IsTrue t.wants_memory) (sym known) want.0, rests);
           };
           any_moment = moments-more talk old new ls (line ∷ []) goes.any_moment;

@@ -1,7 +1,8 @@
 -- What runs over one file leave, one after the other.
-use Rattle.std.proofs.Common.{◌≡◌, ◌∙◌, ◌⊎◌, ℕ, ◌+◌, ◌-◌, ◌≤◌, ◌++◌, List, [], ◌∷◌, length, take, take_all, Option, Some, None, refl, sym, ap, subst}
+use Rattle.std.proofs.Common.{◌≡◌, ◌∙◌, ◌⊎◌, ℕ, ◌+◌, ◌-◌, ◌*◌, ◌<◌, ◌≤◌, ◌++◌, List, [], ◌∷◌, length, take, take_all, Option, Some, None, refl, sym, ap, subst}
 use Rattle.std.proofs.Common.{append_assoc, arith, inl, inr}
 use Rattle.std.proofs.lemmas.List.{append-nil}
+use Rattle.std.specs.Prelude.{max}
 use Rattle.ss_arguments.specs.declared.mode.Form.{Form}
 use Rattle.ss_arguments.specs.declared.mode.Mode.{Mode}
 use Rattle.ss_arguments.specs.declared.mode.Mode.TheVariants.{Serve, Check, Gen}
@@ -13,6 +14,11 @@ use Rattle.ss_outside.proofs.CrashLemmas.{nothing_pending-same, read_leaves, rea
 use Rattle.ss_outside.specs.Crash.{KnowsNow, OnlyReads}
 use Rattle.ss_outside.specs.Disk.{DiskView, NothingPending, Told, WhereTold}
 use Rattle.ss_store.specs.Recover.{Stands}
+use Rattle.ss_store.specs.Uses.{StandsShort, UsesAtMost, most_needed}
+use Rattle.ss_store.proofs.Extents.{length-uses}
+use Rattle.ss_store.proofs.Within.{UsesAtMost-more}
+use Rattle.ss_journal.specs.declared.format.TheConstants.{FIRST_SLOT, MOST_SLOTS, SLOT_SIZE}
+use Rattle.ss_program.specs.Held.{StandsShortForFirst, acks}
 use Rattle.ss_program.specs.Chained.{
   AreLinked,
   Ending,
@@ -35,7 +41,7 @@ use Rattle.ss_program.specs.Line.{History}
 use Rattle.ss_program.specs.Outcome.{Serves}
 use Rattle.ss_program.specs.Session.{accepted}
 use Rattle.ss_program.specs.Steps.{steps}
-use Rattle.ss_program.specs.Talk.{begun, plain}
+use Rattle.ss_program.specs.Talk.{Talk, begun, begun_over, plain}
 use Rattle.ss_program.specs.declared.status.Status.{Status}
 use Rattle.ss_program.specs.declared.status.Status.TheVariants.{
   Done,
@@ -48,11 +54,12 @@ use Rattle.ss_program.specs.declared.status.Status.TheVariants.{
   InputLimit,
   RecordChanged,
 }
-use Rattle.ss_program.proofs.HeldLemmas.{StandsForFirst-within}
+use Rattle.ss_program.proofs.HeldLemmas.{StandsShortForFirst-within}
+use Rattle.ss_program.proofs.OverLemmas.{accepted-over, acks-over}
 
--- the history after a run, where its image stands for one
-abbrev pub Goes : {D : Type 0} → Link D → History → Type 0
-Goes link history = (next : History) × Extends link history next × Stands next link.image
+-- the history after a run, where its image stands for one and is no longer than that allows
+abbrev pub Goes : {D : Type 0} → Option ℕ → Link D → History → Type 0
+Goes used link history = (next : History) × Extends link history next × StandsShort used next link.image
 
 -- what only reads leaves the file as it is
 left-read : (ending : Ending) (old new : Told) (image : List ℕ) → KnowsNow old → NothingPending old → OnlyReads old new → IsLeftBy ending old new image →
@@ -70,9 +77,9 @@ acked-none by_itself = refl
 acked-none by_crash = refl
 
 -- a run that accepts nothing
-idle-goes : {D : Type 0} (link : Link D) (ending : Ending) (bytes : List ℕ) (history : History) → Stands history bytes → link.image ≡ bytes →
-    Goes (as_of link None ending) history
-idle-goes link ending bytes history stands same = (
+idle-goes : {D : Type 0} (used : Option ℕ) (link : Link D) (ending : Ending) (bytes : List ℕ) (history : History) → StandsShort used history bytes →
+    link.image ≡ bytes → Goes used (as_of link None ending) history
+idle-goes used link ending bytes history stands same = (
   history,
   record {
     j = 0;
@@ -83,12 +90,12 @@ idle-goes link ending bytes history stands same = (
     done = λ is done. refl;
     starved = λ is form sealing serves starved. cc;
   },
-  subst (λ image. Stands history image) (sym same) stands,
+  subst (λ image. StandsShort used history image) (sym same) stands,
 )
 
-check-goes : {D : Type 0} (link : Link D) (ending : Ending) (bytes : List ℕ) (history : History) → Stands history bytes → link.image ≡ bytes →
-    Goes (as_of link (Some Check) ending) history
-check-goes link ending bytes history stands same = (
+check-goes : {D : Type 0} (used : Option ℕ) (link : Link D) (ending : Ending) (bytes : List ℕ) (history : History) → StandsShort used history bytes →
+    link.image ≡ bytes → Goes used (as_of link (Some Check) ending) history
+check-goes used link ending bytes history stands same = (
   history,
   record {
     j = 0;
@@ -99,42 +106,57 @@ check-goes link ending bytes history stands same = (
     done = λ is done. refl;
     starved = λ is form sealing serves starved. cc;
   },
-  subst (λ image. Stands history image) (sym same) stands,
+  subst (λ image. StandsShort used history image) (sym same) stands,
 )
 
 -- a run over an input
-serve-goes : {D : Type 0} (link : Link D) (form : Form) (sealing : Sealing) (ending : Ending) (history : History) (old new : Told) →
-    Serves sealing (begun form history) link.input link.rest (Some link.had) (Some link.has) old new link.status → IsLeftBy ending old new link.image →
-    Goes (as_of link (Some (Serve form sealing)) ending) history
-serve-goes link form sealing by_itself history old new serves left =
-    let kept = serves.kept link.had link.has refl refl link.image left in (
-      history ++ take kept.4.j (accepted (begun form history) (steps form link.input)),
-      record {
-        j = kept.4.j;
-        is = refl;
-        few = kept.4.few;
-        acked = kept.4.acked;
-        at_most = λ is other each.
-            (let both : Some (Serve form sealing) ≡ Some (Serve other Each) = each in let same : sealing ≡ Each = cc in kept.4.at_most same);
-        done = λ is done. kept.4.all done;
-        starved = λ is other others asked starved. kept.4.starved starved;
-      },
-      kept.4.stands,
-    )
-serve-goes link form sealing by_crash history old new serves left =
-    let some = StandsForFirst-within (begun form history) (steps form link.input) link.image (serves.any_moment.each link.image left) in (
-      history ++ take some.0 (accepted (begun form history) (steps form link.input)),
-      record {
-        j = some.0;
-        is = refl;
-        few = some.1;
-        acked = omega arith;
-        at_most = λ is other each. cc;
-        done = λ is done. cc;
-        starved = λ is other others asked starved. cc;
-      },
-      some.2,
-    )
+module _ {D : Type 0} (used : Option ℕ) (link : Link D) (form : Form) (sealing : Sealing) (history : History) where
+  abbrev talk : Talk
+  talk = begun form history
+
+  abbrev ls : List (List ℕ)
+  ls = steps form link.input
+
+  same-accepted : accepted (begun_over used form history) ls ≡ accepted talk ls
+  same-accepted = accepted-over used talk ls
+
+  same-acked : acks (begun_over used form history) ls (length link.has - length link.had) ≡ acks talk ls (length link.has - length link.had)
+  same-acked = acks-over used talk ls (length link.has - length link.had)
+
+  serve-goes : (ending : Ending) (old new : Told) →
+      Serves sealing (begun_over used form history) link.input link.rest (Some link.had) (Some link.has) old new link.status →
+      IsLeftBy ending old new link.image → Goes used (as_of link (Some (Serve form sealing)) ending) history
+  serve-goes by_itself old new serves left =
+      let kept = (serves.kept link.had link.has refl refl link.image left).4 in (
+        history ++ take kept.j (accepted talk ls),
+        record {
+          j = kept.j;
+          is = refl;
+          few = subst (λ es. kept.j ≤ length es) same-accepted kept.few;
+          acked = subst (λ n. n ≤ kept.j) same-acked kept.acked;
+          at_most = λ is other each.
+              (let both : Some (Serve form sealing) ≡ Some (Serve other Each) = each in
+              let same : sealing ≡ Each = cc in subst (λ n. kept.j ≤ n + 1) same-acked (kept.at_most same));
+          done = λ is done. kept.all done ∙ ap (λ es. length es) same-accepted;
+          starved = λ is other others asked starved. kept.starved starved ∙ same-acked;
+        },
+        subst (λ es. StandsShort used (history ++ take kept.j es) link.image) same-accepted kept.stands,
+      )
+  serve-goes by_crash old new serves left =
+      let some = subst (λ es. StandsShortForFirst used history es link.image) same-accepted
+      (StandsShortForFirst-within (begun_over used form history) ls link.image (serves.any_moment.each link.image left)) in (
+        history ++ take some.0 (accepted talk ls),
+        record {
+          j = some.0;
+          is = refl;
+          few = some.1;
+          acked = omega arith;
+          at_most = λ is other each. cc;
+          done = λ is done. cc;
+          starved = λ is other others asked starved. cc;
+        },
+        some.2,
+      )
 
 -- a status is that of a run that is done, or another
 done-or : (status : Status) → (status ≡ Done) ⊎ (status ≡ Done → ⊥)
@@ -149,10 +171,10 @@ done-or InputLimit = inr (λ is. cc)
 done-or RecordChanged = inr (λ is. cc)
 
 -- a run over a generated file
-generate-goes : {D : Type 0} (link : Link D) (seed count : ℕ) (ending : Ending) (history : History) (old new : Told) →
-    Generates history seed count (Some link.had) (Some link.has) old new link.status → IsLeftBy ending old new link.image →
-    Goes (as_of link (Some (Gen seed count)) ending) history
-generate-goes link seed count by_itself history old new generates left =
+generate-goes : {D : Type 0} (used : Option ℕ) (link : Link D) (seed count : ℕ) (ending : Ending) (history : History) (old new : Told) →
+    Generates used history seed count (Some link.had) (Some link.has) old new link.status → IsLeftBy ending old new link.image →
+    Goes used (as_of link (Some (Gen seed count)) ending) history
+generate-goes used link seed count by_itself history old new generates left =
     let events = accepted (plain history) (generated seed count) in
     elim (done-or link.status) [
       | inl done ↦ (
@@ -166,7 +188,7 @@ generate-goes link seed count by_itself history old new generates left =
           done = λ is all. refl;
           starved = λ is other others asked starved. cc;
         },
-        subst (λ es. Stands (history ++ es) link.image) (sym (take_all (length events) events (omega arith))) (generates.all done link.image left),
+        subst (λ es. StandsShort used (history ++ es) link.image) (sym (take_all (length events) events (omega arith))) (generates.all done link.image left),
       )
       | inr other ↦ (let some = generates.kept link.image left in (
         history ++ take some.0 events,
@@ -182,7 +204,7 @@ generate-goes link seed count by_itself history old new generates left =
         some.2,
       ))
     ]
-generate-goes link seed count by_crash history old new generates left =
+generate-goes used link seed count by_crash history old new generates left =
     let some = generates.any_moment.each link.image left in (
       history ++ take some.0 (accepted (plain history) (generated seed count)),
       record {
@@ -199,35 +221,49 @@ generate-goes link seed count by_crash history old new generates left =
 
 module _ {D : Type 0} (seen : D → DiskView) (knows : (disk : D) → WhereTold (seen disk) KnowsNow) where
   -- whatever a run is asked for
-  goes-asked : (link : Link D) (mode : Option Mode) (ending : Ending) (first : List ℕ) (history : History) → Stands history first →
-      IsLink seen (as_of link mode ending) first → Goes (as_of link mode ending) history
-  goes-asked link None ending first history stands is =
+  goes-asked : (used : Option ℕ) (link : Link D) (mode : Option Mode) (ending : Ending) (first : List ℕ) (history : History) →
+      StandsShort used history first → IsLink seen (as_of link mode ending) first → Goes used (as_of link mode ending) history
+  goes-asked used link None ending first history stands is =
       let old = (seen link.old).told in
-      idle-goes link ending first history stands
+      idle-goes used link ending first history stands
       (left-read ending old old link.image (knows link.old is.starts.tells) is.starts.durable (reads-none old)
       (subst (λ (disk : D). IsLeftBy ending old (seen disk).told link.image) (is.runs.undone refl) is.left) ∙ is.starts.content)
-  goes-asked link (Some Check) ending first history stands is =
+  goes-asked used link (Some Check) ending first history stands is =
       let reads = (is.runs.checks refl link.status refl is.starts.tells).unwritten in
-      check-goes link ending first history stands
+      check-goes used link ending first history stands
       (left-read ending (seen link.old).told (seen link.new).told link.image (knows link.old is.starts.tells) is.starts.durable reads is.left
       ∙ is.starts.content)
-  goes-asked link (Some (Serve form sealing)) ending first history stands is =
-      serve-goes link form sealing ending history (seen link.old).told (seen link.new).told
-      (is.runs.serves form sealing refl link.status refl link.input refl is.starts.tells is.starts.durable history
-      (subst (λ content. Stands history content) (sym is.starts.content) stands)) is.left
-  goes-asked link (Some (Gen seed count)) ending first history stands is =
-      generate-goes link seed count ending history (seen link.old).told (seen link.new).told
-      (is.runs.generates seed count refl link.status refl is.starts.tells is.starts.durable history
-      (subst (λ content. Stands history content) (sym is.starts.content) stands)) is.left
+  goes-asked used link (Some (Serve form sealing)) ending first history stands is =
+      serve-goes used link form sealing history ending (seen link.old).told (seen link.new).told
+      (is.runs.serves form sealing refl link.status refl link.input refl is.starts.tells is.starts.durable used history
+      (subst (λ content. StandsShort used history content) (sym is.starts.content) stands)) is.left
+  goes-asked used link (Some (Gen seed count)) ending first history stands is =
+      generate-goes used link seed count ending history (seen link.old).told (seen link.new).told
+      (is.runs.generates seed count refl link.status refl is.starts.tells is.starts.durable used history
+      (subst (λ content. StandsShort used history content) (sym is.starts.content) stands)) is.left
 
   -- so runs in a row do
+  pub extends-short : (used : Option ℕ) (links : List (Link D)) (first last : List ℕ) (history : History) → StandsShort used history first →
+      AreLinked seen links first last → (now : History) × ExtendsAll links history now × StandsShort used now last
+  extends-short used [] first last history stands linked = (history, refl, subst (λ image. StandsShort used history image) (sym linked) stands)
+  extends-short used (link ∷ links) first last history stands linked =
+      let goes = goes-asked used link link.mode link.ending first history stands linked.0 in
+      let rest = extends-short used links link.image last goes.0 goes.2 linked.1 in
+      (rest.0, (goes.0, goes.1, rest.1), rest.2)
+
   pub extends-linked : (links : List (Link D)) (first last : List ℕ) (history : History) → Stands history first → AreLinked seen links first last →
       (now : History) × ExtendsAll links history now × Stands now last
-  extends-linked [] first last history stands linked = (history, refl, subst (λ image. Stands history image) (sym linked) stands)
-  extends-linked (link ∷ links) first last history stands linked =
-      let goes = goes-asked link link.mode link.ending first history stands linked.0 in
-      let rest = extends-linked links link.image last goes.0 goes.2 linked.1 in
-      (rest.0, (goes.0, goes.1, rest.1), rest.2)
+  extends-linked links first last history stands linked =
+      let all = extends-short None links first last history (stands, tt) linked in (all.0, all.1, all.2.0)
+
+  -- and how long the file is then
+  pub length-linked : (links : List (Link D)) (first last : List ℕ) (used : ℕ) (history : History) → Stands history first → UsesAtMost used first →
+      AreLinked seen links first last → (now : History) × ExtendsAll links history now × Stands now last
+      × (max used (most_needed now + 1) < MOST_SLOTS → length last < FIRST_SLOT + SLOT_SIZE * (max used (most_needed now + 1) + 1))
+  length-linked links first last used history stands uses linked =
+      let short = UsesAtMost-more used (max used (most_needed history + 1)) first (omega arith) uses in
+      let all = extends-short (Some used) links first last history (stands, short) linked in
+      (all.0, all.1, all.2.0, λ few. length-uses (max used (most_needed all.0 + 1)) last all.2.1 few)
 
 -- the history before stays
 pub extends-front : {D : Type 0} (links : List (Link D)) (history now : History) → ExtendsAll links history now → (more : History) × (now ≡ history ++ more)

@@ -9,6 +9,7 @@ use Rattle.ss_model.specs.State.{Stream}
 use Rattle.ss_outside.specs.Crash.{LeavesOnly, OnlyReads}
 use Rattle.ss_outside.specs.Disk.{DiskView, NothingPending, Told}
 use Rattle.ss_outside.specs.Verdict.{Rose}
+use Rattle.ss_store.specs.Uses.{StandsShort}
 use Rattle.ss_store.specs.Recover.{Stands, recover}
 use Rattle.ss_store.specs.Surveyed.{survey_of}
 use Rattle.ss_program.specs.Checked.{Checks, survey_line}
@@ -44,7 +45,8 @@ use Rattle.ss_program.specs.declared.status.Status.TheVariants.{
 -- The acknowledged events are held, and no more than those of the lines that were read; at most one more where each event is sealed by
 -- itself. All are where the run is done, and no more where memory ran out.
 module _ (sealing : Sealing) (talk : Talk) (ls read : List (List ℕ)) (bytes : ℕ) (image : List ℕ) where
-  acked-stands : (status : Status) (h : HoldsAcked sealing talk ls read bytes status image) → Stands (talk.history ++ take h.j (accepted talk ls)) image
+  acked-stands : (status : Status) (h : HoldsAcked sealing talk ls read bytes status image) →
+      StandsShort talk.used (talk.history ++ take h.j (accepted talk ls)) image
   acked-stands status h = h.stands
 
   acked-few : (status : Status) (h : HoldsAcked sealing talk ls read bytes status image) → h.j ≤ length (accepted talk ls)
@@ -143,29 +145,29 @@ module _ (streams : List Stream) (before after : Option (List ℕ)) where
   checks-broken c = c.silent (λ w. cc) (λ w. cc)
 
 -- a generated file
-module _ (history : History) (seed count : ℕ) (before after : Option (List ℕ)) (old new : Told) where
-  generates-front : (status : Status) → Generates history seed count before after old new status → AppendsFront before after (summary history seed count)
+module _ (used : Option ℕ) (history : History) (seed count : ℕ) (before after : Option (List ℕ)) (old new : Told) where
+  generates-front : (status : Status) → Generates used history seed count before after old new status → AppendsFront before after (summary history seed count)
   generates-front status g = g.front
 
-  generates-whole : Generates history seed count before after old new Done → after ≡ appended before (summary history seed count)
+  generates-whole : Generates used history seed count before after old new Done → after ≡ appended before (summary history seed count)
   generates-whole g = g.whole refl
 
-  generates-starved : Generates history seed count before after old new OutOfMemory → after ≡ before
+  generates-starved : Generates used history seed count before after old new OutOfMemory → after ≡ before
   generates-starved g = g.silent (λ w. cc) (λ w. cc)
 
-  generates-any_moment : (status : Status) → Generates history seed count before after old new status →
-      LeavesOnly old new (StandsForGenerated history seed count)
+  generates-any_moment : (status : Status) → Generates used history seed count before after old new status →
+      LeavesOnly old new (StandsForGenerated used history seed count)
   generates-any_moment status g = g.any_moment
 
-  generates-kept : (status : Status) → Generates history seed count before after old new status → (image : List ℕ) → new.may_leave image →
-      StandsForGenerated history seed count image
+  generates-kept : (status : Status) → Generates used history seed count before after old new status → (image : List ℕ) → new.may_leave image →
+      StandsForGenerated used history seed count image
   generates-kept status g = g.kept
 
-  generates-done : Generates history seed count before after old new Done → StandsForAll history seed count new.content
+  generates-done : Generates used history seed count before after old new Done → StandsForAll used history seed count new.content
   generates-done g = g.done refl
 
-  generates-all : Generates history seed count before after old new Done → (image : List ℕ) → new.may_leave image →
-      StandsForAll history seed count image
+  generates-all : Generates used history seed count before after old new Done → (image : List ℕ) → new.may_leave image →
+      StandsForAll used history seed count image
   generates-all g = g.all refl
 
 -- how a run ends: the devices that are blamed

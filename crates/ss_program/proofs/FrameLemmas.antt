@@ -21,6 +21,7 @@ use Rattle.ss_report.specs.declared.reply.Reply.{Reply}
 use Rattle.ss_report.specs.declared.reply.Reply.TheVariants.{Done, Refused}
 use Rattle.ss_store.specs.Calls.{TurnsHistory}
 use Rattle.ss_store.specs.Recover.{Stands}
+use Rattle.ss_store.specs.Uses.{IsShort}
 use Rattle.ss_program.specs.Line.{
   History,
   accepted_frame,
@@ -62,6 +63,7 @@ module _ (was is : RecordsState) (history : History) (old new : Told) where
   Turns-answered event other step result same keeps turns =
       subst (λ (o : Option Event). Adding was is history o result old new) same (record {
         content = λ has. keeps (Stands (history ++ the_event event) (shown_by is new.content)) (turns.content has);
+        short = λ used has. keeps (IsShort used (history ++ the_event event) (shown_by is new.content)) (turns.short used has);
         any_moment = turns.any_moment;
         durable = λ durable. keeps _ (turns.durable durable);
       })

@@ -1,5 +1,6 @@
 -- A session over a generated file: what was answered so far, what is counted of it, and how it ends.
 use Rattle.std.proofs.Common.{
+  ◌⊎◌,
   inl,
   inr,
   ◌≡◌,
@@ -48,25 +49,29 @@ use Rattle.ss_report.specs.declared.reply.Reply.{Reply}
 use Rattle.ss_model.specs.State.{state}
 use Rattle.ss_store.specs.Causes.{OpensAs}
 use Rattle.ss_store.specs.Recover.{Stands}
+use Rattle.ss_store.specs.Uses.{StandsShort}
 use Rattle.ss_store.specs.declared.error.OpenError.{OpenError}
 use Rattle.ss_program.specs.Answer.{Adds, SendsRows}
 use Rattle.ss_program.specs.Generated.{Generates, StandsForAll, StandsForGenerated, generated, first_lines, is_done, is_refused, last_six, summary}
 use Rattle.ss_program.specs.Generated.{summary_lines}
 use Rattle.ss_program.specs.Line.{Brought, History, brings, command_brings, history_after, meaning_brings}
-use Rattle.ss_program.specs.Progress.{StandsAround, StandsWithin}
+use Rattle.ss_program.specs.Held.{StandsShortForFirst}
+use Rattle.ss_program.specs.Progress.{HoldsTalk, StandsWithin}
 use Rattle.ss_program.specs.Refused.{AsRefused, status_of_open}
 use Rattle.ss_program.specs.Sent.{appended, AppendsFront, AppendsLess, Sends}
-use Rattle.ss_program.specs.Session.{plain_after, replies}
-use Rattle.ss_program.specs.Talk.{plain}
+use Rattle.ss_program.specs.Session.{after_lines, plain_after, replies}
+use Rattle.ss_program.specs.Talk.{plain, plain_over}
 use Rattle.ss_program.specs.Tally.{HasRun, IsSingle, Tallies}
 use Rattle.ss_program.specs.declared.generate.Tally.{Tally}
 use Rattle.ss_program.specs.declared.status.Status.{Status}
 use Rattle.ss_program.specs.declared.status.Status.TheVariants.{Done, SinkFault}
 use Rattle.ss_outside.specs.declared.source.Failed.{Failed}
 use Rattle.ss_program.proofs.OpeningLemmas.{unopened}
-use Rattle.ss_program.proofs.HeldLemmas.{StandsForFirst-within}
+use Rattle.ss_program.proofs.HeldLemmas.{StandsShortForFirst-within}
+use Rattle.ss_program.proofs.LeftLemmas.{Adds-left, Adds-moments, short_left}
+use Rattle.ss_program.proofs.OverLemmas.{accepted-over}
 use Rattle.ss_program.proofs.SendLemmas.{AppendsFront-all, appended-appended, appended-nil}
-use Rattle.ss_program.proofs.SessionLemmas.{StandsWithin-all, after_lines-accepted, moments-more, plain_after-push, replies-append}
+use Rattle.ss_program.proofs.SessionLemmas.{StandsWithin-all, StandsWithin-before, after_lines-accepted, moments-more, plain_after-push, replies-append}
 
 -- a printed command brings what the command does
 pub brings-printed : (history : History) (command : Command) → IsSayable command → brings history (printed command) ≡ command_brings history command
@@ -97,47 +102,68 @@ single-commands seed count =
     (tt, single-append (of_rounds seed count) (queries (time seed count)) (single-rounds seed count) (tt, (tt, (tt, (tt, (tt, (tt, tt)))))))
 
 -- no line was answered yet
-pub HasRun-start : (history : History) (disk : Told) (tally : Tally) → KnowsNow disk → NothingPending disk → Stands history disk.content →
-    Tallies 0 [] tally → HasRun history [] disk disk tally
-HasRun-start history disk tally knows none stands tallies = record {
+pub HasRun-start : (used : Option ℕ) (history : History) (disk : Told) (tally : Tally) → KnowsNow disk → NothingPending disk → StandsShort used history disk.content →
+    Tallies 0 [] tally → HasRun used history [] disk disk tally
+HasRun-start used history disk tally knows none stands tallies = record {
   tallied = tallies;
   stands = stands;
   durable = none;
-  any_moment = at_start disk (StandsWithin (plain history) []) knows
-      (of_content disk (StandsWithin (plain history) []) none (StandsWithin-all (plain history) [] disk.content stands));
+  any_moment = at_start disk (StandsWithin (plain_over used history) []) knows
+      (of_content disk (StandsWithin (plain_over used history) []) none (StandsWithin-all (plain_over used history) [] disk.content stands));
 }
 
--- a line was answered, or a crash came while it was
-StandsWithin-line : (history : History) (ls : List (List ℕ)) (line : List ℕ) (image : List ℕ) →
-    StandsAround (plain_after history ls) (brings (plain_after history ls) line) image → StandsWithin (plain history) (ls ++ line ∷ []) image
-StandsWithin-line history ls line image (inl stands) = (ls, line ∷ [], refl, stands)
-StandsWithin-line history ls line image (inr stands) =
-    StandsWithin-all (plain history) (ls ++ line ∷ []) image (subst (λ h. Stands h image) (sym (plain_after-push history ls line)) stands)
+-- the history after plain lines, whatever is asked of the file
+plain_over-history : (used : Option ℕ) (history : History) (ls : List (List ℕ)) → (after_lines (plain_over used history) ls).history ≡ plain_after history ls
+plain_over-history used history [] = refl
+plain_over-history used history (line ∷ ls) = plain_over-history used (history_after history (brings history line)) ls
 
-moments-line : (history : History) (old new : Told) (ls : List (List ℕ)) (line : List ℕ) →
-    LeavesOnly old new (StandsAround (plain_after history ls) (brings (plain_after history ls) line)) →
-    LeavesOnly old new (StandsWithin (plain history) (ls ++ line ∷ []))
-moments-line history old new ls line run =
-    weaker old new (StandsAround (plain_after history ls) (brings (plain_after history ls) line)) (StandsWithin (plain history) (ls ++ line ∷ []))
-    (StandsWithin-line history ls line) run
+holds-plain : (used : Option ℕ) (history : History) (ls : List (List ℕ)) (image : List ℕ) → StandsShort used (plain_after history ls) image →
+    HoldsTalk (after_lines (plain_over used history) ls) image
+holds-plain used history ls image stands =
+    short_left (plain_over used history) ls image
+    (subst (λ h. StandsShort used h image) (sym (plain_over-history used history ls)) stands)
+
+-- a line was answered, or a crash came while it was
+abbrev ShortAround : Option ℕ → History → Brought → List ℕ → Type 0
+ShortAround used history brought image = StandsShort used history image ⊎ StandsShort used (history_after history brought) image
+
+StandsWithin-line : (used : Option ℕ) (history : History) (ls : List (List ℕ)) (line : List ℕ) (image : List ℕ) →
+    ShortAround used (plain_after history ls) (brings (plain_after history ls) line) image → StandsWithin (plain_over used history) (ls ++ line ∷ []) image
+StandsWithin-line used history ls line image (inl stands) =
+    StandsWithin-before (plain_over used history) ls line image (holds-plain used history ls image stands)
+StandsWithin-line used history ls line image (inr stands) =
+    StandsWithin-all (plain_over used history) (ls ++ line ∷ []) image (holds-plain used history (ls ++ line ∷ []) image
+    (subst (λ h. StandsShort used h image) (sym (plain_after-push history ls line)) stands))
+
+moments-line : (used : Option ℕ) (history : History) (old new : Told) (ls : List (List ℕ)) (line : List ℕ) →
+    LeavesOnly old new (ShortAround used (plain_after history ls) (brings (plain_after history ls) line)) →
+    LeavesOnly old new (StandsWithin (plain_over used history) (ls ++ line ∷ []))
+moments-line used history old new ls line run =
+    weaker old new (ShortAround used (plain_after history ls) (brings (plain_after history ls) line))
+    (StandsWithin (plain_over used history) (ls ++ line ∷ [])) (StandsWithin-line used history ls line) run
 
 -- a command of the file was done, or a crash came while it was
-pub adds-line : {T : Type 0} (history : History) (old mid new : Told) (ls : List (List ℕ)) (command : Command) (tally : Tally) (result : Result T Status) →
-    HasRun history ls old mid tally → IsSayable command → Adds (plain_after history ls) (command_brings (plain_after history ls) command) mid new result →
-    LeavesOnly old new (StandsWithin (plain history) (ls ++ printed command ∷ []))
-adds-line history old mid new ls command tally result ran sayable adds =
+pub adds-line : {T : Type 0} (used : Option ℕ) (history : History) (old mid new : Told) (ls : List (List ℕ)) (command : Command) (tally : Tally) (result : Result T Status) →
+    HasRun used history ls old mid tally → IsSayable command → Adds (plain_after history ls) (command_brings (plain_after history ls) command) mid new result →
+    LeavesOnly old new (StandsWithin (plain_over used history) (ls ++ printed command ∷ []))
+adds-line used history old mid new ls command tally result ran sayable adds =
     let here = plain_after history ls in
-    joined old mid new (StandsWithin (plain history) (ls ++ printed command ∷ []))
-    (moments-more (plain history) old mid ls (printed command ∷ []) ran.any_moment)
-    (moments-line history mid new ls (printed command)
-    (subst (λ b. LeavesOnly mid new (StandsAround here b)) (sym (brings-printed here command sayable)) (adds.any_moment ran.durable ran.stands)))
+    joined old mid new (StandsWithin (plain_over used history) (ls ++ printed command ∷ []))
+    (moments-more (plain_over used history) old mid ls (printed command ∷ []) ran.any_moment)
+    (moments-line used history mid new ls (printed command)
+    (subst (λ b. LeavesOnly mid new (ShortAround used here b)) (sym (brings-printed here command sayable))
+    (Adds-moments here (command_brings here command) mid new result adds used ran.durable ran.stands)))
 
-pub HasRun-more : (history : History) (old mid new : Told) (ls : List (List ℕ)) (command : Command) (reply : Reply) (before after : Tally) →
-    HasRun history ls old mid before → IsSayable command →
+-- what a call answers
+abbrev replied : Reply → Result Reply Status
+replied reply = Ok reply
+
+pub HasRun-more : (used : Option ℕ) (history : History) (old mid new : Told) (ls : List (List ℕ)) (command : Command) (reply : Reply) (before after : Tally) →
+    HasRun used history ls old mid before → IsSayable command →
     Adds (plain_after history ls) (command_brings (plain_after history ls) command) mid new (Ok reply) →
     (command_brings (plain_after history ls) command).replies ≡ reply ∷ [] →
-    Tallies (length ls + 1) (replies history ls ++ reply ∷ []) after → HasRun history (ls ++ printed command ∷ []) old new after
-HasRun-more history old mid new ls command reply before after ran sayable adds one tallies =
+    Tallies (length ls + 1) (replies history ls ++ reply ∷ []) after → HasRun used history (ls ++ printed command ∷ []) old new after
+HasRun-more used history old mid new ls command reply before after ran sayable adds one tallies =
     let here = plain_after history ls in
     let brought : brings here (printed command) ≡ command_brings here command = brings-printed here command sayable in
     let all : replies history (ls ++ printed command ∷ []) ≡ replies history ls ++ reply ∷ [] =
@@ -148,59 +174,59 @@ HasRun-more history old mid new ls command reply before after ran sayable adds o
     record {
       tallied = subst (λ n. Tallies n (replies history (ls ++ printed command ∷ [])) after) (sym (length-append ls (printed command ∷ [])))
           (subst (λ rs. Tallies (length ls + 1) rs after) (sym all) tallies);
-      stands = subst (λ h. Stands h new.content) then (adds.content ran.stands);
-      durable = adds.durable ran.durable;
-      any_moment = adds-line history old mid new ls command before (Ok reply) ran sayable adds;
+      stands = subst (λ h. StandsShort used h new.content) then (Adds-left here (command_brings here command) mid new (replied reply) adds used ran.stands);
+      durable = adds.turns.durable ran.durable;
+      any_moment = adds-line used history old mid new ls command before (Ok reply) ran sayable adds;
     }
 
 -- the commands that were done, and those that are left, are all of the file
-pub record IsAt (history : History) (seed count : ℕ) (left : List Command) (old new : Told) (tally : Tally) : Type 0 where
+pub record IsAt (used : Option ℕ) (history : History) (seed count : ℕ) (left : List Command) (old new : Told) (tally : Tally) : Type 0 where
   pub done : List Command
   pub all : commands seed count ≡ done ++ left
-  pub ran : HasRun history (map printed done) old new tally
+  pub ran : HasRun used history (map printed done) old new tally
 
-pub IsAt-start : (history : History) (seed count : ℕ) (left : List Command) (disk : Told) (tally : Tally) → left ≡ commands seed count →
-    KnowsNow disk → NothingPending disk → Stands history disk.content → Tallies 0 [] tally → IsAt history seed count left disk disk tally
-IsAt-start history seed count left disk tally all knows none stands tallies =
-    record { done = []; all = sym all; ran = HasRun-start history disk tally knows none stands tallies }
+pub IsAt-start : (used : Option ℕ) (history : History) (seed count : ℕ) (left : List Command) (disk : Told) (tally : Tally) → left ≡ commands seed count →
+    KnowsNow disk → NothingPending disk → StandsShort used history disk.content → Tallies 0 [] tally → IsAt used history seed count left disk disk tally
+IsAt-start used history seed count left disk tally all knows none stands tallies =
+    record { done = []; all = sym all; ran = HasRun-start used history disk tally knows none stands tallies }
 
-pub IsAt-more : (history : History) (seed count : ℕ) (left rest : List Command) (command : Command) (old mid new : Told) (reply : Reply)
+pub IsAt-more : (used : Option ℕ) (history : History) (seed count : ℕ) (left rest : List Command) (command : Command) (old mid new : Told) (reply : Reply)
     (before after : Tally)
-    (at : IsAt history seed count left old mid before) → left ≡ command ∷ rest → IsSayable command →
+    (at : IsAt used history seed count left old mid before) → left ≡ command ∷ rest → IsSayable command →
     Adds (plain_after history (map printed at.done)) (command_brings (plain_after history (map printed at.done)) command) mid new (Ok reply) →
     (command_brings (plain_after history (map printed at.done)) command).replies ≡ reply ∷ [] →
     ((lines : ℕ) (all : List Reply) → Tallies lines all before → Tallies (lines + 1) (all ++ reply ∷ []) after) →
-    IsAt history seed count rest old new after
-IsAt-more history seed count left rest command old mid new reply before after at next sayable adds one tallies =
+    IsAt used history seed count rest old new after
+IsAt-more used history seed count left rest command old mid new reply before after at next sayable adds one tallies =
     let ls = map printed at.done in
     record {
       done = at.done ++ command ∷ [];
       all = at.all ∙ ap (λ cs. at.done ++ cs) next ∙ sym (append_assoc at.done (command ∷ []) rest);
-      ran = subst (λ l. HasRun history l old new after) (sym (map-append printed at.done (command ∷ [])))
-          (HasRun-more history old mid new ls command reply before after at.ran sayable adds one (tallies (length ls) (replies history ls) at.ran.tallied));
+      ran = subst (λ l. HasRun used history l old new after) (sym (map-append printed at.done (command ∷ [])))
+          (HasRun-more used history old mid new ls command reply before after at.ran sayable adds one (tallies (length ls) (replies history ls) at.ran.tallied));
     }
 
 -- a crash while a command of the file is done
-pub IsAt-stop : {T : Type 0} (history : History) (seed count : ℕ) (left rest : List Command) (command : Command) (old mid new : Told) (tally : Tally)
+pub IsAt-stop : {T : Type 0} (used : Option ℕ) (history : History) (seed count : ℕ) (left rest : List Command) (command : Command) (old mid new : Told) (tally : Tally)
     (result : Result T Status)
-    (at : IsAt history seed count left old mid tally) → left ≡ command ∷ rest → IsSayable command →
+    (at : IsAt used history seed count left old mid tally) → left ≡ command ∷ rest → IsSayable command →
     Adds (plain_after history (map printed at.done)) (command_brings (plain_after history (map printed at.done)) command) mid new result →
-    LeavesOnly old new (StandsWithin (plain history) (generated seed count))
-IsAt-stop history seed count left rest command old mid new tally result at next sayable adds =
+    LeavesOnly old new (StandsWithin (plain_over used history) (generated seed count))
+IsAt-stop used history seed count left rest command old mid new tally result at next sayable adds =
     let ls = map printed at.done in
     let all : generated seed count ≡ (ls ++ printed command ∷ []) ++ map printed rest =
     ap (λ cs. map printed cs) (at.all ∙ ap (λ cs. at.done ++ cs) next) ∙ map-append printed at.done (command ∷ rest)
     ∙ sym (append_assoc ls (printed command ∷ []) (map printed rest)) in
-    subst (λ l. LeavesOnly old new (StandsWithin (plain history) l)) (sym all)
-    (moments-more (plain history) old new (ls ++ printed command ∷ []) (map printed rest) (adds-line history old mid new ls command tally result at.ran sayable
+    subst (λ l. LeavesOnly old new (StandsWithin (plain_over used history) l)) (sym all)
+    (moments-more (plain_over used history) old new (ls ++ printed command ∷ []) (map printed rest) (adds-line used history old mid new ls command tally result at.ran sayable
     adds))
 
 -- all commands were done
-pub IsAt-end : (history : History) (seed count : ℕ) (left : List Command) (old new : Told) (tally : Tally) → IsAt history seed count left old new tally →
+pub IsAt-end : (used : Option ℕ) (history : History) (seed count : ℕ) (left : List Command) (old new : Told) (tally : Tally) → IsAt used history seed count left old new tally →
     left ≡ [] →
-    HasRun history (generated seed count) old new tally
-IsAt-end history seed count left old new tally at none =
-    subst (λ cs. HasRun history (map printed cs) old new tally) (sym (at.all ∙ ap (λ cs. at.done ++ cs) none ∙ append-nil at.done)) at.ran
+    HasRun used history (generated seed count) old new tally
+IsAt-end used history seed count left old new tally at none =
+    subst (λ cs. HasRun used history (map printed cs) old new tally) (sym (at.all ∙ ap (λ cs. at.done ++ cs) none ∙ append-nil at.done)) at.ran
 
 -- a text was sent, and then another, or less than it
 pub Sends-then : (before held after : Option (List ℕ)) (a b : List ℕ) (sent : Result (Unit {0}) Failed) → held ≡ appended before a →
@@ -246,68 +272,70 @@ Sends-less before after seed count lines all tally tallies less =
     (subst (λ bs. AppendsLess before after bs) (counts-tallied seed count lines all tally tallies) less)
 
 -- an image of the history after some first lines of the file
-pub StandsForGenerated-within : (history : History) (seed count : ℕ) (image : List ℕ) → StandsWithin (plain history) (generated seed count) image →
-    StandsForGenerated history seed count image
-StandsForGenerated-within history seed count image within = StandsForFirst-within (plain history) (generated seed count) image within
+pub StandsForGenerated-within : (used : Option ℕ) (history : History) (seed count : ℕ) (image : List ℕ) → StandsWithin (plain_over used history) (generated seed count) image →
+    StandsForGenerated used history seed count image
+StandsForGenerated-within used history seed count image within =
+    subst (λ events. StandsShortForFirst used history events image) (accepted-over used (plain history) (generated seed count))
+    (StandsShortForFirst-within (plain_over used history) (generated seed count) image within)
 
 -- the run stopped at a command, or before the first, or the sink failed at the summary
-pub Generates-stop : (history : History) (seed count : ℕ) (before after : Option (List ℕ)) (old new : Told) (status : Status) →
+pub Generates-stop : (used : Option ℕ) (history : History) (seed count : ℕ) (before after : Option (List ℕ)) (old new : Told) (status : Status) →
     (status ≡ Done → ⊥) →
     ((status ≡ SinkFault → ⊥) → after ≡ before) → KnowsNow new → AppendsFront before after (summary history seed count) →
-    LeavesOnly old new (StandsWithin (plain history) (generated seed count)) → Generates history seed count before after old new status
-Generates-stop history seed count before after old new status going silent knows front run =
-    let weak = weaker old new (StandsWithin (plain history) (generated seed count)) (StandsForGenerated history seed count)
-    (StandsForGenerated-within history seed count) run in
+    LeavesOnly old new (StandsWithin (plain_over used history) (generated seed count)) → Generates used history seed count before after old new status
+Generates-stop used history seed count before after old new status going silent knows front run =
+    let weak = weaker old new (StandsWithin (plain_over used history) (generated seed count)) (StandsForGenerated used history seed count)
+    (StandsForGenerated-within used history seed count) run in
     record {
       front = front;
       whole = λ is. absurd (going is);
       silent = λ _. silent;
       any_moment = weak;
-      kept = now old new (StandsForGenerated history seed count) knows weak;
+      kept = now old new (StandsForGenerated used history seed count) knows weak;
       done = λ is. absurd (going is);
       all = λ is. absurd (going is);
     }
 
 -- all commands were done, and the summary was sent
-pub Generates-done : (history : History) (seed count : ℕ) (before after : Option (List ℕ)) (old new : Told) (tally : Tally) → KnowsNow new →
-    HasRun history (generated seed count) old new tally → after ≡ appended before (summary history seed count) →
-    Generates history seed count before after old new Done
-Generates-done history seed count before after old new tally knows ran sent =
-    let weak = weaker old new (StandsWithin (plain history) (generated seed count)) (StandsForGenerated history seed count)
-    (StandsForGenerated-within history seed count) ran.any_moment in
-    let all : StandsForAll history seed count new.content = subst (λ h. Stands h new.content) (after_lines-accepted (plain history) (generated seed count))
+pub Generates-done : (used : Option ℕ) (history : History) (seed count : ℕ) (before after : Option (List ℕ)) (old new : Told) (tally : Tally) → KnowsNow new →
+    HasRun used history (generated seed count) old new tally → after ≡ appended before (summary history seed count) →
+    Generates used history seed count before after old new Done
+Generates-done used history seed count before after old new tally knows ran sent =
+    let weak = weaker old new (StandsWithin (plain_over used history) (generated seed count)) (StandsForGenerated used history seed count)
+    (StandsForGenerated-within used history seed count) ran.any_moment in
+    let all : StandsForAll used history seed count new.content = subst (λ h. StandsShort used h new.content) (after_lines-accepted (plain history) (generated seed count))
     ran.stands in
     record {
       front = AppendsFront-all before after (summary history seed count) sent;
       whole = λ _. sent;
       silent = λ going. absurd (going refl);
       any_moment = weak;
-      kept = now old new (StandsForGenerated history seed count) knows weak;
+      kept = now old new (StandsForGenerated used history seed count) knows weak;
       done = λ _. all;
-      all = λ _. of_content new (StandsForAll history seed count) ran.durable all;
+      all = λ _. of_content new (StandsForAll used history seed count) ran.durable all;
     }
 
 -- What opening the store left comes before.
-pub Generates-opened : (history : History) (seed count : ℕ) (before after : Option (List ℕ)) (old mid new : Told) (status : Status) → LeavesOnly old mid
-    (Stands history) →
-    Generates history seed count before after mid new status → Generates history seed count before after old new status
-Generates-opened history seed count before after old mid new status opened run = record {
+pub Generates-opened : (used : Option ℕ) (history : History) (seed count : ℕ) (before after : Option (List ℕ)) (old mid new : Told) (status : Status) → LeavesOnly old mid
+    (StandsShort used history) →
+    Generates used history seed count before after mid new status → Generates used history seed count before after old new status
+Generates-opened used history seed count before after old mid new status opened run = record {
   front = run.front;
   whole = run.whole;
   silent = run.silent;
-  any_moment = joined old mid new (StandsForGenerated history seed count)
-      (weaker old mid (Stands history) (StandsForGenerated history seed count)
-      (λ image is. StandsForGenerated-within history seed count image ([], generated seed count, refl, is)) opened) run.any_moment;
+  any_moment = joined old mid new (StandsForGenerated used history seed count)
+      (weaker old mid (StandsShort used history) (StandsForGenerated used history seed count)
+      (λ image is. StandsForGenerated-within used history seed count image ([], generated seed count, refl, is)) opened) run.any_moment;
   kept = run.kept;
   done = run.done;
   all = run.all;
 }
 
 -- the store wasn't opened
-pub Generates-unopened : (history : History) (seed count : ℕ) (before after : Option (List ℕ)) (had has : ℕ) (old new : Told) (error : OpenError) →
+pub Generates-unopened : (used : Option ℕ) (history : History) (seed count : ℕ) (before after : Option (List ℕ)) (had has : ℕ) (old new : Told) (error : OpenError) →
     OpensAs old.content (Err error) → Stands history old.content → AsRefused error before after had has → KnowsNow new →
-    LeavesOnly old new (Stands history) → Generates history seed count before after old new (status_of_open error)
-Generates-unopened history seed count before after had has old new error opens stands said knows opened =
+    LeavesOnly old new (StandsShort used history) → Generates used history seed count before after old new (status_of_open error)
+Generates-unopened used history seed count before after had has old new error opens stands said knows opened =
     let un = unopened old.content (state history) before after had has error stands.state opens said in
-    Generates-stop history seed count before after old new (status_of_open error) un.1 (λ _. un.0) knows (0, un.0 ∙ sym (appended-nil before))
-    (weaker old new (Stands history) (StandsWithin (plain history) (generated seed count)) (λ image is. ([], generated seed count, refl, is)) opened)
+    Generates-stop used history seed count before after old new (status_of_open error) un.1 (λ _. un.0) knows (0, un.0 ∙ sym (appended-nil before))
+    (weaker old new (StandsShort used history) (StandsWithin (plain_over used history) (generated seed count)) (λ image is. ([], generated seed count, refl, is)) opened)

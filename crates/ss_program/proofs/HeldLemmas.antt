@@ -32,14 +32,15 @@ use Rattle.std.specs.Prelude.{nat_le}
 use Rattle.std.proofs.lemmas.Bool.{cases_lt, cond-true, cond-false, le-leb, lt-leb}
 use Rattle.std.proofs.lemmas.List.{length-append, length-take-le, take-append-le}
 use Rattle.ss_catalog.specs.declared.event.Event.{Event}
-use Rattle.ss_store.specs.Recover.{Stands}
+use Rattle.ss_store.specs.Uses.{StandsShort}
 use Rattle.ss_model.specs.History.{Happened}
-use Rattle.ss_program.specs.Held.{StandsForFirst, acks}
+use Rattle.ss_program.specs.Held.{StandsForFirst, StandsShortForFirst, acks}
 use Rattle.ss_program.specs.Line.{the_event}
-use Rattle.ss_program.specs.Progress.{StandsWithin}
+use Rattle.ss_program.specs.Progress.{HoldsTalk, StandsWithin}
 use Rattle.ss_program.specs.Sent.{appended}
 use Rattle.ss_program.specs.Session.{accepted, after_line, after_lines, text_of}
 use Rattle.ss_program.specs.Talk.{Talk, turn_of}
+use Rattle.ss_program.proofs.LeftLemmas.{left_short}
 use Rattle.ss_program.proofs.SessionLemmas.{after_lines-accepted, says-some}
 
 -- the events accepted of more lines
@@ -69,16 +70,23 @@ few-events talk done others =
           (accepted-append talk done others),
     )
 
+-- an image of the history after some first lines is one of the first events
+pub first-short : (talk : Talk) (done others : List (List ℕ)) (image : List ℕ) → HoldsTalk (after_lines talk done) image →
+    StandsShort talk.used (talk.history ++ take (length (accepted talk done)) (accepted talk (done ++ others))) image
+first-short talk done others image stands =
+    subst (λ h. StandsShort talk.used h image) (sym (first-events talk done others)) (left_short talk done image stands)
+
+pub StandsShortForFirst-within : (talk : Talk) (ls : List (List ℕ)) (image : List ℕ) → StandsWithin talk ls image →
+    StandsShortForFirst talk.used talk.history (accepted talk ls) image
+StandsShortForFirst-within talk ls image within =
+    subst (λ l. StandsShortForFirst talk.used talk.history (accepted talk l) image) (sym within.2)
+    (length (accepted talk within.0), few-events talk within.0 within.1, first-short talk within.0 within.1 image within.3)
+
 pub StandsForFirst-within : (talk : Talk) (ls : List (List ℕ)) (image : List ℕ) → StandsWithin talk ls image →
     StandsForFirst talk.history (accepted talk ls) image
 StandsForFirst-within talk ls image within =
-    let done = within.0 in
-    let others = within.1 in
-    subst (λ l. StandsForFirst talk.history (accepted talk l) image) (sym within.2) (
-      length (accepted talk done),
-      few-events talk done others,
-      subst (λ h. Stands h image) (sym (first-events talk done others)) within.3,
-    )
+    let first = StandsShortForFirst-within talk ls image within in
+    (first.0, first.1, first.2.0)
 
 -- so many bytes of the text of what comes next are less than that of its first line, or none
 abbrev pub Cuts : Talk → List (List ℕ) → ℕ → Type 0

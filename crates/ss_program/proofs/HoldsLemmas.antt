@@ -29,12 +29,12 @@ use Rattle.std.proofs.Common.{
 use Rattle.std.proofs.lemmas.List.{append-nil, length-append}
 use Rattle.ss_catalog.specs.declared.event.Event.{Event}
 use Rattle.ss_outside.specs.Disk.{Told}
-use Rattle.ss_store.specs.Recover.{Stands}
+use Rattle.ss_store.specs.Uses.{StandsShort}
 use Rattle.ss_model.specs.History.{Happened}
 use Rattle.ss_program.specs.Held.{HoldsAcked, acks}
 use Rattle.ss_program.specs.Line.{the_event}
 use Rattle.ss_program.specs.Outcome.{HoldsReported, steps_within}
-use Rattle.ss_program.specs.Progress.{IsAlone, StopsAmong}
+use Rattle.ss_program.specs.Progress.{HoldsTalk, IsAlone, StopsAmong}
 use Rattle.ss_program.specs.Sent.{appended}
 use Rattle.ss_program.specs.Session.{accepted, after_line, after_lines, text_of}
 use Rattle.ss_program.specs.Talk.{Talk, turn_of}
@@ -54,19 +54,19 @@ use Rattle.ss_program.specs.declared.status.Status.TheVariants.{
 }
 use Rattle.ss_program.proofs.SendLemmas.{appended-appended, appended-nil}
 use Rattle.ss_program.proofs.SessionLemmas.{after_lines-append, text_of-append, text_of-one}
-use Rattle.ss_program.proofs.HeldLemmas.{Cuts, acks-done, acks-few, accepted-append, few-events, first-events, new_bytes, none-cut}
+use Rattle.ss_program.proofs.HeldLemmas.{Cuts, acks-done, acks-few, accepted-append, few-events, first-short, new_bytes, none-cut}
 use Rattle.ss_program.proofs.ReadLemmas.{AreRead}
 use Rattle.ss_program.specs.Steps.{steps}
 
 -- the image stands for the history after some first lines, to which all was sent, and nothing to others
 HoldsAcked-done : (sealing : Sealing) (talk : Talk) (ls read done others more : List (List ℕ)) (bytes : ℕ) (status : Status) (image : List ℕ) →
-    ls ≡ done ++ others → read ≡ done ++ more → bytes ≡ length (text_of talk done) → Stands (after_lines talk done).history image →
+    ls ≡ done ++ others → read ≡ done ++ more → bytes ≡ length (text_of talk done) → HoldsTalk (after_lines talk done) image →
     (status ≡ Done → others ≡ []) → HoldsAcked sealing talk ls read bytes status image
 HoldsAcked-done sealing talk ls read done others more bytes status image are reads is stands end =
     let acked = acks-done talk done others 0 bytes (none-cut (after_lines talk done) others) (omega (arith, is)) in
     subst (λ l. HoldsAcked sealing talk l read bytes status image) (sym are) (record {
       j = length (accepted talk done);
-      stands = subst (λ h. Stands h image) (sym (first-events talk done others)) stands;
+      stands = first-short talk done others image stands;
       few = few-events talk done others;
       acked = omega (arith, acked);
       within = subst (λ l. length (accepted talk done) ≤ length (accepted talk l)) (sym reads) (few-events talk done more);
@@ -77,13 +77,13 @@ HoldsAcked-done sealing talk ls read done others more bytes status image are rea
 
 -- it stands for the history after some first lines, and nothing that is said to others was sent
 HoldsAcked-beyond : (sealing : Sealing) (talk : Talk) (ls read done others more : List (List ℕ)) (bytes : ℕ) (status : Status) (image : List ℕ) →
-    ls ≡ done ++ others → read ≡ done ++ more → bytes ≤ length (text_of talk done) → Stands (after_lines talk done).history image →
+    ls ≡ done ++ others → read ≡ done ++ more → bytes ≤ length (text_of talk done) → HoldsTalk (after_lines talk done) image →
     (sealing ≡ Each → length (accepted talk done) ≤ acks talk ls bytes + 1) → (status ≡ Done → ⊥) → (status ≡ OutOfMemory → ⊥) →
     HoldsAcked sealing talk ls read bytes status image
 HoldsAcked-beyond sealing talk ls read done others more bytes status image are reads few stands most going fed = record {
   j = length (accepted talk done);
-  stands = subst (λ l. Stands (talk.history ++ take (length (accepted talk done)) (accepted talk l)) image) (sym are)
-      (subst (λ h. Stands h image) (sym (first-events talk done others)) stands);
+  stands = subst (λ l. StandsShort talk.used (talk.history ++ take (length (accepted talk done)) (accepted talk l)) image) (sym are)
+      (first-short talk done others image stands);
   few = subst (λ l. length (accepted talk done) ≤ length (accepted talk l)) (sym are) (few-events talk done others);
   acked = subst (λ l. acks talk l bytes ≤ length (accepted talk done)) (sym are) (acks-few talk done others bytes few);
   within = subst (λ l. length (accepted talk done) ≤ length (accepted talk l)) (sym reads) (few-events talk done more);
@@ -96,7 +96,7 @@ HoldsAcked-beyond sealing talk ls read done others more bytes status image are r
 pub HoldsReported-done : (sealing : Sealing) (talk : Talk) (input : List ℕ) (left before after : Option (List ℕ)) (disk : Told) (status : Status)
     (done others : List (List ℕ)) →
     steps talk.form input ≡ done ++ others → AreRead talk.form input left done → after ≡ appended before (text_of talk done) →
-    ((image : List ℕ) → disk.may_leave image → Stands (after_lines talk done).history image) → (status ≡ Done → others ≡ []) →
+    ((image : List ℕ) → disk.may_leave image → HoldsTalk (after_lines talk done) image) → (status ≡ Done → others ≡ []) →
     HoldsReported sealing talk input left before after disk status
 HoldsReported-done sealing talk input left before after disk status done others are read sent each end had has is_had is_has image may =
     let held : Some has ≡ appended (appended (Some had) (text_of talk done)) (take 0 []) =
@@ -195,7 +195,7 @@ HoldsAcked-among sealing talk all ls read others more before after disk status b
     HoldsAcked-beyond sealing talk all read done (tail ++ others) (tail ++ more) bytes status image
     (are ∙ ap (λ l. l ++ others) same ∙ append_assoc done tail others) (reads ∙ ap (λ l. l ++ more) same ∙ append_assoc done tail more)
     (omega (arith, is, beyond.3, text, length-append (text_of talk at.out) (text_of here beyond.0)))
-    (subst (λ (t : Talk). Stands t.history image) (sym (after_lines-append talk at.out beyond.0)) beyond.4)
+    (subst (λ (t : Talk). HoldsTalk t image) (sym (after_lines-append talk at.out beyond.0)) beyond.4)
     (λ each. subst (λ l. length (accepted talk done) ≤ acks talk l bytes + 1) (sym whole)
     (one-more talk at.out at.now beyond.0 beyond.1 (at.others ++ others) at.bytes bytes beyond.2
     (subst (λ s. IsAlone s here at.now at.bytes) each at.alone) is)) going fed

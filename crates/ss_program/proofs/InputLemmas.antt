@@ -11,7 +11,7 @@ use Rattle.ss_records.specs.Kept.{RecordsState, shown_by}
 use Rattle.ss_store.specs.Kept.{StoreState}
 use Rattle.ss_store.specs.Recover.{Stands}
 use Rattle.ss_program.specs.Amid.{Amid, GoesAmid, IsAmid, OfAmid, Owed, Takes, TakesBytes, TakesLast, TakesNone, TakesTurn, amid, owed_by}
-use Rattle.ss_program.specs.Progress.{EndsSession, HasReplied, HasTaken, NoneWait, SessionState, StopsIn, TakesPiece}
+use Rattle.ss_program.specs.Progress.{EndsSession, HasReplied, HasTaken, HoldsTalk, NoneWait, SessionState, StopsIn, TakesPiece}
 use Rattle.ss_program.specs.Session.{after_lines}
 use Rattle.ss_program.specs.Line.{Brought}
 use Rattle.ss_program.specs.Talk.{Talk, kept_framed, kept_offered, kept_spoken, kept_turn, meant_turn, turn_brought, turn_in, turn_of}
@@ -177,7 +177,7 @@ module _ (form : Form) (cursors : Cursors) (store : StoreState) (line : Kept) (w
           (GoesAmid-then sealing talk taken [] before (mid now) old between new to one.1 ((none_more now sealing talk taken before).goes one.1.amid)) in
           record {
             at = record {
-              stands = subst (Stands (after_lines talk taken).history) sealed has.amid.shown;
+              stands = subst (HoldsTalk (after_lines talk taken)) sealed has.amid.shown;
               durable = has.amid.durable;
               line = one.0;
               unsaid = none;
@@ -219,7 +219,7 @@ module _ (form : Form) (cursors : Cursors) (store : StoreState) (line : Kept) (w
       done = λ _ sealing talk before input at replied.
           let has = takes.goes sealing talk before input at.form at.line (begins sealing talk before input at replied) in
           record {
-            stands = subst (Stands (after_lines talk (steps talk.form input)).history) sealed has.amid.shown;
+            stands = subst (HoldsTalk (after_lines talk (steps talk.form input))) sealed has.amid.shown;
             durable = has.amid.durable;
             replied = said-all sealing talk (steps talk.form input) before (amid records (owed_by left) after now) new (owed-nothing left none) has.amid;
             any_moment = has.any_moment;

@@ -35,6 +35,8 @@ pub mod FieldRows
 pub mod EndRows
 pub mod AmidRows
 pub mod AmidLemmas
+pub mod LeftLemmas
+pub mod OverLemmas
 pub mod SealLemmas
 pub mod StopLemmas
 pub mod BroughtLemmas

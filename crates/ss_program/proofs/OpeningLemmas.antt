@@ -11,7 +11,7 @@ use Rattle.ss_store.specs.declared.error.OpenError.{OpenError}
 use Rattle.ss_store.specs.declared.error.OpenError.TheVariants as opening
 use Rattle.ss_store.specs.declared.surveying.Survey.{Survey}
 use Rattle.ss_program.specs.Outcome.{Reads, Serves}
-use Rattle.ss_program.specs.Progress.{StandsWithin}
+use Rattle.ss_program.specs.Progress.{StandsWithin, HoldsTalk}
 use Rattle.ss_program.specs.Refused.{AsRefused, status_of_open}
 use Rattle.ss_program.specs.Talk.{Talk}
 use Rattle.ss_arguments.specs.declared.mode.Sealing.{Sealing}
@@ -25,13 +25,14 @@ use Rattle.ss_program.specs.Steps.{steps}
 
 -- What opening the store left comes before what serving leaves.
 pub Serves-opened : (sealing : Sealing) (talk : Talk) (input : List ℕ) (left before after : Option (List ℕ)) (old mid new : Told) (status : Status) →
-    LeavesOnly old mid (Stands talk.history) → Serves sealing talk input left before after mid new status →
+    LeavesOnly old mid (HoldsTalk talk) → Serves sealing talk input left before after mid new status →
     Serves sealing talk input left before after old new status
 Serves-opened sealing talk input left before after old mid new status opened serves = record {
   report = serves.report;
   kept = serves.kept;
   any_moment = joined old mid new (StandsWithin talk (steps talk.form input))
-      (weaker old mid (Stands talk.history) (StandsWithin talk (steps talk.form input)) (λ image is. ([], steps talk.form input, refl, is)) opened) serves.any_moment;
+      (weaker old mid (HoldsTalk talk) (StandsWithin talk (steps talk.form input)) (λ image is. ([], steps talk.form input, refl, is)) opened)
+      serves.any_moment;
   whole = serves.whole;
 }
 
@@ -43,7 +44,7 @@ unopened-other other one two (inr how) is = absurd (two (sym how ∙ is))
 -- the store wasn't opened, and nothing was said of it
 pub Serves-unopened : (sealing : Sealing) (talk : Talk) (input : List ℕ) (left before after : Option (List ℕ)) (old new : Told) (status : Status) →
     ((status ≡ DiskFault) ⊎ (status ≡ OutOfMemory)) →
-    left ≡ Some input → after ≡ before → KnowsNow new → LeavesOnly old new (Stands talk.history) →
+    left ≡ Some input → after ≡ before → KnowsNow new → LeavesOnly old new (HoldsTalk talk) →
     Serves sealing talk input left before after old new status
 Serves-unopened sealing talk input left before after old new status how still same knows opened =
     let held = same ∙ sym (appended-nil before) in
@@ -58,15 +59,15 @@ Serves-unopened sealing talk input left before after old new status how still sa
         limited = λ is. unopened-other InputLimit (λ w. cc) (λ w. cc) how is;
       };
       kept = HoldsReported-done sealing talk input left before after new status [] (steps talk.form input) refl (AreRead-none talk.form input left still) held
-          (now old new (Stands talk.history) knows opened) (λ is. unopened-other Done (λ w. cc) (λ w. cc) how is);
-      any_moment = weaker old new (Stands talk.history) (StandsWithin talk (steps talk.form input)) (λ image is. ([], steps talk.form input, refl, is)) opened;
+          (now old new (HoldsTalk talk) knows opened) (λ is. unopened-other Done (λ w. cc) (λ w. cc) how is);
+      any_moment = weaker old new (HoldsTalk talk) (StandsWithin talk (steps talk.form input)) (λ image is. ([], steps talk.form input, refl, is)) opened;
       whole = λ is. unopened-other Done (λ w. cc) (λ w. cc) how is;
     }
 
 -- a content that stands for a history isn't refused
 pub Serves-refused : (sealing : Sealing) (talk : Talk) (input : List ℕ) (left before after : Option (List ℕ)) (had has : ℕ) (old new : Told)
     (error : OpenError) → OpensAs old.content (Err error) → Stands talk.history old.content → AsRefused error before after had has → left ≡ Some input →
-    KnowsNow new → LeavesOnly old new (Stands talk.history) → Serves sealing talk input left before after old new (status_of_open error)
+    KnowsNow new → LeavesOnly old new (HoldsTalk talk) → Serves sealing talk input left before after old new (status_of_open error)
 Serves-refused sealing talk input left before after had has old new opening.Disk opens stands said still knows opened =
     Serves-unopened sealing talk input left before after old new DiskFault (inl refl) still said.0 knows opened
 Serves-refused sealing talk input left before after had has old new opening.OutOfMemory opens stands said still knows opened =

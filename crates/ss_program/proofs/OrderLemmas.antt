@@ -27,7 +27,7 @@ use Rattle.ss_program.specs.declared.status.Status.TheVariants.{OutOfMemory}
 use Rattle.ss_program.proofs.BroughtLemmas.{TakesTurn-owed, TakesTurn-starved, TakesTurn-stopped, given, halted}
 use Rattle.ss_program.proofs.PutLemmas.{TakesTurn-put}
 use Rattle.ss_program.proofs.CursorLemmas.{close-event, next-event, open-event, open-some}
-use Rattle.ss_program.proofs.StagingLemmas.{Turns-looked, shown-still}
+use Rattle.ss_program.proofs.StagingLemmas.{Turns-looked}
 
 -- the text of one reply
 one-text : (session : ℕ) (brought : Brought) (reply : Reply) → brought.replies ≡ reply ∷ [] →
@@ -49,9 +49,8 @@ module _ (session : ℕ) (name : List ℕ) (was is : RecordsState) (waiting : Op
       TakesTurn-owed (λ talk. turn_said (Some session) (opens talk)) was is waiting held before old new knows_new reply after
       (said_line (Some session) reply) u
       (λ here. Turns-looked was is here.history old new (opens here).brought (given reply) knows took.reads
-      (λ stands. shown-still was is here.history (opens here).brought old.content new.content
-      (open-event here.history here.cursors session name)
-      (ap (λ (bytes : List ℕ). shown_by is bytes) took.reads.same.content ∙ ap (λ j. shown j old.content) same) stands))
+      (ap (λ (bytes : List ℕ). shown_by is bytes) took.reads.same.content ∙ ap (λ j. shown j old.content) same)
+      (λ stands. open-event here.history here.cursors session name))
       (λ here there stands.
       let one = took.reply here.history stands in
       subst (λ cs. (text_said (Some session) (open_brings here.history cs session name).brought ≡ said_line (Some session) reply)
@@ -66,7 +65,8 @@ module _ (session : ℕ) (name : List ℕ) (was is : RecordsState) (waiting : Op
   TakesOpened-stopped left after status other took =
       TakesTurn-stopped (λ talk. turn_said (Some session) (opens talk)) was is waiting held before old new knows_new {T = Reply}
       (amid is left held after) status refl other (λ here stands. open-some here.history here.cursors session name)
-      (λ here. Turns-looked was is here.history old new (opens here).brought (halted {T = Reply} status) knows took.reads (λ stands. tt))
+      (λ here. Turns-looked was is here.history old new (opens here).brought (halted {T = Reply} status) knows took.reads tt
+      (λ stands. open-event here.history here.cursors session name))
 
 -- memory ran out at it, after which all that waited was brought to the disk and sent
 pub TakesOpened-starved : {was is : RecordsState} {owed left : Owed} {held after : Option (List ℕ)} {old new : Told} {u : Unit {0}} (session : ℕ)
@@ -107,9 +107,8 @@ pub TakesClosed : (session : ℕ) (was : RecordsState) (waiting : Option (List �
 TakesClosed session was waiting held before after disk reply u knows brings goes =
     TakesTurn-owed (λ talk. turn_said (Some session) (close_brings talk.cursors session)) was was waiting held before disk disk knows reply after
     (said_line (Some session) reply) u
-    (λ here. Turns-looked was was here.history disk disk (close_brings here.cursors session).brought (given reply) knows (reads-none disk)
-    (λ stands. shown-still was was here.history (close_brings here.cursors session).brought disk.content disk.content
-    (close-event here.cursors session) refl stands))
+    (λ here. Turns-looked was was here.history disk disk (close_brings here.cursors session).brought (given reply) knows (reads-none disk) refl
+    (λ stands. close-event here.cursors session))
     (λ here there stands.
     subst (λ cs. (text_said (Some session) (close_brings cs session).brought ≡ said_line (Some session) reply)
     × ((close_brings cs session).cursors ≡ after)) (sym there)

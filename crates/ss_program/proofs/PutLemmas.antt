@@ -29,14 +29,14 @@ use Rattle.std.proofs.lemmas.List.{append-nil}
 use Rattle.std.specs.Prelude.{OnOk}
 use Rattle.ss_outside.proofs.CrashLemmas.{at_start, now, of_content, weaker}
 use Rattle.ss_outside.specs.Crash.{KnowsNow, LeavesOnly}
-use Rattle.ss_outside.specs.Disk.{Told}
+use Rattle.ss_outside.specs.Disk.{NothingPending, Told}
 use Rattle.ss_records.specs.Kept.{RecordsState, shown_by}
-use Rattle.ss_store.specs.Calls.{Turns}
 use Rattle.ss_store.specs.Recover.{Stands}
+use Rattle.ss_store.specs.Uses.{StandsShort}
 use Rattle.ss_program.specs.Amid.{TakesBrought, TakesTurn, amid, owed_by}
 use Rattle.ss_program.specs.Answer.{Adds, Replies, at_sink}
 use Rattle.ss_program.specs.Line.{Brought, History, text_said, the_event}
-use Rattle.ss_program.specs.Progress.{NoneWait, StandsWithin, StopsIn}
+use Rattle.ss_program.specs.Progress.{HoldsTalk, NoneWait, StandsWithin, StopsIn}
 use Rattle.ss_program.specs.Sent.{appended, AppendsLess, Sends, StopsSaying}
 use Rattle.ss_program.specs.Session.{after_line, after_lines, text_of}
 use Rattle.ss_program.specs.Talk.{Talk, Turn, after_turn, turn_brought, turn_of}
@@ -57,6 +57,7 @@ use Rattle.ss_program.specs.declared.status.Status.TheVariants.{
 }
 use Rattle.ss_program.proofs.AmidLemmas.{AreOwed-none, GoesAmid-none, IsAmid-begin, StandsBeyond-all}
 use Rattle.ss_program.proofs.AmidLemmas.{owed-nothing, said-all, sealing-owed}
+use Rattle.ss_program.proofs.LeftLemmas.{Adds-left, Adds-moments}
 use Rattle.ss_program.proofs.SendLemmas.{appended-appended}
 use Rattle.ss_program.proofs.SessionLemmas.{
   StandsWithin-after,
@@ -73,27 +74,32 @@ unanswered status = Err status
 
 -- the moments of a line that was answered
 moments-around : (talk : Talk) (ls : List (List ℕ)) (line : List ℕ) (old new : Told) →
-    LeavesOnly old new (λ image. Stands (after_lines talk ls).history image ⊎ Stands (after_line (after_lines talk ls) line).history image) →
+    LeavesOnly old new (λ image. HoldsTalk (after_lines talk ls) image ⊎ HoldsTalk (after_line (after_lines talk ls) line) image) →
     LeavesOnly old new (StandsWithin talk (ls ++ line ∷ []))
 moments-around talk ls line old new run =
-    weaker old new (λ image. Stands (after_lines talk ls).history image ⊎ Stands (after_line (after_lines talk ls) line).history image)
+    weaker old new (λ image. HoldsTalk (after_lines talk ls) image ⊎ HoldsTalk (after_line (after_lines talk ls) line) image)
     (StandsWithin talk (ls ++ line ∷ []))
     (λ image either. ⊎_elim (StandsWithin-before talk ls line image) (StandsWithin-after talk ls line image) either) run
 
 -- what it added, by its turn
-adds_to : (speaker : Option ℕ) (talk : Talk) (line : List ℕ) (brought : Brought) (old new : Told) (result : Result (Unit {0}) Status) →
-    turn_of talk line ≡ turn_brought speaker talk brought → Adds talk.history brought old new result →
-    Turns (Stands talk.history) (λ image. Stands talk.history image ⊎ Stands (after_line talk line).history image)
-    (Stands (after_line talk line).history) old new result
-adds_to speaker talk line brought old new result turn adds =
-    subst (λ (t : Turn). Turns (Stands talk.history) (λ image. Stands talk.history image ⊎ Stands (after_turn talk t).history image)
-    (Stands (after_turn talk t).history) old new result) (sym turn) adds
+module _ (speaker : Option ℕ) (talk : Talk) (line : List ℕ) (brought : Brought) (old new : Told) (result : Result (Unit {0}) Status)
+    (turn : turn_of talk line ≡ turn_brought speaker talk brought) (adds : Adds talk.history brought old new result) where
+  adds_left : HoldsTalk talk old.content → OnOk result (HoldsTalk (after_line talk line) new.content)
+  adds_left left =
+      subst (λ (t : Turn). OnOk result (HoldsTalk (after_turn talk t) new.content)) (sym turn)
+      (Adds-left talk.history brought old new result adds talk.used left)
+
+  adds_moments : NothingPending old → HoldsTalk talk old.content →
+      LeavesOnly old new (λ image. HoldsTalk talk image ⊎ HoldsTalk (after_line talk line) image)
+  adds_moments none left =
+      subst (λ (t : Turn). LeavesOnly old new (λ image. HoldsTalk talk image ⊎ HoldsTalk (after_turn talk t) image)) (sym turn)
+      (Adds-moments talk.history brought old new result adds talk.used none left)
 
 -- less than what is said to a line was sent, which brings no event
 Stops-rows : (sealing : Sealing) (talk : Talk) (ls : List (List ℕ)) (line : List ℕ) (before held after : Option (List ℕ)) (old new : Told)
     (status : Status) → KnowsNow new → (status ≡ OutOfMemory → ⊥) → held ≡ appended before (text_of talk ls) →
     (turn_of (after_lines talk ls) line).event ≡ None → AppendsLess held after (turn_of (after_lines talk ls) line).says →
-    LeavesOnly old new (λ image. Stands (after_lines talk ls).history image ⊎ Stands (after_line (after_lines talk ls) line).history image) →
+    LeavesOnly old new (λ image. HoldsTalk (after_lines talk ls) image ⊎ HoldsTalk (after_line (after_lines talk ls) line) image) →
     StopsIn sealing talk (ls ++ line ∷ []) old new before after status
 Stops-rows sealing talk ls line before held after old new status knows other said none less run =
     let here = after_lines talk ls in
@@ -116,8 +122,8 @@ Stops-rows sealing talk ls line before held after old new status knows other sai
             ∙ appended-appended before (text_of talk ls) (take k says)
             ∙ ap (λ (t : List ℕ). appended before (text_of talk ls ++ take k t)) (sym text);
         left = λ image left. StandsBeyond-all here (line ∷ []) k image few
-            (⊎_elim (λ stands. subst (λ h. Stands h image) (sym still) stands) (λ stands. stands)
-            (now old new (λ image. Stands here.history image ⊎ Stands (after_line here line).history image) knows run image left));
+            (⊎_elim (λ stands. subst (λ h. StandsShort here.used h image) (sym still) stands) (λ stands. stands)
+            (now old new (λ image. HoldsTalk here image ⊎ HoldsTalk (after_line here line) image) knows run image left));
         starved = λ memory. absurd (other memory);
       };
       any_moment = moments-around talk ls line old new run;
@@ -148,21 +154,23 @@ module _ {was is : RecordsState} (speaker : Option ℕ) (brought : History → B
   TakesBrought-rows (Ok u) still adds replies cursors sealing talk ls before line turn = record {
     goes = λ at.
         let here = after_lines talk ls in
-        let stands = subst (Stands here.history) sealed at.shown in
-        let turns = adds_to speaker here line (brought here.history) old new (Ok u) turn (adds here.history) in
+        let stands = subst (HoldsTalk here) sealed at.shown in
+        let durable = (adds here.history).turns.durable at.durable in
         let said = said-all sealing talk ls before (amid was (owed_by waiting) held cursors) old (owed-nothing waiting none) at in
-        let sent = replies here.history stands in
+        let sent = replies here.history stands.0 in
         let push = after_lines-push talk ls line in
         record {
           amid = IsAmid-begin sealing talk (ls ++ line ∷ []) before (amid is (owed_by waiting) after cursors) new (owed-nothing waiting none)
               (AreOwed-none sealing waiting (sealing-owed sealing waiting at.rest at.few)) still
-              (subst (λ (t : Talk). Stands t.history new.content) (sym push) (turns.content stands)) (turns.durable at.durable)
+              (subst (λ (t : Talk). HoldsTalk t new.content) (sym push)
+              (adds_left speaker here line (brought here.history) old new (Ok u) turn (adds here.history) stands)) durable
               (sent ∙ ap (λ o. appended o (text_said speaker (brought here.history))) said
               ∙ appended-appended before (text_of talk ls) (text_said speaker (brought here.history))
               ∙ ap (λ (t : Turn). appended before (text_of talk ls ++ t.says)) (sym turn)
               ∙ ap (λ (t : List ℕ). appended before t) (sym (text_of-push talk ls line)))
               (at.cursors ∙ ap (λ (t : Turn). t.cursors) (sym turn) ∙ ap (λ (t : Talk). t.cursors) (sym push));
-          any_moment = moments-around talk ls line old new (turns.any_moment at.durable stands);
+          any_moment = moments-around talk ls line old new
+              (adds_moments speaker here line (brought here.history) old new (Ok u) turn (adds here.history) at.durable stands);
         };
     stops = tt;
   }
@@ -170,13 +178,13 @@ module _ {was is : RecordsState} (speaker : Option ℕ) (brought : History → B
     goes = tt;
     stops = λ at.
         let here = after_lines talk ls in
-        let stands = subst (Stands here.history) sealed at.shown in
-        let turns = adds_to speaker here line (brought here.history) old new (unanswered status) turn (adds here.history) in
-        let less = less-of speaker (brought here.history) held after status (no_event here.history) (replies here.history stands) in
+        let stands = subst (HoldsTalk here) sealed at.shown in
+        let less = less-of speaker (brought here.history) held after status (no_event here.history) (replies here.history stands.0) in
         Stops-rows sealing talk ls line before held after old new status knows less.0
         (said-all sealing talk ls before (amid was (owed_by waiting) held cursors) old (owed-nothing waiting none) at)
         (ap (λ (t : Turn). t.event) turn ∙ no_event here.history)
-        (subst (λ (t : Turn). AppendsLess held after t.says) (sym turn) less.1) (turns.any_moment at.durable stands);
+        (subst (λ (t : Turn). AppendsLess held after t.says) (sym turn) less.1)
+        (adds_moments speaker here line (brought here.history) old new (unanswered status) turn (adds here.history) at.durable stands);
   }
 
 -- What is said to a line that brings no event is sent at once, where nothing waits, and nothing is staged then.
@@ -195,7 +203,8 @@ module _ {was : RecordsState} (turn : Talk → Turn) (waiting : Option (List ℕ
         GoesAmid-none sealing talk (ls ++ line ∷ []) before (amid was (owed_by waiting) after left) disk knows
         (IsAmid-begin sealing talk (ls ++ line ∷ []) before (amid was (owed_by waiting) after left) disk (owed-nothing waiting none)
         (AreOwed-none sealing waiting (sealing-owed sealing waiting at.rest at.few)) sealed
-        (subst (λ h. Stands h disk.content) (sym (ap (λ (t : Talk). t.history) then ∙ still)) (subst (Stands here.history) sealed at.shown)) at.durable
+        (subst (λ (t : Talk). HoldsTalk t disk.content) (sym then)
+        (subst (λ h. StandsShort here.used h disk.content) (sym still) (subst (HoldsTalk here) sealed at.shown))) at.durable
         (sends ∙ ap (λ o. appended o text) (said-all sealing talk ls before (amid was (owed_by waiting) held cursors) disk (owed-nothing waiting none) at)
         ∙ appended-appended before (text_of talk ls) text
         ∙ ap (λ (t : List ℕ). appended before (text_of talk ls ++ t)) (sym (ap (λ (t : Turn). t.says) known ∙ said.0))
@@ -208,10 +217,10 @@ module _ {was : RecordsState} (turn : Talk → Turn) (waiting : Option (List ℕ
     stops = λ at.
         let here = after_lines talk ls in
         let said = says here (sym at.cursors) in
-        let either = λ (image : List ℕ). Stands here.history image ⊎ Stands (after_line here line).history image in
+        let either = λ (image : List ℕ). HoldsTalk here image ⊎ HoldsTalk (after_line here line) image in
         Stops-rows sealing talk ls line before held after disk disk SinkFault knows (λ memory. cc)
         (said-all sealing talk ls before (amid was (owed_by waiting) held cursors) disk (owed-nothing waiting none) at)
         (ap (λ (t : Turn). t.event) known ∙ said.1)
         (subst (λ (t : List ℕ). AppendsLess held after t) (sym (ap (λ (t : Turn). t.says) known ∙ said.0)) sends)
-        (at_start disk either knows (of_content disk either at.durable (inl (subst (Stands here.history) sealed at.shown))));
+        (at_start disk either knows (of_content disk either at.durable (inl (subst (HoldsTalk here) sealed at.shown))));
   }

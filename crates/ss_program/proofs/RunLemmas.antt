@@ -7,7 +7,7 @@ use Rattle.ss_outside.specs.Crash.{KnowsNow, LeavesOnly}
 use Rattle.ss_outside.specs.Disk.{Told}
 use Rattle.ss_store.specs.Recover.{Stands}
 use Rattle.ss_program.specs.Outcome.{Reports, Serves, Stopped, Took, steps_within}
-use Rattle.ss_program.specs.Progress.{EndsWell, GoesOn, HasReplied, HasTaken, SessionState, StandsWithin, StopsIn}
+use Rattle.ss_program.specs.Progress.{EndsWell, GoesOn, HoldsTalk, HasReplied, HasTaken, SessionState, StandsWithin, StopsIn}
 use Rattle.ss_program.specs.Sent.{appended, AppendsFront}
 use Rattle.ss_program.specs.Session.{after_lines, report, report_so_far, text_of}
 use Rattle.ss_program.specs.Status.{IsStop}
@@ -220,9 +220,9 @@ Serves-done sealing {talk = talk} {start = start} {mid = mid} {before = before} 
   };
   kept = HoldsReported-done sealing talk input left before after new Done (steps talk.form input) [] (sym (append-nil (steps talk.form input)))
       (AreRead-took talk.form input left input [] (record { all = append-nil input; others = end.source; few = end.fits })) ends.replied
-      (of_content new (Stands (after_lines talk (steps talk.form input)).history) ends.durable ends.stands) (λ _. refl);
+      (of_content new (HoldsTalk (after_lines talk (steps talk.form input))) ends.durable ends.stands) (λ _. refl);
   any_moment = joined start mid new (StandsWithin talk (steps talk.form input)) (any_moment-lines talk start mid input end.on.any_moment) ends.any_moment;
-  whole = λ _. subst (λ h. Stands h new.content) (after_lines-accepted talk (steps talk.form input)) ends.stands;
+  whole = λ _. subst (λ h. Stands h new.content) (after_lines-accepted talk (steps talk.form input)) ends.stands.0;
 }
 
 -- the session was finished
@@ -294,7 +294,7 @@ Serves-part sealing {talk = talk} {start = start} {now = now} {before = before} 
       };
       kept = HoldsReported-done sealing talk input after_left before held now status ls more.0 all (part-read talk input left after_left n through.source how)
           through.on.replied
-          (of_content now (Stands (after_lines talk ls).history) through.on.at.durable through.on.at.stands) (λ is. part-other Done (λ w. cc) (λ w. cc) how is);
+          (of_content now (HoldsTalk (after_lines talk ls)) through.on.at.durable through.on.at.stands) (λ is. part-other Done (λ w. cc) (λ w. cc) how is);
       any_moment = subst (λ l. LeavesOnly start now (StandsWithin talk l)) (sym all) (moments-more talk start now ls more.0 through.on.any_moment);
       whole = λ is. part-other Done (λ w. cc) (λ w. cc) how is;
     }

@@ -1,6 +1,6 @@
 -- Worked rows of what is said to sessions, and the numbers of its rules.
 use Rattle.std.proofs.Common.{◌*◌, ◌≡◌, ◌+◌, ◌^◌, ◌++◌, [], ◌∷◌, arith, lit≤, refl}
-use Rattle.std.specs.Prelude.{ℕ, List, Some, None, codes, flat_map, map, pos, negsuc}
+use Rattle.std.specs.Prelude.{ℕ, List, Some, None, codes, flat_map, length, map, pos, negsuc}
 use Rattle.std.specs.Fmt.{digits}
 use Rattle.ss_catalog.specs.Names.{is_name}
 use Rattle.ss_catalog.specs.declared.event.Event.TheVariants.{Create, Value}
@@ -11,6 +11,7 @@ use Rattle.ss_model.specs.History.{Happened, added}
 use Rattle.ss_model.specs.Refusals.{refuses, refuses_reading}
 use Rattle.ss_model.specs.State.{state}
 use Rattle.ss_windowing.specs.Windowing.{window_index}
+use Rattle.ss_program.specs.Amid.{HasRoom}
 use Rattle.ss_program.specs.Line.{IsSpeaker, brings, text_said}
 use Rattle.ss_arguments.specs.declared.mode.Sealing.TheVariants.{Each, Shared}
 use Rattle.ss_program.specs.Reading.{most_read}
@@ -22,6 +23,16 @@ longest_reply = refl
 
 most_waiting : MOST_WAITING_BYTES ≡ 2 ^ 16
 most_waiting = refl
+
+-- one more can wait behind 65,016 bytes of replies, and not behind one byte more; and always where none waits
+room-last : (replies : List ℕ) → length replies ≡ 65016 → HasRoom (Some replies)
+room-last replies long = omega (arith, long)
+
+room-past : (replies : List ℕ) → length replies ≡ 65017 → HasRoom (Some replies) → ⊥
+room-past replies long room = omega (arith, long, room)
+
+room-none : HasRoom None
+room-none = tt
 
 -- how much one read of the input takes at the most: in batches what may share a seal
 most_read-each : most_read Each ≡ 2 ^ 12

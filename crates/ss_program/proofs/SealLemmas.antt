@@ -11,9 +11,12 @@ use Rattle.ss_outside.specs.declared.source.Failed.{Failed}
 use Rattle.ss_records.specs.Kept.{RecordsState, shown_by}
 use Rattle.ss_store.specs.Calls.{SealsHistory, TurnsHistory}
 use Rattle.ss_store.specs.Recover.{Stands}
+use Rattle.ss_store.specs.Uses.{IsShort, StandsShort}
+use Rattle.ss_store.proofs.Uses.{IsShort-more}
 use Rattle.ss_program.specs.Amid.{Amid, AreOwed, GoesAmid, IsAmid, Owed, TakesNone, amid, owed_by, with_text}
 use Rattle.ss_program.specs.Answer.{at_sink}
-use Rattle.ss_program.specs.Progress.{IsAlone, StandsWithin, StopsIn}
+use Rattle.ss_program.specs.Line.{the_event}
+use Rattle.ss_program.specs.Progress.{IsAlone, HoldsTalk, StandsWithin, StopsIn}
 use Rattle.ss_program.specs.Sent.{appended, AppendsLess, Sends}
 use Rattle.ss_program.specs.Session.{after_line, after_lines, text_of}
 use Rattle.ss_program.specs.Status.{disk_verdict, ended}
@@ -23,6 +26,7 @@ use Rattle.ss_arguments.specs.declared.mode.Sealing.TheVariants.{Each, Shared}
 use Rattle.ss_program.specs.declared.status.Status.{Status}
 use Rattle.ss_program.specs.declared.status.Status.TheVariants.{DiskFault, SinkFault, OutOfMemory}
 use Rattle.ss_program.proofs.AmidLemmas.{AreOwed-more, IsAmid-begin, StandsBeyond-all, StandsBeyond-none, moments-out}
+use Rattle.ss_program.proofs.LeftLemmas.{left_short, short_left}
 use Rattle.ss_program.proofs.SendLemmas.{appended-appended}
 use Rattle.ss_program.proofs.SessionLemmas.{
   StandsWithin-after,
@@ -30,6 +34,7 @@ use Rattle.ss_program.proofs.SessionLemmas.{
   StandsWithin-before,
   after_lines-append,
   after_lines-push,
+  after_lines-used,
   text_of-append,
   text_of-push,
 }
@@ -88,14 +93,31 @@ module _ (sealing : Sealing) (talk : Talk) (ls : List (List ℕ)) (before : Opti
   abbrev here : Talk
   here = after_lines talk at.out
 
+  -- what the disk stands for, as it is asked of the conversation
+  abbrev there : List ℕ → Type 0
+  there image = StandsShort talk.used (after_lines here at.within.0).history image
+
+  there-used : (after_lines here at.within.0).used ≡ talk.used
+  there-used = after_lines-used here at.within.0 ∙ after_lines-used talk at.out
+
+  is-there : there old.content
+  is-there = subst (λ used. StandsShort used (after_lines here at.within.0).history old.content) there-used at.within.3
+
+  left-there : (image : List ℕ) → there image → HoldsTalk (after_lines here at.within.0) image
+  left-there image short = subst (λ used. StandsShort used (after_lines here at.within.0).history image) (sym there-used) short
+
+  is-shown : StandsShort talk.used (after_lines talk ls).history (shown_by from.records old.content)
+  is-shown = left_short talk ls (shown_by from.records old.content) at.shown
+
   -- the moments of a call that leaves what stood there or what is shown
-  moments-sealed : LeavesOnly old new (λ image. Stands (after_lines here at.within.0).history image ⊎ Stands (after_lines talk ls).history image) →
+  moments-sealed : {T E : Type 0} {is : RecordsState} {result : Result T E} → SealsHistory from.records is result old new →
       LeavesOnly old new (StandsWithin here at.rest)
-  moments-sealed run =
-      weaker old new (λ image. Stands (after_lines here at.within.0).history image ⊎ Stands (after_lines talk ls).history image) (StandsWithin here at.rest)
-      (λ image either. ⊎_elim (λ stands. (at.within.0, at.within.1, at.within.2, stands))
-      (λ stands. StandsWithin-all here at.rest image (subst (λ (t : Talk). Stands t.history image) (after-rest talk ls at.out at.rest at.are) stands)) either)
-      run
+  moments-sealed seals =
+      weaker old new (λ image. there image ⊎ StandsShort talk.used (after_lines talk ls).history image) (StandsWithin here at.rest)
+      (λ image either. ⊎_elim (λ stands. (at.within.0, at.within.1, at.within.2, left-there image stands))
+      (λ stands. StandsWithin-all here at.rest image (subst (λ (t : Talk). HoldsTalk t image) (after-rest talk ls at.out at.rest at.are)
+      (short_left talk ls image stands))) either)
+      ((seals (after_lines talk ls).history).any_moment at.durable talk.used (after_lines here at.within.0).history is-there is-shown)
 
   -- the disk failed
   pub seal-failed : {is : RecordsState} (e : Failed) → SealsHistory {T = Unit {0}} from.records is (Err e) old new →
@@ -103,15 +125,18 @@ module _ (sealing : Sealing) (talk : Talk) (ls : List (List ℕ)) (before : Opti
   seal-failed e seals may =
       Stops-unsent sealing talk ls [] at.out at.rest before from.held old new DiskFault (append-nil ls ∙ at.are) at.said knows (λ memory. cc)
       (IsAlone-owed sealing here from.owed.lines from.owed.text at.rest 0 at.few at.owes may)
-      (moments-sealed ((seals (after_lines talk ls).history).any_moment at.durable (after_lines here at.within.0).history at.within.3 at.shown))
+      (moments-sealed seals)
 
   module _ (to : Amid) (u : Unit {0}) (sealed : shown_by to.records new.content ≡ new.content)
       (seals : SealsHistory {E = Failed} from.records to.records (Ok u) old new) where
     run : LeavesOnly old new (StandsWithin here at.rest)
-    run = moments-sealed ((seals (after_lines talk ls).history).any_moment at.durable (after_lines here at.within.0).history at.within.3 at.shown)
+    run = moments-sealed seals
 
-    stands : Stands (after_lines talk ls).history new.content
-    stands = subst (Stands (after_lines talk ls).history) sealed ((seals (after_lines talk ls).history).content at.shown)
+    stands : HoldsTalk (after_lines talk ls) new.content
+    stands =
+        let all = seals (after_lines talk ls).history in
+        subst (HoldsTalk (after_lines talk ls)) sealed
+        (short_left talk ls (shown_by to.records new.content) (all.content at.shown.0, all.short talk.used is-shown))
 
     only : NothingPending new
     only = (seals (after_lines talk ls).history).durable at.durable
@@ -134,9 +159,9 @@ module _ (sealing : Sealing) (talk : Talk) (ls : List (List ℕ)) (before : Opti
             sent = less.2 ∙ ap (λ o. appended o (take bytes from.owed.text)) at.said
                 ∙ appended-appended before (text_of talk at.out) (take bytes from.owed.text)
                 ∙ ap (λ (t : List ℕ). appended before (text_of talk at.out ++ take bytes t)) at.owes;
-            left = λ image left. StandsBeyond-all here at.rest bytes image few (subst (λ (t : Talk). Stands t.history image)
+            left = λ image left. StandsBeyond-all here at.rest bytes image few (subst (λ (t : Talk). HoldsTalk t image)
                 (after-rest talk ls at.out at.rest at.are)
-                (of_content new (Stands (after_lines talk ls).history) only stands image left));
+                (of_content new (HoldsTalk (after_lines talk ls)) only stands image left));
             starved = λ memory. cc;
           };
           any_moment = moments-out talk old new (ls ++ []) at.out at.rest (append-nil ls ∙ at.are) run;
@@ -163,17 +188,28 @@ module _ (sealing : Sealing) (talk : Talk) (ls : List (List ℕ)) (before : Opti
     abbrev then : List ℕ → Type 0
     then image = Stands (after_line (after_lines talk ls) line).history image
 
+    -- one after it
+    left-line : (image : List ℕ) → then image → IsShort talk.used (after_lines talk ls).history image → HoldsTalk (after_line (after_lines talk ls) line) image
+    left-line image stands short =
+        let event = the_event (turn_of (after_lines talk ls) line).event in
+        subst (λ used. StandsShort used ((after_lines talk ls).history ++ event) image) (sym (after_lines-used talk ls))
+        (stands, IsShort-more talk.used (after_lines talk ls).history event image short)
+
     -- an image of the history before a line or after it, or of what stood there
-    within-line : (image : List ℕ) → (Stands (after_lines here at.within.0).history image ⊎ (first image ⊎ then image)) →
+    within-line : (image : List ℕ) → (there image ⊎ ((first image ⊎ then image) × IsShort talk.used (after_lines talk ls).history image)) →
         StandsWithin here (at.rest ++ line ∷ []) image
-    within-line image (inl there) =
-        (at.within.0, at.within.1 ++ line ∷ [], ap (λ l. l ++ line ∷ []) at.within.2 ∙ append_assoc at.within.0 at.within.1 (line ∷ []), there)
-    within-line image (inr (inl stands)) =
+    within-line image (inl stays) = (
+      at.within.0,
+      at.within.1 ++ line ∷ [],
+      ap (λ l. l ++ line ∷ []) at.within.2 ∙ append_assoc at.within.0 at.within.1 (line ∷ []),
+      left-there image stays,
+    )
+    within-line image (inr (inl stands, short)) =
         StandsWithin-before here at.rest line image
-        (subst (λ (t : Talk). Stands t.history image) (after-rest talk ls at.out at.rest at.are) stands)
-    within-line image (inr (inr stands)) =
+        (subst (λ (t : Talk). HoldsTalk t image) (after-rest talk ls at.out at.rest at.are) (short_left talk ls image (stands, short)))
+    within-line image (inr (inr stands, short)) =
         StandsWithin-after here at.rest line image
-        (subst (λ (t : Talk). Stands (after_line t line).history image) (after-rest talk ls at.out at.rest at.are) stands)
+        (subst (λ (t : Talk). HoldsTalk (after_line t line) image) (after-rest talk ls at.out at.rest at.are) (left-line image stands short))
 
     are-line : ls ++ line ∷ [] ≡ at.out ++ (at.rest ++ line ∷ [])
     are-line = ap (λ l. l ++ line ∷ []) at.are ∙ append_assoc at.out at.rest (line ∷ [])
@@ -183,9 +219,9 @@ module _ (sealing : Sealing) (talk : Talk) (ls : List (List ℕ)) (before : Opti
         (after_line (after_lines talk ls) line).history old new result) where
       moments-line : LeavesOnly old new (StandsWithin here (at.rest ++ line ∷ []))
       moments-line =
-          weaker old new (λ image. Stands (after_lines here at.within.0).history image ⊎ (first image ⊎ then image))
+          weaker old new (λ image. there image ⊎ ((first image ⊎ then image) × IsShort talk.used (after_lines talk ls).history image))
           (StandsWithin here (at.rest ++ line ∷ [])) within-line
-          (turns.any_moment at.durable (after_lines here at.within.0).history at.within.3 at.shown)
+          (turns.any_moment at.durable talk.used (after_lines here at.within.0).history is-there is-shown)
 
       -- the run stopped at the line
       pub line-stopped : (waiting : Option (List ℕ)) (status : Status) → from.owed ≡ owed_by waiting → (status ≡ OutOfMemory → ⊥) →
@@ -215,8 +251,10 @@ module _ (sealing : Sealing) (talk : Talk) (ls : List (List ℕ)) (before : Opti
                   ∙ ap (λ (t : Talk). text_of here at.rest ++ (turn_of t line).says) rest ∙ sym (text_of-push here at.rest line);
               few = subst (λ o. AreOwed sealing o.lines (at.rest ++ line ∷ [])) (sym owed)
                   (AreOwed-more sealing from.owed.lines at.rest line at.few);
-              shown = subst (λ r. Stands (after_lines talk (ls ++ line ∷ [])).history (shown_by r new.content)) (sym recorded)
-                  (subst (λ (t : Talk). Stands t.history (shown_by records new.content)) (sym push) (shows.content at.shown));
+              shown = subst (λ r. HoldsTalk (after_lines talk (ls ++ line ∷ [])) (shown_by r new.content)) (sym recorded)
+                  (subst (λ (t : Talk). HoldsTalk t (shown_by records new.content)) (sym push)
+                  (subst (λ used. StandsShort used (after_line (after_lines talk ls) line).history (shown_by records new.content))
+                  (sym (after_lines-used talk ls)) (shows.content at.shown.0, shows.short talk.used is-shown)));
               within = now old new (StandsWithin here (at.rest ++ line ∷ [])) knows moments-line new.content knows.content_is_image;
               durable = shows.durable at.durable;
               cursors = sym cursors ∙ ap (λ (t : Talk). t.cursors) (sym push);

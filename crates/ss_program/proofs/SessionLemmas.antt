@@ -35,7 +35,7 @@ use Rattle.ss_outside.specs.Crash.{LeavesOnly}
 use Rattle.ss_outside.specs.Disk.{Told}
 use Rattle.ss_outside.proofs.CrashLemmas.{weaker}
 use Rattle.ss_store.specs.Recover.{Stands}
-use Rattle.ss_program.specs.Progress.{StandsWithin, StopsAmong, StopsIn}
+use Rattle.ss_program.specs.Progress.{HoldsTalk, StandsWithin, StopsAmong, StopsIn}
 use Rattle.ss_program.specs.Sent.{appended, AppendsFront}
 use Rattle.ss_program.specs.Session.{accepted, after_line, after_lines, plain_after, replies, report, report_so_far, text_of}
 use Rattle.ss_program.specs.Talk.{Talk, kept_spoken, meant_turn, plain, turn_in, turn_of, turn_spoken, turn_to, writing}
@@ -126,6 +126,11 @@ after_lines-accepted talk (l ∷ ls) =
     after_lines-accepted (after_line talk l) ls
     ∙ append_assoc talk.history (the_event (turn_of talk l).event) (accepted (after_line talk l) ls)
 
+-- and it is as it was asked how many slots were used
+pub after_lines-used : (talk : Talk) (ls : List (List ℕ)) → (after_lines talk ls).used ≡ talk.used
+after_lines-used talk [] = refl
+after_lines-used talk (l ∷ ls) = after_lines-used (after_line talk l) ls
+
 -- what is said to more lines
 pub text_of-append : (talk : Talk) (ls ms : List (List ℕ)) → text_of talk (ls ++ ms) ≡ text_of talk ls ++ text_of (after_lines talk ls) ms
 text_of-append talk [] ms = refl
@@ -201,7 +206,7 @@ pub after_lines-push : (talk : Talk) (ls : List (List ℕ)) (line : List ℕ) �
 after_lines-push talk ls line = after_lines-append talk ls (line ∷ [])
 
 -- An image of the history after some first lines. It is one of more lines, too.
-pub StandsWithin-all : (talk : Talk) (ls : List (List ℕ)) (image : List ℕ) → Stands (after_lines talk ls).history image → StandsWithin talk ls image
+pub StandsWithin-all : (talk : Talk) (ls : List (List ℕ)) (image : List ℕ) → HoldsTalk (after_lines talk ls) image → StandsWithin talk ls image
 StandsWithin-all talk ls image stands = (ls, [], sym (append-nil ls), stands)
 
 pub StandsWithin-more : (talk : Talk) (ls ms : List (List ℕ)) (image : List ℕ) → StandsWithin talk ls image → StandsWithin talk (ls ++ ms) image
@@ -209,14 +214,14 @@ StandsWithin-more talk ls ms image some =
     (some.0, some.1 ++ ms, ap (λ l. l ++ ms) some.2 ∙ append_assoc some.0 some.1 ms, some.3)
 
 -- an image of the history before a line or after it
-pub StandsWithin-before : (talk : Talk) (ls : List (List ℕ)) (line : List ℕ) (image : List ℕ) → Stands (after_lines talk ls).history image →
+pub StandsWithin-before : (talk : Talk) (ls : List (List ℕ)) (line : List ℕ) (image : List ℕ) → HoldsTalk (after_lines talk ls) image →
     StandsWithin talk (ls ++ line ∷ []) image
 StandsWithin-before talk ls line image stands = (ls, line ∷ [], refl, stands)
 
 pub StandsWithin-after : (talk : Talk) (ls : List (List ℕ)) (line : List ℕ) (image : List ℕ) →
-    Stands (after_line (after_lines talk ls) line).history image → StandsWithin talk (ls ++ line ∷ []) image
+    HoldsTalk (after_line (after_lines talk ls) line) image → StandsWithin talk (ls ++ line ∷ []) image
 StandsWithin-after talk ls line image stands =
-    StandsWithin-all talk (ls ++ line ∷ []) image (subst (λ (t : Talk). Stands t.history image) (sym (after_lines-push talk ls line)) stands)
+    StandsWithin-all talk (ls ++ line ∷ []) image (subst (λ (t : Talk). HoldsTalk t image) (sym (after_lines-push talk ls line)) stands)
 
 -- the moments of more lines
 pub moments-more : (talk : Talk) (old new : Told) (ls ms : List (List ℕ)) → LeavesOnly old new (StandsWithin talk ls) →

@@ -19,6 +19,7 @@ use Rattle.ss_report.specs.declared.reply.Reply.{Reply}
 use Rattle.ss_store.proofs.FoundAlike.{refuses-kept}
 use Rattle.ss_store.specs.Calls.{StandsForEither, TurnsHistory}
 use Rattle.ss_store.specs.Kept.{StoreState, refuses_held}
+use Rattle.ss_store.specs.Uses.{IsShort, StandsShort}
 use Rattle.ss_store.specs.Recover.{Stands}
 use Rattle.ss_store.specs.declared.error.ApplyError.{ApplyError}
 use Rattle.ss_store.specs.declared.error.ApplyError.TheVariants as errors
@@ -38,6 +39,12 @@ accepted-shown event store disk result serves refused other told history stands 
     refuses-kept store (shown_by store.records disk.told.content) history event (serves.kept told).shown stands
     ∙ not_refused result (refuses_held store.streams event) refused other
 
+-- what holds of what is shown by the history stays for a line that brings no event
+shown-still : (was is : RecordsState) (history : History) (brought : Brought) (old new : List ℕ) (P : History → List ℕ → Type 0) →
+    brought.event ≡ None → shown_by is new ≡ shown_by was old → P history (shown_by was old) → P (history_after history brought) (shown_by is new)
+shown-still was is history brought old new P none same has =
+    subst (λ h. P h (shown_by is new)) (sym (history-still history brought none)) (subst (P history) (sym same) has)
+
 module _ (was is : RecordsState) (history : History) (old new : Told) where
   -- an event that was staged, or not, where it isn't refused
   pub Turns-staged : {T S E F : Type 0} (event : Event) (step : Result T E) (result : Result S F) → ((X : Type 0) → OnOk step X → OnOk result X) →
@@ -52,31 +59,33 @@ module _ (was is : RecordsState) (history : History) (old new : Told) where
       record {
         content = λ has. keeps (Stands (history_after history brought) (shown_by is new.content))
             (on_ok_weaker step (λ stands. subst (λ h. Stands h (shown_by is new.content)) (after has) stands) (turns.content has));
-        any_moment = λ durable sealed there has.
-            weaker old new (λ image. Stands sealed image ⊎ StandsForEither history event image)
-            (λ image. Stands sealed image ⊎ StandsAround history brought image)
+        short = λ used has. keeps (IsShort used (history_after history brought) (shown_by is new.content))
+            (on_ok_weaker step (λ short. subst (λ h. IsShort used h (shown_by is new.content)) (after has.0) short) (turns.short used has));
+        any_moment = λ durable used sealed there has.
+            weaker old new (λ image. StandsShort used sealed image ⊎ (StandsForEither history event image × IsShort used history image))
+            (λ image. StandsShort used sealed image ⊎ (StandsAround history brought image × IsShort used history image))
             (λ image either. ⊎_elim (λ before. inl before)
-            (λ one. inr (⊎_elim (λ stands. inl stands) (λ stands. inr (subst (λ h. Stands h image) (after has) stands)) one)) either)
-            (turns.any_moment durable sealed there has);
+            (λ one. inr (⊎_elim (λ stands. inl stands) (λ stands. inr (subst (λ h. Stands h image) (after has.0) stands)) one.0, one.1)) either)
+            (turns.any_moment durable used sealed there has);
         durable = λ durable. keeps (NothingPending new) (turns.durable durable);
       }
 
-  -- a call that only reads
+  -- a call that only reads, for a line that brings no event after what is shown
   pub Turns-looked : {T E : Type 0} (brought : Brought) (result : Result T E) → KnowsNow old → OnlyReads old new →
-      (Stands history (shown_by was old.content) → OnOk result (Stands (history_after history brought) (shown_by is new.content))) →
+      OnOk result (shown_by is new.content ≡ shown_by was old.content) → (Stands history (shown_by was old.content) → brought.event ≡ None) →
       TurnsHistory was is history (StandsAround history brought) (history_after history brought) old new result
-  Turns-looked brought result knows reads content = record {
-    content = content;
-    any_moment = λ durable sealed there has. weaker old new old.may_leave (λ image. Stands sealed image ⊎ StandsAround history brought image)
-        (λ image left. inl (of_content old (Stands sealed) durable there image left)) (read_leaves old new knows reads);
+  Turns-looked brought result knows reads same none = record {
+    content = λ has.
+        on_ok_weaker result (λ (is_same : shown_by is new.content ≡ shown_by was old.content).
+        shown-still was is history brought old.content new.content (λ h. Stands h) (none has) is_same has) same;
+    short = λ used has.
+        on_ok_weaker result (λ (is_same : shown_by is new.content ≡ shown_by was old.content).
+        shown-still was is history brought old.content new.content (λ h. IsShort used h) (none has.0) is_same has.1) same;
+    any_moment = λ durable used sealed there has.
+        weaker old new old.may_leave (λ image. StandsShort used sealed image ⊎ (StandsAround history brought image × IsShort used history image))
+        (λ image left. inl (of_content old (StandsShort used sealed) durable there image left)) (read_leaves old new knows reads);
     durable = λ durable. on_ok result (nothing_pending-same old new reads.same durable);
   }
-
--- what is shown stays for a line that brings no event
-pub shown-still : (was is : RecordsState) (history : History) (brought : Brought) (old new : List ℕ) → brought.event ≡ None →
-    shown_by is new ≡ shown_by was old → Stands history (shown_by was old) → Stands (history_after history brought) (shown_by is new)
-shown-still was is history brought old new none same stands =
-    subst (λ h. Stands h (shown_by is new)) (sym (history-still history brought none)) (subst (Stands history) (sym same) stands)
 
 -- a query is a line that brings no event
 pub Stages-asked : {was is : RecordsState} (brought : History → Brought) (result : Result Reply Status) (old new : Told) →
@@ -84,11 +93,10 @@ pub Stages-asked : {was is : RecordsState} (brought : History → Brought) (resu
     StagesBrought brought was is result old new
 Stages-asked {was = was} {is = is} brought (Ok reply) old new none knows same asks = record {
   turns = λ history. Turns-looked was is history old new (brought history) (Ok reply) knows asks.reads
-      (λ stands. shown-still was is history (brought history) old.content new.content (none history)
-      (ap (λ (bytes : List ℕ). shown_by is bytes) asks.reads.same.content ∙ ap (λ j. shown j old.content) same) stands);
+      (ap (λ (bytes : List ℕ). shown_by is bytes) asks.reads.same.content ∙ ap (λ j. shown j old.content) same) (λ stands. none history);
   reply = asks.reply;
 }
 Stages-asked {was = was} {is = is} brought (Err status) old new none knows same asks = record {
-  turns = λ history. Turns-looked was is history old new (brought history) (Err status) knows asks.reads (λ stands. tt);
+  turns = λ history. Turns-looked was is history old new (brought history) (Err status) knows asks.reads tt (λ stands. none history);
   reply = asks.reply;
 }

@@ -18,7 +18,6 @@ use Rattle.ss_journal.specs.Kept.{IsSealed}
 use Rattle.ss_records.specs.Kept.{RecordsState}
 use Rattle.ss_store.specs.Kept.{StoreState}
 use Rattle.ss_store.specs.Recover.{Stands}
-use Rattle.ss_store.proofs.Calls.{Turns-answers, Turns-failed}
 use Rattle.ss_program.specs.Answer.{AppliesEvent, AsksQuery, DoesCommand, IsOpen, Shows, TakesLine, at_sink}
 use Rattle.ss_program.specs.Devices.{Devices, over}
 use Rattle.ss_program.specs.Line.{Brought, History, command_brings, history_after, text_said}
@@ -37,7 +36,7 @@ use Rattle.ss_program.specs.declared.status.Status.TheVariants.{
   InputLimit,
   RecordChanged,
 }
-use Rattle.ss_program.proofs.AnswerLemmas.{Adds-reads, Stands-only_replies, IsStop-apply, IsStop-show, Replies-sent, Replies-only_replies, Replies-stopped}
+use Rattle.ss_program.proofs.AnswerLemmas.{Adds-answers, Adds-failed, Adds-reads, Stands-only_replies, IsStop-apply, IsStop-show, Replies-sent, Replies-only_replies, Replies-stopped}
 use Rattle.ss_program.proofs.AnswerLemmas.{event-some}
 
 -- the disk was only read, and then a text was sent
@@ -152,9 +151,7 @@ TakesLine-applied speaker event old new store before after had has reply (Ok u) 
     tells = applies.tells;
     counted = applies.counted;
     told = λ told history.
-        let brought = command_brings history (Do event) in
-        Turns-answers (Stands history) (StandsAround history brought) (Stands (history_after history brought)) old.told new.told reply (Ok u)
-        ((applies.told told).does.adds history);
+        Adds-answers history (command_brings history (Do event)) old.told new.told reply (Ok u) ((applies.told told).does.adds history);
   };
   untouched = λ memory. cc;
   replies = λ told history stands. Replies-sent speaker (command_brings history (Do event)) before after reply (Ok u) ((applies.told told).does.reply history
@@ -169,9 +166,7 @@ TakesLine-applied speaker event old new store before after had has reply (Err e)
     tells = applies.tells;
     counted = applies.counted;
     told = λ told history.
-        let brought = command_brings history (Do event) in
-        Turns-answers (Stands history) (StandsAround history brought) (Stands (history_after history brought)) old.told new.told reply (Err SinkFault)
-        ((applies.told told).does.adds history);
+        Adds-answers history (command_brings history (Do event)) old.told new.told reply (Err SinkFault) ((applies.told told).does.adds history);
   };
   untouched = λ memory. cc;
   replies = λ told history stands. Replies-sent speaker (command_brings history (Do event)) before after reply (Err e)
@@ -202,10 +197,7 @@ TakesLine-stopped speaker event old new store held n status applies stop = recor
     tells = applies.tells;
     counted = applies.counted;
     told = λ told history.
-        let brought = command_brings history (Do event) in
-        let after = Stands (history_after history brought) in
-        Turns-failed (Stands history) (StandsAround history brought) after after old.told new.told (Err status) (Err status) refl
-        ((applies.told told).does.adds history);
+        Adds-failed history (command_brings history (Do event)) old.told new.told (Err status) (Err status) refl ((applies.told told).does.adds history);
   };
   untouched = λ memory told. (applies.told told).does.untouched memory;
   replies = λ told history stands.

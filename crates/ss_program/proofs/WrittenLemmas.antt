@@ -56,12 +56,12 @@ pub TakesTurn-where : {was : RecordsState} {owed : Owed} {held : Option (List �
     ((talk : Talk) → Stands talk.history (shown_by was old.content) → other talk ≡ turn talk) →
     TakesTurn turn (amid was owed held cursors) to result old new → TakesTurn other (amid was owed held cursors) to result old new
 TakesTurn-where cursors (Ok u) turn other alike takes sealing talk ls before line known = record {
-  goes = λ at. (takes sealing talk ls before line (known ∙ alike (after_lines talk ls) at.shown)).goes at;
+  goes = λ at. (takes sealing talk ls before line (known ∙ alike (after_lines talk ls) at.shown.0)).goes at;
   stops = tt;
 }
 TakesTurn-where cursors (Err status) turn other alike takes sealing talk ls before line known = record {
   goes = tt;
-  stops = λ at. (takes sealing talk ls before line (known ∙ alike (after_lines talk ls) at.shown)).stops at;
+  stops = λ at. (takes sealing talk ls before line (known ∙ alike (after_lines talk ls) at.shown.0)).stops at;
 }
 
 -- what a frame brings that has this place beside what a store shows

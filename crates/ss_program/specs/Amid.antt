@@ -14,9 +14,9 @@ use Rattle.ss_report.specs.declared.reply.Reply.{Reply}
 use Rattle.ss_store.specs.Calls.{TurnsHistory}
 use Rattle.ss_store.specs.Kept.{StoreState}
 use Rattle.ss_store.specs.Recover.{Stands}
-use Rattle.ss_program.specs.Answer.{IsServing}
+use Rattle.ss_program.specs.Answer.{IsOpen, IsServing}
 use Rattle.ss_program.specs.Line.{Brought, History, accepted_frame, command_in, frame_replies, history_after}
-use Rattle.ss_program.specs.Progress.{StandsAround, StandsWithin, StopsIn}
+use Rattle.ss_program.specs.Progress.{NoneWait, SessionState, StandsAround, StandsWithin, StopsIn, HoldsTalk}
 use Rattle.ss_program.specs.Sent.{appended}
 use Rattle.ss_program.specs.Steps.{kept_so_far, steps, steps_so_far}
 use Rattle.ss_program.specs.Session.{after_lines, text_of}
@@ -76,7 +76,7 @@ pub record IsAmid (sealing : Sealing) (talk : Talk) (ls : List (List ℕ)) (befo
   pub said : at.held ≡ appended before (text_of talk out)
   pub owes : at.owed.text ≡ text_of (after_lines talk out) rest
   pub few : AreOwed sealing at.owed.lines rest
-  pub shown : Stands (after_lines talk ls).history (shown_by at.records disk.content)
+  pub shown : HoldsTalk (after_lines talk ls) (shown_by at.records disk.content)
   pub within : StandsWithin (after_lines talk out) rest disk.content
   pub durable : NothingPending disk
   pub cursors : at.cursors ≡ (after_lines talk ls).cursors
@@ -152,6 +152,11 @@ NoneStaged (Some replies) store = ⊤
 pub record IsReady (disk : DiskView) (store : StoreState) (waiting : Option (List ℕ)) : Type 0 where
   pub serves : IsServing disk store
   pub staged : NoneStaged waiting store
+
+-- Between two reads of the input: the store can be called, nothing of it is staged, and no reply waits.
+pub record IsAtRest (disk : DiskView) (session : SessionState) : Type 0 where
+  pub is_open : IsOpen disk session.store
+  pub unsaid : NoneWait session.waiting
 
 -- one reply more can wait
 abbrev pub HasRoom : Option (List ℕ) → Type 0

@@ -1,5 +1,5 @@
 -- What answering a line leaves.
-use Rattle.std.specs.Prelude.{◌≡◌, ℕ, List, [], ◌∷◌, flat_map, map, slice_get, false, IsSome, IfOk, IfErr, IfSome, OnOk}
+use Rattle.std.specs.Prelude.{◌≡◌, ℕ, ◌+◌, List, [], ◌∷◌, flat_map, map, slice_get, false, IsSome, IfOk, IfErr, IfSome, OnOk}
 use Rattle.std.specs.Prelude.{OnErr, Option, Some, Result, Ok, Err}
 use Rattle.ss_catalog.specs.declared.event.Event.{Event}
 use Rattle.ss_command.specs.declared.command.Command.{Command}
@@ -7,7 +7,7 @@ use Rattle.ss_command.specs.declared.command.Command.TheVariants.{Do}
 use Rattle.ss_line.specs.Line.{index_of}
 use Rattle.ss_line.specs.declared.entry.At.{At}
 use Rattle.ss_model.specs.Shown.{placed_of}
-use Rattle.ss_model.specs.State.{Stream, state, stream_numbered}
+use Rattle.ss_model.specs.State.{Stream, live, state, stream_numbered}
 use Rattle.ss_model.specs.declared.types.Placed.{Placed}
 use Rattle.ss_outside.specs.Crash.{OnlyReads}
 use Rattle.ss_outside.specs.Disk.{Between, DiskView, OfContent, Told}
@@ -18,7 +18,7 @@ use Rattle.ss_report.specs.Text.{said_line}
 use Rattle.ss_report.specs.declared.reply.Reply.{Reply}
 use Rattle.ss_journal.specs.Kept.{IsSealed}
 use Rattle.ss_records.specs.Kept.{RecordsState, shown_by}
-use Rattle.ss_store.specs.Calls.{Turns}
+use Rattle.ss_store.specs.Calls.{KeepsWithin, Turns}
 use Rattle.ss_store.specs.Kept.{StoreIsKept, StoreState, part_numbered}
 use Rattle.ss_store.specs.Recover.{Stands}
 use Rattle.ss_program.specs.Devices.{Devices}
@@ -53,10 +53,11 @@ abbrev pub Replies : Option ℕ → Brought → Option (List ℕ) → Option (Li
 Replies speaker brought before after (Ok u) = after ≡ appended before (text_said speaker brought)
 Replies speaker brought before after (Err status) = StopsSaying (text_said speaker brought) (IsSome brought.event) before after status
 
--- What a line brings is added to the history that the disk stands for, wholly or not at all, also in a crash.
-abbrev pub Adds : {T : Type 0} → History → Brought → Told → Told → Result T Status → Type 0
-Adds history brought old new result =
-    Turns (Stands history) (StandsAround history brought) (Stands (history_after history brought)) old new result
+-- What a line brings is added to the history that the disk stands for, wholly or not at all, also in a crash. No image uses more slots than
+-- the content did, or than the records that the history needs, and one.
+pub record Adds {T : Type 0} (history : History) (brought : Brought) (old new : Told) (result : Result T Status) : Type 0 where
+  pub turns : Turns (Stands history) (StandsAround history brought) (Stands (history_after history brought)) old new result
+  pub within : Stands history old.content → KeepsWithin (live (state history) + 1) result old new
 
 -- A command has one reply, the only one that it brings.
 abbrev pub RepliesOne : (History → Brought) → Result Reply Status → Told → Type 0

@@ -35,8 +35,8 @@ abbrev pub SendsRight : Option ℕ → Kind → End → Option (List ℕ) → Op
 SendsRight speaker kind end before after result =
     ((after ≡ before) × IsErr result) ⊎ ((w : Evidence) × IsRight kind end w × Sends before after (flat_map (said_line speaker) (told w)) result)
 
--- After a history, evidence shows of a stream that this end of the answer can't be narrower: contents like those of the stream have
--- it as their true answer.
+-- After a history, evidence shows of a stream that this end of the answer can't be narrower, filters aside: contents like those of
+-- the stream have it as their true answer.
 pub record IsSharp (history : History) (query : Query) (end : End) (w : Evidence) : Type 0 where
   pub stream : Stream
   pub outcome : Outcome

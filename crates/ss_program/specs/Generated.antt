@@ -9,8 +9,8 @@ use Rattle.ss_report.specs.Text.{reply_line}
 use Rattle.ss_report.specs.declared.reply.Reply.{Reply}
 use Rattle.ss_report.specs.declared.reply.Reply.TheVariants.{Done as AckLine, Answered, Refused, SeriesHead, Row, WindowsHead, Window}
 use Rattle.ss_report.specs.declared.reply.Reply.TheVariants.{ListHead, Stream, CertifyHead, Side, Last, ValuesHead, Value as MarkedValue, Cursor, Rows, Closed, Old, Gap, Framed}
-use Rattle.ss_store.specs.Recover.{Stands}
-use Rattle.ss_program.specs.Held.{StandsForFirst}
+use Rattle.ss_store.specs.Uses.{StandsShort}
+use Rattle.ss_program.specs.Held.{StandsShortForFirst}
 use Rattle.ss_program.specs.Line.{History}
 use Rattle.ss_program.specs.Sent.{appended, AppendsFront}
 use Rattle.ss_program.specs.Session.{accepted, replies}
@@ -93,27 +93,28 @@ abbrev pub summary : History → ℕ → ℕ → List ℕ
 summary history seed count =
     summary_lines seed count (length (generated seed count)) (replies history (generated seed count))
 
--- the image stands for the history and some first of the events that are accepted of the file
-abbrev pub StandsForGenerated : History → ℕ → ℕ → List ℕ → Type 0
-StandsForGenerated history seed count image = StandsForFirst history (accepted (plain history) (generated seed count)) image
+-- the image stands for the history and some first of the events that are accepted of the file, and is no longer than these allow
+abbrev pub StandsForGenerated : Option ℕ → History → ℕ → ℕ → List ℕ → Type 0
+StandsForGenerated used history seed count image = StandsShortForFirst used history (accepted (plain history) (generated seed count)) image
 
 -- the image stands for the history and all of them
-abbrev pub StandsForAll : History → ℕ → ℕ → List ℕ → Type 0
-StandsForAll history seed count image = Stands (history ++ accepted (plain history) (generated seed count)) image
+abbrev pub StandsForAll : Option ℕ → History → ℕ → ℕ → List ℕ → Type 0
+StandsForAll used history seed count image = StandsShort used (history ++ accepted (plain history) (generated seed count)) image
 
 -- What a run over the file leaves. The sink's new bytes are a front of the summary, and all of it where the run is done; there are
 -- none where it stopped at a command. A crash at any moment leaves the history and some first of the accepted events, and so does
 -- one after the run; where it is done, all of them.
-pub record Generates (history : History) (seed count : ℕ) (before after : Option (List ℕ)) (old new : Told) (status : Status) : Type 0 where
+pub record Generates (used : Option ℕ) (history : History) (seed count : ℕ) (before after : Option (List ℕ)) (old new : Told) (status : Status) : Type 0 where
   pub front : AppendsFront before after (summary history seed count)
   pub whole : status ≡ Done → after ≡ appended before (summary history seed count)
   pub silent : (status ≡ Done → ⊥) → (status ≡ SinkFault → ⊥) → after ≡ before
-  pub any_moment : LeavesOnly old new (StandsForGenerated history seed count)
-  pub kept : (image : List ℕ) → new.may_leave image → StandsForGenerated history seed count image
-  pub done : status ≡ Done → StandsForAll history seed count new.content
-  pub all : status ≡ Done → (image : List ℕ) → new.may_leave image → StandsForAll history seed count image
+  pub any_moment : LeavesOnly old new (StandsForGenerated used history seed count)
+  pub kept : (image : List ℕ) → new.may_leave image → StandsForGenerated used history seed count image
+  pub done : status ≡ Done → StandsForAll used history seed count new.content
+  pub all : status ≡ Done → (image : List ℕ) → new.may_leave image → StandsForAll used history seed count image
 
--- for each history for which the content stands, with nothing pending
+-- for each history for which the content stands, with nothing pending, and where it is asked how long the file gets, by how many slots it used
 abbrev pub GeneratesFrom : ℕ → ℕ → Option (List ℕ) → Option (List ℕ) → Status → Told → Told → Type 0
 GeneratesFrom seed count before after status old new =
-    NothingPending old → (history : History) → Stands history old.content → Generates history seed count before after old new status
+    NothingPending old → (used : Option ℕ) (history : History) → StandsShort used history old.content →
+    Generates used history seed count before after old new status

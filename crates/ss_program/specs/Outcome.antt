@@ -4,6 +4,7 @@ use Rattle.std.specs.Prelude.{length, IfOk, IfErr, Option, Some, Result}
 use Rattle.ss_outside.specs.Crash.{LeavesOnly}
 use Rattle.ss_outside.specs.Disk.{NothingPending, Told}
 use Rattle.ss_store.specs.Recover.{Stands}
+use Rattle.ss_store.specs.Uses.{StandsShort}
 use Rattle.ss_program.specs.declared.running.TheConstants.{LONGEST_INPUT}
 use Rattle.ss_arguments.specs.declared.mode.Sealing.{Sealing}
 use Rattle.ss_arguments.specs.declared.mode.Form.{Form}
@@ -15,7 +16,7 @@ use Rattle.ss_program.specs.Progress.{GoesOn, OfTaken, SessionState, StandsWithi
 use Rattle.ss_program.specs.Sent.{appended, AppendsFront}
 use Rattle.ss_program.specs.Session.{accepted, report, report_so_far}
 use Rattle.ss_program.specs.Steps.{steps, steps_so_far}
-use Rattle.ss_program.specs.Talk.{Talk, begun}
+use Rattle.ss_program.specs.Talk.{Talk, begun_over}
 
 -- some bytes of the input were taken, at most as many as an input may have, and the others are left
 pub record Took (input : List ℕ) (left : Option (List ℕ)) (taken rest : List ℕ) : Type 0 where
@@ -84,11 +85,12 @@ pub record Serves (sealing : Sealing) (talk : Talk) (input : List ℕ) (left bef
   pub any_moment : LeavesOnly old new (StandsWithin talk (steps talk.form input))
   pub whole : status ≡ Done → Stands (talk.history ++ accepted talk (steps talk.form input)) new.content
 
--- A run over an input: what it leaves for each history for which the content stands, with nothing pending.
+-- A run over an input: what it leaves for each history for which the content stands, with nothing pending, and where it is asked how long the
+-- file gets, by how many slots it used before.
 abbrev pub ServesInput : Form → Sealing → List ℕ → Option (List ℕ) → Option (List ℕ) → Option (List ℕ) → Status → Told → Told → Type 0
 ServesInput form sealing input left before after status old new =
-    NothingPending old → (history : History) → Stands history old.content →
-    Serves sealing (begun form history) input left before after old new status
+    NothingPending old → (used : Option ℕ) (history : History) → StandsShort used history old.content →
+    Serves sealing (begun_over used form history) input left before after old new status
 
 -- A session reads a piece of at most `room` bytes of the input, or the run stops among the lines that end in it.
 pub record ReadsPiece (room : ℕ) (from to : SessionState) (left rest held after : Option (List ℕ)) (result : Result ℕ Status)

@@ -4,6 +4,7 @@ use Rattle.ss_outside.specs.Crash.{LeavesOnly}
 use Rattle.ss_outside.specs.Disk.{Told, NothingPending}
 use Rattle.ss_store.specs.Kept.{StoreState}
 use Rattle.ss_store.specs.Recover.{Stands}
+use Rattle.ss_store.specs.Uses.{StandsShort}
 use Rattle.ss_program.specs.Line.{Brought, History, history_after, text_brought}
 use Rattle.ss_program.specs.Sent.{appended, StopsSaying}
 use Rattle.ss_program.specs.Steps.{kept_so_far, steps, steps_so_far}
@@ -30,6 +31,10 @@ abbrev pub sealing_by : Option (List ℕ) → Sealing
 sealing_by None = Each
 sealing_by (Some replies) = Shared
 
+-- the image stands for the history of a conversation, and is no longer than that allows
+abbrev pub HoldsTalk : Talk → List ℕ → Type 0
+HoldsTalk talk image = StandsShort talk.used talk.history image
+
 -- no reply waits
 abbrev pub NoneWait : Option (List ℕ) → Type 0
 NoneWait None = ⊤
@@ -38,7 +43,7 @@ NoneWait (Some replies) = replies ≡ []
 -- After a conversation began the session has taken these bytes: the disk stands for the history before with the events accepted since,
 -- with nothing pending, and the line under way is what no line end has ended.
 pub record HasTaken (sealing : Sealing) (talk : Talk) (disk : Told) (session : SessionState) (taken : List ℕ) : Type 0 where
-  pub stands : Stands (after_lines talk (steps_so_far talk.form taken)).history disk.content
+  pub stands : HoldsTalk (after_lines talk (steps_so_far talk.form taken)) disk.content
   pub durable : NothingPending disk
   pub line : session.line ≡ kept_so_far talk.form taken
   pub unsaid : NoneWait session.waiting
@@ -54,10 +59,10 @@ HasReplied talk before held taken = held ≡ appended before (report_so_far talk
 abbrev pub StandsAround : History → Brought → List ℕ → Type 0
 StandsAround history brought image = Stands history image ⊎ Stands (history_after history brought) image
 
--- the image stands for the history after some first lines of these
+-- the image stands for the history after some first lines of these, and is no longer than that allows
 abbrev pub StandsWithin : Talk → List (List ℕ) → List ℕ → Type 0
 StandsWithin talk ls image =
-    (done : List (List ℕ)) × (others : List (List ℕ)) × (ls ≡ done ++ others) × Stands (after_lines talk done).history image
+    (done : List (List ℕ)) × (others : List (List ℕ)) × (ls ≡ done ++ others) × HoldsTalk (after_lines talk done) image
 
 -- From one moment on to another a session took further bytes: a crash left only images of some first lines.
 pub record GoesOn (sealing : Sealing) (talk : Talk) (old new : Told) (session : SessionState) (before held : Option (List ℕ)) (taken : List ℕ) : Type 0
@@ -75,7 +80,7 @@ StopsWith brought before after status = StopsSaying (text_brought brought) (IsSo
 abbrev pub StandsBeyond : Talk → List (List ℕ) → ℕ → List ℕ → Type 0
 StandsBeyond talk ls bytes image =
     (done : List (List ℕ)) × (others : List (List ℕ)) × (ls ≡ done ++ others) × (bytes ≤ length (text_of talk done))
-    × Stands (after_lines talk done).history image
+    × HoldsTalk (after_lines talk done) image
 
 -- the first of these lines may want memory
 abbrev pub BeginsWithWant : Talk → List (List ℕ) → Type 0
@@ -103,7 +108,7 @@ pub record StopsAmong (sealing : Sealing) (talk : Talk) (ls : List (List ℕ)) (
     pub left : (image : List ℕ) → disk.may_leave image → StandsBeyond (after_lines talk out) now bytes image
     pub starved : status ≡ OutOfMemory →
         (bytes ≡ 0) × BeginsWithWant (after_lines talk out) now
-        × ((image : List ℕ) → disk.may_leave image → Stands (after_lines talk out).history image)
+        × ((image : List ℕ) → disk.may_leave image → HoldsTalk (after_lines talk out) image)
 
 -- From one moment on to another a session took further lines, and stopped at some of these.
 pub record StopsIn (sealing : Sealing) (talk : Talk) (ls : List (List ℕ)) (old new : Told) (before after : Option (List ℕ)) (status : Status) : Type 0
@@ -114,7 +119,7 @@ pub record StopsIn (sealing : Sealing) (talk : Talk) (ls : List (List ℕ)) (old
 -- From one moment on to another a session took further lines, and ended with the last of these: all were answered, and the
 -- disk stands for the history after them.
 pub record EndsWell (talk : Talk) (ls : List (List ℕ)) (old new : Told) (before after : Option (List ℕ)) : Type 0 where
-  pub stands : Stands (after_lines talk ls).history new.content
+  pub stands : HoldsTalk (after_lines talk ls) new.content
   pub durable : NothingPending new
   pub replied : after ≡ appended before (text_of talk ls)
   pub any_moment : LeavesOnly old new (StandsWithin talk ls)

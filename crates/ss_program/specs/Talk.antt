@@ -20,11 +20,13 @@ use Rattle.ss_program.specs.Line.{Brought, History, accepted_frame, brings_in, f
 use Rattle.ss_arguments.specs.declared.mode.Form.{Form}
 use Rattle.ss_arguments.specs.declared.mode.Form.TheVariants.{Lines, Sessions, Frames, Follow}
 
--- a conversation so far: the form of its input, the events that were accepted, and the cursors
+-- A conversation so far: the form of its input, the events that were accepted, and the cursors. Where it is asked how long the store's file
+-- gets, it says how many slots the file used before it.
 pub record Talk : Type 0 where
   pub form : Form
   pub history : History
   pub cursors : Cursors
+  pub used : Option ℕ
 
 -- whether the frame of an accepted event is said behind its reply
 abbrev pub is_framed : Form → Bool
@@ -34,12 +36,18 @@ is_framed Frames = false
 is_framed Follow = false
 
 -- one that begins after a history: no cursor is open
+abbrev pub begun_over : Option ℕ → Form → History → Talk
+begun_over used form history = record { form = form; history = history; cursors = no_cursors; used = used }
+
 abbrev pub begun : Form → History → Talk
-begun form history = record { form = form; history = history; cursors = no_cursors }
+begun form history = begun_over None form history
 
 -- one of plain lines
+abbrev pub plain_over : Option ℕ → History → Talk
+plain_over used history = begun_over used (Lines false) history
+
 abbrev pub plain : History → Talk
-plain history = begun (Lines false) history
+plain history = plain_over None history
 
 -- what a line brings: the text that is said, the event that it adds, or none, the cursors after it, and whether it may want memory
 pub record Turn : Type 0 where
@@ -133,4 +141,4 @@ kept_turn Follow piece talk = kept_offered talk piece
 
 -- a conversation after a turn
 abbrev pub after_turn : Talk → Turn → Talk
-after_turn talk turn = record { form = talk.form; history = talk.history ++ the_event turn.event; cursors = turn.cursors }
+after_turn talk turn = record { form = talk.form; history = talk.history ++ the_event turn.event; cursors = turn.cursors; used = talk.used }

@@ -1,16 +1,16 @@
 -- What is counted of a session over a generated file.
-use Rattle.std.specs.Prelude.{◌≡◌, ℕ, List, length, count_by, IfOk, OnErr, Result, ⊤}
+use Rattle.std.specs.Prelude.{◌≡◌, ℕ, List, length, count_by, IfOk, OnErr, Option, Result, ⊤}
 use Rattle.ss_command.specs.declared.command.Command.{Command}
 use Rattle.ss_command.specs.declared.command.Command.TheVariants as commands
 use Rattle.ss_outside.specs.Crash.{LeavesOnly}
 use Rattle.ss_outside.specs.Disk.{NothingPending, Told}
 use Rattle.ss_report.specs.declared.reply.Reply.{Reply}
-use Rattle.ss_store.specs.Recover.{Stands}
+use Rattle.ss_store.specs.Uses.{StandsShort}
 use Rattle.ss_program.specs.Generated.{generated, is_done, is_refused, last_six}
 use Rattle.ss_program.specs.Line.{History}
 use Rattle.ss_program.specs.Progress.{StandsWithin}
 use Rattle.ss_program.specs.Session.{plain_after, replies}
-use Rattle.ss_program.specs.Talk.{plain}
+use Rattle.ss_program.specs.Talk.{plain_over}
 use Rattle.ss_program.specs.declared.generate.Tally.{Tally}
 use Rattle.ss_program.specs.declared.status.Status.{Status}
 
@@ -34,15 +34,15 @@ pub record Tallies (count : ℕ) (all : List Reply) (tally : Tally) : Type 0 whe
 
 -- From one moment on to another these lines were answered, and their replies counted: the disk stands for the history after
 -- them, with nothing pending, and a crash left only images of some first lines.
-pub record HasRun (history : History) (ls : List (List ℕ)) (old new : Told) (tally : Tally) : Type 0 where
+pub record HasRun (used : Option ℕ) (history : History) (ls : List (List ℕ)) (old new : Told) (tally : Tally) : Type 0 where
   pub tallied : Tallies (length ls) (replies history ls) tally
-  pub stands : Stands (plain_after history ls) new.content
+  pub stands : StandsShort used (plain_after history ls) new.content
   pub durable : NothingPending new
-  pub any_moment : LeavesOnly old new (StandsWithin (plain history) ls)
+  pub any_moment : LeavesOnly old new (StandsWithin (plain_over used history) ls)
 
 -- All commands of the file were done, and the replies to them counted, or the run stopped at one of them.
 pub record RunsAll (seed count : ℕ) (result : Result Tally Status) (old new : Told) : Type 0 where
-  pub ok : IfOk result (λ tally. NothingPending old → (history : History) → Stands history old.content →
-      HasRun history (generated seed count) old new tally)
-  pub stops : OnErr result (NothingPending old → (history : History) → Stands history old.content →
-      LeavesOnly old new (StandsWithin (plain history) (generated seed count)))
+  pub ok : IfOk result (λ tally. NothingPending old → (used : Option ℕ) (history : History) →
+      StandsShort used history old.content → HasRun used history (generated seed count) old new tally)
+  pub stops : OnErr result (NothingPending old → (used : Option ℕ) (history : History) → StandsShort used history old.content →
+      LeavesOnly old new (StandsWithin (plain_over used history) (generated seed count)))

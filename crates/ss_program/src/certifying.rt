@@ -1,4 +1,4 @@
-// Shows why an end of an answer can't be narrower: the evidence is made and checked, and then sent.
+// Shows why an end of an answer can't be narrower, filters aside: the evidence is made and checked, and then sent.
 ghost use Rattle.std.specs.Prelude.{◌≡◌, true, IsTrue, IfOk, IfErr, None, OnOk};
 ghost use Rattle.ss_catalog.specs.Queries.{adds_up};
 ghost use Rattle.ss_certify.specs.Evidence.{IsRight};
@@ -111,8 +111,8 @@ fn lines_of(evidence: &Evidence) -> ArrayVec<Reply, MOST_LINES>
     lines
 }
 
-/// Shows an end of the answer to a query and why it can't be narrower, or why the query is refused. No line of evidence is sent that
-/// a check didn't find right.
+/// Shows an end of the answer to a query and why it can't be narrower, filters aside, or why the query is refused. No line of evidence
+/// is sent that a check didn't find right.
 pub fn show_certificate<D: Disk, K: Sink>(
     speaker: Option<u8>,
     store: &mut Store,

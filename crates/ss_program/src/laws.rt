@@ -130,8 +130,8 @@ pub fn landmark_values_are_told()
         × (map kept_point values ≡ filter (λ (p : Point). nat_le from p.0 && nat_le p.0 to) (marked_of (plain_after history before) name)) }
 {}
 
-/// Each line of a session that asks why an end of an answer can't be narrower, and isn't refused then, has the lines of some
-/// evidence as replies, in their place among the others. What the evidence shows is the asked end of what the query would be
+/// Each line of a session that asks why an end of an answer can't be narrower, filters aside, and isn't refused then, has the lines of
+/// some evidence as replies, in their place among the others. What the evidence shows is the asked end of what the query would be
 /// answered there, and the true answer of contents like those of the stream after the history and the lines before.
 pub fn certificates_are_sharp()
     ensures { (history : History) (ls before after : List (List ℕ)) (line : List ℕ) (query : Query) (end : End) → IsHistory history →

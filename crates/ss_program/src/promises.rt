@@ -21,7 +21,7 @@ ghost use Rattle.ss_program.specs.Line.{History};
 ghost use Rattle.ss_program.specs.Outcome.{steps_within};
 ghost use Rattle.ss_program.specs.Promises.{BeginsOver, ChecksBy, EndsBy, GeneratesBy, RejectsBy, ServesBy};
 ghost use Rattle.ss_program.specs.Sent.{appended};
-ghost use Rattle.ss_program.specs.Session.{accepted, report};
+ghost use Rattle.ss_program.specs.Session.{accepted, report, report_so_far};
 ghost use Rattle.ss_program.specs.Status.{EndsAs};
 ghost use Rattle.ss_program.specs.Steps.{steps};
 ghost use Rattle.ss_program.specs.Talk.{begun};
@@ -67,6 +67,14 @@ pub fn runs_hold_what_they_acknowledge<D: Disk>(old: &D, new: &D)
         × (acks (begun form history) (steps form input) (length has - length had) ≤ j)
         × (j ≤ length (accepted (begun form history) (steps_within form read others)))
         × Stands (history ++ take j (accepted (begun form history) (steps form input))) image }
+    // Where a read of the source fails, the sink got the whole reply to each line that had ended in what was read, and nothing more. No
+    // run can know before that a read will fail, so this is what it sent before each read.
+    ensures asked_again { (mode : Option Mode) (left rest held holds : Option (List ℕ)) (number : ℕ) →
+        ServesBy mode (D.seen old.now) (D.seen new.now) left rest held holds number →
+        (form : Form) (sealing : Sealing) (history : History) (input : List ℕ) →
+        BeginsOver form sealing mode (D.seen old.now) left history input → EndsAs number Status.SourceFault →
+        (read others : List ℕ) × (read ++ others ≡ input) × (rest ≡ Some others)
+        × (holds ≡ appended held (report_so_far (begun form history) read)) }
     // Where memory ran out it holds no more than those whose reply the sink got.
     ensures starved { (mode : Option Mode) (left rest held holds : Option (List ℕ)) (number : ℕ) →
         ServesBy mode (D.seen old.now) (D.seen new.now) left rest held holds number →

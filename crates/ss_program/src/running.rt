@@ -29,14 +29,14 @@ ghost use Rattle.ss_outside.specs.Step.{Step};
 ghost use Rattle.ss_outside.specs.Verdict.{Counted, HasCause, Rose};
 ghost use Rattle.ss_store.specs.Recover.{Stands};
 ghost use Rattle.ss_arguments.specs.Modes.{are_refused_at_once, mode_of, words_of};
-ghost use Rattle.ss_program.specs.Answer.{IsOpen};
+ghost use Rattle.ss_program.specs.Amid.{IsAtRest};
 ghost use Rattle.ss_program.specs.Checked.{ChecksContent};
 ghost use Rattle.ss_program.specs.Devices.{over};
 ghost use Rattle.ss_program.specs.Ending.{Completes, Ends, Feeds, HasNumbers, IsRefusedContent, IsUnfed, Unfed, served_by, serving};
 ghost use Rattle.ss_program.specs.Generated.{GeneratesFrom};
 ghost use Rattle.ss_program.specs.Line.{History};
 ghost use Rattle.ss_program.specs.Outcome.{Moved, Reads, ReadsPiece, ServesInput};
-ghost use Rattle.ss_program.specs.Progress.{NoneWait, sealing_by};
+ghost use Rattle.ss_program.specs.Progress.{sealing_by};
 ghost use Rattle.ss_program.specs.Promises.{ChecksBy, EndsBy, GeneratesBy, RejectsBy, ServesBy};
 ghost use Rattle.ss_sessions.specs.Cursors.{no_cursors};
 ghost use Rattle.ss_arguments.specs.declared.mode.Form.{Form};
@@ -70,7 +70,8 @@ fn read_piece<D: Disk, S: Source, K: Sink>(
 ) -> Result<u64, Status>
     requires buffer { 0 < length buffer.old }
     requires room { 0 < room }
-    requires open { IsOpen (D.seen disk.old) session.old.store }
+    // The source is asked only where no reply waits, and all is on the disk.
+    requires rests { IsAtRest (D.seen disk.old) session.old }
     ensures reads { Step (disk_verdict (ended result)) (D.seen disk.old) (D.seen disk.new) (ReadsPiece room session.old session.new
         (S.left source.old) (S.left source.new) (K.held sink.old) (K.held sink.new) result) }
     ensures moves { IfOk result (λ count. (left : List ℕ) → S.left source.old ≡ Some left → (count ≤ length left)
@@ -80,7 +81,7 @@ fn read_piece<D: Disk, S: Source, K: Sink>(
     ensures same { length buffer.new ≡ length buffer.old }
     ensures fault { ended result ≡ Status.SourceFault → (S.left source.new ≡ S.left source.old)
         × (session.new ≡ session.old) × (K.held sink.new ≡ K.held sink.old) × (disk.new ≡ disk.old) }
-    ensures open { OnOk result (IsOpen (D.seen disk.new) session.new.store) }
+    ensures rests { OnOk result (IsAtRest (D.seen disk.new) session.new) }
     ensures status { IfErr result (λ status. (status ≡ Status.SourceFault) ⊎ IsStop (D.seen disk.old).tells status) }
     ensures source { Counted (source_verdict (ended result)) (S.faults source.old) (S.faults source.new) }
     ensures sink { Counted (sink_verdict (ended result)) (K.faults sink.old) (K.faults sink.new) }
@@ -121,9 +122,8 @@ fn serve<D: Disk, S: Source, K: Sink>(
     sink: &mut K,
 ) -> Status
     requires buffer { 0 < length buffer.old }
-    requires open { IsOpen (D.seen disk.old) session.old.store }
+    requires rests { IsAtRest (D.seen disk.old) session.old }
     requires front { session.old.line ≡ kept_so_far session.old.form [] }
-    requires unsaid { NoneWait session.old.waiting }
     requires cursors { session.old.cursors ≡ no_cursors }
     ensures known { EndsServing (D.seen disk.old).tells result }
     ensures source { Counted (source_verdict result) (S.faults source.old) (S.faults source.new) }

@@ -2,6 +2,7 @@
 ghost use Rattle.std.specs.Prelude.{◌≡◌, ◌⊎◌, [], IfOk, IfErr, OnOk, OnErr};
 ghost use Rattle.ss_outside.specs.Step.{Step};
 ghost use Rattle.ss_outside.specs.Verdict.{Counted};
+ghost use Rattle.ss_program.specs.Amid.{IsAtRest};
 ghost use Rattle.ss_program.specs.Answer.{IsOpen};
 ghost use Rattle.ss_program.specs.Progress.{EndsSession, NoneWait, TakesPiece, sealing_by};
 ghost use Rattle.ss_program.specs.Steps.{kept_so_far};
@@ -75,7 +76,8 @@ impl Session {
         requires { IsOpen (D.seen disk.old) self.old.store }
         ensures takes { Step (disk_verdict (ended result)) (D.seen disk.old) (D.seen disk.new)
             (TakesPiece (λ _. piece.now) piece.now self.old self.new (K.held sink.old) (K.held sink.new) result) }
-        ensures open { OnOk result (IsOpen (D.seen disk.new) self.new.store) }
+        // Over every disk: before more is read, all is on the disk and no reply waits.
+        ensures rests { OnOk result (IsAtRest (D.seen disk.new) self.new) }
         ensures status { IfErr result (IsStop (D.seen disk.old).tells) }
         ensures counted { Counted (sink_verdict (ended result)) (K.faults sink.old) (K.faults sink.new) }
     {

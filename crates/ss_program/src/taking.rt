@@ -115,6 +115,7 @@ pub fn take_piece<D: Disk, K: Sink>(
         (record { form = reader.old.form; store = store.new; line = under_way reader.new; cursors = sessions.new; waiting = waiting.new })
         (K.held sink.old) (K.held sink.new) result) }
     ensures open { OnOk result (IsOpen (D.seen disk.new) store.new) }
+    ensures none { OnOk result (NoneWait waiting.new) }
     ensures status { IfErr result (IsStop (D.seen disk.old).tells) }
     ensures form { reader.new.form ≡ reader.old.form }
     ensures counted { Counted (sink_verdict (ended result)) (K.faults sink.old) (K.faults sink.new) }

@@ -1,4 +1,4 @@
-use Rattle.std.proofs.Common.{◌≡◌, ◌∙◌, ◌++◌, ◌∷◌, [], Err, Ok, Result, Some, None, inl, refl, sym, ap, subst, false}
+use Rattle.std.proofs.Common.{◌≡◌, ◌+◌, ◌∙◌, ◌++◌, ◌∷◌, [], Err, Ok, Result, Some, None, inl, refl, sym, ap, subst, false}
 use Rattle.std.specs.Prelude.{◌↔◌, IsTrue}
 use Rattle.ss_catalog.specs.Events.{event_name}
 use Rattle.ss_catalog.specs.declared.event.Event.{Event}
@@ -6,28 +6,31 @@ use Rattle.ss_catalog.specs.declared.refusal.Refusal.{Refusal}
 use Rattle.ss_command.specs.declared.command.Command.TheVariants.{Do}
 use Rattle.ss_model.specs.History.{added}
 use Rattle.ss_model.specs.Refusals.{refuses}
-use Rattle.ss_model.specs.State.{state}
+use Rattle.ss_model.specs.State.{live, state}
 use Rattle.ss_model.specs.declared.types.Ack.{Ack}
 use Rattle.ss_outside.proofs.CrashLemmas.{reads-none}
 use Rattle.ss_outside.proofs.StepLemmas.{step-none}
-use Rattle.ss_outside.specs.Disk.{DiskView}
+use Rattle.ss_outside.specs.Disk.{DiskView, Told}
 use Rattle.ss_outside.specs.Step.{Step}
 use Rattle.ss_outside.specs.Verdict.{fine}
 use Rattle.ss_report.specs.declared.reply.Reply.{Reply}
 use Rattle.ss_report.specs.declared.reply.Reply.TheVariants.{Done, Refused}
-use Rattle.ss_store.specs.Calls.{StandsForEither}
+use Rattle.ss_store.specs.Calls.{KeepsWithin, StandsForEither}
+use Rattle.ss_store.specs.Extents.{records_in}
 use Rattle.ss_store.specs.Kept.{StoreState, refuses_held}
 use Rattle.ss_store.specs.Recover.{Stands}
 use Rattle.ss_store.specs.declared.error.ApplyError.{ApplyError}
 use Rattle.ss_store.specs.declared.error.ApplyError.TheVariants as errors
 use Rattle.ss_store.proofs.Calls.{Turns-answers, Turns-failed, Turns-same}
+use Rattle.ss_store.proofs.Extents.{records_in-kept}
+use Rattle.ss_store.proofs.Within.{KeepsWithin-answers, KeepsWithin-failed, KeepsWithin-reads}
 use Rattle.ss_store.proofs.FoundAlike.{refuses-kept, said-kept}
 use Rattle.ss_program.specs.Answer.{AppliesEvent, IsOpen}
 use Rattle.ss_program.specs.Line.{Brought, History, command_brings, history_after}
 use Rattle.ss_program.specs.Progress.{StandsAround}
 use Rattle.ss_program.specs.declared.status.Status.{Status}
 use Rattle.ss_program.specs.declared.status.Status.TheVariants.{DiskFault, OutOfMemory}
-use Rattle.ss_program.proofs.AnswerLemmas.{Adds-applied, Adds-none, IsSome-accepted, StoreIsIn-open, StoreIsIn-sealed, brings-accepted, brings-refused}
+use Rattle.ss_program.proofs.AnswerLemmas.{Adds-applied, Adds-none, IsSome-accepted, Stands-only_replies, StoreIsIn-open, StoreIsIn-sealed, brings-accepted, brings-refused}
 use Rattle.ss_program.proofs.AnswerLemmas.{not_refused}
 use Rattle.ss_program.proofs.answer.apply.Goals as goal
 
@@ -39,6 +42,15 @@ accepted : (event : Event) (store : StoreState) (disk : DiskView) (result : Resu
 accepted event store disk result opens refused other told history stands =
     refuses-kept store disk.told.content history event (StoreIsIn-open disk store opens told) stands
     ∙ not_refused result (refuses_held store.streams event) refused other
+
+-- the records that the store holds are those that each history needs for which its disk stands
+within-held : (store : StoreState) (disk : DiskView) (new : Told) (result : Result Reply Status) (history : History) → IsOpen disk store →
+    IsTrue disk.tells → Stands history disk.told.content → KeepsWithin (records_in store + 1) result disk.told new →
+    KeepsWithin (live (state history) + 1) result disk.told new
+within-held store disk new result history opens told stands within =
+    subst (λ n. KeepsWithin (n + 1) result disk.told new)
+    (records_in-kept store disk.told.content history (opens.serves.kept told)
+    (Stands-only_replies store.records disk.told.content history opens.sealed stands)) within
 
 pub returns-in-Ok-clause-applies : goal.returns-in-Ok-clause-applies
 returns-in-Ok-clause-applies g c =
@@ -57,7 +69,9 @@ returns-in-Ok-clause-applies g c =
         does = record {
           adds = λ history. Adds-applied history event old new result (fits told history)
               (Turns-answers (Stands history) (StandsForEither history event) (Stands (history ++ added event ∷ [])) old new c.in-Ok.ack result
-              (turns told history));
+              (turns told history))
+              (λ stands. within-held c.args.store.now (g.D.Disk.seen c.args.disk.now) new result history c.requires.open told stands
+              (KeepsWithin-answers result (c.in-Ok.ensures.within runs told)));
           reply = λ history stands.
               let said = said-kept c.apply.new.self new.content (history ++ added event ∷ []) (event_name event)
               (StoreIsIn-sealed c.apply.new.self new.content (c.in-Ok.ensures.sealed (applies.stops ∙ runs))
@@ -106,8 +120,12 @@ returns-in-Err-OutOfMemory-clause-applies g c =
         adds = λ history.
             let before = Stands history in
             let around = StandsAround history (command_brings history (Do event)) in
-            Turns-failed before around before (Stands (history_after history (command_brings history (Do event)))) disk.told disk.told result result refl
-            (Turns-same before around disk.told result (g.met.D.Disk.knows_now c.args.disk.now told) (λ has. inl has));
+            let knows = g.met.D.Disk.knows_now c.args.disk.now told in
+            record {
+              turns = Turns-failed before around before (Stands (history_after history (command_brings history (Do event)))) disk.told disk.told result
+                  result refl (Turns-same before around disk.told result knows (λ has. inl has));
+              within = λ stands. KeepsWithin-reads result knows (reads-none disk.told);
+            };
         reply = λ history stands. tt;
         untouched = λ _. reads-none disk.told;
       };
@@ -134,7 +152,9 @@ returns-in-Err-Disk-clause-applies g c =
               let after = Stands (history ++ added event ∷ []) in
               Adds-applied history event old new result (fits told history)
               (Turns-failed (Stands history) (StandsForEither history event) after after old new (Err c.in-Err-Disk.field-0) result refl
-              (c.in-Err-Disk.ensures.history c.requires.open.serves.runs told history));
+              (c.in-Err-Disk.ensures.history c.requires.open.serves.runs told history))
+              (λ stands. within-held c.args.store.now (g.D.Disk.seen c.args.disk.now) new result history c.requires.open told stands
+              (KeepsWithin-failed result refl (c.in-Err-Disk.ensures.within c.requires.open.serves.runs told)));
           reply = λ history stands. tt;
           untouched = λ memory. cc;
         };

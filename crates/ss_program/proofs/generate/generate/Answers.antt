@@ -3,6 +3,7 @@ use Rattle.ss_store.specs.Kept.{StoreState}
 use Rattle.ss_program.specs.Status.{EndsServing}
 use Rattle.ss_program.proofs.EndLemmas.{Ends-opened, Ends-unopened, judged-refused, serving-stop, unfed-unopened}
 use Rattle.ss_program.proofs.GenerateLemmas.{Generates-opened, Generates-unopened}
+use Rattle.ss_program.proofs.LeftLemmas.{opened_left, opened_moments}
 use Rattle.ss_program.proofs.generate.generate.Goals as goal
 
 pub returns-in-Ok-clause-ends : goal.returns-in-Ok-clause-ends
@@ -19,12 +20,14 @@ pub returns-in-Ok-clause-unfed : goal.returns-in-Ok-clause-unfed
 returns-in-Ok-clause-unfed g c = c.summarize.ensures.unfed
 
 pub returns-in-Ok-clause-generates : goal.returns-in-Ok-clause-generates
-returns-in-Ok-clause-generates g c told none history stands =
+returns-in-Ok-clause-generates g c told none used history stands =
     let opens = c.in-Ok.ensures.opens in
     let opened = (opens.told told).history history in
-    Generates-opened history c.args.seed c.args.count (g.K.Sink.held c.args.sink.now) (g.K.Sink.held c.summarize.new.sink) (g.D.Disk.seen c.args.disk.now).told
-    (g.D.Disk.seen c.open.new.disk).told (g.D.Disk.seen c.summarize.new.disk).told c.summarize.result (opened.any_moment none stands)
-    (c.summarize.ensures.generates.told (opens.tells ∙ told) (opened.durable none) history (opened.content stands))
+    Generates-opened used history c.args.seed c.args.count (g.K.Sink.held c.args.sink.now) (g.K.Sink.held c.summarize.new.sink) (g.D.Disk.seen c.args.disk.now).told
+    (g.D.Disk.seen c.open.new.disk).told (g.D.Disk.seen c.summarize.new.disk).told c.summarize.result
+    (opened_moments history (g.D.Disk.seen c.args.disk.now).told (g.D.Disk.seen c.open.new.disk).told _ opened (opens.told told).within used none stands)
+    (c.summarize.ensures.generates.told (opens.tells ∙ told) (opened.durable none) used history
+    (opened_left history (g.D.Disk.seen c.args.disk.now).told (g.D.Disk.seen c.open.new.disk).told _ opened (opens.told told).within used stands))
 
 pub returns-in-Err-clause-ends : goal.returns-in-Err-clause-ends
 returns-in-Err-clause-ends g c =
@@ -39,9 +42,11 @@ pub returns-in-Err-clause-unfed : goal.returns-in-Err-clause-unfed
 returns-in-Err-clause-unfed g c = rw c.refuse.ensures.status (unfed-unopened c.in-Err.error _ _ _ _ c.refuse.ensures.says)
 
 pub returns-in-Err-clause-generates : goal.returns-in-Err-clause-generates
-returns-in-Err-clause-generates g c told none history stands =
+returns-in-Err-clause-generates g c told none used history stands =
     let opens = c.in-Err.ensures.opens in
     rw c.refuse.ensures.status
-    (Generates-unopened history c.args.seed c.args.count (g.K.Sink.held c.args.sink.now) (g.K.Sink.held c.refuse.new.sink) (g.K.Sink.faults c.args.sink.now)
-    (g.K.Sink.faults c.refuse.new.sink) (g.D.Disk.seen c.args.disk.now).told (g.D.Disk.seen c.open.new.disk).told c.in-Err.error (opens.told told).opens stands
-    c.refuse.ensures.says (g.met.D.Disk.knows_now c.open.new.disk (opens.tells ∙ told)) (((opens.told told).history history).any_moment none stands))
+    (Generates-unopened used history c.args.seed c.args.count (g.K.Sink.held c.args.sink.now) (g.K.Sink.held c.refuse.new.sink) (g.K.Sink.faults c.args.sink.now)
+    (g.K.Sink.faults c.refuse.new.sink) (g.D.Disk.seen c.args.disk.now).told (g.D.Disk.seen c.open.new.disk).told c.in-Err.error (opens.told told).opens stands.0
+    c.refuse.ensures.says (g.met.D.Disk.knows_now c.open.new.disk (opens.tells ∙ told))
+    (opened_moments history (g.D.Disk.seen c.args.disk.now).told (g.D.Disk.seen c.open.new.disk).told _ ((opens.told told).history history)
+    (opens.told told).within used none stands))

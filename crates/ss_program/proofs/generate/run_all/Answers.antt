@@ -1,10 +1,10 @@
-use Rattle.std.proofs.Common.{◌≡◌, Err, List, length, map, sym, ap, subst, rules, arith}
+use Rattle.std.proofs.Common.{◌≡◌, ℕ, Err, List, Option, length, map, sym, ap, subst, rules, arith}
 use Rattle.ss_command.specs.Printed.{printed}
 use Rattle.ss_command.specs.declared.command.Command.{Command}
 use Rattle.ss_outside.proofs.StepLemmas.{step-as, step-none, step-then}
 use Rattle.ss_outside.specs.Disk.{NothingPending}
 use Rattle.ss_outside.specs.Step.{Step}
-use Rattle.ss_store.specs.Recover.{Stands}
+use Rattle.ss_store.specs.Uses.{StandsShort}
 use Rattle.ss_program.specs.Line.{History}
 use Rattle.ss_program.specs.Session.{plain_after}
 use Rattle.ss_program.specs.Status.{disk_verdict, ended}
@@ -24,9 +24,9 @@ loop-command-init g c =
       done = omega (arith, lines, done);
       refused = omega (arith, lines, refused);
       is_open = c.requires.open;
-      at = step-none disk (λ old now. NothingPending old → (history : History) → Stands history old.content →
-          IsAt history c.args.seed c.args.count c.new-generator.result old now c.new-tally.result) (λ told none history stands.
-          IsAt-start history c.args.seed c.args.count c.new-generator.result disk.told c.new-tally.result c.new-generator.ensures.commands
+      at = step-none disk (λ old now. NothingPending old → (used : Option ℕ) (history : History) → StandsShort used history old.content →
+          IsAt used history c.args.seed c.args.count c.new-generator.result old now c.new-tally.result) (λ told none used history stands.
+          IsAt-start used history c.args.seed c.args.count c.new-generator.result disk.told c.new-tally.result c.new-generator.ensures.commands
           (g.met.D.Disk.knows_now c.args.disk.now told) none stands c.new-tally.ensures);
     }
 
@@ -44,11 +44,11 @@ loop-command-preserved g c =
       done = c.take.ensures.done;
       refused = c.take.ensures.refused;
       is_open = c.in_ok-reply.ensures.open;
-      at = step-then inv.at c.in_ok-reply.ensures.does (λ first does none history stands.
-          let at = first none history stands in
+      at = step-then inv.at c.in_ok-reply.ensures.does (λ first does none used history stands.
+          let at = first none used history stands in
           let here = plain_after history (map printed at.done) in
-          IsAt-more history c.args.seed c.args.count c.loop-command.generator c.next.new.self c.in-Some.command old mid new c.in_ok-reply.reply
-          c.loop-command.tally c.take.new.self at next c.in-Some.ensures.sayable (does.adds here) (does.reply here at.ran.stands) c.take.ensures.tallies);
+          IsAt-more used history c.args.seed c.args.count c.loop-command.generator c.next.new.self c.in-Some.command old mid new c.in_ok-reply.reply
+          c.loop-command.tally c.take.new.self at next c.in-Some.ensures.sayable (does.adds here) (does.reply here at.ran.stands.0) c.take.ensures.tallies);
     }
 
 pub returns-in_err-reply-clause-runs : goal.returns-in_err-reply-clause-runs
@@ -63,9 +63,9 @@ returns-in_err-reply-clause-runs g c =
     subst (λ r. Step (disk_verdict (ended r)) view then (RunsAll c.args.seed c.args.count r)) (sym same)
     (step-then c.loop-command.invariant.at c.in_err-reply.ensures.does (λ first does. record {
       ok = tt;
-      stops = λ none history stands.
-          let at = first none history stands in
-          IsAt-stop history c.args.seed c.args.count c.loop-command.generator c.next.new.self c.in-Some.command old mid new
+      stops = λ none used history stands.
+          let at = first none used history stands in
+          IsAt-stop used history c.args.seed c.args.count c.loop-command.generator c.next.new.self c.in-Some.command old mid new
           c.loop-command.tally (Err status) at c.in-Some.ensures.next c.in-Some.ensures.sayable (does.adds (plain_after history (map printed at.done)));
     }))
 
@@ -74,7 +74,7 @@ returns-clause-runs g c =
     let old = (g.D.Disk.seen c.args.disk.now).told in
     let new = (g.D.Disk.seen c.loop-command.disk).told in
     step-as c.loop-command.invariant.at (λ at. record {
-      ok = λ none history stands. IsAt-end history c.args.seed c.args.count c.loop-command.generator old new c.loop-command.tally (at none history stands)
+      ok = λ none used history stands. IsAt-end used history c.args.seed c.args.count c.loop-command.generator old new c.loop-command.tally (at none used history stands)
           c.in_default.ensures.next.0;
       stops = tt;
     })

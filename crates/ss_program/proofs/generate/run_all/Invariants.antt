@@ -1,8 +1,8 @@
-use Rattle.std.proofs.Common.{◌+◌, ◌*◌, ◌≤◌, length}
+use Rattle.std.proofs.Common.{◌+◌, ◌*◌, ◌≤◌, ℕ, Option, length}
 use Rattle.ss_outside.specs.Disk.{NothingPending}
 use Rattle.ss_outside.specs.Step.{Step}
 use Rattle.ss_outside.specs.Verdict.{fine}
-use Rattle.ss_store.specs.Recover.{Stands}
+use Rattle.ss_store.specs.Uses.{StandsShort}
 use Rattle.ss_program.specs.Answer.{IsOpen}
 use Rattle.ss_program.specs.Line.{History}
 use Rattle.ss_program.proofs.GenerateLemmas.{AreSingle, IsAt}
@@ -16,8 +16,8 @@ invariant-loop-command g l = record {
   done : l.tally.done ≤ l.tally.lines;
   refused : l.tally.refused ≤ l.tally.lines;
   is_open : IsOpen (g.D.Disk.seen l.disk) l.store;
-  at : Step fine (g.D.Disk.seen l.fn.disk) (g.D.Disk.seen l.disk) (λ old now. NothingPending old → (history : History) → Stands history old.content →
-      IsAt history l.fn.seed l.fn.count l.generator old now l.tally);
+  at : Step fine (g.D.Disk.seen l.fn.disk) (g.D.Disk.seen l.disk) (λ old now. NothingPending old → (used : Option ℕ) (history : History) → StandsShort used history old.content →
+      IsAt used history l.fn.seed l.fn.count l.generator old now l.tally);
 }
 
 abbrev pub decreases-loop-command : goal.decreases-loop-command

@@ -1,4 +1,4 @@
-use Rattle.std.proofs.Common.{refl}
+use Rattle.std.proofs.Common.{None, refl}
 use Rattle.ss_program.specs.declared.status.Status.TheVariants.{Done}
 use Rattle.ss_program.proofs.promises.checks_and_generated_files_are_told.Goals as goal
 
@@ -10,4 +10,4 @@ returns-clause-checked g c held holds number checks is told streams recovers = (
 
 pub returns-clause-generated : goal.returns-clause-generated
 returns-clause-generated g c held holds number seed count generates is durable told history stands =
-    (generates seed count refl Done is told (durable told) history stands).whole refl
+    (generates seed count refl Done is told (durable told) None history (stands, tt)).whole refl

@@ -68,3 +68,6 @@ returns-in-Err-take-clause-stopped g c left is =
 pub returns-in-Err-take-clause-fault : goal.returns-in-Err-take-clause-fault
 returns-in-Err-take-clause-fault g c is =
     absurd ((stop-other (g.D.Disk.seen c.args.disk.now).tells c.in-Err-take.status c.in-Err-take.ensures.status).2 is)
+
+pub take-requires : goal.take-requires
+take-requires g c = c.requires.rests.is_open

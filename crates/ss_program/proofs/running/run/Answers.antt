@@ -5,14 +5,14 @@ use Rattle.ss_arguments.specs.declared.mode.Mode.TheVariants.{Check, Gen}
 use Rattle.ss_outside.proofs.CrashLemmas.{at_start, of_content}
 use Rattle.ss_outside.specs.Disk.{Between}
 use Rattle.ss_outside.specs.Verdict.{Counted}
-use Rattle.ss_store.specs.Recover.{Stands}
+use Rattle.ss_store.specs.Uses.{StandsShort}
 use Rattle.ss_program.specs.Checked.{ChecksStore}
 use Rattle.ss_program.specs.Devices.{over}
 use Rattle.ss_program.specs.Ending.{Ends, Feeds, IsUnfed, Unfed, served_by, serving}
 use Rattle.ss_program.specs.Generated.{GeneratesFrom}
 use Rattle.ss_program.specs.Outcome.{Reads, Serves, ServesInput}
 use Rattle.ss_program.specs.Status.{source_verdict}
-use Rattle.ss_program.specs.Talk.{begun}
+use Rattle.ss_program.specs.Talk.{begun_over}
 use Rattle.ss_program.specs.declared.status.Status.TheVariants.{OutOfMemory}
 use Rattle.ss_program.proofs.EndLemmas.{Completes-calm, by-number, has-numbers, source-calm}
 use Rattle.ss_program.proofs.OpeningLemmas.{Serves-unopened}
@@ -105,11 +105,11 @@ returns-in-Err-clause-unfed g c other status is =
 
 -- memory ran out before the disk was called
 pub returns-in-Err-clause-serves : goal.returns-in-Err-clause-serves
-returns-in-Err-clause-serves g c form sealing asked status is input left told none history stands =
+returns-in-Err-clause-serves g c form sealing asked status is input left told none used history stands =
     let disk = (g.D.Disk.seen c.args.disk.now).told in
     let before = g.K.Sink.held c.args.sink.now in
     let knows = g.met.D.Disk.knows_now c.args.disk.now told in
-    by-number (λ s. Serves sealing (begun form history) input (g.S.Source.left c.args.source.now) before before disk disk s) c.number-in-Err.result OutOfMemory
+    by-number (λ s. Serves sealing (begun_over used form history) input (g.S.Source.left c.args.source.now) before before disk disk s) c.number-in-Err.result OutOfMemory
     c.number-in-Err.ensures
-    (Serves-unopened sealing (begun form history) input (g.S.Source.left c.args.source.now) before before disk disk OutOfMemory (inr refl) left refl knows
-    (at_start disk (Stands history) knows (of_content disk (Stands history) none stands))) status is
+    (Serves-unopened sealing (begun_over used form history) input (g.S.Source.left c.args.source.now) before before disk disk OutOfMemory (inr refl) left refl knows
+    (at_start disk (StandsShort used history) knows (of_content disk (StandsShort used history) none stands))) status is

@@ -1,7 +1,7 @@
 use Rattle.std.proofs.Common.{inr, refl}
 use Rattle.ss_outside.proofs.CrashLemmas.{at_start, of_content}
-use Rattle.ss_store.specs.Recover.{Stands}
-use Rattle.ss_program.specs.Talk.{begun}
+use Rattle.ss_store.specs.Uses.{StandsShort}
+use Rattle.ss_program.specs.Talk.{begun_over}
 use Rattle.ss_program.specs.declared.status.Status.TheVariants.{OutOfMemory}
 use Rattle.ss_program.proofs.EndLemmas.{Ends-starved}
 use Rattle.ss_program.proofs.OpeningLemmas.{Reads-none, Serves-unopened}
@@ -20,9 +20,9 @@ pub returns-in-Err-clause-reads : goal.returns-in-Err-clause-reads
 returns-in-Err-clause-reads g c input is = Reads-none input (g.S.Source.left c.args.source.now) is
 
 pub returns-in-Err-clause-serves : goal.returns-in-Err-clause-serves
-returns-in-Err-clause-serves g c input is told none history stands =
+returns-in-Err-clause-serves g c input is told none used history stands =
     let disk = (g.D.Disk.seen c.args.disk.now).told in
     let before = g.K.Sink.held c.args.sink.now in
     let knows = g.met.D.Disk.knows_now c.args.disk.now told in
-    Serves-unopened c.args.sealing (begun c.args.form history) input (g.S.Source.left c.args.source.now) before before disk disk OutOfMemory
-    (inr refl) is refl knows (at_start disk (Stands history) knows (of_content disk (Stands history) none stands))
+    Serves-unopened c.args.sealing (begun_over used c.args.form history) input (g.S.Source.left c.args.source.now) before before disk disk OutOfMemory
+    (inr refl) is refl knows (at_start disk (StandsShort used history) knows (of_content disk (StandsShort used history) none stands))

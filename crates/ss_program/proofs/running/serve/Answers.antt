@@ -1,13 +1,13 @@
-use Rattle.std.proofs.Common.{◌≡◌, ◌-◌, ◌+◌, List, ℕ, Some, take, drop, refl, sym, ap, ◌∙◌, subst, arith, inl, inr}
+use Rattle.std.proofs.Common.{◌≡◌, ◌-◌, ◌+◌, List, ℕ, Option, Some, take, drop, refl, sym, ap, ◌∙◌, subst, arith, inl, inr}
 use Rattle.ss_outside.proofs.StepLemmas.{step-as, step-none, step-then}
 use Rattle.ss_outside.specs.Disk.{NothingPending}
-use Rattle.ss_store.specs.Recover.{Stands}
+use Rattle.ss_store.specs.Uses.{StandsShort}
 use Rattle.ss_program.specs.Line.{History}
 use Rattle.ss_program.specs.Outcome.{Serves}
-use Rattle.ss_program.specs.Progress.{sealing_by}
+use Rattle.ss_program.specs.Progress.{HoldsTalk, sealing_by}
 use Rattle.ss_program.specs.Sent.{appended}
 use Rattle.ss_program.specs.Session.{after_lines, text_of}
-use Rattle.ss_program.specs.Talk.{begun}
+use Rattle.ss_program.specs.Talk.{begun_over}
 use Rattle.ss_program.specs.declared.status.Status.TheVariants.{InputLimit, SourceFault}
 use Rattle.ss_program.proofs.SendLemmas.{appended-nil}
 use Rattle.ss_program.proofs.StepLemmas.{step-told}
@@ -24,27 +24,27 @@ loop-done-init g c =
     let left = g.S.Source.left c.args.source.now in
     record {
       fits = omega arith;
-      is_open = c.requires.open;
+      rests = c.requires.rests;
       left = λ input is. record { within = omega arith; source = is };
-      through = step-none disk (λ old now. (input : List ℕ) → left ≡ Some input → NothingPending old → (history : History) →
-          Stands history old.content →
-          IsThrough (sealing_by c.args.session.now.waiting) (begun c.args.session.now.form history) old now c.args.session.now before before left input 0)
-          (λ told input is none history stands.
-          IsThrough-start (sealing_by c.args.session.now.waiting) (begun c.args.session.now.form history) disk.told c.args.session.now before left input
+      through = step-none disk (λ old now. (input : List ℕ) → left ≡ Some input → NothingPending old → (used : Option ℕ) (history : History) →
+          StandsShort used history old.content →
+          IsThrough (sealing_by c.args.session.now.waiting) (begun_over used c.args.session.now.form history) old now c.args.session.now before before left input 0)
+          (λ told input is none used history stands.
+          IsThrough-start (sealing_by c.args.session.now.waiting) (begun_over used c.args.session.now.form history) disk.told c.args.session.now before left input
           (g.met.D.Disk.knows_now c.args.disk.now told)
           (record {
-            stands = subst (λ ls. Stands (after_lines (begun c.args.session.now.form history) ls).history disk.told.content)
+            stands = subst (λ ls. HoldsTalk (after_lines (begun_over used c.args.session.now.form history) ls) disk.told.content)
                 (sym (steps-none c.args.session.now.form)) stands;
             durable = none;
             line = c.requires.front;
-            unsaid = c.requires.unsaid;
+            unsaid = c.requires.rests.unsaid;
             seals = refl;
             form = refl;
             cursors = c.requires.cursors
-                ∙ ap (λ ls. (after_lines (begun c.args.session.now.form history) ls).cursors) (sym (steps-none c.args.session.now.form));
+                ∙ ap (λ ls. (after_lines (begun_over used c.args.session.now.form history) ls).cursors) (sym (steps-none c.args.session.now.form));
           })
           (sym (appended-nil before)
-          ∙ ap (λ ls. appended before (text_of (begun c.args.session.now.form history) ls)) (sym (steps-none c.args.session.now.form))) is);
+          ∙ ap (λ ls. appended before (text_of (begun_over used c.args.session.now.form history) ls)) (sym (steps-none c.args.session.now.form))) is);
       source = refl;
       sink = refl;
     }
@@ -59,19 +59,19 @@ loop-done-preserved g c =
     let after_left = g.S.Source.left c.read_piece.new.source in
     record {
       fits = omega (arith, c.in-Ok.ensures.count, inv.fits);
-      is_open = c.in-Ok.ensures.open;
+      rests = c.in-Ok.ensures.rests;
       left = λ input is.
           let at = inv.left input is in
           let moves = c.in-Ok.ensures.moves (drop done input) at.source in
           IsLeft-more after_left input done c.in-Ok.count at.within moves.0 moves.2;
-      through = step-then inv.through c.in-Ok.ensures.reads (λ first second input is none history stands.
-          let one = first input is none history stands in
+      through = step-then inv.through c.in-Ok.ensures.reads (λ first second input is none used history stands.
+          let one = first input is none used history stands in
           let rest = drop done input in
           let moves = c.in-Ok.ensures.moves rest one.source in
-          IsThrough-more (sealing_by c.args.session.now.waiting) (begun c.args.session.now.form history) old mid new c.loop-done.session
+          IsThrough-more (sealing_by c.args.session.now.waiting) (begun_over used c.args.session.now.form history) old mid new c.loop-done.session
           c.read_piece.new.session (g.K.Sink.held c.args.sink.now) (g.K.Sink.held c.loop-done.sink)
           (g.K.Sink.held c.read_piece.new.sink) (g.S.Source.left c.loop-done.source) after_left input done c.in-Ok.count one moves.0 moves.2
-          (second.goes rest one.source (sealing_by c.args.session.now.waiting) (begun c.args.session.now.form history) (g.K.Sink.held c.args.sink.now)
+          (second.goes rest one.source (sealing_by c.args.session.now.waiting) (begun_over used c.args.session.now.form history) (g.K.Sink.held c.args.sink.now)
           (take done input) one.on.at one.on.replied));
       source = c.in-Ok.ensures.source ∙ inv.source;
       sink = c.in-Ok.ensures.sink ∙ inv.sink;
@@ -100,28 +100,28 @@ returns-in-Ok-eq0-clause-serves g c =
     let left = g.S.Source.left c.read_piece.new.source in
     let inv = c.loop-done.invariant in
     let read = step-then {S = λ a b. (input : List ℕ) → g.S.Source.left c.args.source.now ≡ Some input → NothingPending a →
-    (history : History) → Stands history a.content →
-    IsThrough (sealing_by c.args.session.now.waiting) (begun c.args.session.now.form history) a b c.read_piece.new.session
+    (used : Option ℕ) (history : History) → StandsShort used history a.content →
+    IsThrough (sealing_by c.args.session.now.waiting) (begun_over used c.args.session.now.form history) a b c.read_piece.new.session
     before (g.K.Sink.held c.read_piece.new.sink) left input (n + k)}
-    inv.through c.in-Ok-eq0.ensures.reads (λ first second input is none history stands.
-    let one = first input is none history stands in
+    inv.through c.in-Ok-eq0.ensures.reads (λ first second input is none used history stands.
+    let one = first input is none used history stands in
     let rest = drop n input in
     let moves = c.in-Ok-eq0.ensures.moves rest one.source in
-    IsThrough-more (sealing_by c.args.session.now.waiting) (begun c.args.session.now.form history) old mid then.told c.loop-done.session
+    IsThrough-more (sealing_by c.args.session.now.waiting) (begun_over used c.args.session.now.form history) old mid then.told c.loop-done.session
     c.read_piece.new.session before (g.K.Sink.held c.loop-done.sink)
     (g.K.Sink.held c.read_piece.new.sink) (g.S.Source.left c.loop-done.source) left input n k one moves.0 moves.2
-    (second.goes rest one.source (sealing_by c.args.session.now.waiting) (begun c.args.session.now.form history) before
+    (second.goes rest one.source (sealing_by c.args.session.now.waiting) (begun_over used c.args.session.now.form history) before
     (take n input) one.on.at one.on.replied)) in
-    step-told read c.finish.ensures.ends (λ tells through ends input is none history stands.
+    step-told read c.finish.ensures.ends (λ tells through ends input is none used history stands.
     let at = inv.left input is in
     let rest = drop n input in
     let moves = c.in-Ok-eq0.ensures.moves rest at.source in
     let empty = moves.1 c.in-Ok-eq0.field-0-test in
     let all = length_of-none input n empty in
-    let end = IsThrough-end left (through input is none history stands) (omega (arith, all)) (omega (arith, all, inv.fits))
+    let end = IsThrough-end left (through input is none used history stands) (omega (arith, all)) (omega (arith, all, inv.fits))
     (left-none left rest k empty moves.2) in
     let sealing = sealing_by c.args.session.now.waiting in
-    let talk = begun c.args.session.now.form history in
+    let talk = begun_over used c.args.session.now.form history in
     Serves-finish sealing (g.D.Disk.seen c.finish.new.disk).told (g.K.Sink.held c.finish.new.sink) then.tells c.finish.result tells end c.finish.ensures.status
     (λ is_done. ends.done is_done sealing talk before input end.on.at end.on.replied)
     (λ stop. ends.stops (stop-other then.tells c.finish.result stop).0 sealing talk before input end.on.at end.on.replied))
@@ -147,9 +147,9 @@ returns-in-Err-clause-serves g c =
     let status = c.in-Err.status in
     let inv = c.loop-done.invariant in
     let sealing = sealing_by c.args.session.now.waiting in
-    step-told inv.through c.in-Err.ensures.reads (λ tells first second input is none history stands.
-    let old = first input is none history stands in
-    let talk = begun c.args.session.now.form history in
+    step-told inv.through c.in-Err.ensures.reads (λ tells first second input is none used history stands.
+    let old = first input is none used history stands in
+    let talk = begun_over used c.args.session.now.form history in
     elim c.in-Err.ensures.status [
       | inl fault ↦ (let same = c.in-Err.ensures.fault fault in
           subst (λ o. Serves sealing talk input left before o start new status) (sym same.2)
@@ -174,9 +174,9 @@ returns-in-Err-is_at_end-clause-reads g c input is =
 
 pub returns-in-Err-is_at_end-clause-serves : goal.returns-in-Err-is_at_end-clause-serves
 returns-in-Err-is_at_end-clause-serves g c =
-    step-as c.loop-done.invariant.through (λ through input is none history stands.
+    step-as c.loop-done.invariant.through (λ through input is none used history stands.
     Serves-part (sealing_by c.args.session.now.waiting) SourceFault (g.S.Source.left c.is_at_end.new.source)
-    (through input is none history stands) c.loop-done.invariant.fits
+    (through input is none used history stands) c.loop-done.invariant.fits
     (inl (refl, c.in-Err-is_at_end.ensures.err)))
 
 -- the input ends at the limit
@@ -189,13 +189,13 @@ returns-in-Ok-true-clause-reads g c input is =
 pub returns-in-Ok-true-clause-serves : goal.returns-in-Ok-true-clause-serves
 returns-in-Ok-true-clause-serves g c =
     let before = g.K.Sink.held c.args.sink.now in
-    step-told c.loop-done.invariant.through c.finish-in-Ok-true.ensures.ends (λ tells through finished input is none history stands.
-    let one = through input is none history stands in
+    step-told c.loop-done.invariant.through c.finish-in-Ok-true.ensures.ends (λ tells through finished input is none used history stands.
+    let one = through input is none used history stands in
     let ends = c.in-Ok-true.ensures.ends (drop c.loop-done.done input) one.source c.in-Ok-true.field-0-test in
     let all = length_of-none input c.loop-done.done ends.0 in
     let end = IsThrough-end (g.S.Source.left c.is_at_end.new.source) one all (omega (arith, all, c.loop-done.invariant.fits)) ends.1 in
     let sealing = sealing_by c.args.session.now.waiting in
-    let talk = begun c.args.session.now.form history in
+    let talk = begun_over used c.args.session.now.form history in
     Serves-finish sealing (g.D.Disk.seen c.finish-in-Ok-true.new.disk).told (g.K.Sink.held c.finish-in-Ok-true.new.sink)
     (g.D.Disk.seen c.loop-done.disk).tells
     c.finish-in-Ok-true.result tells end c.finish-in-Ok-true.ensures.status
@@ -211,8 +211,11 @@ returns-in-Ok-false-clause-reads g c input is =
 
 pub returns-in-Ok-false-clause-serves : goal.returns-in-Ok-false-clause-serves
 returns-in-Ok-false-clause-serves g c =
-    step-as c.loop-done.invariant.through (λ through input is none history stands.
-    let one = through input is none history stands in
+    step-as c.loop-done.invariant.through (λ through input is none used history stands.
+    let one = through input is none used history stands in
     let more = c.in-Ok-false.ensures.goes_on (drop c.loop-done.done input) one.source c.in-Ok-false.field-0-test in
     Serves-part (sealing_by c.args.session.now.waiting) InputLimit (g.S.Source.left c.is_at_end.new.source) one c.loop-done.invariant.fits
     (inr (refl, record { all = omega (arith, c.loop-done.invariant.fits, c.loop-done-test.false); source = more.1 })))
+
+pub finish-requires : goal.finish-requires
+finish-requires g c = c.in-Ok-eq0.ensures.rests.is_open

@@ -1,12 +1,14 @@
-use Rattle.std.proofs.Common.{◌≡◌, ◌-◌, ◌≤◌, List, ℕ, Some}
+use Rattle.std.proofs.Common.{◌≡◌, ◌-◌, ◌≤◌, List, ℕ, Option, Some}
 use Rattle.ss_outside.specs.Disk.{NothingPending}
 use Rattle.ss_outside.specs.Step.{Step}
 use Rattle.ss_outside.specs.Verdict.{fine}
 use Rattle.ss_store.specs.Recover.{Stands}
+use Rattle.ss_program.specs.Amid.{IsAtRest}
+use Rattle.ss_store.specs.Uses.{StandsShort}
 use Rattle.ss_program.specs.Answer.{IsOpen}
 use Rattle.ss_program.specs.Line.{History}
 use Rattle.ss_program.specs.Progress.{sealing_by}
-use Rattle.ss_program.specs.Talk.{begun}
+use Rattle.ss_program.specs.Talk.{begun_over}
 use Rattle.ss_program.specs.declared.running.TheConstants.{LONGEST_INPUT}
 use Rattle.ss_program.proofs.RunLemmas.{IsThrough}
 use Rattle.ss_program.proofs.ReadLemmas.{IsLeft}
@@ -16,11 +18,11 @@ use Rattle.ss_program.proofs.running.serve.Given as goal
 abbrev pub invariant-loop-done : goal.invariant-loop-done
 invariant-loop-done g l = record {
   fits : l.done ≤ LONGEST_INPUT;
-  is_open : IsOpen (g.D.Disk.seen l.disk) l.session.store;
+  rests : IsAtRest (g.D.Disk.seen l.disk) l.session;
   left : (input : List ℕ) → g.S.Source.left l.fn.source ≡ Some input → IsLeft (g.S.Source.left l.source) input l.done;
   through : Step fine (g.D.Disk.seen l.fn.disk) (g.D.Disk.seen l.disk) (λ old now. (input : List ℕ) → g.S.Source.left l.fn.source ≡ Some input →
-      NothingPending old → (history : History) → Stands history old.content →
-      IsThrough (sealing_by l.fn.session.waiting) (begun l.fn.session.form history) old now l.session (g.K.Sink.held l.fn.sink) (g.K.Sink.held l.sink)
+      NothingPending old → (used : Option ℕ) (history : History) → StandsShort used history old.content →
+      IsThrough (sealing_by l.fn.session.waiting) (begun_over used l.fn.session.form history) old now l.session (g.K.Sink.held l.fn.sink) (g.K.Sink.held l.sink)
       (g.S.Source.left l.source) input l.done);
   source : g.S.Source.faults l.source ≡ g.S.Source.faults l.fn.source;
   sink : g.K.Sink.faults l.sink ≡ g.K.Sink.faults l.fn.sink;

@@ -2,11 +2,12 @@ use Rattle.std.proofs.Common.{◌∙◌, inr, refl, subst}
 use Rattle.ss_store.specs.Kept.{StoreState}
 use Rattle.ss_program.specs.Outcome.{Serves}
 use Rattle.ss_program.specs.Progress.{sealing_by}
-use Rattle.ss_program.specs.Talk.{begun}
+use Rattle.ss_program.specs.Talk.{begun_over}
 use Rattle.ss_program.specs.Status.{EndsServing}
 use Rattle.ss_program.specs.declared.status.Status.TheVariants.{OutOfMemory}
 use Rattle.ss_program.proofs.TakesLemmas.{still}
 use Rattle.ss_program.proofs.EndLemmas.{Ends-opened, Ends-unopened, judged-refused}
+use Rattle.ss_program.proofs.LeftLemmas.{opened_left, opened_moments}
 use Rattle.ss_program.proofs.OpeningLemmas.{Reads-none, Reads-refused, Serves-opened, Serves-refused, Serves-unopened}
 use Rattle.ss_program.proofs.running.serve_store.Goals as goal
 
@@ -19,20 +20,22 @@ returns-in-Ok-start-clause-ends g c =
     c.serve.ensures.sink
 
 pub returns-in-Ok-start-clause-serves : goal.returns-in-Ok-start-clause-serves
-returns-in-Ok-start-clause-serves g c input is told none history stands =
+returns-in-Ok-start-clause-serves g c input is told none used history stands =
     let opens = c.in-Ok.ensures.opens in
     let opened = (opens.told told).history history in
+    let within = (opens.told told).within in
     let session = c.in-Ok-start.session in
     let left = g.S.Source.left c.serve.new.source in
     let before = g.K.Sink.held c.args.sink.now in
     let after = g.K.Sink.held c.serve.new.sink in
     let old = (g.D.Disk.seen c.args.disk.now).told in
     let new = (g.D.Disk.seen c.serve.new.disk).told in
-    subst (λ f. Serves c.args.sealing (begun f history) input left before after old new c.serve.result) c.in-Ok-start.ensures.form.0
-    (subst (λ s. Serves s (begun session.form history) input left before after old new c.serve.result) c.in-Ok-start.ensures.sealing.0
-    (Serves-opened (sealing_by session.waiting) (begun session.form history) input left before after old (g.D.Disk.seen c.open.new.disk).told new
-    c.serve.result (opened.any_moment none stands)
-    (c.serve.ensures.serves.told (opens.tells ∙ told) input is (opened.durable none) history (opened.content stands))))
+    subst (λ f. Serves c.args.sealing (begun_over used f history) input left before after old new c.serve.result) c.in-Ok-start.ensures.form.0
+    (subst (λ s. Serves s (begun_over used session.form history) input left before after old new c.serve.result) c.in-Ok-start.ensures.sealing.0
+    (Serves-opened (sealing_by session.waiting) (begun_over used session.form history) input left before after old (g.D.Disk.seen c.open.new.disk).told new
+    c.serve.result (opened_moments history old (g.D.Disk.seen c.open.new.disk).told _ opened within used none stands)
+    (c.serve.ensures.serves.told (opens.tells ∙ told) input is (opened.durable none) used history
+    (opened_left history old (g.D.Disk.seen c.open.new.disk).told _ opened within used stands))))
 
 -- there was no memory for a session
 pub returns-in-Err-start-clause-ends : goal.returns-in-Err-start-clause-ends
@@ -47,12 +50,13 @@ pub returns-in-Err-start-clause-reads : goal.returns-in-Err-start-clause-reads
 returns-in-Err-start-clause-reads g c input is = Reads-none input (g.S.Source.left c.args.source.now) is
 
 pub returns-in-Err-start-clause-serves : goal.returns-in-Err-start-clause-serves
-returns-in-Err-start-clause-serves g c input is told none history stands =
+returns-in-Err-start-clause-serves g c input is told none used history stands =
     let opens = c.in-Ok.ensures.opens in
     let before = g.K.Sink.held c.args.sink.now in
-    Serves-unopened c.args.sealing (begun c.args.form history) input (g.S.Source.left c.args.source.now) before before (g.D.Disk.seen c.args.disk.now).told
+    Serves-unopened c.args.sealing (begun_over used c.args.form history) input (g.S.Source.left c.args.source.now) before before (g.D.Disk.seen c.args.disk.now).told
     (g.D.Disk.seen c.open.new.disk).told OutOfMemory (inr refl) is refl (g.met.D.Disk.knows_now c.open.new.disk (opens.tells ∙ told))
-    (((opens.told told).history history).any_moment none stands)
+    (opened_moments history (g.D.Disk.seen c.args.disk.now).told (g.D.Disk.seen c.open.new.disk).told _ ((opens.told told).history history)
+    (opens.told told).within used none stands)
 
 pub returns-in-Err-clause-ends : goal.returns-in-Err-clause-ends
 returns-in-Err-clause-ends g c =
@@ -67,12 +71,13 @@ pub returns-in-Err-clause-reads : goal.returns-in-Err-clause-reads
 returns-in-Err-clause-reads g c input is = rw c.refuse.ensures.status (Reads-refused input (g.S.Source.left c.args.source.now) c.in-Err.error is)
 
 pub returns-in-Err-clause-serves : goal.returns-in-Err-clause-serves
-returns-in-Err-clause-serves g c input is told none history stands =
+returns-in-Err-clause-serves g c input is told none used history stands =
     let opens = c.in-Err.ensures.opens in
     rw c.refuse.ensures.status
-    (Serves-refused c.args.sealing (begun c.args.form history) input (g.S.Source.left c.args.source.now) (g.K.Sink.held c.args.sink.now)
+    (Serves-refused c.args.sealing (begun_over used c.args.form history) input (g.S.Source.left c.args.source.now) (g.K.Sink.held c.args.sink.now)
     (g.K.Sink.held c.refuse.new.sink)
     (g.K.Sink.faults c.args.sink.now) (g.K.Sink.faults c.refuse.new.sink) (g.D.Disk.seen c.args.disk.now).told (g.D.Disk.seen c.open.new.disk).told
     c.in-Err.error
-    (opens.told told).opens stands c.refuse.ensures.says is (g.met.D.Disk.knows_now c.open.new.disk (opens.tells ∙ told))
-    (((opens.told told).history history).any_moment none stands))
+    (opens.told told).opens stands.0 c.refuse.ensures.says is (g.met.D.Disk.knows_now c.open.new.disk (opens.tells ∙ told))
+    (opened_moments history (g.D.Disk.seen c.args.disk.now).told (g.D.Disk.seen c.open.new.disk).told _ ((opens.told told).history history)
+    (opens.told told).within used none stands))

@@ -19,7 +19,7 @@ use Rattle.ss_program.specs.Amid.{StagesBrought}
 use Rattle.ss_program.specs.declared.status.Status.{Status}
 use Rattle.ss_program.specs.declared.status.Status.TheVariants.{DiskFault}
 use Rattle.ss_program.proofs.AnswerLemmas.{IsSome-accepted, brings-accepted, brings-refused}
-use Rattle.ss_program.proofs.StagingLemmas.{Turns-looked, Turns-staged, accepted-shown, shown-still}
+use Rattle.ss_program.proofs.StagingLemmas.{Turns-looked, Turns-staged, accepted-shown}
 use Rattle.ss_program.proofs.staging.stage.Goals as goal
 
 pub returns-in-Ok-clause-stages : goal.returns-in-Ok-clause-stages
@@ -68,9 +68,8 @@ returns-in-Err-Refused-clause-stages g c =
     (step-none disk (StagesBrought (λ history. command_brings history (Do event)) store.records store.records result) (λ told. record {
       turns = λ history. Turns-looked store.records store.records history disk.told disk.told (command_brings history (Do event)) result
           (g.met.D.Disk.knows_now c.args.disk.now told)
-          (reads-none disk.told)
-          (λ stands. shown-still store.records store.records history (command_brings history (Do event)) disk.told.content disk.told.content
-          (ap (λ (b : Brought). b.event) (brings-refused false history event r (refused told history stands))) refl stands);
+          (reads-none disk.told) refl
+          (λ stands. ap (λ (b : Brought). b.event) (brings-refused false history event r (refused told history stands)));
       reply = λ history stands. ap (λ (b : Brought). b.replies) (brings-refused false history event r (refused told history stands));
     })))
 
