@@ -1,6 +1,6 @@
 // How often a disk was called.
 ghost use Rattle.std.specs.Prelude.{◌≡◌, ◌+◌, ◌*◌, ◌≤◌};
-ghost use Rattle.calls_bench.specs.Settlings.{closings, settlings};
+ghost use Rattle.calls_bench.specs.Settlings.{closings, settlings, slot_writes, slots_settled};
 
 /// Calls of a disk, and the bytes of the writes. Each number stands still at its greatest.
 #[derive(Clone, Copy)]
@@ -51,22 +51,22 @@ impl Calls {
 
     /// Those of so many commits of so many puts each on an empty journal, by the steps in docs/FORMAT.md: the entry after
     /// its gate, with the closed gate behind it where there is one, and the gate, each with a sync. Where all 64 entries are
-    /// in use, first the puts' slots and the first gate, each with a sync.
+    /// in use, first their slots, each once and neighbours by one write, and the first gate, each with a sync.
     pub fn of_commits(commits: u32, puts: u32) -> Calls
         requires few { puts ≤ 4 }
         ensures reads { result.reads ≡ 0 }
-        ensures writes { result.writes ≡ 2 * commits + (64 * puts + 1) * settlings commits }
+        ensures writes { result.writes ≡ 2 * commits + (slot_writes puts + 1) * settlings commits }
         ensures syncs { result.syncs ≡ 2 * commits + 2 * settlings commits }
-        ensures bytes { result.bytes ≡ 544 * commits + closings commits + (128 * (64 * puts) + 1) * settlings commits }
+        ensures bytes { result.bytes ≡ 544 * commits + closings commits + (128 * slots_settled puts + 1) * settlings commits }
     {
         let settlings = u64::from(commits.saturating_sub(1) / 64);
         let commits = u64::from(commits);
-        let puts = u64::from(puts);
+        let slots = 63 + u64::from(puts);
         Calls {
             reads: 0,
-            writes: 2 * commits + (64 * puts + 1) * settlings,
+            writes: 2 * commits + ((slots + 31) / 32 + 1) * settlings,
             syncs: 2 * commits + 2 * settlings,
-            bytes: 544 * commits + (commits - commits / 64) + (128 * (64 * puts) + 1) * settlings,
+            bytes: 544 * commits + (commits - commits / 64) + (128 * slots + 1) * settlings,
         }
     }
 }
