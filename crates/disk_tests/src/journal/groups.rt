@@ -5,8 +5,8 @@ ghost use Rattle.ss_journal.specs.Kept.{IsKept, IsSettled};
 ghost use Rattle.ss_journal.specs.Puts.{slots_fit, IsTxn};
 
 use super::files::{File, Map, bytes_of, disk_of, entries_in, has};
-use super::runs::{put_of, settled, stage};
-use super::stops::{CRASHES, survives, survives_again, survives_twice};
+use super::runs::{commit_txn, put_of, settled, stage};
+use super::stops::{CRASHES, survives, survives_again};
 use crate::passing::pass;
 use ss_journal::{Journal, JournalError, Txn};
 use ss_outside::{Disk, Failed, MemDisk};
@@ -52,20 +52,30 @@ fn byte_of(k: u32) -> u8 {
     (k % 255) as u8 + 1
 }
 
+// The transaction that puts into slot k alone, if that fits the extent.
+fn own_txn(k: u32, extent: u32) -> Option<Txn>
+    ensures { IfSome result (λ txn. IsTxn txn.items × IsTrue (slots_fit txn.items extent)) }
+{
+    if k > extent || k as usize >= MOST {
+        return None;
+    }
+    let mut txn = Txn::new();
+    txn.push(put_of(k, byte_of(k)));
+    Some(txn)
+}
+
 // Transaction k, if it fits the extent.
 fn txn_of(slots: Slots, k: u32, extent: u32) -> Option<Txn>
     ensures { IfSome result (λ txn. IsTxn txn.items × IsTrue (slots_fit txn.items extent)) }
 {
-    let slot = if slots == Slots::Own { k } else { 0 };
-    if slot > extent || extent == 0 {
+    if slots == Slots::Own {
+        return own_txn(k, extent);
+    }
+    if extent == 0 {
         return None;
     }
-    let mut txn = Txn::new();
-    txn.push(put_of(slot, byte_of(k)));
-    if slot == 0 && k % 2 == 1 {
-        txn.push(put_of(1, byte_of(k)));
-    }
-    Some(txn)
+    let second = if k % 2 == 1 { byte_of(k) } else { 0 };
+    Some(commit_txn((byte_of(k), second), extent))
 }
 
 // How many slots are used after so many transactions.
@@ -123,8 +133,15 @@ fn staged<D: Disk>(
     Ok(journal)
 }
 
-// Stages and seals a group, and answers whether the journal shows its map before and after it is sealed.
-fn group<D: Disk>(alloc: Global, disk: &mut D, row: &Row) -> Result<bool, JournalError> {
+// Stages and seals a group.
+fn group<D: Disk>(alloc: Global, disk: &mut D, row: &Row) -> Result<(), JournalError> {
+    let mut journal = staged(alloc, disk, row, row.1.saturating_add(row.2))?;
+    journal.seal(disk)?;
+    Ok(())
+}
+
+// Whether the journal shows the map of a group before and after it is sealed.
+fn shows<D: Disk>(alloc: Global, disk: &mut D, row: &Row) -> Result<bool, JournalError> {
     let count = row.1.saturating_add(row.2);
     let bytes = bytes_after(row.0, count);
     let map = &bytes[..used_after(row.0, count)];
@@ -135,8 +152,13 @@ fn group<D: Disk>(alloc: Global, disk: &mut D, row: &Row) -> Result<bool, Journa
     Ok(before && after)
 }
 
-// Whether each crash of a second stop leaves one of the maps. Over many stops it comes at each call of an opening and a settling.
-// Where room is made, each stop is followed by one choice of crash, each in turn, and else by each.
+fn shows_its_map(alloc: Global, bytes: &[u8], row: &Row) -> Result<bool, JournalError> {
+    let mut disk = disk_of(alloc, bytes)?;
+    shows(alloc, &mut disk, row)
+}
+
+// Whether each crash of a second stop leaves one of the maps, at each call of an opening and a settling. After each of them comes
+// one choice of the first crash, each in turn. Where room is made there are many calls, so each stop has one of them.
 fn survives_more(
     alloc: Global,
     disk: &MemDisk,
@@ -144,13 +166,24 @@ fn survives_more(
     stop: u64,
     maps: &[Map<'_>],
 ) -> Result<bool, JournalError> {
-    if row.3 > 0 {
-        let choice = CRASHES[(stop % 5) as usize];
-        survives_again(alloc, disk, choice, stop % 90 * 7 % 90, maps)
+    let calls = if row.3 > 0 {
+        90
     } else {
-        let calls = row.4.min(64) as u64 + 10;
-        survives_twice(alloc, disk, stop % calls * 7 % calls, maps)
+        row.4.min(64) as u64 + 10
+    };
+    let first = if row.3 > 0 {
+        stop % calls * 7 % calls
+    } else {
+        0
+    };
+    let end = if row.3 > 0 { first + 1 } else { calls };
+    for second in first..end {
+        let choice = CRASHES[(second.saturating_add(stop) % 5) as usize];
+        if !survives_again(alloc, disk, choice, second, maps)? {
+            return Ok(false);
+        }
     }
+    Ok(true)
 }
 
 // Whether a group that stops at this call comes to its end, if each crash leaves the map before the group or the one after
@@ -171,7 +204,7 @@ fn ended(
         &before[..used_after(slots, sealed)],
         &middle[..used_after(slots, room)],
     ];
-    let ended = matches!(group(alloc, disk, row), Ok(true)) && entries_in(disk) == entries;
+    let ended = group(alloc, disk, row).is_ok() && entries_in(disk) == entries;
     let left = if ended {
         1
     } else if room == 0 {
@@ -213,7 +246,7 @@ fn stops_are_safe(alloc: Global, bytes: &[u8], row: &Row) -> Result<bool, Journa
 fn first_unsafe(alloc: Global) -> Result<Option<usize>, JournalError> {
     let bytes = bytes_of(alloc, &File::Formed(&[], &[0]))?;
     for (k, row) in ROWS.iter().enumerate() {
-        if !stops_are_safe(alloc, &bytes, row)? {
+        if !shows_its_map(alloc, &bytes, row)? || !stops_are_safe(alloc, &bytes, row)? {
             return Ok(Some(k));
         }
     }

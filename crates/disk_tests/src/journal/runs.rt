@@ -35,7 +35,7 @@ pub fn settled<D: Disk>(alloc: Global, disk: &mut D) -> Result<Journal, JournalE
 }
 
 // The puts of a commit, of which there is one at least, over so many slots.
-fn txn_of(bytes: Commit, extent: u32) -> Txn
+pub fn commit_txn(bytes: Commit, extent: u32) -> Txn
     requires { 0 < extent }
     ensures txn { IsTxn result.items }
     ensures fit { IsTrue (slots_fit result.items extent) }
@@ -61,7 +61,7 @@ pub fn commit<D: Disk>(journal: &mut Journal, disk: &mut D, bytes: Commit) -> Re
     if bytes.0 == 0 || journal.extent() == 0 {
         return Ok(());
     }
-    let txn = txn_of(bytes, journal.extent());
+    let txn = commit_txn(bytes, journal.extent());
     journal.commit(disk, &txn)
 }
 
