@@ -1,4 +1,4 @@
-//! What else the windows of a stream may have held. There is no code here: definitions, and laws over them.
+//! A law book: what else the windows of a stream may have held, by definitions and laws over them. There is no code here.
 #![tactic(auto)]
 
 mod laws;

@@ -1,4 +1,4 @@
-//! The definitions that several crates speak of, and laws over them. There is no code here.
+//! A law book: the definitions that several crates speak of, and laws over them. There is no code here.
 #![tactic(auto)]
 
 mod answer_laws;
