@@ -1,17 +1,21 @@
 -- The definitions of ages, of parts of a range and of sizes at some rows, and where the laws leave no room.
-use Rattle.std.proofs.Common.{◌≡◌, ◌+◌, ◌-◌, ◌*◌, [], ◌∷◌, Some, arith, true, false, refl}
-use Rattle.std.specs.Prelude.{List, max, pos}
+use Rattle.std.proofs.Common.{◌≡◌, ◌+◌, ◌-◌, ◌*◌, ◌^◌, ◌≤◌, ℤ, [], ◌∷◌, Some, arith, true, false, negsuc, refl}
+use Rattle.std.specs.Int.{int_max, int_min}
+use Rattle.std.specs.Prelude.{◌*ℤ◌, ◌-ℤ◌, List, length, max, min, pos}
 use Rattle.std.proofs.lemmas.Int.{ints}
 use Rattle.ss_bounds.specs.Several.{greatest_of_all, least_of_all, sum_of_counts, sum_of_sums}
-use Rattle.ss_bounds.specs.Split.{sum_interval}
+use Rattle.ss_bounds.specs.Split.{SplitFigures, sum_interval}
 use Rattle.ss_bounds.specs.declared.extreme.Extreme.TheVariants.{Nothing, Sure, Maybe}
 use Rattle.ss_catalog.specs.Series.{numbers_from}
-use Rattle.ss_catalog.specs.Params.{exp}
+use Rattle.ss_catalog.specs.Params.{exp, power}
+use Rattle.ss_catalog.specs.declared.event.Event.TheVariants as events
 use Rattle.ss_catalog.specs.declared.query.Kind.TheVariants as kinds
 use Rattle.ss_catalog.specs.declared.series.Series.{Series}
-use Rattle.ss_measures.specs.Ages.{cuts, open_at, values_since}
+use Rattle.ss_measures.specs.Ages.{cuts, length_at, open_at, values_since}
 use Rattle.ss_measures.specs.Parts.{IsCountWithin, IsExtremeWithin, IsSumWithin, count_of, greatest_of, least_of, of_rows, sum_of}
-use Rattle.ss_model.specs.State.{Stream, live, records_of}
+use Rattle.ss_measures.specs.Sizes.{NeedsAtMost, UsesFewSlots}
+use Rattle.ss_model.specs.History.{Happened, added}
+use Rattle.ss_model.specs.State.{Stream, live, records_of, state}
 use Rattle.ss_model.specs.declared.types.TheConstants.{MOST_RECORDS}
 use Rattle.ss_model.specs.Decay.{cover, steps_met}
 use Rattle.ss_target.specs.Rule.{Rule, without_step}
@@ -72,14 +76,76 @@ open_at-55 : open_at (exp_length 2 1 1) 55 seven their_windows ≡ 0
 unfolding window_index
 open_at-55 = refl
 
+-- the oldest of three values has the age 2, the last in the window of two, and that of four the age 3, the first in the window of four
+length_at-50 : length_at (exp_length 2 1 1) 50 seven ≡ 2
+unfolding window_index
+length_at-50 = refl
+
+length_at-40 : length_at (exp_length 2 1 1) 40 seven ≡ 4
+unfolding window_index
+length_at-40 = refl
+
+-- a range that cuts two windows of four, one at each end, leaves two values of each open, as many as the law allows
+abbrev eight : List Point
+eight =
+    (10, pos 5, New) ∷ (20, pos 3, New) ∷ (30, pos 8, New) ∷ (40, pos 1, New) ∷ (50, pos 9, New) ∷ (60, pos 2, New) ∷ (70, pos 7, New)
+    ∷ (80, pos 4, New) ∷ []
+
+abbrev fours : Stream
+fours = record { number = 0; name = []; params = power 1 0 1 4; windows = windows (without_step (power_length 1 0 1 4)) eight; landmarks = [] }
+
+count-fours : count_of fours 15 55 ≡ (2, 6)
+unfolding power_length window_index
+count-fours = refl
+
+open_at-fours : open_at (power_length 1 0 1 4) 15 eight fours.windows + open_at (power_length 1 0 1 4) 56 eight fours.windows ≡ 6 - 2
+unfolding power_length window_index
+open_at-fours = refl
+
+-- of two values, -5 and 7, one lies in the range: their sum is as wide as the law allows
+abbrev widest : SplitFigures
+widest = record { count = 2; sum = pos 2; min = negsuc 4; max = pos 7; ends = 1; inside = 5; outside = 4 }
+
+sum-widest : sum_interval widest ≡ (negsuc 4, pos 7)
+unfolding sum_interval
+sum-widest = refl
+
+width-widest : (pos 7 -ℤ negsuc 4) ≡ (pos (2 - 1) *ℤ (int_max (pos 0) (pos 7) -ℤ int_min (pos 0) (negsuc 4)))
+width-widest = refl
+
+-- of three values that are all 5, or all -5, at most one lies in the range: it is 0 that they are far from, and not one another
+abbrev alike : ℤ → ℤ → SplitFigures
+alike v sum = record { count = 3; sum = sum; min = v; max = v; ends = 0; inside = 1; outside = 1 }
+
+sum-fives : sum_interval (alike (pos 5) (pos 15)) ≡ (pos 0, pos 5)
+unfolding sum_interval
+sum-fives = refl
+
+sum-minus_fives : sum_interval (alike (negsuc 4) (negsuc 14)) ≡ (negsuc 4, pos 0)
+unfolding sum_interval
+sum-minus_fives = refl
+
 -- the line of exponential lengths is reached at the first age of each group, and the newest r values end at r
 length-7 : 3 * exp_length 2 3 5 (window_index (exp_length 2 3 5) 15) ≡ (2 - 1) * 15 + 3 * 5
 unfolding window_index
 length-7 = refl
 
+length-base_3 : 2 * exp_length 3 2 1 (window_index (exp_length 3 2 1) 2) ≡ (3 - 1) * 2 + 2 * 1
+unfolding window_index
+length-base_3 = refl
+
+length-newest : exp_length 2 3 1 (window_index (exp_length 2 3 1) 2) ≡ 1
+unfolding window_index
+length-newest = refl
+
 length-past_newest : exp_length 2 3 1 (window_index (exp_length 2 3 1) 3) ≡ 2
 unfolding window_index
 length-past_newest = refl
+
+-- where s is 2, the newest value has no window of its own
+length-scaled : exp_length 2 3 2 (window_index (exp_length 2 3 2) 0) ≡ 2
+unfolding window_index
+length-scaled = refl
 
 -- two groups of three hold 45 values, and not 46
 cover-45 : cover (exp_length 2 3 5) 45 ≡ 3 * 2
@@ -89,6 +155,32 @@ cover-45 = refl
 cover-46 : cover (exp_length 2 3 5) 46 ≡ 3 * 2 + 1
 unfolding window_index
 cover-46 = refl
+
+-- two groups of two hold 8 values where b is 3, and not 9
+few-8 : (3 - 1) * 8 ≡ 2 * 1 * (3 ^ 2 - 1)
+few-8 = refl
+
+cover-8 : cover (exp_length 3 2 1) 8 ≡ 2 * 2
+unfolding window_index
+cover-8 = refl
+
+cover-9 : cover (exp_length 3 2 1) 9 ≡ 2 * 2 + 1
+unfolding window_index
+cover-9 = refl
+
+-- power 1 2 1 3: below the age 3 * 2 ^ 3 / 3 a window has 3 * 2 ^ 2 values
+power-7 : power_length 1 2 1 3 (window_index (power_length 1 2 1 3) 7) ≡ 3 * 2 ^ 2
+unfolding power_length window_index
+power-7 = refl
+
+-- power 1 0 4 5: two groups of four windows of five hold 40 values, and not 41
+cover-40 : cover (power_length 1 0 4 5) 40 ≡ 4 * 2 ^ 1
+unfolding power_length window_index
+cover-40 = refl
+
+cover-41 : cover (power_length 1 0 4 5) 41 ≡ 4 * 2 ^ 1 + 1
+unfolding power_length window_index
+cover-41 = refl
 
 -- power 1 1 4 1: two groups hold 12 values in windows of 1 and 2, and the next window has three
 power-11 : power_length 1 1 4 1 (window_index (power_length 1 1 4 1) 11) ≡ 2
@@ -212,6 +304,15 @@ records-one : records_of (record one { windows = windows (without_step (exp_leng
 unfolding window_index
 records-one = refl
 
+-- three windows of five values stand where two target windows cover them
+abbrev five : List Point
+five = (10, pos 5, New) ∷ (20, pos 3, New) ∷ (30, pos 8, New) ∷ (40, pos 1, New) ∷ (50, pos 9, New) ∷ []
+
+records-five : records_of (record one { params = exp 2 1 2; windows = windows (without_step (exp_length 2 1 2)) five })
+    ≡ 2 * cover (exp_length 2 1 2) 5
+unfolding window_index
+records-five = refl
+
 -- within minutes one value needs two records too, and the seven need one more than without a step
 abbrev within_minutes : Rule
 within_minutes = record { lengths = exp_length 2 1 1; step = 60 }
@@ -234,6 +335,29 @@ live-marked : live (record one {
   landmarks = record { start = 10; finish = Some 20; values = record { t = 11; v = pos 1 } ∷ [] } ∷ [];
 } ∷ []) ≡ 1 * (max 1 (2 * 0) + 2)
 live-marked = refl
+
+-- a stream with one value needs two, as one target window does for it
+live-one : live (record one { windows = windows (without_step (exp_length 2 1 1)) ((10, pos 5, New) ∷ []) } ∷ []) ≡ 1 * max 1 (2 * (1 * 1))
+unfolding window_index
+live-one = refl
+
+-- one event uses one slot, and not two; before the second event one record stands
+abbrev created : Happened
+created = added (events.Create (97 ∷ []) (exp 2 1 1))
+
+abbrev valued : Happened
+valued = added (events.Value (97 ∷ []) 10 (pos 5))
+
+uses_few-one : UsesFewSlots (λ history. min 1 (length history)) (created ∷ [])
+uses_few-one before after e is = omega arith
+
+uses_few-two : ¬ UsesFewSlots (λ history. 2 * length history) (created ∷ [])
+unfolding state
+uses_few-two uses = let few : 2 ≤ 1 = uses [] [] created refl in omega (arith, few)
+
+needs-one : ¬ NeedsAtMost 0 (created ∷ valued ∷ [])
+unfolding state
+needs-one needs = let few : 1 ≤ 0 = needs (created ∷ []) [] valued refl in omega (arith, few)
 
 -- as many records as a store has
 most_records : MOST_RECORDS ≡ 1048576

@@ -1,14 +1,14 @@
 -- Worked rows of merge rules with a step, each computed.
-use Rattle.std.proofs.Common.{◌≡◌, ℕ, Bool, true, false, List, [], ◌∷◌, ◌++◌, map, refl, pos, negsuc}
+use Rattle.std.proofs.Common.{◌≡◌, ◌+◌, ◌-◌, ◌*◌, ℕ, Bool, true, false, List, [], ◌∷◌, ◌++◌, length, map, refl, pos, negsuc}
 use Rattle.ss_power.specs.Power.{power_length}
-use Rattle.ss_summary.specs.Filters.{bit_of, filter_of, union}
+use Rattle.ss_summary.specs.Filters.{bit_of, filter_of, full, union}
 use Rattle.ss_summary.specs.Points.{Point, New}
 use Rattle.ss_summary.specs.Summaries.{summary_of}
 use Rattle.ss_windowing.specs.Exp.{exp_length}
 use Rattle.ss_windowing.specs.Windowing.{window_index}
 use Rattle.ss_model.specs.Boundaries.{boundaries}
 use Rattle.ss_model.specs.Closed.{closed, last_position}
-use Rattle.ss_model.specs.Decay.{steps_met}
+use Rattle.ss_model.specs.Decay.{cover, ends_of, steps_met}
 use Rattle.ss_target.specs.Rule.{Rule, in_step, without_step}
 use Rattle.ss_model.specs.Windows.{time_at, windows}
 use Rattle.ss_model.specs.declared.types.Window.{Window}
@@ -103,3 +103,17 @@ steps_met-minutes = refl
 steps_met-none : met 0 ([] ∷ (59 ∷ []) ∷ (0 ∷ 59 ∷ 60 ∷ 119 ∷ 120 ∷ []) ∷ []) ≡ 0 ∷ 1 ∷ 1 ∷ []
 unfolding met
 steps_met-none = refl
+
+-- windows of one target window and two steps, of which the second crosses from the one step into the other: three stand, the most that may
+holding : ℕ → ℕ → ℕ → ℕ → Window
+holding first count t_first t_last = record {
+  first = first;
+  summary = record { count = count; sum = pos 0; min = pos 0; max = pos 0; t_first = t_first; t_last = t_last; filter = full };
+}
+
+crossing : List Window
+crossing = holding 1 1 8 8 ∷ holding 2 2 9 11 ∷ holding 4 1 12 12 ∷ []
+
+closed-crossing : length (closed (fours_within 10) 4 crossing) + 1 ≡ 2 * (cover (fours_within 10).lengths 4 + steps_met 10 (ends_of crossing) - 1)
+unfolding window_index power_length fours_within holding crossing
+closed-crossing = refl

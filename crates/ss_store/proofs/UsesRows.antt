@@ -1,6 +1,9 @@
 -- How many slots an image uses and a history needs, where the definitions leave no room.
-use Rattle.std.proofs.Common.{◌≡◌, ◌+◌, ◌≤◌, ℕ, List, [], ◌∷◌, None, Option, Some, arith, pos, refl}
-use Rattle.std.specs.Prelude.{replicate}
+use Rattle.std.proofs.Common.{◌≡◌, ◌⊎◌, ◌+◌, ◌*◌, ℕ, List, [], ◌∷◌, None, Ok, Some, arith, pos, refl, subst, sym}
+use Rattle.std.specs.Prelude.{Result, length, max, replicate, ⊤}
+use Rattle.ss_outside.specs.Crash.{LeavesOnly}
+use Rattle.ss_outside.specs.Disk.{NothingPending, Told}
+use Rattle.ss_outside.specs.declared.source.Failed.{Failed}
 use Rattle.ss_catalog.specs.Params.{exp}
 use Rattle.ss_catalog.specs.declared.event.Event.TheVariants as events
 use Rattle.ss_journal.specs.Format.{is_born, is_unborn}
@@ -9,7 +12,13 @@ use Rattle.ss_journal.proofs.MapLemmas.{SameMap-refl}
 use Rattle.ss_journal.proofs.RedoLemmas.{StandsFor-from, StandsFor-same}
 use Rattle.ss_model.specs.History.{Happened, added}
 use Rattle.ss_model.specs.State.{state}
-use Rattle.ss_store.specs.Uses.{IsShort, UsesAtMost, most_needed}
+use Rattle.ss_records.specs.Kept.{RecordsState, shown_by}
+use Rattle.ss_store.specs.Applied.{OpensStore, SealsStore}
+use Rattle.ss_store.specs.Calls.{KeepsWithin, StandsLike, StaysWithin}
+use Rattle.ss_store.specs.Kept.{StoreState}
+use Rattle.ss_store.specs.Recover.{Stands}
+use Rattle.ss_store.specs.Uses.{IsShort, StandsShort, UsesAtMost, most_needed}
+use Rattle.ss_store.specs.declared.error.OpenError.{OpenError}
 
 -- a file of two slots, of zeros
 abbrev two_slots : List ℕ
@@ -65,3 +74,83 @@ short-three image = refl
 short-seven : (image : List ℕ) → IsShort (Some 7) (created ∷ valued ∷ dropped ∷ []) image ≡ UsesAtMost 7 image
 unfolding state
 short-seven image = refl
+
+-- so the image stands for the history and uses no more than these, and where none are asked for any number of slots may be used
+stands-short : (image : List ℕ) → StandsShort (Some 0) [] image ≡ (Stands [] image × UsesAtMost 1 image)
+unfolding state
+stands-short image = refl
+
+short-unasked : (history : List Happened) (image : List ℕ) → IsShort None history image ≡ ⊤
+short-unasked history image = refl
+
+-- an empty file uses none
+redo-empty : redo [] ≡ stands (blank_map [])
+unfolding redo is_born is_unborn
+redo-empty = refl
+
+uses-empty : UsesAtMost 0 []
+uses-empty = record {
+  found = blank_map [];
+  map = StandsFor-from [] (blank_map []) (blank_map []) redo-empty (SameMap-refl (blank_map []));
+  few = omega arith;
+}
+
+-- a file of two slots and of 127 bytes of a third, which is as long as one that uses two can be
+abbrev cut_off : List ℕ
+cut_off = replicate (36864 + 256 + 127) 0
+
+redo-cut_off : redo cut_off ≡ stands (blank_map cut_off)
+unfolding redo is_born is_unborn
+redo-cut_off = refl
+
+uses-cut_off : UsesAtMost 2 cut_off
+uses-cut_off = record {
+  found = blank_map cut_off;
+  map = StandsFor-from cut_off (blank_map cut_off) (blank_map cut_off) redo-cut_off (SameMap-refl (blank_map cut_off));
+  few = omega arith;
+}
+
+longest : length cut_off + 1 ≡ 36864 + 128 * (max 2 (most_needed [] + 1) + 1)
+unfolding state
+longest = refl
+
+-- with one byte more it uses three
+abbrev three_slots : List ℕ
+three_slots = replicate (36864 + 384) 0
+
+redo-three : redo three_slots ≡ stands (blank_map three_slots)
+unfolding redo is_born is_unborn
+redo-three = refl
+
+uses-three : UsesAtMost 2 three_slots → ⊥
+uses-three uses =
+    let its = StandsFor-from three_slots (blank_map three_slots) (blank_map three_slots) redo-three (SameMap-refl (blank_map three_slots)) in
+    let same = StandsFor-same three_slots (blank_map three_slots) uses.found its uses.map in
+    omega (arith, same.extent, uses.few)
+
+-- a call that may use two slots makes no file of two one of three, and a crash within it leaves none of three
+module _ {T E : Type 0} (value : T) (old new : Told) where
+  keeps-three : KeepsWithin {E = E} 2 (Ok value) old new → old.content ≡ two_slots → new.content ≡ three_slots → ⊥
+  keeps-three keeps was is = uses-three (subst (UsesAtMost 2) is ((keeps 2 (omega arith)).content (subst (UsesAtMost 2) (sym was) uses-two)))
+
+  keeps-crash : KeepsWithin {E = E} 2 (Ok value) old new → old.content ≡ two_slots → NothingPending old → LeavesOnly old new (UsesAtMost 2)
+  keeps-crash keeps was none = (keeps 2 (omega arith)).any_moment none (subst (UsesAtMost 2) (sym was) uses-two)
+
+  -- nor does one that stages, of what is shown
+  module _ (was is : RecordsState) (stays : StaysWithin {E = E} 2 was is (Ok value) old new) (shown : shown_by was old.content ≡ two_slots) where
+    shows-two : UsesAtMost 2 (shown_by was old.content)
+    shows-two = subst (UsesAtMost 2) (sym shown) uses-two
+
+    stays-three : shown_by is new.content ≡ three_slots → ⊥
+    stays-three then = uses-three (subst (UsesAtMost 2) then ((stays 2 (omega arith)).content shows-two))
+
+    stays-crash : NothingPending old → LeavesOnly old new (StandsLike (λ image. (image ≡ old.content) ⊎ UsesAtMost 2 image))
+    stays-crash none = (stays 2 (omega arith)).any_moment none shows-two
+
+-- neither an opening nor a seal takes a slot, and no image that a crash leaves of them uses one more
+opens-within : (result : Result StoreState OpenError) (old new : Told) → OpensStore result old new → KeepsWithin 0 result old new
+opens-within result old new opens = opens.within
+
+seals-within : (was is : StoreState) (result : Result Unit Failed) (old new : Told) → SealsStore was is result old new →
+    StaysWithin 0 was.records is.records result old new
+seals-within was is result old new seals = seals.within
