@@ -1,5 +1,5 @@
 -- The definitions of ages, of parts of a range and of sizes at some rows, and where the laws leave no room.
-use Rattle.std.proofs.Common.{◌≡◌, ◌+◌, ◌-◌, ◌*◌, ◌^◌, ◌≤◌, ℤ, [], ◌∷◌, Some, arith, true, false, negsuc, refl}
+use Rattle.std.proofs.Common.{◌≡◌, ◌+◌, ◌-◌, ◌*◌, ◌^◌, ◌≤◌, ◌++◌, ℤ, [], ◌∷◌, Some, ap, arith, true, false, negsuc, refl, suc}
 use Rattle.std.specs.Int.{int_max, int_min}
 use Rattle.std.specs.Prelude.{◌*ℤ◌, ◌-ℤ◌, List, length, max, min, pos}
 use Rattle.std.proofs.lemmas.Int.{ints}
@@ -13,7 +13,7 @@ use Rattle.ss_catalog.specs.declared.query.Kind.TheVariants as kinds
 use Rattle.ss_catalog.specs.declared.series.Series.{Series}
 use Rattle.ss_measures.specs.Ages.{cuts, length_at, open_at, values_since}
 use Rattle.ss_measures.specs.Parts.{IsCountWithin, IsExtremeWithin, IsSumWithin, count_of, greatest_of, least_of, of_rows, sum_of}
-use Rattle.ss_measures.specs.Sizes.{NeedsAtMost, UsesFewSlots}
+use Rattle.ss_measures.specs.Sizes.{HoldsAtMost, NeedsAtMost, TakesAtMost, UsesFewSlots}
 use Rattle.ss_model.specs.History.{Happened, added}
 use Rattle.ss_model.specs.State.{Stream, live, records_of, state}
 use Rattle.ss_model.specs.declared.types.TheConstants.{MOST_RECORDS}
@@ -355,9 +355,32 @@ uses_few-two : ¬ UsesFewSlots (λ history. 2 * length history) (created ∷ [])
 unfolding state
 uses_few-two uses = let few : 2 ≤ 1 = uses [] [] created refl in omega (arith, few)
 
+needs-none : NeedsAtMost 0 (created ∷ [])
+unfolding state
+needs-none [] after e is = let none : live (state []) ≡ 0 = refl in omega (arith, none)
+needs-none (d ∷ []) after e is = let longer : 1 ≡ suc (suc (length after)) = ap (λ (es : List Happened). length es) is in absurd (omega (arith, longer))
+needs-none (d ∷ f ∷ before) after e is =
+    let longer : 1 ≡ suc (suc (length (before ++ e ∷ after))) = ap (λ (es : List Happened). length es) is in absurd (omega (arith, longer))
+
 needs-one : ¬ NeedsAtMost 0 (created ∷ valued ∷ [])
 unfolding state
 needs-one needs = let few : 1 ≤ 0 = needs (created ∷ []) [] valued refl in omega (arith, few)
+
+-- what streams take, at the bounds: a landmark with a value, and one value, for which one target window and one step do; and seven values
+takes-marked : TakesAtMost [] 0 2 (record one {
+  windows = [];
+  landmarks = record { start = 10; finish = Some 20; values = record { t = 11; v = pos 1 } ∷ [] } ∷ [];
+})
+takes-marked = record { windows = omega arith; landmarks = omega arith }
+
+takes-one : TakesAtMost (created ∷ valued ∷ []) 1 0
+    (record one { name = 97 ∷ []; windows = windows (without_step (exp_length 2 1 1)) ((10, pos 5, New) ∷ []) })
+unfolding window_index
+takes-one = record { windows = omega arith; landmarks = omega arith }
+
+holds-seven : HoldsAtMost (exp 2 1 1) 7 one
+unfolding window_index
+holds-seven = record { params = refl; landmarks = refl; values = omega arith }
 
 -- as many records as a store has
 most_records : MOST_RECORDS ≡ 1048576
