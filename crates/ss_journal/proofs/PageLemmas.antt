@@ -1,17 +1,24 @@
--- The slots of a page: read from a file, written over, and cleared.
+-- The slots of a page: read from a file, written over, cleared, and taken out of the form of the file.
 use Rattle.std.proofs.Common.{List, [], ap, arith, cond, drop, get_or, inl, inr, length, nat_eq, replicate, sym, take, ℕ, ◌++◌, ◌*◌, ◌+◌, ◌-◌}
-use Rattle.std.proofs.Common.{◌<◌, ◌∙◌, ◌∷◌, ◌≡◌, ◌≢◌, ◌≤◌}
-use Rattle.std.proofs.lemmas.Bool.{cases_order}
+use Rattle.std.proofs.Common.{◌<◌, ◌∙◌, ◌∷◌, ◌≡◌, ◌≢◌, ◌≤◌, Bool, false, refl, suc, true, zero}
+use Rattle.std.specs.List.{flat_map, range_with_len}
+use Rattle.std.proofs.Math.ListN.{set}
+use Rattle.std.proofs.Math.Seq.{drop-append-add}
+use Rattle.std.proofs.lemmas.Bool.{cases_Bool, cases_eq, cases_order, cond-false, cond-true}
 use Rattle.std.proofs.lemmas.List.{drop-append-le, drop-drop, drop-replicate, drop-take, drop_at, ext_get_or, get_or-drop, get_or-take, length-drop}
-use Rattle.std.proofs.lemmas.List.{length-replicate, length-take, length-take-le, take-append-le, take-replicate, take_all, take_more}
+use Rattle.std.proofs.lemmas.List.{get_or-set_other, get_or-set_same, length-replicate, length-take, length-take-le, take-append-le, take-replicate, take_all, take_more}
 use Rattle.std.proofs.lemmas.Slice.{drop-put_mid, take-put_mid_below}
 use borrow.Rule.Slice.PartMut.{post_of, put_mid}
 use Rattle.ss_outside.specs.Disk.{IsReadFrom}
 use Rattle.ss_journal.specs.Calls.{slot_in_page}
+use Rattle.ss_journal.specs.Checks.{slot_form}
 use Rattle.ss_journal.specs.Format.{slot_at, slot_place, slots_in}
+use Rattle.ss_journal.specs.Page.{page_said, slot_said}
 use Rattle.ss_journal.specs.Puts.{with_put, with_puts}
 use Rattle.ss_journal.specs.Redo.{zeros}
+use Rattle.ss_journal.specs.declared.kind.Kind.{Kind}
 use Rattle.ss_journal.specs.declared.put.Put.{Put}
+use Rattle.ss_journal.proofs.CheckLemmas.{length-slot_form}
 use Rattle.ss_journal.proofs.MapLemmas.{slot_within}
 use Rattle.ss_journal.proofs.PutLemmas.{with_puts-append}
 
@@ -106,3 +113,78 @@ laid_more puts n slot d old mid got lt before more =
     more ∙ ap (cond (nat_eq slot put.slot) put.bytes) before
     ∙ sym (ap (λ (list : List Put). with_puts list (λ _. old) slot) (take_more puts n d lt)
     ∙ ap (λ (m : ℕ → List ℕ). m slot) (with_puts-append (take n puts) (put ∷ []) (λ _. old)))
+
+-- slots one after the other, of which a page has one for each number
+slot_in_page-row : (f : ℕ → List ℕ) (a n k m : ℕ) → m ≡ a + k → k < n → ((j : ℕ) → a ≤ j → j < a + n → length (f j) ≡ 128)
+    → slot_in_page (flat_map f (range_with_len a n)) k ≡ f m
+slot_in_page-row f a zero k m is lt long = absurd (omega (arith, lt))
+slot_in_page-row f a (suc n) zero m is lt long =
+    let size = long a (omega arith) (omega arith) in
+    take-append-le 128 (f a) (flat_map f (range_with_len (a + 1) n)) (omega (arith, size))
+    ∙ take_all 128 (f a) (omega (arith, size)) ∙ ap f (omega (arith, is))
+slot_in_page-row f a (suc n) (suc k) m is lt long =
+    let rest = flat_map f (range_with_len (a + 1) n) in
+    let place : 128 * suc k ≡ length (f a) + 128 * k = omega (arith, long a (omega arith) (omega arith)) in
+    ap (λ (p : ℕ). take 128 (drop p (f a ++ rest))) place
+    ∙ ap (take 128) (drop-append-add (f a) rest (128 * k))
+    ∙ slot_in_page-row f (a + 1) n k m (omega (arith, is)) (omega (arith, lt))
+    (λ j from below. long j (omega (arith, from)) (omega (arith, below)))
+
+-- and pages of the same slots are the same
+same_slots : (f g : ℕ → List ℕ) (a n : ℕ) → ((j : ℕ) → a ≤ j → j < a + n → f j ≡ g j)
+    → flat_map f (range_with_len a n) ≡ flat_map g (range_with_len a n)
+same_slots f g a zero same = refl
+same_slots f g a (suc n) same =
+    ap (λ (slot : List ℕ). slot ++ flat_map f (range_with_len (a + 1) n)) (same a (omega arith) (omega arith))
+    ∙ ap (λ (rest : List ℕ). g a ++ rest)
+    (same_slots f g (a + 1) n (λ j from below. same j (omega (arith, from)) (omega (arith, below))))
+
+-- what a page says, of which each slot is in the form of the file or was taken out of it
+module _ (kind : Kind) (number : ℕ) (formed : List Bool) (bytes : List ℕ) (k : ℕ) where
+  pub slot_said-formed : get_or formed k false ≡ true → slot_said kind number formed bytes k ≡ slot_in_page bytes k
+  slot_said-formed is = cond-true (get_or formed k false) _ _ is
+
+  pub slot_said-unformed : get_or formed k false ≡ false → slot_said kind number formed bytes k ≡ slot_form kind (32 * number + k) (slot_in_page bytes k)
+  slot_said-unformed is = cond-false (get_or formed k false) _ _ is
+
+  module _ (long : length bytes ≡ 4096) (lt : k < 32) where
+    length-slot_said : length (slot_said kind number formed bytes k) ≡ 128
+    length-slot_said =
+        let size : length (slot_in_page bytes k) ≡ 128 =
+        length-take-le 128 (drop (128 * k) bytes) (omega (arith, long, lt, length-drop (128 * k) bytes)) in
+        elim (cases_Bool (get_or formed k false)) [
+          | inl is ↦ ap (λ (slot : List ℕ). length slot) (slot_said-formed is) ∙ size
+          | inr not ↦ ap (λ (slot : List ℕ). length slot) (slot_said-unformed not) ∙ length-slot_form kind (32 * number + k) _ ∙ size
+        ]
+
+pub slot_in_page-said : (kind : Kind) (number : ℕ) (formed : List Bool) (bytes page : List ℕ) (k : ℕ) → page_said kind number formed bytes ≡ page
+    → length bytes ≡ 4096 → k < 32 → slot_in_page page k ≡ slot_said kind number formed bytes k
+unfolding page_said
+slot_in_page-said kind number formed bytes page k is long lt =
+    ap (λ (list : List ℕ). slot_in_page list k) (sym is)
+    ∙ slot_in_page-row (slot_said kind number formed bytes) 0 32 k k (omega arith) lt
+    (λ j from below. length-slot_said kind number formed bytes j long (omega (arith, below)))
+
+-- a slot is written, which is as it says then
+module _ (kind : Kind) (number : ℕ) (formed : List Bool) (old new slot : List ℕ) (n : ℕ) (many : length formed ≡ 32) (lt : n < 32)
+    (written : slot_in_page new n ≡ slot) (others : (k : ℕ) → k < 32 → k ≢ n → slot_in_page new k ≡ slot_in_page old k) where
+  pub slot_said-written : slot_said kind number (set formed n true) new n ≡ slot
+  slot_said-written =
+      slot_said-formed kind number (set formed n true) new n (get_or-set_same formed n true false (omega (arith, many, lt))) ∙ written
+
+  pub slot_said-others : (k : ℕ) → k < 32 → k ≢ n → slot_said kind number (set formed n true) new k ≡ slot_said kind number formed old k
+  slot_said-others k below apart =
+      ap (λ (is : Bool). cond is (slot_in_page new k) (slot_form kind (32 * number + k) (slot_in_page new k)))
+      (get_or-set_other formed n k true false apart)
+      ∙ ap (λ (list : List ℕ). cond (get_or formed k false) list (slot_form kind (32 * number + k) list)) (others k below apart)
+
+  -- it is what the slot said before, and so the page says the same
+  pub page_said-formed : get_or formed n false ≡ false → slot ≡ slot_form kind (32 * number + n) (slot_in_page old n)
+      → page_said kind number (set formed n true) new ≡ page_said kind number formed old
+  unfolding page_said
+  page_said-formed not is =
+      same_slots (slot_said kind number (set formed n true) new) (slot_said kind number formed old) 0 32 (λ k from below. elim (cases_eq k n) [
+        | inl here ↦ ap (slot_said kind number (set formed n true) new) here ∙ slot_said-written ∙ is
+            ∙ sym (slot_said-unformed kind number formed old n not) ∙ ap (slot_said kind number formed old) (sym here)
+        | inr apart ↦ slot_said-others k (omega (arith, below)) apart
+      ])

@@ -22,6 +22,7 @@ use Rattle.ss_journal.specs.Checks.{slot_form, entry_form}
 use Rattle.ss_journal.specs.Groups.{entry_count, group_bytes, open_entry, part}
 use Rattle.ss_journal.specs.Kept.{JournalState, closed_behind, gate_behind, shown, staged_bytes, with_entries}
 use Rattle.ss_journal.specs.Newest.{DoAs, newest_after, with_newest}
+use Rattle.ss_journal.specs.Page.{slot_said}
 use Rattle.ss_journal.specs.Writes.{run_bytes, run_length}
 use Rattle.ss_journal.specs.declared.put.Put.{Put}
 use Rattle.ss_journal.specs.Entries.{puts_of, is_good, open_prefix, entries, entry_body}
@@ -325,6 +326,15 @@ slot_form-last_row = refl
 pub slot_form-plain_row : slot_form Plain 3 (1 ∷ replicate 127 0) ≡ 1 ∷ replicate 127 0
 unfolding slot_form
 slot_form-plain_row = refl
+
+-- slot 35 is number 3 of page 1, which says it as it is once it was taken out of the form
+slot_said-formed_row : slot_said Checked 1 (false ∷ false ∷ false ∷ true ∷ []) (replicate 384 0 ++ 1 ∷ replicate 127 0) 3 ≡ 1 ∷ replicate 127 0
+slot_said-formed_row = refl
+
+-- and before that as the form says
+slot_said-unformed_row : slot_said Checked 1 (true ∷ true ∷ true ∷ false ∷ []) (replicate 384 0 ++ 1 ∷ replicate 127 0) 3 ≡
+    slot_form Checked 35 (1 ∷ replicate 127 0)
+slot_said-unformed_row = refl
 
 -- an entry has its check, of its number and of all behind its gate
 pub entry_form-row : drop 540 (entry_form Checked 2 (165 ∷ replicate 543 0)) ≡ 221 ∷ 46 ∷ 87 ∷ 169 ∷ []

@@ -9,6 +9,7 @@ pub mod Writes
 pub mod Birth
 pub mod Calls
 pub mod Opening
+pub mod Page
 pub mod Steps
 pub mod Newest
 pub mod Groups

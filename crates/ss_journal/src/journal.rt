@@ -9,7 +9,8 @@ use crate::group::{Group, entry_count};
 use crate::kind::Kind;
 use crate::newest::Newest;
 use crate::opening::{read_entries, read_head};
-use crate::paging::{clear_unused, form_page, lay_puts, read_slots};
+use crate::page::Page;
+use crate::paging::{clear_unused, lay_puts, read_slots};
 use crate::phase::Phase;
 use crate::put::Txn;
 use crate::reading::read_slot;
@@ -157,9 +158,9 @@ impl Journal {
         }
     }
 
-    /// The bytes of a page, which are those of its 32 slots one after the other: zeros where none were put. It makes at most
-    /// one call of the disk.
-    pub fn read_page<D: Disk>(&mut self, disk: &mut D, page: u32) -> Result<[u8; PAGE_SIZE], Failed>
+    /// A page, whose bytes are those of its 32 slots one after the other: zeros where none were put. It makes at most one call
+    /// of the disk.
+    pub fn read_page<D: Disk>(&mut self, disk: &mut D, page: u32) -> Result<Page, Failed>
         requires running { IsRunning self.old }
         requires page { page < MOST_PAGES }
         requires one_disk { OfContent (D.seen disk.old) (IsKept self.old) }
@@ -168,15 +169,15 @@ impl Journal {
         ensures stopped { OnErr result (HasStopped self.new) }
     {
         if self.phase == Phase::Unborn {
-            return Ok([0; PAGE_SIZE]);
+            return Ok(Page::new(self.kind, page, [0; PAGE_SIZE]));
         }
         let mut bytes = [0; PAGE_SIZE];
         match read_slots(disk, page, &mut bytes) {
             Ok(()) => {
-                form_page(&mut bytes, self.kind, page);
                 clear_unused(&mut bytes, page, self.extent);
-                lay_puts(&mut bytes, page, self.waiting.as_slice());
-                Ok(bytes)
+                let mut read = Page::new(self.kind, page, bytes);
+                lay_puts(&mut read, page, self.waiting.as_slice());
+                Ok(read)
             }
             Err(failed) => {
                 self.phase = Phase::Stopped;

@@ -5,7 +5,7 @@ use Rattle.std.proofs.Common.{get_or, take, Contains, Option, Some, None, arith,
 use Rattle.std.proofs.lemmas.Bool.{cases_eq, cond-true, cond-false, eq-eqb, eqb-true, eqb-false, ne_eqb}
 use Rattle.std.proofs.lemmas.List.{take_more}
 use Rattle.std.specs.List.{AllByRecursion, IsDistinct}
-use Rattle.std.specs.Map.{keys_of, lookup, lookup_entry, set_value}
+use Rattle.std.specs.Map.{keys_of, lookup, lookup_entry, remove_entry, set_value}
 use Rattle.std.specs.Prelude.{option_map}
 use Rattle.lru.proofs.CallerLemmas.{Contains-lookup, Contains-promoted, Contains-put_entries}
 use Rattle.lru.proofs.Splits.{Contains-cons, Contains-head, Contains-nil, Contains-tail}
@@ -142,6 +142,25 @@ pub ArePages-same : (cached : List (ℕ × List ℕ)) (content : List ℕ) (firs
     → ArePages cached first.bytes → ArePages cached found.bytes
 ArePages-same cached content first found is also are page bytes there lt k in_page =
     are page bytes there lt k in_page ∙ (StandsFor-same content first found is also).bytes (32 * page + k) (omega (arith, lt, in_page))
+
+-- the entry of a page that is cached
+found_entry : (number : ℕ) (cached : List (ℕ × List ℕ)) (page : List ℕ) → lookup (nat_eq number) cached ≡ Some page
+    → (e : ℕ × List ℕ) × (lookup_entry (nat_eq number) cached ≡ Some e) × (e.1 ≡ page) × (nat_eq number e.0 ≡ true)
+found_entry number [] page is = absurd (cc)
+found_entry number (entry ∷ cached) page is = (elim (nat_eq number entry.0) as (λ (y : Bool). nat_eq number entry.0 ≡ y
+    → (e : ℕ × List ℕ) × (lookup_entry (nat_eq number) (entry ∷ cached) ≡ Some e) × (e.1 ≡ page) × (nat_eq number e.0 ≡ true)) [
+      | true ↦ λ here. let some = rw here at is in let same : entry.1 ≡ page = cc in (entry, rw here refl, same, here)
+      | false ↦ λ there. let on = found_entry number cached page (rw there at is) in (on.0, rw there on.1, on.2, on.3)
+    ]) refl
+
+-- written back as it is, a page that comes first stays so
+pub set_value-promoted : (number : ℕ) (cached : List (ℕ × List ℕ)) (page : List ℕ) → lookup (nat_eq number) cached ≡ Some page
+    → set_value (nat_eq number) (promoted (nat_eq number) cached) page ≡ promoted (nat_eq number) cached
+set_value-promoted number cached page is =
+    let found = found_entry number cached page is in
+    let rest = remove_entry (nat_eq number) cached in
+    rw found.1 (cond-true (nat_eq number found.0.0) ((found.0.0, page) ∷ rest) (found.0 ∷ set_value (nat_eq number) rest page) found.3
+    ∙ ap (λ (bytes : List ℕ). (found.0.0, bytes) ∷ rest) (sym found.2))
 
 module _ (cached : List (ℕ × List ℕ)) (slot : ℕ) (none : cached_slot cached slot ≡ None) where
   no_page : lookup (nat_eq (slot / 32)) cached ≡ None

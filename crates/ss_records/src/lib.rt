@@ -10,6 +10,5 @@ mod slot_set;
 
 pub use laws::zeros_alone_are_free;
 pub use live::are_zeros;
-pub use pages::slot_of;
 pub use records::Records;
 pub use slot_set::SlotSet;

@@ -8,9 +8,8 @@ ghost use Rattle.ss_records.specs.Calls.{ReadsLive};
 ghost use Rattle.ss_records.specs.Live.{are_zeros, live_after, AreBelow, AreLiveBelow};
 ghost use Rattle.ss_records.specs.Pages.{IsPage};
 
-use crate::pages::slot_of;
 use crate::slot_set::SlotSet;
-use ss_journal::{Journal, JournalError, MOST_SLOTS, PAGE_SIZE, PAGE_SLOTS, Put};
+use ss_journal::{Journal, JournalError, MOST_SLOTS, PAGE_SLOTS, Page, Put};
 use ss_outside::Disk;
 use std::alloc::Global;
 
@@ -22,16 +21,16 @@ pub fn are_zeros(bytes: &[u8]) -> bool
 }
 
 // Notes of each slot of a page, whose first is `from`, up to another one, whether it is live.
-fn note_page(live: &mut SlotSet, from: u32, to: u32, page: &[u8; PAGE_SIZE])
+fn note_page(live: &mut SlotSet, from: u32, to: u32, page: &mut Page)
     requires first { from % PAGE_SLOTS ≡ 0 }
     requires within { from ≤ to × to ≤ from + PAGE_SLOTS × to ≤ MOST_SLOTS }
     requires bounded { AreBelow from live.old }
     ensures bounded { AreBelow to live.new }
-    ensures live { (map : ℕ → List ℕ) → IsPage map (from / PAGE_SLOTS) page.now →
+    ensures live { (map : ℕ → List ℕ) → IsPage map (from / PAGE_SLOTS) page.old →
         AreLiveBelow from live.old map → AreLiveBelow to live.new map }
 {
     for slot in from..to {
-        let bytes = slot_of(page, slot % PAGE_SLOTS);
+        let bytes = page.slot(slot % PAGE_SLOTS);
         live.put(slot as usize, !are_zeros(&bytes));
     }
 }
@@ -55,8 +54,8 @@ pub fn read_live<D: Disk>(
     let mut slot = 0;
     while slot < end {
         let next = end.min(slot + PAGE_SLOTS);
-        let page = journal.read_page(disk, slot / PAGE_SLOTS)?;
-        note_page(&mut live, slot, next, &page);
+        let mut page = journal.read_page(disk, slot / PAGE_SLOTS)?;
+        note_page(&mut live, slot, next, &mut page);
         slot = next;
     }
     Ok(live)

@@ -1,10 +1,9 @@
 // Pages of slots, cached in memory.
-ghost use Rattle.std.specs.Prelude.{◌≡◌, ◌≢◌, ◌<◌, ℕ, nat_eq};
-ghost use Rattle.ss_journal.specs.Calls.{slot_in_page};
+ghost use Rattle.std.specs.Prelude.{nat_eq};
 ghost use Rattle.lru.specs.LruCache.{IsValid};
 
 use lru::LruCache;
-use ss_journal::{PAGE_SIZE, PAGE_SLOTS, Put, SLOT_SIZE};
+use ss_journal::{PAGE_SLOTS, Page, Put, SLOT_SIZE};
 use std::alloc::{AllocError, Global};
 use std::marker::Model;
 use std::num::NonZeroUsize;
@@ -15,7 +14,7 @@ pub const MOST_CACHED: usize = 64;
 // Pages, each by its number, the most recently used first.
 #[derive(Drop)]
 pub struct Pages {
-    cache: LruCache<u32, [u8; PAGE_SIZE]>,
+    cache: LruCache<u32, Page>,
 }
 
 impl Model for Pages {
@@ -52,8 +51,8 @@ impl Pages {
         ensures promotes { self.new ≡ promoted (nat_eq (slot / PAGE_SLOTS)) self.old }
         ensures few { length self.new ≤ MOST_CACHED }
     {
-        let found = match self.cache.get(&(slot / PAGE_SLOTS)) {
-            Some(page) => Some(slot_of(page, slot % PAGE_SLOTS)),
+        let found = match self.cache.get_mut(&(slot / PAGE_SLOTS)) {
+            Some(page) => Some(page.slot(slot % PAGE_SLOTS)),
             None => None,
         };
         is_valid(&self.cache);
@@ -62,11 +61,11 @@ impl Pages {
 
     // Puts a page first. Where all places are taken the least recently used page goes, and where no memory is found
     // nothing changes.
-    pub fn keep(&mut self, page: u32, bytes: &[u8; PAGE_SIZE])
-        ensures pages { (self.new ≡ self.old) ⊎ (self.new ≡ put_entries nat_eq (lru_cache self.old MOST_CACHED) page bytes.now) }
+    pub fn keep(&mut self, number: u32, page: Page)
+        ensures pages { (self.new ≡ self.old) ⊎ (self.new ≡ put_entries nat_eq (lru_cache self.old MOST_CACHED) number page) }
         ensures few { length self.new ≤ MOST_CACHED }
     {
-        let _ = self.cache.put(page, *bytes);
+        let _ = self.cache.put(number, page);
         is_valid(&self.cache);
     }
 
@@ -77,7 +76,7 @@ impl Pages {
     {
         is_valid(&self.cache);
         if let Some(page) = self.cache.peek_mut(&(put.slot / PAGE_SLOTS)) {
-            write_slot(page, put.slot % PAGE_SLOTS, &put.bytes);
+            page.put(put.slot % PAGE_SLOTS, &put.bytes);
         }
     }
 
@@ -100,29 +99,8 @@ impl Pages {
 }
 
 // What holds of every cache. It does nothing.
-fn is_valid(cache: &LruCache<u32, [u8; PAGE_SIZE]>)
+fn is_valid(cache: &LruCache<u32, Page>)
     ensures { IsValid nat_eq cache.now }
 {
     let _ = cache.len();
-}
-
-/// The bytes of slot number `k` of a page.
-pub fn slot_of(page: &[u8; PAGE_SIZE], k: u32) -> [u8; SLOT_SIZE]
-    requires { k < PAGE_SLOTS }
-    ensures { result ≡ slot_in_page page.now k }
-{
-    let place = SLOT_SIZE * k as usize;
-    let mut bytes = [0; SLOT_SIZE];
-    bytes.copy_from_slice(&page[place..place + SLOT_SIZE]);
-    bytes
-}
-
-// Writes slot number `k` of a page.
-fn write_slot(page: &mut [u8; PAGE_SIZE], k: u32, bytes: &[u8; SLOT_SIZE])
-    requires { k < PAGE_SLOTS }
-    ensures same { slot_in_page page.new k ≡ bytes.now }
-    ensures others { (other : ℕ) → other < PAGE_SLOTS → other ≢ k → slot_in_page page.new other ≡ slot_in_page page.old other }
-{
-    let place = SLOT_SIZE * k as usize;
-    page[place..place + SLOT_SIZE].copy_from_slice(bytes);
 }

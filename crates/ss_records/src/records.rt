@@ -1,6 +1,6 @@
 // The records.
 use crate::live::{note_puts, read_live};
-use crate::pages::{Pages, slot_of};
+use crate::pages::Pages;
 use crate::slot_set::SlotSet;
 use ss_journal::{Journal, JournalError, MOST_SLOTS, PAGE_SLOTS, SLOT_SIZE, Txn};
 use ss_outside::{Disk, Failed};
@@ -150,9 +150,10 @@ impl Records {
         if let Some(bytes) = self.pages.find(slot) {
             return Ok(bytes);
         }
-        let page = self.journal.read_page(disk, slot / PAGE_SLOTS)?;
-        self.pages.keep(slot / PAGE_SLOTS, &page);
-        Ok(slot_of(&page, slot % PAGE_SLOTS))
+        let mut page = self.journal.read_page(disk, slot / PAGE_SLOTS)?;
+        let bytes = page.slot(slot % PAGE_SLOTS);
+        self.pages.keep(slot / PAGE_SLOTS, page);
+        Ok(bytes)
     }
 
     /// Where every entry of the journal is in use, seals what is staged and brings all into the slots. It leaves the map that is

@@ -15,9 +15,9 @@ ghost use Rattle.ss_recover.specs.Usable.{IsUsable};
 use crate::RecoverError;
 use crate::found::Found;
 use ss_codec::{Record, SLOT_SIZE, decode};
-use ss_journal::{Journal, PAGE_SIZE, PAGE_SLOTS};
+use ss_journal::{Journal, PAGE_SLOTS, Page};
 use ss_outside::{Disk, Failed};
-use ss_records::{SlotSet, are_zeros, slot_of};
+use ss_records::{SlotSet, are_zeros};
 use std::alloc::{AllocError, Global};
 
 // What was read of the slots below one: the records in them, in the order of the slots, and which of the slots are live.
@@ -90,18 +90,18 @@ impl Gathered {
     }
 
     // The slots of a page, whose first is `from`, up to another one.
-    fn take_page(&mut self, from: u32, to: u32, page: &[u8; PAGE_SIZE]) -> Result<(), u32>
+    fn take_page(&mut self, from: u32, to: u32, page: &mut Page) -> Result<(), u32>
         requires first { from % PAGE_SLOTS ≡ 0 }
         requires within { from ≤ to × to ≤ from + PAGE_SLOTS × to ≤ MOST_SLOTS }
         requires room { to ≤ vec_capacity self.old.all }
         requires gathered { AreGathered from self.old }
         ensures gathered { OnOk result (AreGathered to self.new) }
-        ensures found { (found : SlotMap) → IsPage found.bytes (from / PAGE_SLOTS) page.now → AreFoundBelow from self.old found →
+        ensures found { (found : SlotMap) → IsPage found.bytes (from / PAGE_SLOTS) page.old → AreFoundBelow from self.old found →
             FindsTo to self.new found result }
         ensures room { vec_capacity self.new.all ≡ vec_capacity self.old.all }
     {
         for slot in from..to {
-            let bytes = slot_of(page, slot % PAGE_SLOTS);
+            let bytes = page.slot(slot % PAGE_SLOTS);
             self.take(slot, &bytes)?;
         }
         Ok(())
@@ -126,11 +126,11 @@ pub fn gather<D: Disk>(
     let mut slot = 0;
     while slot < end {
         let next = end.min(slot + PAGE_SLOTS);
-        let page = match journal.read_page(disk, slot / PAGE_SLOTS) {
+        let mut page = match journal.read_page(disk, slot / PAGE_SLOTS) {
             Ok(page) => page,
             Err(Failed) => return Err(RecoverError::Disk),
         };
-        if let Err(n) = read.take_page(slot, next, &page) {
+        if let Err(n) = read.take_page(slot, next, &mut page) {
             return Err(RecoverError::BadSlot { n });
         }
         slot = next;

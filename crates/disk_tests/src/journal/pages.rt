@@ -6,7 +6,7 @@ ghost use Rattle.ss_journal.specs.Kept.{IsKept, IsRunning};
 use super::files::{File, Map, byte_at, bytes_of, disk_of};
 use super::runs::settled;
 use crate::passing::pass;
-use ss_journal::{Journal, JournalError, MOST_PAGES, PAGE_SIZE, PAGE_SLOTS, SLOT_SIZE};
+use ss_journal::{Journal, JournalError, MOST_PAGES, PAGE_SLOTS, Page, SLOT_SIZE};
 use ss_outside::{Disk, MemDisk};
 use std::alloc::Global;
 use std::test::Fail;
@@ -58,11 +58,10 @@ const ROWS: [Row; 13] = [
 ];
 
 // Whether slot number k of a page is what was read of it, and filled with this byte.
-fn is_slot(page: &[u8; PAGE_SIZE], k: u32, read: &[u8; SLOT_SIZE], byte: u8) -> bool
+fn is_slot(page: &mut Page, k: u32, read: &[u8; SLOT_SIZE], byte: u8) -> bool
     requires { k < PAGE_SLOTS }
 {
-    let start = k as usize * SLOT_SIZE;
-    page[start..start + SLOT_SIZE] == read[..] && *read == [byte; SLOT_SIZE]
+    page.slot(k) == *read && *read == [byte; SLOT_SIZE]
 }
 
 // Whether a page has the bytes of the map, as reads of its slots have.
@@ -76,11 +75,11 @@ fn is_page<D: Disk>(
     requires page { page < MOST_PAGES }
     requires one_disk { OfContent (D.seen disk.old) (IsKept journal.old) }
 {
-    let bytes = journal.read_page(disk, page)?;
+    let mut bytes = journal.read_page(disk, page)?;
     for k in 0..PAGE_SLOTS {
         let slot = PAGE_SLOTS * page + k;
         let read = journal.read(disk, slot)?;
-        if !is_slot(&bytes, k, &read, byte_at(map, slot as usize)) {
+        if !is_slot(&mut bytes, k, &read, byte_at(map, slot as usize)) {
             return Ok(false);
         }
     }

@@ -6,5 +6,6 @@ use Rattle.ss_records.proofs.live.note_page.Given as goal
 abbrev pub invariant-loop-slot : goal.invariant-loop-slot
 invariant-loop-slot l = record {
   bounded : AreBelow l.slot l.live;
-  live : (map : ℕ → List ℕ) → IsPage map (l.from / 32) l.page → AreLiveBelow l.from l.fn.live map → AreLiveBelow l.slot l.live map;
+  page : l.page ≡ l.fn.page;
+  live : (map : ℕ → List ℕ) → IsPage map (l.from / 32) l.fn.page → AreLiveBelow l.from l.fn.live map → AreLiveBelow l.slot l.live map;
 }

@@ -6,8 +6,10 @@ use Rattle.ss_journal.specs.contracts.phase.Phase.{the_type}
 use Rattle.ss_journal.specs.declared.phase.Phase.TheVariants.{Unborn}
 use Rattle.ss_journal.specs.declared.put.Put.{Put}
 use Rattle.ss_journal.specs.Calls.{slot_in_page}
+use Rattle.ss_journal.specs.Checks.{slot_form}
 use Rattle.ss_journal.specs.Kept.{IsKept, JournalState}
 use Rattle.ss_journal.specs.Puts.{with_puts}
+use Rattle.ss_journal.proofs.CheckLemmas.{slot_form-zeros}
 use Rattle.ss_journal.proofs.KeptLemmas.{ReadsPage-as, born-shown, not_first, page_bytes, slot_in-form, unborn-shown, unused_bytes}
 use Rattle.ss_journal.proofs.PageLemmas.{slot_in_page-zeros}
 use Rattle.ss_journal.proofs.ShownLemmas.{slot_at-shown}
@@ -22,15 +24,17 @@ returns-then-eq-clause-reads g c =
     let same : c.self.inside.phase ≡ Unborn = same_true the_type (search rules) c.self.inside.phase Unborn (sym c.if-eq.ensures) in
     ReadsPage-as c.self.view_is (record {
       bytes = λ found is k lt.
-          let slot : 32 * c.args.page + k < 2 ^ 20 = omega (arith, lt, c.requires.page) in
-          slot_in_page-zeros k lt
-          ∙ unused_bytes _ _ found (32 * c.args.page + k) kept.shown is slot (inl (unborn-shown _ _ same kept.shown));
+          let slot = 32 * c.args.page + k in
+          let below : slot < 2 ^ 20 = omega (arith, lt, c.requires.page) in
+          c.new.ensures k lt ∙ ap (slot_form c.self.inside.kind slot) (slot_in_page-zeros k lt) ∙ slot_form-zeros c.self.inside.kind slot
+          ∙ unused_bytes _ _ found slot kept.shown is below (inl (unborn-shown _ _ same kept.shown));
       reads = reads-none _;
     }))
 
 pub returns-in-Ok-clause-reads : goal.returns-in-Ok-clause-reads
 returns-in-Ok-clause-reads g c =
     let content = (g.D.Disk.seen c.args.disk.now).told.content in
+    let kind = c.self.inside.kind in
     step-from c.in-Ok.ensures (λ told read.
     let kept = subst (λ (journal : JournalState). IsKept journal content) (sym c.self.view_is) (c.requires.one_disk told) in
     let born = born-shown _ _ (not_first c.self.inside.phase (sym c.if-eq.ensures)) kept.shown in
@@ -38,13 +42,11 @@ returns-in-Ok-clause-reads g c =
       bytes = λ found is k lt.
           let slot = 32 * c.args.page + k in
           let below : slot < 2 ^ 20 = omega (arith, lt, c.requires.page) in
-          page_bytes _ _ found slot kept.shown is below born (slot_in_page c.form_page.new.bytes k) (slot_in_page c.clear_unused.new.bytes k)
-          (slot_in_page c.lay_puts.new.bytes k)
-          (λ lies.
-          let same = slot_at-shown _ content c.self.invariant kept born slot lies in
-          c.form_page.ensures k lt ∙ slot_in-form _ _ found slot kept.shown is below _ (read.found k lt same.0 ∙ same.1))
-          (c.clear_unused.ensures.used k lt) (c.clear_unused.ensures.unused k lt)
-          (c.lay_puts.ensures k lt
-          ∙ ap (λ (puts : List Put). with_puts puts (λ _. slot_in_page c.clear_unused.new.bytes k) slot) c.as_slice.ensures.all);
+          page_bytes _ _ found slot kept.shown is below born _ (slot_in_page c.new-read.result k) (slot_in_page c.lay_puts.new.page k)
+          (λ lies. let same = slot_at-shown _ content c.self.invariant kept born slot lies in
+          slot_in-form _ _ found slot kept.shown is below _ (read.found k lt same.0 ∙ same.1))
+          (λ used. c.new-read.ensures k lt ∙ ap (slot_form kind slot) (c.clear_unused.ensures.used k lt used))
+          (λ past. c.new-read.ensures k lt ∙ ap (slot_form kind slot) (c.clear_unused.ensures.unused k lt past) ∙ slot_form-zeros kind slot)
+          (c.lay_puts.ensures k lt ∙ ap (λ (puts : List Put). with_puts puts (λ _. slot_in_page c.new-read.result k) slot) c.as_slice.ensures.all);
       reads = read.reads;
     }))

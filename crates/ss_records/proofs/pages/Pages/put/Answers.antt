@@ -13,8 +13,8 @@ returns-clause-pages c map are =
     let cached = c.self.inside.cache.entries in
     let was : ArePages cached map = subst (λ (list : List (ℕ × List ℕ)). ArePages list map) (sym c.self.view_is) are in
     elim c.match-peek_mut.branch [
-      | in-Some w ↦ rw w.self-inside-is (ArePages-put put cached map was w.in-Some.page.now w.write_slot.new.page c.is_valid.ensures.0
-          (sym c.peek_mut.ensures.value ∙ ap option_copied_mut w.in-Some.is) w.write_slot.ensures.same w.write_slot.ensures.others)
+      | in-Some w ↦ rw w.self-inside-is (ArePages-put put cached map was w.in-Some.page.now w.put.new.self c.is_valid.ensures.0
+          (sym c.peek_mut.ensures.value ∙ ap option_copied_mut w.in-Some.is) w.put.ensures.written w.put.ensures.others)
       | in_default w ↦ rw w.self-inside-is (ArePages-uncached put cached map was (sym c.peek_mut.ensures.value ∙ ap option_copied_mut w.in_default.is))
     ]
 
@@ -23,6 +23,6 @@ returns-clause-numbers c =
     let put = c.args.put.now in
     let cached = c.self.inside.cache.entries in
     elim c.match-peek_mut.branch [
-      | in-Some w ↦ rw w.self-inside-is (keys-set_value (nat_eq (put.slot / 32)) cached w.write_slot.new.page ∙ ap keys_of c.self.view_is)
+      | in-Some w ↦ rw w.self-inside-is (keys-set_value (nat_eq (put.slot / 32)) cached w.put.new.self ∙ ap keys_of c.self.view_is)
       | in_default w ↦ rw w.self-inside-is (ap keys_of c.self.view_is)
     ]

@@ -48,15 +48,17 @@ returns-clause-reads g c =
     let cached = c.self.inside.pages in
     let none = sym c.find.ensures.value ∙ c.in_default.is in
     let same : c.find.new.self ≡ cached = c.find.ensures.promotes ∙ promoted-none cached c.args.slot none in
-    rw c.slot_of.ensures (step-from c.in_ok-page.ensures.reads (λ told read.
+    let kept = rw c.slot-bytes.ensures.same at c.keep.ensures.pages in
+    rw c.slot-bytes.ensures.value (step-from c.in_ok-page.ensures.reads (λ told read.
     reads-page c.self.inside.journal c.self.inside.live cached c.args.self.now c.self.view_is _ (c.requires.one_disk told)
     _ c.read_page.new.self c.args.slot c.in_ok-page.page c.keep.new.self c.in_ok-page.ensures.journal
     (subst (λ (list : List (ℕ × List ℕ)). (c.keep.new.self ≡ list)
-    ⊎ (c.keep.new.self ≡ put_entries nat_eq (lru_cache list 64) (c.args.slot / 32) c.in_ok-page.page)) same c.keep.ensures.pages)
+    ⊎ (c.keep.new.self ≡ put_entries nat_eq (lru_cache list 64) (c.args.slot / 32) c.in_ok-page.page)) same kept)
     read))
 
 pub returns-clause-recalls : goal.returns-clause-recalls
 returns-clause-recalls g c lt =
     let none = sym c.find.ensures.value ∙ c.in_default.is in
+    let kept = rw c.slot-bytes.ensures.same at c.keep.ensures.pages in
     subst (λ (records : RecordsState). Recalls c.args.slot records.cached c.keep.new.self) c.self.view_is
-    (Recalls-kept c.self.inside.pages c.args.slot none c.find.new.self c.keep.new.self c.in_ok-page.page c.find.ensures.promotes c.keep.ensures.pages)
+    (Recalls-kept c.self.inside.pages c.args.slot none c.find.new.self c.keep.new.self c.in_ok-page.page c.find.ensures.promotes kept)

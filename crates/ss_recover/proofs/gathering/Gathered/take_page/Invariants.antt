@@ -8,6 +8,7 @@ use Rattle.ss_recover.proofs.gathering.Gathered.take_page.Given as goal
 abbrev pub invariant-loop-slot : goal.invariant-loop-slot
 invariant-loop-slot l = record {
   gathered : AreGathered l.slot l.self;
-  found : (found : SlotMap) → IsPage found.bytes (l.from / 32) l.page → AreFoundBelow l.from l.fn.self found → AreFoundBelow l.slot l.self found;
+  page : l.page ≡ l.fn.page;
+  found : (found : SlotMap) → IsPage found.bytes (l.from / 32) l.fn.page → AreFoundBelow l.from l.fn.self found → AreFoundBelow l.slot l.self found;
   room : vec_capacity l.self.all ≡ vec_capacity l.fn.self.all;
 }

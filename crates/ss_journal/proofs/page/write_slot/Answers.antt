@@ -1,6 +1,6 @@
 use Rattle.std.proofs.Common.{◌≡◌, ◌*◌, ◌+◌, ◌-◌, length, arith, rules}
 use Rattle.ss_journal.proofs.PageLemmas.{slot_in_page-other, slot_in_page-same}
-use Rattle.ss_journal.proofs.paging.write_slot.Goals as goal
+use Rattle.ss_journal.proofs.page.write_slot.Goals as goal
 
 pub returns-clause-same : goal.returns-clause-same
 returns-clause-same c =
