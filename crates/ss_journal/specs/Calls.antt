@@ -4,7 +4,7 @@ use Rattle.std.specs.Prelude.{Result, Ok, Err, IfOk, OnOk, IsTrue, IsFalse}
 use Rattle.ss_outside.specs.Crash.{LeavesOnly, OnlyReads}
 use Rattle.ss_outside.specs.Verdict.{Verdict, fine, refused, no_memory, failed}
 use Rattle.ss_outside.specs.declared.source.Failed.{Failed}
-use Rattle.ss_outside.specs.Disk.{Told, NothingPending}
+use Rattle.ss_outside.specs.Disk.{Told, NothingPending, SyncsAtMost}
 use Rattle.ss_journal.specs.declared.put.Put.{Put}
 use Rattle.ss_journal.specs.declared.journal_error.JournalError.{JournalError}
 use Rattle.ss_journal.specs.declared.journal_error.JournalError.TheVariants.{Disk, NotAStore, BadEntry, OutOfMemory}
@@ -97,6 +97,11 @@ pub record Commits (journal : JournalState) (puts : List Put) (result : Result U
 pub record MakesRoom (was is : JournalState) (result : Result Unit Failed) (old new : Told) : Type 0 where
   pub kept : OnOk result (IsKept is new.content)
   pub keeps_shown : KeepsShown was is old new result
+
+-- Room is made by so many syncs at most: two that seal what is staged, and two that settle. Where nothing is staged none seals.
+pub record SyncsForRoom (journal : JournalState) (old new : Told) : Type 0 where
+  pub most : SyncsAtMost 4 old new
+  pub sealed : IsSealed journal → SyncsAtMost 2 old new
 
 -- A journal seals what is staged, and is this then: the map that it shows stays, and where something was staged nothing is
 -- pending at Ok.

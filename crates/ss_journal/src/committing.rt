@@ -1,6 +1,6 @@
 // How entries come into the file.
 ghost use Rattle.std.specs.Prelude.{◌≡◌, ◌+◌, ◌*◌, ◌<◌, ◌≤◌, length, slice_index};
-ghost use Rattle.ss_outside.specs.Disk.{OfContent};
+ghost use Rattle.ss_outside.specs.Disk.{OfContent, SyncsAtMost};
 ghost use Rattle.ss_outside.specs.Step.{Step};
 ghost use Rattle.ss_outside.specs.Verdict.{verdict};
 ghost use Rattle.ss_journal.specs.Kept.{EndsBefore};
@@ -18,7 +18,8 @@ pub fn add_entries<D: Disk>(disk: &mut D, n: u32, entries: &[u8]) -> Result<(), 
     requires gate { slice_index entries.now 0 ≡ GATE_OPEN }
     requires few { ENTRY_SIZE * n + length entries.now ≤ ENTRY_SIZE * ENTRIES }
     requires before { OfContent (D.seen disk.old) (EndsBefore n) }
-    ensures { Step (verdict result) (D.seen disk.old) (D.seen disk.new) (Enters n entries.now result) }
+    ensures enters { Step (verdict result) (D.seen disk.old) (D.seen disk.new) (Enters n entries.now result) }
+    ensures syncs { Step (verdict result) (D.seen disk.old) (D.seen disk.new) (SyncsAtMost 2) }
 {
     write_through(disk, entry_place(n) + 1, &entries[1..])?;
     write_through(disk, entry_place(n), &entries[..1])

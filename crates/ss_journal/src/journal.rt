@@ -50,14 +50,14 @@ impl Model for Journal {
 
 impl Journal {
     ghost use Rattle.std.specs.Prelude.{◌≡◌, ◌≤◌, ◌<◌, ℕ, List, IsTrue, IfOk, OnOk, OnErr};
-    ghost use Rattle.ss_outside.specs.Disk.{OfContent};
+    ghost use Rattle.ss_outside.specs.Disk.{OfContent, SyncsAtMost};
     ghost use Rattle.ss_outside.specs.Step.{Step};
     ghost use Rattle.ss_outside.specs.Verdict.{verdict};
     ghost use Rattle.ss_journal.specs.Puts.{slots_fit, IsTxn};
     ghost use Rattle.ss_journal.specs.Redo.{zeros};
     ghost use Rattle.ss_journal.specs.Kept.{HasStopped, IsKept, IsRunning, IsSealed, IsSettled};
     ghost use Rattle.ss_journal.specs.Calls.{Commits, HasCommitted, HasMadeRoom, HasSealed, HasSettled, HasStaged, MakesRoom, Opens, ReadsPage};
-    ghost use Rattle.ss_journal.specs.Calls.{ReadsSlot, Seals, Settles, Stages, verdict_of_open};
+    ghost use Rattle.ss_journal.specs.Calls.{ReadsSlot, Seals, Settles, Stages, SyncsForRoom, verdict_of_open};
 
     /// Opens a disk, formatted or not. It reads the entries in use and writes nothing.
     pub fn open<D: Disk>(alloc: Global, disk: &mut D) -> Result<Journal, JournalError>
@@ -192,6 +192,7 @@ impl Journal {
         requires settled { IsSettled self.old }
         requires one_disk { OfContent (D.seen disk.old) (IsKept self.old) }
         ensures makes_room { Step (verdict result) (D.seen disk.old) (D.seen disk.new) (MakesRoom self.old self.new result) }
+        ensures syncs { Step (verdict result) (D.seen disk.old) (D.seen disk.new) (SyncsForRoom self.old) }
         ensures made { OnOk result (HasMadeRoom self.old self.new) }
         // Where an entry is free nothing is done.
         ensures idle { self.old.in_use < ENTRIES → (disk.new ≡ disk.old) × (self.new ≡ self.old) }
@@ -233,6 +234,8 @@ impl Journal {
         requires settled { IsSettled self.old }
         requires one_disk { OfContent (D.seen disk.old) (IsKept self.old) }
         ensures seals { Step (verdict result) (D.seen disk.old) (D.seen disk.new) (Seals self.old self.new result) }
+        // However many are staged, and whatever they put.
+        ensures syncs { Step (verdict result) (D.seen disk.old) (D.seen disk.new) (SyncsAtMost 2) }
         ensures sealed { OnOk result (HasSealed self.old self.new) }
         // Where nothing is staged nothing is done.
         ensures idle { IsSealed self.old → (disk.new ≡ disk.old) × (self.new ≡ self.old) }
@@ -263,6 +266,7 @@ impl Journal {
         requires one_disk { OfContent (D.seen disk.old) (IsKept self.old) }
         // All of the puts or none, also in a crash at any moment of the call.
         ensures commits { Step (verdict result) (D.seen disk.old) (D.seen disk.new) (Commits self.new txn.now.items result) }
+        ensures syncs { Step (verdict result) (D.seen disk.old) (D.seen disk.new) (SyncsAtMost 4) }
         // One entry more is in use; where all were, they are settled before.
         ensures committed { OnOk result (HasCommitted txn.now.items self.old self.new) }
         ensures stopped { OnErr result (HasStopped self.new) }

@@ -1,6 +1,6 @@
 // How the entries of a formatted file come into their slots, and how the first gate closes behind them.
 ghost use Rattle.std.specs.Prelude.{◌<◌, length};
-ghost use Rattle.ss_outside.specs.Disk.{OfContent};
+ghost use Rattle.ss_outside.specs.Disk.{OfContent, SyncsAtMost};
 ghost use Rattle.ss_outside.specs.Step.{Step};
 ghost use Rattle.ss_outside.specs.Verdict.{verdict};
 ghost use Rattle.ss_journal.specs.Redo.{HasEntries};
@@ -19,7 +19,8 @@ fn apply<D: Disk>(disk: &mut D, kind: Kind, puts: &[Put]) -> Result<(), Failed>
     requires some { 0 < length puts.now }
     requires slots { AreSlots puts.now }
     requires entries { OfContent (D.seen disk.old) (HasEntries kind puts.now) }
-    ensures { Step (verdict result) (D.seen disk.old) (D.seen disk.new) (Reaches StaysShut result) }
+    ensures shuts { Step (verdict result) (D.seen disk.old) (D.seen disk.new) (Reaches StaysShut result) }
+    ensures syncs { Step (verdict result) (D.seen disk.old) (D.seen disk.new) (SyncsAtMost 2) }
 {
     write_slots(disk, kind, puts)?;
     write_through(disk, FIRST_ENTRY, &[0])
@@ -29,7 +30,8 @@ fn apply<D: Disk>(disk: &mut D, kind: Kind, puts: &[Put]) -> Result<(), Failed>
 pub fn settle_entries<D: Disk>(disk: &mut D, kind: Kind, puts: &[Put]) -> Result<(), Failed>
     requires slots { AreSlots puts.now }
     requires entries { OfContent (D.seen disk.old) (HasEntries kind puts.now) }
-    ensures { Step (verdict result) (D.seen disk.old) (D.seen disk.new) (Reaches StaysShut result) }
+    ensures shuts { Step (verdict result) (D.seen disk.old) (D.seen disk.new) (Reaches StaysShut result) }
+    ensures syncs { Step (verdict result) (D.seen disk.old) (D.seen disk.new) (SyncsAtMost 2) }
 {
     if puts.is_empty() {
         return Ok(());
@@ -41,7 +43,8 @@ pub fn settle_entries<D: Disk>(disk: &mut D, kind: Kind, puts: &[Put]) -> Result
 pub fn settle_formed<D: Disk>(disk: &mut D, kind: Kind, puts: &[Put]) -> Result<(), Failed>
     requires slots { AreSlots puts.now }
     requires entries { OfContent (D.seen disk.old) (HasEntries kind puts.now) }
-    ensures { Step (verdict result) (D.seen disk.old) (D.seen disk.new) (Clears result) }
+    ensures clears { Step (verdict result) (D.seen disk.old) (D.seen disk.new) (Clears result) }
+    ensures syncs { Step (verdict result) (D.seen disk.old) (D.seen disk.new) (SyncsAtMost 3) }
 {
     disk.sync()?;
     settle_entries(disk, kind, puts)

@@ -1,6 +1,6 @@
 // Writes that a crash tears.
 ghost use Rattle.std.specs.Prelude.{◌≡◌, ◌+◌, ◌-◌, ◌<◌, ◌≤◌, ◌^◌, ◌++◌, length, min, slice_index};
-ghost use Rattle.ss_outside.specs.Disk.{OfContent};
+ghost use Rattle.ss_outside.specs.Disk.{OfContent, SyncsAtMost};
 ghost use Rattle.ss_outside.specs.Step.{Step};
 ghost use Rattle.ss_outside.specs.Verdict.{verdict};
 ghost use Rattle.ss_journal.specs.Checks.{slot_form};
@@ -26,7 +26,8 @@ const PIECE_SLOTS: usize = 32;
 pub fn write<D: Disk>(disk: &mut D, at: u64, bytes: &[u8]) -> Result<(), Failed>
     requires within { OfContent (D.seen disk.old) (λ content. at ≤ length content) }
     requires end { at + length bytes.now ≤ LONGEST_DISK }
-    ensures { Step (verdict result) (D.seen disk.old) (D.seen disk.new) (Writes at bytes.now result) }
+    ensures wrote { Step (verdict result) (D.seen disk.old) (D.seen disk.new) (Writes at bytes.now result) }
+    ensures syncs { Step (verdict result) (D.seen disk.old) (D.seen disk.new) (SyncsAtMost 0) }
 {
     disk.write_at(at, bytes)
 }
@@ -35,7 +36,8 @@ pub fn write<D: Disk>(disk: &mut D, at: u64, bytes: &[u8]) -> Result<(), Failed>
 pub fn write_through<D: Disk>(disk: &mut D, at: u64, bytes: &[u8]) -> Result<(), Failed>
     requires within { OfContent (D.seen disk.old) (λ content. at ≤ length content) }
     requires end { at + length bytes.now ≤ LONGEST_DISK }
-    ensures { Step (verdict result) (D.seen disk.old) (D.seen disk.new) (Durably (Writes at bytes.now) result) }
+    ensures wrote { Step (verdict result) (D.seen disk.old) (D.seen disk.new) (Durably (Writes at bytes.now) result) }
+    ensures syncs { Step (verdict result) (D.seen disk.old) (D.seen disk.new) (SyncsAtMost 1) }
 {
     write(disk, at, bytes)?;
     disk.sync()
@@ -83,6 +85,7 @@ fn write_run<D: Disk>(disk: &mut D, kind: Kind, slot: u32, run: &[Put]) -> Resul
     requires slot { slot < MOST_SLOTS }
     requires within { OfContent (D.seen disk.old) (λ content. slot_place slot ≤ length content) }
     ensures run { Step (verdict result) (D.seen disk.old) (D.seen disk.new) (Writes (slot_place slot) (run_bytes kind run.now) result) }
+    ensures syncs { Step (verdict result) (D.seen disk.old) (D.seen disk.new) (SyncsAtMost 0) }
     ensures whole { FillSlots run.now }
 {
     let bytes = run_bytes(kind, run);
@@ -93,7 +96,8 @@ fn write_run<D: Disk>(disk: &mut D, kind: Kind, slot: u32, run: &[Put]) -> Resul
 pub fn write_slots<D: Disk>(disk: &mut D, kind: Kind, puts: &[Put]) -> Result<(), Failed>
     requires slots { AreSlots puts.now }
     requires places { OfContent (D.seen disk.old) (HasSlotsFor puts.now) }
-    ensures { Step (verdict result) (D.seen disk.old) (D.seen disk.new) (Durably (WritesSlots kind puts.now) result) }
+    ensures wrote { Step (verdict result) (D.seen disk.old) (D.seen disk.new) (Durably (WritesSlots kind puts.now) result) }
+    ensures syncs { Step (verdict result) (D.seen disk.old) (D.seen disk.new) (SyncsAtMost 1) }
 {
     let mut from = 0;
     while from < puts.len() {

@@ -62,6 +62,7 @@ pub same-joined : (old mid new : Told) → StaysSame old mid → StaysSame mid n
 same-joined old mid new first second = record {
   content = second.content ∙ first.content;
   images = λ image. (λ is. (second.images image).0 ((first.images image).0 is), λ is. (first.images image).1 ((second.images image).1 is));
+  syncs = second.syncs ∙ first.syncs;
 }
 
 pub nothing_pending-same : (old new : Told) → StaysSame old new → NothingPending old → NothingPending new
@@ -70,7 +71,7 @@ nothing_pending-same old new same only image left = only image ((same.images ima
 -- no call
 pub reads-none : (disk : Told) → OnlyReads disk disk
 reads-none disk = record {
-  same = record { content = refl; images = λ image. (λ is. is, λ is. is) };
+  same = record { content = refl; images = λ image. (λ is. is, λ is. is); syncs = refl };
   time = record { later = omega arith; nothing_else = λ t image le left. inl left; keeps = λ t image le left. left };
 }
 

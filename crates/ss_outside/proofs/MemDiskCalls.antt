@@ -1,13 +1,13 @@
 -- What the calls of a disk in memory leave, as every disk says it.
-use Rattle.std.proofs.Common.{◌≡◌, ◌⊎◌, inl, inr, ⊎_elim, ℕ, List, [], ◌∷◌, length, Result, Ok, Err, refl, sym, ◌∙◌, ap, subst}
+use Rattle.std.proofs.Common.{◌≡◌, ◌⊎◌, inl, inr, ⊎_elim, ℕ, ◌+◌, List, [], ◌∷◌, length, Result, Ok, Err, refl, sym, ◌∙◌, ap, subst, arith}
 use Rattle.std.specs.Prelude.{IsErr, OnOk, OnErr, MatchResult}
 use Rattle.ss_outside.proofs.CrashLemmas.{reads-none}
 use Rattle.ss_outside.proofs.DiskLemmas.{only_image, torn_is_image, image_is_torn}
 use Rattle.ss_outside.proofs.MemDiskTime.{time_push}
-use Rattle.ss_outside.proofs.PastLemmas.{replay-append}
+use Rattle.ss_outside.proofs.PastLemmas.{good_syncs-push, replay-append}
 use Rattle.ss_outside.specs.Crash.{Elapses}
 use Rattle.ss_outside.specs.Disk.{overwrite, IsImage, BecomesPending, StaysSame, NothingPending}
-use Rattle.ss_outside.specs.MemDisk.{DiskCall, Wrote, Tore, Synced, DiskState, MemDiskState, fresh, pend, step, now, Leaves, told_by, IsListed}
+use Rattle.ss_outside.specs.MemDisk.{DiskCall, Wrote, Tore, Synced, DiskState, MemDiskState, fresh, good_syncs, pend, step, now, Leaves, told_by, IsListed}
 use Rattle.ss_outside.specs.MemDisk.{IsConsistent, Suffices, answered, failed, starved, with_change}
 use Rattle.ss_outside.specs.declared.source.Failed.{Failed}
 
@@ -25,8 +25,8 @@ module _ (old new : MemDiskState) where
     content_written is = ap (λ (s : DiskState). s.content) (ap now is ∙ stepped (answered old) (Wrote at bytes))
 
     pends : (content : List ℕ) → IsConsistent (now old) → IsConsistent (now new) → now new ≡ pend (now old) at (length bytes) content
-        → BecomesPending at (length bytes) (told_by old) (told_by new)
-    pends content sound_old sound_new is = let s = now old in record {
+        → good_syncs new.changes ≡ good_syncs old.changes → BecomesPending at (length bytes) (told_by old) (told_by new)
+    pends content sound_old sound_new is same = let s = now old in record {
       nothing_else = λ image left.
           let model = subst (λ (t : DiskState). IsImage t.synced t.pending t.longest image) is (in_model (now new) sound_new image left) in
           let from = image_is_torn s.synced s.pending s.longest at (length bytes) image sound_old.bytes sound_old.short model in
@@ -34,15 +34,18 @@ module _ (old new : MemDiskState) where
       each = λ was image left torn.
           let model = torn_is_image s.synced s.pending s.longest at (length bytes) was image (in_model s sound_old was left) torn in
           inr (subst (λ (t : DiskState). IsImage t.synced t.pending t.longest image) (sym is) model);
+      syncs = same;
     }
 
     pub pending_written : IsConsistent (now old) → IsConsistent (now new) → (result : Result (Unit {0}) Failed) →
         OnOk result (new ≡ with_change (answered old) (Wrote at bytes))
         → OnErr result ((IsListed old × (new ≡ with_change (failed old) (Tore at (length bytes)))) ⊎ (¬ Suffices old (length bytes) × (new ≡ starved old)))
         → BecomesPending at (length bytes) (told_by old) (told_by new) ⊎ (IsErr result × StaysSame (told_by old) (told_by new))
-    pending_written sound_old sound_new (Ok done) is none = inl (pends _ sound_old sound_new (ap now is ∙ stepped (answered old) (Wrote at bytes)))
+    pending_written sound_old sound_new (Ok done) is none = inl (pends _ sound_old sound_new (ap now is ∙ stepped (answered old) (Wrote at bytes))
+        (omega (arith, ap (λ (s : MemDiskState). good_syncs s.changes) is, good_syncs-push old.changes (Wrote at bytes))))
     pending_written sound_old sound_new (Err e) none (inl tore) =
-        inl (pends _ sound_old sound_new (ap now tore.1 ∙ stepped (failed old) (Tore at (length bytes))))
+        inl (pends _ sound_old sound_new (ap now tore.1 ∙ stepped (failed old) (Tore at (length bytes)))
+        (omega (arith, ap (λ (s : MemDiskState). good_syncs s.changes) tore.1, good_syncs-push old.changes (Tore at (length bytes)))))
     pending_written sound_old sound_new (Err e) none (inr short) =
         inr (refl, subst (λ (s : MemDiskState). StaysSame (told_by old) (told_by s)) (sym short.1) (reads-none (told_by old)).same)
 
@@ -65,6 +68,11 @@ module _ (old new : MemDiskState) where
   state_synced (Ok done) is none = ap now is.1 ∙ stepped (answered old) Synced
   state_synced (Err e) none (inl listed) = ap now listed.1
   state_synced (Err e) none (inr short) = ap now short.2
+
+  pub syncs_synced : (result : Result (Unit {0}) Failed) → OnOk result (¬ IsListed old × (new ≡ with_change (answered old) Synced))
+      → OnOk result (good_syncs new.changes ≡ good_syncs old.changes + 1)
+  syncs_synced (Ok done) is = omega (arith, ap (λ (s : MemDiskState). good_syncs s.changes) is.1, good_syncs-push old.changes Synced)
+  syncs_synced (Err e) is = tt
 
   -- by the state after a sync
   pub content_synced : (result : Result (Unit {0}) Failed) → MatchResult result (λ _. now new ≡ fresh (now old).content) (λ _. now new ≡ now old)

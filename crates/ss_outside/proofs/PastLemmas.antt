@@ -111,7 +111,7 @@ filled_more s byte old new at count content short is length_new same filled = re
     others place out (inr (inr other)) = inr other
 
 -- the good syncs of one call more
-good_syncs-push : (calls : List DiskCall) (call : DiskCall) → good_syncs (calls ++ call ∷ []) ≡ good_syncs calls + good_syncs (call ∷ [])
+pub good_syncs-push : (calls : List DiskCall) (call : DiskCall) → good_syncs (calls ++ call ∷ []) ≡ good_syncs calls + good_syncs (call ∷ [])
 good_syncs-push calls call =
     ap length (filter-append is_sync calls (call ∷ [])) ∙ length-append (filter is_sync calls) (filter is_sync (call ∷ []))
 

@@ -1,9 +1,10 @@
 -- Steps of a disk, one after another.
-use Rattle.std.proofs.Common.{◌≡◌, refl, ◌∙◌, subst}
+use Rattle.std.proofs.Common.{◌≡◌, refl, ◌∙◌, subst, ℕ, List, Result, Ok, Err, ⊎_elim, arith}
 use Rattle.std.specs.Prelude.{IsTrue}
-use Rattle.ss_outside.specs.Disk.{DiskView, Told}
-use Rattle.ss_outside.specs.Step.{Step}
+use Rattle.ss_outside.specs.Disk.{DiskView, SyncsAtMost, Told}
+use Rattle.ss_outside.specs.Step.{Step, Syncs, WritesAt}
 use Rattle.ss_outside.specs.Verdict.{Verdict, Counted, fine}
+use Rattle.ss_outside.specs.declared.source.Failed.{Failed}
 
 -- no call
 pub step-none : (disk : DiskView) (S : Told → Told → Type 0) → (IsTrue disk.tells → S disk.told disk.told) → Step fine disk disk S
@@ -30,3 +31,12 @@ module _ {old mid new : DiskView} {v : Verdict} {R Q S : Told → Told → Type 
     counted = subst (λ before. Counted v before new.faults) first.counted second.counted;
     told = λ told. joins (first.told told) (second.told (first.tells ∙ told));
   }
+
+module _ {old new : Told} where
+  -- a write syncs nothing, and a sync once at most
+  pub syncs-written : {at : ℕ} {bytes : List ℕ} (result : Result (Unit {0}) Failed) → WritesAt at bytes result old new → new.syncs ≡ old.syncs
+  syncs-written result wrote = ⊎_elim (λ pending. pending.syncs) (λ none. none.1.syncs) wrote.pending
+
+  pub syncs-once : (result : Result (Unit {0}) Failed) → Syncs result old new → SyncsAtMost 1 old new
+  syncs-once (Ok done) synced = omega (arith, synced.syncs)
+  syncs-once (Err e) synced = omega (arith, synced.pending.syncs)

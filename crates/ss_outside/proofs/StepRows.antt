@@ -38,6 +38,12 @@ module _ (old new : Told) where
   Syncs-Err : (e : Failed) → Syncs (Err e) old new → StaysSame old new
   Syncs-Err e step = step.pending
 
+  Syncs-one : Syncs (Ok tt) old new → new.syncs ≡ old.syncs + 1
+  Syncs-one step = step.syncs
+
+  Syncs-none : (e : Failed) → Syncs (Err e) old new → new.syncs ≡ old.syncs
+  Syncs-none e step = step.pending.syncs
+
   Syncs-content : (result : Result Unit Failed) → Syncs result old new → new.content ≡ old.content
   Syncs-content result step = step.content
 
@@ -52,6 +58,9 @@ module _ (old new : Told) where
 
   OnlyReads-images : OnlyReads old new → (image : List ℕ) → old.may_leave image ↔ new.may_leave image
   OnlyReads-images reads = reads.same.images
+
+  OnlyReads-syncs : OnlyReads old new → new.syncs ≡ old.syncs
+  OnlyReads-syncs reads = reads.same.syncs
 
   OnlyReads-time : OnlyReads old new → Elapses old new
   OnlyReads-time reads = reads.time
@@ -76,6 +85,9 @@ module _ (old new : Told) where
   BecomesPending-nothing_else : (at count : ℕ) → BecomesPending at count old new → (image : List ℕ) → new.may_leave image →
       (was : List ℕ) × old.may_leave was × Torn at count was image
   BecomesPending-nothing_else at count pending = pending.nothing_else
+
+  BecomesPending-syncs : (at count : ℕ) → BecomesPending at count old new → new.syncs ≡ old.syncs
+  BecomesPending-syncs at count pending = pending.syncs
 
   BecomesPending-each : (at count : ℕ) → BecomesPending at count old new → (was image : List ℕ) → old.may_leave was → Torn at count was image →
       new.may_leave image

@@ -1,13 +1,14 @@
 -- What a disk tells, what its calls do to the content, and which images a crash may leave of it.
 use Rattle.std.specs.Prelude.{◌≡◌, ◌⊎◌, ◌↔◌, ℕ, ◌+◌, ◌<◌, ◌≤◌, max, Bool, List, [], ◌∷◌, ◌++◌, length, take, drop, slice_index, EachIndex, IsTrue, ⊤}
 
--- What a disk tells: the bytes that a read gives, the images that a crash now may leave, the moment on its clock, and the
--- images that a crash at some moment or a later one may have left, inside a call or between two.
+-- What a disk tells: the bytes that a read gives, the images that a crash now may leave, the moment on its clock, the
+-- images that a crash at some moment or a later one may have left, inside a call or between two, and how many syncs answered Ok.
 pub record Told : Type 1 where
   pub content : List ℕ
   pub may_leave : List ℕ → Type 0
   pub moment : ℕ
   pub left_since : ℕ → List ℕ → Type 0
+  pub syncs : ℕ
 
 -- What a disk is to a contract: whether it tells anything, what it tells then, and how many of its calls have failed. A file
 -- tells nothing.
@@ -51,15 +52,21 @@ pub record Torn (at count : ℕ) (old new : List ℕ) : Type 0 where
   pub kept : EachIndex old (λ place. IsOutside at count place → slice_index new place ≡ slice_index old place)
   pub bytes : AreBytes new
 
--- a range becomes pending: the images after are those before, torn there in every way
+-- a range becomes pending: the images after are those before, torn there in every way, and nothing was synced
 pub record BecomesPending (at count : ℕ) (old new : Told) : Type 0 where
   pub nothing_else : (image : List ℕ) → new.may_leave image → (was : List ℕ) × old.may_leave was × Torn at count was image
   pub each : (was image : List ℕ) → old.may_leave was → Torn at count was image → new.may_leave image
+  pub syncs : new.syncs ≡ old.syncs
 
--- the same content and the same images
+-- the same content and the same images, and nothing was synced
 pub record StaysSame (old new : Told) : Type 0 where
   pub content : new.content ≡ old.content
   pub images : (image : List ℕ) → old.may_leave image ↔ new.may_leave image
+  pub syncs : new.syncs ≡ old.syncs
+
+-- it was synced so often at most
+abbrev pub SyncsAtMost : ℕ → Told → Told → Type 0
+SyncsAtMost most old new = new.syncs ≤ old.syncs + most
 
 -- nothing is pending: a crash leaves the content and nothing else
 abbrev pub NothingPending : Told → Type 0

@@ -121,6 +121,7 @@ told_by s = record {
   may_leave = Leaves (now s);
   moment = length s.changes;
   left_since = LeftSince (fresh s.start) s.changes;
+  syncs = good_syncs s.changes;
 }
 
 -- what it is to a contract

@@ -1,5 +1,5 @@
 -- One relation for a call of a disk, or for some in a row.
-use Rattle.std.specs.Prelude.{◌≡◌, ◌⊎◌, ℕ, List, length, IsErr, IsTrue, IfOk, OnOk, OnErr, Result}
+use Rattle.std.specs.Prelude.{◌≡◌, ◌⊎◌, ℕ, ◌+◌, List, length, IsErr, IsTrue, IfOk, OnOk, OnErr, Result}
 use Rattle.ss_outside.specs.Crash.{Elapses, OnlyReads}
 use Rattle.ss_outside.specs.Disk.{DiskView, Told, overwrite, IsReadFrom, BecomesPending, StaysSame, NothingPending}
 use Rattle.ss_outside.specs.Verdict.{Verdict, Counted}
@@ -28,9 +28,10 @@ pub record WritesAt (at : ℕ) (bytes : List ℕ) (result : Result Unit Failed) 
   pub pending : BecomesPending at (length bytes) old new ⊎ (IsErr result × StaysSame old new)
   pub time : Elapses old new
 
--- What is pending is made durable, or at a failure stays pending.
+-- What is pending is made durable, by one sync, or at a failure stays pending.
 pub record Syncs (result : Result Unit Failed) (old new : Told) : Type 0 where
   pub durable : OnOk result (NothingPending new)
+  pub syncs : OnOk result (new.syncs ≡ old.syncs + 1)
   pub no_other : (image : List ℕ) → new.may_leave image → old.may_leave image
   pub pending : OnErr result (StaysSame old new)
   pub content : new.content ≡ old.content

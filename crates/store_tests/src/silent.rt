@@ -71,7 +71,7 @@ impl Disk for Silent {
 
     ghost seen = { λ s. record {
       tells = false;
-      told = record { content = []; may_leave = λ _. ⊥; moment = 0; left_since = λ _ _. ⊥ };
+      told = record { content = []; may_leave = λ _. ⊥; moment = 0; left_since = λ _ _. ⊥; syncs = 0 };
       faults = s.faults;
     } };
 

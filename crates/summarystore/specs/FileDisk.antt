@@ -10,7 +10,7 @@ use Rattle.summarystore.specs.declared.opening.Opened.{Opened}
 abbrev pub untold : ℕ → DiskView
 untold faults = record {
   tells = false;
-  told = record { content = []; may_leave = λ _. ⊥; moment = 0; left_since = λ _ _. ⊥ };
+  told = record { content = []; may_leave = λ _. ⊥; moment = 0; left_since = λ _ _. ⊥; syncs = 0 };
   faults = faults;
 }
 

@@ -10,7 +10,7 @@ pub returns : goal.returns
 returns g c =
     let before = (g.D.Disk.seen c.args.disk.now).told in
     let after = (g.D.Disk.seen c.write.new.disk).told in
-    step-next c.in_ok-head.ensures c.write.ensures (λ told then head wrote.
+    step-next c.in_ok-head.ensures c.write.ensures.wrote (λ told then head wrote.
     let none = cond-false (has_magic before.content) [] (magic Plain) (sym (c.if-has_magic.ensures _ head.found)) in
     subst (λ (bytes : List ℕ). Writes 1 bytes c.write.result before after) (sym none)
     (writes-after_read 1 (magic Plain) before _ after (g.met.D.Disk.knows_now c.args.disk.now told) head.reads wrote))

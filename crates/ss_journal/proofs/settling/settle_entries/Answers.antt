@@ -1,4 +1,4 @@
-use Rattle.std.proofs.Common.{◌≡◌, length, refl, sym, ◌∙◌}
+use Rattle.std.proofs.Common.{arith, ◌≡◌, length, refl, sym, ◌∙◌}
 use Rattle.std.proofs.lemmas.Bool.{eqb-true}
 use Rattle.std.proofs.lemmas.List.{nil_from_length}
 use Rattle.ss_outside.proofs.CrashLemmas.{reads-none}
@@ -9,8 +9,8 @@ use Rattle.ss_journal.proofs.RedoLemmas.{first_closed-none}
 use Rattle.ss_journal.proofs.StepLemmas.{reaches-read}
 use Rattle.ss_journal.proofs.settling.settle_entries.Goals as goal
 
-pub returns-then-is_empty : goal.returns-then-is_empty
-returns-then-is_empty g c =
+pub returns-then-is_empty-clause-shuts : goal.returns-then-is_empty-clause-shuts
+returns-then-is_empty-clause-shuts g c =
     let none : length c.args.puts.now ≡ 0 = eqb-true (length c.args.puts.now) 0 (sym c.is_empty.ensures ∙ c.if-is_empty.true) in
     step-none _ _ (λ told.
     let entries = c.requires.entries told in
@@ -22,3 +22,6 @@ returns-then-is_empty g c =
       ),
       refl,
     ))
+
+pub returns-then-is_empty-clause-syncs : goal.returns-then-is_empty-clause-syncs
+returns-then-is_empty-clause-syncs g c = step-none _ _ (λ told. omega arith)

@@ -1,6 +1,6 @@
 use Rattle.std.proofs.Common.{List, [], ap, arith, drop, get_or, length, sym, take, ℕ, ◌-◌, ◌<◌, ◌≡◌, ◌≤◌}
 use Rattle.std.proofs.lemmas.List.{length-drop, length-take-le, take_all}
-use Rattle.ss_outside.proofs.StepLemmas.{step-none}
+use Rattle.ss_outside.proofs.StepLemmas.{step-none, syncs-once}
 use Rattle.ss_journal.specs.declared.put.Put.{Put}
 use Rattle.ss_journal.specs.Writes.{run_length}
 use Rattle.ss_journal.proofs.RunLemmas.{run_length-le, run_length-some}
@@ -26,6 +26,7 @@ pub loop-from-init : goal.loop-from-init
 loop-from-init g c = record {
   high = omega arith;
   step = step-none _ _ (λ told. WrittenTo-none c.args.kind c.args.puts.now _ (g.met.D.Disk.knows_now c.args.disk.now told) (c.requires.places told));
+  syncs = step-none _ _ (λ told. omega arith);
 }
 
 pub slice_bounds-write_run-end : goal.slice_bounds-write_run-end
@@ -36,8 +37,8 @@ slice_bounds-write_run-end g c =
     let few : n ≤ run_length (slot puts k) (rest puts k) = omega (arith, c.run_length-count.ensures) in
     sym (length-take-le n (rest puts k) (run_length-le (slot puts k) n (rest puts k) few))
 
-pub returns-in_err-write_run : goal.returns-in_err-write_run
-returns-in_err-write_run g c =
+pub returns-in_err-write_run-clause-wrote : goal.returns-in_err-write_run-clause-wrote
+returns-in_err-write_run-clause-wrote g c =
     let puts = c.args.puts.now in
     let k = c.loop-from.from in
     let n = c.run_length-count.result in
@@ -59,10 +60,20 @@ loop-from-preserved g c =
       step = step-next c.loop-from.invariant.step c.in_ok-write_run.ensures.run
           (λ told then so_far wrote. WrittenTo-more c.args.kind puts (rest puts k) k n (slot puts k) _ _ _ (g.met.D.Disk.knows_now c.loop-from.disk then)
           (left puts k) more few c.write_run.ensures.whole so_far _ c.requires.slots wrote);
+      syncs = step-next c.loop-from.invariant.syncs c.in_ok-write_run.ensures.syncs (λ told then so_far more. omega (arith, so_far, more));
     }
 
-pub returns : goal.returns
-returns g c =
+pub returns-clause-wrote : goal.returns-clause-wrote
+returns-clause-wrote g c =
     step-next c.loop-from.invariant.step c.sync.ensures
     (λ told then so_far synced. WrittenTo-synced c.args.kind c.args.puts.now c.loop-from.from _ _ _ (g.met.D.Disk.knows_now c.loop-from.disk then)
     (omega arith) so_far c.sync.result synced)
+
+pub returns-in_err-write_run-clause-syncs : goal.returns-in_err-write_run-clause-syncs
+returns-in_err-write_run-clause-syncs g c =
+    step-next_failed c.from_residual.result c.from_residual.ensures.0 c.loop-from.invariant.syncs c.in_err-write_run.ensures.syncs
+    (λ told then so_far more. omega (arith, so_far, more))
+
+pub returns-clause-syncs : goal.returns-clause-syncs
+returns-clause-syncs g c =
+    step-next c.loop-from.invariant.syncs c.sync.ensures (λ told then so_far synced. omega (arith, so_far, syncs-once c.sync.result synced))

@@ -1,4 +1,5 @@
 use Rattle.std.proofs.Common.{◌≤◌, ◌-◌, length}
+use Rattle.ss_outside.specs.Disk.{SyncsAtMost}
 use Rattle.ss_outside.specs.Step.{Step}
 use Rattle.ss_outside.specs.Verdict.{fine}
 use Rattle.ss_journal.proofs.WriteSteps.{WrittenTo}
@@ -8,6 +9,7 @@ abbrev pub invariant-loop-from : goal.invariant-loop-from
 invariant-loop-from g l = record {
   high : l.from ≤ length l.puts;
   step : Step fine (g.D.Disk.seen l.fn.disk) (g.D.Disk.seen l.disk) (WrittenTo l.kind l.puts l.from);
+  syncs : Step fine (g.D.Disk.seen l.fn.disk) (g.D.Disk.seen l.disk) (SyncsAtMost 0);
 }
 
 abbrev pub decreases-loop-from : goal.decreases-loop-from

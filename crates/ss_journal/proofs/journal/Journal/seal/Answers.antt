@@ -22,7 +22,7 @@ pub returns-clause-seals : goal.returns-clause-seals
 returns-clause-seals g c =
     let some : length c.self.inside.staged ≡ 0 → ⊥ = λ none. eqb-false (length c.as_slice.result.now) 0 (sym c.is_empty.ensures ∙ c.if-is_empty.false)
     (ap (λ (list : List Put). length list) c.as_slice.ensures.all ∙ none) in
-    step-from c.in_ok-added.ensures (λ told enters.
+    step-from c.in_ok-added.ensures.enters (λ told enters.
     let kept = subst (λ (j : JournalState). IsKept j (g.D.Disk.seen c.args.disk.now).told.content) (sym c.self.view_is) (c.requires.one_disk told) in
     let all = c.as_slice-3.ensures ∙ c.spell.ensures
     ∙ ap (λ (list : List Put). closed_behind c.self.inside.sealed (group_bytes c.self.inside.kind c.self.inside.sealed (entry_count (length list)) list))

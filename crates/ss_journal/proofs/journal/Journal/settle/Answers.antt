@@ -41,7 +41,7 @@ returns-clause-settles g c =
           let is = IsShown-sealed _ content sealed kept in
           settles-born _ _ _ is c.clear.new.self staged (unborn-shown _ content w.in-Unborn.is is) _ _ c.clear.ensures sealed birth))
       | in-Born+in_ok-settle_formed-in-Born w ↦ subst (λ d. Step fine (g.D.Disk.seen c.args.disk.now) (g.D.Disk.seen d) (Settles settled (Ok tt)))
-          (sym w.disk-is) (step-from w.in_ok-settle_formed-in-Born.ensures (λ told clears.
+          (sym w.disk-is) (step-from w.in_ok-settle_formed-in-Born.ensures.clears (λ told clears.
           let kept = subst (λ (j : JournalState). IsKept j content) (sym c.self.view_is) (c.requires.one_disk told) in
           let is = IsShown-sealed _ content sealed kept in
           settles-formed _ _ _ is c.clear.new.self staged _ _ c.clear.ensures sealed

@@ -1,5 +1,5 @@
 use Rattle.std.proofs.Common.{refl}
-use Rattle.ss_outside.proofs.MemDiskCalls.{time_synced, state_synced, content_synced, durable_synced, no_other_synced, same_synced}
+use Rattle.ss_outside.proofs.MemDiskCalls.{time_synced, state_synced, content_synced, durable_synced, no_other_synced, same_synced, syncs_synced}
 use Rattle.ss_outside.proofs.mem_disk.MemDiskDisk.sync.Goals as goal
 
 pub returns-clause-step : goal.returns-clause-step
@@ -14,6 +14,7 @@ returns-clause-step c =
       counted = call.cause;
       told = λ told. record {
         durable = durable_synced old new result state;
+        syncs = syncs_synced old new result call.synced;
         no_other = no_other_synced old new result state;
         pending = same_synced old new result call.failed;
         content = content_synced old new result state;
