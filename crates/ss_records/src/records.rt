@@ -32,10 +32,10 @@ impl Model for Records {
 
 impl Records {
     ghost use Rattle.std.specs.Prelude.{◌≡◌, ◌≤◌, ◌<◌, ◌↔◌, ℕ, List, [], IsTrue, IsNone, IsSome, IfSome, IfOk, OnOk, OnErr};
-    ghost use Rattle.ss_outside.specs.Disk.{OfContent};
+    ghost use Rattle.ss_outside.specs.Disk.{OfContent, SyncsAtMost};
     ghost use Rattle.ss_outside.specs.Step.{Step};
     ghost use Rattle.ss_outside.specs.Verdict.{verdict};
-    ghost use Rattle.ss_journal.specs.Calls.{HasCommitted, HasMadeRoom, HasSealed, HasSettled, HasStaged, verdict_of_open};
+    ghost use Rattle.ss_journal.specs.Calls.{HasCommitted, HasMadeRoom, HasSealed, HasSettled, HasStaged, SyncsForRoom, verdict_of_open};
     ghost use Rattle.ss_journal.specs.Puts.{slots_fit, IsTxn};
     ghost use Rattle.ss_journal.specs.Redo.{zeros};
     ghost use Rattle.ss_journal.specs.Kept.{HasStopped, IsKept, IsRunning, IsSealed, IsSettled};
@@ -162,6 +162,7 @@ impl Records {
         requires settled { IsSettled self.old.journal }
         requires one_disk { OfContent (D.seen disk.old) (AreKept self.old) }
         ensures makes_room { Step (verdict result) (D.seen disk.old) (D.seen disk.new) (MakesRoomFor self.old self.new result) }
+        ensures syncs { Step (verdict result) (D.seen disk.old) (D.seen disk.new) (SyncsForRoom self.old.journal) }
         ensures made { OnOk result (HasMadeRoom self.old.journal self.new.journal) }
         // Where an entry is free nothing is done.
         ensures idle { self.old.journal.in_use < ENTRIES → (disk.new ≡ disk.old) × (self.new ≡ self.old) }
@@ -203,6 +204,7 @@ impl Records {
         requires settled { IsSettled self.old.journal }
         requires one_disk { OfContent (D.seen disk.old) (AreKept self.old) }
         ensures seals { Step (verdict result) (D.seen disk.old) (D.seen disk.new) (SealsRecords self.old self.new result) }
+        ensures syncs { Step (verdict result) (D.seen disk.old) (D.seen disk.new) (SyncsAtMost 2) }
         ensures sealed { OnOk result (HasSealed self.old.journal self.new.journal) }
         // Where nothing is staged nothing is done.
         ensures idle { IsSealed self.old.journal → (disk.new ≡ disk.old) × (self.new ≡ self.old) }
@@ -231,6 +233,7 @@ impl Records {
         requires one_disk { OfContent (D.seen disk.old) (AreKept self.old) }
         // All of the puts or none, also in a crash at any moment of the call.
         ensures applies { Step (verdict result) (D.seen disk.old) (D.seen disk.new) (AppliesPuts self.new txn.now.items result) }
+        ensures syncs { Step (verdict result) (D.seen disk.old) (D.seen disk.new) (SyncsAtMost 4) }
         ensures committed { OnOk result (HasCommitted txn.now.items self.old.journal self.new.journal) }
         ensures live { OnOk result (self.new.live ≡ live_after txn.now.items self.old.live) }
         ensures err { OnErr result (self.new.live ≡ self.old.live) }

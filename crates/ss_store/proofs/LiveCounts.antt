@@ -17,6 +17,8 @@ use Rattle.ss_model.specs.State.{Stream, live, records_of}
 use Rattle.ss_model.specs.declared.types.TheConstants.{MOST_RECORDS}
 use Rattle.ss_recover.specs.Held.{Agrees, AllAgree, AreWhole, AreWholeBeside, entries_of, mark_slots, slots_held, window_slots}
 use Rattle.ss_recover.specs.declared.parts.StreamParts.{StreamParts}
+use Rattle.ss_line.specs.declared.entry.Entry.{Entry}
+use Rattle.ss_store.specs.Dropping.{slots_in_turn}
 use Rattle.ss_store.specs.Slots.{live_slots}
 use Rattle.ss_store.proofs.HeldCounts.{length-Agrees}
 
@@ -50,6 +52,16 @@ length-slots_held part =
       length-append part.landmarks.slots part.landmarks.value_slots,
       length-map (entries_of part) (λ e. e.slot),
       length-map part.line.entries (λ e. e.1),
+    )
+
+-- they are as many in whichever order
+pub length-slots_in_turn : (part : StreamParts) → length (slots_in_turn part) ≡ length (slots_held part)
+length-slots_in_turn part =
+    omega (
+      arith,
+      length-append (map (λ (e : Entry). e.slot) (entries_of part)) (mark_slots part ++ part.slot ∷ []),
+      length-append (mark_slots part) (part.slot ∷ []),
+      length-append (window_slots part) (mark_slots part),
     )
 
 -- they are as many as the records that the stream needs

@@ -1,5 +1,5 @@
 -- A store in which a stream takes a value outside landmarks: what is known before the call, and what the store does then.
-use Rattle.std.proofs.Common.{◌≡◌, ◌∙◌, ℕ, ℤ, ◌+◌, ◌<◌, ◌≤◌, Bool, true, false, List, get_or, slice_set, length, ap, arith, refl, sym}
+use Rattle.std.proofs.Common.{◌≡◌, ◌∙◌, ℕ, ℤ, ◌+◌, ◌<◌, ◌≤◌, Bool, true, false, List, flat_map, get_or, slice_set, length, ap, arith, refl, sym}
 use Rattle.std.proofs.Common.{subst, Err, None, Ok, Some}
 use Rattle.std.proofs.lemmas.Option.{slice_get_within}
 use Rattle.ss_outside.specs.Disk.{DiskView, OfContent}
@@ -31,6 +31,7 @@ use Rattle.ss_store.proofs.Appended.{StoreIsKept-IsSpared, StoreIsKept-appended,
 use Rattle.ss_store.proofs.Appended.{said_of_set, ordered-IsSpared, whole-appended}
 use Rattle.ss_store.proofs.Applying.{Applies-done, Applies-failed, held_by_named}
 use Rattle.ss_store.proofs.Decays.{KeepsToTarget-taken}
+use Rattle.ss_store.proofs.LiveCounts.{few-slots, length-slots_held}
 use Rattle.ss_store.proofs.Refusals.{of_part-named}
 use Rattle.ss_model.specs.Marks.{has_open}
 use Rattle.ss_store.proofs.Stepping.{StepsState-answers, StepsState-failed}
@@ -76,6 +77,14 @@ module _ {store : StoreState} {catalog : List (List ℕ × StreamId)} {name : Li
 
   pub few-taker : length was.line.entries < MOST_PLACES
   few-taker = let few = rw same-part at is.taker.few in omega (arith, few)
+
+  pub few-records : length was.line.entries + 1 ≤ length (flat_map slots_held store.streams)
+  few-records = omega (
+    arith,
+    few-slots store.streams place is.taker.part is.taker.at,
+    length-slots_held is.taker.part,
+    ap (λ (p : StreamParts). length p.line.entries) same-part,
+  )
 
   pub runs-taker : store.stopped ≡ false
   runs-taker = is.runs

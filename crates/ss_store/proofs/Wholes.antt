@@ -1,5 +1,5 @@
 -- What changes of one stream in a row keep over every disk, and what joins in a row make of it.
-use Rattle.std.proofs.Common.{◌≡◌, ◌∙◌, ℕ, Bool, List, Option, Ok, Result, arith, subst, sym}
+use Rattle.std.proofs.Common.{◌≡◌, ◌∙◌, ℕ, Bool, List, Option, Ok, Result, arith, subst, sym, length, ◌-◌, ◌≤◌}
 use Rattle.ss_outside.specs.Crash.{KnowsNow}
 use Rattle.ss_outside.specs.Disk.{DiskView, Told}
 use Rattle.ss_outside.specs.Step.{Step}
@@ -9,7 +9,7 @@ use Rattle.ss_journal.specs.Kept.{IsSettled}
 use Rattle.ss_records.specs.Kept.{AreKept, RecordsState}
 use Rattle.ss_recover.specs.Held.{entries_of, slots_held}
 use Rattle.ss_recover.specs.declared.parts.StreamParts.{StreamParts}
-use Rattle.ss_store.specs.Calls.{StaysWithin}
+use Rattle.ss_store.specs.Calls.{StaysWithin, SyncsToStage}
 use Rattle.ss_store.specs.Changing.{HoldsUntil, JoinsWindows, KeepsAtRest, KeepsWhole}
 use Rattle.ss_store.specs.Held.{IsOrdered, IsSameStream, values_held, with_windows}
 use Rattle.ss_store.specs.Slots.{LiveSlotsGo}
@@ -74,6 +74,8 @@ JoinsWindows-more {part} {mid} {now} {was} {between} {is} {old} {then} {new} res
 pub record IsClosing (old now : DiskView) (records is : RecordsState) (part left : StreamParts) : Type 0 where
   pub step : Step fine old now (JoinsWindows part left records is (Ok tt))
   pub within : Step fine old now (StaysWithin {T = Unit {0}} {E = ReadError} 0 records is (Ok tt))
+  pub syncs : Step fine old now (SyncsToStage {T = Unit {0}} {E = ReadError} (length part.line.entries - length left.line.entries) records is (Ok tt))
+  pub fewer : length left.line.entries ≤ length part.line.entries
   pub same : IsSameStream part left
   pub whole : KeepsWhole part left records is 0
   pub holds : HoldsUntil left (values_held (entries_of part)) part.last_time

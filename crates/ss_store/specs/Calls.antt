@@ -1,9 +1,10 @@
 -- What a call makes of what a disk stands for, also in a crash.
-use Rattle.std.specs.Prelude.{◌≡◌, ◌⊎◌, ℕ, ◌≤◌, List, [], ◌∷◌, ◌++◌, Option, Result, OnOk}
+use Rattle.std.specs.Prelude.{◌≡◌, ◌⊎◌, ℕ, ◌+◌, ◌*◌, ◌≤◌, List, [], ◌∷◌, ◌++◌, Option, Result, OnOk}
 use Rattle.ss_catalog.specs.declared.event.Event.{Event}
 use Rattle.ss_outside.specs.Crash.{LeavesOnly}
-use Rattle.ss_outside.specs.Disk.{Told, NothingPending}
+use Rattle.ss_outside.specs.Disk.{Told, NothingPending, SyncsAtMost}
 use Rattle.ss_journal.specs.Redo.{SlotMap, StandsFor}
+use Rattle.ss_journal.specs.declared.format.TheConstants.{ENTRIES}
 use Rattle.ss_records.specs.Kept.{RecordsState, shown_by}
 use Rattle.ss_model.specs.History.{Happened, added}
 use Rattle.ss_model.specs.State.{Stream}
@@ -85,3 +86,17 @@ StaysWithin used was is result old new =
 -- and so does one that leaves nothing staged
 abbrev pub KeepsWithin : {T E : Type 0} → ℕ → Result T E → Told → Told → Type 0
 KeepsWithin used result old new = (n : ℕ) → used ≤ n → Turns (UsesAtMost n) (UsesAtMost n) (UsesAtMost n) old new result
+
+-- A call that stages so many transactions at most makes room so often, by four syncs each time at most. It does so only where the entries
+-- are used up, and each transaction uses one at most.
+pub record SyncsToStage {T E : Type 0} (most : ℕ) (was is : RecordsState) (result : Result T E) (old new : Told) : Type 0 where
+  pub rooms : ℕ
+  pub syncs : SyncsAtMost (4 * rooms) old new
+  pub used : ENTRIES * rooms ≤ was.journal.in_use + most
+  pub left : OnOk result (ENTRIES * rooms + is.journal.in_use ≤ was.journal.in_use + most)
+
+-- A call that seals what it stages makes two syncs besides.
+pub record SyncsToApply (most : ℕ) (was : RecordsState) (old new : Told) : Type 0 where
+  pub rooms : ℕ
+  pub syncs : SyncsAtMost (4 * rooms + 2) old new
+  pub used : ENTRIES * rooms ≤ was.journal.in_use + most

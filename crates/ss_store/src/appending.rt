@@ -7,7 +7,7 @@ ghost use Rattle.ss_journal.specs.Kept.{IsSettled};
 ghost use Rattle.ss_records.specs.Kept.{AreKept};
 ghost use Rattle.ss_records.specs.Live.{lowest_free};
 ghost use Rattle.ss_recover.specs.Held.{entries_of, slots_held};
-ghost use Rattle.ss_store.specs.Calls.{StaysWithin};
+ghost use Rattle.ss_store.specs.Calls.{StaysWithin, SyncsToStage};
 ghost use Rattle.ss_store.specs.Changing.{ChangedIsHeld, HoldsUntil, KeepsWhole, PutsValue, TakesValue};
 ghost use Rattle.ss_query.specs.Reading.{verdict_of_read};
 ghost use Rattle.ss_store.specs.Held.{IsSameStream, values_held};
@@ -50,6 +50,7 @@ fn put_value<D: Disk, L: Ledger>(
     ensures same { IsSameStream part.old part.new }
     ensures whole { OnOk result (KeepsWhole part.old part.new records.old records.new (slot + 1)) }
     ensures within { Step (verdict_of_read result) (D.seen disk.old) (D.seen disk.new) (StaysWithin (slot + 1) records.old records.new result) }
+    ensures syncs { Step (verdict_of_read result) (D.seen disk.old) (D.seen disk.new) (SyncsToStage 1 records.old records.new result) }
     ensures holds { OnOk result (HoldsUntil part.new (values_held (entries_of part.old) + 1) (Some t)) }
     ensures keyed { OnOk result (IsKeyedFor part.new index.new) }
     ensures err { OnErr result (part.new ≡ part.old) }
@@ -99,6 +100,9 @@ pub fn append_value<D: Disk, L: Ledger>(
     ensures same { IsSameStream part.old part.new }
     ensures whole { OnOk result (KeepsWhole part.old part.new records.old records.new (slot + 1)) }
     ensures within { Step (verdict_of_read result) (D.seen disk.old) (D.seen disk.new) (StaysWithin (slot + 1) records.old records.new result) }
+    // The value and each of its joins use an entry at most.
+    ensures syncs { Step (verdict_of_read result) (D.seen disk.old) (D.seen disk.new)
+        (SyncsToStage (length part.old.line.entries + 3) records.old records.new result) }
     ensures holds { OnOk result (HoldsUntil part.new (values_held (entries_of part.old) + 1) (Some t)) }
     ensures scheduled { OnOk result (IsScheduled part.new index.new) }
     ensures changed { ChangedIsHeld (verdict_of_read result) part.new }

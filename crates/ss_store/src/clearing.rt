@@ -1,11 +1,11 @@
 // The records of dropped streams.
-ghost use Rattle.std.specs.Prelude.{◌≡◌, [], OnOk};
+ghost use Rattle.std.specs.Prelude.{◌≡◌, [], length, OnOk};
 ghost use Rattle.ss_outside.specs.Disk.{OfContent};
 ghost use Rattle.ss_outside.specs.Step.{Step};
 ghost use Rattle.ss_outside.specs.Verdict.{verdict};
 ghost use Rattle.ss_journal.specs.Kept.{IsSettled};
 ghost use Rattle.ss_records.specs.Kept.{AreAtRest, AreKept};
-ghost use Rattle.ss_store.specs.Calls.{KeepsWithin, StaysWithin};
+ghost use Rattle.ss_store.specs.Calls.{KeepsWithin, StaysWithin, SyncsToStage};
 ghost use Rattle.ss_store.specs.Changing.{Makes};
 ghost use Rattle.ss_store.specs.Clearing.{ClearsSlots, StagesClearing};
 ghost use Rattle.ss_store.specs.Slots.{AreSomeLive, LiveSlotsGo};
@@ -29,6 +29,7 @@ pub fn stage_clearing<D: Disk>(
     ensures live { OnOk result (LiveSlotsGo doomed.now [] records.old.live records.new.live) }
     ensures extent { OnOk result (records.new.journal.extent ≡ records.old.journal.extent) }
     ensures within { Step (verdict result) (D.seen disk.old) (D.seen disk.new) (StaysWithin 0 records.old records.new result) }
+    ensures syncs { Step (verdict result) (D.seen disk.old) (D.seen disk.new) (SyncsToStage (length doomed.now) records.old records.new result) }
 {
     for slot in doomed {
         stage_zeros(records, disk, *slot)?;

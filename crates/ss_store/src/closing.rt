@@ -7,7 +7,7 @@ ghost use Rattle.ss_journal.specs.Kept.{IsRunning, IsSettled};
 ghost use Rattle.ss_records.specs.Kept.{AreAtRest, AreKept};
 ghost use Rattle.ss_summary.specs.Figures.{IsPossible};
 ghost use Rattle.ss_recover.specs.Held.{entries_of, slots_held};
-ghost use Rattle.ss_store.specs.Calls.{KeepsWithin, StaysWithin};
+ghost use Rattle.ss_store.specs.Calls.{KeepsWithin, StaysWithin, SyncsToStage};
 ghost use Rattle.ss_store.specs.Changing.{StandBeside, ChangedIsHeld, ClosesStream, HoldsUntil, JoinsWindows, KeepsAtRest, KeepsWhole, ReadsJoined};
 ghost use Rattle.ss_store.specs.Changing.{StagesJoins};
 ghost use Rattle.ss_query.specs.Reading.{verdict_of_read};
@@ -87,6 +87,7 @@ fn join<D: Disk, L: Ledger>(
     ensures same { IsSameStream part.old part.new }
     ensures whole { OnOk result (KeepsWhole part.old part.new records.old records.new 0) }
     ensures within { Step (verdict_of_read result) (D.seen disk.old) (D.seen disk.new) (StaysWithin 0 records.old records.new result) }
+    ensures syncs { Step (verdict_of_read result) (D.seen disk.old) (D.seen disk.new) (SyncsToStage 1 records.old records.new result) }
     ensures holds { OnOk result (HoldsUntil part.new (values_held (entries_of part.old)) part.old.last_time) }
     ensures fewer { OnOk result (length part.new.line.entries + 1 ≡ length part.old.line.entries) }
     ensures keyed { OnOk result (IsKeyedFor part.new index.new) }
@@ -126,6 +127,8 @@ pub fn stage_joins<D: Disk, L: Ledger>(
     ensures same { IsSameStream part.old part.new }
     ensures whole { OnOk result (KeepsWhole part.old part.new records.old records.new 0) }
     ensures within { Step (verdict_of_read result) (D.seen disk.old) (D.seen disk.new) (StaysWithin 0 records.old records.new result) }
+    ensures syncs { Step (verdict_of_read result) (D.seen disk.old) (D.seen disk.new)
+        (SyncsToStage (length part.old.line.entries + 1) records.old records.new result) }
     ensures holds { OnOk result (HoldsUntil part.new (values_held (entries_of part.old)) part.old.last_time) }
     ensures scheduled { OnOk result (IsScheduled part.new index.new) }
     ensures changed { ChangedIsHeld (verdict_of_read result) part.new }

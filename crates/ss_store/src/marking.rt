@@ -12,7 +12,7 @@ ghost use Rattle.ss_landmarks.specs.Landmark.{all_values};
 ghost use Rattle.ss_landmarks.specs.Landmarks.{AreKnown};
 ghost use Rattle.ss_model.specs.Marks.{later};
 ghost use Rattle.ss_recover.specs.Held.{mark_slots, slots_held};
-ghost use Rattle.ss_store.specs.Calls.{StaysWithin};
+ghost use Rattle.ss_store.specs.Calls.{StaysWithin, SyncsToStage};
 ghost use Rattle.ss_store.specs.Changing.{CanTakeMark, HasSameWindows, HasRoomFor, HasTakenMark, KeepsWhole, TakesMark};
 ghost use Rattle.ss_store.specs.Marking.{CanMark, FitsMark, landmarks_after, mark_record, slots_after, slots_used, start_open, value_slots_after, values_open};
 ghost use Rattle.ss_store.specs.Slots.{AreSomeLive};
@@ -148,6 +148,7 @@ pub fn put_mark<D: Disk>(
     ensures taken { OnOk result (HasTakenMark part.old part.new t mark) }
     ensures whole { OnOk result (KeepsWhole part.old part.new records.old records.new (slots_used mark slot)) }
     ensures within { Step (verdict result) (D.seen disk.old) (D.seen disk.new) (StaysWithin (slots_used mark slot) records.old records.new result) }
+    ensures syncs { Step (verdict result) (D.seen disk.old) (D.seen disk.new) (SyncsToStage 1 records.old records.new result) }
     ensures err { OnErr result (part.new ≡ part.old) }
 {
     let written = record_of(part, t, mark);

@@ -9,7 +9,7 @@ ghost use Rattle.ss_records.specs.Kept.{AreKept};
 ghost use Rattle.ss_records.specs.Live.{lowest_free};
 ghost use Rattle.ss_codec.specs.Record.{is_valid};
 ghost use Rattle.ss_codec.specs.declared.record.Record.TheVariants.{Free};
-ghost use Rattle.ss_store.specs.Calls.{StaysWithin};
+ghost use Rattle.ss_store.specs.Calls.{StaysWithin, SyncsToStage};
 ghost use Rattle.ss_store.specs.Changing.{Makes};
 ghost use Rattle.ss_store.specs.Slots.{AreSomeLive, LiveSlotsGo, StagesRecord, StagesReplaced, StagesTwo, pair_put, record_put, zeros_put};
 ghost use Rattle.ss_store.specs.Clearing.{StagesChange};
@@ -50,6 +50,7 @@ pub fn stage_record<D: Disk>(
     ensures live { OnOk result (LiveSlotsGo [] (slot ∷ []) records.old.live records.new.live) }
     ensures extent { OnOk result (records.new.journal.extent ≤ max records.old.journal.extent (slot + 1)) }
     ensures within { Step (verdict result) (D.seen disk.old) (D.seen disk.new) (StaysWithin (slot + 1) records.old records.new result) }
+    ensures syncs { Step (verdict result) (D.seen disk.old) (D.seen disk.new) (SyncsToStage 1 records.old records.new result) }
     ensures err { OnErr result (records.new.live ≡ records.old.live) }
 {
     prove!(records.lowest_free() == Some(slot));
@@ -78,6 +79,7 @@ pub fn stage_replaced<D: Disk>(
     ensures live { records.new.live ≡ records.old.live }
     ensures extent { OnOk result (records.new.journal.extent ≡ records.old.journal.extent) }
     ensures within { Step (verdict result) (D.seen disk.old) (D.seen disk.new) (StaysWithin 0 records.old records.new result) }
+    ensures syncs { Step (verdict result) (D.seen disk.old) (D.seen disk.new) (SyncsToStage 1 records.old records.new result) }
 {
     // The records are sound: each slot that is live lies below the extent.
     prove!(records.live() <= MOST_SLOTS);
@@ -109,6 +111,7 @@ pub fn stage_zeros<D: Disk>(records: &mut Records, disk: &mut D, slot: u32) -> R
     ensures live { OnOk result (LiveSlotsGo (slot ∷ []) [] records.old.live records.new.live) }
     ensures extent { OnOk result (records.new.journal.extent ≡ records.old.journal.extent) }
     ensures within { Step (verdict result) (D.seen disk.old) (D.seen disk.new) (StaysWithin 0 records.old records.new result) }
+    ensures syncs { Step (verdict result) (D.seen disk.old) (D.seen disk.new) (SyncsToStage 1 records.old records.new result) }
     ensures err { OnErr result (records.new.live ≡ records.old.live) }
 {
     // The records are sound: each slot that is live lies below the extent.
@@ -164,6 +167,7 @@ pub fn stage_two<D: Disk>(
     ensures live { OnOk result (LiveSlotsGo (kept ∷ freed ∷ []) (kept ∷ []) records.old.live records.new.live) }
     ensures extent { OnOk result (records.new.journal.extent ≡ records.old.journal.extent) }
     ensures within { Step (verdict result) (D.seen disk.old) (D.seen disk.new) (StaysWithin 0 records.old records.new result) }
+    ensures syncs { Step (verdict result) (D.seen disk.old) (D.seen disk.new) (SyncsToStage 1 records.old records.new result) }
     ensures err { OnErr result (records.new.live ≡ records.old.live) }
 {
     // The records are sound: each slot that is live lies below the extent.

@@ -11,7 +11,7 @@ use std::sync::ledger::Blank;
 
 impl Store {
     ghost use Rattle.std.specs.Prelude.{◌≡◌, ◌+◌, ◌↔◌, true, false, map, Err, OnOk, OnErr};
-    ghost use Rattle.ss_outside.specs.Disk.{Between, OfContent};
+    ghost use Rattle.ss_outside.specs.Disk.{Between, OfContent, SyncsAtMost};
     ghost use Rattle.ss_outside.specs.Step.{Step};
     ghost use Rattle.ss_outside.specs.Verdict.{IfUndone, OnFailed, verdict};
     ghost use Rattle.ss_catalog.specs.Events.{IsInTime};
@@ -19,7 +19,7 @@ impl Store {
     ghost use Rattle.ss_journal.specs.Kept.{IsSealed};
     ghost use Rattle.ss_model.specs.Marks.{has_open};
     ghost use Rattle.ss_store.specs.Applied.{Applies, SealsStore, StandsOn};
-    ghost use Rattle.ss_store.specs.Calls.{AddsEvent, KeepsWithin, StagesEvent, StaysWithin};
+    ghost use Rattle.ss_store.specs.Calls.{AddsEvent, KeepsWithin, StagesEvent, StaysWithin, SyncsToApply, SyncsToStage};
     ghost use Rattle.ss_store.specs.Errors.{verdict_of_apply};
     ghost use Rattle.ss_store.specs.Extents.{records_in};
     ghost use Rattle.ss_store.specs.Kept.{StoreIsKept, is_of_landmark, of_part, without_spare};
@@ -39,6 +39,9 @@ impl Store {
         ensures sealed { self.new.stopped ≡ false → IsSealed self.new.records.journal }
         // No image uses more slots than were used before, or than the records need that were held then and one.
         ensures within { self.old.stopped ≡ false → Between (D.seen disk.old) (D.seen disk.new) (KeepsWithin (records_in self.old + 1) result) }
+        // Two syncs, and four more at most for each time that the entries are used up.
+        ensures syncs { self.old.stopped ≡ false →
+            Between (D.seen disk.old) (D.seen disk.new) (SyncsToApply (records_in self.old + 2) self.old.records) }
         // The event is added to the history that the disk stands for, wholly or not at all, also in a crash.
         ensures history { self.old.stopped ≡ false → Between (D.seen disk.old) (D.seen disk.new) (AddsEvent event.now result) }
         ensures uncalled { IfUndone (verdict_of_apply result) (disk.new ≡ disk.old) }
@@ -64,6 +67,9 @@ impl Store {
             Between (D.seen disk.old) (D.seen disk.new) (StagesEvent event.now self.old.records self.new.records result) }
         ensures within { self.old.stopped ≡ false → Between (D.seen disk.old) (D.seen disk.new)
             (StaysWithin (records_in self.old + 1) self.old.records self.new.records result) }
+        // Room is made only where the entries are used up, by four syncs each time at most.
+        ensures syncs { self.old.stopped ≡ false → Between (D.seen disk.old) (D.seen disk.new)
+            (SyncsToStage (records_in self.old + 2) self.old.records self.new.records result) }
         // An event of landmarks that fails leaves the streams as they were, but for the room to spare.
         ensures failed { is_of_landmark self.old.streams event.now ≡ true →
             OnFailed (verdict_of_apply result) (map without_spare self.new.streams ≡ map without_spare self.old.streams) }
@@ -97,6 +103,8 @@ impl Store {
         requires runs { self.old.stopped ≡ false }
         requires one_disk { OfContent (D.seen disk.old) (StoreIsKept self.old) }
         ensures seals { Step (verdict result) (D.seen disk.old) (D.seen disk.new) (SealsStore self.old self.new result) }
+        // However many events are staged.
+        ensures syncs { Step (verdict result) (D.seen disk.old) (D.seen disk.new) (SyncsAtMost 2) }
         ensures sealed { OnOk result (HasSealed self.old.records.journal self.new.records.journal) }
         ensures runs { OnOk result (self.new.stopped ≡ false) }
         ensures stops { OnErr result (self.new.stopped ≡ true) }

@@ -1,12 +1,12 @@
 // Staging the drop of a stream.
-ghost use Rattle.std.specs.Prelude.{◌≡◌, [], ◌∷◌, ◌++◌, map, true, IfOk, IsTrue, OnOk};
+ghost use Rattle.std.specs.Prelude.{◌≡◌, [], ◌+◌, ◌∷◌, ◌++◌, length, map, true, IfOk, IsTrue, OnOk};
 ghost use Rattle.ss_outside.specs.Disk.{OfContent};
 ghost use Rattle.ss_outside.specs.Step.{Step};
 ghost use Rattle.ss_outside.specs.Verdict.{verdict};
 ghost use Rattle.ss_journal.specs.Kept.{IsSettled};
 ghost use Rattle.ss_records.specs.Kept.{AreKept};
 ghost use Rattle.ss_codec.specs.Record.{is_valid};
-ghost use Rattle.ss_store.specs.Calls.{StaysWithin};
+ghost use Rattle.ss_store.specs.Calls.{StaysWithin, SyncsToStage};
 ghost use Rattle.ss_store.specs.Changing.{Makes};
 ghost use Rattle.ss_store.specs.Dropping.{StagesDrop, dropped_record, slots_in_turn};
 ghost use Rattle.ss_store.specs.Slots.{AreSomeLive, LiveSlotsGo};
@@ -108,6 +108,7 @@ fn stage_doomed<D: Disk>(
     ensures live { OnOk result (LiveSlotsGo slots.now [] records.old.live records.new.live) }
     ensures extent { OnOk result (records.new.journal.extent ≡ records.old.journal.extent) }
     ensures within { Step (verdict result) (D.seen disk.old) (D.seen disk.new) (StaysWithin 0 records.old records.new result) }
+    ensures syncs { Step (verdict result) (D.seen disk.old) (D.seen disk.new) (SyncsToStage (length slots.now + 1) records.old records.new result) }
 {
     stage_replaced(records, disk, part.slot, &record_of(part))?;
     stage_clearing(records, disk, slots)
@@ -137,6 +138,8 @@ impl Store {
         ensures applies { Applies (Drop name.now) self.old self.new (D.seen disk.old) (D.seen disk.new) result }
         ensures within { Between (D.seen disk.old) (D.seen disk.new)
             (StaysWithin (records_in self.old + 1) self.old.records self.new.records result) }
+        ensures syncs { Between (D.seen disk.old) (D.seen disk.new)
+            (SyncsToStage (records_in self.old + 2) self.old.records self.new.records result) }
         ensures running { result ≢ Err ApplyError.Stopped }
         ensures uncalled { IfUndone (verdict_of_apply result) (disk.new ≡ disk.old) }
     {

@@ -45,7 +45,7 @@ impl Store {
     ghost use Rattle.ss_recover.specs.Held.{slots_held};
     ghost use Rattle.ss_store.specs.Admitted.{IsMarker};
     ghost use Rattle.ss_store.specs.Applied.{Applies};
-    ghost use Rattle.ss_store.specs.Calls.{StaysWithin};
+    ghost use Rattle.ss_store.specs.Calls.{StaysWithin, SyncsToStage};
     ghost use Rattle.ss_store.specs.Errors.{verdict_of_apply};
     ghost use Rattle.ss_store.specs.Extents.{records_in};
     ghost use Rattle.ss_store.specs.Kept.{StoreIsKept, has_all_slots, of_part, refuses_held, without_spare};
@@ -111,6 +111,8 @@ impl Store {
         ensures failed { OnFailed (verdict_of_apply result) (map without_spare self.new.streams ≡ map without_spare self.old.streams) }
         ensures within { Between (D.seen disk.old) (D.seen disk.new)
             (StaysWithin (records_in self.old + 1) self.old.records self.new.records result) }
+        ensures syncs { Between (D.seen disk.old) (D.seen disk.new)
+            (SyncsToStage (records_in self.old + 2) self.old.records self.new.records result) }
         ensures running { result ≢ Err ApplyError.Stopped }
         ensures uncalled { IfUndone (verdict_of_apply result) (disk.new ≡ disk.old) }
     {

@@ -14,6 +14,7 @@ use Rattle.ss_store.proofs.LiveSlots.{AreSomeLive-go}
 use Rattle.ss_store.proofs.Sealings.{step-valued}
 use Rattle.ss_store.proofs.ShownCalls.{TurnsShown-failed}
 use Rattle.ss_store.proofs.Wholes.{HoldsUntil-then, KeepsWhole-then}
+use Rattle.ss_store.proofs.Syncs.{SyncsToStage-failed, SyncsToStage-then}
 use Rattle.ss_store.proofs.Within.{StaysWithin-failed, StaysWithin-then}
 use Rattle.ss_store.proofs.appending.append_value.Goals as goal
 
@@ -73,3 +74,13 @@ pub returns-clause-within : goal.returns-clause-within
 returns-clause-within g c =
     step-next c.in_ok-put_value.ensures.within c.stage_joins.ensures.within (λ told then first second.
     StaysWithin-then {first = c.args.slot + 1} {second = 0} _ (g.met.D.Disk.knows_now c.put_value.new.disk then) (omega arith) (omega arith) first second)
+
+pub returns-in_err-put_value-clause-syncs : goal.returns-in_err-put_value-clause-syncs
+returns-in_err-put_value-clause-syncs g c =
+    let p = err_from_is_err_and c.from_residual.result c.from_residual.ensures.1 in
+    rw (p.1, p.2) (step-as c.in_err-put_value.ensures.syncs (λ put. SyncsToStage-failed _ refl (omega arith) put))
+
+pub returns-clause-syncs : goal.returns-clause-syncs
+returns-clause-syncs g c =
+    step-next c.in_ok-put_value.ensures.syncs c.stage_joins.ensures.syncs (λ told then first second.
+    SyncsToStage-then _ (omega (arith, c.in_ok-put_value.ensures.one_more)) first second)

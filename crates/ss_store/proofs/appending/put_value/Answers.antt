@@ -24,6 +24,7 @@ use Rattle.ss_store.proofs.Additions.{IsAdded, IsOrdered-added, LiveSlotsGo-adde
 use Rattle.ss_store.proofs.KeyedWindows.{FollowUpTo-take, FollowUpTo-tiles, NoPairFits-entries, take-all}
 use Rattle.ss_store.proofs.Rising.{IsTimed-added}
 use Rattle.ss_store.proofs.ShownCalls.{TurnsShown-answers, TurnsShown-failed}
+use Rattle.ss_store.proofs.Syncs.{SyncsToStage-answers, SyncsToStage-failed}
 use Rattle.ss_store.proofs.Within.{StaysWithin-answers, StaysWithin-failed}
 use Rattle.ss_store.proofs.appending.put_value.Goals as goal
 
@@ -204,3 +205,11 @@ returns-in_err-stage_record-clause-within g c =
 
 pub returns-clause-within : goal.returns-clause-within
 returns-clause-within g c = step-as c.in_ok-stage_record.ensures.within (λ made. StaysWithin-answers _ (omega arith) made)
+
+pub returns-in_err-stage_record-clause-syncs : goal.returns-in_err-stage_record-clause-syncs
+returns-in_err-stage_record-clause-syncs g c =
+    let p = err_from_is_err_and c.from_residual.result c.from_residual.ensures.1 in
+    rw (p.1, p.2) (step-as c.in_err-stage_record.ensures.syncs (λ made. SyncsToStage-failed _ refl (omega arith) made))
+
+pub returns-clause-syncs : goal.returns-clause-syncs
+returns-clause-syncs g c = step-as c.in_ok-stage_record.ensures.syncs (λ made. SyncsToStage-answers _ (omega arith) made)

@@ -6,6 +6,7 @@ use Rattle.ss_outside.proofs.StepLemmas.{step-as, step-none}
 use Rattle.ss_journal.proofs.StepLemmas.{after-step, step-next}
 use Rattle.ss_store.specs.Slots.{LiveSlotsGo}
 use Rattle.ss_store.proofs.Clearings.{AreSomeLive-next, LiveSlotsGo-more, StagesClearing-all, StagesClearing-failed, StagesFirst-more, StagesFirst-none}
+use Rattle.ss_store.proofs.Syncs.{SyncsToStage-answers, SyncsToStage-failed, SyncsToStage-none, SyncsToStage-then}
 use Rattle.ss_store.proofs.Within.{StaysWithin-failed, StaysWithin-none, StaysWithin-then}
 use Rattle.ss_store.proofs.clearing.stage_clearing.Goals as goal
 
@@ -16,6 +17,7 @@ loop-slot-init g c = record {
     kept = c.requires.one_disk told;
   });
   within = step-none (g.D.Disk.seen c.args.disk.now) _ (λ told. StaysWithin-none (Ok tt) (g.met.D.Disk.knows_now c.args.disk.now told) refl);
+  syncs = step-none (g.D.Disk.seen c.args.disk.now) _ (λ told. SyncsToStage-none (Ok tt) refl);
   settled = c.requires.settled;
   live = λ others is. is;
   extent = refl;
@@ -43,6 +45,7 @@ loop-slot-preserved g c =
       });
       within = step-next before.within after.within (λ told then first second.
           StaysWithin-then {first = 0} {second = 0} (Ok tt) (g.met.D.Disk.knows_now c.loop-slot.disk then) (omega arith) (omega arith) first second);
+      syncs = step-next before.syncs after.syncs (λ told then first second. SyncsToStage-then {second = 1} (Ok tt) (omega arith) first second);
       settled = after.settled;
       live = rw add-one
           (LiveSlotsGo-more c.loop-slot.slot-index slots c.args.records.now.live c.loop-slot.records.live c.stage_zeros.new.records.live
@@ -84,3 +87,13 @@ returns-in_err-stage_zeros-clause-within g c =
 
 pub returns-clause-within : goal.returns-clause-within
 returns-clause-within g c = c.loop-slot.invariant.within
+
+pub returns-in_err-stage_zeros-clause-syncs : goal.returns-in_err-stage_zeros-clause-syncs
+returns-in_err-stage_zeros-clause-syncs g c =
+    let p = err_from_is_err_and c.from_residual.result c.from_residual.ensures.1 in
+    rw (p.1, p.2)
+    (step-next c.loop-slot.invariant.syncs c.in_err-stage_zeros.ensures.syncs (λ told then first second.
+    SyncsToStage-then {second = 1} _ (omega (arith, c.loop-slot-test.true)) first (SyncsToStage-failed _ refl (omega arith) second)))
+
+pub returns-clause-syncs : goal.returns-clause-syncs
+returns-clause-syncs g c = step-as c.loop-slot.invariant.syncs (λ staged. SyncsToStage-answers _ (omega arith) staged)

@@ -24,6 +24,7 @@ use Rattle.ss_store.proofs.Rising.{IsTimed-joined, IsTimed-seam, TimesRise-any, 
 use Rattle.ss_store.proofs.ShownCalls.{TurnsShown-answers, TurnsShown-failed}
 use Rattle.ss_store.proofs.Spans.{TileFrom-joined, values_held-joined}
 use Rattle.ss_query.specs.declared.read_error.ReadError.{ReadError}
+use Rattle.ss_store.proofs.Syncs.{SyncsToStage-answers, SyncsToStage-failed, SyncsToStage-reads, SyncsToStage-then}
 use Rattle.ss_store.proofs.Within.{StaysWithin-answers, StaysWithin-failed, StaysWithin-reads, StaysWithin-then}
 use Rattle.ss_store.proofs.closing.join.Goals as goal
 
@@ -259,3 +260,24 @@ returns-clause-within g c =
     (StaysWithin-reads {T = Unit {0}} {E = ReadError} (Ok tt) (g.met.D.Disk.knows_now c.args.disk.now told) read.reads
     c.in_ok-read_joined.ensures.journal)
     (StaysWithin-answers _ (omega arith) staged))
+
+pub returns-in_err-read_joined-clause-syncs : goal.returns-in_err-read_joined-clause-syncs
+returns-in_err-read_joined-clause-syncs g c =
+    let p = err_from_is_err_and c.from_residual.result c.from_residual.ensures.1 in
+    rw (p.1, p.2) (step-from c.in_err-read_joined.ensures.joined (λ told read. SyncsToStage-reads _ read.reads tt))
+
+pub returns-in_err-stage_two-clause-syncs : goal.returns-in_err-stage_two-clause-syncs
+returns-in_err-stage_two-clause-syncs g c =
+    let p = err_from_is_err_and c.from_residual-in_err-stage_two.result c.from_residual-in_err-stage_two.ensures.1 in
+    rw (p.1, p.2)
+    (step-next c.in_ok-read_joined.ensures.joined c.in_err-stage_two.ensures.syncs (λ told told_read read staged.
+    SyncsToStage-then {first = 0} {second = 1} _ (omega arith)
+    (SyncsToStage-reads {T = Unit {0}} {E = ReadError} (Ok tt) read.reads c.in_ok-read_joined.ensures.journal)
+    (SyncsToStage-failed _ refl (omega arith) staged)))
+
+pub returns-clause-syncs : goal.returns-clause-syncs
+returns-clause-syncs g c =
+    step-next c.in_ok-read_joined.ensures.joined c.in_ok-stage_two.ensures.syncs (λ told told_read read staged.
+    SyncsToStage-then {first = 0} {second = 1} _ (omega arith)
+    (SyncsToStage-reads {T = Unit {0}} {E = ReadError} (Ok tt) read.reads c.in_ok-read_joined.ensures.journal)
+    (SyncsToStage-answers _ (omega arith) staged))

@@ -14,6 +14,7 @@ use Rattle.ss_store.proofs.Closings.{IsSameStream-more, TurnsShown-closes}
 use Rattle.ss_store.proofs.LiveSlots.{AreSomeLive-go}
 use Rattle.ss_store.proofs.ShownCalls.{TurnsShown-failed}
 use Rattle.ss_store.proofs.Wholes.{HoldsUntil-then, JoinsWindows-more, JoinsWindows-none, KeepsWhole-none, KeepsWhole-then}
+use Rattle.ss_store.proofs.Syncs.{SyncsToStage-answers, SyncsToStage-failed, SyncsToStage-none, SyncsToStage-then}
 use Rattle.ss_store.proofs.Within.{StaysWithin-failed, StaysWithin-none, StaysWithin-then}
 use Rattle.ss_store.proofs.closing.stage_joins.Goals as goal
 
@@ -23,6 +24,8 @@ loop-pair-init g c = (
     step = step-none (g.D.Disk.seen c.args.disk.now) _ (λ told.
         JoinsWindows-none c.args.part.now c.args.records.now _ (g.met.D.Disk.knows_now c.args.disk.now told) (c.requires.one_disk told));
     within = step-none (g.D.Disk.seen c.args.disk.now) _ (λ told. StaysWithin-none (Ok tt) (g.met.D.Disk.knows_now c.args.disk.now told) refl);
+    syncs = step-none (g.D.Disk.seen c.args.disk.now) _ (λ told. SyncsToStage-none (Ok tt) refl);
+    fewer = omega arith;
     same = record { id = refl; name = refl; target = refl; slot = refl; landmarks = refl };
     whole = KeepsWhole-none c.args.part.now c.args.records.now c.requires.ordered c.requires.settled;
     holds = record { values = refl; last_time = refl };
@@ -67,6 +70,9 @@ loop-pair-preserved g c =
             JoinsWindows-more _ (g.met.D.Disk.knows_now c.loop-pair.disk then) first second);
         within = step-next before.within after.within (λ told then first second.
             StaysWithin-then {first = 0} {second = 0} (Ok tt) (g.met.D.Disk.knows_now c.loop-pair.disk then) (omega arith) (omega arith) first second);
+        syncs = step-next before.syncs after.syncs (λ told then first second.
+            SyncsToStage-then (Ok tt) (omega (arith, before.fewer, after.fewer)) first second);
+        fewer = omega (arith, before.fewer, after.fewer);
         same = IsSameStream-more c.args.part.now c.loop-pair.part c.join.new.part before.same c.join.ensures.same;
         whole = KeepsWhole-then before.whole after.whole;
         holds = HoldsUntil-then before.holds after.holds;
@@ -145,3 +151,13 @@ returns-in_err-join-clause-within g c =
 
 pub returns-clause-within : goal.returns-clause-within
 returns-clause-within g c = c.loop-pair.invariant.0.within
+
+pub returns-in_err-join-clause-syncs : goal.returns-in_err-join-clause-syncs
+returns-in_err-join-clause-syncs g c =
+    let p = err_from_is_err_and c.from_residual.result c.from_residual.ensures.1 in
+    rw (p.1, p.2)
+    (step-next c.loop-pair.invariant.0.syncs c.in_err-join.ensures.syncs (λ told then first second.
+    SyncsToStage-then _ (omega arith) first (SyncsToStage-failed _ refl (omega arith) second)))
+
+pub returns-clause-syncs : goal.returns-clause-syncs
+returns-clause-syncs g c = step-as c.loop-pair.invariant.0.syncs (λ staged. SyncsToStage-answers _ (omega arith) staged)

@@ -16,6 +16,7 @@ use Rattle.ss_store.proofs.MarkedCalls.{AreSomeLive-last, FitsMark-valid, IsAddi
 use Rattle.ss_store.proofs.MarkedCalls.{LiveSlotsGo-mark_closed, Turns-added, Turns-closed, marked_part, slots_used-adding}
 use Rattle.ss_store.proofs.OpenMarks.{AllEndBy-after}
 use Rattle.ss_store.proofs.Rising.{no-earlier, rise-later}
+use Rattle.ss_store.proofs.Syncs.{SyncsToStage-answers, SyncsToStage-failed}
 use Rattle.ss_store.proofs.Within.{StaysWithin-answers, StaysWithin-failed}
 use Rattle.ss_store.proofs.marking.put_mark.Goals as goal
 use Rattle.ss_store.proofs.marking.put_mark.Goals.{in-Open+in_ok-stage_record-in-Open, in-Close+in_ok-stage_replaced-in-Close}
@@ -210,4 +211,25 @@ returns-clause-within g c =
       | in-Close+in_ok-stage_replaced-in-Close w ↦
           rw (w.records-is, w.disk-is)
           (step-as w.in_ok-stage_replaced-in-Close.ensures.within (λ made. StaysWithin-answers _ (omega arith) made))
+    ]
+
+pub returns-in_err-stage_record-in-Open-clause-syncs : goal.returns-in_err-stage_record-in-Open-clause-syncs
+returns-in_err-stage_record-in-Open-clause-syncs g c =
+    let p = err_from_is_err_and c.from_residual.result c.from_residual.ensures.1 in
+    rw (p.1, p.2) (step-as c.in_err-stage_record-in-Open.ensures.syncs (λ made. SyncsToStage-failed _ refl (omega arith) made))
+
+pub returns-in_err-stage_replaced-in-Close-clause-syncs : goal.returns-in_err-stage_replaced-in-Close-clause-syncs
+returns-in_err-stage_replaced-in-Close-clause-syncs g c =
+    let p = err_from_is_err_and c.from_residual-in_err-stage_replaced-in-Close.result c.from_residual-in_err-stage_replaced-in-Close.ensures.1 in
+    rw (p.1, p.2) (step-as c.in_err-stage_replaced-in-Close.ensures.syncs (λ made. SyncsToStage-failed _ refl (omega arith) made))
+
+pub returns-clause-syncs : goal.returns-clause-syncs
+returns-clause-syncs g c =
+    elim c.match-mark.branch [
+      | in-Open+in_ok-stage_record-in-Open w ↦
+          rw (w.records-is, w.disk-is)
+          (step-as w.in_ok-stage_record-in-Open.ensures.syncs (λ made. SyncsToStage-answers _ (omega arith) made))
+      | in-Close+in_ok-stage_replaced-in-Close w ↦
+          rw (w.records-is, w.disk-is)
+          (step-as w.in_ok-stage_replaced-in-Close.ensures.syncs (λ made. SyncsToStage-answers _ (omega arith) made))
     ]

@@ -1,4 +1,4 @@
-use Rattle.std.proofs.Common.{IsTrue, List, Option, Some, [], ap₂, arith, refl, subst, sym, ◌∷◌, ◌<◌, ◌∙◌, ℕ}
+use Rattle.std.proofs.Common.{IsTrue, List, Option, Some, [], ap₂, arith, refl, subst, sym, ◌∷◌, ◌<◌, ◌∙◌, ℕ, ap}
 use Rattle.std.proofs.lemmas.Result.{err_from_is_err_and}
 use Rattle.ss_journal.specs.Puts.{IsTxn, extent_after, slots_fit}
 use Rattle.ss_journal.specs.Redo.{StandsFor, changed}
@@ -12,6 +12,7 @@ use Rattle.ss_store.specs.Slots.{record_put}
 use Rattle.ss_store.proofs.Changes.{IsTxn-one, extent_after-one, live_after-again, moves-replaced, slots_fit-one}
 use Rattle.ss_store.proofs.LiveSlots.{IsOneLive-permutation}
 use Rattle.ss_store.proofs.ShownCalls.{StandsFor-of_map, TurnsShown-changed, TurnsShown-failed, TurnsShown-kept, TurnsShown-keeps, TurnsShown-staged}
+use Rattle.ss_store.proofs.Syncs.{SyncsToStage-no_room, SyncsToStage-staged}
 use Rattle.ss_store.proofs.Within.{StaysWithin-failed, StaysWithin-kept, StaysWithin-staged}
 use Rattle.ss_store.proofs.writing.stage_replaced.Goals as goal
 
@@ -101,3 +102,16 @@ pub returns-clause-within : goal.returns-clause-within
 returns-clause-within g c =
     step-from c.in_ok-make_room.ensures.makes_room (λ told made.
     StaysWithin-staged c.make_room.new.self _ (c.requires.one_disk told) ((c.stage.ensures.stages _).kept made.kept) (omega (arith, returns-clause-extent g c)) made.keeps_shown)
+
+pub returns-in_err-make_room-clause-syncs : goal.returns-in_err-make_room-clause-syncs
+returns-in_err-make_room-clause-syncs g c =
+    let p = err_from_is_err_and c.from_residual.result c.from_residual.ensures.1 in
+    rw (p.1, p.2)
+    (step-from c.in_err-make_room.ensures.syncs (λ told room.
+    SyncsToStage-no_room {is = c.make_room.new.self} _ refl room (λ free. ap (λ d. (g.D.Disk.seen d).told.syncs) (c.make_room.ensures.idle free).0)))
+
+pub returns-clause-syncs : goal.returns-clause-syncs
+returns-clause-syncs g c =
+    step-from c.in_ok-make_room.ensures.syncs (λ told room.
+    SyncsToStage-staged c.make_room.new.self _ room (λ free. ap (λ d. (g.D.Disk.seen d).told.syncs) (c.make_room.ensures.idle free).0)
+    c.in_ok-make_room.ensures.made.in_use c.stage.ensures.staged.in_use)

@@ -1,4 +1,5 @@
 use Rattle.std.proofs.Common.{sym, subst}
+use Rattle.ss_journal.specs.Calls.{SyncsForRoom}
 use Rattle.ss_journal.specs.Kept.{IsKept}
 use Rattle.ss_journal.proofs.StepLemmas.{step-from}
 use Rattle.ss_records.specs.Kept.{RecordsState}
@@ -20,3 +21,13 @@ returns-clause-makes_room g c =
     step-from c.in_default.ensures.makes_room (λ told step.
     makes-room-for c.self.inside.journal c.self.inside.live c.self.inside.pages c.args.self.now c.self.view_is _ (c.requires.one_disk told)
     _ c.make_room.new.self _ _ step)
+
+pub returns-in-Err-clause-syncs : goal.returns-in-Err-clause-syncs
+returns-in-Err-clause-syncs g c =
+    step-from c.in-Err.ensures.syncs (λ told few. subst (λ (records : RecordsState).
+    SyncsForRoom records.journal (g.D.Disk.seen c.args.disk.now).told (g.D.Disk.seen c.make_room.new.disk).told) c.self.view_is few)
+
+pub returns-clause-syncs : goal.returns-clause-syncs
+returns-clause-syncs g c =
+    step-from c.in_default.ensures.syncs (λ told few. subst (λ (records : RecordsState).
+    SyncsForRoom records.journal (g.D.Disk.seen c.args.disk.now).told (g.D.Disk.seen c.make_room.new.disk).told) c.self.view_is few)

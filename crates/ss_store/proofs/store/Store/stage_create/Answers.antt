@@ -9,6 +9,7 @@ use Rattle.ss_store.proofs.IndexedStreams.{AllZip-more}
 use Rattle.ss_store.proofs.Applying.{Applies-refused, Applies-starved}
 use Rattle.ss_store.proofs.Created.{IsFreshPart-made}
 use Rattle.ss_store.proofs.Creating.{applies-created, applies-unwritten, creating, sound-created, sound-unwritten}
+use Rattle.ss_store.proofs.Syncs.{SyncsToStage-answers, SyncsToStage-failed, SyncsToStage-none}
 use Rattle.ss_store.proofs.Within.{StaysWithin-answers, StaysWithin-failed, StaysWithin-none}
 use Rattle.ss_store.specs.Extents.{records_in}
 use Rattle.ss_store.proofs.store.Store.stage_create.Goals as goal
@@ -114,3 +115,17 @@ pub returns-in-Err-stage_record-clause-within : goal.returns-in-Err-stage_record
 returns-in-Err-stage_record-clause-within g c told =
     let low : c.in-Ok.new.2 + 1 ≤ records_in c.args.self.now + 1 = omega (arith, c.in-Ok.ensures.new.low) in
     rw (← c.self.view_is) (StaysWithin-failed _ refl (rw (← c.self.view_is) at low) (c.in-Err-stage_record.ensures.within.told told))
+
+pub returns-in-Err-clause-syncs : goal.returns-in-Err-clause-syncs
+returns-in-Err-clause-syncs g c told = SyncsToStage-none _ tt
+
+pub returns-in-Err-grow-clause-syncs : goal.returns-in-Err-grow-clause-syncs
+returns-in-Err-grow-clause-syncs g c told = SyncsToStage-none _ tt
+
+pub returns-in-Ok-stage_record-clause-syncs : goal.returns-in-Ok-stage_record-clause-syncs
+returns-in-Ok-stage_record-clause-syncs g c told =
+    rw (← c.self.view_is) (SyncsToStage-answers _ (omega arith) (c.in-Ok-stage_record.ensures.syncs.told told))
+
+pub returns-in-Err-stage_record-clause-syncs : goal.returns-in-Err-stage_record-clause-syncs
+returns-in-Err-stage_record-clause-syncs g c told =
+    rw (← c.self.view_is) (SyncsToStage-failed _ refl (omega arith) (c.in-Err-stage_record.ensures.syncs.told told))

@@ -14,6 +14,8 @@ use Rattle.ss_store.proofs.Dropped.{applies-dropped, applies-undropped, dropping
 use Rattle.ss_store.proofs.Named.{IsAtPlace, IsAtPlace-listed, IsListed-catalog, is_some-listed}
 use Rattle.ss_store.proofs.Refusals.{none_is_some, refuses_held-dropped, refuses_held-undropped}
 use Rattle.ss_store.proofs.Removed.{AllZip-remove}
+use Rattle.ss_store.proofs.LiveCounts.{few-slots, length-slots_in_turn}
+use Rattle.ss_store.proofs.Syncs.{SyncsToStage-answers, SyncsToStage-failed, SyncsToStage-none}
 use Rattle.ss_store.proofs.Within.{StaysWithin-answers, StaysWithin-failed, StaysWithin-none}
 use Rattle.ss_store.specs.Extents.{records_in}
 use Rattle.ss_store.proofs.store.Store.stage_drop.Goals as goal
@@ -186,3 +188,39 @@ pub returns-clause-within : goal.returns-clause-within
 returns-clause-within g c told =
     let low : 0 ≤ records_in c.args.self.now + 1 = omega arith in
     rw (← c.self.view_is) (StaysWithin-failed _ refl (rw (← c.self.view_is) at low) (c.in-Err-stage_doomed.ensures.within.told told))
+
+pub returns-in_default-clause-syncs : goal.returns-in_default-clause-syncs
+returns-in_default-clause-syncs g c told = SyncsToStage-none _ tt
+
+pub returns-in-Err-clause-syncs : goal.returns-in-Err-clause-syncs
+returns-in-Err-clause-syncs g c told = SyncsToStage-none _ tt
+
+pub returns-in-Ok-stage_doomed-clause-syncs : goal.returns-in-Ok-stage_doomed-clause-syncs
+returns-in-Ok-stage_doomed-clause-syncs g c told =
+    let parts = c.self.inside.streams.items in
+    let part = c.remove-part.result in
+    let place = c.place_of-place.result in
+    let found = IsListed-catalog c.args.name.now c.in-Some.id parts c.self.inside.catalog c.self.invariant.0.numbers c.self.invariant.0.listed cc in
+    let inside : place < length parts = rw (← c.deref.ensures.value) c.place_of-place.ensures.inside in
+    let here : slice_get parts place ≡ part_numbered c.in-Some.id.0 parts = rw (← c.deref.ensures.value) c.place_of-place.ensures.at in
+    let read : IsAtPlace c.args.name.now place parts c.index.result.now = IsAtPlace-listed c.args.name.now c.in-Some.id parts place c.index.result.now found
+    here inside c.index.ensures in
+    let few = few-slots parts place c.index.result.now read.at in
+    let slots = ap length (c.deref-2.ensures.value ∙ c.in-Ok.ensures) in
+    rw (← c.self.view_is)
+    (SyncsToStage-answers _ (omega (arith, few, slots, length-slots_in_turn c.index.result.now)) (c.in-Ok-stage_doomed.ensures.syncs.told told))
+
+pub returns-clause-syncs : goal.returns-clause-syncs
+returns-clause-syncs g c told =
+    let parts = c.self.inside.streams.items in
+    let part = c.remove-part.result in
+    let place = c.place_of-place.result in
+    let found = IsListed-catalog c.args.name.now c.in-Some.id parts c.self.inside.catalog c.self.invariant.0.numbers c.self.invariant.0.listed cc in
+    let inside : place < length parts = rw (← c.deref.ensures.value) c.place_of-place.ensures.inside in
+    let here : slice_get parts place ≡ part_numbered c.in-Some.id.0 parts = rw (← c.deref.ensures.value) c.place_of-place.ensures.at in
+    let read : IsAtPlace c.args.name.now place parts c.index.result.now = IsAtPlace-listed c.args.name.now c.in-Some.id parts place c.index.result.now found
+    here inside c.index.ensures in
+    let few = few-slots parts place c.index.result.now read.at in
+    let slots = ap length (c.deref-2.ensures.value ∙ c.in-Ok.ensures) in
+    rw (← c.self.view_is)
+    (SyncsToStage-failed _ refl (omega (arith, few, slots, length-slots_in_turn c.index.result.now)) (c.in-Err-stage_doomed.ensures.syncs.told told))

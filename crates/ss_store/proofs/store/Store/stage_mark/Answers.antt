@@ -6,6 +6,7 @@ use Rattle.ss_store.proofs.Applying.{Applies-refused, Applies-starved}
 use Rattle.ss_store.proofs.MarkTaking.{applies-taken, applies-untaken, can-mark, live-spared, same-spared, same-untaken, sound-spared, sound-stopped}
 use Rattle.ss_store.proofs.MarkTaking.{sound-taken}
 use Rattle.ss_store.proofs.MarkTaking.{stands-spared, taking-mark}
+use Rattle.ss_store.proofs.Syncs.{SyncsToStage-answers, SyncsToStage-failed, SyncsToStage-none}
 use Rattle.ss_store.proofs.Within.{StaysWithin-answers, StaysWithin-failed, StaysWithin-none}
 use Rattle.ss_store.specs.Extents.{records_in}
 use Rattle.ss_store.proofs.store.Store.stage_mark.Goals as goal
@@ -119,3 +120,17 @@ pub returns-in-Err-put_mark-clause-within : goal.returns-in-Err-put_mark-clause-
 returns-in-Err-put_mark-clause-within g c told =
     let low : slots_used c.args.what c.in-Ok.marker.1 ≤ records_in c.args.self.now + 1 = c.in-Ok.ensures.marker.low in
     rw (← c.self.view_is) (StaysWithin-failed _ refl (rw (← c.self.view_is) at low) (c.in-Err-put_mark.ensures.within.told told))
+
+pub returns-in-Err-clause-syncs : goal.returns-in-Err-clause-syncs
+returns-in-Err-clause-syncs g c told = SyncsToStage-none _ tt
+
+pub returns-in-Err-reserve-clause-syncs : goal.returns-in-Err-reserve-clause-syncs
+returns-in-Err-reserve-clause-syncs g c told = SyncsToStage-none _ tt
+
+pub returns-in-Ok-put_mark-clause-syncs : goal.returns-in-Ok-put_mark-clause-syncs
+returns-in-Ok-put_mark-clause-syncs g c told =
+    rw (← c.self.view_is) (SyncsToStage-answers _ (omega arith) (c.in-Ok-put_mark.ensures.syncs.told told))
+
+pub returns-in-Err-put_mark-clause-syncs : goal.returns-in-Err-put_mark-clause-syncs
+returns-in-Err-put_mark-clause-syncs g c told =
+    rw (← c.self.view_is) (SyncsToStage-failed _ refl (omega arith) (c.in-Err-put_mark.ensures.syncs.told told))

@@ -1,4 +1,4 @@
-use Rattle.std.proofs.Common.{◌≡◌, ◌+◌, ◌≤◌, ◌<◌, ℕ, List, All, arith, refl, subst, sym, true, false, w64}
+use Rattle.std.proofs.Common.{◌≡◌, ◌+◌, ◌≤◌, ◌<◌, ℕ, List, All, arith, refl, subst, sym, true, false, w64, ap, length}
 use Rattle.ss_line.specs.declared.entry.At.{At}
 use Rattle.std.proofs.lemmas.Int.{to_z-of_z}
 use Rattle.ss_catalog.specs.declared.event.Event.TheVariants.{Value}
@@ -9,7 +9,8 @@ use Rattle.ss_store.proofs.Rising.{begin-by_last}
 use Rattle.ss_store.proofs.IndexedStreams.{AllZip-set, IsScheduled-at}
 use Rattle.ss_store.proofs.Applying.{Applies-refused, Applies-starved}
 use Rattle.ss_store.proofs.Taking.{applies-taken, applies-untaken, can-append, live-spared, same-spared, sound-spared, sound-stopped, sound-taken}
-use Rattle.ss_store.proofs.Taking.{few-taker, inside-taker, later-taker, ordered-spared, runs-taker, stands-spared, taking}
+use Rattle.ss_store.proofs.Taking.{few-records, few-taker, inside-taker, later-taker, ordered-spared, runs-taker, stands-spared, taking}
+use Rattle.ss_store.proofs.Syncs.{SyncsToStage-answers, SyncsToStage-failed, SyncsToStage-none}
 use Rattle.ss_store.proofs.Within.{StaysWithin-answers, StaysWithin-failed, StaysWithin-none}
 use Rattle.ss_store.specs.Extents.{records_in}
 use Rattle.ss_store.proofs.store.Store.stage_value.Goals as goal
@@ -147,3 +148,29 @@ pub returns-clause-within : goal.returns-clause-within
 returns-clause-within g c told =
     let low : c.in-Ok.taker.1 + 1 ≤ records_in c.args.self.now + 1 = omega (arith, c.in-Ok.ensures.taker.low) in
     rw (← c.self.view_is) (StaysWithin-failed _ refl (rw (← c.self.view_is) at low) (c.in-Err-append_value.ensures.within.told told))
+
+pub returns-in-Err-clause-syncs : goal.returns-in-Err-clause-syncs
+returns-in-Err-clause-syncs g c told = SyncsToStage-none _ tt
+
+pub returns-in-Err-reserve_window-clause-syncs : goal.returns-in-Err-reserve_window-clause-syncs
+returns-in-Err-reserve_window-clause-syncs g c told = SyncsToStage-none _ tt
+
+pub returns-in-Ok-append_value-clause-syncs : goal.returns-in-Ok-append_value-clause-syncs
+returns-in-Ok-append_value-clause-syncs g c told =
+    let is = taking {store = record { streams = c.self.inside.streams.items; records = c.self.inside.records; stopped = c.self.inside.stopped }}
+    (g.D.Disk.seen c.args.disk.now) c.self.view_is c.requires.one_disk c.self.invariant.0 c.requires.runs c.in-Ok.ensures.taker
+    (c.in-Ok.ensures.accepted c.args.v) (c.requires.in_time, c.ranges.v)
+    c.index_mut-stream.ensures.value c.reserve_window.ensures.entries c.reserve_window.ensures.grows in
+    let few = few-records is in
+    rw (← c.self.view_is)
+    (SyncsToStage-answers _ (omega (arith, few, ap length c.reserve_window.ensures.entries)) (c.in-Ok-append_value.ensures.syncs.told told))
+
+pub returns-clause-syncs : goal.returns-clause-syncs
+returns-clause-syncs g c told =
+    let is = taking {store = record { streams = c.self.inside.streams.items; records = c.self.inside.records; stopped = c.self.inside.stopped }}
+    (g.D.Disk.seen c.args.disk.now) c.self.view_is c.requires.one_disk c.self.invariant.0 c.requires.runs c.in-Ok.ensures.taker
+    (c.in-Ok.ensures.accepted c.args.v) (c.requires.in_time, c.ranges.v)
+    c.index_mut-stream.ensures.value c.reserve_window.ensures.entries c.reserve_window.ensures.grows in
+    let few = few-records is in
+    rw (← c.self.view_is)
+    (SyncsToStage-failed _ refl (omega (arith, few, ap length c.reserve_window.ensures.entries)) (c.in-Err-append_value.ensures.syncs.told told))

@@ -4,6 +4,7 @@ use Rattle.ss_codec.specs.Record.{is_valid}
 use Rattle.ss_journal.proofs.StepLemmas.{after-step, step-from, step-next}
 use Rattle.ss_store.specs.Slots.{AreSomeLive}
 use Rattle.ss_store.proofs.Dropping.{TurnsShown-dropped, TurnsShown-undropped, own-live}
+use Rattle.ss_store.proofs.Syncs.{SyncsToStage-failed, SyncsToStage-then}
 use Rattle.ss_store.proofs.Within.{StaysWithin-failed, StaysWithin-then}
 use Rattle.ss_store.proofs.store.drop.stage_doomed.Goals as goal
 
@@ -57,3 +58,13 @@ pub returns-clause-within : goal.returns-clause-within
 returns-clause-within g c =
     step-next c.in_ok-stage_replaced.ensures.within c.stage_clearing.ensures.within (λ told then first second.
     StaysWithin-then {first = 0} {second = 0} _ (g.met.D.Disk.knows_now c.stage_replaced.new.disk then) (omega arith) (omega arith) first second)
+
+pub returns-in_err-stage_replaced-clause-syncs : goal.returns-in_err-stage_replaced-clause-syncs
+returns-in_err-stage_replaced-clause-syncs g c =
+    let p = err_from_is_err_and c.from_residual.result c.from_residual.ensures.1 in
+    rw (p.1, p.2) (step-from c.in_err-stage_replaced.ensures.syncs (λ told made. SyncsToStage-failed _ refl (omega arith) made))
+
+pub returns-clause-syncs : goal.returns-clause-syncs
+returns-clause-syncs g c =
+    step-next c.in_ok-stage_replaced.ensures.syncs c.stage_clearing.ensures.syncs (λ told then first second.
+    SyncsToStage-then _ (omega arith) first second)
