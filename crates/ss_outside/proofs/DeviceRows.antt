@@ -1,9 +1,9 @@
--- Rows that pin what writes make of a content, what sources move and sinks append, and which calls of a disk in memory fail.
-use Rattle.std.proofs.Common.{◌≡◌, inl, inr, ℕ, ◌≤◌, List, [], ◌∷◌, take, drop, length, Option, Some, None, Ok, Err, refl, lit≤, arith}
+-- Rows that pin what writes make of a content, what sources move and take and sinks append, and which calls of a disk in memory fail.
+use Rattle.std.proofs.Common.{◌≡◌, inl, inr, ℕ, ◌-◌, ◌^◌, ◌≤◌, List, [], ◌∷◌, take, drop, length, Option, Some, None, Ok, Err, refl, lit≤, arith}
 use Rattle.ss_outside.specs.Disk.{IsOutside, overwrite}
 use Rattle.ss_outside.specs.MemDisk.{IsListed, MemDiskState, made}
 use Rattle.ss_outside.specs.Sink.{Appends}
-use Rattle.ss_outside.specs.Source.{Moves}
+use Rattle.ss_outside.specs.Source.{Moves, RoseBy, Takes}
 use Rattle.ss_outside.specs.declared.source.Failed.{Failed}
 
 -- bytes are written over what is there, and past the end
@@ -56,6 +56,33 @@ module _ (left into : List ℕ) (after : Option (List ℕ)) (k : ℕ) where
 
   Moves-None : Moves None after (Ok k) into → after ≡ None
   Moves-None moves = moves
+
+-- from 3 a count rose by 2 where it is 5, and neither below nor above
+RoseBy-two : RoseBy 2 3 5
+RoseBy-two = (lit≤ tt, lit≤ tt)
+
+RoseBy-fewer : RoseBy 2 3 4 → ⊥
+RoseBy-fewer rose = omega (arith, rose.0)
+
+RoseBy-more : RoseBy 2 3 6 → ⊥
+RoseBy-more rose = omega (arith, rose.1)
+
+-- at its greatest it stands still, and from one below it has to reach it
+RoseBy-greatest : RoseBy 2 (2 ^ 64 - 2) (2 ^ 64 - 1)
+RoseBy-greatest = (lit≤ tt, lit≤ tt)
+
+RoseBy-below_greatest : RoseBy 2 (2 ^ 64 - 2) (2 ^ 64 - 2) → ⊥
+RoseBy-below_greatest rose = omega (arith, rose.0)
+
+-- a read takes what it moves, and none where it fails
+Takes-two : Takes 3 5 (Ok 2)
+Takes-two = RoseBy-two
+
+Takes-Ok : (before now k : ℕ) → Takes before now (Ok k) → RoseBy k before now
+Takes-Ok before now k takes = takes
+
+Takes-Err : (e : Failed) (now : ℕ) → Takes 3 now (Err e) → now ≡ 3
+Takes-Err e now takes = takes
 
 -- a disk that stops from call 2 on answers call 1, and no call from 2 on
 abbrev stops : ℕ → MemDiskState

@@ -107,13 +107,13 @@ steady_roomy-fewer = refl
 
 -- a source that fails where a read is listed, and one that never fails
 abbrev source : SourceState
-source = record { left = 7 ∷ 8 ∷ 9 ∷ []; piece = 2; failing = []; calls = 4; faults = 1 }
+source = record { left = 7 ∷ 8 ∷ 9 ∷ []; taken = 3; piece = 2; failing = []; calls = 4; faults = 1 }
 
-moved-two : moved source 2 ≡ record { left = 9 ∷ []; piece = 2; failing = []; calls = 5; faults = 1 }
+moved-two : moved source 2 ≡ record { left = 9 ∷ []; taken = 5; piece = 2; failing = []; calls = 5; faults = 1 }
 moved-two = refl
 
-unmoved-one : unmoved source ≡ record { left = 7 ∷ 8 ∷ 9 ∷ []; piece = 2; failing = []; calls = 5; faults = 2 }
+unmoved-one : unmoved source ≡ record { left = 7 ∷ 8 ∷ 9 ∷ []; taken = 3; piece = 2; failing = []; calls = 5; faults = 2 }
 unmoved-one = refl
 
-advanced-two : advanced (record { left = 7 ∷ 8 ∷ 9 ∷ []; piece = 2 }) 2 ≡ record { left = 9 ∷ []; piece = 2 }
+advanced-two : advanced (record { left = 7 ∷ 8 ∷ 9 ∷ []; taken = 3; piece = 2 }) 2 ≡ record { left = 9 ∷ []; taken = 5; piece = 2 }
 advanced-two = refl

@@ -2,17 +2,19 @@
 use Rattle.std.specs.Prelude.{ℕ, ◌+◌, ◌-◌, ◌^◌, ◌<◌, ◌≤◌, ◌++◌, List, drop, length, max, min}
 use Rattle.ss_outside.specs.declared.spare.TheConstants.{MOST_SPARE}
 
--- a source: the bytes left, the most that a read gives, the listed reads, and how many reads were made and failed
+-- a source: the bytes left, how many were taken, the most that a read gives, the listed reads, and how many reads were made and failed
 pub record SourceState : Type 0 where
   pub left : List ℕ
+  pub taken : ℕ
   pub piece : ℕ
   pub failing : List ℕ
   pub calls : ℕ
   pub faults : ℕ
 
--- a source that never fails: the bytes left, and the most that a read gives
+-- a source that never fails: the bytes left, how many were taken, and the most that a read gives
 pub record SteadySourceState : Type 0 where
   pub left : List ℕ
+  pub taken : ℕ
   pub piece : ℕ
 
 -- a sink: the bytes held, the spare bytes, the listed puts, and how many puts were made, failed, and failed because memory
@@ -45,14 +47,14 @@ IsBeyond spare piece = spare < length piece
 
 -- a source after a read that moved so many bytes, and after one that failed
 abbrev pub moved : SourceState → ℕ → SourceState
-moved s count = record s { left = drop count s.left; calls = one_more s.calls }
+moved s count = record s { left = drop count s.left; taken = s.taken + count; calls = one_more s.calls }
 
 abbrev pub unmoved : SourceState → SourceState
 unmoved s = record s { calls = one_more s.calls; faults = one_more s.faults }
 
 -- a source that never fails, after a read that moved so many bytes
 abbrev pub advanced : SteadySourceState → ℕ → SteadySourceState
-advanced s count = record s { left = drop count s.left }
+advanced s count = record s { left = drop count s.left; taken = s.taken + count }
 
 -- a sink after a put that took these bytes, after one that failed, after one that found no memory, and with so many spare
 -- bytes at least

@@ -21,6 +21,7 @@ impl Model for MemSource {
 
     ghost view = { λ s. record {
       left = s.steady.left;
+      taken = s.steady.taken;
       piece = s.steady.piece;
       failing = s.failing.items;
       calls = s.calls;
@@ -35,7 +36,7 @@ impl MemSource {
     /// is allocated.
     pub fn new(alloc: Global, bytes: Vec<u8>, piece: usize) -> MemSource
         requires { 0 < piece }
-        ensures { result ≡ record { left = bytes.items; piece = piece; failing = []; calls = 0; faults = 0 } }
+        ensures { result ≡ record { left = bytes.items; taken = 0; piece = piece; failing = []; calls = 0; faults = 0 } }
     {
         MemSource {
             steady: SteadySource::new(bytes, piece),
@@ -56,12 +57,14 @@ impl MemSource {
 impl Source for MemSource {
     ghost use Rattle.std.specs.Prelude.{◌≡◌, ◌<◌, ◌≤◌, ◌↔◌, drop, length, min, Some, Contains, IsErr, IfOk, OnOk, OnErr};
     ghost use Rattle.ss_outside.specs.Verdict.{HasCause};
-    ghost use Rattle.ss_outside.specs.Source.{Moves};
+    ghost use Rattle.ss_outside.specs.Source.{Moves, Takes};
     ghost use Rattle.ss_outside.specs.Memory.{moved, unmoved};
 
     ghost left = { λ s. Some s.left };
 
     ghost faults = { λ s. s.faults };
+
+    ghost taken = { λ s. s.taken };
 
     /// Fails exactly where the read is listed, and else gives as many bytes as the piece, the buffer and what is left
     /// allow. Of the buffer only the bytes that were moved change.
@@ -70,6 +73,7 @@ impl Source for MemSource {
         ensures bound { IfOk result (λ k. k ≤ length into.old) }
         ensures moves { Moves (Some self.old.left) (Some self.new.left) result into.new }
         ensures cause { HasCause self.old.faults self.new.faults result }
+        ensures takes { Takes self.old.taken self.new.taken result }
         ensures listed { IsErr result ↔ Contains self.old.failing self.old.calls }
         ensures count { IfOk result (λ k. k ≡ min (min self.old.piece (length self.old.left)) (length into.old)) }
         ensures rest { IfOk result (λ k. drop k into.new ≡ drop k into.old) }

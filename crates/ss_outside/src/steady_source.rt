@@ -18,7 +18,7 @@ impl Model for SteadySource {
 
     ghost Value = { SteadySourceState };
 
-    ghost view = { λ s. record { left = drop s.given s.bytes.items; piece = s.piece } };
+    ghost view = { λ s. record { left = drop s.given s.bytes.items; taken = s.given; piece = s.piece } };
 
     ghost invariant = { λ s. (s.given ≤ length s.bytes.items) × (0 < s.piece) };
 }
@@ -30,7 +30,7 @@ impl SteadySource {
     /// A source with these bytes left, of which a read gives at most `piece`. Nothing is allocated.
     pub fn new(bytes: Vec<u8>, piece: usize) -> SteadySource
         requires { 0 < piece }
-        ensures { result ≡ record { left = bytes.items; piece = piece } }
+        ensures { result ≡ record { left = bytes.items; taken = 0; piece = piece } }
     {
         SteadySource {
             bytes,
@@ -59,12 +59,14 @@ impl SteadySource {
 impl Source for SteadySource {
     ghost use Rattle.std.specs.Prelude.{◌≡◌, ◌<◌, ◌≤◌, drop, length, min, Some, IsOk, IfOk};
     ghost use Rattle.ss_outside.specs.Verdict.{HasCause};
-    ghost use Rattle.ss_outside.specs.Source.{Moves};
+    ghost use Rattle.ss_outside.specs.Source.{Moves, Takes};
     ghost use Rattle.ss_outside.specs.Memory.{advanced};
 
     ghost left = { λ s. Some s.left };
 
     ghost faults = { λ s. 0 };
+
+    ghost taken = { λ s. s.taken };
 
     /// Gives as many bytes as the piece, the buffer and what is left allow. Of the buffer only these change.
     fn read(&mut self, into: &mut [u8]) -> Result<usize, Failed>
@@ -72,6 +74,7 @@ impl Source for SteadySource {
         ensures bound { IfOk result (λ k. k ≤ length into.old) }
         ensures moves { Moves (Some self.old.left) (Some self.new.left) result into.new }
         ensures cause { HasCause 0 0 result }
+        ensures takes { Takes self.old.taken self.new.taken result }
         ensures answered { IsOk result }
         ensures count { IfOk result (λ k. k ≡ min (min self.old.piece (length self.old.left)) (length into.old)) }
         ensures rest { IfOk result (λ k. drop k into.new ≡ drop k into.old) }

@@ -9,6 +9,7 @@ use Rattle.ss_store.specs.Surveyed.{survey_of}
 use Rattle.ss_program.specs.Checked.{ChecksStore, survey_line}
 use Rattle.ss_program.specs.Devices.{Devices}
 use Rattle.ss_program.specs.Ending.{Completes, Feeds, IsUnfed, Rejects, Unfed}
+use Rattle.ss_program.specs.Outcome.{TakesFew}
 use Rattle.ss_program.specs.Refused.{SaysRefusal, refusal_line}
 use Rattle.ss_program.specs.Sent.{appended, SaysLine}
 use Rattle.ss_program.specs.Words.{usage}
@@ -92,14 +93,17 @@ completes-changed c = c
 
 -- what a run leaves of its source
 module _ (same : Type 0) where
-  feeds-source : (had has : ℕ) → Feeds same had has SourceFault → Rose had has
-  feeds-source had has f = f.counted.1
+  feeds-source : (had has taken takes : ℕ) → Feeds same had has taken takes SourceFault → Rose had has
+  feeds-source had has taken takes f = f.counted.1
 
-  feeds-fine : (had has : ℕ) → Feeds same had has Done → has ≡ had
-  feeds-fine had has f = f.counted
+  feeds-fine : (had has taken takes : ℕ) → Feeds same had has taken takes Done → has ≡ had
+  feeds-fine had has taken takes f = f.counted
 
-  feeds-refused : (had has : ℕ) → Feeds same had has RefusedStore → same
-  feeds-refused had has f = f.unserved refl
+  feeds-refused : (had has taken takes : ℕ) → Feeds same had has taken takes RefusedStore → same
+  feeds-refused had has taken takes f = f.unserved refl
+
+  feeds-takes : (had has taken takes : ℕ) (status : Status) → Feeds same had has taken takes status → TakesFew taken takes status
+  feeds-takes had has taken takes status f = f.takes
 
   unfed-unread : (before after : Option (List ℕ)) (status : Status) → Unfed same before after status → same
   unfed-unread before after status u = u.unread

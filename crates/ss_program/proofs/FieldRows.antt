@@ -1,6 +1,6 @@
 -- What each field of the records of a run says, in fixed form, and bounds that are false just past them.
 use Rattle.std.proofs.Common.{false, true, ◌≡◌, ◌⊎◌, ℕ, ◌+◌, ◌<◌, ◌≤◌, ◌++◌, List, [], ◌∷◌, length, take, drop}
-use Rattle.std.proofs.Common.{Option, Some, None, refl, arith}
+use Rattle.std.proofs.Common.{◌^◌, Option, Some, None, refl, lit≤, arith}
 use Rattle.std.specs.Prelude.{IsTrue}
 use Rattle.ss_arguments.specs.declared.mode.Mode.{Mode}
 use Rattle.ss_arguments.specs.declared.mode.Form.TheVariants.{Lines, Sessions, Frames, Follow}
@@ -18,7 +18,7 @@ use Rattle.ss_program.specs.Ending.{Ends, IsRefusedContent, Refuses, served_by, 
 use Rattle.ss_program.specs.Generated.{Generates, StandsForAll, StandsForGenerated, summary}
 use Rattle.ss_program.specs.Held.{HoldsAcked, StandsForFirst, acks}
 use Rattle.ss_program.specs.Line.{History}
-use Rattle.ss_program.specs.Outcome.{NotBegun, Reads, Reports, Stopped, Took}
+use Rattle.ss_program.specs.Outcome.{NotBegun, Reads, Reports, Stopped, TakesFew, Took}
 use Rattle.ss_program.specs.Progress.{NoneWait, sealing_by}
 use Rattle.ss_program.specs.Promises.{BeginsOver}
 use Rattle.ss_program.specs.Refused.{RefusesStore, SaysRefusal, refusal_line}
@@ -129,6 +129,24 @@ module _ (input : List ℕ) (left : Option (List ℕ)) where
 
   reads-limit : Reads input left InputLimit → (LONGEST_INPUT < length input) × (left ≡ Some (drop (LONGEST_INPUT + 1) input))
   reads-limit r = r.limit refl
+
+-- how many bytes a run takes over every source: at the limit, at the status of an input that is too long, and at no status one more
+takes_few-limit : TakesFew 3 (3 + (2 ^ 36 + 1)) InputLimit
+takes_few-limit = record { few = lit≤ tt; whole = λ is. cc; limit = λ _. (lit≤ tt, lit≤ tt) }
+
+takes_few-beyond : (status : Status) → TakesFew 3 (3 + (2 ^ 36 + 2)) status → ⊥
+takes_few-beyond status t = omega (arith, t.few)
+
+-- done, all that an input may have, and no more
+takes_few-whole : TakesFew 3 (3 + 2 ^ 36) Done
+takes_few-whole = record { few = lit≤ tt; whole = λ _. lit≤ tt; limit = λ is. cc }
+
+takes_few-longer : TakesFew 3 (3 + (2 ^ 36 + 1)) Done → ⊥
+takes_few-longer t = omega (arith, t.whole refl)
+
+-- an input of no more isn't too long
+takes_few-short : TakesFew 3 (3 + 2 ^ 36) InputLimit → ⊥
+takes_few-short t = omega (arith, (t.limit refl).0)
 
 -- a check
 module _ (streams : List Stream) (before after : Option (List ℕ)) where

@@ -15,6 +15,7 @@ pub mod SeriesLemmas
 pub mod CertifyLemmas
 pub mod HeldLemmas
 pub mod ReadLemmas
+pub mod TakenLemmas
 pub mod HoldsLemmas
 pub mod RunLemmas
 pub mod OpeningLemmas

@@ -83,7 +83,7 @@ Serves-refused sealing talk input left before after had has old new (opening.Bad
 Serves-refused sealing talk input left before after had has old new (opening.Changed slot) opens stands said still knows opened = absurd opens
 
 -- and what was read then: nothing
-unopened-status : (error : OpenError) → (status_of_open error ≡ Done → ⊥) × (status_of_open error ≡ InputLimit → ⊥)
+pub unopened-status : (error : OpenError) → (status_of_open error ≡ Done → ⊥) × (status_of_open error ≡ InputLimit → ⊥)
 unopened-status opening.Disk = (λ is. cc, λ is. cc)
 unopened-status opening.OutOfMemory = (λ is. cc, λ is. cc)
 unopened-status opening.NotAStore = (λ is. cc, λ is. cc)

@@ -167,7 +167,7 @@ pub Reads-stop : (input : List ℕ) (left : Option (List ℕ)) (status : Status)
     Moved (LONGEST_INPUT + 1) input left → Reads input left status
 Reads-stop input left status going within moved = record { few = moved; whole = λ is. absurd (going is); limit = λ is. absurd (within is) }
 
-end-limit : {A : Type 0} (tells : Bool) (status : Status) → (status ≡ Done) ⊎ IsStop tells status → status ≡ InputLimit → A
+pub end-limit : {A : Type 0} (tells : Bool) (status : Status) → (status ≡ Done) ⊎ IsStop tells status → status ≡ InputLimit → A
 end-limit tells status (inl is) wrong = cc
 end-limit tells status (inr stop) wrong = absurd ((stop-other tells status stop).1 wrong)
 

@@ -9,6 +9,7 @@ use Rattle.ss_outside.specs.Step.{Step}
 use Rattle.ss_outside.specs.Verdict.{Counted}
 use Rattle.ss_store.specs.Recover.{recover}
 use Rattle.ss_program.specs.Devices.{Devices}
+use Rattle.ss_program.specs.Outcome.{TakesFew}
 use Rattle.ss_program.specs.Refused.{RefusesStore, SaysRefusal, refusal_line}
 use Rattle.ss_program.specs.Sent.{SaysLine}
 use Rattle.ss_program.specs.Status.{disk_verdict, sink_verdict, source_verdict}
@@ -64,9 +65,11 @@ IsUnfed before after OutOfMemory = after ≡ before
 IsUnfed before after RecordChanged = after ≡ before
 IsUnfed before after status = ⊤
 
--- What a run leaves of its source: its count of faults rose exactly where it is blamed, and where the store is refused it is as it was.
-pub record Feeds (same : Type 0) (faults_before faults : ℕ) (status : Status) : Type 0 where
+-- What a run leaves of its source: its count of faults rose exactly where it is blamed, no more bytes were taken of it than a run may
+-- take, whether it tells them or not, and where the store is refused it is as it was.
+pub record Feeds (same : Type 0) (faults_before faults taken_before taken : ℕ) (status : Status) : Type 0 where
   pub counted : Counted (source_verdict status) faults_before faults
+  pub takes : TakesFew taken_before taken status
   pub unserved : status ≡ RefusedStore → same
 
 -- A run that reads no input leaves its source as it was.

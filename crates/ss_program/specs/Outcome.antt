@@ -3,6 +3,7 @@ use Rattle.std.specs.Prelude.{◌≡◌, ◌⊎◌, ℕ, ◌+◌, ◌-◌, ◌<�
 use Rattle.std.specs.Prelude.{length, IfOk, IfErr, Option, Some, Result}
 use Rattle.ss_outside.specs.Crash.{LeavesOnly}
 use Rattle.ss_outside.specs.Disk.{NothingPending, Told}
+use Rattle.ss_outside.specs.Source.{RoseBy}
 use Rattle.ss_store.specs.Recover.{Stands}
 use Rattle.ss_store.specs.Uses.{StandsShort}
 use Rattle.ss_program.specs.declared.running.TheConstants.{LONGEST_INPUT}
@@ -63,6 +64,13 @@ pub record Reads (input : List ℕ) (left : Option (List ℕ)) (status : Status)
   pub few : Moved (LONGEST_INPUT + 1) input left
   pub whole : status ≡ Done → (length input ≤ LONGEST_INPUT) × (left ≡ Some [])
   pub limit : status ≡ InputLimit → (LONGEST_INPUT < length input) × (left ≡ Some (drop (LONGEST_INPUT + 1) input))
+
+-- The same over every source, by its counts of bytes taken before and after: never more than an input may have and one byte more.
+-- Done, no more than an input may have; where it is too long, so many and one more.
+pub record TakesFew (before now : ℕ) (status : Status) : Type 0 where
+  pub few : now ≤ before + (LONGEST_INPUT + 1)
+  pub whole : status ≡ Done → now ≤ before + LONGEST_INPUT
+  pub limit : status ≡ InputLimit → RoseBy (LONGEST_INPUT + 1) before now
 
 -- the image holds the acknowledged events, those whose replies are whole within so many bytes of the report, and at most so many more
 -- as may be on their way

@@ -15,6 +15,7 @@ ghost use Rattle.std.specs.Prelude.{
   drop,
   true,
   false,
+  if◌then◌else◌,
   IsTrue,
   IsSome,
   IsNone,
@@ -25,6 +26,7 @@ ghost use Rattle.std.specs.Prelude.{
 };
 ghost use Rattle.ss_outside.specs.Crash.{OnlyReads};
 ghost use Rattle.ss_outside.specs.Disk.{Between, OfContent};
+ghost use Rattle.ss_outside.specs.Source.{RoseBy};
 ghost use Rattle.ss_outside.specs.Step.{Step};
 ghost use Rattle.ss_outside.specs.Verdict.{Counted, HasCause, Rose};
 ghost use Rattle.ss_store.specs.Recover.{Stands};
@@ -35,7 +37,7 @@ ghost use Rattle.ss_program.specs.Devices.{over};
 ghost use Rattle.ss_program.specs.Ending.{Completes, Ends, Feeds, HasNumbers, IsRefusedContent, IsUnfed, Unfed, served_by, serving};
 ghost use Rattle.ss_program.specs.Generated.{GeneratesFrom};
 ghost use Rattle.ss_program.specs.Line.{History};
-ghost use Rattle.ss_program.specs.Outcome.{Moved, Reads, ReadsPiece, ServesInput};
+ghost use Rattle.ss_program.specs.Outcome.{Moved, Reads, ReadsPiece, ServesInput, TakesFew};
 ghost use Rattle.ss_program.specs.Progress.{sealing_by};
 ghost use Rattle.ss_program.specs.Promises.{ChecksBy, EndsBy, GeneratesBy, RejectsBy, ServesBy};
 ghost use Rattle.ss_sessions.specs.Cursors.{no_cursors};
@@ -78,6 +80,8 @@ fn read_piece<D: Disk, S: Source, K: Sink>(
         × (count ≡ 0 → left ≡ []) × (S.left source.new ≡ Some (drop count left))) }
     ensures stopped { OnErr result ((left : List ℕ) → S.left source.old ≡ Some left → Moved room left (S.left source.new)) }
     ensures count { IfOk result (λ count. (count ≤ room) × (count ≤ length buffer.old)) }
+    ensures taken { IfOk result (λ count. RoseBy count (S.taken source.old) (S.taken source.new)) }
+    ensures few { S.taken source.new ≤ S.taken source.old + room }
     ensures same { length buffer.new ≡ length buffer.old }
     ensures fault { ended result ≡ Status.SourceFault → (S.left source.new ≡ S.left source.old)
         × (session.new ≡ session.old) × (K.held sink.new ≡ K.held sink.old) × (disk.new ≡ disk.old) }
@@ -105,6 +109,8 @@ fn is_at_end<S: Source>(source: &mut S) -> Result<bool, Failed>
         (0 < length left) × (S.left source.new ≡ Some (drop 1 left))) }
     ensures err { OnErr result (S.left source.new ≡ S.left source.old) }
     ensures cause { HasCause (S.faults source.old) (S.faults source.new) result }
+    ensures taken { IfOk result (λ ends. RoseBy (if ends then 0 else 1) (S.taken source.old) (S.taken source.new)) }
+    ensures untaken { OnErr result (S.taken source.new ≡ S.taken source.old) }
 {
     let mut buffer = [0u8; 1];
     match source.read(&mut buffer) {
@@ -127,6 +133,7 @@ fn serve<D: Disk, S: Source, K: Sink>(
     requires cursors { session.old.cursors ≡ no_cursors }
     ensures known { EndsServing (D.seen disk.old).tells result }
     ensures source { Counted (source_verdict result) (S.faults source.old) (S.faults source.new) }
+    ensures taken { TakesFew (S.taken source.old) (S.taken source.new) result }
     ensures sink { Counted (sink_verdict result) (K.faults sink.old) (K.faults sink.new) }
     ensures reads { (input : List ℕ) → S.left source.old ≡ Some input → Reads input (S.left source.new) result }
     ensures serves { Step (disk_verdict result) (D.seen disk.old) (D.seen disk.new) (λ a b. (input : List ℕ) → S.left source.old ≡ Some input →
@@ -160,6 +167,7 @@ fn serve_store<D: Disk, S: Source, K: Sink>(
     requires { 0 < length buffer.old }
     ensures ends { Ends (over (D.seen disk.old) (K.held sink.old) (K.faults sink.old)) (over (D.seen disk.new) (K.held sink.new) (K.faults sink.new)) result }
     ensures source { Counted (source_verdict result) (S.faults source.old) (S.faults source.new) }
+    ensures taken { TakesFew (S.taken source.old) (S.taken source.new) result }
     ensures unserved { result ≡ Status.RefusedStore → source.new ≡ source.old }
     ensures reads { (input : List ℕ) → S.left source.old ≡ Some input → Reads input (S.left source.new) result }
     ensures serves { (input : List ℕ) → S.left source.old ≡ Some input → Between (D.seen disk.old) (D.seen disk.new)
@@ -185,6 +193,7 @@ fn run_source<D: Disk, S: Source, K: Sink>(
 ) -> Status
     ensures ends { Ends (over (D.seen disk.old) (K.held sink.old) (K.faults sink.old)) (over (D.seen disk.new) (K.held sink.new) (K.faults sink.new)) result }
     ensures source { Counted (source_verdict result) (S.faults source.old) (S.faults source.new) }
+    ensures taken { TakesFew (S.taken source.old) (S.taken source.new) result }
     ensures unserved { result ≡ Status.RefusedStore → source.new ≡ source.old }
     ensures reads { (input : List ℕ) → S.left source.old ≡ Some input → Reads input (S.left source.new) result }
     ensures serves { (input : List ℕ) → S.left source.old ≡ Some input → Between (D.seen disk.old) (D.seen disk.new)
@@ -217,6 +226,7 @@ fn run_mode<D: Disk, S: Source, K: Sink>(
     ensures unread { served_by (Some mode) ≡ None → source.new ≡ source.old }
     ensures unfed { served_by (Some mode) ≡ None → IsUnfed (K.held sink.old) (K.held sink.new) result }
     ensures source { Counted (source_verdict result) (S.faults source.old) (S.faults source.new) }
+    ensures taken { TakesFew (S.taken source.old) (S.taken source.new) result }
     ensures unserved { result ≡ Status.RefusedStore → source.new ≡ source.old }
     ensures reads { IsSome (served_by (Some mode)) → (input : List ℕ) → S.left source.old ≡ Some input → Reads input (S.left source.new) result }
     ensures serves { (form : Form) (sealing : Sealing) → served_by (Some mode) ≡ Some (serving form sealing) →
@@ -259,7 +269,9 @@ pub fn run<D: Disk, S: Source, K: Sink>(
     // of a device is passed over, and none is blamed without one.
     ensures ends { EndsBy (mode_of (words_of words.now))
         (over (D.seen disk.old) (K.held sink.old) (K.faults sink.old)) (over (D.seen disk.new) (K.held sink.new) (K.faults sink.new)) result }
-    ensures source { (status : Status) → EndsAs result status → Feeds (source.new ≡ source.old) (S.faults source.old) (S.faults source.new) status }
+    // No more bytes are taken than a run may take, of a source that tells none too.
+    ensures source { (status : Status) → EndsAs result status →
+        Feeds (source.new ≡ source.old) (S.faults source.old) (S.faults source.new) (S.taken source.old) (S.taken source.new) status }
 
     // A run over the source: what is read of it, and what is written to the sink and left on the disk, also by a crash.
     ensures reads { IsSome (served_by (mode_of (words_of words.now))) → (status : Status) → EndsAs result status →

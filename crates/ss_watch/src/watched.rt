@@ -27,6 +27,8 @@ impl<S: Source, R: Eprint + Clock + AllocGlobal> Source for Watched<'_, '_, S, R
 
     ghost faults = { λ s. S.faults s.device };
 
+    ghost taken = { λ s. S.taken s.device };
+
     fn read(&mut self, into: &mut [u8]) -> Result<usize, Failed> {
         if let Ok(mut watch) = self.watch.try_borrow_mut() {
             watch.begin_read();

@@ -10,16 +10,19 @@ use std::io::{self, Read};
 pub struct StdSource<'a, R> {
     rt: &'a R,
     faults: u64,
+    // How many bytes were read, at most the greatest number.
+    taken: u64,
     why: Option<io::Error>,
 }
 
 impl<'a, R: Input> StdSource<'a, R> {
     pub fn new(rt: &'a R) -> StdSource<'a, R>
-        ensures count { result.faults ≡ 0 }
+        ensures count { (result.faults ≡ 0) × (result.taken ≡ 0) }
     {
         StdSource {
             rt,
             faults: 0,
+            taken: 0,
             why: None,
         }
     }
@@ -37,8 +40,14 @@ impl<R: Input> Source for StdSource<'_, R> {
 
     ghost faults = { λ s. s.faults };
 
+    ghost taken = { λ s. s.taken };
+
     fn read(&mut self, into: &mut [u8]) -> Result<usize, Failed> {
-        judge(self.rt.reader().read(into), &mut self.faults, &mut self.why)
+        let answer = judge(self.rt.reader().read(into), &mut self.faults, &mut self.why);
+        if let Ok(count) = answer {
+            self.taken = self.taken.saturating_add(count as u64);
+        }
+        answer
     }
 }
 

@@ -33,9 +33,10 @@ returns-in-Ok-Some-clause-ends g c _ status is =
 
 pub returns-in-Ok-Some-clause-source : goal.returns-in-Ok-Some-clause-source
 returns-in-Ok-Some-clause-source g c status is =
-    by-number (λ s. Feeds (c.run_mode.new.source ≡ c.args.source.now) (g.S.Source.faults c.args.source.now) (g.S.Source.faults c.run_mode.new.source) s)
+    by-number (λ s. Feeds (c.run_mode.new.source ≡ c.args.source.now) (g.S.Source.faults c.args.source.now) (g.S.Source.faults c.run_mode.new.source)
+    (g.S.Source.taken c.args.source.now) (g.S.Source.taken c.run_mode.new.source) s)
     c.number.result c.run_mode.result c.number.ensures
-    (record { counted = c.run_mode.ensures.source; unserved = c.run_mode.ensures.unserved }) status is
+    (record { counted = c.run_mode.ensures.source; takes = c.run_mode.ensures.taken; unserved = c.run_mode.ensures.unserved }) status is
 
 pub returns-in-Ok-Some-clause-reads : goal.returns-in-Ok-Some-clause-reads
 returns-in-Ok-Some-clause-reads g c asked status is input left =

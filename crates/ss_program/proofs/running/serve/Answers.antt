@@ -1,6 +1,7 @@
-use Rattle.std.proofs.Common.{◌≡◌, ◌-◌, ◌+◌, List, ℕ, Option, Some, take, drop, refl, sym, ap, ◌∙◌, subst, arith, inl, inr}
+use Rattle.std.proofs.Common.{◌≡◌, ◌-◌, ◌+◌, if◌then◌else◌, List, ℕ, Option, Some, take, drop, refl, sym, ap, ◌∙◌, subst, arith, inl, inr}
 use Rattle.ss_outside.proofs.StepLemmas.{step-as, step-none, step-then}
 use Rattle.ss_outside.specs.Disk.{NothingPending}
+use Rattle.ss_outside.specs.Source.{RoseBy}
 use Rattle.ss_store.specs.Uses.{StandsShort}
 use Rattle.ss_program.specs.Line.{History}
 use Rattle.ss_program.specs.Outcome.{Serves}
@@ -15,6 +16,7 @@ use Rattle.ss_program.proofs.RunLemmas.{HasStopped-piece, IsThrough, IsThrough-e
 use Rattle.ss_program.proofs.ReadLemmas.{end-other, IsLeft-more, Moved-at, Moved-piece, Reads-end, Reads-limit, Reads-stop, left-none, length_of-none}
 use Rattle.ss_program.proofs.ReadLemmas.{stop-other}
 use Rattle.ss_program.proofs.StepsLemmas.{steps-none}
+use Rattle.ss_program.proofs.TakenLemmas.{RoseBy-more, RoseBy-none, TakesFew-end, TakesFew-limit, TakesFew-stop}
 use Rattle.ss_program.proofs.running.serve.Goals as goal
 
 pub loop-done-init : goal.loop-done-init
@@ -45,6 +47,7 @@ loop-done-init g c =
           })
           (sym (appended-nil before)
           ∙ ap (λ ls. appended before (text_of (begun_over used c.args.session.now.form history) ls)) (sym (steps-none c.args.session.now.form))) is);
+      taken = RoseBy-none (g.S.Source.taken c.args.source.now);
       source = refl;
       sink = refl;
     }
@@ -73,9 +76,55 @@ loop-done-preserved g c =
           (g.K.Sink.held c.read_piece.new.sink) (g.S.Source.left c.loop-done.source) after_left input done c.in-Ok.count one moves.0 moves.2
           (second.goes rest one.source (sealing_by c.args.session.now.waiting) (begun_over used c.args.session.now.form history) (g.K.Sink.held c.args.sink.now)
           (take done input) one.on.at one.on.replied));
+      taken = RoseBy-more done c.in-Ok.count (g.S.Source.taken c.args.source.now) (g.S.Source.taken c.loop-done.source)
+          (g.S.Source.taken c.read_piece.new.source) inv.taken c.in-Ok.ensures.taken;
       source = c.in-Ok.ensures.source ∙ inv.source;
       sink = c.in-Ok.ensures.sink ∙ inv.sink;
     }
+
+pub returns-in-Ok-eq0-clause-taken : goal.returns-in-Ok-eq0-clause-taken
+returns-in-Ok-eq0-clause-taken g c =
+    let start = g.S.Source.taken c.args.source.now in
+    let now = g.S.Source.taken c.read_piece.new.source in
+    let n = c.loop-done.done in
+    let k = c.in-Ok-eq0.field-0 in
+    TakesFew-end (g.D.Disk.seen c.read_piece.new.disk).tells start now (n + k) c.finish.result
+    (RoseBy-more n k start (g.S.Source.taken c.loop-done.source) now c.loop-done.invariant.taken c.in-Ok-eq0.ensures.taken)
+    (omega (arith, c.loop-done.invariant.fits, c.in-Ok-eq0.field-0-test)) c.finish.ensures.status
+
+pub returns-in-Err-clause-taken : goal.returns-in-Err-clause-taken
+returns-in-Err-clause-taken g c =
+    let n = c.loop-done.done in
+    let other = end-other (g.D.Disk.seen c.loop-done.disk).tells c.in-Err.status c.in-Err.ensures.status in
+    TakesFew-stop (g.S.Source.taken c.args.source.now) (g.S.Source.taken c.loop-done.source) (g.S.Source.taken c.read_piece.new.source) n
+    (68719476736 - n) c.in-Err.status other.0 other.1 c.loop-done.invariant.taken (omega (arith, c.loop-done.invariant.fits))
+    c.in-Err.ensures.few
+
+pub returns-in-Err-is_at_end-clause-taken : goal.returns-in-Err-is_at_end-clause-taken
+returns-in-Err-is_at_end-clause-taken g c =
+    TakesFew-stop (g.S.Source.taken c.args.source.now) (g.S.Source.taken c.loop-done.source) (g.S.Source.taken c.is_at_end.new.source)
+    c.loop-done.done 0 SourceFault (λ w. cc) (λ w. cc) c.loop-done.invariant.taken (omega (arith, c.loop-done.invariant.fits))
+    (omega (arith, c.in-Err-is_at_end.ensures.untaken))
+
+pub returns-in-Ok-true-clause-taken : goal.returns-in-Ok-true-clause-taken
+returns-in-Ok-true-clause-taken g c =
+    let start = g.S.Source.taken c.args.source.now in
+    let mid = g.S.Source.taken c.loop-done.source in
+    let now = g.S.Source.taken c.is_at_end.new.source in
+    let n = c.loop-done.done in
+    let none : RoseBy 0 mid now = subst (λ b. RoseBy (if b then 0 else 1) mid now) c.in-Ok-true.field-0-test c.in-Ok-true.ensures.taken in
+    TakesFew-end (g.D.Disk.seen c.loop-done.disk).tells start now (n + 0) c.finish-in-Ok-true.result
+    (RoseBy-more n 0 start mid now c.loop-done.invariant.taken none)
+    (omega (arith, c.loop-done.invariant.fits)) c.finish-in-Ok-true.ensures.status
+
+pub returns-in-Ok-false-clause-taken : goal.returns-in-Ok-false-clause-taken
+returns-in-Ok-false-clause-taken g c =
+    let start = g.S.Source.taken c.args.source.now in
+    let mid = g.S.Source.taken c.loop-done.source in
+    let now = g.S.Source.taken c.is_at_end.new.source in
+    let one : RoseBy 1 mid now = subst (λ b. RoseBy (if b then 0 else 1) mid now) c.in-Ok-false.field-0-test c.in-Ok-false.ensures.taken in
+    TakesFew-limit start mid now c.loop-done.done c.loop-done.invariant.taken one
+    (omega (arith, c.loop-done.invariant.fits, c.loop-done-test.false))
 
 -- the piece of no bytes is the end
 pub returns-in-Ok-eq0-clause-reads : goal.returns-in-Ok-eq0-clause-reads
@@ -93,7 +142,7 @@ pub returns-in-Ok-eq0-clause-serves : goal.returns-in-Ok-eq0-clause-serves
 returns-in-Ok-eq0-clause-serves g c =
     let old = (g.D.Disk.seen c.args.disk.now).told in
     let mid = (g.D.Disk.seen c.loop-done.disk).told in
-    let then = g.D.Disk.seen c.read_piece.new.disk in
+    let reached = g.D.Disk.seen c.read_piece.new.disk in
     let before = g.K.Sink.held c.args.sink.now in
     let n = c.loop-done.done in
     let k = c.in-Ok-eq0.field-0 in
@@ -107,7 +156,7 @@ returns-in-Ok-eq0-clause-serves g c =
     let one = first input is none used history stands in
     let rest = drop n input in
     let moves = c.in-Ok-eq0.ensures.moves rest one.source in
-    IsThrough-more (sealing_by c.args.session.now.waiting) (begun_over used c.args.session.now.form history) old mid then.told c.loop-done.session
+    IsThrough-more (sealing_by c.args.session.now.waiting) (begun_over used c.args.session.now.form history) old mid reached.told c.loop-done.session
     c.read_piece.new.session before (g.K.Sink.held c.loop-done.sink)
     (g.K.Sink.held c.read_piece.new.sink) (g.S.Source.left c.loop-done.source) left input n k one moves.0 moves.2
     (second.goes rest one.source (sealing_by c.args.session.now.waiting) (begun_over used c.args.session.now.form history) before
@@ -122,9 +171,9 @@ returns-in-Ok-eq0-clause-serves g c =
     (left-none left rest k empty moves.2) in
     let sealing = sealing_by c.args.session.now.waiting in
     let talk = begun_over used c.args.session.now.form history in
-    Serves-finish sealing (g.D.Disk.seen c.finish.new.disk).told (g.K.Sink.held c.finish.new.sink) then.tells c.finish.result tells end c.finish.ensures.status
+    Serves-finish sealing (g.D.Disk.seen c.finish.new.disk).told (g.K.Sink.held c.finish.new.sink) reached.tells c.finish.result tells end c.finish.ensures.status
     (λ is_done. ends.done is_done sealing talk before input end.on.at end.on.replied)
-    (λ stop. ends.stops (stop-other then.tells c.finish.result stop).0 sealing talk before input end.on.at end.on.replied))
+    (λ stop. ends.stops (stop-other reached.tells c.finish.result stop).0 sealing talk before input end.on.at end.on.replied))
 
 pub returns-in-Err-clause-reads : goal.returns-in-Err-clause-reads
 returns-in-Err-clause-reads g c input is =

@@ -1,5 +1,6 @@
 use Rattle.std.proofs.Common.{◌≡◌, ◌-◌, ◌≤◌, List, ℕ, Option, Some}
 use Rattle.ss_outside.specs.Disk.{NothingPending}
+use Rattle.ss_outside.specs.Source.{RoseBy}
 use Rattle.ss_outside.specs.Step.{Step}
 use Rattle.ss_outside.specs.Verdict.{fine}
 use Rattle.ss_store.specs.Recover.{Stands}
@@ -24,6 +25,7 @@ invariant-loop-done g l = record {
       NothingPending old → (used : Option ℕ) (history : History) → StandsShort used history old.content →
       IsThrough (sealing_by l.fn.session.waiting) (begun_over used l.fn.session.form history) old now l.session (g.K.Sink.held l.fn.sink) (g.K.Sink.held l.sink)
       (g.S.Source.left l.source) input l.done);
+  taken : RoseBy l.done (g.S.Source.taken l.fn.source) (g.S.Source.taken l.source);
   source : g.S.Source.faults l.source ≡ g.S.Source.faults l.fn.source;
   sink : g.K.Sink.faults l.sink ≡ g.K.Sink.faults l.fn.sink;
 }
