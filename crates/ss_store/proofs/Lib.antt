@@ -37,6 +37,7 @@ pub mod OpenMarks
 pub mod Marked
 pub mod MarkedCalls
 pub mod Named
+pub mod Found
 pub mod Refusals
 pub mod WindowsHeld
 pub mod RowsHeld

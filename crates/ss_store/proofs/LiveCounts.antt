@@ -57,12 +57,10 @@ length-slots_held part =
 -- they are as many in whichever order
 pub length-slots_in_turn : (part : StreamParts) → length (slots_in_turn part) ≡ length (slots_held part)
 length-slots_in_turn part =
-    omega (
-      arith,
-      length-append (map (λ (e : Entry). e.slot) (entries_of part)) (mark_slots part ++ part.slot ∷ []),
-      length-append (mark_slots part) (part.slot ∷ []),
-      length-append (window_slots part) (mark_slots part),
-    )
+    let windows : List ℕ = map (λ (e : Entry). e.slot) (entries_of part) in
+    let turned : length (slots_in_turn part) ≡ length (windows ++ mark_slots part) + 1 =
+    length-append (windows ++ mark_slots part) (part.slot ∷ []) in
+    omega (arith, turned, length-append windows (mark_slots part), length-append (window_slots part) (mark_slots part))
 
 -- they are as many as the records that the stream needs
 pub length-slots_one : (part : StreamParts) (s : Stream) → Agrees part s → length (slots_held part) ≡ records_of s

@@ -1,12 +1,11 @@
 -- What the catalog finds by a name, and what is held of it.
-use Rattle.std.proofs.Common.{◌≡◌, ℕ, ◌<◌, Bool, List, [], ◌∷◌, length, map, get_or, refl, ap, sym, ◌∙◌, subst, None, Some, is_some, inl, inr}
+use Rattle.std.proofs.Common.{◌≡◌, ℕ, Bool, List, [], ◌∷◌, map, refl, ap, sym, ◌∙◌, subst, None, Some, is_some, inl, inr}
 use Rattle.std.specs.Prelude.{slice_get, Option, option_map, IfSome, IsSome, ◌==◌, ◌||◌}
 use Rattle.std.specs.List.{position_or_len, list_any, find}
 use Rattle.std.specs.List.Sorted.{IsStrictlyIncreasing}
 use Rattle.std.proofs.lemmas.Bool.{cases_Bool}
 use Rattle.std.proofs.lemmas.List.{length-map}
 use Rattle.std.proofs.lemmas.List.Folds.{find_at}
-use Rattle.std.proofs.lemmas.Option.{slice_get_read}
 use Rattle.ss_catalog.specs.Catalog.{id_of}
 use Rattle.ss_catalog.specs.Names.{same_name}
 use Rattle.ss_catalog.specs.declared.TheConstants.{LAST_STREAM}
@@ -30,45 +29,31 @@ id_of-named name (part ∷ parts) = elim (cases_Bool (same_name name part.name))
   | inr other ↦ rw (other, id_of-named name parts) refl
 ]
 
--- a stream that the catalog finds
-pub record IsListed (name : List ℕ) (id : StreamId) (parts : List StreamParts) : Type 0 where
-  pub part : StreamParts
-  pub named : part_named name parts ≡ Some part
-  pub numbered : part_numbered id.0 parts ≡ Some part
-
 abbrev id_or : StreamId → Option StreamId → StreamId
 id_or d None = d
 id_or d (Some id) = id
-
-IsListed-find : (name : List ℕ) (id : StreamId) (parts : List StreamParts) (o : Option StreamParts) → IsStrictlyIncreasing (numbers_held parts) →
-    part_named name parts ≡ o → option_map (λ (part : StreamParts). part.id) o ≡ Some id → IsListed name id parts
-IsListed-find name id parts None rising named found = cc
-IsListed-find name id parts (Some part) rising named found =
-    let number : part.id.0 ≡ id.0 = ap (λ o. (id_or id o).0) found in
-    let at : slice_get parts (position_or_len (λ (p : StreamParts). same_name name p.name) parts) ≡ Some part =
-    sym (find_at (λ (p : StreamParts). same_name name p.name) parts) ∙ named in
-    record {
-      part = part;
-      named = named;
-      numbered = subst (λ n. part_numbered n parts ≡ Some part) number (part_numbered-at parts _ part rising at);
-    }
-
-pub IsListed-catalog : (name : List ℕ) (id : StreamId) (parts : List StreamParts) (catalog : List (List ℕ × StreamId)) →
-    IsStrictlyIncreasing (numbers_held parts) → catalog ≡ map entry_of parts → id_of name catalog ≡ Some id → IsListed name id parts
-IsListed-catalog name id parts catalog rising listed found =
-    IsListed-find name id parts (part_named name parts) rising refl (sym (id_of-named name parts) ∙ ap (λ names. id_of name names) (sym listed) ∙ found)
 
 -- what the catalog finds by a name, the number finds too
 pub record IsFoundBy (name : List ℕ) (parts : List StreamParts) (id : StreamId) : Type 0 where
   pub same : part_numbered id.0 parts ≡ part_named name parts
   pub stands : IsSome (part_numbered id.0 parts)
 
+IsFoundBy-named : (name : List ℕ) (id : StreamId) (parts : List StreamParts) (o : Option StreamParts) → IsStrictlyIncreasing (numbers_held parts) →
+    part_named name parts ≡ o → option_map (λ (part : StreamParts). part.id) o ≡ Some id → IsFoundBy name parts id
+IsFoundBy-named name id parts None rising named found = cc
+IsFoundBy-named name id parts (Some part) rising named found =
+    let number : part.id.0 ≡ id.0 = ap (λ o. (id_or id o).0) found in
+    let at : slice_get parts (position_or_len (λ (p : StreamParts). same_name name p.name) parts) ≡ Some part =
+    sym (find_at (λ (p : StreamParts). same_name name p.name) parts) ∙ named in
+    let numbered = subst (λ n. part_numbered n parts ≡ Some part) number (part_numbered-at parts _ part rising at) in
+    record { same = numbered ∙ sym named; stands = rw numbered refl }
+
 pub IsFoundBy-find : (name : List ℕ) (parts : List StreamParts) (catalog : List (List ℕ × StreamId)) (o : Option StreamId) →
     IsStrictlyIncreasing (numbers_held parts) → catalog ≡ map entry_of parts → o ≡ id_of name catalog → IfSome o (IsFoundBy name parts)
 IsFoundBy-find name parts catalog None rising listed found = tt
 IsFoundBy-find name parts catalog (Some id) rising listed found =
-    let both = IsListed-catalog name id parts catalog rising listed (sym found) in
-    record { same = both.numbered ∙ sym both.named; stands = rw both.numbered refl }
+    IsFoundBy-named name id parts (part_named name parts) rising refl
+    (sym (id_of-named name parts) ∙ ap (λ names. id_of name names) (sym listed) ∙ sym found)
 
 pub IfSome-weaker : {X : Type 0} (P Q : X → Type 0) (o : Option X) → ((x : X) → P x → Q x) → IfSome o P → IfSome o Q
 IfSome-weaker P Q None weaker given = tt
@@ -119,13 +104,6 @@ has_all_streams-held parts streams each =
 pub record IsAtPlace (name : List ℕ) (place : ℕ) (parts : List StreamParts) (part : StreamParts) : Type 0 where
   pub named : part_named name parts ≡ Some part
   pub at : slice_get parts place ≡ Some part
-
-pub IsAtPlace-listed : (name : List ℕ) (id : StreamId) (parts : List StreamParts) (place : ℕ) (part : StreamParts) → IsListed name id parts →
-    slice_get parts place ≡ part_numbered id.0 parts → place < length parts → part ≡ get_or parts place part → IsAtPlace name place parts part
-IsAtPlace-listed name id parts place part found at inside read =
-    let here : slice_get parts place ≡ Some part = slice_get_read parts (length parts) place part refl inside read in
-    let same : Some found.part ≡ Some part = sym found.numbered ∙ sym at ∙ here in
-    record { named = found.named ∙ same; at = here }
 
 -- a part, and the stream that stands at its place
 pub record IsPair (parts : List StreamParts) (streams : List Stream) (place : ℕ) (part : StreamParts) : Type 0 where

@@ -6,6 +6,7 @@ pub mod Clearing
 pub mod Held
 pub mod Joining
 pub mod Kept
+pub mod Places
 pub mod Marking
 pub mod Errors
 pub mod Causes

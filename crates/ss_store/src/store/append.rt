@@ -4,7 +4,6 @@ use super::times::is_past;
 use crate::ApplyError;
 use crate::appending::append_value;
 use crate::closing::values_held;
-use crate::place::place_of;
 use ss_catalog::{LAST_TIME, Name, Refusal};
 use ss_model::Ack;
 use ss_outside::Disk;
@@ -24,25 +23,27 @@ impl Store {
     ghost use Rattle.ss_store.specs.Errors.{verdict_of_apply};
     ghost use Rattle.ss_store.specs.Extents.{records_in};
     ghost use Rattle.ss_store.specs.Kept.{StoreIsKept, of_part, refuses_held};
+    ghost use Rattle.ss_store.specs.Places.{IsPlaceOf};
     ghost use Rattle.ss_steps.specs.Steps.{IsFresh};
 
     // The place of the stream that takes a value outside landmarks at a time, and the slot of its window, or why it doesn't take it.
     fn taker<L: Ledger>(
         &self,
         name: &Name,
+        found: Option<usize>,
         t: u64,
         steps: &mut Steps<L>,
     ) -> Result<(usize, u32), Refusal>
         requires runs { self.now.stopped ≡ false }
+        requires found { IsPlaceOf name.now self.now.streams found }
         requires plain { of_part name.now self.now.streams (λ part. has_open part.landmarks.landmarks) ≡ false }
         ensures refused { (v : ℤ) → IfErr result (λ r. refuses_held self.now.streams (Value name.now t v) ≡ Some r) }
         ensures accepted { (v : ℤ) → OnOk result (refuses_held self.now.streams (Value name.now t v) ≡ None) }
         ensures taker { IfOk result (λ taker. IsTaker self.now name.now t taker.0 taker.1) }
     {
-        let Some(id) = self.catalog.find(name) else {
+        let Some(place) = found else {
             return Err(Refusal::Unknown);
         };
-        let place = place_of(&self.streams, id);
         let stream = &self.streams[place];
         if is_past(stream.last_time, t) {
             return Err(Refusal::Time);
@@ -61,6 +62,7 @@ impl Store {
         &mut self,
         disk: &mut D,
         name: &Name,
+        found: Option<usize>,
         t: u64,
         v: i64,
         blank: Blank,
@@ -68,6 +70,7 @@ impl Store {
         requires fresh { IsFresh L.name L.parts blank }
         requires in_time { t ≤ LAST_TIME }
         requires runs { self.old.stopped ≡ false }
+        requires found { IsPlaceOf name.now self.old.streams found }
         requires plain { of_part name.now self.old.streams (λ part. has_open part.landmarks.landmarks) ≡ false }
         requires one_disk { OfContent (D.seen disk.old) (StoreIsKept self.old) }
         ensures applies { Applies (Value name.now t v) self.old self.new (D.seen disk.old) (D.seen disk.new) result }
@@ -79,7 +82,7 @@ impl Store {
         ensures uncalled { IfUndone (verdict_of_apply result) (disk.new ≡ disk.old) }
     {
         let mut steps = Steps::<L>::new(blank);
-        let (place, slot) = match self.taker(name, t, &mut steps) {
+        let (place, slot) = match self.taker(name, found, t, &mut steps) {
             Ok(taker) => taker,
             Err(refusal) => return Err(ApplyError::Refused(refusal)),
         };

@@ -23,6 +23,7 @@ impl Store {
     ghost use Rattle.ss_store.specs.Errors.{verdict_of_apply};
     ghost use Rattle.ss_store.specs.Extents.{records_in};
     ghost use Rattle.ss_store.specs.Kept.{StoreIsKept, is_of_landmark, of_part, without_spare};
+    ghost use Rattle.ss_store.specs.Places.{IsPlaceOf};
 
     /// Applies an event, and answers what is replied to it. A crash at any moment of the call leaves the history from before
     /// or the history with the event, and after `Ok` the history with the event. A refusal is the first that applies, and
@@ -81,19 +82,32 @@ impl Store {
         match *event {
             Event::Create { name, params } => self.stage_create(disk, name, params),
             Event::Value { name, t, v } => {
-                if self.has_open(&name) {
-                    self.stage_mark::<D, Brand>(disk, &name, t, Mark::Value(v), Blank::new(1))
+                let found = self.place_named(&name);
+                if self.has_open(&name, found) {
+                    self.stage_mark::<D, Brand>(
+                        disk,
+                        &name,
+                        found,
+                        t,
+                        Mark::Value(v),
+                        Blank::new(1),
+                    )
                 } else {
-                    self.stage_value::<D, Brand>(disk, &name, t, v, Blank::new(1))
+                    self.stage_value::<D, Brand>(disk, &name, found, t, v, Blank::new(1))
                 }
             }
             Event::Open { name, t } => {
-                self.stage_mark::<D, Brand>(disk, &name, t, Mark::Open, Blank::new(1))
+                let found = self.place_named(&name);
+                self.stage_mark::<D, Brand>(disk, &name, found, t, Mark::Open, Blank::new(1))
             }
             Event::Close { name, t } => {
-                self.stage_mark::<D, Brand>(disk, &name, t, Mark::Close, Blank::new(1))
+                let found = self.place_named(&name);
+                self.stage_mark::<D, Brand>(disk, &name, found, t, Mark::Close, Blank::new(1))
             }
-            Event::Drop { name } => self.stage_drop::<D, Brand>(disk, &name, Blank::new(1)),
+            Event::Drop { name } => {
+                let found = self.place_named(&name);
+                self.stage_drop::<D, Brand>(disk, &name, found, Blank::new(1))
+            }
         }
     }
 
@@ -120,15 +134,23 @@ impl Store {
         }
     }
 
-    // Whether the stream of a name stands and a landmark of it is open.
-    fn has_open(&self, name: &Name) -> bool
+    // The place of the stream of a name, from 0, if one stands.
+    fn place_named(&self, name: &Name) -> Option<usize>
+        ensures { IsPlaceOf name.now self.now.streams result }
+    {
+        match self.find(name) {
+            Some(id) => Some(place_of(&self.streams, id)),
+            None => None,
+        }
+    }
+
+    // Whether the stream of a name, which stands at a place if at all, has an open landmark.
+    fn has_open(&self, name: &Name, found: Option<usize>) -> bool
+        requires { IsPlaceOf name.now self.now.streams found }
         ensures { result ≡ of_part name.now self.now.streams (λ part. has_open part.landmarks.landmarks) }
     {
-        match self.catalog.find(name) {
-            Some(id) => self.streams[place_of(&self.streams, id)]
-                .landmarks
-                .opened()
-                .is_some(),
+        match found {
+            Some(place) => self.streams[place].landmarks.opened().is_some(),
             None => false,
         }
     }

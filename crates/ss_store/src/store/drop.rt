@@ -14,7 +14,7 @@ ghost use Rattle.ss_store.specs.Slots.{AreSomeLive, LiveSlotsGo};
 use super::Store;
 use crate::ApplyError;
 use crate::clearing::stage_clearing;
-use crate::place::{number_of, place_of};
+use crate::place::number_of;
 use crate::writing::stage_replaced;
 use ss_catalog::{Name, Refusal};
 use ss_codec::{Record, step_number};
@@ -123,6 +123,7 @@ impl Store {
     ghost use Rattle.ss_store.specs.Errors.{verdict_of_apply};
     ghost use Rattle.ss_store.specs.Extents.{records_in};
     ghost use Rattle.ss_store.specs.Kept.{StoreIsKept};
+    ghost use Rattle.ss_store.specs.Places.{IsPlaceOf};
     ghost use Rattle.ss_steps.specs.Steps.{IsFresh};
 
     // Stages the drop of a stream.
@@ -130,10 +131,12 @@ impl Store {
         &mut self,
         disk: &mut D,
         name: &Name,
+        found: Option<usize>,
         blank: Blank,
     ) -> Result<Ack, ApplyError>
         requires fresh { IsFresh L.name L.parts blank }
         requires runs { self.old.stopped ≡ false }
+        requires found { IsPlaceOf name.now self.old.streams found }
         requires one_disk { OfContent (D.seen disk.old) (StoreIsKept self.old) }
         ensures applies { Applies (Drop name.now) self.old self.new (D.seen disk.old) (D.seen disk.new) result }
         ensures within { Between (D.seen disk.old) (D.seen disk.new)
@@ -143,10 +146,9 @@ impl Store {
         ensures running { result ≢ Err ApplyError.Stopped }
         ensures uncalled { IfUndone (verdict_of_apply result) (disk.new ≡ disk.old) }
     {
-        let Some(id) = self.catalog.find(name) else {
+        let Some(place) = found else {
             return Err(ApplyError::Refused(Refusal::Unknown));
         };
-        let place = place_of(&self.streams, id);
         let alloc = *self.streams.allocator();
         let mut steps = Steps::<L>::new(blank);
         let slots = match slots_of(alloc, &self.streams[place], &mut steps) {

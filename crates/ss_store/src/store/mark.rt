@@ -7,7 +7,6 @@ use super::times::{is_before, is_opening, is_past};
 use crate::ApplyError;
 use crate::closing::values_held;
 use crate::marking::{Mark, put_mark, reserve};
-use crate::place::place_of;
 use ss_catalog::{LAST_TIME, Name, Refusal};
 use ss_model::Ack;
 use ss_outside::{Disk, Failed};
@@ -50,6 +49,7 @@ impl Store {
     ghost use Rattle.ss_store.specs.Extents.{records_in};
     ghost use Rattle.ss_store.specs.Kept.{StoreIsKept, has_all_slots, of_part, refuses_held, without_spare};
     ghost use Rattle.ss_store.specs.Marking.{IsClosing, IsInOpen, IsItsSlot, event_of, slot_refusal, slots_used};
+    ghost use Rattle.ss_store.specs.Places.{IsPlaceOf};
     ghost use Rattle.ss_steps.specs.Steps.{IsFresh};
 
     // The slot for the record that a mark puts, if there is one: a free one, or that of the open landmark.
@@ -71,17 +71,23 @@ impl Store {
     }
 
     // The place of the stream whose landmarks take a mark at a time, and the slot of its record, or why they don't take it.
-    fn marker(&self, name: &Name, t: u64, mark: Mark) -> Result<(usize, u32), Refusal>
+    fn marker(
+        &self,
+        name: &Name,
+        found: Option<usize>,
+        t: u64,
+        mark: Mark,
+    ) -> Result<(usize, u32), Refusal>
         requires runs { self.now.stopped ≡ false }
+        requires found { IsPlaceOf name.now self.now.streams found }
         requires marked { IsInOpen mark → of_part name.now self.now.streams (λ part. has_open part.landmarks.landmarks) ≡ true }
         ensures refused { IfErr result (λ r. refuses_held self.now.streams (event_of name.now t mark) ≡ Some r) }
         ensures accepted { OnOk result (refuses_held self.now.streams (event_of name.now t mark) ≡ None) }
         ensures marker { IfOk result (λ marker. IsMarker self.now name.now t mark marker.0 marker.1) }
     {
-        let Some(id) = self.catalog.find(name) else {
+        let Some(place) = found else {
             return Err(Refusal::Unknown);
         };
-        let place = place_of(&self.streams, id);
         let stream = &self.streams[place];
         if let Some(refusal) = refuses(stream, t, mark) {
             return Err(refusal);
@@ -98,6 +104,7 @@ impl Store {
         &mut self,
         disk: &mut D,
         name: &Name,
+        found: Option<usize>,
         t: u64,
         what: Mark,
         blank: Blank,
@@ -105,6 +112,7 @@ impl Store {
         requires fresh { IsFresh L.name L.parts blank }
         requires in_time { t ≤ LAST_TIME }
         requires runs { self.old.stopped ≡ false }
+        requires found { IsPlaceOf name.now self.old.streams found }
         requires marked { IsInOpen what → of_part name.now self.old.streams (λ part. has_open part.landmarks.landmarks) ≡ true }
         requires one_disk { OfContent (D.seen disk.old) (StoreIsKept self.old) }
         ensures applies { Applies (event_of name.now t what) self.old self.new (D.seen disk.old) (D.seen disk.new) result }
@@ -116,7 +124,7 @@ impl Store {
         ensures running { result ≢ Err ApplyError.Stopped }
         ensures uncalled { IfUndone (verdict_of_apply result) (disk.new ≡ disk.old) }
     {
-        let (place, slot) = match self.marker(name, t, what) {
+        let (place, slot) = match self.marker(name, found, t, what) {
             Ok(marker) => marker,
             Err(refusal) => return Err(ApplyError::Refused(refusal)),
         };

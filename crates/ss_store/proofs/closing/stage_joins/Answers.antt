@@ -157,7 +157,7 @@ returns-in_err-join-clause-syncs g c =
     let p = err_from_is_err_and c.from_residual.result c.from_residual.ensures.1 in
     rw (p.1, p.2)
     (step-next c.loop-pair.invariant.0.syncs c.in_err-join.ensures.syncs (λ told then first second.
-    SyncsToStage-then _ (omega arith) first (SyncsToStage-failed _ refl (omega arith) second)))
+    SyncsToStage-then {second = 1} _ (omega arith) first (SyncsToStage-failed _ refl (omega arith) second)))
 
 pub returns-clause-syncs : goal.returns-clause-syncs
 returns-clause-syncs g c = step-as c.loop-pair.invariant.0.syncs (λ staged. SyncsToStage-answers _ (omega arith) staged)
