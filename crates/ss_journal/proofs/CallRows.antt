@@ -1,14 +1,14 @@
 -- Rows that pin what the calls of a journal leave, field by field.
 use Rattle.std.proofs.Common.{◌≡◌, ◌⊎◌, ◌∙◌, ap, ◌+◌, ◌*◌, ◌<◌, ◌≤◌, ℕ, List, [], ◌∷◌, length, Result, Ok, Err, IsTrue, IsFalse, Bool, true, not, ◌&&◌, ◌||◌, refl, lit≤}
 use Rattle.ss_outside.specs.Crash.{LeavesOnly, OnlyReads}
-use Rattle.ss_outside.specs.Disk.{NothingPending, Told}
+use Rattle.ss_outside.specs.Disk.{NothingPending, SyncsAtMost, Told}
 use Rattle.ss_outside.specs.declared.source.Failed.{Failed}
 use Rattle.ss_journal.specs.declared.journal_error.JournalError.{JournalError}
 use Rattle.ss_journal.specs.declared.journal_error.JournalError.TheVariants.{NotAStore, BadEntry}
 use Rattle.ss_journal.specs.declared.phase.Phase.TheVariants.{Settled, Unborn}
 use Rattle.ss_journal.specs.declared.put.Put.{Put}
 use Rattle.ss_journal.specs.Calls.{ChangesMap, Commits, HasCommitted, HasMadeRoom, HasSealed, HasSettled, HasStaged, KeepsMap, KeepsShown, MakesDurable}
-use Rattle.ss_journal.specs.Calls.{MakesChecked, MakesRoom, Opens, ReadsPage, ReadsSlot, Seals, Settles, Stages, entries_after, slot_in_page}
+use Rattle.ss_journal.specs.Calls.{MakesChecked, MakesRoom, Opens, ReadsPage, ReadsSlot, Seals, Settles, Stages, SyncsForRoom, entries_after, slot_in_page}
 use Rattle.ss_journal.specs.Birth.{has_no_kind}
 use Rattle.ss_journal.specs.Format.{is_born, is_plain, is_unborn, kind_of, magic, slots_in}
 use Rattle.ss_journal.specs.Gates.{IsClosed}
@@ -134,6 +134,12 @@ module _ (old new : Told) (was then : JournalState) where
 
   MakesRoom-keeps_shown : (result : Result Unit Failed) → MakesRoom was then result old new → KeepsShown was then old new result
   MakesRoom-keeps_shown result room = room.keeps_shown
+
+  SyncsForRoom-most : SyncsForRoom was old new → SyncsAtMost 4 old new
+  SyncsForRoom-most room = room.most
+
+  SyncsForRoom-sealed : SyncsForRoom was old new → IsSealed was → SyncsAtMost 2 old new
+  SyncsForRoom-sealed room = room.sealed
 
   Seals-kept : Seals was then (Ok tt) old new → IsKept then new.content
   Seals-kept seals = seals.kept

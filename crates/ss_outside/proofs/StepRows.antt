@@ -1,8 +1,8 @@
 -- Rows that pin what a call of a disk says, field by field, and what a crash at any moment of it leaves.
-use Rattle.std.proofs.Common.{◌≡◌, ◌⊎◌, inl, inr, ◌↔◌, ℕ, ◌+◌, ◌≤◌, max, List, EachIndex, Result, Ok, Err, length, slice_index, IsErr}
+use Rattle.std.proofs.Common.{◌≡◌, ◌⊎◌, inl, inr, ◌↔◌, ℕ, ◌+◌, ◌≤◌, max, List, EachIndex, Result, Ok, Err, length, slice_index, IsErr, arith}
 use Rattle.std.proofs.lemmas.Bool.{false≢true}
 use Rattle.ss_outside.specs.Crash.{Elapses, KnowsNow, LeavesOnly, OnlyReads}
-use Rattle.ss_outside.specs.Disk.{AreBytes, BecomesPending, IsOutside, IsReadFrom, NothingPending, StaysSame, Told, Torn, overwrite}
+use Rattle.ss_outside.specs.Disk.{AreBytes, BecomesPending, IsOutside, IsReadFrom, NothingPending, StaysSame, SyncsAtMost, Told, Torn, overwrite}
 use Rattle.ss_outside.specs.Step.{Measures, ReadsAt, Syncs, WritesAt}
 use Rattle.ss_outside.specs.declared.source.Failed.{Failed}
 
@@ -52,6 +52,13 @@ module _ (old new : Told) where
 
   Syncs-time : (result : Result Unit Failed) → Syncs result old new → Elapses old new
   Syncs-time result step = step.time
+
+  -- twice at most
+  SyncsAtMost-twice : new.syncs ≡ old.syncs + 2 → SyncsAtMost 2 old new
+  SyncsAtMost-twice two = omega (arith, two)
+
+  SyncsAtMost-thrice : new.syncs ≡ old.syncs + 3 → SyncsAtMost 2 old new → ⊥
+  SyncsAtMost-thrice three few = omega (arith, three, few)
 
   OnlyReads-content : OnlyReads old new → new.content ≡ old.content
   OnlyReads-content reads = reads.same.content

@@ -29,6 +29,7 @@ pub mod Slots
 pub mod Spans
 pub mod LastEntries
 pub mod Surveys
+pub mod SyncRows
 pub mod Syncs
 pub mod SurveyedStreams
 pub mod PlaceLemmas
