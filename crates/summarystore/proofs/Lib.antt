@@ -3,3 +3,4 @@ pub mod BufferLemmas
 pub mod PlanLemmas
 mod PlanRows
 mod Rows
+pub mod WhyLemmas

@@ -1,16 +1,19 @@
 -- Worked rows of the definitions.
 use Rattle.std.proofs.Common.{◌≡◌, ◌∙◌, ◌⊎◌, ℕ, true, false, List, [], ◌∷◌, ◌++◌, Option, Some, None}
-use Rattle.std.proofs.Common.{length, get_or, map, inl, inr, refl, sym, arith}
+use Rattle.std.proofs.Common.{Ok, Err, ◌≤◌, length, get_or, map, inl, inr, refl, sym, lit≤, arith}
 use Rattle.std.proofs.lemmas.List.{get_or_past, get_or-append_right, length-append}
 use Rattle.std.specs.IoError.{error_kind}
 use Rattle.std.specs.Prelude.{IsFalse, IsTrue, codes}
 use Rattle.std.specs.declared.io.Error.{Error}
 use Rattle.std.specs.declared.io.ErrorKind.TheVariants.{InvalidInput, Other, ReadOnlyFilesystem}
 use Rattle.ss_journal.specs.Format.{is_unborn}
-use Rattle.summarystore.specs.FileDisk.{EndsAfterFault, KeepsFile, LooksAtFile, untold}
+use Rattle.ss_outside.specs.Verdict.{Rose}
+use Rattle.ss_outside.specs.declared.source.Failed.{Failed}
+use Rattle.summarystore.specs.FileDisk.{EndsAfterFault, IsFaultless, KeepsFile, LooksAtFile, TellsWhy, untold}
 use Rattle.summarystore.specs.Opening.{IsBlank, IsHeldAs, IsLockedAs, IsNative, IsSettledAs, MayHold, StaysHeld, StaysUnmade, is_writable}
 use Rattle.summarystore.specs.Opening.{makes, missing_for}
-use Rattle.summarystore.specs.Reason.{own}
+use Rattle.summarystore.specs.Reason.{IsCaused, IsOwn, own}
+use Rattle.summarystore.specs.System.{Absent, Counts, Found, GoesInto, InUse}
 use Rattle.summarystore.specs.System.{Apart, Durable, Fact, IsUnsyncable, Keeps, KeepsAll, LockedBy, OpenFor, RegularFile, Synced, Unmade, Unsyncable}
 use Rattle.summarystore.specs.System.{Unwritten}
 use Rattle.summarystore.specs.System.{lasts_lock, lasts_open, lasts_write}
@@ -18,27 +21,36 @@ use Rattle.summarystore.specs.declared.opening.Missing.{Missing}
 use Rattle.summarystore.specs.declared.opening.Missing.TheVariants as missing
 use Rattle.summarystore.specs.declared.opening.Opened.{Opened}
 use Rattle.summarystore.specs.declared.opening.Opened.TheVariants.{Made, Nothing, ReadOnly, Writable}
-use Rattle.summarystore.specs.declared.reason.Trouble.TheVariants.{NoFile, NotChecked}
+use Rattle.summarystore.specs.declared.reason.Reason.{Reason}
+use Rattle.summarystore.specs.declared.reason.Trouble.TheVariants.{FailedBefore, Foreign, Full, Irregular, NoFile, NoFolder, NoName, NotChecked}
+use Rattle.summarystore.specs.declared.reason.Trouble.TheVariants.{NotMakeable, NotOpened, NotRead, NotReadable, NotSynced, NotWritten, ReadOnlyWithWork}
+use Rattle.summarystore.specs.declared.reason.Trouble.TheVariants as trouble
 use Rattle.summarystore.specs.declared.system.Access.TheVariants.{Make, Read, Write}
+use Rattle.summarystore.specs.declared.system.Kind.TheVariants.{Pipe, Regular}
 use Rattle.summarystore.specs.declared.system.Lock.TheVariants.{Exclusive, Shared}
+use Rattle.summarystore.specs.declared.system.Stream.TheVariants.{Output}
 
 facts : List Fact
-facts = Unmade ∷ Unwritten ∷ OpenFor Make ∷ Apart ∷ LockedBy Shared ∷ RegularFile ∷ Synced ∷ Unsyncable ∷ Durable ∷ []
+facts = Unmade ∷ Unwritten ∷ OpenFor Make ∷ Apart ∷ LockedBy Shared ∷ RegularFile ∷ Synced ∷ Unsyncable ∷ Durable ∷ Absent ∷ Found Pipe ∷ GoesInto Output ∷ InUse ∷ []
 
 -- what each call leaves
-lasts_open-Make : map (lasts_open Make) facts ≡ false ∷ true ∷ false ∷ false ∷ false ∷ false ∷ false ∷ false ∷ false ∷ []
+lasts_open-Make :
+    map (lasts_open Make) facts ≡ false ∷ true ∷ false ∷ false ∷ false ∷ false ∷ false ∷ false ∷ false ∷ false ∷ false ∷ false ∷ false ∷ []
 unfolding facts
 lasts_open-Make = refl
 
-lasts_open-Read : map (lasts_open Read) facts ≡ true ∷ true ∷ false ∷ false ∷ false ∷ false ∷ false ∷ false ∷ false ∷ []
+lasts_open-Read :
+    map (lasts_open Read) facts ≡ true ∷ true ∷ false ∷ false ∷ false ∷ false ∷ false ∷ false ∷ false ∷ false ∷ false ∷ false ∷ false ∷ []
 unfolding facts
 lasts_open-Read = refl
 
-lasts_lock-facts : map lasts_lock facts ≡ true ∷ true ∷ true ∷ true ∷ false ∷ true ∷ true ∷ true ∷ true ∷ []
+lasts_lock-facts :
+    map lasts_lock facts ≡ true ∷ true ∷ true ∷ true ∷ false ∷ true ∷ true ∷ true ∷ true ∷ true ∷ true ∷ true ∷ false ∷ []
 unfolding facts
 lasts_lock-facts = refl
 
-lasts_write-facts : map lasts_write facts ≡ true ∷ false ∷ true ∷ true ∷ true ∷ true ∷ false ∷ true ∷ false ∷ []
+lasts_write-facts :
+    map lasts_write facts ≡ true ∷ false ∷ true ∷ true ∷ true ∷ true ∷ false ∷ true ∷ false ∷ true ∷ true ∷ true ∷ true ∷ []
 unfolding facts
 lasts_write-facts = refl
 
@@ -59,7 +71,8 @@ IsUnsyncable-other : (error : Error) → error_kind error ≡ Other → IsUnsync
 IsUnsyncable-other error other (inl is) = let same = sym other ∙ is in cc
 IsUnsyncable-other error other (inr is) = let same = sym other ∙ is in cc
 
-lasts_open-Write : map (lasts_open Write) facts ≡ true ∷ true ∷ false ∷ false ∷ false ∷ false ∷ false ∷ false ∷ false ∷ []
+lasts_open-Write :
+    map (lasts_open Write) facts ≡ true ∷ true ∷ false ∷ false ∷ false ∷ false ∷ false ∷ false ∷ false ∷ false ∷ false ∷ false ∷ false ∷ []
 unfolding facts
 lasts_open-Write = refl
 
@@ -167,11 +180,120 @@ looks-unwritten : (was is : Missing) (opened opened_now : Option Opened) (holds 
 looks-unwritten was is opened opened_now holds holds_now looks unwritten = looks.unwritten unwritten
 
 -- what a fault leaves of the calls after it
-ends-faults : (failed same : Type 0) (is : ℕ) → EndsAfterFault 1 is failed same → is ≡ 1
-ends-faults failed same is ends = ends.faults
+ends-faults : (failed same : Type 0) (is : ℕ) (why why_now : Option Reason) → EndsAfterFault 1 is why why_now failed same → is ≡ 1
+ends-faults failed same is why why_now ends = ends.faults
 
-ends-first : (failed same : Type 0) (is : ℕ) → EndsAfterFault 1 is failed same → failed × same
-ends-first failed same is ends = ends.ends (omega arith)
+ends-why : (failed same : Type 0) (is : ℕ) (why why_now : Option Reason) → EndsAfterFault 0 is why why_now failed same → why_now ≡ why
+ends-why failed same is why why_now ends = ends.why
+
+ends-first : (failed same : Type 0) (is : ℕ) (why why_now : Option Reason) → EndsAfterFault 1 is why why_now failed same → failed × same
+ends-first failed same is why why_now ends = ends.ends (omega arith)
+
+-- a disk of which no call has failed has no reason, and one that has a reason had a fault
+faultless-none : IsFaultless 0 None
+faultless-none = (refl, refl)
+
+faultless-one : IsFaultless 1 None → ⊥
+faultless-one none = omega (arith, none.0)
+
+faultless-why : (reason : Reason) → IsFaultless 0 (Some reason) → ⊥
+faultless-why reason none = let wrong = none.1 in cc
+
+-- a call that is answered leaves such a disk, and one that fails the reason with its cause
+module _ (faults : ℕ) (why : Option Reason) (P : Reason → Type 0) where
+  tells_why-Ok : TellsWhy {T = ℕ} {E = Failed} faults why P (Ok 7) → IsFaultless faults why
+  tells_why-Ok tells = tells
+
+  tells_why-Err : (e : Failed) → TellsWhy {T = ℕ} {E = Failed} faults why P (Err e) → (reason : Reason) × (why ≡ Some reason) × P reason
+  tells_why-Err e tells = tells
+
+-- a reason with an error of the system wants a call that failed since
+module _ (path : List ℕ) (opened : Option Opened) (holds : Fact → Type 0) (fits : List ℕ → Type 0) (error : Error) where
+  caused-error : IsCaused path opened holds fits 3 4 (record { trouble = NotRead; error = Some error })
+  caused-error = (λ _. lit≤ tt, λ none. cc)
+
+  uncaused-error : IsCaused path opened holds fits 3 3 (record { trouble = NotRead; error = Some error }) → ⊥
+  uncaused-error caused = let rose : Rose 3 3 = caused.0 refl in omega (arith, rose)
+
+-- and one without is one of these, with what it is of
+module _ (holds : Fact → Type 0) (fits : List ℕ → Type 0) where
+  own-NoName : IsOwn [] None holds fits NoName
+  own-NoName = refl
+
+  own-NoName-named : IsOwn (codes "a") None holds fits NoName → ⊥
+  own-NoName-named is = cc
+
+  own-Irregular : IsOwn [] None holds fits (Irregular Pipe) → holds (Found Pipe)
+  own-Irregular is = is.0
+
+  own-Irregular-file : IsOwn [] None holds fits (Irregular Regular) → ⊥
+  own-Irregular-file is = is.1 refl
+
+  own-Stream : IsOwn [] None holds fits (trouble.Stream Output) → holds (GoesInto Output)
+  own-Stream is = is
+
+  own-InUse : IsOwn [] None holds fits trouble.InUse → holds InUse
+  own-InUse is = is
+
+  own-NoFile : IsOwn [] None holds fits NoFile → holds Absent
+  own-NoFile (inl absent) = absent
+  own-NoFile (inr is) = cc
+
+  own-NoFile-nothing : IsOwn [] (Some Nothing) holds fits NoFile
+  own-NoFile-nothing = inr refl
+
+  own-ReadOnly : IsOwn [] (Some ReadOnly) holds fits trouble.ReadOnly
+  own-ReadOnly = refl
+
+  own-ReadOnly-writable : IsOwn [] (Some Writable) holds fits trouble.ReadOnly → ⊥
+  own-ReadOnly-writable is = cc
+
+  own-ReadOnlyWithWork : IsOwn [] (Some ReadOnly) holds fits ReadOnlyWithWork
+  own-ReadOnlyWithWork = refl
+
+  own-ReadOnlyWithWork-writable : IsOwn [] (Some Writable) holds fits ReadOnlyWithWork → ⊥
+  own-ReadOnlyWithWork-writable is = cc
+
+  own-Foreign : IsOwn [] None holds fits Foreign → (image : List ℕ) → fits image → IsNative image → ⊥
+  own-Foreign is = is
+
+  -- no other comes without an error
+  own-FailedBefore : IsOwn [] None holds fits FailedBefore → ⊥
+  own-FailedBefore is = is
+
+  own-NotRead : IsOwn [] None holds fits NotRead → ⊥
+  own-NotRead is = is
+
+  own-NotWritten : IsOwn [] None holds fits NotWritten → ⊥
+  own-NotWritten is = is
+
+  own-NotSynced : IsOwn [] None holds fits NotSynced → ⊥
+  own-NotSynced is = is
+
+  own-NotOpened : IsOwn [] None holds fits NotOpened → ⊥
+  own-NotOpened is = is
+
+  own-NoFolder : IsOwn [] None holds fits NoFolder → ⊥
+  own-NoFolder is = is
+
+  own-NotReadable : IsOwn [] None holds fits NotReadable → ⊥
+  own-NotReadable is = is
+
+  own-NotMakeable : IsOwn [] None holds fits NotMakeable → ⊥
+  own-NotMakeable is = is
+
+  own-Full : IsOwn [] None holds fits Full → ⊥
+  own-Full is = is
+
+  own-NotChecked : IsOwn [] None holds fits NotChecked → ⊥
+  own-NotChecked is = is
+
+-- a call of the system that fails raises the count, and one that is answered leaves it
+Counts-Err : (error : Error) → Counts {T = ℕ} 3 3 (Err error) → ⊥
+Counts-Err error counts = let rose : Rose 3 3 = counts.1 in omega (arith, rose)
+
+Counts-Ok : (now : ℕ) → Counts {T = ℕ} 3 now (Ok 7) → now ≡ 3
+Counts-Ok now counts = counts
 
 -- a reason that the system didn't give
 own-trouble : map (λ trouble. (own trouble).trouble) (NotChecked ∷ NoFile ∷ []) ≡ NotChecked ∷ NoFile ∷ []

@@ -1,8 +1,9 @@
 -- What a file tells as a disk, and what each call of the disk leaves of it.
-use Rattle.std.specs.Prelude.{◌≡◌, ◌<◌, ℕ, Option, [], false}
+use Rattle.std.specs.Prelude.{◌≡◌, ◌<◌, ℕ, Option, Some, None, Result, Ok, Err, [], false}
 use Rattle.ss_outside.specs.Disk.{DiskView}
 use Rattle.summarystore.specs.Opening.{StaysHeld, StaysUnmade}
 use Rattle.summarystore.specs.System.{Fact, Unwritten}
+use Rattle.summarystore.specs.declared.reason.Reason.{Reason}
 use Rattle.summarystore.specs.declared.opening.Missing.{Missing}
 use Rattle.summarystore.specs.declared.opening.Opened.{Opened}
 
@@ -28,7 +29,17 @@ pub record LooksAtFile (was : Missing) (opened : Option Opened) (holds : Fact �
   pub keeps : KeepsFile was opened holds is opened_now holds_now
   pub unwritten : holds Unwritten → holds_now Unwritten
 
--- A call leaves the count of faults to its caller. After a fault it fails, and all is as it was.
-pub record EndsAfterFault (was is : ℕ) (failed same : Type 0) : Type 0 where
+-- A call leaves the count of faults, and why the first one came, to its caller. After a fault it fails, and all is as it was.
+pub record EndsAfterFault (was is : ℕ) (reason reason_now : Option Reason) (failed same : Type 0) : Type 0 where
   pub faults : is ≡ was
+  pub why : reason_now ≡ reason
   pub ends : 0 < was → failed × same
+
+-- no call has failed yet
+abbrev pub IsFaultless : ℕ → Option Reason → Type 0
+IsFaultless faults why = (faults ≡ 0) × (why ≡ None)
+
+-- After a call of a file of which none had failed: none has, where it is answered, and else why it failed is kept, and has its cause.
+abbrev pub TellsWhy : {T E : Type 0} → ℕ → Option Reason → (Reason → Type 0) → Result T E → Type 0
+TellsWhy faults why IsCause (Ok value) = IsFaultless faults why
+TellsWhy faults why IsCause (Err e) = (reason : Reason) × (why ≡ Some reason) × IsCause reason

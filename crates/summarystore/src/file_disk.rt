@@ -1,10 +1,11 @@
 // The real disk: a file. It tells nothing of its bytes.
-ghost use Rattle.std.specs.Prelude.{◌≡◌, ◌+◌, ◌<◌, ◌^◌, ℕ, List, length, None, Some, IsErr, IsFalse, IsSome, IfOk, OnOk};
+ghost use Rattle.std.specs.Prelude.{◌≡◌, ◌⊎◌, ◌+◌, ◌<◌, ◌≤◌, ◌^◌, ℕ, List, length, string_bytes, None, Some, IsErr, IsFalse, IsSome, IfErr, IfOk, OnOk};
 ghost use Rattle.ss_outside.specs.Disk.{IsReadFrom};
 ghost use Rattle.ss_outside.specs.Memory.{one_more};
-ghost use Rattle.summarystore.specs.FileDisk.{EndsAfterFault, KeepsFile, LooksAtFile};
+ghost use Rattle.ss_outside.specs.Verdict.{Rose};
+ghost use Rattle.summarystore.specs.FileDisk.{EndsAfterFault, IsFaultless, KeepsFile, LooksAtFile, TellsWhy};
 ghost use Rattle.summarystore.specs.Opening.{IsNative, IsSettledAs, MayHold, StaysHeld, is_writable};
-ghost use Rattle.summarystore.specs.Reason.{own};
+ghost use Rattle.summarystore.specs.Reason.{IsCaused, IsOwn, own};
 ghost use Rattle.summarystore.specs.System.{Synced, Unwritten};
 
 #[cfg(test)]
@@ -39,7 +40,9 @@ fn is_settled_at(at: u64) -> bool {
 }
 
 // Why nothing can be written at a place of a file that may only be read.
-fn read_only_at(at: u64) -> Reason {
+fn read_only_at(at: u64) -> Reason
+    ensures { (result ≡ own Trouble.ReadOnly) ⊎ (result ≡ own Trouble.ReadOnlyWithWork) }
+{
     Reason::own(if is_settled_at(at) {
         Trouble::ReadOnlyWithWork
     } else {
@@ -49,7 +52,7 @@ fn read_only_at(at: u64) -> Reason {
 
 impl<S: System> FileDisk<S> {
     pub fn new(system: S, path: String, missing: Missing) -> FileDisk<S>
-        ensures count { result.faults ≡ 0 }
+        ensures count { IsFaultless result.faults result.why }
         ensures missing { result.missing ≡ missing }
         ensures held { StaysHeld result.missing result.opened (S.holds result.system) }
     {
@@ -91,7 +94,7 @@ impl<S: System> FileDisk<S> {
 
     // Opens the file at the first call. After a fault nothing is done any more.
     fn ready(&mut self) -> Result<Opened, Reason>
-        ensures ends { EndsAfterFault self.old.faults self.new.faults (IsErr result) (self.new ≡ self.old) }
+        ensures ends { EndsAfterFault self.old.faults self.new.faults self.old.why self.new.why (IsErr result) (self.new ≡ self.old) }
         ensures opens { IfOk result (λ opened. self.new.opened ≡ Some opened) }
         ensures settled { self.old.opened ≡ None →
             IfOk result (λ opened. IsSettledAs opened (S.holds self.new.system)) }
@@ -99,6 +102,10 @@ impl<S: System> FileDisk<S> {
             MayHold self.new.opened (S.fits self.new.system) image → IsNative image) }
         ensures looks { LooksAtFile self.old.missing self.old.opened (S.holds self.old.system)
             self.new.missing self.new.opened (S.holds self.new.system) }
+        ensures counts { S.faults self.old.system ≤ S.faults self.new.system }
+        ensures blames { IfErr result (λ reason. IsSome reason.error → Rose (S.faults self.old.system) (S.faults self.new.system)) }
+        ensures own { self.old.faults ≡ 0 → IfErr result (λ reason. reason.error ≡ None →
+            IsOwn (string_bytes self.old.path) self.new.opened (S.holds self.new.system) (S.fits self.new.system) reason.trouble) }
     {
         if self.faults > 0 {
             return Err(Reason::own(Trouble::FailedBefore));
@@ -112,11 +119,15 @@ impl<S: System> FileDisk<S> {
     }
 
     fn try_len(&mut self) -> Result<u64, Reason>
-        ensures ends { EndsAfterFault self.old.faults self.new.faults (IsErr result) (self.new ≡ self.old) }
+        ensures ends { EndsAfterFault self.old.faults self.new.faults self.old.why self.new.why (IsErr result) (self.new ≡ self.old) }
         ensures measures { IfOk result (λ answer. (image : List ℕ) →
             MayHold self.new.opened (S.fits self.new.system) image → answer ≡ length image) }
         ensures looks { LooksAtFile self.old.missing self.old.opened (S.holds self.old.system)
             self.new.missing self.new.opened (S.holds self.new.system) }
+        ensures counts { S.faults self.old.system ≤ S.faults self.new.system }
+        ensures blames { IfErr result (λ reason. IsSome reason.error → Rose (S.faults self.old.system) (S.faults self.new.system)) }
+        ensures own { self.old.faults ≡ 0 → IfErr result (λ reason. reason.error ≡ None →
+            IsOwn (string_bytes self.old.path) self.new.opened (S.holds self.new.system) (S.fits self.new.system) reason.trouble) }
     {
         if self.ready()? == Opened::Nothing {
             return Ok(0);
@@ -128,11 +139,15 @@ impl<S: System> FileDisk<S> {
     }
 
     fn try_read(&mut self, at: u64, into: &mut [u8]) -> Result<(), Reason>
-        ensures ends { EndsAfterFault self.old.faults self.new.faults (IsErr result) (self.new ≡ self.old) }
+        ensures ends { EndsAfterFault self.old.faults self.new.faults self.old.why self.new.why (IsErr result) (self.new ≡ self.old) }
         ensures reads { at + length into.old < 2 ^ 64 → OnOk result ((image : List ℕ) →
             MayHold self.new.opened (S.fits self.new.system) image → IsReadFrom image at into.new) }
         ensures looks { LooksAtFile self.old.missing self.old.opened (S.holds self.old.system)
             self.new.missing self.new.opened (S.holds self.new.system) }
+        ensures counts { S.faults self.old.system ≤ S.faults self.new.system }
+        ensures blames { IfErr result (λ reason. IsSome reason.error → Rose (S.faults self.old.system) (S.faults self.new.system)) }
+        ensures own { self.old.faults ≡ 0 → IfErr result (λ reason. reason.error ≡ None →
+            IsOwn (string_bytes self.old.path) self.new.opened (S.holds self.new.system) (S.fits self.new.system) reason.trouble) }
     {
         if self.ready()? == Opened::Nothing {
             into.fill(0);
@@ -145,13 +160,17 @@ impl<S: System> FileDisk<S> {
     }
 
     fn try_write(&mut self, at: u64, bytes: &[u8]) -> Result<(), Reason>
-        ensures ends { EndsAfterFault self.old.faults self.new.faults (IsErr result) (self.new ≡ self.old) }
+        ensures ends { EndsAfterFault self.old.faults self.new.faults self.old.why self.new.why (IsErr result) (self.new ≡ self.old) }
         ensures writes { at + length bytes.now < 2 ^ 64 →
             OnOk result (S.has_written self.new.system at bytes.now) }
         ensures refused { IsFalse (is_writable self.new.opened) →
             IsErr result × (S.holds self.old.system Unwritten → S.holds self.new.system Unwritten) }
         ensures keeps { KeepsFile self.old.missing self.old.opened (S.holds self.old.system)
             self.new.missing self.new.opened (S.holds self.new.system) }
+        ensures counts { S.faults self.old.system ≤ S.faults self.new.system }
+        ensures blames { IfErr result (λ reason. IsSome reason.error → Rose (S.faults self.old.system) (S.faults self.new.system)) }
+        ensures own { self.old.faults ≡ 0 → IfErr result (λ reason. reason.error ≡ None →
+            IsOwn (string_bytes self.old.path) self.new.opened (S.holds self.new.system) (S.fits self.new.system) reason.trouble) }
     {
         match self.ready()? {
             Opened::Nothing => return Err(Reason::own(Trouble::NoFile)),
@@ -165,10 +184,14 @@ impl<S: System> FileDisk<S> {
     }
 
     fn try_sync(&mut self) -> Result<(), Reason>
-        ensures ends { EndsAfterFault self.old.faults self.new.faults (IsErr result) (self.new ≡ self.old) }
+        ensures ends { EndsAfterFault self.old.faults self.new.faults self.old.why self.new.why (IsErr result) (self.new ≡ self.old) }
         ensures synced { OnOk result (S.holds self.new.system Synced) }
         ensures looks { LooksAtFile self.old.missing self.old.opened (S.holds self.old.system)
             self.new.missing self.new.opened (S.holds self.new.system) }
+        ensures counts { S.faults self.old.system ≤ S.faults self.new.system }
+        ensures blames { IfErr result (λ reason. IsSome reason.error → Rose (S.faults self.old.system) (S.faults self.new.system)) }
+        ensures own { self.old.faults ≡ 0 → IfErr result (λ reason. reason.error ≡ None →
+            IsOwn (string_bytes self.old.path) self.new.opened (S.holds self.new.system) (S.fits self.new.system) reason.trouble) }
     {
         self.ready()?;
         match self.system.sync_data() {
@@ -194,6 +217,9 @@ impl<S: System> Disk for FileDisk<S> {
             MayHold self.new.opened (S.fits self.new.system) image → answer ≡ length image) }
         ensures looks { LooksAtFile self.old.missing self.old.opened (S.holds self.old.system)
             self.new.missing self.new.opened (S.holds self.new.system) }
+        ensures caused { IsFaultless self.old.faults self.old.why → TellsWhy self.new.faults self.new.why
+            (IsCaused (string_bytes self.old.path) self.new.opened (S.holds self.new.system) (S.fits self.new.system)
+            (S.faults self.old.system) (S.faults self.new.system)) result }
     {
         let answer = self.try_len();
         judge(answer, &mut self.faults, &mut self.why)
@@ -205,6 +231,9 @@ impl<S: System> Disk for FileDisk<S> {
             MayHold self.new.opened (S.fits self.new.system) image → IsReadFrom image at into.new) }
         ensures looks { LooksAtFile self.old.missing self.old.opened (S.holds self.old.system)
             self.new.missing self.new.opened (S.holds self.new.system) }
+        ensures caused { IsFaultless self.old.faults self.old.why → TellsWhy self.new.faults self.new.why
+            (IsCaused (string_bytes self.old.path) self.new.opened (S.holds self.new.system) (S.fits self.new.system)
+            (S.faults self.old.system) (S.faults self.new.system)) result }
     {
         let answer = self.try_read(at, into);
         judge(answer, &mut self.faults, &mut self.why)
@@ -218,6 +247,9 @@ impl<S: System> Disk for FileDisk<S> {
             IsErr result × (S.holds self.old.system Unwritten → S.holds self.new.system Unwritten) }
         ensures keeps { KeepsFile self.old.missing self.old.opened (S.holds self.old.system)
             self.new.missing self.new.opened (S.holds self.new.system) }
+        ensures caused { IsFaultless self.old.faults self.old.why → TellsWhy self.new.faults self.new.why
+            (IsCaused (string_bytes self.old.path) self.new.opened (S.holds self.new.system) (S.fits self.new.system)
+            (S.faults self.old.system) (S.faults self.new.system)) result }
     {
         let answer = self.try_write(at, bytes);
         judge(answer, &mut self.faults, &mut self.why)
@@ -228,6 +260,9 @@ impl<S: System> Disk for FileDisk<S> {
         ensures synced { OnOk result (S.holds self.new.system Synced) }
         ensures looks { LooksAtFile self.old.missing self.old.opened (S.holds self.old.system)
             self.new.missing self.new.opened (S.holds self.new.system) }
+        ensures caused { IsFaultless self.old.faults self.old.why → TellsWhy self.new.faults self.new.why
+            (IsCaused (string_bytes self.old.path) self.new.opened (S.holds self.new.system) (S.fits self.new.system)
+            (S.faults self.old.system) (S.faults self.new.system)) result }
     {
         let answer = self.try_sync();
         judge(answer, &mut self.faults, &mut self.why)

@@ -1,5 +1,6 @@
 // Files that aren't a store's, and would be formatted.
-ghost use Rattle.std.specs.Prelude.{◌≡◌, ◌↔◌, ◌+◌, ◌<◌, ◌^◌, ℕ, List, length, slice_index, IsTrue, IsFalse, All, IfOk};
+ghost use Rattle.std.specs.Prelude.{◌≡◌, ◌↔◌, ◌+◌, ◌<◌, ◌≤◌, ◌^◌, ℕ, List, length, slice_index, IsTrue, IsFalse, All, IfOk, OnErr};
+ghost use Rattle.ss_outside.specs.Verdict.{Rose};
 ghost use Rattle.summarystore.specs.Opening.{IsBlank, IsNative};
 ghost use Rattle.summarystore.specs.System.{KeepsAll};
 
@@ -25,6 +26,8 @@ fn reads_zeros<S: System>(system: &mut S, at: u64, buffer: &mut [u8]) -> io::Res
     ensures finds { at + length buffer.old < 2 ^ 64 → IfOk result (λ zeros. (image : List ℕ) → S.fits system.new image →
         (IsTrue zeros ↔ ((k : ℕ) → k < length buffer.old → slice_index image (at + k) ≡ 0))) }
     ensures fits { (image : List ℕ) → S.fits system.new image → S.fits system.old image }
+    ensures counts { S.faults system.old ≤ S.faults system.new }
+    ensures blames { OnErr result (Rose (S.faults system.old) (S.faults system.new)) }
     ensures keeps { KeepsAll (S.holds system.old) (S.holds system.new) }
 {
     read_whole(system, at, buffer)?;
@@ -36,6 +39,8 @@ fn holds_something<S: System>(system: &mut S, size: u64) -> io::Result<bool>
     ensures finds { IfOk result (λ found. (image : List ℕ) → S.fits system.new image →
         size ≡ length image → (IsFalse found ↔ IsBlank image)) }
     ensures fits { (image : List ℕ) → S.fits system.new image → S.fits system.old image }
+    ensures counts { S.faults system.old ≤ S.faults system.new }
+    ensures blames { OnErr result (Rose (S.faults system.old) (S.faults system.new)) }
     ensures keeps { KeepsAll (S.holds system.old) (S.holds system.new) }
 {
     let mut piece = [0; PIECE];
@@ -55,6 +60,8 @@ fn holds_something<S: System>(system: &mut S, size: u64) -> io::Result<bool>
 pub fn is_foreign<S: System>(system: &mut S) -> io::Result<bool>
     ensures finds { IfOk result (λ foreign. (image : List ℕ) → S.fits system.new image →
         (IsFalse foreign ↔ IsNative image)) }
+    ensures counts { S.faults system.old ≤ S.faults system.new }
+    ensures blames { OnErr result (Rose (S.faults system.old) (S.faults system.new)) }
     ensures keeps { KeepsAll (S.holds system.old) (S.holds system.new) }
 {
     let length = system.len()?;

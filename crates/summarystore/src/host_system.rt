@@ -1,9 +1,10 @@
 // The real system: a thin layer over the standard library.
-ghost use Rattle.std.specs.Prelude.{⊤};
+ghost use Rattle.std.specs.Prelude.{◌-◌, ◌^◌, ⊤};
 
 #[cfg(test)]
 mod tests;
 
+use crate::judge::require_some;
 use crate::system::{Access, Kind, Lock, Stream, System};
 use std::fs::{self, File, FileType, Metadata, OpenOptions};
 use std::io::{self, ErrorKind};
@@ -93,6 +94,8 @@ impl<R: Files<File = File> + AllocGlobal> System for HostSystem<'_, R> {
 
     ghost has_written = { λ _ _ _. ⊤ };
 
+    ghost faults = { λ _. 2 ^ 64 - 1 };
+
     ghost nothing_written = { λ _ _. tt };
 
     fn kind_of(&mut self, path: &str) -> io::Result<Kind> {
@@ -139,7 +142,7 @@ impl<R: Files<File = File> + AllocGlobal> System for HostSystem<'_, R> {
     }
 
     fn write(&mut self, at: u64, bytes: &[u8]) -> io::Result<usize> {
-        self.opened()?.write_at(bytes, at)
+        require_some(self.opened()?.write_at(bytes, at))
     }
 
     fn sync_data(&mut self) -> io::Result<()> {

@@ -1,5 +1,5 @@
 // What a device answers where the system answers a call of it.
-ghost use Rattle.std.specs.Prelude.{◌≡◌, ◌⊎◌, ◌↔◌, None, Some, IsErr, IsSome, Ok, IfErr, IfOk, OnErr};
+ghost use Rattle.std.specs.Prelude.{◌≡◌, ◌⊎◌, ◌↔◌, None, Some, IsErr, IsSome, Ok, IfErr, IfOk, OnErr, OnOk};
 ghost use Rattle.ss_outside.specs.Verdict.{HasCause};
 ghost use Rattle.ss_outside.specs.Memory.{one_more};
 
@@ -18,6 +18,7 @@ pub fn judge<T: Drop, E: Drop>(
     ensures cause { HasCause faults.old faults.new result }
     ensures tells { IfErr answer (λ error. why.old ≡ None → why.new ≡ Some error) }
     ensures first { IsSome why.old → why.new ≡ why.old }
+    ensures keeps { OnOk result (why.new ≡ why.old) }
 {
     match answer {
         Ok(value) => Ok(value),

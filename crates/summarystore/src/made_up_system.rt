@@ -1,7 +1,8 @@
 // A system in memory, with one file at most. It writes down its calls, and some of them fail, are interrupted or move fewer
 // bytes than they were asked for.
-ghost use Rattle.std.specs.Prelude.{⊤};
+ghost use Rattle.std.specs.Prelude.{◌-◌, ◌^◌, ⊤};
 
+use crate::judge::require_some;
 use crate::system::{Access, Kind, Lock, Stream, System};
 use std::alloc::Global;
 use std::io::{self, ErrorKind};
@@ -103,6 +104,8 @@ impl System for MadeUpSystem {
 
     ghost has_written = { λ _ _ _. ⊤ };
 
+    ghost faults = { λ _. 2 ^ 64 - 1 };
+
     ghost nothing_written = { λ _ _. tt };
 
     fn kind_of(&mut self, path: &str) -> io::Result<Kind> {
@@ -168,7 +171,7 @@ impl System for MadeUpSystem {
             self.put(place, *byte)?;
             place = place.saturating_add(1);
         }
-        Ok(count)
+        require_some(Ok(count))
     }
 
     fn sync_data(&mut self) -> io::Result<()> {

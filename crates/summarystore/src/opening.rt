@@ -1,7 +1,10 @@
 // How the file of a store is opened.
-ghost use Rattle.std.specs.Prelude.{◌≡◌, ◌⊎◌, ◌↔◌, ℕ, List, Ok, Some, true, false, IsTrue, IfOk, OnOk};
+ghost use Rattle.std.specs.Prelude.{◌≡◌, ◌⊎◌, ◌↔◌, ◌≤◌, ℕ, List, Ok, None, Some, true, false, IsTrue, IsErr, IsSome, IfErr, IfOk, OnErr, OnOk};
+ghost use Rattle.ss_outside.specs.Verdict.{Rose};
 ghost use Rattle.ss_arguments.specs.Modes.{words_of};
 ghost use Rattle.summarystore.specs.Opening.{IsHeldAs, IsLocked, IsLockedAs, IsNative, IsSettledAs, MayHold, StaysUnmade, is_check, missing_for};
+ghost use Rattle.summarystore.specs.Reason.{IsOwn};
+ghost use Rattle.summarystore.specs.System.{Absent};
 ghost use Rattle.summarystore.specs.System.{Apart, Durable, IsUnsyncable, Keeps, KeepsAll, LockedBy, Synced, Unmade, Unsyncable, Unwritten};
 ghost use Rattle.summarystore.specs.System.{lasts_lock, lasts_open};
 
@@ -55,7 +58,10 @@ pub enum Opened {
 
 // Fails where this isn't a regular file.
 fn require_regular(found: io::Result<Kind>) -> Result<(), Reason>
-    ensures { OnOk result (found ≡ Ok Kind.Regular) }
+    ensures regular { OnOk result (found ≡ Ok Kind.Regular) }
+    ensures blames { IfErr result (λ reason. IsSome reason.error → IsErr found) }
+    ensures own { IfErr result (λ reason. reason.error ≡ None →
+        (kind : Kind) × (found ≡ Ok kind) × (reason.trouble ≡ Trouble.Irregular kind) × (kind ≡ Kind.Regular → ⊥)) }
 {
     match found {
         Ok(Kind::Regular) => Ok(()),
@@ -94,6 +100,10 @@ fn is_unsyncable(error: &io::Error) -> bool
 // Fails where the folder that the file would lie in is missing.
 fn require_folder<S: System>(system: &mut S, path: &str) -> Result<(), Reason>
     ensures keeps { KeepsAll (S.holds system.old) (S.holds system.new) }
+    ensures counts { S.faults system.old ≤ S.faults system.new }
+    ensures blames { IfErr result (λ reason. IsSome reason.error → Rose (S.faults system.old) (S.faults system.new)) }
+    ensures own { (path : List ℕ) → IfErr result (λ reason. reason.error ≡ None →
+        IsOwn path None (S.holds system.new) (S.fits system.new) reason.trouble) }
 {
     let folder = match Path::new(path).parent() {
         Some(folder) => folder.to_string_lossy(),
@@ -110,6 +120,10 @@ fn require_folder<S: System>(system: &mut S, path: &str) -> Result<(), Reason>
 fn require_apart<S: System>(system: &mut S) -> Result<(), Reason>
     ensures apart { OnOk result (S.holds system.new Apart) }
     ensures keeps { KeepsAll (S.holds system.old) (S.holds system.new) }
+    ensures counts { S.faults system.old ≤ S.faults system.new }
+    ensures blames { IfErr result (λ reason. IsSome reason.error → Rose (S.faults system.old) (S.faults system.new)) }
+    ensures own { (path : List ℕ) → IfErr result (λ reason. reason.error ≡ None →
+        IsOwn path None (S.holds system.new) (S.fits system.new) reason.trouble) }
 {
     match system.stream_into() {
         Ok(None) => Ok(()),
@@ -122,6 +136,10 @@ fn require_apart<S: System>(system: &mut S) -> Result<(), Reason>
 fn lock<S: System>(system: &mut S, how: Lock) -> Result<(), Reason>
     ensures locks { OnOk result (S.holds system.new (LockedBy how)) }
     ensures keeps { Keeps lasts_lock (S.holds system.old) (S.holds system.new) }
+    ensures counts { S.faults system.old ≤ S.faults system.new }
+    ensures blames { IfErr result (λ reason. IsSome reason.error → Rose (S.faults system.old) (S.faults system.new)) }
+    ensures own { (path : List ℕ) → IfErr result (λ reason. reason.error ≡ None →
+        IsOwn path None (S.holds system.new) (S.fits system.new) reason.trouble) }
 {
     match system.lock(how) {
         Ok(()) => Ok(()),
@@ -130,17 +148,36 @@ fn lock<S: System>(system: &mut S, how: Lock) -> Result<(), Reason>
     }
 }
 
-// Opens a file to be read alone, and locks it against those that write. Where there is none, this is the reason.
-fn open_to_read<S: System>(system: &mut S, path: &str, missing: Reason) -> Result<Opened, Reason>
+// Why there is no file: none was to be made, or making it failed.
+fn no_file(unmade: Option<io::Error>) -> Reason
+    ensures error { result.error ≡ unmade }
+    ensures own { unmade ≡ None → result.trouble ≡ Trouble.NoFile }
+{
+    match unmade {
+        None => Reason::own(Trouble::NoFile),
+        Some(error) => Reason::of(error, Trouble::NotMakeable),
+    }
+}
+
+// Opens a file to be read alone, and locks it against those that write. Where there is none, it may be one that couldn't be made.
+fn open_to_read<S: System>(
+    system: &mut S,
+    path: &str,
+    unmade: Option<io::Error>,
+) -> Result<Opened, Reason>
     ensures read_only { IfOk result (λ opened. opened ≡ Opened.ReadOnly) }
     ensures locked { OnOk result (IsLocked Access.Read Lock.Shared (S.holds system.new)) }
     ensures apart { OnOk result (S.holds system.new Apart) }
     ensures unmade { S.holds system.old Unmade → S.holds system.new Unmade }
     ensures unwritten { S.holds system.old Unwritten → S.holds system.new Unwritten }
+    ensures counts { S.faults system.old ≤ S.faults system.new }
+    ensures blames { IfErr result (λ reason. IsSome reason.error → Rose (S.faults system.old) (S.faults system.new)) }
+    ensures own { IfErr result (λ reason. reason.error ≡ None →
+        IsOwn path.now None (S.holds system.new) (S.fits system.new) reason.trouble) }
 {
     match system.open(path, Access::Read) {
         Ok(()) => {}
-        Err(error) if error.kind() == ErrorKind::NotFound => return Err(missing),
+        Err(error) if error.kind() == ErrorKind::NotFound => return Err(no_file(unmade)),
         Err(error) => return Err(Reason::of(error, refusal(&error))),
     }
     require_apart(system)?;
@@ -154,11 +191,15 @@ fn open_to_write<S: System>(system: &mut S, path: &str, is_there: bool) -> Resul
     ensures locked { IfOk result (λ opened. IsLockedAs Missing.Make opened (S.holds system.new)) }
     ensures apart { OnOk result (S.holds system.new Apart) }
     ensures unwritten { S.holds system.old Unwritten → S.holds system.new Unwritten }
+    ensures counts { S.faults system.old ≤ S.faults system.new }
+    ensures blames { IfErr result (λ reason. IsSome reason.error → Rose (S.faults system.old) (S.faults system.new)) }
+    ensures own { IfErr result (λ reason. reason.error ≡ None →
+        IsOwn path.now None (S.holds system.new) (S.fits system.new) reason.trouble) }
 {
     match system.open(path, Access::Make) {
         Ok(()) => {}
         Err(error) if is_read_only(&error) => {
-            return open_to_read(system, path, Reason::of(error, Trouble::NotMakeable));
+            return open_to_read(system, path, Some(error));
         }
         Err(error) => return Err(Reason::of(error, refusal(&error))),
     }
@@ -177,6 +218,10 @@ fn open_there<S: System>(system: &mut S, path: &str) -> Result<Opened, Reason>
     ensures apart { OnOk result (S.holds system.new Apart) }
     ensures unmade { S.holds system.old Unmade → S.holds system.new Unmade }
     ensures unwritten { S.holds system.old Unwritten → S.holds system.new Unwritten }
+    ensures counts { S.faults system.old ≤ S.faults system.new }
+    ensures blames { IfErr result (λ reason. IsSome reason.error → Rose (S.faults system.old) (S.faults system.new)) }
+    ensures own { IfErr result (λ reason. reason.error ≡ None →
+        IsOwn path.now None (S.holds system.new) (S.fits system.new) reason.trouble) }
 {
     match system.open(path, Access::Write) {
         Ok(()) => {}
@@ -184,7 +229,7 @@ fn open_there<S: System>(system: &mut S, path: &str) -> Result<Opened, Reason>
             Trouble::NoFile,
         )),
         Err(error) if is_read_only(&error) => {
-            return open_to_read(system, path, Reason::own(Trouble::NoFile));
+            return open_to_read(system, path, None);
         }
         Err(error) => return Err(Reason::of(error, refusal(&error))),
     }
@@ -204,12 +249,15 @@ fn open_locked<S: System>(
     ensures apart { OnOk result (S.holds system.new Apart) }
     ensures unmade { StaysUnmade missing (S.holds system.old) (S.holds system.new) }
     ensures unwritten { S.holds system.old Unwritten → S.holds system.new Unwritten }
+    ensures counts { S.faults system.old ≤ S.faults system.new }
+    ensures blames { IfErr result (λ reason. IsSome reason.error → Rose (S.faults system.old) (S.faults system.new)) }
+    ensures own { IfErr result (λ reason. reason.error ≡ None →
+        IsOwn path.now None (S.holds system.new) (S.fits system.new) reason.trouble) }
 {
-    let none = Reason::own(Trouble::NoFile);
     match missing {
         Missing::Make => open_to_write(system, path, is_there),
         Missing::Fail => open_there(system, path),
-        Missing::ReadEmpty | Missing::ReadFail => open_to_read(system, path, none),
+        Missing::ReadEmpty | Missing::ReadFail => open_to_read(system, path, None),
     }
 }
 
@@ -217,6 +265,11 @@ fn open_locked<S: System>(
 // something.
 fn is_there<S: System>(system: &mut S, path: &str) -> Result<bool, Reason>
     ensures keeps { KeepsAll (S.holds system.old) (S.holds system.new) }
+    ensures absent { result ≡ Ok false → S.holds system.new Absent }
+    ensures counts { S.faults system.old ≤ S.faults system.new }
+    ensures blames { IfErr result (λ reason. IsSome reason.error → Rose (S.faults system.old) (S.faults system.new)) }
+    ensures own { IfErr result (λ reason. reason.error ≡ None →
+        IsOwn path.now None (S.holds system.new) (S.fits system.new) reason.trouble) }
 {
     match system.kind_of(path) {
         Err(error) if error.kind() == ErrorKind::NotFound => Ok(false),
@@ -231,6 +284,10 @@ fn is_there<S: System>(system: &mut S, path: &str) -> Result<bool, Reason>
 fn make_durable<S: System>(system: &mut S, path: &str) -> Result<(), Reason>
     ensures durable { OnOk result (S.holds system.new Durable) }
     ensures keeps { KeepsAll (S.holds system.old) (S.holds system.new) }
+    ensures counts { S.faults system.old ≤ S.faults system.new }
+    ensures blames { IfErr result (λ reason. IsSome reason.error → Rose (S.faults system.old) (S.faults system.new)) }
+    ensures own { (path : List ℕ) → IfErr result (λ reason. reason.error ≡ None →
+        IsOwn path None (S.holds system.new) (S.fits system.new) reason.trouble) }
 {
     if let Err(error) = system.sync_all() {
         return Err(Reason::of(error, Trouble::NotSynced));
@@ -245,6 +302,10 @@ fn make_durable<S: System>(system: &mut S, path: &str) -> Result<(), Reason>
 fn make_durable_where_it_can_be<S: System>(system: &mut S) -> Result<(), Reason>
     ensures synced { OnOk result (S.holds system.new Synced ⊎ S.holds system.new Unsyncable) }
     ensures keeps { KeepsAll (S.holds system.old) (S.holds system.new) }
+    ensures counts { S.faults system.old ≤ S.faults system.new }
+    ensures blames { IfErr result (λ reason. IsSome reason.error → Rose (S.faults system.old) (S.faults system.new)) }
+    ensures own { (path : List ℕ) → IfErr result (λ reason. reason.error ≡ None →
+        IsOwn path None (S.holds system.new) (S.fits system.new) reason.trouble) }
 {
     match system.sync_all() {
         Ok(()) => Ok(()),
@@ -257,6 +318,10 @@ fn make_durable_where_it_can_be<S: System>(system: &mut S) -> Result<(), Reason>
 fn settle<S: System>(system: &mut S, path: &str, opened: Opened) -> Result<(), Reason>
     ensures settled { OnOk result (IsSettledAs opened (S.holds system.new)) }
     ensures keeps { KeepsAll (S.holds system.old) (S.holds system.new) }
+    ensures counts { S.faults system.old ≤ S.faults system.new }
+    ensures blames { IfErr result (λ reason. IsSome reason.error → Rose (S.faults system.old) (S.faults system.new)) }
+    ensures own { (path : List ℕ) → IfErr result (λ reason. reason.error ≡ None →
+        IsOwn path None (S.holds system.new) (S.fits system.new) reason.trouble) }
 {
     match opened {
         Opened::Nothing => Ok(()),
@@ -269,6 +334,10 @@ fn settle<S: System>(system: &mut S, path: &str, opened: Opened) -> Result<(), R
 fn refuse_foreign<S: System>(system: &mut S) -> Result<(), Reason>
     ensures native { OnOk result ((image : List ℕ) → S.fits system.new image → IsNative image) }
     ensures keeps { KeepsAll (S.holds system.old) (S.holds system.new) }
+    ensures counts { S.faults system.old ≤ S.faults system.new }
+    ensures blames { IfErr result (λ reason. IsSome reason.error → Rose (S.faults system.old) (S.faults system.new)) }
+    ensures own { (path : List ℕ) → IfErr result (λ reason. reason.error ≡ None →
+        IsOwn path None (S.holds system.new) (S.fits system.new) reason.trouble) }
 {
     match is_foreign(system) {
         Ok(false) => Ok(()),
@@ -288,6 +357,10 @@ pub fn open<S: System>(system: &mut S, path: &str, missing: Missing) -> Result<O
     ensures unopened { result ≡ Ok Opened.Nothing → KeepsAll (S.holds system.old) (S.holds system.new) }
     ensures unmade { StaysUnmade missing (S.holds system.old) (S.holds system.new) }
     ensures unwritten { S.holds system.old Unwritten → S.holds system.new Unwritten }
+    ensures counts { S.faults system.old ≤ S.faults system.new }
+    ensures blames { IfErr result (λ reason. IsSome reason.error → Rose (S.faults system.old) (S.faults system.new)) }
+    ensures own { IfErr result (λ reason. reason.error ≡ None →
+        IsOwn path.now None (S.holds system.new) (S.fits system.new) reason.trouble) }
 {
     if path.is_empty() {
         return Err(Reason::own(Trouble::NoName));

@@ -1,5 +1,5 @@
 // Why the file of a store can't be used.
-ghost use Rattle.std.specs.Prelude.{◌≡◌};
+ghost use Rattle.std.specs.Prelude.{◌≡◌, Some};
 ghost use Rattle.summarystore.specs.Reason.{own};
 
 use crate::system::{Kind, Stream};
@@ -93,7 +93,9 @@ impl Reason {
     }
 
     /// The reason of an error: this one, unless the device is full.
-    pub fn of(error: io::Error, trouble: Trouble) -> Reason {
+    pub fn of(error: io::Error, trouble: Trouble) -> Reason
+        ensures { result.error ≡ Some error }
+    {
         let trouble = match error.kind() {
             ErrorKind::StorageFull | ErrorKind::QuotaExceeded => Trouble::Full,
             _ => trouble,

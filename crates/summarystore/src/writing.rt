@@ -1,5 +1,6 @@
 // Whole writes, of calls that may move fewer bytes or be interrupted.
-ghost use Rattle.std.specs.Prelude.{◌+◌, ◌<◌, ◌^◌, length, OnOk};
+ghost use Rattle.std.specs.Prelude.{◌+◌, ◌<◌, ◌≤◌, ◌^◌, length, OnErr, OnOk};
+ghost use Rattle.ss_outside.specs.Verdict.{Rose};
 ghost use Rattle.summarystore.specs.System.{Keeps, lasts_write};
 
 use crate::system::System;
@@ -9,19 +10,20 @@ use std::io::{self, ErrorKind};
 pub fn write_whole<S: System>(system: &mut S, at: u64, bytes: &[u8]) -> io::Result<()>
     ensures writes { at + length bytes.now < 2 ^ 64 →
         OnOk result (S.has_written system.new at bytes.now) }
+    ensures counts { S.faults system.old ≤ S.faults system.new }
+    ensures blames { OnErr result (Rose (S.faults system.old) (S.faults system.new)) }
     ensures keeps { Keeps lasts_write (S.holds system.old) (S.holds system.new) }
 {
     let mut done = 0;
-    for _ in 0..u64::MAX {
-        if done >= bytes.len() {
-            return Ok(());
-        }
+    let mut interrupts = 0u64;
+    while done < bytes.len() {
         match system.write(at.saturating_add(done as u64), &bytes[done..]) {
-            Ok(0) => return Err(io::Error::from(ErrorKind::WriteZero)),
             Ok(count) => done += count,
-            Err(error) if error.kind() == ErrorKind::Interrupted => {}
+            Err(error) if error.kind() == ErrorKind::Interrupted && interrupts < u64::MAX => {
+                interrupts += 1;
+            }
             Err(error) => return Err(error),
         }
     }
-    Err(io::Error::from(ErrorKind::Interrupted))
+    Ok(())
 }

@@ -278,6 +278,63 @@ fn a_call_that_fails_is_the_last(rt: HostRuntime) -> Result<(), Fail> {
     Ok(())
 }
 
+// What has the path, the call that fails, how, and whether the reason has an error of the system.
+const REASONS: [(&str, &str, &str, bool); 9] = [
+    ("folder", "", "", false),
+    ("output", "", "", false),
+    ("file", "lock", "WouldBlock", false),
+    ("file", "lock", "Other", true),
+    ("file", "kind_of", "Other", true),
+    ("none", "make", "NotFound", true),
+    ("file", "sync_folder", "Other", true),
+    ("file", "len", "Other", true),
+    ("file", "read", "Other", true),
+];
+
+// Whether a call has failed, and its reason has an error of the system exactly where it is to.
+fn is_blamed(disk: &FileDisk<MadeUpSystem>, has_error: bool) -> bool {
+    match disk.why() {
+        Some(reason) => reason.error.is_some() == has_error,
+        None => false,
+    }
+}
+
+fn fails_by(
+    alloc: Global,
+    found: &str,
+    failing: &'static str,
+    error: &str,
+    has_error: bool,
+) -> Result<bool, AllocError> {
+    let mut disk = disk_over(alloc, found, failing, error, Missing::Make)?;
+    Ok(disk.len().is_err() && is_blamed(&disk, has_error))
+}
+
+fn all_fail_by(alloc: Global) -> Result<bool, AllocError> {
+    for (found, failing, error, has_error) in &REASONS {
+        if !fails_by(alloc, *found, *failing, *error, *has_error)? {
+            return Ok(false);
+        }
+    }
+    Ok(true)
+}
+
+// Whether a write fails for a reason of the store's own where the file may only be read, and by an error of the system where
+// that moves nothing.
+fn write_fails_by(alloc: Global, found: &str, has_error: bool) -> Result<bool, AllocError> {
+    let mut disk = disk_over(alloc, found, "", "", Missing::Make)?;
+    disk.system.most = 0;
+    Ok(disk.write_at(0, b"a").is_err() && is_blamed(&disk, has_error))
+}
+
+#[test]
+fn a_call_fails_for_a_reason(rt: HostRuntime) -> Result<(), Fail> {
+    let alloc = rt.alloc();
+    assert!(rt; all_fail_by(alloc)?);
+    assert!(rt; write_fails_by(alloc, "read-only", false)? && write_fails_by(alloc, "file", true)?);
+    Ok(())
+}
+
 // Whether a disk holds these four bytes at a place.
 fn holds<D: Disk>(disk: &mut D, at: u64, bytes: [u8; 4]) -> bool {
     let mut buffer = [7; 4];

@@ -7,6 +7,7 @@ use Rattle.summarystore.proofs.foreign.holds_something.Goals as goal
 
 pub loop-n-preserved : goal.loop-n-preserved
 loop-n-preserved g c = record {
+  counts = search rules;
   keeps = search rules;
   fits = search rules;
   zeros = λ image fits whole place from below.
