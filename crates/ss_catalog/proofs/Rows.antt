@@ -5,6 +5,7 @@ use Rattle.ss_catalog.specs.Events.{IsInTime, event_name}
 use Rattle.ss_catalog.specs.Names.{is_name}
 use Rattle.ss_catalog.specs.Params.{exp as Exp, in_range, is_step, power as Power, step_for, step_number}
 use Rattle.ss_catalog.specs.Queries.{adds_up, end_name, is_guess, kind_name, query_verb, series_verb}
+use Rattle.ss_catalog.specs.Refusal.{refusal_name, refusal_number}
 use Rattle.ss_catalog.specs.Series.{IsSeriesInRange, numbers_from, row_query, rows_in, rows_of, whole_query}
 use Rattle.ss_catalog.specs.declared.TheConstants.{LAST_TIME, MOST_ROWS, MOST_STREAMS, LAST_STREAM}
 use Rattle.ss_catalog.specs.declared.event.Event.TheVariants as events
@@ -13,6 +14,8 @@ use Rattle.ss_catalog.specs.declared.params.Params.{Params}
 use Rattle.ss_catalog.specs.declared.params.TheConstants.{GREATEST_BASE, GREATEST_POWER, GREATEST_WIDENING, GREATEST_SCALE}
 use Rattle.ss_catalog.specs.declared.query.End.TheVariants.{Lo, Hi}
 use Rattle.ss_catalog.specs.declared.query.Kind.TheVariants.{Count, Sum, Min, Max, Has, CountGuess, SumGuess}
+use Rattle.ss_catalog.specs.declared.refusal.Refusal.{Refusal}
+use Rattle.ss_catalog.specs.declared.refusal.Refusal.TheVariants as refusals
 use Rattle.ss_catalog.specs.declared.series.Series.{Series}
 use Rattle.ss_catalog.specs.declared.stream_id.StreamId.{StreamId}
 
@@ -191,3 +194,16 @@ module _ (name : List ℕ) where
 
   late-end : IsSeriesInRange (record { name = name; kind = Sum; from = LAST_TIME; to = LAST_TIME + 1; step = 1 }) → ⊥
   late-end series = omega (arith, series.to)
+
+-- the refusals in the order in which they are tested
+abbrev all_refusals : List Refusal
+all_refusals = refusals.Line ∷ refusals.Syntax ∷ refusals.Number ∷ refusals.Name ∷ refusals.Param ∷ refusals.Exists ∷ refusals.Streams ∷ refusals.Unknown ∷ refusals.Open
+    ∷ refusals.NotOpen ∷ refusals.Time ∷ refusals.Range ∷ refusals.StreamFull ∷ refusals.StoreFull ∷ refusals.Busy ∷ refusals.NoCursor ∷ refusals.Frame ∷ []
+
+refusals-numbers : map refusal_number all_refusals ≡ 1 ∷ 2 ∷ 3 ∷ 4 ∷ 5 ∷ 6 ∷ 7 ∷ 8 ∷ 9 ∷ 10 ∷ 11 ∷ 12 ∷ 13 ∷ 14 ∷ 15 ∷ 16 ∷ 17 ∷ []
+refusals-numbers = refl
+
+refusals-names : map refusal_name all_refusals ≡ codes "LINE" ∷ codes "SYNTAX" ∷ codes "NUMBER" ∷ codes "NAME" ∷ codes "PARAM" ∷ codes "EXISTS"
+    ∷ codes "STREAMS" ∷ codes "UNKNOWN" ∷ codes "OPEN" ∷ codes "NOT_OPEN" ∷ codes "TIME" ∷ codes "RANGE"
+    ∷ codes "STREAM_FULL" ∷ codes "STORE_FULL" ∷ codes "BUSY" ∷ codes "NO_CURSOR" ∷ codes "FRAME" ∷ []
+refusals-names = refl
