@@ -182,6 +182,13 @@ means-landmarks_refused :
 unfolding meaning words is_number number_of number_up_to signed_of is_name
 means-landmarks_refused = refl
 
+-- a number that is none comes before a name that is none, in every form
+means-numbers_first :
+    map meaning (codes "landmark x! close y" ∷ codes "create x! power 1 0 1 y" ∷ codes "create x! power 1 0 1 1 within y" ∷ codes "create x! power 1 0 1 1" ∷ [])
+    ≡ map refused (refusals.Number ∷ refusals.Number ∷ refusals.Number ∷ refusals.Name ∷ [])
+unfolding meaning words is_number number_of number_up_to signed_of is_name
+means-numbers_first = refl
+
 means-drops : map meaning (codes "drop a" ∷ codes " drop\tabcdefghijklmnopqrstuvwxyz012345 " ∷ [])
     ≡ Ok (Some (commands.Do (Drop (codes "a")))) ∷ Ok (Some (commands.Do (Drop (codes "abcdefghijklmnopqrstuvwxyz012345")))) ∷ []
 unfolding meaning words is_name
