@@ -59,7 +59,7 @@ fn one_open(current: &Option<Opened>) -> usize
 }
 
 impl Landmarks {
-    ghost use Rattle.std.specs.Prelude.{◌≡◌, ◌+◌, ◌<◌, ◌≤◌, ◌↔◌, FitsSigned, [], ◌∷◌, ◌++◌, length, map, slice_get, take, drop, option_map, IsNone, OnOk, Some};
+    ghost use Rattle.std.specs.Prelude.{◌≡◌, ◌+◌, ◌<◌, ◌≤◌, ◌↔◌, FitsSigned, [], ◌∷◌, ◌++◌, length, map, slice_get, take, drop, max, option_map, IsNone, OnOk, Some};
     ghost use Rattle.std.specs.Int.{w64};
     ghost use Rattle.std.specs.List.{All};
     ghost use Rattle.ss_landmarks.specs.Free.{free};
@@ -89,6 +89,7 @@ impl Landmarks {
         requires values { length (all_values self.old.landmarks) < MOST_LANDMARK_SLOTS }
         ensures ok { OnOk result ((1 ≤ self.new.room) × (1 ≤ self.new.value_room)) }
         ensures grows { (self.old.room ≤ self.new.room) × (self.old.value_room ≤ self.new.value_room) }
+        ensures least { (self.new.room ≤ max self.old.room 1) × (self.new.value_room ≤ max self.old.value_room 1) }
         ensures landmarks { self.new.landmarks ≡ self.old.landmarks }
         ensures slots { self.new.slots ≡ self.old.slots }
         ensures value_slots { self.new.value_slots ≡ self.old.value_slots }
