@@ -48,10 +48,9 @@ moved (Some bytes) after count into left moves is =
     subst (λ bs. (count ≤ length bs) × (take count into ≡ take count bs) × (after ≡ Some (drop count bs))) same (moves.0, moves.2, moves.3)
 
 -- and what one that failed left
-pub unmoved : (before after : Option (List ℕ)) (e : Failed) (into left : List ℕ) → Moves before after (Err e) into → before ≡ Some left →
-    after ≡ Some left
-unmoved None after e into left moves is = cc
-unmoved (Some bytes) after e into left moves is = moves ∙ is
+pub unmoved : (before after : Option (List ℕ)) (e : Failed) (into : List ℕ) → Moves before after (Err e) into → after ≡ before
+unmoved None after e into moves = moves
+unmoved (Some bytes) after e into moves = moves
 
 -- so many bytes of the input were read
 pub record IsLeft (left : Option (List ℕ)) (input : List ℕ) (n : ℕ) : Type 0 where

@@ -1,7 +1,8 @@
 -- How many bytes a run takes of its source, whether it tells them or not.
 use Rattle.std.proofs.Common.{◌≡◌, ◌⊎◌, inl, inr, ℕ, ◌+◌, ◌<◌, ◌≤◌, List, Bool, Option, refl, subst, arith}
+use Rattle.std.proofs.lemmas.Grind.{common_steps}
 use Rattle.ss_outside.specs.Source.{RoseBy}
-use Rattle.ss_program.specs.Ending.{IsUnfed}
+use Rattle.ss_program.specs.Ending.{Feeds, IsUnfed}
 use Rattle.ss_program.specs.Outcome.{TakesFew}
 use Rattle.ss_program.specs.Status.{IsStop}
 use Rattle.ss_program.specs.declared.running.TheConstants.{LONGEST_INPUT}
@@ -28,12 +29,17 @@ TakesFew-stop before mid now n room status going within taken fits more = record
 }
 
 -- and one that took nothing
-pub TakesFew-none : (count : ℕ) (status : Status) → (status ≡ InputLimit → ⊥) → TakesFew count count status
+TakesFew-none : (count : ℕ) (status : Status) → (status ≡ InputLimit → ⊥) → TakesFew count count status
 TakesFew-none count status within = record { few = omega arith; whole = λ is. omega arith; limit = λ is. absurd (within is) }
 
-pub TakesFew-unfed : (count : ℕ) (held after : Option (List ℕ)) (status : Status) → IsUnfed held after status → TakesFew count count status
-TakesFew-unfed count held after status unfed =
-    TakesFew-none count status (λ is. subst (λ s. IsUnfed held after s) is unfed)
+-- nor called its source
+pub Feeds-unfed : {same : Type 0} (faults count : ℕ) (held after : Option (List ℕ)) (status : Status) → same → IsUnfed held after status →
+    Feeds same faults faults count count status
+Feeds-unfed faults count held after status same unfed = record {
+  counted = grind (arith, common_steps);
+  takes = TakesFew-none count status (λ is. subst (λ s. IsUnfed held after s) is unfed);
+  unserved = λ _. same;
+}
 
 -- a run came to the end of its input
 pub TakesFew-end : (tells : Bool) (before now n : ℕ) (status : Status) → RoseBy n before now → n ≤ LONGEST_INPUT →

@@ -22,7 +22,7 @@ use Rattle.ss_program.specs.Steps.{kept_so_far, steps, steps_so_far}
 use Rattle.ss_program.specs.Session.{after_lines, text_of}
 use Rattle.ss_program.specs.Cursor.{Ordered}
 use Rattle.ss_program.specs.Talk.{Talk, Turn, turn_brought, turn_of, turn_said}
-use Rattle.ss_sessions.specs.Cursors.{Cursors}
+use Rattle.ss_sessions.specs.Cursors.{Cursors, no_cursors}
 use Rattle.ss_program.specs.declared.replies.TheConstants.{LONGEST_REPLY, MOST_WAITING_BYTES}
 use Rattle.ss_arguments.specs.declared.mode.Form.{Form}
 use Rattle.ss_arguments.specs.declared.mode.Sealing.{Sealing}
@@ -157,6 +157,12 @@ pub record IsReady (disk : DiskView) (store : StoreState) (waiting : Option (Lis
 pub record IsAtRest (disk : DiskView) (session : SessionState) : Type 0 where
   pub is_open : IsOpen disk session.store
   pub unsaid : NoneWait session.waiting
+
+-- and before the first one also no byte of it was taken, and no cursor is open
+pub record IsAtFront (disk : DiskView) (session : SessionState) : Type 0 where
+  pub rests : IsAtRest disk session
+  pub line : session.line ≡ kept_so_far session.form []
+  pub cursors : session.cursors ≡ no_cursors
 
 -- one reply more can wait
 abbrev pub HasRoom : Option (List ℕ) → Type 0

@@ -1,9 +1,10 @@
 -- What a run over an input leaves, by its status.
 use Rattle.std.specs.Prelude.{◌≡◌, ◌⊎◌, ℕ, ◌+◌, ◌-◌, ◌<◌, ◌≤◌, ◌++◌, ◌∷◌, List, [], take, drop}
-use Rattle.std.specs.Prelude.{length, IfOk, IfErr, Option, Some, Result}
+use Rattle.std.specs.Prelude.{length, IfOk, IfErr, OnErr, Option, Some, Result}
 use Rattle.ss_outside.specs.Crash.{LeavesOnly}
 use Rattle.ss_outside.specs.Disk.{NothingPending, Told}
 use Rattle.ss_outside.specs.Source.{RoseBy}
+use Rattle.ss_outside.specs.Verdict.{Counted}
 use Rattle.ss_store.specs.Recover.{Stands}
 use Rattle.ss_store.specs.Uses.{StandsShort}
 use Rattle.ss_program.specs.declared.running.TheConstants.{LONGEST_INPUT}
@@ -16,6 +17,7 @@ use Rattle.ss_program.specs.Line.{History}
 use Rattle.ss_program.specs.Progress.{GoesOn, OfTaken, SessionState, StandsWithin, StopsAmong, StopsIn}
 use Rattle.ss_program.specs.Sent.{appended, AppendsFront}
 use Rattle.ss_program.specs.Session.{accepted, report, report_so_far}
+use Rattle.ss_program.specs.Status.{ended, source_verdict}
 use Rattle.ss_program.specs.Steps.{steps, steps_so_far}
 use Rattle.ss_program.specs.Talk.{Talk, begun_over}
 
@@ -99,6 +101,18 @@ abbrev pub ServesInput : Form → Sealing → List ℕ → Option (List ℕ) →
 ServesInput form sealing input left before after status old new =
     NothingPending old → (used : Option ℕ) (history : History) → StandsShort used history old.content →
     Serves sealing (begun_over used form history) input left before after old new status
+
+-- What reading a piece leaves of the source, of at most `room` bytes and as many as the buffer holds: its count of faults rose exactly where it
+-- is blamed, and nothing else was done then. How many bytes were taken is told of every source, and what is left of one that tells.
+pub record FeedsPiece (room holds : ℕ) (same : Type 0) (left rest : Option (List ℕ)) (faults_before faults taken_before taken : ℕ)
+    (result : Result ℕ Status) : Type 0 where
+  pub counted : Counted (source_verdict (ended result)) faults_before faults
+  pub fault : ended result ≡ SourceFault → (rest ≡ left) × same
+  pub count : IfOk result (λ count. (count ≤ room) × (count ≤ holds) × RoseBy count taken_before taken)
+  pub few : taken ≤ taken_before + room
+  pub moves : IfOk result (λ count. (bytes : List ℕ) → left ≡ Some bytes → (count ≤ length bytes) × (count ≡ 0 → bytes ≡ [])
+      × (rest ≡ Some (drop count bytes)))
+  pub stopped : OnErr result ((bytes : List ℕ) → left ≡ Some bytes → Moved room bytes rest)
 
 -- A session reads a piece of at most `room` bytes of the input, or the run stops among the lines that end in it.
 pub record ReadsPiece (room : ℕ) (from to : SessionState) (left rest held after : Option (List ℕ)) (result : Result ℕ Status)

@@ -1,8 +1,7 @@
 // Whether a store is sound, and what it holds.
 ghost use Rattle.std.specs.Prelude.{◌≡◌, ◌≤◌, ◌+◌, ◌++◌, length};
-ghost use Rattle.ss_outside.specs.Crash.{OnlyReads};
-ghost use Rattle.ss_outside.specs.Disk.{Between, OfContent};
-ghost use Rattle.ss_program.specs.Checked.{ChecksContent, and_number, survey_line};
+ghost use Rattle.ss_outside.specs.Disk.{Between};
+ghost use Rattle.ss_program.specs.Checked.{ChecksStore, and_number, survey_line};
 ghost use Rattle.ss_program.specs.Devices.{over};
 ghost use Rattle.ss_program.specs.Ending.{Ends, IsUnfed};
 ghost use Rattle.ss_program.specs.Sent.{Puts};
@@ -46,8 +45,7 @@ fn send_survey<K: Sink>(survey: Survey, sink: &mut K) -> Result<(), Failed>
 pub fn check<D: Disk, K: Sink>(alloc: Global, disk: &mut D, sink: &mut K) -> Status
     ensures ends { Ends (over (D.seen disk.old) (K.held sink.old) (K.faults sink.old)) (over (D.seen disk.new) (K.held sink.new) (K.faults sink.new)) result }
     ensures unfed { IsUnfed (K.held sink.old) (K.held sink.new) result }
-    ensures unwritten { Between (D.seen disk.old) (D.seen disk.new) OnlyReads }
-    ensures checks { OfContent (D.seen disk.old) (ChecksContent (K.held sink.old) (K.held sink.new) result) }
+    ensures checks { Between (D.seen disk.old) (D.seen disk.new) (ChecksStore (K.held sink.old) (K.held sink.new) result) }
 {
     match Store::survey(alloc, disk) {
         Ok(survey) => match send_survey(survey, sink) {

@@ -24,26 +24,23 @@ ghost use Rattle.std.specs.Prelude.{
   OnOk,
   OnErr,
 };
-ghost use Rattle.ss_outside.specs.Crash.{OnlyReads};
-ghost use Rattle.ss_outside.specs.Disk.{Between, OfContent};
+ghost use Rattle.ss_outside.specs.Disk.{Between};
 ghost use Rattle.ss_outside.specs.Source.{RoseBy};
 ghost use Rattle.ss_outside.specs.Step.{Step};
 ghost use Rattle.ss_outside.specs.Verdict.{Counted, HasCause, Rose};
 ghost use Rattle.ss_store.specs.Recover.{Stands};
 ghost use Rattle.ss_arguments.specs.Modes.{are_refused_at_once, mode_of, words_of};
-ghost use Rattle.ss_program.specs.Amid.{IsAtRest};
-ghost use Rattle.ss_program.specs.Checked.{ChecksContent};
+ghost use Rattle.ss_program.specs.Amid.{IsAtFront, IsAtRest};
+ghost use Rattle.ss_program.specs.Checked.{ChecksStore};
 ghost use Rattle.ss_program.specs.Devices.{over};
-ghost use Rattle.ss_program.specs.Ending.{Completes, Ends, Feeds, HasNumbers, IsRefusedContent, IsUnfed, Unfed, served_by, serving};
+ghost use Rattle.ss_program.specs.Ending.{Completes, Ends, Feeds, HasNumbers, IsRefusedContent, Unfed, served_by, serving};
 ghost use Rattle.ss_program.specs.Generated.{GeneratesFrom};
 ghost use Rattle.ss_program.specs.Line.{History};
-ghost use Rattle.ss_program.specs.Outcome.{Moved, Reads, ReadsPiece, ServesInput, TakesFew};
+ghost use Rattle.ss_program.specs.Outcome.{FeedsPiece, Reads, ReadsPiece, ServesInput, TakesFew};
 ghost use Rattle.ss_program.specs.Progress.{sealing_by};
 ghost use Rattle.ss_program.specs.Promises.{ChecksBy, EndsBy, GeneratesBy, RejectsBy, ServesBy};
-ghost use Rattle.ss_sessions.specs.Cursors.{no_cursors};
 ghost use Rattle.ss_arguments.specs.declared.mode.Form.{Form};
 ghost use Rattle.ss_arguments.specs.declared.mode.Sealing.{Sealing};
-ghost use Rattle.ss_program.specs.Steps.{kept_so_far};
 ghost use Rattle.ss_program.specs.Status.{EndsAs, EndsServing, disk_verdict, ended, sink_verdict, source_verdict, IsStop};
 
 use crate::buffer::buffer_for;
@@ -70,24 +67,16 @@ fn read_piece<D: Disk, S: Source, K: Sink>(
     source: &mut S,
     sink: &mut K,
 ) -> Result<u64, Status>
-    requires buffer { 0 < length buffer.old }
-    requires room { 0 < room }
+    requires some { (0 < length buffer.old) × (0 < room) }
     // The source is asked only where no reply waits, and all is on the disk.
     requires rests { IsAtRest (D.seen disk.old) session.old }
     ensures reads { Step (disk_verdict (ended result)) (D.seen disk.old) (D.seen disk.new) (ReadsPiece room session.old session.new
         (S.left source.old) (S.left source.new) (K.held sink.old) (K.held sink.new) result) }
-    ensures moves { IfOk result (λ count. (left : List ℕ) → S.left source.old ≡ Some left → (count ≤ length left)
-        × (count ≡ 0 → left ≡ []) × (S.left source.new ≡ Some (drop count left))) }
-    ensures stopped { OnErr result ((left : List ℕ) → S.left source.old ≡ Some left → Moved room left (S.left source.new)) }
-    ensures count { IfOk result (λ count. (count ≤ room) × (count ≤ length buffer.old)) }
-    ensures taken { IfOk result (λ count. RoseBy count (S.taken source.old) (S.taken source.new)) }
-    ensures few { S.taken source.new ≤ S.taken source.old + room }
+    ensures feeds { FeedsPiece room (length buffer.old) ((session.new ≡ session.old) × (K.held sink.new ≡ K.held sink.old) × (disk.new ≡ disk.old))
+        (S.left source.old) (S.left source.new) (S.faults source.old) (S.faults source.new) (S.taken source.old) (S.taken source.new) result }
     ensures same { length buffer.new ≡ length buffer.old }
-    ensures fault { ended result ≡ Status.SourceFault → (S.left source.new ≡ S.left source.old)
-        × (session.new ≡ session.old) × (K.held sink.new ≡ K.held sink.old) × (disk.new ≡ disk.old) }
     ensures rests { OnOk result (IsAtRest (D.seen disk.new) session.new) }
     ensures status { IfErr result (λ status. (status ≡ Status.SourceFault) ⊎ IsStop (D.seen disk.old).tells status) }
-    ensures source { Counted (source_verdict (ended result)) (S.faults source.old) (S.faults source.new) }
     ensures sink { Counted (sink_verdict (ended result)) (K.faults sink.old) (K.faults sink.new) }
 {
     let want = room.min(buffer.len() as u64) as usize;
@@ -128,9 +117,7 @@ fn serve<D: Disk, S: Source, K: Sink>(
     sink: &mut K,
 ) -> Status
     requires buffer { 0 < length buffer.old }
-    requires rests { IsAtRest (D.seen disk.old) session.old }
-    requires front { session.old.line ≡ kept_so_far session.old.form [] }
-    requires cursors { session.old.cursors ≡ no_cursors }
+    requires front { IsAtFront (D.seen disk.old) session.old }
     ensures known { EndsServing (D.seen disk.old).tells result }
     ensures source { Counted (source_verdict result) (S.faults source.old) (S.faults source.new) }
     ensures taken { TakesFew (S.taken source.old) (S.taken source.new) result }
@@ -166,9 +153,7 @@ fn serve_store<D: Disk, S: Source, K: Sink>(
 ) -> Status
     requires { 0 < length buffer.old }
     ensures ends { Ends (over (D.seen disk.old) (K.held sink.old) (K.faults sink.old)) (over (D.seen disk.new) (K.held sink.new) (K.faults sink.new)) result }
-    ensures source { Counted (source_verdict result) (S.faults source.old) (S.faults source.new) }
-    ensures taken { TakesFew (S.taken source.old) (S.taken source.new) result }
-    ensures unserved { result ≡ Status.RefusedStore → source.new ≡ source.old }
+    ensures feeds { Feeds (source.new ≡ source.old) (S.faults source.old) (S.faults source.new) (S.taken source.old) (S.taken source.new) result }
     ensures reads { (input : List ℕ) → S.left source.old ≡ Some input → Reads input (S.left source.new) result }
     ensures serves { (input : List ℕ) → S.left source.old ≡ Some input → Between (D.seen disk.old) (D.seen disk.new)
         (ServesInput form sealing input (S.left source.new) (K.held sink.old) (K.held sink.new) result) }
@@ -192,9 +177,7 @@ fn run_source<D: Disk, S: Source, K: Sink>(
     sink: &mut K,
 ) -> Status
     ensures ends { Ends (over (D.seen disk.old) (K.held sink.old) (K.faults sink.old)) (over (D.seen disk.new) (K.held sink.new) (K.faults sink.new)) result }
-    ensures source { Counted (source_verdict result) (S.faults source.old) (S.faults source.new) }
-    ensures taken { TakesFew (S.taken source.old) (S.taken source.new) result }
-    ensures unserved { result ≡ Status.RefusedStore → source.new ≡ source.old }
+    ensures feeds { Feeds (source.new ≡ source.old) (S.faults source.old) (S.faults source.new) (S.taken source.old) (S.taken source.new) result }
     ensures reads { (input : List ℕ) → S.left source.old ≡ Some input → Reads input (S.left source.new) result }
     ensures serves { (input : List ℕ) → S.left source.old ≡ Some input → Between (D.seen disk.old) (D.seen disk.new)
         (ServesInput form sealing input (S.left source.new) (K.held sink.old) (K.held sink.new) result) }
@@ -223,17 +206,13 @@ fn run_mode<D: Disk, S: Source, K: Sink>(
 ) -> Status
     requires { HasNumbers mode }
     ensures ends { Ends (over (D.seen disk.old) (K.held sink.old) (K.faults sink.old)) (over (D.seen disk.new) (K.held sink.new) (K.faults sink.new)) result }
-    ensures unread { served_by (Some mode) ≡ None → source.new ≡ source.old }
-    ensures unfed { served_by (Some mode) ≡ None → IsUnfed (K.held sink.old) (K.held sink.new) result }
-    ensures source { Counted (source_verdict result) (S.faults source.old) (S.faults source.new) }
-    ensures taken { TakesFew (S.taken source.old) (S.taken source.new) result }
-    ensures unserved { result ≡ Status.RefusedStore → source.new ≡ source.old }
+    ensures unfed { served_by (Some mode) ≡ None → Unfed (source.new ≡ source.old) (K.held sink.old) (K.held sink.new) result }
+    ensures feeds { Feeds (source.new ≡ source.old) (S.faults source.old) (S.faults source.new) (S.taken source.old) (S.taken source.new) result }
     ensures reads { IsSome (served_by (Some mode)) → (input : List ℕ) → S.left source.old ≡ Some input → Reads input (S.left source.new) result }
     ensures serves { (form : Form) (sealing : Sealing) → served_by (Some mode) ≡ Some (serving form sealing) →
         (input : List ℕ) → S.left source.old ≡ Some input →
         Between (D.seen disk.old) (D.seen disk.new) (ServesInput form sealing input (S.left source.new) (K.held sink.old) (K.held sink.new) result) }
-    ensures unwritten { mode ≡ Mode.Check → Between (D.seen disk.old) (D.seen disk.new) OnlyReads }
-    ensures checks { mode ≡ Mode.Check → OfContent (D.seen disk.old) (ChecksContent (K.held sink.old) (K.held sink.new) result) }
+    ensures checks { mode ≡ Mode.Check → Between (D.seen disk.old) (D.seen disk.new) (ChecksStore (K.held sink.old) (K.held sink.new) result) }
     ensures generates { (seed count : ℕ) → mode ≡ Mode.Gen seed count →
         Between (D.seen disk.old) (D.seen disk.new) (GeneratesFrom seed count (K.held sink.old) (K.held sink.new) result) }
 {

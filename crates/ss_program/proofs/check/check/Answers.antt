@@ -18,15 +18,20 @@ returns-in-Ok-send_survey-clause-ends g c =
     c.in-Ok-send_survey.ensures.counted
 
 pub returns-in-Ok-send_survey-clause-checks : goal.returns-in-Ok-send_survey-clause-checks
-returns-in-Ok-send_survey-clause-checks g c told streams is =
+returns-in-Ok-send_survey-clause-checks g c told =
     let before = g.K.Sink.held c.args.sink.now in
     let after = g.K.Sink.held c.send_survey.new.sink in
-    let same = surveyed (g.D.Disk.seen c.args.disk.now).told.content streams c.in-Ok.survey (c.in-Ok.ensures.surveys.told told).surveys is in
-    let sent = subst (λ s. after ≡ appended before (survey_line s)) same c.in-Ok-send_survey.ensures.sends in
+    let found = c.in-Ok.ensures.surveys.told told in
     record {
-      front = AppendsFront-all before after (survey_line (survey_of streams)) sent;
-      whole = λ _. sent;
-      silent = λ going. absurd (going refl);
+      unwritten = found.reads;
+      says = λ streams is.
+          let same = surveyed (g.D.Disk.seen c.args.disk.now).told.content streams c.in-Ok.survey found.surveys is in
+          let sent = subst (λ s. after ≡ appended before (survey_line s)) same c.in-Ok-send_survey.ensures.sends in
+          record {
+            front = AppendsFront-all before after (survey_line (survey_of streams)) sent;
+            whole = λ _. sent;
+            silent = λ going. absurd (going refl);
+          };
     }
 
 pub returns-in-Err-send_survey-clause-ends : goal.returns-in-Err-send_survey-clause-ends
@@ -37,12 +42,17 @@ returns-in-Err-send_survey-clause-ends g c =
     c.in-Err-send_survey.ensures.counted
 
 pub returns-in-Err-send_survey-clause-checks : goal.returns-in-Err-send_survey-clause-checks
-returns-in-Err-send_survey-clause-checks g c told streams is =
+returns-in-Err-send_survey-clause-checks g c told =
     let before = g.K.Sink.held c.args.sink.now in
     let after = g.K.Sink.held c.send_survey.new.sink in
-    let same = surveyed (g.D.Disk.seen c.args.disk.now).told.content streams c.in-Ok.survey (c.in-Ok.ensures.surveys.told told).surveys is in
-    let less = subst (λ s. AppendsLess before after (survey_line s)) same c.in-Err-send_survey.ensures.sends in
-    record { front = (less.0, less.2); whole = λ w. cc; silent = λ _ other. absurd (other refl) }
+    let found = c.in-Ok.ensures.surveys.told told in
+    record {
+      unwritten = found.reads;
+      says = λ streams is.
+          let same = surveyed (g.D.Disk.seen c.args.disk.now).told.content streams c.in-Ok.survey found.surveys is in
+          let less = subst (λ s. AppendsLess before after (survey_line s)) same c.in-Err-send_survey.ensures.sends in
+          record { front = (less.0, less.2); whole = λ w. cc; silent = λ _ other. absurd (other refl) };
+    }
 
 pub returns-in-Err-clause-ends : goal.returns-in-Err-clause-ends
 returns-in-Err-clause-ends g c =
@@ -57,10 +67,15 @@ pub returns-in-Err-clause-unfed : goal.returns-in-Err-clause-unfed
 returns-in-Err-clause-unfed g c = rw c.refuse.ensures.status (unfed-unopened c.in-Err.error _ _ _ _ c.refuse.ensures.says)
 
 pub returns-in-Err-clause-checks : goal.returns-in-Err-clause-checks
-returns-in-Err-clause-checks g c told streams is =
+returns-in-Err-clause-checks g c told =
     let content = (g.D.Disk.seen c.args.disk.now).told.content in
     let before = g.K.Sink.held c.args.sink.now in
-    let un = unopened content streams before (g.K.Sink.held c.refuse.new.sink) (g.K.Sink.faults c.args.sink.now) (g.K.Sink.faults c.refuse.new.sink)
-    c.in-Err.error is
-    (surveys-opens content c.in-Err.error (c.in-Err.ensures.surveys.told told).surveys) c.refuse.ensures.says in
-    rw c.refuse.ensures.status (record { front = (0, un.0 ∙ sym (appended-nil before)); whole = λ done. absurd (un.1 done); silent = λ _ _. un.0 })
+    let found = c.in-Err.ensures.surveys.told told in
+    record {
+      unwritten = found.reads;
+      says = λ streams is.
+          let un = unopened content streams before (g.K.Sink.held c.refuse.new.sink) (g.K.Sink.faults c.args.sink.now) (g.K.Sink.faults c.refuse.new.sink)
+          c.in-Err.error is
+          (surveys-opens content c.in-Err.error found.surveys) c.refuse.ensures.says in
+          rw c.refuse.ensures.status (record { front = (0, un.0 ∙ sym (appended-nil before)); whole = λ done. absurd (un.1 done); silent = λ _ _. un.0 });
+    }

@@ -1,4 +1,4 @@
-use Rattle.std.proofs.Common.{◌≤◌, ◌++◌, Err, rules, refl, subst, arith}
+use Rattle.std.proofs.Common.{◌≤◌, ◌++◌, ◌∙◌, Err, rules, refl, subst, arith}
 use Rattle.std.proofs.lemmas.Grind.{common_steps}
 use Rattle.ss_outside.proofs.StepLemmas.{step-as, step-none}
 use Rattle.ss_program.specs.Outcome.{ReadsPiece}
@@ -16,13 +16,18 @@ returns-in-Err-clause-reads g c =
     held (Err SourceFault))
     (λ told. record { goes = tt; stops = λ other. absurd (other refl) })
 
-pub returns-in-Err-clause-stopped : goal.returns-in-Err-clause-stopped
-returns-in-Err-clause-stopped g c left is = record {
-  count = 0;
-  few = omega arith;
-  within = omega arith;
-  others = unmoved (g.S.Source.left c.args.source.now) (g.S.Source.left c.read.new.self) c.in-Err.field-0 c.read.new.into left c.in-Err.ensures.moves is;
-}
+-- what the source told before and after, and how many bytes were taken
+pub returns-in-Err-clause-feeds : goal.returns-in-Err-clause-feeds
+returns-in-Err-clause-feeds g c =
+    let same = unmoved (g.S.Source.left c.args.source.now) (g.S.Source.left c.read.new.self) c.in-Err.field-0 c.read.new.into c.in-Err.ensures.moves in
+    record {
+      counted = c.in-Err.ensures.cause;
+      fault = λ _. (same, (refl, (refl, refl)));
+      count = tt;
+      few = omega (arith, c.in-Err.ensures.takes);
+      moves = tt;
+      stopped = λ left is. record { count = 0; few = omega arith; within = omega arith; others = same ∙ is };
+    }
 
 pub returns-in-Ok-take-clause-reads : goal.returns-in-Ok-take-clause-reads
 returns-in-Ok-take-clause-reads g c =
@@ -58,16 +63,21 @@ returns-in-Err-take-clause-reads g c =
           );
     })
 
-pub returns-in-Err-take-clause-stopped : goal.returns-in-Err-take-clause-stopped
-returns-in-Err-take-clause-stopped g c left is =
+pub returns-in-Err-take-clause-feeds : goal.returns-in-Err-take-clause-feeds
+returns-in-Err-take-clause-feeds g c =
+    let tells = (g.D.Disk.seen c.args.disk.now).tells in
     let count = c.in-Ok.count in
-    let move = moved (g.S.Source.left c.args.source.now) (g.S.Source.left c.read.new.self) count c.read.new.into left c.in-Ok.ensures.moves is in
     let small : count ≤ c.args.room = first_of (search rules, grind (arith, common_steps)) in
-    record { count = count; few = small; within = move.0; others = move.2 }
-
-pub returns-in-Err-take-clause-fault : goal.returns-in-Err-take-clause-fault
-returns-in-Err-take-clause-fault g c is =
-    absurd ((stop-other (g.D.Disk.seen c.args.disk.now).tells c.in-Err-take.status c.in-Err-take.ensures.status).2 is)
+    record {
+      counted = search rules;
+      fault = λ is. absurd ((stop-other tells c.in-Err-take.status c.in-Err-take.ensures.status).2 is);
+      count = tt;
+      few = omega (arith, small, c.in-Ok.ensures.takes);
+      moves = tt;
+      stopped = λ left is.
+          let move = moved (g.S.Source.left c.args.source.now) (g.S.Source.left c.read.new.self) count c.read.new.into left c.in-Ok.ensures.moves is in
+          record { count = count; few = small; within = move.0; others = move.2 };
+    }
 
 pub take-requires : goal.take-requires
 take-requires g c = c.requires.rests.is_open

@@ -36,7 +36,7 @@ returns-in-Ok-Some-clause-source g c status is =
     by-number (λ s. Feeds (c.run_mode.new.source ≡ c.args.source.now) (g.S.Source.faults c.args.source.now) (g.S.Source.faults c.run_mode.new.source)
     (g.S.Source.taken c.args.source.now) (g.S.Source.taken c.run_mode.new.source) s)
     c.number.result c.run_mode.result c.number.ensures
-    (record { counted = c.run_mode.ensures.source; takes = c.run_mode.ensures.taken; unserved = c.run_mode.ensures.unserved }) status is
+    c.run_mode.ensures.feeds status is
 
 pub returns-in-Ok-Some-clause-reads : goal.returns-in-Ok-Some-clause-reads
 returns-in-Ok-Some-clause-reads g c asked status is input left =
@@ -59,7 +59,7 @@ returns-in-Ok-Some-clause-checks g c asked status is =
     by-number (λ s. Between (g.D.Disk.seen c.args.disk.now) (g.D.Disk.seen c.run_mode.new.disk)
     (ChecksStore (g.K.Sink.held c.args.sink.now) (g.K.Sink.held c.run_mode.new.sink) s))
     c.number.result c.run_mode.result c.number.ensures
-    (λ told. record { unwritten = c.run_mode.ensures.unwritten mode told; says = c.run_mode.ensures.checks mode told }) status is
+    (c.run_mode.ensures.checks mode) status is
 
 pub returns-in-Ok-Some-clause-generates : goal.returns-in-Ok-Some-clause-generates
 returns-in-Ok-Some-clause-generates g c seed count asked status is =
@@ -72,10 +72,9 @@ returns-in-Ok-Some-clause-generates g c seed count asked status is =
 pub returns-in-Ok-Some-clause-unfed : goal.returns-in-Ok-Some-clause-unfed
 returns-in-Ok-Some-clause-unfed g c asked status is =
     let known : mode_of (words_of c.args.words.now) ≡ Some c.in-Ok-Some.mode = sym c.in-Ok-Some.ensures.mode ∙ c.in-Ok-Some.field-0-is in
-    let other = subst (λ m. served_by m ≡ None) known asked in
     by-number (λ s. Unfed (c.run_mode.new.source ≡ c.args.source.now) (g.K.Sink.held c.args.sink.now) (g.K.Sink.held c.run_mode.new.sink) s)
     c.number.result c.run_mode.result c.number.ensures
-    (record { unread = c.run_mode.ensures.unread other; silent = c.run_mode.ensures.unfed other }) status is
+    (c.run_mode.ensures.unfed (subst (λ m. served_by m ≡ None) known asked)) status is
 
 pub returns-in-Ok-Some-clause-completes : goal.returns-in-Ok-Some-clause-completes
 returns-in-Ok-Some-clause-completes g c _ status is told fits limit calm_disk calm_source calm_sink =
@@ -87,8 +86,8 @@ returns-in-Ok-Some-clause-completes g c _ status is told fits limit calm_disk ca
     (by-number (λ r. Ends old new r) c.number.result c.run_mode.result c.number.ensures c.run_mode.ensures.ends status is)
     (source-calm (mode_of (words_of c.args.words.now)) c.in-Ok-Some.mode old.held new.held status s t
     (sym c.in-Ok-Some.ensures.mode ∙ c.in-Ok-Some.field-0-is)
-    (λ other. by-number (λ r. IsUnfed old.held new.held r) c.number.result c.run_mode.result c.number.ensures (c.run_mode.ensures.unfed other) status is)
-    (by-number (λ r. Counted (source_verdict r) s t) c.number.result c.run_mode.result c.number.ensures c.run_mode.ensures.source status is)
+    (λ other. by-number (λ r. IsUnfed old.held new.held r) c.number.result c.run_mode.result c.number.ensures (c.run_mode.ensures.unfed other).silent status is)
+    (by-number (λ r. Counted (source_verdict r) s t) c.number.result c.run_mode.result c.number.ensures c.run_mode.ensures.feeds.counted status is)
     calm_source)
     told fits limit calm_disk calm_sink
 

@@ -7,7 +7,7 @@ use Rattle.ss_program.specs.Generated.{GeneratesFrom}
 use Rattle.ss_program.specs.Outcome.{ServesInput}
 use Rattle.ss_arguments.specs.declared.mode.Form.{Form}
 use Rattle.ss_arguments.specs.declared.mode.Sealing.{Sealing}
-use Rattle.ss_program.proofs.TakenLemmas.{TakesFew-unfed}
+use Rattle.ss_program.proofs.TakenLemmas.{Feeds-unfed}
 use Rattle.ss_program.proofs.running.run_mode.Goals as goal
 
 pub generate-requires-clause-some : goal.generate-requires-clause-some
@@ -30,13 +30,14 @@ returns-in-Serve-clause-serves g c form sealing asked input left =
     c.run_source.result)) c.args.mode c.in-Serve.form form c.in-Serve.sealing sealing (ap (λ m. served_by (Some m)) c.in-Serve.is) asked
     (c.run_source.ensures.serves input left)
 
-pub returns-in-Check-clause-taken : goal.returns-in-Check-clause-taken
-returns-in-Check-clause-taken g c =
-    TakesFew-unfed (g.S.Source.taken c.args.source.now) (g.K.Sink.held c.args.sink.now) (g.K.Sink.held c.check.new.sink) c.check.result c.check.ensures.unfed
+pub returns-in-Check-clause-feeds : goal.returns-in-Check-clause-feeds
+returns-in-Check-clause-feeds g c =
+    Feeds-unfed (g.S.Source.faults c.args.source.now) (g.S.Source.taken c.args.source.now) (g.K.Sink.held c.args.sink.now) (g.K.Sink.held c.check.new.sink) c.check.result refl
+    c.check.ensures.unfed
 
-pub returns-in-Gen-clause-taken : goal.returns-in-Gen-clause-taken
-returns-in-Gen-clause-taken g c =
-    TakesFew-unfed (g.S.Source.taken c.args.source.now) (g.K.Sink.held c.args.sink.now) (g.K.Sink.held c.generate.new.sink) c.generate.result
+pub returns-in-Gen-clause-feeds : goal.returns-in-Gen-clause-feeds
+returns-in-Gen-clause-feeds g c =
+    Feeds-unfed (g.S.Source.faults c.args.source.now) (g.S.Source.taken c.args.source.now) (g.K.Sink.held c.args.sink.now) (g.K.Sink.held c.generate.new.sink) c.generate.result refl
     c.generate.ensures.unfed
 
 pub returns-in-Gen-clause-generates : goal.returns-in-Gen-clause-generates

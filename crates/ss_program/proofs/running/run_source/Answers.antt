@@ -6,7 +6,7 @@ use Rattle.ss_program.specs.declared.status.Status.TheVariants.{OutOfMemory}
 use Rattle.ss_program.proofs.EndLemmas.{Ends-starved}
 use Rattle.ss_program.proofs.OpeningLemmas.{Reads-none, Serves-unopened}
 use Rattle.ss_program.proofs.ReadLemmas.{most_read-some}
-use Rattle.ss_program.proofs.TakenLemmas.{TakesFew-none}
+use Rattle.ss_program.proofs.TakenLemmas.{Feeds-unfed}
 use Rattle.ss_program.proofs.running.run_source.Goals as goal
 
 pub serve_store-requires : goal.serve_store-requires
@@ -17,8 +17,9 @@ pub returns-in-Err-clause-ends : goal.returns-in-Err-clause-ends
 returns-in-Err-clause-ends g c =
     Ends-starved (g.D.Disk.seen c.args.disk.now) (g.K.Sink.held c.args.sink.now) (g.K.Sink.faults c.args.sink.now)
 
-pub returns-in-Err-clause-taken : goal.returns-in-Err-clause-taken
-returns-in-Err-clause-taken g c = TakesFew-none (g.S.Source.taken c.args.source.now) OutOfMemory (λ w. cc)
+pub returns-in-Err-clause-feeds : goal.returns-in-Err-clause-feeds
+returns-in-Err-clause-feeds g c =
+    Feeds-unfed (g.S.Source.faults c.args.source.now) (g.S.Source.taken c.args.source.now) (g.K.Sink.held c.args.sink.now) _ OutOfMemory refl refl
 
 pub returns-in-Err-clause-reads : goal.returns-in-Err-clause-reads
 returns-in-Err-clause-reads g c input is = Reads-none input (g.S.Source.left c.args.source.now) is

@@ -26,7 +26,7 @@ loop-done-init g c =
     let left = g.S.Source.left c.args.source.now in
     record {
       fits = omega arith;
-      rests = c.requires.rests;
+      rests = c.requires.front.rests;
       left = λ input is. record { within = omega arith; source = is };
       through = step-none disk (λ old now. (input : List ℕ) → left ≡ Some input → NothingPending old → (used : Option ℕ) (history : History) →
           StandsShort used history old.content →
@@ -38,11 +38,11 @@ loop-done-init g c =
             stands = subst (λ ls. HoldsTalk (after_lines (begun_over used c.args.session.now.form history) ls) disk.told.content)
                 (sym (steps-none c.args.session.now.form)) stands;
             durable = none;
-            line = c.requires.front;
-            unsaid = c.requires.rests.unsaid;
+            line = c.requires.front.line;
+            unsaid = c.requires.front.rests.unsaid;
             seals = refl;
             form = refl;
-            cursors = c.requires.cursors
+            cursors = c.requires.front.cursors
                 ∙ ap (λ ls. (after_lines (begun_over used c.args.session.now.form history) ls).cursors) (sym (steps-none c.args.session.now.form));
           })
           (sym (appended-nil before)
@@ -61,24 +61,24 @@ loop-done-preserved g c =
     let done = c.loop-done.done in
     let after_left = g.S.Source.left c.read_piece.new.source in
     record {
-      fits = omega (arith, c.in-Ok.ensures.count, inv.fits);
+      fits = omega (arith, c.in-Ok.ensures.feeds.count, inv.fits);
       rests = c.in-Ok.ensures.rests;
       left = λ input is.
           let at = inv.left input is in
-          let moves = c.in-Ok.ensures.moves (drop done input) at.source in
+          let moves = c.in-Ok.ensures.feeds.moves (drop done input) at.source in
           IsLeft-more after_left input done c.in-Ok.count at.within moves.0 moves.2;
       through = step-then inv.through c.in-Ok.ensures.reads (λ first second input is none used history stands.
           let one = first input is none used history stands in
           let rest = drop done input in
-          let moves = c.in-Ok.ensures.moves rest one.source in
+          let moves = c.in-Ok.ensures.feeds.moves rest one.source in
           IsThrough-more (sealing_by c.args.session.now.waiting) (begun_over used c.args.session.now.form history) old mid new c.loop-done.session
           c.read_piece.new.session (g.K.Sink.held c.args.sink.now) (g.K.Sink.held c.loop-done.sink)
           (g.K.Sink.held c.read_piece.new.sink) (g.S.Source.left c.loop-done.source) after_left input done c.in-Ok.count one moves.0 moves.2
           (second.goes rest one.source (sealing_by c.args.session.now.waiting) (begun_over used c.args.session.now.form history) (g.K.Sink.held c.args.sink.now)
           (take done input) one.on.at one.on.replied));
       taken = RoseBy-more done c.in-Ok.count (g.S.Source.taken c.args.source.now) (g.S.Source.taken c.loop-done.source)
-          (g.S.Source.taken c.read_piece.new.source) inv.taken c.in-Ok.ensures.taken;
-      source = c.in-Ok.ensures.source ∙ inv.source;
+          (g.S.Source.taken c.read_piece.new.source) inv.taken c.in-Ok.ensures.feeds.count.2;
+      source = c.in-Ok.ensures.feeds.counted ∙ inv.source;
       sink = c.in-Ok.ensures.sink ∙ inv.sink;
     }
 
@@ -89,7 +89,7 @@ returns-in-Ok-eq0-clause-taken g c =
     let n = c.loop-done.done in
     let k = c.in-Ok-eq0.field-0 in
     TakesFew-end (g.D.Disk.seen c.read_piece.new.disk).tells start now (n + k) c.finish.result
-    (RoseBy-more n k start (g.S.Source.taken c.loop-done.source) now c.loop-done.invariant.taken c.in-Ok-eq0.ensures.taken)
+    (RoseBy-more n k start (g.S.Source.taken c.loop-done.source) now c.loop-done.invariant.taken c.in-Ok-eq0.ensures.feeds.count.2)
     (omega (arith, c.loop-done.invariant.fits, c.in-Ok-eq0.field-0-test)) c.finish.ensures.status
 
 pub returns-in-Err-clause-taken : goal.returns-in-Err-clause-taken
@@ -98,7 +98,7 @@ returns-in-Err-clause-taken g c =
     let other = end-other (g.D.Disk.seen c.loop-done.disk).tells c.in-Err.status c.in-Err.ensures.status in
     TakesFew-stop (g.S.Source.taken c.args.source.now) (g.S.Source.taken c.loop-done.source) (g.S.Source.taken c.read_piece.new.source) n
     (68719476736 - n) c.in-Err.status other.0 other.1 c.loop-done.invariant.taken (omega (arith, c.loop-done.invariant.fits))
-    c.in-Err.ensures.few
+    c.in-Err.ensures.feeds.few
 
 pub returns-in-Err-is_at_end-clause-taken : goal.returns-in-Err-is_at_end-clause-taken
 returns-in-Err-is_at_end-clause-taken g c =
@@ -132,7 +132,7 @@ returns-in-Ok-eq0-clause-reads g c input is =
     let at = c.loop-done.invariant.left input is in
     let rest = drop c.loop-done.done input in
     let left = g.S.Source.left c.read_piece.new.source in
-    let moves = c.in-Ok-eq0.ensures.moves rest at.source in
+    let moves = c.in-Ok-eq0.ensures.feeds.moves rest at.source in
     let none = moves.1 c.in-Ok-eq0.field-0-test in
     Reads-end (g.D.Disk.seen c.read_piece.new.disk).tells input left c.finish.result (omega
     (arith, length_of-none input c.loop-done.done none, c.loop-done.invariant.fits))
@@ -155,7 +155,7 @@ returns-in-Ok-eq0-clause-serves g c =
     inv.through c.in-Ok-eq0.ensures.reads (λ first second input is none used history stands.
     let one = first input is none used history stands in
     let rest = drop n input in
-    let moves = c.in-Ok-eq0.ensures.moves rest one.source in
+    let moves = c.in-Ok-eq0.ensures.feeds.moves rest one.source in
     IsThrough-more (sealing_by c.args.session.now.waiting) (begun_over used c.args.session.now.form history) old mid reached.told c.loop-done.session
     c.read_piece.new.session before (g.K.Sink.held c.loop-done.sink)
     (g.K.Sink.held c.read_piece.new.sink) (g.S.Source.left c.loop-done.source) left input n k one moves.0 moves.2
@@ -164,7 +164,7 @@ returns-in-Ok-eq0-clause-serves g c =
     step-told read c.finish.ensures.ends (λ tells through ends input is none used history stands.
     let at = inv.left input is in
     let rest = drop n input in
-    let moves = c.in-Ok-eq0.ensures.moves rest at.source in
+    let moves = c.in-Ok-eq0.ensures.feeds.moves rest at.source in
     let empty = moves.1 c.in-Ok-eq0.field-0-test in
     let all = length_of-none input n empty in
     let end = IsThrough-end left (through input is none used history stands) (omega (arith, all)) (omega (arith, all, inv.fits))
@@ -182,7 +182,7 @@ returns-in-Err-clause-reads g c input is =
     let left = g.S.Source.left c.read_piece.new.source in
     let other = end-other (g.D.Disk.seen c.loop-done.disk).tells c.in-Err.status c.in-Err.ensures.status in
     Reads-stop input left c.in-Err.status other.0 other.1
-    (Moved-piece input left n (68719476736 - n) at.within (omega (arith, c.loop-done.invariant.fits)) (c.in-Err.ensures.stopped (drop n input) at.source))
+    (Moved-piece input left n (68719476736 - n) at.within (omega (arith, c.loop-done.invariant.fits)) (c.in-Err.ensures.feeds.stopped (drop n input) at.source))
 
 pub returns-in-Err-clause-serves : goal.returns-in-Err-clause-serves
 returns-in-Err-clause-serves g c =
@@ -200,7 +200,7 @@ returns-in-Err-clause-serves g c =
     let old = first input is none used history stands in
     let talk = begun_over used c.args.session.now.form history in
     elim c.in-Err.ensures.status [
-      | inl fault ↦ (let same = c.in-Err.ensures.fault fault in
+      | inl fault ↦ (let same = c.in-Err.ensures.feeds.fault fault in
           subst (λ o. Serves sealing talk input left before o start new status) (sym same.2)
           (subst (λ d. Serves sealing talk input left before (g.K.Sink.held c.loop-done.sink) start (g.D.Disk.seen d).told status) (sym same.3)
           (Serves-part sealing status left old inv.fits (inl (fault, same.0)))))

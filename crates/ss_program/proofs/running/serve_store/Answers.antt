@@ -7,10 +7,10 @@ use Rattle.ss_program.specs.Talk.{begun_over}
 use Rattle.ss_program.specs.Status.{EndsServing}
 use Rattle.ss_program.specs.declared.status.Status.TheVariants.{OutOfMemory}
 use Rattle.ss_program.proofs.TakesLemmas.{still}
-use Rattle.ss_program.proofs.EndLemmas.{Ends-opened, Ends-unopened, judged-refused}
+use Rattle.ss_program.proofs.EndLemmas.{Ends-opened, Ends-unopened, judged-refused, unfed-unopened}
 use Rattle.ss_program.proofs.LeftLemmas.{opened_left, opened_moments}
-use Rattle.ss_program.proofs.OpeningLemmas.{Reads-none, Reads-refused, Serves-opened, Serves-refused, Serves-unopened, unopened-status}
-use Rattle.ss_program.proofs.TakenLemmas.{TakesFew-none}
+use Rattle.ss_program.proofs.OpeningLemmas.{Reads-none, Reads-refused, Serves-opened, Serves-refused, Serves-unopened}
+use Rattle.ss_program.proofs.TakenLemmas.{Feeds-unfed}
 use Rattle.ss_program.proofs.running.serve_store.Goals as goal
 
 pub returns-in-Ok-start-clause-ends : goal.returns-in-Ok-start-clause-ends
@@ -39,6 +39,13 @@ returns-in-Ok-start-clause-serves g c input is told none used history stands =
     (c.serve.ensures.serves.told (opens.tells ∙ told) input is (opened.durable none) used history
     (opened_left history old (g.D.Disk.seen c.open.new.disk).told _ opened within used stands))))
 
+pub returns-in-Ok-start-clause-feeds : goal.returns-in-Ok-start-clause-feeds
+returns-in-Ok-start-clause-feeds g c = record {
+  counted = c.serve.ensures.source;
+  takes = c.serve.ensures.taken;
+  unserved = λ is. absurd (subst (λ s. EndsServing (g.D.Disk.seen c.open.new.disk).tells s) is c.serve.ensures.known);
+}
+
 -- there was no memory for a session
 pub returns-in-Err-start-clause-ends : goal.returns-in-Err-start-clause-ends
 returns-in-Err-start-clause-ends g c =
@@ -48,8 +55,9 @@ returns-in-Err-start-clause-ends g c =
     Ends-opened (g.D.Disk.seen c.args.disk.now) mid mid held held faults faults OutOfMemory c.in-Ok.ensures.opens
     (λ opened. (opened.opens.0, opened.opens.1)) (still mid) tt refl
 
-pub returns-in-Err-start-clause-taken : goal.returns-in-Err-start-clause-taken
-returns-in-Err-start-clause-taken g c = TakesFew-none (g.S.Source.taken c.args.source.now) OutOfMemory (λ w. cc)
+pub returns-in-Err-start-clause-feeds : goal.returns-in-Err-start-clause-feeds
+returns-in-Err-start-clause-feeds g c =
+    Feeds-unfed (g.S.Source.faults c.args.source.now) (g.S.Source.taken c.args.source.now) (g.K.Sink.held c.args.sink.now) _ OutOfMemory refl refl
 
 pub returns-in-Err-start-clause-reads : goal.returns-in-Err-start-clause-reads
 returns-in-Err-start-clause-reads g c input is = Reads-none input (g.S.Source.left c.args.source.now) is
@@ -72,9 +80,10 @@ returns-in-Err-clause-ends g c =
     (g.K.Sink.faults c.args.sink.now) (g.K.Sink.faults c.refuse.new.sink) opens.tells opens.counted (λ told. (opens.told told).opens)
     (λ told refused. (opens.told told).judged (judged-refused old.told.content refused)) c.refuse.ensures.says)
 
-pub returns-in-Err-clause-taken : goal.returns-in-Err-clause-taken
-returns-in-Err-clause-taken g c =
-    rw c.refuse.ensures.status (TakesFew-none (g.S.Source.taken c.args.source.now) (status_of_open c.in-Err.error) (unopened-status c.in-Err.error).1)
+pub returns-in-Err-clause-feeds : goal.returns-in-Err-clause-feeds
+returns-in-Err-clause-feeds g c =
+    rw c.refuse.ensures.status (Feeds-unfed (g.S.Source.faults c.args.source.now) (g.S.Source.taken c.args.source.now) (g.K.Sink.held c.args.sink.now)
+    (g.K.Sink.held c.refuse.new.sink) (status_of_open c.in-Err.error) refl (unfed-unopened c.in-Err.error _ _ _ _ c.refuse.ensures.says))
 
 pub returns-in-Err-clause-reads : goal.returns-in-Err-clause-reads
 returns-in-Err-clause-reads g c input is = rw c.refuse.ensures.status (Reads-refused input (g.S.Source.left c.args.source.now) c.in-Err.error is)
