@@ -1,47 +1,26 @@
 -- What is said of two states that are alike but for the filters of their windows.
-use Rattle.std.proofs.Common.{◌≡◌, ◌∙◌, ℕ, ◌+◌, Bool, true, false, ℤ, List, [], ◌∷◌, ◌++◌, length, Option, Some, None, refl, sym, ap, ap₂, inl, inr, cond}
-use Rattle.std.specs.Prelude.{flat_map, fold, if◌then◌else◌, is_some, map, not, nat_lt, option_map}
-use Rattle.std.specs.List.{last_or}
-use Rattle.std.specs.Option.{option_map_or}
-use Rattle.std.proofs.lemmas.Bool.{cases_Bool}
-use Rattle.std.proofs.lemmas.List.{length-map}
-use Rattle.ss_catalog.specs.Series.{row_query, whole_query}
-use Rattle.ss_catalog.specs.declared.event.Event.{Event}
-use Rattle.ss_catalog.specs.declared.query.Kind.{Kind}
-use Rattle.ss_catalog.specs.declared.query.Kind.TheVariants as kinds
-use Rattle.ss_catalog.specs.declared.query.Query.{Query}
-use Rattle.ss_catalog.specs.declared.refusal.Refusal.TheVariants.{Unknown, Range}
-use Rattle.ss_landmarks.specs.Landmark.{Landmark}
+use Rattle.ss_program.proofs.Common.{◌≡◌, ◌∙◌, ℕ, ◌+◌, Bool, true, false, ℤ, List, [], ◌∷◌, ◌++◌, Option, Some, None, refl, sym, ap, ap₂, inl, inr, flat_map}
+use Rattle.ss_program.proofs.Common.{fold, if◌then◌else◌, is_some, map, not, nat_lt, option_map, last_or, cases_Bool, length-map, Event, Kind, Query, Unknown}
+use Rattle.ss_program.proofs.Common.{Range, Landmark, is_free, answer_of, is_apart, is_whole, later, latest_of, marked_values, known_exactly, known_in, newer}
+use Rattle.ss_program.proofs.Common.{newest_in, newest_of, newest_told, unfiltered_stream, unfiltered_window, first_that_applies, refuses, stands, placed_of}
+use Rattle.ss_program.proofs.Common.{row_of, Stream, last_time, ack_of, newest_time, taken, Ack, joined_with, left_with, right_with, seen_after, seen_count}
+use Rattle.ss_program.proofs.Common.{seen_of, seen_sum, seen_with, whole_with, Seen, Cut, reply_line}
 use Rattle.ss_landmarks.specs.Newest.{newest_value}
-use Rattle.ss_landmarks.specs.Free.{is_free}
-use Rattle.ss_landmarks.specs.ValuesIn.{values_between}
 use Rattle.ss_landmarks.specs.declared.tally.Tally.{Tally}
 use Rattle.ss_model.proofs.OutlineLemmas.{refuses-outlines}
 use Rattle.ss_model.proofs.Stretches.{taken-cons}
-use Rattle.ss_model.specs.Answers.{answer_of, outcome_of, refuses_query}
-use Rattle.ss_model.specs.Interval.{is_apart, is_split, is_whole}
-use Rattle.ss_model.specs.Marks.{later, latest_of, marked_values}
-use Rattle.ss_model.specs.Newest.{known_exactly, known_in, newer, newest_in, newest_of, newest_told, newest_window, refuses_values}
-use Rattle.ss_model.specs.Origins.{unfiltered_stream, unfiltered_window}
-use Rattle.ss_model.specs.Outline.{SameOutline, SameOutlines}
-use Rattle.ss_model.specs.Refusals.{first_that_applies, refuses, refuses_reading, stands}
-use Rattle.ss_model.specs.Shown.{placed_of, row_of}
-use Rattle.ss_model.specs.State.{Stream, last_time, stream_named}
-use Rattle.ss_model.specs.Steps.{ack_of, said_of}
-use Rattle.ss_model.specs.Windows.{newest_time, taken}
+use Rattle.ss_model.specs.Answers.{outcome_of, refuses_query}
+use Rattle.ss_model.specs.Newest.{refuses_values}
+use Rattle.ss_model.specs.Outline.{SameOutlines}
+use Rattle.ss_model.specs.Refusals.{refuses_reading}
+use Rattle.ss_model.specs.Steps.{said_of}
 use Rattle.ss_model.specs.declared.newest.Known.{Known}
-use Rattle.ss_model.specs.declared.outcome.Outcome.{Outcome}
-use Rattle.ss_model.specs.declared.types.Ack.{Ack}
 use Rattle.ss_model.specs.declared.types.Window.{Window}
-use Rattle.ss_query.specs.Asked.{cut_of, joined_with, left_with, marks_seen, right_with, seen_after, seen_count, seen_of, seen_sum, seen_with, whole_with}
-use Rattle.ss_query.specs.declared.asking.Seen.{Seen}
-use Rattle.ss_query.specs.declared.cut.Cut.{Cut}
-use Rattle.ss_report.specs.Text.{reply_line}
-use Rattle.ss_report.specs.declared.reply.Reply.{Reply}
 use Rattle.ss_report.specs.declared.reply.Reply.TheVariants.{Window as WindowRow, Stream as StreamRow}
 use Rattle.ss_summary.specs.Figures.{Figures, unfiltered}
 use Rattle.ss_summary.specs.Summaries.{joined}
 use Rattle.ss_program.proofs.OldLemmas.{answer_of_kind-old, read-old}
+use Rattle.ss_catalog.specs.declared.query.Kind.TheVariants as kinds
 
 -- ---- what is kept of a stream, without the figures of its windows
 

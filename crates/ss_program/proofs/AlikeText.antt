@@ -1,92 +1,23 @@
 -- What lines bring after the same events, whichever of their values are old.
-use Rattle.std.proofs.Common.{◌≡◌, ◌⊎◌, ◌∙◌, ℕ, ℤ, List, [], ◌∷◌, ◌++◌, length, Option, Some, None, Result, Ok, Err, refl, sym, ap, ap₂, subst, inl, inr}
-use Rattle.std.specs.Prelude.{◌+ℤ◌, All, false, flat_map, map, option_map, pos}
-use Rattle.std.proofs.lemmas.List.{length-map, map-append}
-use Rattle.std.proofs.lemmas.List.Elements.{All-head, All-tail}
-use Rattle.ss_bounds.specs.Extremes.{listed}
-use Rattle.ss_catalog.specs.Events.{event_name}
-use Rattle.ss_catalog.specs.Series.{row_query, row_start, rows_of, row_count, whole_query}
-use Rattle.ss_catalog.specs.declared.event.Event.{Event}
-use Rattle.ss_catalog.specs.declared.query.End.{End}
-use Rattle.ss_catalog.specs.declared.query.Kind.{Kind}
-use Rattle.ss_catalog.specs.declared.query.Kind.TheVariants as kinds
-use Rattle.ss_catalog.specs.declared.query.Query.{Query}
-use Rattle.ss_catalog.specs.declared.refusal.Refusal.{Refusal}
-use Rattle.ss_catalog.specs.declared.series.Series.{Series}
-use Rattle.ss_certify.specs.Called.{evidence_in}
-use Rattle.ss_certify.specs.Evidence.{base_of, cuts_of, parts_of}
-use Rattle.ss_certify.specs.Made.{certificate_of, evidence_of}
-use Rattle.ss_certify.specs.declared.evidence.Evidence.{Evidence}
-use Rattle.ss_command.proofs.SayLemmas.{meant-sayable}
-use Rattle.ss_command.specs.Grammar.{meaning}
-use Rattle.ss_command.specs.Printed.{IsSayable, takes_value}
-use Rattle.ss_command.specs.declared.command.Command.{Command}
-use Rattle.ss_command.specs.declared.command.Command.TheVariants.{Do, Ask, Certify, Series as AskRows, Last, Values, Windows, List as ListAll}
-use Rattle.ss_landmarks.specs.Free.{is_free}
-use Rattle.ss_model.proofs.OriginLemmas.{history-old, state-old}
-use Rattle.ss_model.specs.Answers.{answer_of, outcome_of, refuses_query}
-use Rattle.ss_model.specs.History.{Happened, added}
-use Rattle.ss_model.specs.Marks.{marked_values}
-use Rattle.ss_model.specs.Newest.{newest_in, refuses_values}
-use Rattle.ss_model.specs.Origins.{as_old, unfiltered_stream, unfiltered_window}
-use Rattle.ss_model.specs.Refusals.{IsHistory, refuses, refuses_reading}
-use Rattle.ss_model.specs.Series.{refuses_series}
-use Rattle.ss_model.specs.State.{Stream, state, stream_named}
-use Rattle.ss_model.specs.Steps.{ack_of}
-use Rattle.ss_model.specs.declared.newest.Newest.{Newest}
-use Rattle.ss_model.specs.declared.outcome.Outcome.{Outcome}
-use Rattle.ss_model.specs.declared.outcome.Outcome.TheVariants.{Has}
-use Rattle.ss_model.specs.declared.outcome.Presence.{Presence}
-use Rattle.ss_model.specs.declared.outcome.Presence.TheVariants.{Maybe}
-use Rattle.ss_model.specs.declared.types.Ack.{Ack}
-use Rattle.ss_query.specs.Asked.{seen_count, seen_of, seen_sum}
-use Rattle.ss_query.specs.declared.asking.Seen.{Seen}
-use Rattle.ss_query.specs.declared.cut.Cut.{Cut}
-use Rattle.ss_report.specs.Text.{reply_line}
-use Rattle.ss_report.specs.declared.reply.Reply.{Reply}
-use Rattle.ss_report.specs.declared.reply.Reply.TheVariants.{Done, Refused, SeriesHead, WindowsHead, ListHead}
-use Rattle.ss_store.specs.Recover.{Recovers, Stands, recover, recovers}
+use Rattle.ss_program.proofs.Common.{◌≡◌, ◌⊎◌, ◌∙◌, ℕ, ℤ, List, [], ◌∷◌, ◌++◌, length, Option, Some, None, Result, Ok, Err, refl, sym, ap, ap₂, subst, inl, inr}
+use Rattle.ss_program.proofs.Common.{◌+ℤ◌, All, false, flat_map, map, option_map, pos, length-map, map-append, All-head, All-tail, listed, event_name}
+use Rattle.ss_program.proofs.Common.{row_query, row_start, rows_of, row_count, whole_query, Event, End, Kind, Query, Refusal, Series, evidence_in, base_of}
+use Rattle.ss_program.proofs.Common.{parts_of, certificate_of, evidence_of, Evidence, meant-sayable, meaning, IsSayable, takes_value, Command, Do, Ask, Certify}
+use Rattle.ss_program.proofs.Common.{Last, Values, Windows, is_free, history-old, state-old, answer_of, refuses_query, added, marked_values, newest_in}
+use Rattle.ss_program.proofs.Common.{refuses_values, as_old, unfiltered_stream, unfiltered_window, IsHistory, refuses, refuses_reading, refuses_series, Stream}
+use Rattle.ss_program.proofs.Common.{state, stream_named, ack_of, Outcome, Has, Presence, Maybe, Ack, seen_count, seen_of, seen_sum, Seen, Cut, reply_line}
+use Rattle.ss_program.proofs.Common.{Reply, Refused, SeriesHead, WindowsHead, ListHead, Recovers, Stands, recovers, Brought, History, answer_replies, brings}
+use Rattle.ss_program.proofs.Common.{certified, command_brings, history_after, line_text, meaning_brings, newest_replies, only_replies, row_shown, series_rows}
+use Rattle.ss_program.proofs.Common.{stream_rows, text_brought, the_event, unless_refused, values_shown, windows_shown, plain_after, text_of, plain}
+use Rattle.ss_command.specs.declared.command.Command.TheVariants.{Series as AskRows, List as ListAll}
+use Rattle.ss_model.specs.Answers.{outcome_of}
+use Rattle.ss_report.specs.declared.reply.Reply.TheVariants.{Done}
 use Rattle.ss_program.specs.Alike.{AsksPresence, HaveSameEvents}
-use Rattle.ss_program.specs.Line.{
-  Brought,
-  History,
-  answer_replies,
-  brings,
-  certified,
-  command_brings,
-  history_after,
-  line_text,
-  meaning_brings,
-  newest_replies,
-  only_replies,
-  row_shown,
-  series_rows,
-  stream_rows,
-  text_brought,
-  the_event,
-  unless_refused,
-  values_shown,
-  windows_shown,
-}
-use Rattle.ss_program.specs.Session.{plain_after, text_of}
-use Rattle.ss_program.specs.Talk.{plain}
-use Rattle.ss_program.proofs.AlikeLemmas.{
-  AreSeenAlike,
-  ack-old,
-  count-seen,
-  newest-alike,
-  outcome-old,
-  refuses-old,
-  refuses_query-old,
-  refuses_reading-old,
-  refuses_values-old,
-  rows-old,
-  seen-old,
-  sum-seen,
-  windows-told,
-}
+use Rattle.ss_program.proofs.AlikeLemmas.{AreSeenAlike, ack-old, count-seen, newest-alike, outcome-old, refuses-old, refuses_query-old, refuses_reading-old}
+use Rattle.ss_program.proofs.AlikeLemmas.{refuses_values-old, rows-old, seen-old, sum-seen, windows-told}
 use Rattle.ss_program.proofs.AnswerLemmas.{ask-event, certify-event, last-event, series-event, values-event, windows-event}
 use Rattle.ss_program.proofs.OldLemmas.{kind-has, named-old, origins-alike, read-old}
+use Rattle.ss_catalog.specs.declared.query.Kind.TheVariants as kinds
 
 -- an image of the streams of a history but for their filters
 pub Stands-old : (history : History) (image : List ℕ) → IsHistory history → Recovers (map unfiltered_stream (state history)) image →

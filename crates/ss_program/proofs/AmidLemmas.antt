@@ -1,23 +1,9 @@
 -- Between two lines of a session: how it begins, how it goes on, and where a run stops.
-use Rattle.std.proofs.Common.{◌≡◌, ℕ, ◌≤◌, ◌++◌, List, [], ◌∷◌, length, Option, Some, None, Result, Ok, Err, OnOk, refl, sym, ap, ◌∙◌, subst}
-use Rattle.std.proofs.Common.{append_assoc, arith}
-use Rattle.std.proofs.lemmas.List.{append-nil, length-append}
-use Rattle.ss_outside.proofs.CrashLemmas.{at_start, joined, of_content, weaker}
-use Rattle.ss_outside.specs.Crash.{KnowsNow, LeavesOnly}
-use Rattle.ss_outside.specs.Disk.{DiskView, NothingPending, Told}
-use Rattle.ss_records.specs.Kept.{shown_by}
-use Rattle.ss_sessions.specs.Cursors.{Cursors}
-use Rattle.ss_store.specs.Kept.{StoreState}
-use Rattle.ss_store.specs.Recover.{Stands}
-use Rattle.ss_program.specs.Amid.{Amid, AreOwed, GoesAmid, HasRoom, IsAmid, IsAtRest, IsReady, Takes, TakesNone, one_more, owed_by}
-use Rattle.ss_program.specs.Answer.{IsOpen}
-use Rattle.ss_program.specs.Progress.{NoneWait, SessionState, StandsBeyond, StandsWithin, StopsIn, sealing_by, HoldsTalk}
-use Rattle.ss_program.specs.Sent.{appended}
-use Rattle.ss_program.specs.Session.{after_lines, text_of}
-use Rattle.ss_program.specs.Talk.{Talk}
-use Rattle.ss_arguments.specs.declared.mode.Sealing.{Sealing}
-use Rattle.ss_arguments.specs.declared.mode.Sealing.TheVariants.{Each, Shared}
-use Rattle.ss_program.specs.declared.status.Status.{Status}
+use Rattle.ss_program.proofs.Common.{◌≡◌, ℕ, ◌≤◌, ◌++◌, List, [], ◌∷◌, length, Option, Some, None, Result, Ok, Err, OnOk, refl, sym, ap, ◌∙◌, subst}
+use Rattle.ss_program.proofs.Common.{append_assoc, arith, append-nil, length-append, at_start, joined, of_content, weaker, KnowsNow, LeavesOnly, DiskView}
+use Rattle.ss_program.proofs.Common.{NothingPending, Told, shown_by, Cursors, StoreState, Amid, AreOwed, GoesAmid, HasRoom, IsAmid, IsAtRest, IsReady, Takes}
+use Rattle.ss_program.proofs.Common.{TakesNone, one_more, owed_by, IsOpen, NoneWait, SessionState, StandsBeyond, StandsWithin, StopsIn, sealing_by, HoldsTalk}
+use Rattle.ss_program.proofs.Common.{appended, after_lines, text_of, Talk, Sealing, Each, Shared, Status}
 use Rattle.ss_program.proofs.SessionLemmas.{after_lines-append, moments-more, text_of-append}
 
 -- where none wait, no line is owed anything; which tells how events come to the disk

@@ -1,23 +1,8 @@
 -- What each field says of where a run stopped and of what is owed, and bounds that are false just past them.
-use Rattle.std.proofs.Common.{◌≡◌, ℕ, ◌+◌, ◌<◌, ◌≤◌, ◌++◌, List, [], ◌∷◌, length, take, Option, Some, None, refl, arith}
-use Rattle.std.specs.Prelude.{IsTrue, false}
-use Rattle.ss_journal.specs.Kept.{IsSealed}
-use Rattle.ss_outside.specs.Disk.{DiskView, OfContent, Told}
-use Rattle.ss_store.specs.Kept.{StoreIsKept, StoreState}
-use Rattle.ss_store.specs.Recover.{Stands}
-use Rattle.ss_program.specs.Amid.{AreOwed, IsReady, owed_by, with_text}
-use Rattle.ss_program.specs.Answer.{IsOpen, IsServing}
-use Rattle.ss_program.specs.Held.{HoldsAcked}
-use Rattle.ss_program.specs.Outcome.{HoldsBy, steps_within}
-use Rattle.ss_program.specs.Progress.{HoldsTalk, BeginsWithWant, HasTaken, NoneWait, SessionState, StandsBeyond, StopsAmong, sealing_by}
-use Rattle.ss_program.specs.Sent.{appended}
-use Rattle.ss_program.specs.Session.{after_lines, text_of}
-use Rattle.ss_program.specs.Talk.{Talk, turn_of}
-use Rattle.ss_arguments.specs.declared.mode.Sealing.{Sealing}
-use Rattle.ss_arguments.specs.declared.mode.Sealing.TheVariants.{Each, Shared}
-use Rattle.ss_program.specs.declared.status.Status.{Status}
-use Rattle.ss_program.specs.declared.status.Status.TheVariants.{OutOfMemory}
-use Rattle.ss_program.specs.Steps.{steps}
+use Rattle.ss_program.proofs.Common.{◌≡◌, ℕ, ◌+◌, ◌<◌, ◌≤◌, ◌++◌, List, [], ◌∷◌, length, take, Option, Some, None, refl, arith, IsTrue, false, IsSealed}
+use Rattle.ss_program.proofs.Common.{DiskView, OfContent, Told, StoreIsKept, StoreState, AreOwed, IsReady, owed_by, with_text, IsOpen, IsServing, HoldsAcked}
+use Rattle.ss_program.proofs.Common.{HoldsBy, steps_within, HoldsTalk, BeginsWithWant, HasTaken, NoneWait, SessionState, StandsBeyond, StopsAmong, sealing_by}
+use Rattle.ss_program.proofs.Common.{appended, after_lines, text_of, Talk, turn_of, Sealing, Each, Shared, Status, OutOfMemory, steps}
 
 -- the lines that were read are those of the bytes that were
 holds-read : (sealing : Sealing) (talk : Talk) (input bytes_read rest image : List ℕ) (bytes : ℕ) (status : Status) → bytes_read ++ rest ≡ input →

@@ -1,21 +1,10 @@
 -- A name that is dropped has no stream until it is created, and what it has then is what it was given since.
-use Rattle.std.proofs.Common.{◌≡◌, ◌∙◌, ℕ, List, [], ◌∷◌, ◌++◌, Bool, true, false, not, refl, sym, ap, inl, inr, append_assoc}
-use Rattle.std.specs.Prelude.{All, filter, find, is_some, map, Some, if◌then◌else◌}
-use Rattle.std.proofs.lemmas.Bool.{cases_Bool}
-use Rattle.std.proofs.lemmas.List.{append-nil}
-use Rattle.std.proofs.lemmas.List.Elements.{All-head, All-tail}
+use Rattle.ss_program.proofs.Common.{◌≡◌, ◌∙◌, ℕ, List, [], ◌∷◌, ◌++◌, Bool, true, false, not, refl, sym, ap, inl, inr, append_assoc, All, filter, find}
+use Rattle.ss_program.proofs.Common.{is_some, map, cases_Bool, append-nil, All-head, All-tail, same_name, Event, Create, Value, Open, Close, Drop, Params}
+use Rattle.ss_program.proofs.Common.{Origin, after_last-push_yes, given_to-created, given_to-event, given_to-other, by_pushes, same_name-same, Happened}
+use Rattle.ss_program.proofs.Common.{creates, given_after, given_to, is_for, nothing_given, stands, Created, standing, standing_after, stream_after}
 use Rattle.std.proofs.lemmas.List.Sums.{fold-append}
-use Rattle.ss_catalog.specs.Names.{same_name}
-use Rattle.ss_catalog.specs.declared.event.Event.{Event}
-use Rattle.ss_catalog.specs.declared.event.Event.TheVariants.{Create, Value, Open, Close, Drop}
-use Rattle.ss_catalog.specs.declared.params.Params.{Params}
-use Rattle.ss_summary.specs.Points.{Origin}
-use Rattle.ss_model.proofs.EventLemmas.{after_last-push_yes, given_to-created, given_to-event, given_to-other}
-use Rattle.ss_model.proofs.HistoryLemmas.{by_pushes}
-use Rattle.ss_model.proofs.NameLemmas.{same_name-same}
-use Rattle.ss_model.specs.History.{Happened, creates, given_after, given_to, is_for, nothing_given}
-use Rattle.ss_model.specs.Refusals.{stands}
-use Rattle.ss_model.specs.State.{Created, standing, standing_after, state, stream_after}
+use Rattle.ss_model.specs.State.{state}
 
 -- ---- what it was given
 

@@ -1,73 +1,27 @@
 -- What a line brings, by what it means, and what sending it leaves.
-use Rattle.std.proofs.Common.{⊎_elim, ◌≡◌, ℕ, ◌<◌, Bool, ◌++◌, ◌↔◌, List, [], ◌∷◌, length, Option, Some, None, IsSome, Ok, Err, Result, false}
-use Rattle.std.proofs.Common.{IfErr, refl, sym, ap, ◌∙◌, subst, arith, inl, inr}
-use Rattle.std.proofs.lemmas.Bool.{cases_lt, cond-true, cond-false, le-leb, lt-leb, lt-ltb}
-use Rattle.std.proofs.lemmas.List.{append-nil, length-append}
-use Rattle.std.specs.List.{flat_map}
-use Rattle.std.specs.Prelude.{◌+◌, nat_le, IsErr, IsTrue}
-use Rattle.ss_catalog.specs.declared.event.Event.{Event}
-use Rattle.ss_catalog.specs.declared.query.End.{End}
-use Rattle.ss_catalog.specs.declared.query.Query.{Query}
-use Rattle.ss_catalog.specs.declared.series.Series.{Series}
-use Rattle.ss_catalog.specs.declared.refusal.Refusal.{Refusal}
-use Rattle.ss_catalog.specs.declared.refusal.Refusal.TheVariants as refusals
+use Rattle.ss_program.proofs.Common.{⊎_elim, ◌≡◌, ℕ, ◌<◌, Bool, ◌++◌, ◌↔◌, List, [], ◌∷◌, length, Option, Some, None, IsSome, Ok, Err, Result, false, IfErr}
+use Rattle.ss_program.proofs.Common.{refl, sym, ap, ◌∙◌, subst, arith, inl, inr, cases_lt, cond-true, cond-false, le-leb, lt-leb, lt-ltb, append-nil}
+use Rattle.ss_program.proofs.Common.{length-append, flat_map, ◌+◌, nat_le, IsErr, IsTrue, Event, End, Query, Series, Refusal, unless_long, LONGEST_LINE}
+use Rattle.ss_program.proofs.Common.{Command, Do, Ask, Certify, Last, Values, Windows, event_name, added, answer-known, outcome_of, refuses_query}
+use Rattle.ss_program.proofs.Common.{refuses_values, ack_of, refuses, refuses_series, Stream, live, state, stream_named, Outcome, Ack, Failed, said_line, Reply}
+use Rattle.ss_program.proofs.Common.{Answered, Refused, WindowsHead, reads-none, KnowsNow, OnlyReads, DiskView, Told, shown-sealed, IsSealed, RecordsState}
+use Rattle.ss_program.proofs.Common.{shown_by, refuses_query_held, KeepsWithin, StandsForEither, Turns, StoreIsIn, StoreIsKept, StoreState, Stands, ApplyError}
+use Rattle.ss_program.proofs.Common.{refuses_query_held-is, Turns-answers, Turns-failed, Turns-reads, Turns-weaker, KeepsWithin-answers, KeepsWithin-failed}
+use Rattle.ss_program.proofs.Common.{KeepsWithin-reads, AllAgree-recovered, Adds, IsOpen, Replies, at_sink, accepted_in, command_in, framed_replies}
+use Rattle.ss_program.proofs.Common.{answer_replies, brings, brings_in, Brought, command_brings, History, history_after, kept_in, line_text, meaning_in}
+use Rattle.ss_program.proofs.Common.{only_replies, refused, text_said, the_event, unless_refused, window_rows, appended, AppendsLess, Sends, StandsAround}
+use Rattle.ss_program.proofs.Common.{IsApplyStop, IsDiskStop, IsShowStop, IsStop, Status, Done, Usage, RefusedStore, DiskFault, SourceFault, SinkFault}
+use Rattle.ss_program.proofs.Common.{OutOfMemory, InputLimit, RecordChanged}
 use Rattle.ss_command.specs.Grammar.{meaning}
-use Rattle.ss_command.specs.LineState.{unless_long}
-use Rattle.ss_command.specs.declared.TheConstants.{LONGEST_LINE}
-use Rattle.ss_command.specs.declared.command.Command.{Command}
-use Rattle.ss_command.specs.declared.command.Command.TheVariants.{Do, Ask, Certify, Series as AskRows, Last, Values, Windows, List as ListAll}
-use Rattle.ss_catalog.specs.Events.{event_name}
-use Rattle.ss_model.specs.History.{added}
-use Rattle.ss_model.proofs.AnswerLemmas.{answer-known}
-use Rattle.ss_model.specs.Answers.{outcome_of, refuses_query}
-use Rattle.ss_model.specs.Newest.{refuses_values}
-use Rattle.ss_model.specs.Steps.{ack_of}
-use Rattle.ss_model.specs.Refusals.{refuses, refuses_reading}
-use Rattle.ss_model.specs.Series.{refuses_series}
-use Rattle.ss_model.specs.State.{Stream, live, state, stream_named}
-use Rattle.ss_model.specs.declared.outcome.Outcome.{Outcome}
-use Rattle.ss_model.specs.declared.types.Ack.{Ack}
-use Rattle.ss_outside.specs.declared.source.Failed.{Failed}
-use Rattle.ss_report.specs.Text.{said_line}
-use Rattle.ss_report.specs.declared.reply.Reply.{Reply}
-use Rattle.ss_report.specs.declared.reply.Reply.TheVariants.{Done as AckLine, Answered, Refused, WindowsHead}
-use Rattle.ss_outside.proofs.CrashLemmas.{reads-none}
-use Rattle.ss_outside.specs.Crash.{KnowsNow, OnlyReads}
-use Rattle.ss_outside.specs.Disk.{DiskView, Told}
-use Rattle.ss_journal.proofs.ShownLemmas.{shown-sealed}
-use Rattle.ss_journal.specs.Kept.{IsSealed}
-use Rattle.ss_records.specs.Kept.{RecordsState, shown_by}
-use Rattle.ss_store.specs.Asked.{refuses_query_held}
-use Rattle.ss_store.specs.Calls.{KeepsWithin, StandsForEither, Turns}
-use Rattle.ss_store.specs.Kept.{StoreIsIn, StoreIsKept, StoreState}
-use Rattle.ss_store.specs.Recover.{Stands}
-use Rattle.ss_store.specs.declared.error.ApplyError.{ApplyError}
-use Rattle.ss_store.specs.declared.error.ApplyError.TheVariants as errors
+use Rattle.ss_command.specs.declared.command.Command.TheVariants.{Series as AskRows, List as ListAll}
+use Rattle.ss_model.specs.Refusals.{refuses_reading}
+use Rattle.ss_report.specs.declared.reply.Reply.TheVariants.{Done as AckLine}
 use Rattle.ss_store.specs.declared.error.AskError.{AskError}
-use Rattle.ss_store.specs.declared.error.AskError.TheVariants as asking
-use Rattle.ss_store.proofs.AskedStreams.{refuses_query_held-is}
-use Rattle.ss_store.proofs.Calls.{Turns-answers, Turns-failed, Turns-reads, Turns-weaker}
-use Rattle.ss_store.proofs.Within.{KeepsWithin-answers, KeepsWithin-failed, KeepsWithin-reads}
-use Rattle.ss_store.proofs.KeptStates.{AllAgree-recovered}
-use Rattle.ss_program.specs.Answer.{Adds, IsOpen, Replies, at_sink}
-use Rattle.ss_program.specs.Line.{accepted_in, command_in, framed_replies, answer_replies, brings, brings_in, Brought, command_brings, History, history_after, kept_in, line_text, meaning_in, only_replies, refused, text_said, the_event, unless_refused, window_rows}
-use Rattle.ss_program.specs.Sent.{appended, AppendsLess, Sends}
-use Rattle.ss_program.specs.Progress.{StandsAround}
-use Rattle.ss_program.specs.Status.{IsApplyStop, IsDiskStop, IsShowStop, IsStop}
-use Rattle.ss_program.specs.declared.status.Status.{Status}
-use Rattle.ss_program.specs.declared.status.Status.TheVariants.{
-  Done,
-  Usage,
-  RefusedStore,
-  DiskFault,
-  SourceFault,
-  SinkFault,
-  OutOfMemory,
-  InputLimit,
-  RecordChanged,
-}
 use Rattle.ss_program.proofs.SendLemmas.{AppendsLess-none}
 use Rattle.ss_program.proofs.TextLemmas.{said_line-some}
+use Rattle.ss_catalog.specs.declared.refusal.Refusal.TheVariants as refusals
+use Rattle.ss_store.specs.declared.error.ApplyError.TheVariants as errors
+use Rattle.ss_store.specs.declared.error.AskError.TheVariants as asking
 
 -- a line to which no event comes: the history after it is the one before
 pub history-still : (history : History) (brought : Brought) → brought.event ≡ None → history_after history brought ≡ history

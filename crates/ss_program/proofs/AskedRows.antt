@@ -1,13 +1,11 @@
 -- Worked rows of what lines of sessions ask for, computed.
-use Rattle.std.proofs.Common.{◌≡◌, [], ◌∷◌, refl}
-use Rattle.std.specs.Prelude.{codes, None, replicate}
+use Rattle.ss_program.proofs.Common.{◌≡◌, [], ◌∷◌, refl, codes, None, replicate, IsOrder, heard_of, rows_asked}
 use Rattle.ss_catalog.specs.Names.{is_name}
 use Rattle.ss_command.specs.Grammar.{meaning}
 use Rattle.ss_command.specs.Words.{words}
 use Rattle.ss_command.specs.declared.command.Command.TheVariants.{List as ListAll}
 use Rattle.ss_fields.specs.Words.{is_number, number_of, number_up_to}
 use Rattle.ss_sessions.specs.declared.order.Order.TheVariants as orders
-use Rattle.ss_program.specs.Asked.{IsOrder, heard_of, rows_asked}
 
 -- orders of a session
 opens : IsOrder 1 (orders.Open (codes "a")) (codes "@1 cursor open a")

@@ -1,45 +1,15 @@
 -- A line of a session, by what it brings.
-use Rattle.std.proofs.Common.{◌⊎◌, ◌≡◌, ℕ, Bool, ◌<◌, ◌++◌, List, [], ◌∷◌, length, Option, Some, None, IsSome, Result, Ok, Err, refl, sym, ap}
-use Rattle.std.proofs.Common.{◌∙◌, subst, arith}
-use Rattle.std.proofs.lemmas.List.{append-nil}
-use Rattle.std.specs.List.{flat_map}
-use Rattle.std.specs.Prelude.{IsTrue, OnOk}
-use Rattle.ss_catalog.specs.declared.event.Event.{Event}
-use Rattle.ss_command.specs.declared.command.Command.TheVariants.{Do}
-use Rattle.ss_model.specs.Refusals.{refuses}
-use Rattle.ss_model.specs.State.{state}
-use Rattle.ss_outside.proofs.CrashLemmas.{of_content, reads-none}
-use Rattle.ss_outside.specs.Crash.{KnowsNow}
-use Rattle.ss_journal.proofs.ShownLemmas.{shown-sealed}
-use Rattle.ss_outside.specs.Disk.{DiskView, Told}
-use Rattle.ss_records.specs.Kept.{RecordsState, shown_by}
-use Rattle.ss_report.specs.Text.{said_line}
-use Rattle.ss_report.specs.declared.reply.Reply.{Reply}
-use Rattle.ss_store.specs.Calls.{TurnsHistory}
-use Rattle.ss_store.specs.Kept.{StoreState}
-use Rattle.ss_store.specs.Recover.{Stands}
-use Rattle.ss_program.specs.Amid.{Amid, GoesAmid, IsAmid, Owed, StagesBrought, TakesBrought, TakesNone, TakesTurn, amid, owed_by, with_text}
-use Rattle.ss_program.specs.Answer.{IsOpen}
-use Rattle.ss_program.specs.Line.{Brought, History, command_in, history_after, nothing, text_said}
-use Rattle.ss_program.specs.Progress.{IsAlone, HoldsTalk, StandsAround, StandsWithin, StopsIn}
-use Rattle.ss_program.specs.Sent.{appended}
-use Rattle.ss_program.specs.Session.{after_line, after_lines, text_of}
-use Rattle.ss_program.specs.Talk.{Talk, Turn, after_turn, silent, turn_brought, turn_of}
-use Rattle.ss_sessions.specs.Cursors.{Cursors}
-use Rattle.ss_arguments.specs.declared.mode.Sealing.{Sealing}
-use Rattle.ss_arguments.specs.declared.mode.Sealing.TheVariants.{Each, Shared}
-use Rattle.ss_program.specs.declared.status.Status.{Status}
-use Rattle.ss_program.specs.declared.status.Status.TheVariants.{OutOfMemory}
+use Rattle.ss_program.proofs.Common.{◌⊎◌, ◌≡◌, ℕ, Bool, ◌<◌, ◌++◌, List, [], ◌∷◌, length, Option, Some, None, IsSome, Result, Ok, Err, refl, sym, ap, ◌∙◌}
+use Rattle.ss_program.proofs.Common.{subst, arith, append-nil, flat_map, IsTrue, OnOk, Event, Do, refuses, state, of_content, reads-none, KnowsNow}
+use Rattle.ss_program.proofs.Common.{shown-sealed, DiskView, Told, RecordsState, shown_by, said_line, Reply, TurnsHistory, StoreState, Stands, Amid, GoesAmid}
+use Rattle.ss_program.proofs.Common.{IsAmid, Owed, StagesBrought, TakesBrought, TakesNone, TakesTurn, amid, owed_by, with_text, IsOpen, Brought, History}
+use Rattle.ss_program.proofs.Common.{command_in, history_after, nothing, text_said, IsAlone, HoldsTalk, StandsAround, StandsWithin, StopsIn, appended}
+use Rattle.ss_program.proofs.Common.{after_line, after_lines, text_of, Talk, Turn, after_turn, silent, turn_brought, turn_of, Cursors, Sealing, Each, Shared}
+use Rattle.ss_program.proofs.Common.{Status, OutOfMemory}
 use Rattle.ss_program.proofs.AmidLemmas.{GoesAmid-none, Takes-next, Takes-then, said-all}
 use Rattle.ss_program.proofs.AnswerLemmas.{event-some}
 use Rattle.ss_program.proofs.SealLemmas.{line-owed, line-stopped}
-use Rattle.ss_program.proofs.SessionLemmas.{
-  StopsIn-more,
-  after_lines-push,
-  moments-more,
-  text_of-one,
-  text_of-push,
-}
+use Rattle.ss_program.proofs.SessionLemmas.{StopsIn-more, after_lines-push, moments-more, text_of-one, text_of-push}
 use Rattle.ss_program.proofs.StagingLemmas.{Turns-looked}
 
 -- what a call answers

@@ -1,40 +1,14 @@
 -- What a certificate brings, and that the evidence that is made for it is right.
-use Rattle.std.proofs.Common.{◌≡◌, ℕ, ◌<◌, true, false, ◌↔◌, List, [], ◌∷◌, length, Ok, Option, Some, None, IsTrue, refl, sym, ap, ◌∙◌, subst, arith}
-use Rattle.std.proofs.Common.{inl, inr}
-use Rattle.std.proofs.lemmas.Bool.{cases_Bool}
-use Rattle.std.proofs.lemmas.List.{length-append}
-use Rattle.std.specs.List.{flat_map}
-use Rattle.std.specs.Prelude.{get_or, is_some, option_map, pos}
-use Rattle.ss_catalog.specs.Queries.{adds_up}
-use Rattle.ss_catalog.specs.declared.query.End.{End}
-use Rattle.ss_catalog.specs.declared.query.Query.{Query}
-use Rattle.ss_catalog.specs.declared.refusal.Refusal.{Refusal}
+use Rattle.ss_program.proofs.Common.{◌≡◌, ℕ, ◌<◌, true, false, ◌↔◌, List, [], ◌∷◌, length, Ok, Option, Some, None, IsTrue, refl, sym, ap, ◌∙◌, subst, arith}
+use Rattle.ss_program.proofs.Common.{inl, inr, cases_Bool, length-append, flat_map, get_or, is_some, option_map, pos, adds_up, End, Query, Refusal, All-named}
+use Rattle.ss_program.proofs.Common.{HasCuts-seen_of, ChecksEvidence, evidence_in, IsEvidence, evidence_of, head_of, three_runs, side_of, told, Evidence}
+use Rattle.ss_program.proofs.Common.{Certify, stands, Stream, state, stream_named, shown-sealed, IsSealed, DiskView, OfContent, Told, seen_of, RecordsState}
+use Rattle.ss_program.proofs.Common.{shown_by, said_line, Reply, StoreState, Recovers, Recovers-StoreIsIn, IsOpen, HasEvidence, Brought, History, certified}
+use Rattle.ss_program.proofs.Common.{command_brings, refused, only_replies, text_said, unless_refused}
 use Rattle.ss_certify.proofs.MadeLemmas.{IsEvidence-evidence_of}
-use Rattle.ss_certify.proofs.SharpLemmas.{All-named, HasCuts-seen_of}
-use Rattle.ss_certify.specs.Called.{ChecksEvidence, evidence_in}
-use Rattle.ss_certify.specs.Evidence.{IsEvidence}
-use Rattle.ss_certify.specs.Made.{evidence_of}
-use Rattle.ss_certify.specs.Told.{head_of, three_runs, side_of, told}
-use Rattle.ss_certify.specs.declared.evidence.Evidence.{Evidence}
-use Rattle.ss_command.specs.declared.command.Command.TheVariants.{Certify}
 use Rattle.ss_model.specs.Answers.{refuses_query}
-use Rattle.ss_model.specs.Refusals.{stands}
 use Rattle.ss_model.specs.Standing.{IsState, IsStream}
-use Rattle.ss_model.specs.State.{Stream, state, stream_named}
 use Rattle.ss_model.specs.declared.types.Run.{Run}
-use Rattle.ss_journal.proofs.ShownLemmas.{shown-sealed}
-use Rattle.ss_journal.specs.Kept.{IsSealed}
-use Rattle.ss_outside.specs.Disk.{DiskView, OfContent, Told}
-use Rattle.ss_query.specs.Asked.{seen_of}
-use Rattle.ss_records.specs.Kept.{RecordsState, shown_by}
-use Rattle.ss_report.specs.Text.{said_line}
-use Rattle.ss_report.specs.declared.reply.Reply.{Reply}
-use Rattle.ss_store.specs.Kept.{StoreState}
-use Rattle.ss_store.specs.Recover.{Recovers}
-use Rattle.ss_store.proofs.KeptStates.{Recovers-StoreIsIn}
-use Rattle.ss_program.specs.Answer.{IsOpen}
-use Rattle.ss_program.specs.Certifying.{HasEvidence}
-use Rattle.ss_program.specs.Line.{Brought, History, certified, command_brings, refused, only_replies, text_said, unless_refused}
 use Rattle.ss_program.proofs.AnswerLemmas.{StoreIsIn-open}
 use Rattle.ss_program.proofs.TextLemmas.{said_line-some}
 

@@ -1,36 +1,21 @@
 -- Worked rows of certificates, each computed from a history.
-use Rattle.std.proofs.Common.{◌≡◌, ◌++◌, [], ◌∷◌, refl}
-use Rattle.std.specs.Prelude.{ℕ, List, Some, Ok, codes, map, pos, negsuc, flat_map}
+use Rattle.ss_program.proofs.Common.{◌≡◌, ◌++◌, [], ◌∷◌, refl, ℕ, List, Some, Ok, codes, map, pos, negsuc, flat_map, Create, Value, exp, End, Query}
+use Rattle.ss_program.proofs.Common.{evidence_in, IsEvidence, end_asked, Evidence, lines, Happened, added, Stream, stream_named, OnlyReads, Told, seen_of}
+use Rattle.ss_program.proofs.Common.{Recovers, FindsEvidence, IsSharp, History, accepted, report, plain}
 use Rattle.std.specs.Fmt.{digits}
 use Rattle.ss_bounds.specs.Attained.{greatest_sum_at, least_sum_at}
 use Rattle.ss_bounds.specs.Split.{sum_interval}
 use Rattle.ss_catalog.specs.Names.{is_name}
-use Rattle.ss_catalog.specs.declared.event.Event.TheVariants.{Create, Value}
-use Rattle.ss_catalog.specs.Params.{exp}
 use Rattle.ss_certify.specs.Fill.{fill}
-use Rattle.ss_catalog.specs.declared.query.End.{End}
-use Rattle.ss_catalog.specs.declared.query.Query.{Query}
-use Rattle.ss_certify.specs.Called.{evidence_in}
-use Rattle.ss_certify.specs.Evidence.{IsEvidence, end_asked}
-use Rattle.ss_certify.specs.declared.evidence.Evidence.{Evidence}
 use Rattle.ss_command.specs.Grammar.{meaning}
-use Rattle.ss_command.specs.Lines.{ended_lines, lines, unended}
+use Rattle.ss_command.specs.Lines.{ended_lines, unended}
 use Rattle.ss_command.specs.Words.{words}
 use Rattle.ss_fields.specs.Words.{is_number, number_of, number_up_to, signed_of}
 use Rattle.ss_contents.specs.Attained.{IsTruthOfLike}
 use Rattle.ss_contents.specs.Contents.{contents_of}
-use Rattle.ss_model.specs.History.{Happened, added}
 use Rattle.ss_model.specs.Answers.{outcome_of, refuses_query}
-use Rattle.ss_model.specs.State.{Stream, state, stream_named}
-use Rattle.ss_outside.specs.Crash.{OnlyReads}
-use Rattle.ss_outside.specs.Disk.{Told}
-use Rattle.ss_query.specs.Asked.{seen_of}
-use Rattle.ss_store.specs.Recover.{Recovers}
+use Rattle.ss_model.specs.State.{state}
 use Rattle.ss_windowing.specs.Windowing.{window_index}
-use Rattle.ss_program.specs.Certifying.{FindsEvidence, IsSharp}
-use Rattle.ss_program.specs.Line.{History}
-use Rattle.ss_program.specs.Session.{accepted, report}
-use Rattle.ss_program.specs.Talk.{plain}
 
 -- lines, each with its line end
 abbrev text : List (List ℕ) → List ℕ

@@ -1,59 +1,12 @@
 -- What runs over one file leave, one after the other.
-use Rattle.std.proofs.Common.{◌≡◌, ◌∙◌, ◌⊎◌, ℕ, ◌+◌, ◌-◌, ◌*◌, ◌<◌, ◌≤◌, ◌++◌, List, [], ◌∷◌, length, take, take_all, Option, Some, None, refl, sym, ap, subst}
-use Rattle.std.proofs.Common.{append_assoc, arith, inl, inr}
-use Rattle.std.proofs.lemmas.List.{append-nil}
-use Rattle.std.specs.Prelude.{max}
-use Rattle.ss_arguments.specs.declared.mode.Form.{Form}
-use Rattle.ss_arguments.specs.declared.mode.Mode.{Mode}
-use Rattle.ss_arguments.specs.declared.mode.Mode.TheVariants.{Serve, Check, Gen}
-use Rattle.ss_arguments.specs.declared.mode.Sealing.{Sealing}
-use Rattle.ss_arguments.specs.declared.mode.Sealing.TheVariants.{Each}
-use Rattle.ss_journal.specs.Format.{is_unborn}
-use Rattle.ss_model.specs.History.{Happened}
-use Rattle.ss_outside.proofs.CrashLemmas.{nothing_pending-same, read_leaves, reads-none}
-use Rattle.ss_outside.specs.Crash.{KnowsNow, OnlyReads}
-use Rattle.ss_outside.specs.Disk.{DiskView, NothingPending, Told, WhereTold}
-use Rattle.ss_store.specs.Recover.{Stands}
-use Rattle.ss_store.specs.Uses.{StandsShort, UsesAtMost, most_needed}
-use Rattle.ss_store.proofs.Extents.{length-uses}
-use Rattle.ss_store.proofs.Within.{UsesAtMost-more}
+use Rattle.ss_program.proofs.Common.{◌≡◌, ◌∙◌, ◌⊎◌, ℕ, ◌+◌, ◌-◌, ◌*◌, ◌<◌, ◌≤◌, ◌++◌, List, [], ◌∷◌, length, take, take_all, Option, Some, None, refl, sym, ap}
+use Rattle.ss_program.proofs.Common.{subst, append_assoc, arith, inl, inr, append-nil, max, Form, Mode, Serve, Check, Gen, Sealing, Each, nothing_pending-same}
+use Rattle.ss_program.proofs.Common.{read_leaves, reads-none, KnowsNow, OnlyReads, DiskView, NothingPending, Told, WhereTold, Stands, StandsShort, UsesAtMost}
+use Rattle.ss_program.proofs.Common.{most_needed, length-uses, UsesAtMost-more, StandsShortForFirst, acks, AreLinked, Ending, Extends, ExtendsAll, IsLeftBy}
+use Rattle.ss_program.proofs.Common.{IsLink, Link, acked_in, acked_till, by_crash, by_itself, offered_in, Generates, generated, History, Serves, accepted}
+use Rattle.ss_program.proofs.Common.{steps, Talk, begun, begun_over, plain, Status, Done, Usage, RefusedStore, DiskFault, SourceFault, SinkFault, OutOfMemory}
+use Rattle.ss_program.proofs.Common.{InputLimit, RecordChanged}
 use Rattle.ss_journal.specs.declared.format.TheConstants.{FIRST_SLOT, MOST_SLOTS, SLOT_SIZE}
-use Rattle.ss_program.specs.Held.{StandsShortForFirst, acks}
-use Rattle.ss_program.specs.Chained.{
-  AreLinked,
-  Ending,
-  Extends,
-  ExtendsAll,
-  IsLeftBy,
-  IsLink,
-  IsRun,
-  Link,
-  StartsFrom,
-  acked_in,
-  acked_of,
-  acked_till,
-  by_crash,
-  by_itself,
-  offered_in,
-}
-use Rattle.ss_program.specs.Generated.{Generates, generated}
-use Rattle.ss_program.specs.Line.{History}
-use Rattle.ss_program.specs.Outcome.{Serves}
-use Rattle.ss_program.specs.Session.{accepted}
-use Rattle.ss_program.specs.Steps.{steps}
-use Rattle.ss_program.specs.Talk.{Talk, begun, begun_over, plain}
-use Rattle.ss_program.specs.declared.status.Status.{Status}
-use Rattle.ss_program.specs.declared.status.Status.TheVariants.{
-  Done,
-  Usage,
-  RefusedStore,
-  DiskFault,
-  SourceFault,
-  SinkFault,
-  OutOfMemory,
-  InputLimit,
-  RecordChanged,
-}
 use Rattle.ss_program.proofs.HeldLemmas.{StandsShortForFirst-within}
 use Rattle.ss_program.proofs.OverLemmas.{accepted-over, acks-over}
 

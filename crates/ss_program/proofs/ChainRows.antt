@@ -1,33 +1,18 @@
 -- Worked rows of runs over one file, one after the other, computed.
-use Rattle.std.proofs.Common.{◌≡◌, ◌≢◌, ◌⊎◌, ◌∙◌, ◌≤◌, ◌++◌, ℕ, List, [], ◌∷◌, length, take, zero, suc, ap, arith, inl, inr, lit≤, refl, subst, sym}
-use Rattle.std.specs.Prelude.{false, Some, None, codes, flat_map, map, pos, negsuc}
+use Rattle.ss_program.proofs.Common.{◌≡◌, ◌⊎◌, ◌∙◌, ◌≤◌, ◌++◌, ℕ, List, [], ◌∷◌, length, take, zero, suc, ap, arith, inl, inr, lit≤, refl, subst, false, Some}
+use Rattle.ss_program.proofs.Common.{None, codes, flat_map, pos, negsuc, Lines, Serve, Check, Gen, Each, Create, Value, exp, Happened, added, KnowsNow}
+use Rattle.ss_program.proofs.Common.{DiskView, WhereTold, Stands-unformed, Stands, AreLinked, Extends, Link, accepted_of, acked_of, acked_till, by_crash}
+use Rattle.ss_program.proofs.Common.{by_itself, offered_in, generated, History, accepted, plain, Done, DiskFault}
 use Rattle.std.specs.Fmt.{digits}
-use Rattle.ss_arguments.specs.declared.mode.Form.TheVariants.{Lines}
-use Rattle.ss_arguments.specs.declared.mode.Mode.TheVariants.{Serve, Check, Gen}
-use Rattle.ss_arguments.specs.declared.mode.Sealing.TheVariants.{Each}
 use Rattle.ss_catalog.specs.Names.{is_name}
-use Rattle.ss_catalog.specs.declared.event.Event.TheVariants.{Create, Value}
-use Rattle.ss_catalog.specs.Params.{exp}
 use Rattle.ss_command.specs.Grammar.{meaning}
 use Rattle.ss_command.specs.Lines.{ended_lines, unended}
 use Rattle.ss_command.specs.Words.{words}
 use Rattle.ss_fields.specs.Words.{is_number, number_of, number_up_to, signed_of}
 use Rattle.ss_journal.specs.Format.{is_unborn}
-use Rattle.ss_model.specs.History.{Happened, added}
 use Rattle.ss_model.specs.Refusals.{refuses}
 use Rattle.ss_model.specs.State.{state}
-use Rattle.ss_outside.specs.Crash.{KnowsNow}
-use Rattle.ss_outside.specs.Disk.{DiskView, WhereTold}
-use Rattle.ss_store.proofs.Unformed.{Stands-unformed}
-use Rattle.ss_store.specs.Recover.{Stands}
 use Rattle.ss_windowing.specs.Windowing.{window_index}
-use Rattle.ss_program.specs.Chained.{AreLinked, Ending, Extends, Link, accepted_of, acked_of, acked_till, by_crash, by_itself, offered_in}
-use Rattle.ss_program.specs.Generated.{generated}
-use Rattle.ss_program.specs.Line.{History}
-use Rattle.ss_program.specs.Session.{accepted}
-use Rattle.ss_program.specs.Talk.{plain}
-use Rattle.ss_program.specs.declared.status.Status.{Status}
-use Rattle.ss_program.specs.declared.status.Status.TheVariants.{Done, DiskFault}
 use Rattle.ss_program.proofs.ChainLemmas.{extends-linked}
 
 -- a stream and its first value, and one more value

@@ -1,42 +1,19 @@
 -- What a line brings that asks for a command, whichever form the conversation has, and what lines leave of its history.
-use Rattle.std.proofs.Common.{◌≡◌, ◌∙◌, ◌++◌, ℕ, List, [], ◌∷◌, Option, Some, None, Result, Ok, Err, Bool, true, false, refl, sym, ap, subst}
-use Rattle.std.proofs.lemmas.List.{append-nil}
-use Rattle.std.specs.Prelude.{codes, if◌then◌else◌, option_map}
-use Rattle.ss_arguments.specs.declared.mode.Form.{Form}
-use Rattle.ss_arguments.specs.declared.mode.Form.TheVariants.{Lines, Sessions, Frames, Follow}
-use Rattle.ss_catalog.specs.declared.event.Event.{Event}
-use Rattle.ss_catalog.specs.declared.event.Event.TheVariants.{Create, Value, Open, Close, Drop}
-use Rattle.ss_catalog.specs.declared.refusal.Refusal.{Refusal}
-use Rattle.ss_catalog.specs.declared.refusal.Refusal.TheVariants as refusals
-use Rattle.ss_command.specs.Grammar.{◌>>=◌, meaning, name_of}
-use Rattle.ss_command.specs.LineState.{unless_long}
-use Rattle.ss_command.specs.Words.{first_word, is_word, rest_of, words}
-use Rattle.ss_command.specs.Printed.{IsSayable}
-use Rattle.ss_command.proofs.SayLemmas.{meant-sayable}
-use Rattle.ss_command.specs.declared.command.Command.{Command}
-use Rattle.ss_command.specs.declared.command.Command.TheVariants.{Do, Ask, Certify, Series as AskRows, Last, Values, Windows, List as ListAll}
-use Rattle.ss_frames.proofs.FrameLemmas.{SpellsFrame-frame_in}
-use Rattle.ss_frames.specs.Frame.{FrameState, IsValidFrame, frame_in}
-use Rattle.ss_model.specs.History.{CanBeSaid}
-use Rattle.ss_model.specs.Refusals.{IsHistory, refuses}
-use Rattle.ss_model.specs.State.{state}
-use Rattle.ss_replica.specs.Offers.{due_in}
-use Rattle.ss_replica.specs.declared.judging.Due.{Due}
-use Rattle.ss_replica.specs.declared.judging.Due.TheVariants.{Next, Old as OldFrame, Gap}
-use Rattle.ss_sessions.specs.Cursors.{Cursors}
-use Rattle.ss_sessions.specs.Grammar.{asked_of, close_of, form_of, next_of, open_of, said_of, spoken_of}
-use Rattle.ss_sessions.specs.declared.order.Order.{Order}
-use Rattle.ss_sessions.specs.declared.order.Order.TheVariants as orders
-use Rattle.ss_sessions.specs.declared.order.Spoken.{Spoken}
-use Rattle.ss_sessions.specs.declared.order.Spoken.TheVariants.{Nothing, Unaddressed, To}
-use Rattle.ss_program.specs.Asked.{IsAsked}
-use Rattle.ss_program.specs.Cursor.{order_in}
-use Rattle.ss_program.specs.Line.{History, accepted_frame, brings, brings_in, command_brings, command_in, due_brings, frame_brings, meaning_in, the_event}
-use Rattle.ss_program.specs.Session.{after_line, after_lines}
-use Rattle.ss_program.specs.Talk.{Talk, is_framed, kept_spoken, meant_turn, turn_brought, turn_in, turn_of, turn_spoken, writing}
+use Rattle.ss_program.proofs.Common.{◌≡◌, ◌∙◌, ◌++◌, ℕ, List, [], ◌∷◌, Option, Some, None, Result, Ok, Err, Bool, true, false, refl, sym, ap, subst, append-nil}
+use Rattle.ss_program.proofs.Common.{codes, if◌then◌else◌, option_map, Form, Lines, Sessions, Frames, Follow, Event, Create, Value, Open, Close, Drop, Refusal}
+use Rattle.ss_program.proofs.Common.{◌>>=◌, meaning, name_of, unless_long, first_word, is_word, rest_of, words, IsSayable, meant-sayable, Command, Do, Ask}
+use Rattle.ss_program.proofs.Common.{Certify, Last, Values, Windows, SpellsFrame-frame_in, FrameState, IsValidFrame, frame_in, CanBeSaid, IsHistory, refuses}
+use Rattle.ss_program.proofs.Common.{state, due_in, Due, Next, Gap, Cursors, asked_of, close_of, form_of, next_of, open_of, said_of, spoken_of, Order, Spoken}
+use Rattle.ss_program.proofs.Common.{Nothing, Unaddressed, To, IsAsked, order_in, History, accepted_frame, brings, brings_in, command_brings, command_in}
+use Rattle.ss_program.proofs.Common.{due_brings, frame_brings, meaning_in, the_event, after_line, after_lines, Talk, is_framed, kept_spoken, meant_turn}
+use Rattle.ss_program.proofs.Common.{turn_brought, turn_in, turn_of, turn_spoken, writing}
+use Rattle.ss_command.specs.declared.command.Command.TheVariants.{Series as AskRows, List as ListAll}
+use Rattle.ss_replica.specs.declared.judging.Due.TheVariants.{Old as OldFrame}
 use Rattle.ss_program.proofs.CursorLemmas.{close-event, next-event, open-event}
 use Rattle.ss_program.proofs.HeardLemmas.{kept-heard, kept-to}
 use Rattle.ss_program.proofs.LawLemmas.{event-leaves, meaning-leaves, sayable-said}
+use Rattle.ss_catalog.specs.declared.refusal.Refusal.TheVariants as refusals
+use Rattle.ss_sessions.specs.declared.order.Order.TheVariants as orders
 
 -- ---- a session's command is what a line by itself means
 

@@ -1,42 +1,19 @@
 -- Cursors: what a session's cursor is after it was changed, and what opening one brings.
-use Rattle.std.proofs.Common.{◌≡◌, ◌↔◌, ◌∙◌, ℕ, zero, suc, ◌<◌, Bool, true, false, List, [], ◌∷◌, length, Option, Some, None, Result, Err, refl, sym, ap}
-use Rattle.std.proofs.Common.{inl, inr, IsTrue, IfSome, subst, ◌+◌, ◌≤◌, min, take, take_all, drop, arith}
-use Rattle.std.proofs.lemmas.List.{length-append, length-map}
-use Rattle.std.proofs.lemmas.Bool.{cases_lt}
-use Rattle.std.proofs.lemmas.Option.{slice_get_cases, slice_get_within}
-use Rattle.std.specs.List.{slice_get}
-use Rattle.std.specs.Prelude.{is_some, not, option_map, slice_set}
-use Rattle.ss_catalog.specs.declared.refusal.Refusal.{Refusal}
-use Rattle.ss_catalog.specs.declared.refusal.Refusal.TheVariants as refusals
-use Rattle.ss_model.specs.Refusals.{first_that_applies, stands}
-use Rattle.ss_model.specs.Shown.{placed_of}
-use Rattle.ss_model.specs.State.{Stream, state, stream_named}
-use Rattle.ss_model.specs.declared.types.Placed.{Placed}
-use Rattle.ss_report.specs.declared.reply.Reply.{Reply}
-use Rattle.ss_report.specs.declared.reply.Reply.TheVariants.{Cursor, Refused, Window}
-use Rattle.ss_sessions.specs.Cursors.{Cursors, cursor_of, cursor_rows, flattened, opened, refuses_cursor, with_cursor}
-use Rattle.ss_sessions.specs.Errors.{refusal_of}
+use Rattle.ss_program.proofs.Common.{◌≡◌, ◌↔◌, ◌∙◌, ℕ, zero, suc, ◌<◌, Bool, true, false, List, [], ◌∷◌, length, Option, Some, None, Result, Err, refl, sym, ap}
+use Rattle.ss_program.proofs.Common.{inl, inr, IsTrue, IfSome, subst, ◌+◌, ◌≤◌, min, take, take_all, drop, arith, length-append, length-map, cases_lt}
+use Rattle.ss_program.proofs.Common.{slice_get_cases, slice_get_within, slice_get, is_some, not, option_map, slice_set, Refusal, first_that_applies, stands}
+use Rattle.ss_program.proofs.Common.{placed_of, Stream, state, stream_named, Placed, Reply, Cursor, Refused, Window, Cursors, cursor_of, cursor_rows, flattened}
+use Rattle.ss_program.proofs.Common.{opened, with_cursor, refusal_of, Ordered, close_brings, closing, leaves_cursors, next_brings, open_brings, opening}
+use Rattle.ss_program.proofs.Common.{placed_rows, showing, unless_unopened, History, only_replies, refused, text_said, said_line}
+use Rattle.ss_sessions.specs.Cursors.{refuses_cursor}
 use Rattle.ss_sessions.specs.Opened.{HasOpened}
 use Rattle.ss_sessions.specs.declared.error.CursorError.{CursorError}
-use Rattle.ss_sessions.specs.declared.error.CursorError.TheVariants as errors
 use Rattle.ss_sessions.specs.declared.error.CursorRefusal.{CursorRefusal}
 use Rattle.ss_sessions.specs.declared.error.CursorRefusal.TheVariants.{Unknown, Busy}
 use Rattle.ss_store.proofs.OneOfMany.{set-same, slice_get-set}
-use Rattle.ss_program.specs.Cursor.{
-  Ordered,
-  close_brings,
-  closing,
-  leaves_cursors,
-  next_brings,
-  open_brings,
-  opening,
-  placed_rows,
-  showing,
-  unless_unopened,
-}
-use Rattle.ss_program.specs.Line.{History, only_replies, refused, text_said}
-use Rattle.ss_report.specs.Text.{said_line}
 use Rattle.ss_program.proofs.TextLemmas.{said_line-some}
+use Rattle.ss_catalog.specs.declared.refusal.Refusal.TheVariants as refusals
+use Rattle.ss_sessions.specs.declared.error.CursorError.TheVariants as errors
 
 -- ---- the cursors of sessions
 

@@ -1,18 +1,13 @@
 -- Worked rows of cursors: what orders bring, as it is said to their sessions.
-use Rattle.std.proofs.Common.{◌≡◌, ◌++◌, [], ◌∷◌, refl}
-use Rattle.std.specs.Prelude.{ℕ, true, false, List, Some, None, codes, flat_map, map, pos, negsuc}
+use Rattle.ss_program.proofs.Common.{◌≡◌, ◌++◌, [], ◌∷◌, refl, ℕ, true, false, List, Some, None, codes, flat_map, map, pos, negsuc, Create, Value, Drop, exp}
+use Rattle.ss_program.proofs.Common.{Do, Happened, added, cursor_of, no_cursors, Ordered, order_brings, History, history_after, text_said}
 use Rattle.std.specs.Fmt.{digits}
-use Rattle.ss_catalog.specs.declared.event.Event.TheVariants.{Create, Value, Drop}
-use Rattle.ss_catalog.specs.Params.{exp}
-use Rattle.ss_command.specs.declared.command.Command.TheVariants.{Do, List as ListAll}
-use Rattle.ss_model.specs.History.{Happened, added}
+use Rattle.ss_command.specs.declared.command.Command.TheVariants.{List as ListAll}
 use Rattle.ss_model.specs.Refusals.{refuses}
 use Rattle.ss_model.specs.State.{state}
 use Rattle.ss_windowing.specs.Windowing.{window_index}
-use Rattle.ss_sessions.specs.Cursors.{cursor_of, no_cursors, refuses_cursor}
+use Rattle.ss_sessions.specs.Cursors.{refuses_cursor}
 use Rattle.ss_sessions.specs.declared.order.Order.TheVariants.{Command, Open, Next, Close}
-use Rattle.ss_program.specs.Cursor.{Ordered, order_brings}
-use Rattle.ss_program.specs.Line.{History, history_after, text_said}
 
 abbrev text : List (List ℕ) → List ℕ
 text ls = flat_map (λ line. line ++ 10 ∷ []) ls

@@ -1,41 +1,14 @@
 -- How a run ends.
-use Rattle.std.proofs.Common.{◌≡◌, ◌⊎◌, inl, inr, ℕ, List, Option, Some, None, Err, Bool, IsSome, cond}
-use Rattle.std.proofs.Common.{nat_eq, refl, sym, ap, ◌∙◌, subst}
-use Rattle.std.specs.Prelude.{IsTrue}
-use Rattle.ss_arguments.specs.Modes.{mode_of}
-use Rattle.ss_arguments.specs.declared.mode.Mode.{Mode}
-use Rattle.ss_arguments.specs.declared.mode.Mode.TheVariants.{Serve, Check, Gen}
+use Rattle.ss_program.proofs.Common.{◌≡◌, ◌⊎◌, inl, inr, ℕ, List, Option, Some, None, Err, Bool, IsSome, cond, nat_eq, refl, sym, ap, ◌∙◌, subst, IsTrue}
+use Rattle.ss_program.proofs.Common.{mode_of, Mode, Serve, Check, Gen, Stream, reads-none, step-none, step-then, OnlyReads, DiskView, Told, Step, Counted, Rose}
+use Rattle.ss_program.proofs.Common.{fine, OpensAs, Recovered, Recovers, damaged_entry, damaged_slot, damaged_stream, no_store, recover, recovers, SurveysAs}
+use Rattle.ss_program.proofs.Common.{OpenError, Devices, over, Completes, Ends, HasNumbers, IsRefusedContent, IsUnfed, Refuses, served_by, AsRefused}
+use Rattle.ss_program.proofs.Common.{refusal_line, status_of_open, SaysLine, EndsAs, EndsServing, IsStop, disk_verdict, exit_number, sink_verdict}
+use Rattle.ss_program.proofs.Common.{source_verdict, IsApplyStop, Status, Done, Usage, RefusedStore, DiskFault, SourceFault, SinkFault, OutOfMemory, InputLimit}
+use Rattle.ss_program.proofs.Common.{RecordChanged}
 use Rattle.ss_arguments.proofs.ModeLemmas.{mode_of-gen}
-use Rattle.ss_model.specs.State.{Stream}
-use Rattle.ss_outside.proofs.CrashLemmas.{reads-none}
-use Rattle.ss_outside.proofs.StepLemmas.{step-none, step-then}
-use Rattle.ss_outside.specs.Crash.{OnlyReads}
-use Rattle.ss_outside.specs.Disk.{DiskView, Told}
-use Rattle.ss_outside.specs.Step.{Step}
-use Rattle.ss_outside.specs.Verdict.{Counted, Rose, fine}
-use Rattle.ss_store.specs.Causes.{OpensAs}
 use Rattle.ss_store.specs.Errors.{verdict_of_opening}
-use Rattle.ss_store.specs.Recover.{Recovered, Recovers, damaged_entry, damaged_slot, damaged_stream, no_store, recover, recovers}
-use Rattle.ss_store.specs.Surveyed.{SurveysAs}
-use Rattle.ss_store.specs.declared.error.OpenError.{OpenError}
 use Rattle.ss_store.specs.declared.error.OpenError.TheVariants as opening
-use Rattle.ss_program.specs.Devices.{Devices, over}
-use Rattle.ss_program.specs.Ending.{Completes, Ends, HasNumbers, IsRefusedContent, IsUnfed, Refuses, served_by}
-use Rattle.ss_program.specs.Refused.{AsRefused, refusal_line, status_of_open}
-use Rattle.ss_program.specs.Sent.{SaysLine}
-use Rattle.ss_program.specs.Status.{EndsAs, EndsServing, IsStop, disk_verdict, exit_number, sink_verdict, source_verdict, IsApplyStop}
-use Rattle.ss_program.specs.declared.status.Status.{Status}
-use Rattle.ss_program.specs.declared.status.Status.TheVariants.{
-  Done,
-  Usage,
-  RefusedStore,
-  DiskFault,
-  SourceFault,
-  SinkFault,
-  OutOfMemory,
-  InputLimit,
-  RecordChanged,
-}
 
 -- a content that is refused recovers to nothing, and one that recovers isn't refused
 unrefused : (found : Recovered) (streams : List Stream) → found ≡ recovers streams → IsSome (refusal_line found) → ⊥

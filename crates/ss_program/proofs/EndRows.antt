@@ -1,30 +1,7 @@
 -- With which statuses a run ends by what it was asked, and what each field says of that, in fixed form.
-use Rattle.std.proofs.Common.{◌≡◌, ℕ, List, Option, Some, refl, subst}
-use Rattle.ss_model.specs.State.{Stream}
-use Rattle.ss_outside.specs.Crash.{OnlyReads}
-use Rattle.ss_outside.specs.Disk.{Told}
-use Rattle.ss_outside.specs.Verdict.{Rose}
-use Rattle.ss_store.specs.Recover.{Recovers, recovers}
-use Rattle.ss_store.specs.Surveyed.{survey_of}
-use Rattle.ss_program.specs.Checked.{ChecksStore, survey_line}
-use Rattle.ss_program.specs.Devices.{Devices}
-use Rattle.ss_program.specs.Ending.{Completes, Feeds, IsUnfed, Rejects, Unfed}
-use Rattle.ss_program.specs.Outcome.{TakesFew}
-use Rattle.ss_program.specs.Refused.{SaysRefusal, refusal_line}
-use Rattle.ss_program.specs.Sent.{appended, SaysLine}
-use Rattle.ss_program.specs.Words.{usage}
-use Rattle.ss_program.specs.declared.status.Status.{Status}
-use Rattle.ss_program.specs.declared.status.Status.TheVariants.{
-  Done,
-  Usage,
-  RefusedStore,
-  DiskFault,
-  SourceFault,
-  SinkFault,
-  OutOfMemory,
-  InputLimit,
-  RecordChanged,
-}
+use Rattle.ss_program.proofs.Common.{◌≡◌, ℕ, List, Option, Some, refl, subst, Stream, OnlyReads, Told, Rose, Recovers, recovers, survey_of, ChecksStore}
+use Rattle.ss_program.proofs.Common.{survey_line, Devices, Completes, Feeds, IsUnfed, Rejects, Unfed, TakesFew, SaysRefusal, refusal_line, appended, SaysLine}
+use Rattle.ss_program.proofs.Common.{usage, Status, Done, Usage, RefusedStore, DiskFault, SourceFault, SinkFault, OutOfMemory, InputLimit, RecordChanged}
 
 -- over a disk that tells nothing one of four lines is said
 module _ (before after : Option (List ℕ)) (had has : ℕ) where

@@ -1,46 +1,12 @@
 -- What each field of the records of a run says, in fixed form, and bounds that are false just past them.
-use Rattle.std.proofs.Common.{false, true, ◌≡◌, ◌⊎◌, ℕ, ◌+◌, ◌<◌, ◌≤◌, ◌++◌, List, [], ◌∷◌, length, take, drop}
-use Rattle.std.proofs.Common.{◌^◌, Option, Some, None, refl, lit≤, arith}
-use Rattle.std.specs.Prelude.{IsTrue}
-use Rattle.ss_arguments.specs.declared.mode.Mode.{Mode}
-use Rattle.ss_arguments.specs.declared.mode.Form.TheVariants.{Lines, Sessions, Frames, Follow}
-use Rattle.ss_arguments.specs.declared.mode.Mode.TheVariants.{Serve, Check, Gen}
-use Rattle.ss_model.specs.State.{Stream}
-use Rattle.ss_outside.specs.Crash.{LeavesOnly, OnlyReads}
-use Rattle.ss_outside.specs.Disk.{DiskView, NothingPending, Told}
-use Rattle.ss_outside.specs.Verdict.{Rose}
-use Rattle.ss_store.specs.Uses.{StandsShort}
-use Rattle.ss_store.specs.Recover.{Stands, recover}
-use Rattle.ss_store.specs.Surveyed.{survey_of}
-use Rattle.ss_program.specs.Checked.{Checks, survey_line}
-use Rattle.ss_program.specs.Devices.{Devices}
-use Rattle.ss_program.specs.Ending.{Ends, IsRefusedContent, Refuses, served_by, serving}
-use Rattle.ss_program.specs.Generated.{Generates, StandsForAll, StandsForGenerated, summary}
-use Rattle.ss_program.specs.Held.{HoldsAcked, StandsForFirst, acks}
-use Rattle.ss_program.specs.Line.{History}
-use Rattle.ss_program.specs.Outcome.{NotBegun, Reads, Reports, Stopped, TakesFew, Took}
-use Rattle.ss_program.specs.Progress.{NoneWait, sealing_by}
+use Rattle.ss_program.proofs.Common.{false, true, ◌≡◌, ◌⊎◌, ℕ, ◌+◌, ◌<◌, ◌≤◌, ◌++◌, List, [], ◌∷◌, length, take, drop, ◌^◌, Option, Some, None, refl, lit≤}
+use Rattle.ss_program.proofs.Common.{arith, IsTrue, Mode, Lines, Sessions, Frames, Follow, Serve, Check, Gen, Stream, LeavesOnly, OnlyReads, DiskView}
+use Rattle.ss_program.proofs.Common.{NothingPending, Told, Rose, StandsShort, Stands, recover, survey_of, Checks, survey_line, Devices, Ends, IsRefusedContent}
+use Rattle.ss_program.proofs.Common.{Refuses, served_by, serving, Generates, StandsForAll, StandsForGenerated, summary, HoldsAcked, StandsForFirst, acks}
+use Rattle.ss_program.proofs.Common.{History, NotBegun, Reads, Reports, Stopped, TakesFew, Took, NoneWait, sealing_by, RefusesStore, SaysRefusal, refusal_line}
+use Rattle.ss_program.proofs.Common.{appended, AppendsFront, SaysLine, accepted, report, report_so_far, Talk, LONGEST_INPUT, Form, Sealing, Each, Shared}
+use Rattle.ss_program.proofs.Common.{Status, Done, Usage, RefusedStore, DiskFault, SourceFault, SinkFault, OutOfMemory, InputLimit, RecordChanged}
 use Rattle.ss_program.specs.Promises.{BeginsOver}
-use Rattle.ss_program.specs.Refused.{RefusesStore, SaysRefusal, refusal_line}
-use Rattle.ss_program.specs.Sent.{appended, AppendsFront, SaysLine}
-use Rattle.ss_program.specs.Session.{accepted, report, report_so_far}
-use Rattle.ss_program.specs.Talk.{Talk}
-use Rattle.ss_program.specs.declared.running.TheConstants.{LONGEST_INPUT}
-use Rattle.ss_arguments.specs.declared.mode.Form.{Form}
-use Rattle.ss_arguments.specs.declared.mode.Sealing.{Sealing}
-use Rattle.ss_arguments.specs.declared.mode.Sealing.TheVariants.{Each, Shared}
-use Rattle.ss_program.specs.declared.status.Status.{Status}
-use Rattle.ss_program.specs.declared.status.Status.TheVariants.{
-  Done,
-  Usage,
-  RefusedStore,
-  DiskFault,
-  SourceFault,
-  SinkFault,
-  OutOfMemory,
-  InputLimit,
-  RecordChanged,
-}
 
 -- The acknowledged events are held, and no more than those of the lines that were read; at most one more where each event is sealed by
 -- itself. All are where the run is done, and no more where memory ran out.

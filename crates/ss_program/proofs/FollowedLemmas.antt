@@ -1,52 +1,20 @@
 -- What is written where frames are written, and what comes of it where it is followed.
-use Rattle.std.proofs.Common.{◌≡◌, ◌∙◌, ◌++◌, ◌<◌, ◌^◌, ℕ, List, [], ◌∷◌, Option, Some, None, Result, Ok, Err, Bool, true, false, map, refl, sym, ap}
-use Rattle.std.proofs.Common.{append_assoc, arith, subst}
-use Rattle.std.specs.Prelude.{All, flat_map, if◌then◌else◌, IfSome}
-use Rattle.std.proofs.lemmas.Grind.{flat_map-append}
-use Rattle.std.proofs.lemmas.List.{append-nil}
-use Rattle.std.proofs.lemmas.List.Elements.{All-cons, All-head, All-nil, All-tail}
-use Rattle.ss_arguments.specs.declared.mode.Form.{Form}
-use Rattle.ss_arguments.specs.declared.mode.Form.TheVariants.{Lines, Sessions, Frames, Follow}
-use Rattle.ss_catalog.specs.Events.{event_name}
-use Rattle.ss_catalog.specs.Names.{is_name}
-use Rattle.ss_catalog.specs.Params.{step_number}
-use Rattle.ss_catalog.specs.declared.event.Event.{Event}
-use Rattle.ss_catalog.specs.declared.event.Event.TheVariants.{Create, Value, Open, Close, Drop}
-use Rattle.ss_catalog.specs.declared.refusal.Refusal.{Refusal}
-use Rattle.ss_command.proofs.SayLemmas.{meant-sayable}
-use Rattle.ss_command.specs.Grammar.{meaning}
-use Rattle.ss_command.specs.Printed.{IsSayable, IsStepOfNumber}
-use Rattle.ss_command.specs.declared.command.Command.{Command}
-use Rattle.ss_command.specs.declared.command.Command.TheVariants.{Do, Ask, Certify, Series as AskRows, Last, Values, Windows, List as ListAll}
-use Rattle.ss_frames.proofs.FrameLemmas.{IsValidFrame-test, frame_in-spelling}
-use Rattle.ss_frames.proofs.PieceLemmas.{pieces-frames}
-use Rattle.ss_frames.specs.Frame.{FrameState, IsValidFrame, frame_in, frame_spelled, is_valid_frame}
-use Rattle.ss_frames.specs.Pieces.{pieces}
-use Rattle.ss_model.specs.History.{Happened, added}
-use Rattle.ss_model.proofs.HistoryLemmas.{GoesOn-push}
-use Rattle.ss_model.specs.Refusals.{IsHistory, refuses}
-use Rattle.ss_model.specs.State.{state}
+use Rattle.ss_program.proofs.Common.{◌≡◌, ◌∙◌, ◌++◌, ◌<◌, ◌^◌, ℕ, List, [], ◌∷◌, Option, Some, None, Result, Ok, Err, Bool, true, false, map, refl, sym, ap}
+use Rattle.ss_program.proofs.Common.{append_assoc, arith, subst, All, flat_map, if◌then◌else◌, IfSome, flat_map-append, append-nil, All-cons, All-head, All-nil}
+use Rattle.ss_program.proofs.Common.{All-tail, Form, Lines, Sessions, Frames, Follow, event_name, is_name, step_number, Event, Create, Value, Open, Close, Drop}
+use Rattle.ss_program.proofs.Common.{Refusal, meant-sayable, meaning, IsSayable, IsStepOfNumber, Command, Do, Ask, Certify, Last, Values, Windows}
+use Rattle.ss_program.proofs.Common.{IsValidFrame-test, frame_in-spelling, pieces-frames, FrameState, IsValidFrame, frame_in, frame_spelled, is_valid_frame}
+use Rattle.ss_program.proofs.Common.{pieces, Happened, added, GoesOn-push, IsHistory, refuses, state, added_event, after_offer, after_offers, due_in}
+use Rattle.ss_program.proofs.Common.{next_offered, offered, offered_as, offers, event_frame, frame_of, step_of_event, Due, Next, reply_line, History}
+use Rattle.ss_program.proofs.Common.{accepted_frame, accepted_in, due_brings, frame_brings, text_said, the_event, unless_refused, accepted, after_line}
+use Rattle.ss_program.proofs.Common.{after_lines, text_of, Talk, begun, meant_turn, turn_in, turn_of, writing}
+use Rattle.ss_command.specs.declared.command.Command.TheVariants.{Series as AskRows, List as ListAll}
 use Rattle.ss_replica.proofs.FramingLemmas.{checked-last}
 use Rattle.ss_replica.proofs.FrontLemmas.{due-frame}
 use Rattle.ss_replica.specs.Fronts.{drops_none}
-use Rattle.ss_replica.specs.Offers.{Outcome, added_event, after_offer, after_offers, due_in, next_offered, offered, offered_as, offers}
-use Rattle.ss_replica.specs.Own.{event_frame, frame_of, step_of_event}
-use Rattle.ss_replica.specs.declared.judging.Due.{Due}
-use Rattle.ss_replica.specs.declared.judging.Due.TheVariants.{Next, Old as OldFrame, Gap as GapBehind}
-use Rattle.ss_report.specs.Text.{reply_line}
+use Rattle.ss_replica.specs.Offers.{Outcome}
+use Rattle.ss_replica.specs.declared.judging.Due.TheVariants.{Old as OldFrame, Gap as GapBehind}
 use Rattle.ss_program.specs.Followed.{frames_after, offer_reply}
-use Rattle.ss_program.specs.Line.{
-  History,
-  accepted_frame,
-  accepted_in,
-  due_brings,
-  frame_brings,
-  text_said,
-  the_event,
-  unless_refused,
-}
-use Rattle.ss_program.specs.Session.{accepted, after_line, after_lines, text_of}
-use Rattle.ss_program.specs.Talk.{Talk, begun, meant_turn, turn_in, turn_of, writing}
 use Rattle.ss_program.proofs.ConversationLemmas.{talk-leaves}
 use Rattle.ss_program.proofs.SessionLemmas.{after_lines-accepted}
 

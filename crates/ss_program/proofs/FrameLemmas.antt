@@ -1,38 +1,11 @@
 -- What an event brings where its frame is said behind its reply, or written in place of it.
-use Rattle.std.proofs.Common.{◌⊎◌, ◌≡◌, ◌∙◌, ℕ, ◌<◌, Bool, true, false, ◌++◌, List, [], ◌∷◌, length, Option, Some, None, IsSome, Result}
-use Rattle.std.proofs.Common.{refl, sym, ap, subst}
-use Rattle.std.specs.Prelude.{IsTrue, OnOk}
-use Rattle.ss_catalog.specs.Events.{event_name}
-use Rattle.ss_catalog.specs.declared.event.Event.{Event}
-use Rattle.ss_catalog.specs.declared.event.Event.TheVariants.{Create, Value, Open, Close, Drop}
-use Rattle.ss_catalog.specs.declared.refusal.Refusal.{Refusal}
-use Rattle.ss_command.specs.declared.command.Command.TheVariants.{Do}
+use Rattle.ss_program.proofs.Common.{◌⊎◌, ◌≡◌, ◌∙◌, ℕ, ◌<◌, Bool, true, false, ◌++◌, List, [], ◌∷◌, length, Option, Some, None, IsSome, Result, refl, sym, ap}
+use Rattle.ss_program.proofs.Common.{subst, IsTrue, OnOk, event_name, Event, Create, Value, Open, Close, Drop, Refusal, Do, FrameState, frame_spelled, added}
+use Rattle.ss_program.proofs.Common.{refuses, state, ack_of, Ack, Told, RecordsState, shown_by, event_frame, frame_of, Reply, Refused, TurnsHistory, Stands}
+use Rattle.ss_program.proofs.Common.{IsShort, History, accepted_frame, accepted_in, command_brings, command_in, frame_replies, the_event, unless_refused, Talk}
+use Rattle.ss_program.proofs.Common.{event_turn, silent, writing}
 use Rattle.ss_program.proofs.SpelledLemmas.{some-frame_spelled}
-use Rattle.ss_frames.specs.Frame.{FrameState, frame_spelled}
-use Rattle.ss_model.specs.History.{added}
-use Rattle.ss_model.specs.Refusals.{refuses}
-use Rattle.ss_model.specs.State.{state}
-use Rattle.ss_model.specs.Steps.{ack_of}
-use Rattle.ss_model.specs.declared.types.Ack.{Ack}
-use Rattle.ss_outside.specs.Disk.{Told}
-use Rattle.ss_records.specs.Kept.{RecordsState, shown_by}
-use Rattle.ss_replica.specs.Own.{event_frame, frame_of}
-use Rattle.ss_report.specs.declared.reply.Reply.{Reply}
-use Rattle.ss_report.specs.declared.reply.Reply.TheVariants.{Done, Refused}
-use Rattle.ss_store.specs.Calls.{TurnsHistory}
-use Rattle.ss_store.specs.Recover.{Stands}
-use Rattle.ss_store.specs.Uses.{IsShort}
-use Rattle.ss_program.specs.Line.{
-  History,
-  accepted_frame,
-  accepted_in,
-  command_brings,
-  command_in,
-  frame_replies,
-  the_event,
-  unless_refused,
-}
-use Rattle.ss_program.specs.Talk.{Talk, event_turn, silent, writing}
+use Rattle.ss_report.specs.declared.reply.Reply.TheVariants.{Done}
 
 -- ---- the event is the same, whether frames are said or not
 

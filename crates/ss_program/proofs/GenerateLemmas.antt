@@ -1,71 +1,16 @@
 -- A session over a generated file: what was answered so far, what is counted of it, and how it ends.
-use Rattle.std.proofs.Common.{
-  ◌⊎◌,
-  inl,
-  inr,
-  ◌≡◌,
-  ℕ,
-  zero,
-  suc,
-  ◌+◌,
-  ◌++◌,
-  List,
-  [],
-  ◌∷◌,
-  length,
-  map,
-  take,
-  Bool,
-  true,
-  false,
-  cond,
-  Option,
-  None,
-  Ok,
-  Err,
-  Result,
-  refl,
-  sym,
-  ap,
-  ◌∙◌,
-  subst,
-  append_assoc,
-  arith,
-}
-use Rattle.std.specs.Prelude.{count_by, ⊤}
-use Rattle.std.specs.List.{flat_map}
-use Rattle.std.proofs.lemmas.List.{append-nil, length-append, map-append, take-append-le}
-use Rattle.std.proofs.Math.Seq.{take-append-add}
-use Rattle.ss_command.specs.Printed.{IsSayable, printed}
-use Rattle.ss_command.specs.declared.command.Command.{Command}
+use Rattle.ss_program.proofs.Common.{◌⊎◌, inl, inr, ◌≡◌, ℕ, zero, suc, ◌+◌, ◌++◌, List, [], ◌∷◌, length, map, take, Bool, true, false, cond, Option, None, Ok}
+use Rattle.ss_program.proofs.Common.{Err, Result, refl, sym, ap, ◌∙◌, subst, append_assoc, arith, count_by, ⊤, flat_map, append-nil, length-append, map-append}
+use Rattle.ss_program.proofs.Common.{take-append-le, take-append-add, IsSayable, printed, Command, at_start, joined, now, of_content, weaker, KnowsNow}
+use Rattle.ss_program.proofs.Common.{LeavesOnly, NothingPending, Told, reply_line, Reply, state, OpensAs, Stands, StandsShort, OpenError, Adds, SendsRows}
+use Rattle.ss_program.proofs.Common.{Generates, StandsForAll, StandsForGenerated, generated, first_lines, is_done, is_refused, last_six, summary, summary_lines}
+use Rattle.ss_program.proofs.Common.{Brought, History, brings, command_brings, history_after, meaning_brings, StandsShortForFirst, HoldsTalk, StandsWithin}
+use Rattle.ss_program.proofs.Common.{AsRefused, status_of_open, appended, AppendsFront, AppendsLess, Sends, after_lines, plain_after, replies, plain}
+use Rattle.ss_program.proofs.Common.{plain_over, HasRun, IsSingle, Tallies, Status, Done, SinkFault, Failed}
 use Rattle.ss_command.proofs.PrintLemmas.{meaning-printed}
 use Rattle.ss_generator.specs.Commands.{commands, of_round, of_rounds, opening, queries}
 use Rattle.ss_generator.specs.Numbers.{time, value}
-use Rattle.ss_outside.proofs.CrashLemmas.{at_start, joined, now, of_content, weaker}
-use Rattle.ss_outside.specs.Crash.{KnowsNow, LeavesOnly}
-use Rattle.ss_outside.specs.Disk.{NothingPending, Told}
-use Rattle.ss_report.specs.Text.{reply_line}
-use Rattle.ss_report.specs.declared.reply.Reply.{Reply}
-use Rattle.ss_model.specs.State.{state}
-use Rattle.ss_store.specs.Causes.{OpensAs}
-use Rattle.ss_store.specs.Recover.{Stands}
-use Rattle.ss_store.specs.Uses.{StandsShort}
-use Rattle.ss_store.specs.declared.error.OpenError.{OpenError}
-use Rattle.ss_program.specs.Answer.{Adds, SendsRows}
-use Rattle.ss_program.specs.Generated.{Generates, StandsForAll, StandsForGenerated, generated, first_lines, is_done, is_refused, last_six, summary}
-use Rattle.ss_program.specs.Generated.{summary_lines}
-use Rattle.ss_program.specs.Line.{Brought, History, brings, command_brings, history_after, meaning_brings}
-use Rattle.ss_program.specs.Held.{StandsShortForFirst}
-use Rattle.ss_program.specs.Progress.{HoldsTalk, StandsWithin}
-use Rattle.ss_program.specs.Refused.{AsRefused, status_of_open}
-use Rattle.ss_program.specs.Sent.{appended, AppendsFront, AppendsLess, Sends}
-use Rattle.ss_program.specs.Session.{after_lines, plain_after, replies}
-use Rattle.ss_program.specs.Talk.{plain, plain_over}
-use Rattle.ss_program.specs.Tally.{HasRun, IsSingle, Tallies}
 use Rattle.ss_program.specs.declared.generate.Tally.{Tally}
-use Rattle.ss_program.specs.declared.status.Status.{Status}
-use Rattle.ss_program.specs.declared.status.Status.TheVariants.{Done, SinkFault}
-use Rattle.ss_outside.specs.declared.source.Failed.{Failed}
 use Rattle.ss_program.proofs.OpeningLemmas.{unopened}
 use Rattle.ss_program.proofs.HeldLemmas.{StandsShortForFirst-within}
 use Rattle.ss_program.proofs.LeftLemmas.{Adds-left, Adds-moments, short_left}

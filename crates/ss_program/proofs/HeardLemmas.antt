@@ -1,43 +1,24 @@
 -- What stays of a cursor whatever is said, and what a line of sessions brings by what is heard.
-use Rattle.std.proofs.Common.{◌≡◌, ◌≢◌, ◌∙◌, ℕ, ◌+◌, ◌<◌, ◌-◌, List, [], ◌∷◌, length, map, take, drop, Option, Some, None, Result, Ok, Err, Bool, true, false}
-use Rattle.std.proofs.Common.{refl, sym, ap, subst, arith, inl, inr}
-use Rattle.std.proofs.lemmas.Bool.{cases_Bool, cond-false, cond-true, eq-eqb, eqb-true, leb-true, ltb-true}
-use Rattle.std.proofs.lemmas.List.{drop-drop, drop-map, length-map, length-set, take-map}
-use Rattle.std.proofs.lemmas.List.Elements.{All-head, All-tail}
-use Rattle.std.proofs.lemmas.Option.{cond_some}
-use Rattle.std.specs.Prelude.{◌==◌, ◌&&◌, if◌then◌else◌, is_some, nat_le, nat_lt, option_map}
-use Rattle.ss_arguments.specs.declared.mode.Form.{Form}
-use Rattle.ss_arguments.specs.declared.mode.Form.TheVariants.{Lines, Sessions, Frames, Follow}
-use Rattle.ss_catalog.specs.declared.event.Event.{Event}
-use Rattle.ss_catalog.specs.declared.refusal.Refusal.{Refusal}
-use Rattle.ss_command.specs.Grammar.{is_comment, meaning}
-use Rattle.ss_command.specs.declared.command.Command.{Command}
-use Rattle.ss_command.specs.declared.command.Command.TheVariants.{Do, Ask, Certify, Series as AskRows, Last, Values, Windows, List as ListAll}
-use Rattle.ss_frames.specs.Frame.{FrameState}
-use Rattle.ss_command.specs.LineState.{unless_long}
-use Rattle.ss_command.specs.Words.{first_word, rest_of}
+use Rattle.ss_program.proofs.Common.{◌≡◌, ◌≢◌, ◌∙◌, ℕ, ◌+◌, ◌<◌, ◌-◌, List, [], ◌∷◌, length, map, take, drop, Option, Some, None, Result, Ok, Err, Bool, true}
+use Rattle.ss_program.proofs.Common.{false, refl, sym, ap, subst, arith, inl, inr, cases_Bool, cond-false, cond-true, eq-eqb, eqb-true, leb-true, ltb-true}
+use Rattle.ss_program.proofs.Common.{drop-drop, drop-map, length-map, length-set, take-map, All-head, All-tail, cond_some, ◌==◌, ◌&&◌, if◌then◌else◌, is_some}
+use Rattle.ss_program.proofs.Common.{nat_le, nat_lt, option_map, Form, Lines, Sessions, Frames, Follow, Event, Refusal, is_comment, meaning, Command, Do, Ask}
+use Rattle.ss_program.proofs.Common.{Certify, Last, Values, Windows, FrameState, unless_long, first_word, rest_of, first_that_applies, refuses, placed_of}
+use Rattle.ss_program.proofs.Common.{Stream, state, stream_named, Placed, Cursor, Rows, Cursors, cursor_of, cursor_refusals, cursor_rows, flattened}
+use Rattle.ss_program.proofs.Common.{with_cursor, said_of, session_of, spoken_of, spoken_to, spoken_words, Order, Spoken, Nothing, Unaddressed, To, IsOrder}
+use Rattle.ss_program.proofs.Common.{NoneCloses, heard_of, rows_asked, rows_asked_by, rows_asked_in, Ordered, close_brings, closing, next_brings, open_brings}
+use Rattle.ss_program.proofs.Common.{opening, order_in, placed_rows, showing, unless_unopened, History, accepted_frame, only_replies, text_said, window_rows}
+use Rattle.ss_program.proofs.Common.{after_line, after_lines, Talk, Turn, begun, kept_spoken, meant_turn, turn_in, turn_of, turn_spoken, turn_to, writing}
+use Rattle.ss_command.specs.declared.command.Command.TheVariants.{Series as AskRows, List as ListAll}
 use Rattle.ss_line.proofs.IndexLemmas.{slice_get-set_other}
-use Rattle.ss_model.specs.Refusals.{first_that_applies, refuses}
-use Rattle.ss_model.specs.Shown.{placed_of}
-use Rattle.ss_model.specs.State.{Stream, state, stream_named}
-use Rattle.ss_model.specs.declared.types.Placed.{Placed}
 use Rattle.ss_model.specs.declared.types.Window.{Window}
-use Rattle.ss_report.specs.declared.reply.Reply.TheVariants.{Window as WindowRow, Cursor, Rows}
+use Rattle.ss_report.specs.declared.reply.Reply.TheVariants.{Window as WindowRow}
 use Rattle.ss_sessions.proofs.CursorLemmas.{cursor_of-with_cursor}
-use Rattle.ss_sessions.specs.Cursors.{Cursors, cursor_of, cursor_refusals, cursor_rows, flattened, refuses_cursor, with_cursor}
-use Rattle.ss_sessions.specs.Grammar.{said_of, session_of, spoken_of, spoken_to, spoken_words}
+use Rattle.ss_sessions.specs.Cursors.{refuses_cursor}
 use Rattle.ss_sessions.specs.declared.TheConstants.{ADDRESS, SESSIONS}
-use Rattle.ss_sessions.specs.declared.order.Order.{Order}
-use Rattle.ss_sessions.specs.declared.order.Order.TheVariants as orders
-use Rattle.ss_sessions.specs.declared.order.Spoken.{Spoken}
-use Rattle.ss_sessions.specs.declared.order.Spoken.TheVariants.{Nothing, Unaddressed, To}
-use Rattle.ss_program.specs.Asked.{IsOrder, NoneCloses, heard_of, rows_asked, rows_asked_by, rows_asked_in}
-use Rattle.ss_program.specs.Cursor.{Ordered, close_brings, closing, next_brings, open_brings, opening, order_in, placed_rows, showing, unless_unopened}
-use Rattle.ss_program.specs.Line.{History, accepted_frame, only_replies, text_said, window_rows}
-use Rattle.ss_program.specs.Session.{after_line, after_lines}
-use Rattle.ss_program.specs.Talk.{Talk, Turn, begun, kept_spoken, meant_turn, turn_in, turn_of, turn_spoken, turn_to, writing}
 use Rattle.ss_program.proofs.CursorLemmas.{cursor_of-with, next-shown}
 use Rattle.ss_program.proofs.SessionLemmas.{after_lines-form}
+use Rattle.ss_sessions.specs.declared.order.Order.TheVariants as orders
 
 -- ---- how many cursors there are
 

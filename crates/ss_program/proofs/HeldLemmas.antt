@@ -1,45 +1,8 @@
 -- Which events are accepted of lines, and which of them are acknowledged by so many bytes of the report.
-use Rattle.std.proofs.Common.{
-  ◌≡◌,
-  ◌⊎◌,
-  inl,
-  inr,
-  ℕ,
-  ◌+◌,
-  ◌-◌,
-  ◌<◌,
-  ◌≤◌,
-  ◌++◌,
-  List,
-  [],
-  ◌∷◌,
-  length,
-  take,
-  take_all,
-  Option,
-  Some,
-  None,
-  IsSome,
-  refl,
-  sym,
-  ap,
-  ◌∙◌,
-  subst,
-  append_assoc,
-  arith,
-}
-use Rattle.std.specs.Prelude.{nat_le}
-use Rattle.std.proofs.lemmas.Bool.{cases_lt, cond-true, cond-false, le-leb, lt-leb}
-use Rattle.std.proofs.lemmas.List.{length-append, length-take-le, take-append-le}
-use Rattle.ss_catalog.specs.declared.event.Event.{Event}
-use Rattle.ss_store.specs.Uses.{StandsShort}
-use Rattle.ss_model.specs.History.{Happened}
-use Rattle.ss_program.specs.Held.{StandsForFirst, StandsShortForFirst, acks}
-use Rattle.ss_program.specs.Line.{the_event}
-use Rattle.ss_program.specs.Progress.{HoldsTalk, StandsWithin}
-use Rattle.ss_program.specs.Sent.{appended}
-use Rattle.ss_program.specs.Session.{accepted, after_line, after_lines, text_of}
-use Rattle.ss_program.specs.Talk.{Talk, turn_of}
+use Rattle.ss_program.proofs.Common.{◌≡◌, ◌⊎◌, inl, inr, ℕ, ◌+◌, ◌-◌, ◌<◌, ◌≤◌, ◌++◌, List, [], ◌∷◌, length, take, take_all, Option, Some, None, IsSome, refl}
+use Rattle.ss_program.proofs.Common.{sym, ap, ◌∙◌, subst, append_assoc, arith, nat_le, cases_lt, cond-true, cond-false, le-leb, lt-leb, length-append}
+use Rattle.ss_program.proofs.Common.{length-take-le, take-append-le, Event, StandsShort, Happened, StandsForFirst, StandsShortForFirst, acks, the_event}
+use Rattle.ss_program.proofs.Common.{HoldsTalk, StandsWithin, appended, accepted, after_line, after_lines, text_of, Talk, turn_of}
 use Rattle.ss_program.proofs.LeftLemmas.{left_short}
 use Rattle.ss_program.proofs.SessionLemmas.{after_lines-accepted, says-some}
 

@@ -1,62 +1,13 @@
 -- Which accepted events an image holds, by how much of the report was taken.
-use Rattle.std.proofs.Common.{
-  ◌≡◌,
-  ◌⊎◌,
-  inl,
-  inr,
-  ℕ,
-  ◌+◌,
-  ◌-◌,
-  ◌<◌,
-  ◌≤◌,
-  ◌++◌,
-  List,
-  [],
-  ◌∷◌,
-  length,
-  take,
-  Option,
-  Some,
-  None,
-  refl,
-  sym,
-  ap,
-  ◌∙◌,
-  subst,
-  append_assoc,
-  arith,
-}
-use Rattle.std.proofs.lemmas.List.{append-nil, length-append}
-use Rattle.ss_catalog.specs.declared.event.Event.{Event}
-use Rattle.ss_outside.specs.Disk.{Told}
-use Rattle.ss_store.specs.Uses.{StandsShort}
-use Rattle.ss_model.specs.History.{Happened}
-use Rattle.ss_program.specs.Held.{HoldsAcked, acks}
-use Rattle.ss_program.specs.Line.{the_event}
-use Rattle.ss_program.specs.Outcome.{HoldsReported, steps_within}
-use Rattle.ss_program.specs.Progress.{HoldsTalk, IsAlone, StopsAmong}
-use Rattle.ss_program.specs.Sent.{appended}
-use Rattle.ss_program.specs.Session.{accepted, after_line, after_lines, text_of}
-use Rattle.ss_program.specs.Talk.{Talk, turn_of}
-use Rattle.ss_arguments.specs.declared.mode.Sealing.{Sealing}
-use Rattle.ss_arguments.specs.declared.mode.Sealing.TheVariants.{Each}
-use Rattle.ss_program.specs.declared.status.Status.{Status}
-use Rattle.ss_program.specs.declared.status.Status.TheVariants.{
-  Done,
-  Usage,
-  RefusedStore,
-  DiskFault,
-  SourceFault,
-  SinkFault,
-  OutOfMemory,
-  InputLimit,
-  RecordChanged,
-}
+use Rattle.ss_program.proofs.Common.{◌≡◌, ◌⊎◌, inl, inr, ℕ, ◌+◌, ◌-◌, ◌<◌, ◌≤◌, ◌++◌, List, [], ◌∷◌, length, take, Option, Some, None, refl, sym, ap, ◌∙◌}
+use Rattle.ss_program.proofs.Common.{subst, append_assoc, arith, append-nil, length-append, Event, Told, StandsShort, Happened, HoldsAcked, acks, the_event}
+use Rattle.ss_program.proofs.Common.{HoldsReported, steps_within, HoldsTalk, IsAlone, StopsAmong, appended, accepted, after_line, after_lines, text_of, Talk}
+use Rattle.ss_program.proofs.Common.{turn_of, Sealing, Each, Status, Done, Usage, RefusedStore, DiskFault, SourceFault, SinkFault, OutOfMemory, InputLimit}
+use Rattle.ss_program.proofs.Common.{RecordChanged, steps}
 use Rattle.ss_program.proofs.SendLemmas.{appended-appended, appended-nil}
 use Rattle.ss_program.proofs.SessionLemmas.{after_lines-append, text_of-append, text_of-one}
 use Rattle.ss_program.proofs.HeldLemmas.{Cuts, acks-done, acks-few, accepted-append, few-events, first-short, new_bytes, none-cut}
 use Rattle.ss_program.proofs.ReadLemmas.{AreRead}
-use Rattle.ss_program.specs.Steps.{steps}
 
 -- the image stands for the history after some first lines, to which all was sent, and nothing to others
 HoldsAcked-done : (sealing : Sealing) (talk : Talk) (ls read done others more : List (List ℕ)) (bytes : ℕ) (status : Status) (image : List ℕ) →

@@ -1,33 +1,15 @@
 -- Lines of a session and the bytes of its input.
-use Rattle.std.proofs.Common.{◌≡◌, ℕ, ◌+◌, ◌-◌, ◌++◌, List, [], ◌∷◌, length, take, drop, Option, Some, None, Result, Ok, Err, refl, sym, ap, ◌∙◌, subst, append_assoc}
-use Rattle.std.proofs.Math.Seq.{take-add}
-use Rattle.std.proofs.lemmas.List.{append-nil, take-append-drop}
-use Rattle.std.specs.Prelude.{OnOk}
-use Rattle.ss_command.specs.Grammar.{meaning}
-use Rattle.ss_command.specs.declared.line_reader.Ended.{Ended}
-use Rattle.ss_command.specs.LineState.{Kept, kept, unless_long}
-use Rattle.ss_outside.specs.Disk.{Told}
-use Rattle.ss_records.specs.Kept.{RecordsState, shown_by}
-use Rattle.ss_store.specs.Kept.{StoreState}
-use Rattle.ss_store.specs.Recover.{Stands}
-use Rattle.ss_program.specs.Amid.{Amid, GoesAmid, IsAmid, OfAmid, Owed, Takes, TakesBytes, TakesLast, TakesNone, TakesTurn, amid, owed_by}
-use Rattle.ss_program.specs.Progress.{EndsSession, HasReplied, HasTaken, HoldsTalk, NoneWait, SessionState, StopsIn, TakesPiece}
-use Rattle.ss_program.specs.Session.{after_lines}
-use Rattle.ss_program.specs.Line.{Brought}
-use Rattle.ss_program.specs.Talk.{Talk, kept_framed, kept_offered, kept_spoken, kept_turn, meant_turn, turn_brought, turn_in, turn_of}
-use Rattle.ss_sessions.specs.Cursors.{Cursors}
-use Rattle.ss_arguments.specs.declared.mode.Form.{Form}
-use Rattle.ss_arguments.specs.declared.mode.Form.TheVariants.{Lines, Sessions, Frames, Follow}
-use Rattle.ss_arguments.specs.declared.mode.Sealing.{Sealing}
-use Rattle.ss_program.specs.declared.status.Status.{Status}
-use Rattle.ss_program.specs.declared.status.Status.TheVariants.{Done}
+use Rattle.ss_program.proofs.Common.{◌≡◌, ℕ, ◌+◌, ◌-◌, ◌++◌, List, [], ◌∷◌, length, take, drop, Option, Some, None, Result, Ok, Err, refl, sym, ap, ◌∙◌, subst}
+use Rattle.ss_program.proofs.Common.{append_assoc, take-add, append-nil, take-append-drop, OnOk, meaning, Ended, Kept, kept, unless_long, Told, RecordsState}
+use Rattle.ss_program.proofs.Common.{shown_by, StoreState, Amid, GoesAmid, IsAmid, OfAmid, Owed, Takes, TakesBytes, TakesLast, TakesNone, TakesTurn, amid}
+use Rattle.ss_program.proofs.Common.{owed_by, EndsSession, HasReplied, HasTaken, HoldsTalk, NoneWait, SessionState, StopsIn, TakesPiece, after_lines, Brought}
+use Rattle.ss_program.proofs.Common.{Talk, kept_framed, kept_offered, kept_spoken, kept_turn, meant_turn, turn_brought, turn_in, turn_of, Cursors, Form, Lines}
+use Rattle.ss_program.proofs.Common.{Sessions, Frames, Follow, Sealing, Status, Done, StepState, TellsStep, kept_so_far, kept_step, steps, steps_so_far}
 use Rattle.ss_program.proofs.AmidLemmas.{AreOwed-none, GoesAmid-then, IsAmid-begin, StopsIn-after, owed-nothing, said-all, sealing-owed}
 use Rattle.ss_program.proofs.AnswerLemmas.{kept-brings, line-kept, meaning-long}
 use Rattle.ss_program.proofs.SendLemmas.{rest-slice}
 use Rattle.ss_program.proofs.StepsLemmas.{steps-more}
 use Rattle.ss_program.proofs.SessionLemmas.{StopsIn-more, after_lines-form}
-use Rattle.ss_program.specs.Reading.{StepState, TellsStep}
-use Rattle.ss_program.specs.Steps.{kept_so_far, kept_step, steps, steps_so_far}
 
 -- what an event brings whose frame is written, as its line is kept
 frames-kept : (talk : Talk) (o : Option (List ℕ)) (line : List ℕ) → o ≡ unless_long line → meant_turn talk (meaning line) ≡ kept_framed talk o

@@ -1,62 +1,20 @@
 -- What a session makes of a history: another one, over which its queries are answered.
-use Rattle.std.proofs.Common.{◌≡◌, ◌∙◌, ◌++◌, List, [], ◌∷◌, ℕ, ℤ, map, Option, Some, None, IsSome, true, Result, Ok, Err, refl, sym, ap, subst, Bool, false}
-use Rattle.std.specs.Prelude.{◌≤ℤ◌}
-use Rattle.std.proofs.lemmas.List.{append-nil}
-use Rattle.ss_catalog.specs.declared.event.Event.{Event}
-use Rattle.ss_catalog.specs.declared.event.Event.TheVariants.{Create, Value, Open, Close, Drop}
-use Rattle.ss_catalog.specs.Queries.{adds_up, is_guess}
-use Rattle.ss_catalog.specs.declared.query.End.{End}
-use Rattle.ss_catalog.specs.declared.query.Kind.{Kind}
-use Rattle.ss_catalog.specs.declared.query.Kind.TheVariants as kinds
-use Rattle.ss_catalog.specs.declared.query.Query.{Query}
-use Rattle.ss_catalog.specs.declared.refusal.Refusal.{Refusal}
-use Rattle.ss_catalog.specs.declared.series.Series.{Series}
-use Rattle.ss_catalog.specs.Series.{row_count, row_start, rows_of}
-use Rattle.ss_certify.proofs.SharpLemmas.{MayBeTrue-answer, end_asked-answer}
-use Rattle.ss_certify.specs.Called.{evidence_in}
-use Rattle.ss_certify.specs.Told.{told}
-use Rattle.ss_certify.specs.declared.evidence.Evidence.{Evidence}
-use Rattle.ss_command.proofs.SayLemmas.{meant-sayable}
-use Rattle.ss_command.specs.Grammar.{meaning}
-use Rattle.ss_command.specs.Printed.{IsSayable}
-use Rattle.ss_command.specs.declared.command.Command.{Command}
-use Rattle.ss_command.specs.declared.command.Command.TheVariants.{Do, Ask, Certify, Series as AskRows, Last, Values, Windows, List as ListAll}
-use Rattle.ss_model.proofs.AnswerLemmas.{answer-ends, answer-exact, answer-holds, answer-kind, answer-known}
-use Rattle.ss_model.proofs.HistoryLemmas.{IsHistory_push, IsState-state}
-use Rattle.ss_model.proofs.RowLemmas.{row-answered}
-use Rattle.ss_model.specs.Answers.{HasEnds, HoldsPresence, HoldsTruth, IsExactOutcome, IsOfKind, interval_query, outcome_of, refuses_query, split_by}
-use Rattle.ss_model.specs.History.{CanBeSaid, added, marked_of, values_of}
-use Rattle.ss_model.specs.Refusals.{IsHistory, refuses}
-use Rattle.ss_model.specs.Series.{AnswersRow, refuses_series}
-use Rattle.ss_model.specs.State.{state}
-use Rattle.ss_model.specs.Truth.{true_presence}
-use Rattle.ss_model.specs.declared.outcome.Outcome.{Outcome}
-use Rattle.ss_model.specs.declared.outcome.Outcome.TheVariants.{Count, Sum, Min, Max, Has, Estimate}
-use Rattle.ss_model.specs.declared.outcome.Presence.{Presence}
-use Rattle.ss_report.specs.declared.reply.Reply.{Reply}
-use Rattle.ss_report.specs.declared.reply.Reply.TheVariants.{Answered, SeriesHead, Row}
-use Rattle.ss_program.specs.Certifying.{IsSharp}
-use Rattle.ss_program.specs.Line.{
-  Brought,
-  History,
-  accepted_in,
-  command_in,
-  meaning_in,
-  brings,
-  command_brings,
-  history_after,
-  meaning_brings,
-  nothing,
-  refused,
-  only_replies,
-  unless_refused,
-}
-use Rattle.ss_program.specs.Session.{plain_after, replies}
+use Rattle.ss_program.proofs.Common.{◌≡◌, ◌∙◌, ◌++◌, List, [], ◌∷◌, ℕ, ℤ, map, Option, Some, None, IsSome, true, Result, Ok, Err, refl, sym, ap, subst, Bool}
+use Rattle.ss_program.proofs.Common.{false, ◌≤ℤ◌, append-nil, Event, Create, Value, Open, Close, Drop, adds_up, is_guess, End, Kind, Query, Refusal, Series}
+use Rattle.ss_program.proofs.Common.{row_count, row_start, rows_of, MayBeTrue-answer, end_asked-answer, evidence_in, told, Evidence, meant-sayable, meaning}
+use Rattle.ss_program.proofs.Common.{IsSayable, Command, Do, Ask, Certify, Last, Values, Windows, answer-ends, answer-exact, answer-holds, answer-kind}
+use Rattle.ss_program.proofs.Common.{answer-known, IsHistory_push, IsState-state, row-answered, HasEnds, HoldsPresence, HoldsTruth, IsExactOutcome, IsOfKind}
+use Rattle.ss_program.proofs.Common.{interval_query, outcome_of, refuses_query, split_by, CanBeSaid, added, marked_of, values_of, IsHistory, refuses}
+use Rattle.ss_program.proofs.Common.{AnswersRow, refuses_series, state, true_presence, Outcome, Count, Sum, Min, Max, Has, Estimate, Presence, Reply, Answered}
+use Rattle.ss_program.proofs.Common.{SeriesHead, Row, IsSharp, Brought, History, accepted_in, command_in, meaning_in, brings, command_brings, history_after}
+use Rattle.ss_program.proofs.Common.{meaning_brings, nothing, refused, only_replies, unless_refused, plain_after, replies}
+use Rattle.ss_command.specs.declared.command.Command.TheVariants.{Series as AskRows, List as ListAll}
 use Rattle.ss_program.proofs.AnswerLemmas.{ask-event, brings-answer_replies, certify-event, history-still, last-event, series-event, values-event}
 use Rattle.ss_program.proofs.AnswerLemmas.{windows-event}
 use Rattle.ss_program.proofs.CertifyLemmas.{brings-certified, evidence-known, evidence-right}
 use Rattle.ss_program.proofs.SeriesLemmas.{brings-series, series_rows-map}
 use Rattle.ss_program.proofs.SessionLemmas.{replies-append}
+use Rattle.ss_catalog.specs.declared.query.Kind.TheVariants as kinds
 
 -- an event of a command that a line can say
 pub sayable-said : (event : Event) → IsSayable (Do event) → CanBeSaid event

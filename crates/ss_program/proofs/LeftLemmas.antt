@@ -1,21 +1,8 @@
 -- Images that stand for a history and are no longer than it allows.
-use Rattle.std.proofs.Common.{◌≡◌, ◌⊎◌, ◌+◌, ◌≤◌, ⊎_elim, inl, inr, ℕ, List, [], None, Option, Some, Result, Ok, Err, arith, subst, sym, ◌∙◌}
-use Rattle.std.proofs.lemmas.Result.{on_ok_weaker}
-use Rattle.std.specs.Prelude.{OnOk, max}
-use Rattle.ss_model.specs.State.{live, state}
-use Rattle.ss_outside.proofs.CrashLemmas.{weaker}
-use Rattle.ss_outside.specs.Crash.{LeavesOnly}
-use Rattle.ss_outside.specs.Disk.{NothingPending, Told}
-use Rattle.ss_store.specs.Calls.{KeepsWithin, Turns}
-use Rattle.ss_store.specs.Recover.{Stands}
-use Rattle.ss_store.specs.Uses.{IsShort, StandsShort, UsesAtMost, most_needed}
-use Rattle.ss_store.proofs.Uses.{IsShort-more, both, live-last}
-use Rattle.ss_program.specs.Answer.{Adds}
-use Rattle.ss_program.specs.Line.{Brought, History, history_after, the_event}
-use Rattle.ss_program.specs.Progress.{HoldsTalk, StandsAround}
-use Rattle.ss_program.specs.Session.{after_lines}
-use Rattle.ss_program.specs.Talk.{Talk}
-use Rattle.ss_program.specs.declared.status.Status.{Status}
+use Rattle.ss_program.proofs.Common.{◌⊎◌, ◌+◌, ⊎_elim, inl, inr, ℕ, List, [], None, Option, Some, Result, Ok, Err, arith, subst, sym, on_ok_weaker, OnOk, max}
+use Rattle.ss_program.proofs.Common.{weaker, LeavesOnly, NothingPending, Told, KeepsWithin, Turns, Stands, IsShort, StandsShort, UsesAtMost, most_needed}
+use Rattle.ss_program.proofs.Common.{IsShort-more, both, live-last, Adds, Brought, History, history_after, the_event, HoldsTalk, StandsAround, after_lines}
+use Rattle.ss_program.proofs.Common.{Talk, Status}
 use Rattle.ss_program.proofs.SessionLemmas.{after_lines-used}
 
 -- of a conversation after some lines it is asked as of the one before

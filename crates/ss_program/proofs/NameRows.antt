@@ -1,27 +1,20 @@
 -- Worked rows of names whose stream was dropped, and of those that are created, computed.
-use Rattle.std.proofs.Common.{◌≡◌, ◌++◌, [], ◌∷◌, refl}
-use Rattle.std.specs.Prelude.{ℕ, List, None, Option, Some, codes, false, flat_map, map, pos, negsuc}
+use Rattle.ss_program.proofs.Common.{◌≡◌, ◌++◌, [], ◌∷◌, refl, ℕ, List, None, Some, codes, false, flat_map, map, pos, negsuc, Sessions, Create, Value, Drop}
+use Rattle.ss_program.proofs.Common.{exp, lines, Do, Windows, Happened, added, values_of, New, needed, accepted, report, begun, plain}
+use Rattle.ss_model.specs.Answers.{outcome_of}
 use Rattle.std.specs.Fmt.{digits}
-use Rattle.ss_arguments.specs.declared.mode.Form.TheVariants.{Sessions}
 use Rattle.ss_catalog.specs.Names.{is_name}
-use Rattle.ss_catalog.specs.declared.event.Event.TheVariants.{Create, Value, Open, Close, Drop}
-use Rattle.ss_catalog.specs.Params.{exp}
 use Rattle.ss_command.specs.Grammar.{meaning}
-use Rattle.ss_command.specs.Lines.{ended_lines, lines, unended}
+use Rattle.ss_command.specs.Lines.{ended_lines, unended}
 use Rattle.ss_command.specs.Words.{words}
-use Rattle.ss_command.specs.declared.command.Command.TheVariants.{Do, Windows, List as ListAll}
+use Rattle.ss_command.specs.declared.command.Command.TheVariants.{List as ListAll}
 use Rattle.ss_fields.specs.Words.{is_number, number_of, number_up_to, signed_of}
-use Rattle.ss_model.specs.Answers.{outcome_of, refuses_query}
-use Rattle.ss_model.specs.History.{Happened, added, values_of}
+use Rattle.ss_model.specs.Answers.{refuses_query}
 use Rattle.ss_model.specs.Newest.{refuses_values}
 use Rattle.ss_model.specs.Refusals.{refuses, refuses_reading}
 use Rattle.ss_model.specs.State.{state}
 use Rattle.ss_sessions.specs.Cursors.{refuses_cursor}
-use Rattle.ss_summary.specs.Points.{New}
 use Rattle.ss_windowing.specs.Windowing.{window_index}
-use Rattle.ss_program.specs.Needed.{needed}
-use Rattle.ss_program.specs.Session.{accepted, report}
-use Rattle.ss_program.specs.Talk.{begun, plain}
 
 -- a create makes its stream, a list names none, and each other command needs one
 needed-create : needed (Do (Create (codes "a") (exp 2 1 1))) ≡ None

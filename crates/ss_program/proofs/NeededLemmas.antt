@@ -1,34 +1,20 @@
 -- What a command brings whose stream doesn't stand.
-use Rattle.std.proofs.Common.{◌≡◌, ◌∙◌, ℕ, Bool, false, List, [], ◌∷◌, ◌++◌, Option, Some, None, Ok, refl, sym, ap, subst}
-use Rattle.std.specs.Prelude.{All}
-use Rattle.std.proofs.lemmas.List.{append-nil}
-use Rattle.ss_arguments.specs.declared.mode.Form.TheVariants.{Sessions}
-use Rattle.ss_catalog.specs.Series.{whole_query}
-use Rattle.ss_catalog.specs.declared.event.Event.TheVariants.{Create, Value, Open, Close, Drop}
-use Rattle.ss_catalog.specs.declared.refusal.Refusal.{Refusal}
-use Rattle.ss_catalog.specs.declared.refusal.Refusal.TheVariants.{Unknown}
-use Rattle.ss_command.specs.Grammar.{meaning}
-use Rattle.ss_command.specs.declared.command.Command.{Command}
-use Rattle.ss_command.specs.declared.command.Command.TheVariants.{Do, Ask, Certify, Series as AskRows, Last, Values, Windows, List as ListAll}
+use Rattle.ss_program.proofs.Common.{◌≡◌, ◌∙◌, ℕ, Bool, false, List, [], ◌∷◌, ◌++◌, Option, Some, None, Ok, refl, sym, ap, subst, All, append-nil, Sessions}
+use Rattle.ss_program.proofs.Common.{whole_query, Create, Value, Open, Close, Drop, Refusal, Unknown, meaning, Command, Do, Ask, Certify, Last, Values, Windows}
+use Rattle.ss_program.proofs.Common.{Happened, creates, stands, state, cursor_of, To, New, IsAsked, IsOrder, Brought, History, brings, command_in}
+use Rattle.ss_program.proofs.Common.{meaning_brings, refused, the_event, unless_refused, needed, accepted, after_line, after_lines, Talk, Turn, is_framed}
+use Rattle.ss_program.proofs.Common.{turn_brought, turn_of, turn_said}
+use Rattle.ss_command.specs.declared.command.Command.TheVariants.{Series as AskRows, List as ListAll}
 use Rattle.ss_model.specs.Answers.{refuses_query}
-use Rattle.ss_model.specs.History.{Happened, added, creates}
 use Rattle.ss_model.specs.Newest.{refuses_values}
-use Rattle.ss_model.specs.Refusals.{refuses, refuses_reading, stands}
-use Rattle.ss_model.specs.State.{state}
-use Rattle.ss_sessions.specs.Cursors.{cursor_of, refuses_cursor}
-use Rattle.ss_sessions.specs.declared.order.Order.TheVariants as orders
-use Rattle.ss_sessions.specs.declared.order.Spoken.TheVariants.{To}
-use Rattle.ss_summary.specs.Points.{New}
-use Rattle.ss_program.specs.Asked.{IsAsked, IsOrder}
-use Rattle.ss_program.specs.Line.{Brought, History, brings, command_in, meaning_brings, refused, the_event, unless_refused}
-use Rattle.ss_program.specs.Needed.{needed}
-use Rattle.ss_program.specs.Session.{accepted, after_line, after_lines}
-use Rattle.ss_program.specs.Talk.{Talk, Turn, begun, is_framed, turn_brought, turn_of, turn_said}
+use Rattle.ss_model.specs.Refusals.{refuses, refuses_reading}
+use Rattle.ss_sessions.specs.Cursors.{refuses_cursor}
 use Rattle.ss_program.proofs.AnewLemmas.{unknown-dropped, unknown-more}
 use Rattle.ss_program.proofs.ConversationLemmas.{asked-brings}
 use Rattle.ss_program.proofs.CursorLemmas.{open-refused}
 use Rattle.ss_program.proofs.HeardLemmas.{turn-heard}
 use Rattle.ss_program.proofs.SessionLemmas.{after_lines-accepted, after_lines-form, after_lines-push}
+use Rattle.ss_sessions.specs.declared.order.Order.TheVariants as orders
 
 refused-unknown : (refusal : Option Refusal) (brought : Brought) → refusal ≡ Some Unknown → unless_refused refusal brought ≡ refused Unknown
 refused-unknown refusal brought is = ap (λ r. unless_refused r brought) is

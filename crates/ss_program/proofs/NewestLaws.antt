@@ -1,25 +1,15 @@
 -- What lines that mean `last` and `values` bring, and that it is true of a history.
-use Rattle.std.proofs.Common.{◌≡◌, ◌∙◌, ℕ, ◌&&◌, ◌++◌, List, [], ◌∷◌, length, map, Option, Some, None, Ok, refl, sym, ap, subst}
-use Rattle.std.specs.List.{filter}
-use Rattle.std.specs.Prelude.{is_some, nat_le, nat_lt, not, option_map}
-use Rattle.ss_catalog.specs.declared.refusal.Refusal.TheVariants.{Range, Unknown}
-use Rattle.ss_command.specs.Grammar.{meaning}
-use Rattle.ss_command.specs.declared.command.Command.TheVariants.{Last, Values}
-use Rattle.ss_landmarks.specs.Landmark.{LandmarkValue, all_values}
-use Rattle.ss_landmarks.specs.ValuesIn.{values_between}
+use Rattle.ss_program.proofs.Common.{◌≡◌, ◌∙◌, ℕ, ◌&&◌, ◌++◌, List, [], ◌∷◌, length, map, Option, Some, None, Ok, refl, sym, ap, subst, filter, is_some, nat_le}
+use Rattle.ss_program.proofs.Common.{nat_lt, not, option_map, Range, Unknown, meaning, Last, Values, LandmarkValue, all_values, values_between, landmarks_of}
+use Rattle.ss_program.proofs.Common.{marked_of, values_of, later, latest_of, newest_in, newest_of, IsHistory, first_that_applies, Stream, standing}
+use Rattle.ss_program.proofs.Common.{stream_named, time_of_last, Newest, ValuesHead, Point, History, brings, meaning_brings, only_replies, value_rows}
 use Rattle.ss_model.proofs.NewestLemmas.{filter-kept, newest_in-holds}
 use Rattle.ss_model.proofs.RisingLemmas.{named-after}
-use Rattle.ss_model.specs.History.{landmarks_of, marked_of, values_of}
-use Rattle.ss_model.specs.Marks.{later, latest_of}
-use Rattle.ss_model.specs.Newest.{newest_in, newest_of, refuses_values}
+use Rattle.ss_model.specs.Newest.{refuses_values}
 use Rattle.ss_model.specs.NewestTruth.{HoldsNewest, kept_point}
-use Rattle.ss_model.specs.Refusals.{IsHistory, first_that_applies, refuses_reading}
-use Rattle.ss_model.specs.State.{Stream, standing, state, stream_named}
-use Rattle.ss_model.specs.Windows.{time_of_last}
-use Rattle.ss_model.specs.declared.newest.Newest.{Newest}
-use Rattle.ss_report.specs.declared.reply.Reply.TheVariants.{Last as LastLine, ValuesHead}
-use Rattle.ss_summary.specs.Points.{Point}
-use Rattle.ss_program.specs.Line.{History, brings, meaning_brings, only_replies, value_rows}
+use Rattle.ss_model.specs.Refusals.{refuses_reading}
+use Rattle.ss_model.specs.State.{state}
+use Rattle.ss_report.specs.declared.reply.Reply.TheVariants.{Last as LastLine}
 use Rattle.ss_program.proofs.NewestLemmas.{brings-newest}
 use Rattle.ss_program.proofs.ValuesLemmas.{brings-values}
 

@@ -1,20 +1,10 @@
 -- What `last` brings, by what the store tells of a stream.
-use Rattle.std.proofs.Common.{◌≡◌, ◌∙◌, ℕ, ◌<◌, List, [], ◌∷◌, length, Option, Some, None, sym, ap}
-use Rattle.std.specs.Prelude.{not, is_some, option_map}
-use Rattle.ss_catalog.specs.declared.refusal.Refusal.{Refusal}
-use Rattle.ss_catalog.specs.declared.refusal.Refusal.TheVariants.{Unknown}
-use Rattle.ss_command.specs.declared.command.Command.TheVariants.{Last}
-use Rattle.ss_model.specs.Newest.{newest_in, newest_of}
-use Rattle.ss_model.specs.Refusals.{first_that_applies, refuses_reading}
-use Rattle.ss_model.specs.State.{Stream, state, stream_named}
-use Rattle.ss_model.specs.declared.newest.Newest.{Newest}
-use Rattle.ss_report.specs.declared.reply.Reply.TheVariants.{Last as LastLine, Refused}
-use Rattle.ss_store.specs.Kept.{StoreIsIn, StoreState}
-use Rattle.ss_store.specs.Newest.{refuses_reading_held}
-use Rattle.ss_store.specs.Recover.{Stands}
-use Rattle.ss_store.proofs.KeptStates.{AllAgree-recovered}
-use Rattle.ss_store.proofs.ReadRefusals.{refuses_reading_held-is}
-use Rattle.ss_program.specs.Line.{History, command_brings, newest_replies, only_replies, refused, text_said, unless_refused}
+use Rattle.ss_program.proofs.Common.{◌≡◌, ◌∙◌, ℕ, ◌<◌, List, [], ◌∷◌, length, Option, Some, None, sym, ap, not, is_some, option_map, Refusal, Unknown, Last}
+use Rattle.ss_program.proofs.Common.{newest_in, newest_of, first_that_applies, Stream, state, stream_named, Newest, Refused, StoreIsIn, StoreState}
+use Rattle.ss_program.proofs.Common.{refuses_reading_held, Stands, AllAgree-recovered, refuses_reading_held-is, History, command_brings, newest_replies}
+use Rattle.ss_program.proofs.Common.{only_replies, refused, text_said, unless_refused}
+use Rattle.ss_model.specs.Refusals.{refuses_reading}
+use Rattle.ss_report.specs.declared.reply.Reply.TheVariants.{Last as LastLine}
 use Rattle.ss_program.proofs.AnswerLemmas.{one_reply-some}
 
 -- a look that is refused brings its refusal

@@ -1,6 +1,5 @@
 -- Worked rows of `last` and of `values`, as a session reports them.
-use Rattle.std.proofs.Common.{◌≡◌, ◌++◌, [], ◌∷◌, refl}
-use Rattle.std.specs.Prelude.{ℕ, List, codes, flat_map}
+use Rattle.ss_program.proofs.Common.{◌≡◌, ◌++◌, [], ◌∷◌, refl, ℕ, List, codes, flat_map, report, plain}
 use Rattle.std.specs.Fmt.{digits}
 use Rattle.ss_catalog.specs.Names.{is_name}
 use Rattle.ss_command.specs.Grammar.{meaning}
@@ -12,8 +11,6 @@ use Rattle.ss_model.specs.Refusals.{refuses, refuses_reading}
 use Rattle.ss_model.specs.State.{state}
 use Rattle.ss_power.specs.Power.{power_length}
 use Rattle.ss_windowing.specs.Windowing.{window_index}
-use Rattle.ss_program.specs.Session.{report}
-use Rattle.ss_program.specs.Talk.{plain}
 
 -- lines, each with its line end
 abbrev text : List (List ℕ) → List ℕ

@@ -1,47 +1,16 @@
 -- What is read off a state doesn't depend on the filters of its windows, but for whether a value is there.
-use Rattle.std.proofs.Common.{◌≡◌, ◌∙◌, ◌⊎◌, ℕ, ◌+◌, Bool, true, false, ◌&&◌, ◌||◌, ℤ, pos, List, [], ◌∷◌, ◌++◌, length, Option, Some, None, refl, sym, ap, ap₂, inl, inr}
-use Rattle.std.specs.Prelude.{◌+ℤ◌, cond, filter, fold, if◌then◌else◌, int_le, map, option_map, sum_by}
-use Rattle.std.specs.List.{last_or, list_any}
-use Rattle.std.proofs.lemmas.Bool.{cases_Bool}
-use Rattle.std.proofs.lemmas.List.{length-map}
+use Rattle.ss_program.proofs.Common.{◌≡◌, ◌∙◌, ◌⊎◌, ℕ, ◌+◌, Bool, true, false, ◌&&◌, ◌||◌, ℤ, pos, List, [], ◌∷◌, ◌++◌, length, Option, Some, refl, sym, ap}
+use Rattle.ss_program.proofs.Common.{ap₂, inl, inr, ◌+ℤ◌, filter, fold, if◌then◌else◌, int_le, map, option_map, sum_by, list_any, cases_Bool, max_interval}
+use Rattle.ss_program.proofs.Common.{min_interval, SplitFigures, greatest_count, least_count, sum_interval, same_name, Kind, state-old, answer_of_kind}
+use Rattle.ss_program.proofs.Common.{Happened, is_extreme, is_split, is_whole, may_have, may_reach, presence_of, split_figures, split_windows, is_one_of}
+use Rattle.ss_program.proofs.Common.{as_old, unfiltered_stream, unfiltered_window, Stream, state, stream_named, Count, Sum, Min, Max, Has, Estimate, Presence}
+use Rattle.ss_program.proofs.Common.{Absent, Present, Maybe, Point}
 use Rattle.ss_bounds.specs.Guess.{count_guess, sum_guess}
-use Rattle.ss_bounds.specs.Extremes.{max_interval, min_interval}
 use Rattle.ss_bounds.specs.Either.{greatest_in, least_in}
-use Rattle.ss_bounds.specs.Split.{SplitFigures, greatest_count, least_count, sum_interval}
 use Rattle.ss_bounds.specs.Truth.{asked, total}
-use Rattle.ss_catalog.specs.Names.{same_name}
-use Rattle.ss_catalog.specs.declared.event.Event.{Event}
-use Rattle.ss_catalog.specs.declared.query.Kind.{Kind}
-use Rattle.ss_catalog.specs.declared.query.Kind.TheVariants as kinds
-use Rattle.ss_catalog.specs.declared.query.Query.{Query}
-use Rattle.ss_landmarks.specs.Free.{is_free}
-use Rattle.ss_model.proofs.OriginLemmas.{state-old}
-use Rattle.ss_model.proofs.StepLemmas.{filter-map}
-use Rattle.ss_model.specs.Answers.{answer_of, answer_of_kind, outcome_of}
-use Rattle.ss_model.specs.History.{Happened}
-use Rattle.ss_model.specs.Interval.{
-  is_extreme,
-  is_split,
-  is_whole,
-  known_maxs,
-  known_mins,
-  may_have,
-  may_reach,
-  presence_of,
-  split_figures,
-  split_windows,
-}
-use Rattle.ss_model.specs.Truth.{is_one_of}
-use Rattle.ss_model.specs.Marks.{marked_values}
-use Rattle.ss_model.specs.Origins.{as_old, unfiltered_stream, unfiltered_window}
-use Rattle.ss_model.specs.State.{Stream, state, stream_named}
-use Rattle.ss_model.specs.declared.outcome.Outcome.{Outcome}
-use Rattle.ss_model.specs.declared.outcome.Outcome.TheVariants.{Count, Sum, Min, Max, Has, Estimate}
-use Rattle.ss_model.specs.declared.outcome.Presence.{Presence}
-use Rattle.ss_model.specs.declared.outcome.Presence.TheVariants.{Absent, Present, Maybe}
 use Rattle.ss_model.specs.declared.types.Window.{Window}
 use Rattle.ss_summary.proofs.FilterLemmas.{has-full}
-use Rattle.ss_summary.specs.Points.{Point}
+use Rattle.ss_catalog.specs.declared.query.Kind.TheVariants as kinds
 
 -- ---- what is read of the stream of a name
 

@@ -1,27 +1,13 @@
 -- What opening the store has to do with what a run leaves.
-use Rattle.std.proofs.Common.{◌≡◌, ◌⊎◌, inl, inr, ℕ, List, [], Option, Some, Ok, Err, refl, sym, ap, ◌∙◌, arith}
-use Rattle.ss_outside.proofs.CrashLemmas.{joined, now, weaker}
-use Rattle.ss_outside.specs.Crash.{KnowsNow, LeavesOnly}
-use Rattle.ss_outside.specs.Disk.{Told}
-use Rattle.ss_model.specs.State.{Stream, state}
-use Rattle.ss_store.specs.Causes.{OpensAs}
-use Rattle.ss_store.specs.Recover.{Recovers, Stands, no_store, damaged_entry, damaged_slot, damaged_stream, recovers}
-use Rattle.ss_store.specs.Surveyed.{SurveysAs, survey_of}
-use Rattle.ss_store.specs.declared.error.OpenError.{OpenError}
-use Rattle.ss_store.specs.declared.error.OpenError.TheVariants as opening
-use Rattle.ss_store.specs.declared.surveying.Survey.{Survey}
-use Rattle.ss_program.specs.Outcome.{Reads, Serves}
-use Rattle.ss_program.specs.Progress.{StandsWithin, HoldsTalk}
-use Rattle.ss_program.specs.Refused.{AsRefused, status_of_open}
-use Rattle.ss_program.specs.Talk.{Talk}
-use Rattle.ss_arguments.specs.declared.mode.Sealing.{Sealing}
-use Rattle.ss_program.specs.declared.status.Status.{Status}
-use Rattle.ss_program.specs.declared.status.Status.TheVariants.{Done, DiskFault, SourceFault, SinkFault, OutOfMemory, InputLimit}
+use Rattle.ss_program.proofs.Common.{◌≡◌, ◌⊎◌, inl, inr, ℕ, List, [], Option, Some, Ok, Err, refl, sym, ap, ◌∙◌, arith, joined, now, weaker, KnowsNow}
+use Rattle.ss_program.proofs.Common.{LeavesOnly, Told, Stream, state, OpensAs, Recovers, Stands, no_store, damaged_entry, damaged_slot, damaged_stream}
+use Rattle.ss_program.proofs.Common.{recovers, SurveysAs, survey_of, OpenError, Survey, Reads, Serves, StandsWithin, HoldsTalk, AsRefused, status_of_open, Talk}
+use Rattle.ss_program.proofs.Common.{Sealing, Status, Done, DiskFault, SourceFault, SinkFault, OutOfMemory, InputLimit, steps}
 use Rattle.ss_program.proofs.HoldsLemmas.{HoldsReported-done}
 use Rattle.ss_program.proofs.ReadLemmas.{AreRead-none}
 use Rattle.ss_program.proofs.ReadLemmas.{Reads-stop}
 use Rattle.ss_program.proofs.SendLemmas.{appended-nil}
-use Rattle.ss_program.specs.Steps.{steps}
+use Rattle.ss_store.specs.declared.error.OpenError.TheVariants as opening
 
 -- What opening the store left comes before what serving leaves.
 pub Serves-opened : (sealing : Sealing) (talk : Talk) (input : List ℕ) (left before after : Option (List ℕ)) (old mid new : Told) (status : Status) →

@@ -1,29 +1,9 @@
 -- What the cursor forms of a session do between two lines.
-use Rattle.std.proofs.Common.{◌≡◌, ◌∙◌, ◌∷◌, [], List, ℕ, Option, Some, Result, Ok, Err, refl, sym, ap, subst}
-use Rattle.std.proofs.lemmas.List.{append-nil}
-use Rattle.std.proofs.lemmas.Result.{on_ok_weaker}
-use Rattle.std.specs.List.{flat_map}
-use Rattle.std.specs.Prelude.{IsTrue, OnOk}
-use Rattle.ss_journal.specs.Kept.{shown}
-use Rattle.ss_outside.proofs.CrashLemmas.{reads-none}
-use Rattle.ss_outside.specs.Crash.{KnowsNow}
-use Rattle.ss_outside.specs.Disk.{Told}
-use Rattle.ss_outside.specs.declared.source.Failed.{Failed}
-use Rattle.ss_records.specs.Kept.{RecordsState, shown_by}
-use Rattle.ss_report.specs.declared.reply.Reply.{Reply}
-use Rattle.ss_sessions.specs.Cursors.{Cursors}
-use Rattle.ss_store.specs.Recover.{Stands}
-use Rattle.ss_program.specs.Amid.{Owed, TakesNone, TakesOrdered, amid, owed_by, with_text}
-use Rattle.ss_program.specs.Answer.{at_sink}
-use Rattle.ss_program.specs.Cursor.{Ordered, close_brings, next_brings, open_brings}
-use Rattle.ss_program.specs.Line.{Brought, History, only_replies, text_said}
+use Rattle.ss_program.proofs.Common.{◌≡◌, ◌∙◌, ◌∷◌, [], List, ℕ, Option, Some, Result, Ok, Err, refl, sym, ap, subst, append-nil, on_ok_weaker, flat_map}
+use Rattle.ss_program.proofs.Common.{IsTrue, OnOk, shown, reads-none, KnowsNow, Told, Failed, RecordsState, shown_by, Reply, Cursors, Stands, Owed, TakesNone}
+use Rattle.ss_program.proofs.Common.{TakesOrdered, amid, owed_by, with_text, at_sink, Ordered, close_brings, next_brings, open_brings, Brought, History}
+use Rattle.ss_program.proofs.Common.{only_replies, text_said, NoneWait, said_line, Sends, Talk, turn_said, Status, OutOfMemory}
 use Rattle.ss_program.specs.Opened.{OpensBrought}
-use Rattle.ss_program.specs.Progress.{NoneWait}
-use Rattle.ss_report.specs.Text.{said_line}
-use Rattle.ss_program.specs.Sent.{Sends}
-use Rattle.ss_program.specs.Talk.{Talk, turn_said}
-use Rattle.ss_program.specs.declared.status.Status.{Status}
-use Rattle.ss_program.specs.declared.status.Status.TheVariants.{OutOfMemory}
 use Rattle.ss_program.proofs.BroughtLemmas.{TakesTurn-owed, TakesTurn-starved, TakesTurn-stopped, given, halted}
 use Rattle.ss_program.proofs.PutLemmas.{TakesTurn-put}
 use Rattle.ss_program.proofs.CursorLemmas.{close-event, next-event, open-event, open-some}

@@ -1,26 +1,10 @@
 -- What lines bring doesn't depend on how many slots the store's file used before.
-use Rattle.std.proofs.Common.{◌≡◌, ◌∙◌, ℕ, ◌+◌, ◌-◌, ◌++◌, Bool, List, [], ◌∷◌, length, Option, Some, None, Result, Ok, Err, refl, ap, ap₂, cond}
-use Rattle.std.specs.Prelude.{nat_le}
-use Rattle.ss_catalog.specs.declared.event.Event.{Event}
-use Rattle.ss_catalog.specs.declared.refusal.Refusal.{Refusal}
-use Rattle.ss_command.specs.Grammar.{meaning}
-use Rattle.ss_command.specs.LineState.{unless_long}
-use Rattle.ss_command.specs.declared.command.Command.{Command}
-use Rattle.ss_command.specs.declared.command.Command.TheVariants.{Do, Ask, Certify, Series as AskRows, Last, Values, Windows, List as ListAll}
-use Rattle.ss_frames.specs.Frame.{FrameState}
-use Rattle.ss_model.specs.History.{Happened}
-use Rattle.ss_model.specs.Refusals.{refuses}
-use Rattle.ss_model.specs.State.{state}
-use Rattle.ss_sessions.specs.Grammar.{spoken_of}
-use Rattle.ss_sessions.specs.declared.order.Order.{Order}
-use Rattle.ss_sessions.specs.declared.order.Spoken.{Spoken}
-use Rattle.ss_sessions.specs.declared.order.Spoken.TheVariants.{Nothing, Unaddressed, To}
-use Rattle.ss_program.specs.Held.{acks}
-use Rattle.ss_program.specs.Line.{accepted_frame, the_event}
-use Rattle.ss_program.specs.Session.{accepted, after_line}
-use Rattle.ss_program.specs.Talk.{Talk, Turn, after_turn, kept_spoken, meant_turn, turn_in, turn_of, turn_spoken, turn_to, writing}
-use Rattle.ss_arguments.specs.declared.mode.Form.{Form}
-use Rattle.ss_arguments.specs.declared.mode.Form.TheVariants.{Lines, Sessions, Frames, Follow}
+use Rattle.ss_program.proofs.Common.{◌≡◌, ◌∙◌, ℕ, ◌+◌, ◌-◌, ◌++◌, Bool, List, [], ◌∷◌, length, Option, Some, None, Result, Ok, Err, refl, ap, cond, nat_le}
+use Rattle.ss_program.proofs.Common.{Event, Refusal, meaning, unless_long, Command, Do, Ask, Certify, Last, Values, Windows, FrameState, Happened, refuses}
+use Rattle.ss_program.proofs.Common.{state, spoken_of, Order, Spoken, Nothing, Unaddressed, To, acks, accepted_frame, the_event, accepted, after_line, Talk}
+use Rattle.ss_program.proofs.Common.{Turn, after_turn, kept_spoken, meant_turn, turn_in, turn_of, turn_spoken, turn_to, writing, Form, Lines, Sessions, Frames}
+use Rattle.ss_program.proofs.Common.{Follow}
+use Rattle.ss_command.specs.declared.command.Command.TheVariants.{Series as AskRows, List as ListAll}
 
 -- the conversation over a file that used so many slots, where that is known
 abbrev pub over_slots : Option ℕ → Talk → Talk

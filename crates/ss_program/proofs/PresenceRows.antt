@@ -1,25 +1,18 @@
 -- Worked rows of queries for a value, each computed from a history.
-use Rattle.std.proofs.Common.{◌≡◌, ◌++◌, [], ◌∷◌, refl}
-use Rattle.std.specs.Prelude.{ℕ, ℤ, true, false, List, codes, map, pos, negsuc, flat_map}
+use Rattle.ss_program.proofs.Common.{◌≡◌, ◌++◌, [], ◌∷◌, refl, ℕ, ℤ, true, false, List, codes, map, pos, negsuc, flat_map, Create, Value, exp, lines, Happened}
+use Rattle.ss_program.proofs.Common.{marked_of, values_of, true_presence, New, Old, Origin, accepted, report, plain}
 use Rattle.std.specs.Fmt.{digits}
 use Rattle.ss_catalog.specs.Names.{is_name}
-use Rattle.ss_catalog.specs.declared.event.Event.TheVariants.{Create, Value}
-use Rattle.ss_catalog.specs.Params.{exp}
 use Rattle.ss_command.specs.Grammar.{meaning}
-use Rattle.ss_command.specs.Lines.{ended_lines, lines, unended}
+use Rattle.ss_command.specs.Lines.{ended_lines, unended}
 use Rattle.ss_command.specs.Words.{words}
 use Rattle.ss_fields.specs.Words.{is_number, number_of, number_up_to, signed_of}
 use Rattle.ss_model.specs.Answers.{outcome_of, refuses_query}
-use Rattle.ss_model.specs.History.{Happened, marked_of, values_of}
 use Rattle.ss_model.specs.Refusals.{refuses}
 use Rattle.ss_model.specs.State.{state}
-use Rattle.ss_model.specs.Truth.{true_presence}
 use Rattle.ss_power.specs.Power.{power_length}
 use Rattle.ss_summary.specs.Filters.{bit_of, filter_of, full, has, union}
-use Rattle.ss_summary.specs.Points.{New, Old, Origin}
 use Rattle.ss_windowing.specs.Windowing.{window_index}
-use Rattle.ss_program.specs.Session.{accepted, report}
-use Rattle.ss_program.specs.Talk.{plain}
 
 -- lines, each with its line end
 abbrev text : List (List ℕ) → List ℕ

@@ -1,71 +1,15 @@
 -- A line that brings no event, to which what is said is sent at once.
-use Rattle.std.proofs.Common.{
-  ◌⊎◌,
-  inl,
-  ⊎_elim,
-  ◌≡◌,
-  ℕ,
-  ◌≤◌,
-  ◌++◌,
-  List,
-  [],
-  ◌∷◌,
-  length,
-  take,
-  Option,
-  None,
-  IsSome,
-  Result,
-  Ok,
-  Err,
-  refl,
-  sym,
-  ap,
-  ◌∙◌,
-  subst,
-  arith,
-}
-use Rattle.std.proofs.lemmas.List.{append-nil}
-use Rattle.std.specs.Prelude.{OnOk}
-use Rattle.ss_outside.proofs.CrashLemmas.{at_start, now, of_content, weaker}
-use Rattle.ss_outside.specs.Crash.{KnowsNow, LeavesOnly}
-use Rattle.ss_outside.specs.Disk.{NothingPending, Told}
-use Rattle.ss_records.specs.Kept.{RecordsState, shown_by}
-use Rattle.ss_store.specs.Recover.{Stands}
-use Rattle.ss_store.specs.Uses.{StandsShort}
-use Rattle.ss_program.specs.Amid.{TakesBrought, TakesTurn, amid, owed_by}
-use Rattle.ss_program.specs.Answer.{Adds, Replies, at_sink}
-use Rattle.ss_program.specs.Line.{Brought, History, text_said, the_event}
-use Rattle.ss_program.specs.Progress.{HoldsTalk, NoneWait, StandsWithin, StopsIn}
-use Rattle.ss_program.specs.Sent.{appended, AppendsLess, Sends, StopsSaying}
-use Rattle.ss_program.specs.Session.{after_line, after_lines, text_of}
-use Rattle.ss_program.specs.Talk.{Talk, Turn, after_turn, turn_brought, turn_of}
-use Rattle.ss_outside.specs.declared.source.Failed.{Failed}
-use Rattle.ss_sessions.specs.Cursors.{Cursors}
-use Rattle.ss_arguments.specs.declared.mode.Sealing.{Sealing}
-use Rattle.ss_program.specs.declared.status.Status.{Status}
-use Rattle.ss_program.specs.declared.status.Status.TheVariants.{
-  Done,
-  Usage,
-  RefusedStore,
-  DiskFault,
-  SourceFault,
-  SinkFault,
-  OutOfMemory,
-  InputLimit,
-  RecordChanged,
-}
+use Rattle.ss_program.proofs.Common.{◌⊎◌, inl, ⊎_elim, ◌≡◌, ℕ, ◌≤◌, ◌++◌, List, [], ◌∷◌, length, take, Option, None, IsSome, Result, Ok, Err, refl, sym, ap}
+use Rattle.ss_program.proofs.Common.{◌∙◌, subst, arith, append-nil, OnOk, at_start, now, of_content, weaker, KnowsNow, LeavesOnly, NothingPending, Told}
+use Rattle.ss_program.proofs.Common.{RecordsState, shown_by, Stands, StandsShort, TakesBrought, TakesTurn, amid, owed_by, Adds, Replies, at_sink, Brought}
+use Rattle.ss_program.proofs.Common.{History, text_said, the_event, HoldsTalk, NoneWait, StandsWithin, StopsIn, appended, AppendsLess, Sends, StopsSaying}
+use Rattle.ss_program.proofs.Common.{after_line, after_lines, text_of, Talk, Turn, after_turn, turn_brought, turn_of, Failed, Cursors, Sealing, Status, Done}
+use Rattle.ss_program.proofs.Common.{Usage, RefusedStore, DiskFault, SourceFault, SinkFault, OutOfMemory, InputLimit, RecordChanged}
 use Rattle.ss_program.proofs.AmidLemmas.{AreOwed-none, GoesAmid-none, IsAmid-begin, StandsBeyond-all}
 use Rattle.ss_program.proofs.AmidLemmas.{owed-nothing, said-all, sealing-owed}
 use Rattle.ss_program.proofs.LeftLemmas.{Adds-left, Adds-moments}
 use Rattle.ss_program.proofs.SendLemmas.{appended-appended}
-use Rattle.ss_program.proofs.SessionLemmas.{
-  StandsWithin-after,
-  StandsWithin-before,
-  after_lines-push,
-  text_of-one,
-  text_of-push,
-}
+use Rattle.ss_program.proofs.SessionLemmas.{StandsWithin-after, StandsWithin-before, after_lines-push, text_of-one, text_of-push}
 use Rattle.ss_program.proofs.BroughtLemmas.{IsAlone-one}
 
 -- what a call answers

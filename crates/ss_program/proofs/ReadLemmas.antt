@@ -1,30 +1,10 @@
 -- What was read of an input, and the lines that had ended within it.
-use Rattle.std.proofs.Common.{◌≡◌, ◌⊎◌, inl, inr, length-drop, ℕ, ◌+◌, ◌<◌, ◌≤◌, ◌++◌, List, [], ◌∷◌, length, take, drop, Bool, Option, Some, None, Ok, Err, refl, sym, ap, ◌∙◌, subst, append_assoc, arith}
-use Rattle.std.proofs.Math.Seq.{take-add}
-use Rattle.std.proofs.lemmas.List.{append-nil, drop-drop, drop_all, length-take-le, take-append-drop}
-use Rattle.ss_arguments.specs.declared.mode.Form.{Form}
-use Rattle.ss_arguments.specs.declared.mode.Sealing.{Sealing}
-use Rattle.ss_arguments.specs.declared.mode.Sealing.TheVariants.{Each, Shared}
-use Rattle.ss_outside.specs.Source.{Moves}
-use Rattle.ss_outside.specs.declared.source.Failed.{Failed}
-use Rattle.ss_program.specs.Reading.{most_read}
-use Rattle.ss_program.specs.Outcome.{Moved, Reads, Took, steps_within}
-use Rattle.ss_program.specs.Status.{IsStop}
-use Rattle.ss_program.specs.declared.running.TheConstants.{LONGEST_INPUT}
-use Rattle.ss_program.specs.declared.status.Status.{Status}
-use Rattle.ss_program.specs.Steps.{steps, steps_so_far}
+use Rattle.ss_program.proofs.Common.{◌≡◌, ◌⊎◌, inl, inr, length-drop, ℕ, ◌+◌, ◌<◌, ◌≤◌, ◌++◌, List, [], ◌∷◌, length, take, drop, Bool, Option, Some, None, Ok}
+use Rattle.ss_program.proofs.Common.{Err, refl, sym, ap, ◌∙◌, subst, append_assoc, arith, take-add, append-nil, drop-drop, drop_all, length-take-le}
+use Rattle.ss_program.proofs.Common.{take-append-drop, Form, Sealing, Each, Shared, Moves, Failed, most_read, Moved, Reads, Took, steps_within, IsStop}
+use Rattle.ss_program.proofs.Common.{LONGEST_INPUT, Status, steps, steps_so_far, Done, Usage, RefusedStore, DiskFault, SourceFault, SinkFault, OutOfMemory}
+use Rattle.ss_program.proofs.Common.{InputLimit, RecordChanged}
 use Rattle.ss_program.proofs.StepsLemmas.{steps-all, steps-front, steps-more}
-use Rattle.ss_program.specs.declared.status.Status.TheVariants.{
-  Done,
-  Usage,
-  RefusedStore,
-  DiskFault,
-  SourceFault,
-  SinkFault,
-  OutOfMemory,
-  InputLimit,
-  RecordChanged,
-}
 
 -- some first bytes of the input were read, and these lines had ended within them
 pub record AreRead (form : Form) (input : List ℕ) (left : Option (List ℕ)) (ls : List (List ℕ)) : Type 0 where

@@ -1,60 +1,17 @@
 -- What sending rows leaves: those of `windows` and of `list`, one after the other.
-use Rattle.std.proofs.Common.{
-  ◌≡◌,
-  ℕ,
-  suc,
-  ◌+◌,
-  ◌-◌,
-  ◌<◌,
-  ◌≤◌,
-  ◌++◌,
-  List,
-  [],
-  ◌∷◌,
-  length,
-  map,
-  take,
-  drop,
-  take_all,
-  Option,
-  Some,
-  None,
-  IsSome,
-  IfSome,
-  Ok,
-  Err,
-  Result,
-  sym,
-  ap,
-  ◌∙◌,
-  subst,
-  arith,
-  inl,
-  inr,
-}
-use Rattle.std.proofs.Math.Seq.{drop-cons}
-use Rattle.std.proofs.lemmas.Grind.{flat_map-append}
-use Rattle.std.proofs.lemmas.List.{append-nil, length-append, length-map, take-append-drop, take-append-le, take_more}
-use Rattle.std.proofs.lemmas.Option.{get_or_from_slice_get, slice_get-map, slice_get_cases, slice_get_within}
-use Rattle.std.specs.List.{flat_map, slice_get}
-use Rattle.std.specs.Prelude.{option_map, IsErr}
-use Rattle.ss_catalog.specs.declared.refusal.Refusal.TheVariants as refusals
-use Rattle.ss_command.specs.declared.command.Command.TheVariants.{Windows, List as ListAll}
-use Rattle.ss_line.specs.Line.{StandsIn, index_of, place_at}
+use Rattle.ss_program.proofs.Common.{◌≡◌, ℕ, suc, ◌+◌, ◌-◌, ◌<◌, ◌≤◌, ◌++◌, List, [], ◌∷◌, length, map, take, drop, take_all, Option, Some, None, IsSome}
+use Rattle.ss_program.proofs.Common.{IfSome, Ok, Err, Result, sym, ap, ◌∙◌, subst, arith, inl, inr, drop-cons, flat_map-append, append-nil, length-append}
+use Rattle.ss_program.proofs.Common.{length-map, take-append-drop, take-append-le, take_more, get_or_from_slice_get, slice_get-map, slice_get_cases}
+use Rattle.ss_program.proofs.Common.{slice_get_within, flat_map, slice_get, option_map, IsErr, Windows, StandsIn, index_of, place_at, placed_of, Placed, Stream}
+use Rattle.ss_program.proofs.Common.{state, stream_named, said_line, Reply, Refused, WindowsHead, Window, ListHead, Brought, History, command_brings}
+use Rattle.ss_program.proofs.Common.{stream_rows, text_said, window_rows, appended, AppendsLess, Sends, Failed}
+use Rattle.ss_command.specs.declared.command.Command.TheVariants.{List as ListAll}
 use Rattle.ss_line.specs.declared.entry.At.{At}
 use Rattle.ss_line.specs.declared.entry.Entry.{Entry}
-use Rattle.ss_model.specs.Shown.{placed_of}
-use Rattle.ss_model.specs.declared.types.Placed.{Placed}
-use Rattle.ss_model.specs.State.{Stream, state, stream_named}
-use Rattle.ss_report.specs.Text.{said_line}
-use Rattle.ss_report.specs.declared.reply.Reply.{Reply}
-use Rattle.ss_report.specs.declared.reply.Reply.TheVariants.{Refused, WindowsHead, Window, ListHead}
-use Rattle.ss_program.specs.Line.{Brought, History, command_brings, stream_rows, text_said, window_rows}
-use Rattle.ss_program.specs.Sent.{appended, AppendsLess, Sends}
-use Rattle.ss_outside.specs.declared.source.Failed.{Failed}
 use Rattle.ss_program.proofs.SendLemmas.{AppendsLess-after, AppendsLess-none, appended-appended, appended-nil}
 use Rattle.ss_program.proofs.AnswerLemmas.{brings-unknown, brings-windows}
 use Rattle.ss_program.proofs.TextLemmas.{said_line-some}
+use Rattle.ss_catalog.specs.declared.refusal.Refusal.TheVariants as refusals
 
 module _ (speaker : Option ℕ) where
   -- one reply alone

@@ -1,55 +1,26 @@
 -- Worked rows of the session, and the numbers of its rules.
-use Rattle.std.proofs.Common.{false, ◌≡◌, ◌∙◌, ◌^◌, ◌++◌, [], ◌∷◌, ap, arith, lit≤, refl, sym}
-use Rattle.std.specs.Prelude.{◌≢◌, ℕ, true, false, List, Option, Some, None, Result, Ok, codes, map, pos, negsuc, flat_map}
+use Rattle.ss_program.proofs.Common.{false, ◌≡◌, ◌∙◌, ◌^◌, ◌++◌, [], ◌∷◌, ap, arith, lit≤, refl, sym, ◌≢◌, ℕ, true, List, Option, Some, None, Result, Ok, codes}
+use Rattle.ss_program.proofs.Common.{map, pos, negsuc, flat_map, All-cons, All-nil, Create, Value, Drop, Params, exp, Refusal, lines, Command, Do, Happened}
+use Rattle.ss_program.proofs.Common.{added, no_store, damaged_entry, damaged_slot, damaged_stream, recovers, Count, Sum, Min, Max, Answered}
+use Rattle.ss_power.specs.Power.{power_length}
+use Rattle.ss_program.proofs.Common.{Refused, ListHead, survey_line, summary_lines, acks, Lines, steps_within, refusal_line, status_of_open, NoneCreates}
+use Rattle.ss_program.proofs.Common.{accepted, plain_after, report, exit_number, plain, turn_of, usage, no_cursors, LONGEST_INPUT, Done, Usage, RefusedStore}
+use Rattle.ss_program.proofs.Common.{DiskFault, SourceFault, SinkFault, OutOfMemory, InputLimit, RecordChanged}
 use Rattle.std.specs.Fmt.{digits}
-use Rattle.std.proofs.lemmas.List.Elements.{All-cons, All-nil}
 use Rattle.ss_catalog.specs.Names.{is_name}
-use Rattle.ss_catalog.specs.declared.event.Event.TheVariants.{Create, Value, Drop}
-use Rattle.ss_catalog.specs.declared.params.Params.{Params}
-use Rattle.ss_catalog.specs.Params.{exp}
-use Rattle.ss_catalog.specs.declared.refusal.Refusal.{Refusal}
-use Rattle.ss_catalog.specs.declared.refusal.Refusal.TheVariants as refusal
 use Rattle.ss_command.specs.Grammar.{meaning}
-use Rattle.ss_command.specs.Lines.{ended_lines, lines, unended}
+use Rattle.ss_command.specs.Lines.{ended_lines, unended}
 use Rattle.ss_command.specs.Words.{words}
-use Rattle.ss_command.specs.declared.command.Command.{Command}
-use Rattle.ss_command.specs.declared.command.Command.TheVariants.{Do}
 use Rattle.ss_fields.specs.Words.{is_number, number_of, number_up_to, signed_of}
 use Rattle.ss_bounds.specs.Split.{sum_interval}
 use Rattle.ss_bounds.specs.declared.extreme.Extreme.TheVariants.{Nothing}
-use Rattle.ss_model.specs.History.{Happened, added}
 use Rattle.ss_model.specs.Answers.{outcome_of, refuses_query}
 use Rattle.ss_model.specs.Refusals.{refuses, refuses_reading}
 use Rattle.ss_model.specs.State.{state}
-use Rattle.ss_power.specs.Power.{power_length}
 use Rattle.ss_windowing.specs.Windowing.{window_index}
-use Rattle.ss_store.specs.Recover.{no_store, damaged_entry, damaged_slot, damaged_stream, recovers}
-use Rattle.ss_model.specs.declared.outcome.Outcome.TheVariants.{Count, Sum, Min, Max}
-use Rattle.ss_report.specs.declared.reply.Reply.TheVariants.{Done as AckLine, Answered, Refused, ListHead}
+use Rattle.ss_report.specs.declared.reply.Reply.TheVariants.{Done as AckLine}
+use Rattle.ss_catalog.specs.declared.refusal.Refusal.TheVariants as refusal
 use Rattle.ss_store.specs.declared.error.OpenError.TheVariants as opening
-use Rattle.ss_program.specs.Checked.{survey_line}
-use Rattle.ss_program.specs.Generated.{summary_lines}
-use Rattle.ss_program.specs.Held.{acks}
-use Rattle.ss_arguments.specs.declared.mode.Form.TheVariants.{Lines}
-use Rattle.ss_program.specs.Outcome.{steps_within}
-use Rattle.ss_program.specs.Refused.{refusal_line, status_of_open}
-use Rattle.ss_program.specs.Session.{NoneCreates, accepted, plain_after, report}
-use Rattle.ss_program.specs.Status.{exit_number}
-use Rattle.ss_program.specs.Talk.{plain, turn_of}
-use Rattle.ss_program.specs.Words.{usage}
-use Rattle.ss_sessions.specs.Cursors.{no_cursors}
-use Rattle.ss_program.specs.declared.running.TheConstants.{LONGEST_INPUT}
-use Rattle.ss_program.specs.declared.status.Status.TheVariants.{
-  Done,
-  Usage,
-  RefusedStore,
-  DiskFault,
-  SourceFault,
-  SinkFault,
-  OutOfMemory,
-  InputLimit,
-  RecordChanged,
-}
 
 longest_input : LONGEST_INPUT ≡ 2 ^ 36
 longest_input = refl

@@ -1,38 +1,16 @@
 -- What a run leaves, by how it ends.
-use Rattle.std.proofs.Common.{◌≡◌, ◌⊎◌, inl, inr, take_all, length-drop, ℕ, ◌+◌, ◌≤◌, ◌++◌, List, [], ◌∷◌, length, take, drop, Bool, true, IsTrue, Option, Some, refl, sym, ap, ◌∙◌, subst, arith}
-use Rattle.std.proofs.Math.Seq.{take-add}
-use Rattle.std.proofs.lemmas.List.{append-nil, drop-drop, take-append-drop}
-use Rattle.ss_outside.proofs.CrashLemmas.{joined, of_content}
-use Rattle.ss_outside.specs.Crash.{KnowsNow, LeavesOnly}
-use Rattle.ss_outside.specs.Disk.{Told}
-use Rattle.ss_store.specs.Recover.{Stands}
-use Rattle.ss_program.specs.Outcome.{Reports, Serves, Stopped, Took, steps_within}
-use Rattle.ss_program.specs.Progress.{EndsWell, GoesOn, HoldsTalk, HasReplied, HasTaken, SessionState, StandsWithin, StopsIn}
-use Rattle.ss_program.specs.Sent.{appended, AppendsFront}
-use Rattle.ss_program.specs.Session.{after_lines, report, report_so_far, text_of}
-use Rattle.ss_program.specs.Status.{IsStop}
-use Rattle.ss_program.specs.Talk.{Talk}
-use Rattle.ss_program.specs.declared.running.TheConstants.{LONGEST_INPUT}
-use Rattle.ss_arguments.specs.declared.mode.Sealing.{Sealing}
-use Rattle.ss_program.specs.declared.status.Status.{Status}
-use Rattle.ss_program.specs.declared.status.Status.TheVariants.{
-  Done,
-  Usage,
-  RefusedStore,
-  DiskFault,
-  SourceFault,
-  SinkFault,
-  OutOfMemory,
-  InputLimit,
-  RecordChanged,
-}
+use Rattle.ss_program.proofs.Common.{◌≡◌, ◌⊎◌, inl, inr, take_all, length-drop, ℕ, ◌+◌, ◌≤◌, ◌++◌, List, [], ◌∷◌, length, take, drop, Bool, true, IsTrue}
+use Rattle.ss_program.proofs.Common.{Option, Some, refl, sym, ap, ◌∙◌, subst, arith, take-add, append-nil, drop-drop, take-append-drop, joined, of_content}
+use Rattle.ss_program.proofs.Common.{KnowsNow, LeavesOnly, Told, Stands, Reports, Serves, Stopped, Took, steps_within, EndsWell, GoesOn, HoldsTalk, HasReplied}
+use Rattle.ss_program.proofs.Common.{HasTaken, SessionState, StandsWithin, StopsIn, appended, AppendsFront, after_lines, report, report_so_far, text_of, IsStop}
+use Rattle.ss_program.proofs.Common.{Talk, LONGEST_INPUT, Sealing, Status, Done, Usage, RefusedStore, DiskFault, SourceFault, SinkFault, OutOfMemory}
+use Rattle.ss_program.proofs.Common.{InputLimit, RecordChanged, steps, steps_so_far}
 use Rattle.ss_program.proofs.SendLemmas.{AppendsFront-all}
 use Rattle.ss_program.proofs.SessionLemmas.{StopsAmong-front, StopsAmong-more, StopsIn-more, after_lines-accepted, front-report, moments-more}
 use Rattle.ss_program.proofs.TakeLemmas.{GoesOn-start, GoesOn-then, StopsIn-then}
 use Rattle.ss_program.proofs.ReadLemmas.{AreRead, AreRead-front, AreRead-took, Took-at, steps-read, stop-other}
 use Rattle.ss_program.proofs.StepsLemmas.{steps-all, steps-front}
 use Rattle.ss_program.proofs.HoldsLemmas.{HoldsReported-done, HoldsReported-stop}
-use Rattle.ss_program.specs.Steps.{steps, steps_so_far}
 
 -- so many bytes of the input were taken since a moment, and the lines that end in them are answered
 pub record IsThrough (sealing : Sealing) (talk : Talk) (start now : Told) (session : SessionState) (before held left : Option (List ℕ)) (input : List ℕ)

@@ -1,20 +1,13 @@
 -- Worked rows of what is said to sessions, and the numbers of its rules.
-use Rattle.std.proofs.Common.{◌*◌, ◌≡◌, ◌+◌, ◌^◌, ◌++◌, [], ◌∷◌, arith, lit≤, refl}
-use Rattle.std.specs.Prelude.{ℕ, List, Some, None, codes, flat_map, length, map, pos, negsuc}
+use Rattle.ss_program.proofs.Common.{◌*◌, ◌≡◌, ◌+◌, ◌^◌, ◌++◌, [], ◌∷◌, arith, lit≤, refl, ℕ, List, Some, None, codes, flat_map, length, map, pos, negsuc}
+use Rattle.ss_program.proofs.Common.{Create, Value, exp, Happened, added, HasRoom, IsSpeaker, brings, text_said, Each, Shared, most_read}
 use Rattle.std.specs.Fmt.{digits}
 use Rattle.ss_catalog.specs.Names.{is_name}
-use Rattle.ss_catalog.specs.declared.event.Event.TheVariants.{Create, Value}
-use Rattle.ss_catalog.specs.Params.{exp}
 use Rattle.ss_command.specs.Grammar.{meaning}
 use Rattle.ss_command.specs.Words.{words}
-use Rattle.ss_model.specs.History.{Happened, added}
 use Rattle.ss_model.specs.Refusals.{refuses, refuses_reading}
 use Rattle.ss_model.specs.State.{state}
 use Rattle.ss_windowing.specs.Windowing.{window_index}
-use Rattle.ss_program.specs.Amid.{HasRoom}
-use Rattle.ss_program.specs.Line.{IsSpeaker, brings, text_said}
-use Rattle.ss_arguments.specs.declared.mode.Sealing.TheVariants.{Each, Shared}
-use Rattle.ss_program.specs.Reading.{most_read}
 use Rattle.ss_program.specs.declared.replies.TheConstants.{LONGEST_REPLY, MOST_WAITING_BYTES}
 
 -- two lines of at most 256 bytes, each behind at most four that say to which session it is said

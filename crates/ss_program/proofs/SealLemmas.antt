@@ -1,43 +1,15 @@
 -- What bringing all to the disk makes of a session between two lines, and what a line does that is taken in memory.
-use Rattle.std.proofs.Common.{inl, inr, ◌⊎◌, ⊎_elim, ◌≡◌, ℕ, ◌<◌, ◌≤◌, ◌++◌, List, [], ◌∷◌, length, take, Option, Some, None, Result, Ok, Err, refl, sym, ap, ◌∙◌, subst, append_assoc, arith}
-use Rattle.std.proofs.lemmas.List.{append-nil, length-append}
-use Rattle.std.specs.Prelude.{⊤}
-use Rattle.ss_outside.proofs.CrashLemmas.{now, of_content, weaker}
-use Rattle.ss_outside.specs.Crash.{KnowsNow, LeavesOnly}
-use Rattle.ss_outside.specs.Disk.{DiskView, NothingPending, Told}
-use Rattle.ss_outside.specs.Step.{Step}
-use Rattle.ss_outside.specs.Verdict.{fine}
-use Rattle.ss_outside.specs.declared.source.Failed.{Failed}
-use Rattle.ss_records.specs.Kept.{RecordsState, shown_by}
-use Rattle.ss_store.specs.Calls.{SealsHistory, TurnsHistory}
-use Rattle.ss_store.specs.Recover.{Stands}
-use Rattle.ss_store.specs.Uses.{IsShort, StandsShort}
-use Rattle.ss_store.proofs.Uses.{IsShort-more}
-use Rattle.ss_program.specs.Amid.{Amid, AreOwed, GoesAmid, IsAmid, Owed, TakesNone, amid, owed_by, with_text}
-use Rattle.ss_program.specs.Answer.{at_sink}
-use Rattle.ss_program.specs.Line.{the_event}
-use Rattle.ss_program.specs.Progress.{IsAlone, HoldsTalk, StandsWithin, StopsIn}
-use Rattle.ss_program.specs.Sent.{appended, AppendsLess, Sends}
-use Rattle.ss_program.specs.Session.{after_line, after_lines, text_of}
-use Rattle.ss_program.specs.Status.{disk_verdict, ended}
-use Rattle.ss_program.specs.Talk.{Talk, turn_of}
-use Rattle.ss_arguments.specs.declared.mode.Sealing.{Sealing}
-use Rattle.ss_arguments.specs.declared.mode.Sealing.TheVariants.{Each, Shared}
-use Rattle.ss_program.specs.declared.status.Status.{Status}
-use Rattle.ss_program.specs.declared.status.Status.TheVariants.{DiskFault, SinkFault, OutOfMemory}
+use Rattle.ss_program.proofs.Common.{inl, inr, ◌⊎◌, ⊎_elim, ◌≡◌, ℕ, ◌<◌, ◌≤◌, ◌++◌, List, [], ◌∷◌, length, take, Option, Some, None, Result, Ok, Err, refl, sym}
+use Rattle.ss_program.proofs.Common.{ap, ◌∙◌, subst, append_assoc, arith, append-nil, length-append, ⊤, now, of_content, weaker, KnowsNow, LeavesOnly, DiskView}
+use Rattle.ss_program.proofs.Common.{NothingPending, Told, Step, fine, Failed, RecordsState, shown_by, SealsHistory, TurnsHistory, Stands, IsShort, StandsShort}
+use Rattle.ss_program.proofs.Common.{IsShort-more, Amid, AreOwed, GoesAmid, IsAmid, Owed, TakesNone, amid, owed_by, with_text, at_sink, the_event, IsAlone}
+use Rattle.ss_program.proofs.Common.{HoldsTalk, StandsWithin, StopsIn, appended, AppendsLess, Sends, after_line, after_lines, text_of, disk_verdict, ended}
+use Rattle.ss_program.proofs.Common.{Talk, turn_of, Sealing, Each, Shared, Status, DiskFault, SinkFault, OutOfMemory}
 use Rattle.ss_program.proofs.AmidLemmas.{AreOwed-more, IsAmid-begin, StandsBeyond-all, StandsBeyond-none, moments-out}
 use Rattle.ss_program.proofs.LeftLemmas.{left_short, short_left}
 use Rattle.ss_program.proofs.SendLemmas.{appended-appended}
-use Rattle.ss_program.proofs.SessionLemmas.{
-  StandsWithin-after,
-  StandsWithin-all,
-  StandsWithin-before,
-  after_lines-append,
-  after_lines-push,
-  after_lines-used,
-  text_of-append,
-  text_of-push,
-}
+use Rattle.ss_program.proofs.SessionLemmas.{StandsWithin-after, StandsWithin-all, StandsWithin-before, after_lines-append, after_lines-push, after_lines-used}
+use Rattle.ss_program.proofs.SessionLemmas.{text_of-append, text_of-push}
 
 -- the conversation after all of the lines, by those that are out and the rest
 after-rest : (talk : Talk) (ls out rest : List (List ℕ)) → ls ≡ out ++ rest → after_lines talk ls ≡ after_lines (after_lines talk out) rest

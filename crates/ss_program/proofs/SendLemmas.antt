@@ -1,41 +1,8 @@
 -- What puts one after another leave, and fronts of a text.
-use Rattle.std.proofs.Common.{
-  ◌≡◌,
-  ℕ,
-  ◌+◌,
-  ◌++◌,
-  ◌-◌,
-  ◌<◌,
-  ◌≤◌,
-  List,
-  [],
-  length,
-  min,
-  take,
-  drop,
-  take_all,
-  Option,
-  Some,
-  None,
-  Ok,
-  Err,
-  Result,
-  refl,
-  sym,
-  ap,
-  ◌∙◌,
-  append_assoc,
-  length-drop,
-  inl,
-  inr,
-  arith,
-}
-use Rattle.std.proofs.Math.Seq.{take-add, take-append-add}
-use Rattle.std.proofs.lemmas.Bool.{cases_lt}
-use Rattle.std.proofs.lemmas.List.{append-nil, length-append, take-append-le}
+use Rattle.ss_program.proofs.Common.{◌≡◌, ℕ, ◌+◌, ◌++◌, ◌-◌, ◌<◌, ◌≤◌, List, [], length, min, take, drop, take_all, Option, Some, None, Ok, Err, Result, refl}
+use Rattle.ss_program.proofs.Common.{sym, ap, ◌∙◌, append_assoc, length-drop, inl, inr, arith, take-add, take-append-add, cases_lt, append-nil, length-append}
+use Rattle.ss_program.proofs.Common.{take-append-le, Failed, appended, AppendsFront, AppendsLess, Puts, SaysLine}
 use Rattle.ss_outside.specs.Sink.{Appends}
-use Rattle.ss_outside.specs.declared.source.Failed.{Failed}
-use Rattle.ss_program.specs.Sent.{appended, AppendsFront, AppendsLess, Puts, SaysLine}
 
 appends : (held after : Option (List ℕ)) (piece : List ℕ) (k : ℕ) → Appends held after (Ok k) piece → after ≡ appended held (take k piece)
 appends None after piece k is = is

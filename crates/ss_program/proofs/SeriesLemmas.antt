@@ -1,27 +1,12 @@
 -- What sending the rows of a series leaves.
-use Rattle.std.proofs.Common.{◌≡◌, ℕ, ◌+◌, ◌<◌, ◌++◌, List, [], ◌∷◌, length, map, take, Option, Some, None, Result, refl, sym, ap, ◌∙◌, subst, arith}
-use Rattle.std.proofs.lemmas.List.{length-map}
-use Rattle.std.proofs.lemmas.Option.{slice_get-map}
-use Rattle.std.specs.List.{flat_map, slice_get}
-use Rattle.std.specs.Prelude.{is_some, nat_lt, option_map}
+use Rattle.ss_program.proofs.Common.{◌≡◌, ℕ, ◌+◌, ◌<◌, ◌++◌, List, [], ◌∷◌, length, map, take, Option, Some, None, Result, refl, sym, ap, ◌∙◌, subst, arith}
+use Rattle.ss_program.proofs.Common.{length-map, slice_get-map, flat_map, slice_get, is_some, nat_lt, option_map, row_count, row_query, row_start, rows_of}
+use Rattle.ss_program.proofs.Common.{whole_query, Query, Refusal, Series, row-known, row-taken, outcome_of, refuses_series, Stream, state, Outcome, said_line}
+use Rattle.ss_program.proofs.Common.{Reply, SeriesHead, Row, StoreState, part_named, History, command_brings, refused, row_shown, series_rows, only_replies}
+use Rattle.ss_program.proofs.Common.{text_said, unless_refused, appended, AppendsLess, Sends}
 use Rattle.ss_catalog.proofs.SeriesLemmas.{length-rows_of, slice_get-rows_of}
-use Rattle.ss_catalog.specs.Series.{row_count, row_query, row_start, rows_of, whole_query}
-use Rattle.ss_catalog.specs.declared.query.Query.{Query}
-use Rattle.ss_catalog.specs.declared.refusal.Refusal.{Refusal}
-use Rattle.ss_catalog.specs.declared.series.Series.{Series}
 use Rattle.ss_command.specs.declared.command.Command.TheVariants.{Series as AskRows}
-use Rattle.ss_model.proofs.RowLemmas.{row-known, row-taken}
-use Rattle.ss_model.specs.Answers.{outcome_of}
-use Rattle.ss_model.specs.Series.{refuses_series}
-use Rattle.ss_model.specs.State.{Stream, state}
-use Rattle.ss_model.specs.declared.outcome.Outcome.{Outcome}
-use Rattle.ss_report.specs.Text.{said_line}
-use Rattle.ss_report.specs.declared.reply.Reply.{Reply}
-use Rattle.ss_report.specs.declared.reply.Reply.TheVariants.{SeriesHead, Row}
 use Rattle.ss_store.specs.Asked.{refuses_query_held}
-use Rattle.ss_store.specs.Kept.{StoreState, part_named}
-use Rattle.ss_program.specs.Line.{History, command_brings, refused, row_shown, series_rows, only_replies, text_said, unless_refused}
-use Rattle.ss_program.specs.Sent.{appended, AppendsLess, Sends}
 use Rattle.ss_program.proofs.RowLemmas.{AppendsLess-head, Sends-head, rows-all, rows-less, rows-more, unread}
 
 -- rows of which each is answered

@@ -1,50 +1,20 @@
 -- How a session goes on with further lines, and where it stops. Of what a line brings this rests only on that an event is never silent.
-use Rattle.std.proofs.Common.{Bool, false, Some, None, Ok, Err, Result, ◌≡◌, ℕ, ◌+◌, ◌<◌, ◌++◌, List, [], ◌∷◌, length, take, Option}
-use Rattle.std.proofs.Common.{IsSome, refl, sym, ap, ◌∙◌, subst, append_assoc}
-use Rattle.std.proofs.Math.Seq.{take-append-add}
-use Rattle.std.specs.List.{flat_map}
-use Rattle.std.proofs.lemmas.Grind.{flat_map-append}
-use Rattle.std.proofs.lemmas.List.{append-nil}
-use Rattle.ss_arguments.specs.declared.mode.Form.{Form}
-use Rattle.ss_arguments.specs.declared.mode.Form.TheVariants.{Lines, Sessions, Frames, Follow}
-use Rattle.ss_catalog.specs.declared.event.Event.{Event}
-use Rattle.ss_catalog.specs.declared.event.Event.TheVariants.{Create, Value, Open, Close, Drop}
-use Rattle.ss_catalog.specs.declared.refusal.Refusal.{Refusal}
-use Rattle.ss_command.specs.Grammar.{meaning}
-use Rattle.ss_command.specs.declared.command.Command.{Command}
-use Rattle.ss_command.specs.declared.command.Command.TheVariants.{Do, Ask, Certify, Series as AskRows, Last, Values, Windows, List as ListAll}
-use Rattle.ss_frames.specs.Frame.{FrameState, frame_in}
-use Rattle.ss_model.specs.Refusals.{refuses}
-use Rattle.ss_model.specs.State.{state}
-use Rattle.ss_replica.specs.Offers.{due_in}
-use Rattle.ss_replica.specs.Own.{frame_of}
-use Rattle.ss_replica.specs.declared.judging.Due.{Due}
-use Rattle.ss_replica.specs.declared.judging.Due.TheVariants.{Next, Old as OldFrame, Gap}
-use Rattle.ss_command.specs.LineState.{unless_long}
-use Rattle.ss_sessions.specs.Grammar.{spoken_of}
-use Rattle.ss_sessions.specs.declared.order.Order.{Order}
-use Rattle.ss_sessions.specs.declared.order.Order.TheVariants as orders
-use Rattle.ss_sessions.specs.declared.order.Spoken.{Spoken}
-use Rattle.ss_sessions.specs.declared.order.Spoken.TheVariants.{Nothing, Unaddressed, To}
+use Rattle.ss_program.proofs.Common.{Bool, false, Some, None, Ok, Err, Result, ◌≡◌, ℕ, ◌+◌, ◌<◌, ◌++◌, List, [], ◌∷◌, length, take, Option, IsSome, refl, sym}
+use Rattle.ss_program.proofs.Common.{ap, ◌∙◌, subst, append_assoc, take-append-add, flat_map, flat_map-append, append-nil, Form, Lines, Sessions, Frames}
+use Rattle.ss_program.proofs.Common.{Follow, Event, Create, Value, Open, Close, Drop, Refusal, meaning, Command, Do, Ask, Certify, Last, Values, Windows}
+use Rattle.ss_program.proofs.Common.{FrameState, frame_in, refuses, state, due_in, frame_of, Due, Next, Gap, unless_long, spoken_of, Order, Spoken, Nothing}
+use Rattle.ss_program.proofs.Common.{Unaddressed, To, reply_line, Reply, History, accepted_frame, brings, due_brings, frame_brings, history_after, text_said}
+use Rattle.ss_program.proofs.Common.{the_event, LeavesOnly, Told, weaker, HoldsTalk, StandsWithin, StopsAmong, StopsIn, appended, AppendsFront, accepted}
+use Rattle.ss_program.proofs.Common.{after_line, after_lines, plain_after, replies, report, report_so_far, text_of, Talk, kept_spoken, meant_turn, plain}
+use Rattle.ss_program.proofs.Common.{turn_in, turn_of, turn_spoken, turn_to, writing, Sealing, Status, steps_so_far}
+use Rattle.ss_command.specs.declared.command.Command.TheVariants.{Series as AskRows, List as ListAll}
+use Rattle.ss_replica.specs.declared.judging.Due.TheVariants.{Old as OldFrame}
 use Rattle.ss_program.proofs.SpelledLemmas.{some-frame_spelled}
 use Rattle.ss_program.proofs.StepsLemmas.{steps-front}
-use Rattle.ss_report.specs.Text.{reply_line}
-use Rattle.ss_report.specs.declared.reply.Reply.{Reply}
-use Rattle.ss_program.specs.Line.{History, accepted_frame, brings, due_brings, frame_brings, history_after, text_said, the_event}
-use Rattle.ss_outside.specs.Crash.{LeavesOnly}
-use Rattle.ss_outside.specs.Disk.{Told}
-use Rattle.ss_outside.proofs.CrashLemmas.{weaker}
-use Rattle.ss_store.specs.Recover.{Stands}
-use Rattle.ss_program.specs.Progress.{HoldsTalk, StandsWithin, StopsAmong, StopsIn}
-use Rattle.ss_program.specs.Sent.{appended, AppendsFront}
-use Rattle.ss_program.specs.Session.{accepted, after_line, after_lines, plain_after, replies, report, report_so_far, text_of}
-use Rattle.ss_program.specs.Talk.{Talk, kept_spoken, meant_turn, plain, turn_in, turn_of, turn_spoken, turn_to, writing}
-use Rattle.ss_arguments.specs.declared.mode.Sealing.{Sealing}
-use Rattle.ss_program.specs.declared.status.Status.{Status}
 use Rattle.ss_program.proofs.AnswerLemmas.{event-some, meaning-some}
 use Rattle.ss_program.proofs.CursorLemmas.{close-event, next-event, open-event}
 use Rattle.ss_program.proofs.SendLemmas.{AppendsFront-longer}
-use Rattle.ss_program.specs.Steps.{steps_so_far}
+use Rattle.ss_sessions.specs.declared.order.Order.TheVariants as orders
 
 -- something is said to a line that brings an event
 to-some : (framed : Bool) (session : ℕ) (talk : Talk) (said : Result (Option Order) Refusal) → IsSome (turn_to framed session talk said).event →

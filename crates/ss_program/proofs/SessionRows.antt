@@ -1,22 +1,16 @@
 -- Worked rows of sessions: the reports of some inputs, computed.
-use Rattle.std.proofs.Common.{false, ◌≡◌, ◌++◌, [], ◌∷◌, refl}
-use Rattle.std.specs.Prelude.{ℕ, List, true, codes, flat_map, map, pos, negsuc}
+use Rattle.ss_program.proofs.Common.{false, ◌≡◌, ◌++◌, [], ◌∷◌, refl, ℕ, List, true, codes, flat_map, map, pos, negsuc, Sessions, Create, Value, Drop, exp}
+use Rattle.ss_program.proofs.Common.{lines, Happened, added, accepted, report, begun, turn_of}
 use Rattle.std.specs.Fmt.{digits}
-use Rattle.ss_arguments.specs.declared.mode.Form.TheVariants.{Sessions}
 use Rattle.ss_catalog.specs.Names.{is_name}
-use Rattle.ss_catalog.specs.declared.event.Event.TheVariants.{Create, Value, Drop}
-use Rattle.ss_catalog.specs.Params.{exp}
 use Rattle.ss_command.specs.Grammar.{meaning}
-use Rattle.ss_command.specs.Lines.{ended_lines, lines, unended}
+use Rattle.ss_command.specs.Lines.{ended_lines, unended}
 use Rattle.ss_command.specs.Words.{words}
 use Rattle.ss_fields.specs.Words.{is_number, number_of, number_up_to, signed_of}
-use Rattle.ss_model.specs.History.{Happened, added}
 use Rattle.ss_model.specs.Refusals.{refuses}
 use Rattle.ss_model.specs.State.{state}
 use Rattle.ss_sessions.specs.Cursors.{refuses_cursor}
 use Rattle.ss_windowing.specs.Windowing.{window_index}
-use Rattle.ss_program.specs.Session.{accepted, report}
-use Rattle.ss_program.specs.Talk.{begun, turn_of}
 
 -- lines, each with its line end
 abbrev text : List (List ℕ) → List ℕ

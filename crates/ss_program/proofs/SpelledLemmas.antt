@@ -1,14 +1,10 @@
 -- No frame of an event but a Drop is empty, however long its name is.
-use Rattle.std.specs.Prelude.{◌≡◌, ℕ, ◌+◌, ◌<◌, ◌++◌, List, length, take, drop}
-use Rattle.std.specs.Int.{cast_unsigned, w64}
-use Rattle.std.proofs.Common.{arith, refl}
-use Rattle.std.proofs.lemmas.List.{length-append}
-use Rattle.ss_catalog.specs.declared.event.Event.{Event}
-use Rattle.ss_catalog.specs.declared.event.Event.TheVariants.{Create, Value, Open, Close, Drop}
+use Rattle.ss_program.proofs.Common.{◌≡◌, ℕ, ◌+◌, ◌<◌, ◌++◌, List, length, take, drop, cast_unsigned, w64, arith, refl, length-append, Event, Create, Value}
+use Rattle.ss_program.proofs.Common.{Open, Close, Drop, FrameState}
 use Rattle.ss_codec.specs.Fields.{Field, i64, u32, u64, with_field}
 use Rattle.ss_codec.specs.Record.{parameters}
 use Rattle.ss_fields.proofs.FieldLemmas.{length-number_bytes}
-use Rattle.ss_frames.specs.Frame.{FrameState, frame_spelled}
+use Rattle.ss_frames.specs.Frame.{frame_spelled}
 
 -- bytes with a field written over them
 field-some : (bytes : List ℕ) (field : Field) → 0 < length field.bytes → 0 < length (with_field bytes field)

@@ -1,34 +1,12 @@
 -- What staging an event and asking a query make of the history that records show.
-use Rattle.std.proofs.Common.{inl, inr, ◌⊎◌, ⊎_elim, ◌≡◌, ◌∙◌, ◌++◌, ◌∷◌, [], List, ℕ, Some, None, Result, Ok, Err, sym, ap, subst, false}
-use Rattle.std.proofs.lemmas.Result.{on_ok_weaker}
-use Rattle.std.specs.Prelude.{◌↔◌, IsTrue, OnOk}
-use Rattle.ss_catalog.specs.declared.event.Event.{Event}
-use Rattle.ss_catalog.specs.declared.refusal.Refusal.{Refusal}
-use Rattle.ss_command.specs.declared.command.Command.TheVariants.{Do}
+use Rattle.ss_program.proofs.Common.{inl, inr, ◌⊎◌, ⊎_elim, ◌≡◌, ◌∙◌, ◌++◌, ◌∷◌, [], List, ℕ, Some, None, Result, Ok, Err, sym, ap, subst, false, on_ok_weaker}
+use Rattle.ss_program.proofs.Common.{◌↔◌, IsTrue, OnOk, Event, Refusal, Do, shown, added, refuses, state, Ack, nothing_pending-same, of_content, read_leaves}
+use Rattle.ss_program.proofs.Common.{weaker, KnowsNow, OnlyReads, DiskView, NothingPending, Told, RecordsState, shown_by, Reply, refuses-kept, StandsForEither}
+use Rattle.ss_program.proofs.Common.{TurnsHistory, StoreState, refuses_held, IsShort, StandsShort, Stands, ApplyError, AsksQuery, IsServing, Brought, History}
+use Rattle.ss_program.proofs.Common.{command_brings, history_after, StandsAround, StagesBrought, Status}
 use Rattle.ss_journal.proofs.TearLemmas.{on_ok}
-use Rattle.ss_journal.specs.Kept.{shown}
-use Rattle.ss_model.specs.History.{added}
-use Rattle.ss_model.specs.Refusals.{refuses}
-use Rattle.ss_model.specs.State.{state}
-use Rattle.ss_model.specs.declared.types.Ack.{Ack}
-use Rattle.ss_outside.proofs.CrashLemmas.{nothing_pending-same, of_content, read_leaves, weaker}
-use Rattle.ss_outside.specs.Crash.{KnowsNow, OnlyReads}
-use Rattle.ss_outside.specs.Disk.{DiskView, NothingPending, Told}
-use Rattle.ss_records.specs.Kept.{RecordsState, shown_by}
-use Rattle.ss_report.specs.declared.reply.Reply.{Reply}
-use Rattle.ss_store.proofs.FoundAlike.{refuses-kept}
-use Rattle.ss_store.specs.Calls.{StandsForEither, TurnsHistory}
-use Rattle.ss_store.specs.Kept.{StoreState, refuses_held}
-use Rattle.ss_store.specs.Uses.{IsShort, StandsShort}
-use Rattle.ss_store.specs.Recover.{Stands}
-use Rattle.ss_store.specs.declared.error.ApplyError.{ApplyError}
-use Rattle.ss_store.specs.declared.error.ApplyError.TheVariants as errors
-use Rattle.ss_program.specs.Answer.{AsksQuery, IsServing}
-use Rattle.ss_program.specs.Line.{Brought, History, command_brings, history_after}
-use Rattle.ss_program.specs.Progress.{StandsAround}
-use Rattle.ss_program.specs.Amid.{StagesBrought}
-use Rattle.ss_program.specs.declared.status.Status.{Status}
 use Rattle.ss_program.proofs.AnswerLemmas.{brings-accepted, history-still, not_refused}
+use Rattle.ss_store.specs.declared.error.ApplyError.TheVariants as errors
 
 -- an event that the store doesn't refuse isn't refused by any history that it shows
 pub accepted-shown : (event : Event) (store : StoreState) (disk : DiskView) (result : Result Ack ApplyError) → IsServing disk store →

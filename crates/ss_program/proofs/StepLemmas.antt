@@ -1,9 +1,5 @@
 -- Steps in a row, where the disk tells.
-use Rattle.std.proofs.Common.{◌∙◌, subst}
-use Rattle.std.specs.Prelude.{IsTrue}
-use Rattle.ss_outside.specs.Disk.{DiskView, Told}
-use Rattle.ss_outside.specs.Step.{Step}
-use Rattle.ss_outside.specs.Verdict.{Verdict, Counted, fine}
+use Rattle.ss_program.proofs.Common.{◌∙◌, subst, IsTrue, DiskView, Told, Step, Verdict, Counted, fine}
 
 module _ {old mid new : DiskView} {v : Verdict} {R Q S : Told → Told → Type 0} where
   -- one step after another that was fine: at its end the disk tells as well

@@ -1,17 +1,11 @@
 -- The steps of an input go on as more bytes come, whichever form it has.
-use Rattle.std.proofs.Common.{◌≡◌, ℕ, ◌<◌, ◌≤◌, ◌++◌, List, [], length, map, Bool, true, false, Option, Some, None, IfSome, ap, refl, sym, subst, inl, inr, arith, ◌∙◌}
-use Rattle.std.proofs.lemmas.List.{map-append}
-use Rattle.std.proofs.lemmas.Bool.{cond-true, cond-false, cases_lt, le-leb, lt-leb}
-use Rattle.std.specs.Prelude.{if◌then◌else◌, is_some, nat_le}
-use Rattle.ss_arguments.specs.declared.mode.Form.{Form}
+use Rattle.ss_program.proofs.Common.{◌≡◌, ℕ, ◌<◌, ◌≤◌, ◌++◌, List, [], length, map, Bool, true, false, Option, Some, None, IfSome, ap, refl, sym, subst, inl}
+use Rattle.ss_program.proofs.Common.{inr, arith, ◌∙◌, map-append, cond-true, cond-false, cases_lt, le-leb, lt-leb, if◌then◌else◌, is_some, nat_le, Form, lines}
+use Rattle.ss_program.proofs.Common.{lines_so_far, unended, unless_empty, without_return, Kept, ended_line, unless_long, LONGEST_LINE, Ended, pieces-front}
+use Rattle.ss_program.proofs.Common.{pieces_so_far-append, pieces, unended_piece, is_in_pieces, steps, steps_so_far}
 use Rattle.ss_command.proofs.LineLemmas.{ended_lines-append, lines-front}
-use Rattle.ss_command.specs.Lines.{ended_lines, lines, lines_so_far, unended, unless_empty, without_return}
-use Rattle.ss_command.specs.LineState.{Kept, ended_line, unless_long}
-use Rattle.ss_command.specs.declared.TheConstants.{LONGEST_LINE}
-use Rattle.ss_command.specs.declared.line_reader.Ended.{Ended}
-use Rattle.ss_frames.proofs.PieceLemmas.{pieces-front, pieces_so_far-append}
-use Rattle.ss_frames.specs.Pieces.{pieces, pieces_so_far, unended_piece, unless_empty as unless_last}
-use Rattle.ss_program.specs.Steps.{is_in_pieces, steps, steps_so_far}
+use Rattle.ss_command.specs.Lines.{ended_lines}
+use Rattle.ss_frames.specs.Pieces.{pieces_so_far, unless_empty as unless_last}
 
 -- the lines of more input go on from those of an input
 lines-more : (taken more : List ℕ) → (rest : List (List ℕ)) × (lines_so_far (taken ++ more) ≡ lines_so_far taken ++ rest)

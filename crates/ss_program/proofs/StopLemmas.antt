@@ -1,19 +1,6 @@
 -- The statuses at which lines that share seals stop a run.
-use Rattle.std.proofs.Common.{◌≡◌, ℕ, Bool, refl, subst}
-use Rattle.ss_program.specs.Status.{IsApplyStop, IsDiskStop, IsStop, sink_verdict}
-use Rattle.ss_outside.specs.Verdict.{Counted}
-use Rattle.ss_program.specs.declared.status.Status.{Status}
-use Rattle.ss_program.specs.declared.status.Status.TheVariants.{
-  Done,
-  Usage,
-  RefusedStore,
-  DiskFault,
-  SourceFault,
-  SinkFault,
-  OutOfMemory,
-  InputLimit,
-  RecordChanged,
-}
+use Rattle.ss_program.proofs.Common.{◌≡◌, ℕ, Bool, refl, subst, IsApplyStop, IsDiskStop, IsStop, sink_verdict, Counted, Status, Done, Usage, RefusedStore}
+use Rattle.ss_program.proofs.Common.{DiskFault, SourceFault, SinkFault, OutOfMemory, InputLimit, RecordChanged}
 
 -- memory doesn't run out at a call that reads
 pub going-disk : (tells : Bool) (status : Status) → IsDiskStop tells status → status ≡ OutOfMemory → ⊥

@@ -1,16 +1,8 @@
 -- How a session goes on from piece to piece of its input.
-use Rattle.std.proofs.Common.{◌++◌, List, [], ℕ, Option, sym, subst}
-use Rattle.std.proofs.lemmas.List.{append-nil}
-use Rattle.ss_outside.proofs.CrashLemmas.{at_start, joined, of_content}
-use Rattle.ss_outside.specs.Crash.{KnowsNow, LeavesOnly}
-use Rattle.ss_outside.specs.Disk.{Told}
-use Rattle.ss_program.specs.Progress.{GoesOn, HasReplied, HasTaken, SessionState, StandsWithin, StopsIn}
-use Rattle.ss_program.specs.Talk.{Talk}
-use Rattle.ss_arguments.specs.declared.mode.Sealing.{Sealing}
-use Rattle.ss_program.specs.declared.status.Status.{Status}
+use Rattle.ss_program.proofs.Common.{◌++◌, List, [], ℕ, Option, sym, subst, append-nil, at_start, joined, of_content, KnowsNow, LeavesOnly, Told, GoesOn}
+use Rattle.ss_program.proofs.Common.{HasReplied, HasTaken, SessionState, StandsWithin, StopsIn, Talk, Sealing, Status, steps_so_far}
 use Rattle.ss_program.proofs.StepsLemmas.{steps-more}
 use Rattle.ss_program.proofs.SessionLemmas.{StandsWithin-all, moments-more}
-use Rattle.ss_program.specs.Steps.{steps_so_far}
 
 -- the lines of more input
 any_moment-input : (talk : Talk) (old new : Told) (taken more : List ℕ) → LeavesOnly old new (StandsWithin talk (steps_so_far talk.form taken)) →

@@ -1,13 +1,6 @@
 -- How many bytes a run takes of its source, whether it tells them or not.
-use Rattle.std.proofs.Common.{◌≡◌, ◌⊎◌, inl, inr, ℕ, ◌+◌, ◌<◌, ◌≤◌, List, Bool, Option, refl, subst, arith}
-use Rattle.std.proofs.lemmas.Grind.{common_steps}
-use Rattle.ss_outside.specs.Source.{RoseBy}
-use Rattle.ss_program.specs.Ending.{Feeds, IsUnfed}
-use Rattle.ss_program.specs.Outcome.{TakesFew}
-use Rattle.ss_program.specs.Status.{IsStop}
-use Rattle.ss_program.specs.declared.running.TheConstants.{LONGEST_INPUT}
-use Rattle.ss_program.specs.declared.status.Status.{Status}
-use Rattle.ss_program.specs.declared.status.Status.TheVariants.{Done, InputLimit}
+use Rattle.ss_program.proofs.Common.{◌≡◌, ◌⊎◌, ℕ, ◌+◌, ◌≤◌, List, Bool, Option, subst, arith, common_steps, RoseBy, Feeds, IsUnfed, TakesFew, IsStop}
+use Rattle.ss_program.proofs.Common.{LONGEST_INPUT, Status, Done, InputLimit}
 use Rattle.ss_program.proofs.ReadLemmas.{end-limit}
 
 -- nothing is taken

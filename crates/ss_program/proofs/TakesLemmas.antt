@@ -1,42 +1,12 @@
 -- What a line does to the devices: what is shown, and what is added and replied.
-use Rattle.std.proofs.Common.{◌≡◌, ℕ, Bool, List, Option, None, Ok, Err, Result, IfErr, refl, sym, subst, false}
-use Rattle.std.specs.Prelude.{IsErr}
-use Rattle.ss_catalog.specs.declared.event.Event.{Event}
-use Rattle.ss_command.specs.declared.command.Command.TheVariants.{Do}
-use Rattle.ss_model.specs.Refusals.{refuses}
-use Rattle.ss_model.specs.State.{state}
-use Rattle.ss_outside.proofs.CrashLemmas.{reads-none}
-use Rattle.ss_outside.proofs.StepLemmas.{step-none}
-use Rattle.ss_outside.specs.Crash.{KnowsNow, OnlyReads}
-use Rattle.ss_outside.specs.Disk.{DiskView, OfContent, Told, WhereTold}
-use Rattle.ss_outside.specs.Step.{Step}
-use Rattle.ss_outside.specs.Verdict.{Counted, fine, verdict}
-use Rattle.ss_outside.specs.declared.source.Failed.{Failed}
-use Rattle.ss_report.specs.Text.{said_line}
-use Rattle.ss_report.specs.declared.reply.Reply.{Reply}
-use Rattle.ss_journal.specs.Kept.{IsSealed}
-use Rattle.ss_records.specs.Kept.{RecordsState}
-use Rattle.ss_store.specs.Kept.{StoreState}
-use Rattle.ss_store.specs.Recover.{Stands}
-use Rattle.ss_program.specs.Answer.{AppliesEvent, AsksQuery, DoesCommand, IsOpen, Shows, TakesLine, at_sink}
-use Rattle.ss_program.specs.Devices.{Devices, over}
-use Rattle.ss_program.specs.Line.{Brought, History, command_brings, history_after, text_said}
-use Rattle.ss_program.specs.Progress.{StandsAround}
-use Rattle.ss_program.specs.Sent.{appended, AppendsLess, Puts, Sends}
-use Rattle.ss_program.specs.Status.{IsApplyStop, IsDiskStop, IsShowStop, IsStop, disk_verdict, ended, sink_verdict}
-use Rattle.ss_program.specs.declared.status.Status.{Status}
-use Rattle.ss_program.specs.declared.status.Status.TheVariants.{
-  Done,
-  Usage,
-  RefusedStore,
-  DiskFault,
-  SourceFault,
-  SinkFault,
-  OutOfMemory,
-  InputLimit,
-  RecordChanged,
-}
-use Rattle.ss_program.proofs.AnswerLemmas.{Adds-answers, Adds-failed, Adds-reads, Stands-only_replies, IsStop-apply, IsStop-show, Replies-sent, Replies-only_replies, Replies-stopped}
+use Rattle.ss_program.proofs.Common.{◌≡◌, ℕ, Bool, List, Option, None, Ok, Err, Result, IfErr, refl, sym, subst, false, IsErr, Event, Do, refuses, state}
+use Rattle.ss_program.proofs.Common.{reads-none, step-none, KnowsNow, OnlyReads, DiskView, OfContent, Told, WhereTold, Step, Counted, fine, verdict, Failed}
+use Rattle.ss_program.proofs.Common.{said_line, Reply, IsSealed, RecordsState, StoreState, Stands, AppliesEvent, AsksQuery, DoesCommand, IsOpen, Shows}
+use Rattle.ss_program.proofs.Common.{TakesLine, at_sink, Devices, over, Brought, History, command_brings, text_said, appended, AppendsLess, Puts, Sends}
+use Rattle.ss_program.proofs.Common.{IsApplyStop, IsDiskStop, IsShowStop, IsStop, disk_verdict, ended, sink_verdict, Status, Done, Usage, RefusedStore}
+use Rattle.ss_program.proofs.Common.{DiskFault, SourceFault, SinkFault, OutOfMemory, InputLimit, RecordChanged}
+use Rattle.ss_program.proofs.AnswerLemmas.{Adds-answers, Adds-failed, Adds-reads, Stands-only_replies, IsStop-apply, IsStop-show, Replies-sent}
+use Rattle.ss_program.proofs.AnswerLemmas.{Replies-only_replies, Replies-stopped}
 use Rattle.ss_program.proofs.AnswerLemmas.{event-some}
 
 -- the disk was only read, and then a text was sent

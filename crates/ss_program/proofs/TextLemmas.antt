@@ -1,16 +1,12 @@
 -- No line of a reply is empty.
-use Rattle.std.proofs.Common.{codes, ℕ, ◌<◌, ◌++◌, List, [], ◌∷◌, length, Option, Some, None, arith}
-use Rattle.std.proofs.lemmas.List.{length-append}
+use Rattle.ss_program.proofs.Common.{codes, ℕ, ◌<◌, ◌++◌, List, [], ◌∷◌, length, Option, Some, None, arith, length-append, if◌then◌else◌, series_verb, spaced}
+use Rattle.ss_program.proofs.Common.{target_words, LINE_END, answer_kind, answer_words, frame_word, newest_words, reply_line, run_words, said_line, spaced_line}
+use Rattle.ss_program.proofs.Common.{Reply, Answered, Refused, SeriesHead, Row, WindowsHead, Window, ListHead, CertifyHead, Side, ValuesHead, Cursor, Rows}
+use Rattle.ss_program.proofs.Common.{Closed, Framed}
 use Rattle.std.specs.Fmt.{decimal, signed_decimal}
-use Rattle.std.specs.Prelude.{if◌then◌else◌}
-use Rattle.ss_catalog.specs.Queries.{series_verb}
 use Rattle.ss_catalog.specs.Refusal.{refusal_name}
-use Rattle.ss_command.specs.Printed.{spaced, target_words}
-use Rattle.ss_command.specs.declared.TheConstants.{LINE_END}
-use Rattle.ss_report.specs.Text.{answer_kind, answer_words, frame_word, newest_words, reply_line, run_words, said_line, spaced_line}
-use Rattle.ss_report.specs.declared.reply.Reply.{Reply}
-use Rattle.ss_report.specs.declared.reply.Reply.TheVariants.{Done as AckLine, Answered, Refused, SeriesHead, Row, WindowsHead, Window, ListHead}
-use Rattle.ss_report.specs.declared.reply.Reply.TheVariants.{Stream as StreamRow, CertifyHead, Side, Last, ValuesHead, Value, Cursor, Rows, Closed, Old, Gap, Framed}
+use Rattle.ss_report.specs.declared.reply.Reply.TheVariants.{Done as AckLine}
+use Rattle.ss_report.specs.declared.reply.Reply.TheVariants.{Stream as StreamRow, Last, Value, Old, Gap}
 
 -- a line of words isn't empty
 spaced_line-some : (first : List ℕ) (rest : List (List ℕ)) → 0 < length (spaced_line first rest)

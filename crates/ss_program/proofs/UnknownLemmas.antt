@@ -1,44 +1,17 @@
 -- A stream that doesn't stand stands by no line but its create.
-use Rattle.std.proofs.Common.{◌≡◌, ◌≢◌, ◌∙◌, ℕ, List, [], ◌∷◌, ◌++◌, false, Option, Some, None, Result, Ok, Err, refl, sym, ap, subst, inl, inr}
-use Rattle.std.proofs.lemmas.Bool.{cases_Bool}
-use Rattle.std.proofs.lemmas.List.Elements.{All-head, All-tail}
-use Rattle.std.specs.Prelude.{is_some}
-use Rattle.ss_catalog.specs.Events.{event_name}
-use Rattle.ss_catalog.specs.Names.{same_name}
-use Rattle.ss_catalog.specs.declared.event.Event.{Event}
-use Rattle.ss_catalog.specs.declared.event.Event.TheVariants.{Create, Value, Open, Close, Drop}
-use Rattle.ss_catalog.specs.declared.params.Params.{Params}
-use Rattle.ss_catalog.specs.declared.query.Query.{Query}
-use Rattle.ss_catalog.specs.declared.refusal.Refusal.{Refusal}
-use Rattle.ss_catalog.specs.declared.refusal.Refusal.TheVariants.{Unknown}
-use Rattle.ss_command.specs.Grammar.{meaning}
-use Rattle.ss_command.specs.declared.command.Command.{Command}
-use Rattle.ss_command.specs.declared.command.Command.TheVariants.{Do, Ask, Certify, Series as AskRows, Last, Values, Windows, List as ListAll}
+use Rattle.ss_program.proofs.Common.{◌≡◌, ◌≢◌, ◌∙◌, ℕ, List, [], ◌∷◌, ◌++◌, false, Option, Some, None, Result, Ok, Err, refl, sym, ap, subst, inl, inr}
+use Rattle.ss_program.proofs.Common.{cases_Bool, All-head, All-tail, is_some, event_name, same_name, Event, Create, Value, Open, Close, Drop, Params, Query}
+use Rattle.ss_program.proofs.Common.{Refusal, Unknown, meaning, Command, Do, Ask, Certify, Last, Values, Windows, given_to-created, same_name-Decides}
+use Rattle.ss_program.proofs.Common.{same_name-same, added, marked_of, values_of, marked_values, stands, Stream, state, stepped, New, Brought, History}
+use Rattle.ss_program.proofs.Common.{accepted_in, brings, command_brings, history_after, meaning_brings, nothing, refused, unless_refused, NoneCreates}
+use Rattle.ss_program.proofs.Common.{plain_after}
+use Rattle.ss_command.specs.declared.command.Command.TheVariants.{Series as AskRows, List as ListAll}
 use Rattle.ss_model.proofs.DropLemmas.{refuses-drop, stream_named-dropped}
-use Rattle.ss_model.proofs.EventLemmas.{given_to-created}
-use Rattle.ss_model.proofs.NameLemmas.{same_name-Decides, same_name-same}
 use Rattle.ss_model.proofs.ReadLemmas.{stream_named-stepped}
 use Rattle.ss_model.proofs.StepLemmas.{state-push}
 use Rattle.ss_model.specs.Answers.{refuses_query}
-use Rattle.ss_model.specs.History.{added, marked_of, values_of}
-use Rattle.ss_model.specs.Marks.{marked_values}
-use Rattle.ss_model.specs.Refusals.{refuses, stands}
-use Rattle.ss_model.specs.State.{Stream, state}
-use Rattle.ss_model.specs.Steps.{stepped, stepped_from}
-use Rattle.ss_summary.specs.Points.{New}
-use Rattle.ss_program.specs.Line.{
-  Brought,
-  History,
-  accepted_in,
-  brings,
-  command_brings,
-  history_after,
-  meaning_brings,
-  nothing,
-  refused,
-  unless_refused,
-}
-use Rattle.ss_program.specs.Session.{NoneCreates, plain_after}
+use Rattle.ss_model.specs.Refusals.{refuses}
+use Rattle.ss_model.specs.Steps.{stepped_from}
 use Rattle.ss_program.proofs.SessionLemmas.{plain_after-append}
 use Rattle.ss_program.proofs.AnswerLemmas.{ask-event, brings-unanswered, certify-event, history-still, last-event, series-event, values-event, windows-event}
 

@@ -1,30 +1,14 @@
 -- What `values` brings, by what the store holds, and what sending the rows leaves.
-use Rattle.std.proofs.Common.{◌≡◌, ◌∙◌, ℕ, zero, suc, ◌+◌, ◌<◌, ◌≤◌, List, [], ◌∷◌, length, take, drop, Option, Some, None, IsSome, IfSome, Result}
-use Rattle.std.proofs.Common.{refl, sym, ap, subst, arith}
-use Rattle.std.proofs.lemmas.List.{length-drop, length-map, length-take-le}
-use Rattle.std.proofs.lemmas.Option.{slice_get-map}
-use Rattle.std.specs.List.{flat_map, slice_get}
-use Rattle.std.specs.Prelude.{option_map}
-use Rattle.ss_catalog.specs.declared.refusal.Refusal.{Refusal}
-use Rattle.ss_command.specs.declared.command.Command.TheVariants.{Values}
-use Rattle.ss_landmarks.specs.Landmark.{Landmark, LandmarkValue, all_values}
-use Rattle.ss_landmarks.specs.ValuesIn.{values_between}
-use Rattle.ss_model.specs.Newest.{refuses_values}
-use Rattle.ss_model.specs.State.{Stream, state, stream_named}
-use Rattle.ss_report.specs.Text.{said_line}
-use Rattle.ss_report.specs.declared.reply.Reply.{Reply}
-use Rattle.ss_report.specs.declared.reply.Reply.TheVariants.{Refused, ValuesHead, Value as ValueRow}
-use Rattle.ss_store.specs.Kept.{SomeAgree, StoreIsIn, StoreState, part_named, part_numbered}
-use Rattle.ss_store.specs.Newest.{refuses_values_held}
-use Rattle.ss_store.specs.Recover.{Stands}
+use Rattle.ss_program.proofs.Common.{◌≡◌, ◌∙◌, ℕ, zero, suc, ◌+◌, ◌<◌, ◌≤◌, List, [], ◌∷◌, length, take, drop, Option, Some, None, IsSome, IfSome, Result, refl}
+use Rattle.ss_program.proofs.Common.{sym, ap, subst, arith, length-drop, length-map, length-take-le, slice_get-map, flat_map, slice_get, option_map, Refusal}
+use Rattle.ss_program.proofs.Common.{Values, Landmark, LandmarkValue, all_values, values_between, refuses_values, Stream, state, stream_named, said_line, Reply}
+use Rattle.ss_program.proofs.Common.{Refused, ValuesHead, SomeAgree, StoreIsIn, StoreState, part_named, part_numbered, refuses_values_held, Stands}
+use Rattle.ss_program.proofs.Common.{AllAgree-recovered, refuses_values_held-is, SendsRows, Brought, History, command_brings, only_replies, refused, text_said}
+use Rattle.ss_program.proofs.Common.{unless_refused, value_rows, values_shown, appended, AppendsLess, Sends}
+use Rattle.ss_report.specs.declared.reply.Reply.TheVariants.{Value as ValueRow}
 use Rattle.ss_store.specs.Values.{AreValuesIn}
 use Rattle.ss_store.specs.declared.store.values.ValueRange.{ValueRange}
 use Rattle.ss_store.proofs.HeldCounts.{SomeAgree-named}
-use Rattle.ss_store.proofs.KeptStates.{AllAgree-recovered}
-use Rattle.ss_store.proofs.ReadRefusals.{refuses_values_held-is}
-use Rattle.ss_program.specs.Answer.{SendsRows}
-use Rattle.ss_program.specs.Line.{Brought, History, command_brings, only_replies, refused, text_said, unless_refused, value_rows, values_shown}
-use Rattle.ss_program.specs.Sent.{appended, AppendsLess, Sends}
 use Rattle.ss_program.proofs.RowLemmas.{AppendsLess-head, Sends-head, Sends-one, rows-all, rows-less, rows-more}
 
 -- a command that is refused brings its refusal

@@ -1,21 +1,10 @@
 -- What is asked over whole steps of the clock is answered exactly.
-use Rattle.std.proofs.Common.{◌≡◌, ◌∷◌, [], ℕ, List, map, Some, None, Ok}
-use Rattle.ss_catalog.specs.Series.{row_count, row_start, rows_of}
-use Rattle.ss_catalog.specs.declared.query.Query.{Query}
-use Rattle.ss_catalog.specs.declared.series.Series.{Series}
-use Rattle.ss_command.specs.Grammar.{meaning}
-use Rattle.ss_command.specs.declared.command.Command.TheVariants.{Ask, Series as AskRows}
-use Rattle.ss_model.proofs.HistoryLemmas.{IsState-state}
+use Rattle.ss_program.proofs.Common.{◌≡◌, ◌∷◌, [], ℕ, List, map, Some, None, Ok, row_count, row_start, rows_of, Query, Series, meaning, Ask, IsState-state}
+use Rattle.ss_program.proofs.Common.{HoldsTruth, IsExactOutcome, IsOfKind, refuses_query, marked_of, values_of, IsHistory, AnswersRow, refuses_series, state}
+use Rattle.ss_program.proofs.Common.{Outcome, Answered, SeriesHead, Row, History, brings, only_replies}
+use Rattle.ss_command.specs.declared.command.Command.TheVariants.{Series as AskRows}
 use Rattle.ss_model.proofs.WholeLemmas.{whole-rows, whole-unsplit}
-use Rattle.ss_model.specs.Answers.{HoldsTruth, IsExactOutcome, IsOfKind, refuses_query}
-use Rattle.ss_model.specs.History.{marked_of, values_of}
-use Rattle.ss_model.specs.Refusals.{IsHistory}
-use Rattle.ss_model.specs.Series.{AnswersRow, refuses_series}
-use Rattle.ss_model.specs.State.{state}
 use Rattle.ss_model.specs.WholeSteps.{AreWholeSteps, HasWholeRows, IsWithin}
-use Rattle.ss_model.specs.declared.outcome.Outcome.{Outcome}
-use Rattle.ss_report.specs.declared.reply.Reply.TheVariants.{Answered, SeriesHead, Row}
-use Rattle.ss_program.specs.Line.{History, brings, only_replies}
 use Rattle.ss_program.proofs.LawLemmas.{answered-line, answered-series}
 
 pub whole-line : (history : History) (line : List ℕ) (query : Query) (step : ℕ) → IsHistory history → meaning line ≡ Ok (Some (Ask query)) →

@@ -1,10 +1,11 @@
 -- Worked rows of streams whose windows cross no boundary of the clock, each computed from its lines.
-use Rattle.std.proofs.Common.{◌≡◌, ◌++◌, [], ◌∷◌, refl}
-use Rattle.std.specs.Prelude.{ℕ, List, codes, flat_map}
-use Rattle.std.specs.Fmt.{digits}
-use Rattle.ss_bounds.specs.Split.{sum_interval}
-use Rattle.ss_catalog.specs.Names.{is_name}
+use Rattle.ss_program.proofs.Common.{◌≡◌, ◌++◌, [], ◌∷◌, refl, ℕ, List, codes, flat_map, report, plain}
+use Rattle.ss_power.specs.Power.{power_length}
 use Rattle.ss_catalog.specs.Series.{numbers_from}
+use Rattle.ss_windowing.specs.Windowing.{window_index}
+use Rattle.ss_bounds.specs.Split.{sum_interval}
+use Rattle.std.specs.Fmt.{digits}
+use Rattle.ss_catalog.specs.Names.{is_name}
 use Rattle.ss_command.specs.Grammar.{meaning}
 use Rattle.ss_command.specs.Lines.{ended_lines, unended}
 use Rattle.ss_command.specs.Words.{words}
@@ -13,10 +14,6 @@ use Rattle.ss_model.specs.Answers.{outcome_of, refuses_query}
 use Rattle.ss_model.specs.Newest.{refuses_values}
 use Rattle.ss_model.specs.Refusals.{refuses, refuses_reading}
 use Rattle.ss_model.specs.State.{state}
-use Rattle.ss_power.specs.Power.{power_length}
-use Rattle.ss_windowing.specs.Windowing.{window_index}
-use Rattle.ss_program.specs.Session.{report}
-use Rattle.ss_program.specs.Talk.{plain}
 
 -- lines, each with its line end
 abbrev text : List (List ℕ) → List ℕ

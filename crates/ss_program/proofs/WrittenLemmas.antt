@@ -1,25 +1,10 @@
 -- What frames bring that are written of lines, and what frames bring that are offered.
-use Rattle.std.proofs.Common.{◌≡◌, ◌∙◌, List, ℕ, Option, Some, None, Result, Ok, Err, refl, sym, ap}
-use Rattle.ss_catalog.specs.declared.event.Event.{Event}
-use Rattle.ss_command.specs.declared.command.Command.{Command}
-use Rattle.ss_command.specs.declared.command.Command.TheVariants.{Do, Ask, Certify, Series as AskRows, Last, Values, Windows, List as ListAll}
-use Rattle.ss_frames.specs.Frame.{FrameState}
-use Rattle.ss_model.specs.Refusals.{IsHistory}
-use Rattle.ss_model.specs.State.{state}
-use Rattle.ss_outside.specs.Disk.{Told}
-use Rattle.ss_records.specs.Kept.{RecordsState, shown_by}
+use Rattle.ss_program.proofs.Common.{◌≡◌, ◌∙◌, List, ℕ, Option, Some, None, Result, Ok, Err, refl, sym, ap, Event, Command, Do, Ask, Certify, Last, Values}
+use Rattle.ss_program.proofs.Common.{Windows, FrameState, IsHistory, state, Told, RecordsState, shown_by, due_in, Due, Cursors, AllAgree-recovered, StoreIsIn}
+use Rattle.ss_program.proofs.Common.{StoreState, Stands, Amid, Owed, TakesTurn, amid, History, due_brings, event_in, frame_brings, after_lines, Talk, Turn}
+use Rattle.ss_program.proofs.Common.{event_turn, meant_turn, silent, turn_brought, Status}
+use Rattle.ss_command.specs.declared.command.Command.TheVariants.{Series as AskRows, List as ListAll}
 use Rattle.ss_recover.specs.Held.{AllAgree}
-use Rattle.ss_replica.specs.Offers.{due_in}
-use Rattle.ss_replica.specs.declared.judging.Due.{Due}
-use Rattle.ss_sessions.specs.Cursors.{Cursors}
-use Rattle.ss_store.proofs.KeptStates.{AllAgree-recovered}
-use Rattle.ss_store.specs.Kept.{StoreIsIn, StoreState}
-use Rattle.ss_store.specs.Recover.{Stands}
-use Rattle.ss_program.specs.Amid.{Amid, Owed, TakesTurn, amid}
-use Rattle.ss_program.specs.Line.{History, due_brings, event_in, frame_brings}
-use Rattle.ss_program.specs.Session.{after_lines}
-use Rattle.ss_program.specs.Talk.{Talk, Turn, event_turn, meant_turn, silent, turn_brought}
-use Rattle.ss_program.specs.declared.status.Status.{Status}
 
 -- a command that asks for an event brings its frame
 pub meant-event : (talk : Talk) (command : Command) (event : Event) → Some event ≡ event_in command →

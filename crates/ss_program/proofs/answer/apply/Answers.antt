@@ -1,37 +1,14 @@
-use Rattle.std.proofs.Common.{◌≡◌, ◌+◌, ◌∙◌, ◌++◌, ◌∷◌, [], Err, Ok, Result, Some, None, inl, refl, sym, ap, subst, false}
-use Rattle.std.specs.Prelude.{◌↔◌, IsTrue}
-use Rattle.ss_catalog.specs.Events.{event_name}
-use Rattle.ss_catalog.specs.declared.event.Event.{Event}
-use Rattle.ss_catalog.specs.declared.refusal.Refusal.{Refusal}
-use Rattle.ss_command.specs.declared.command.Command.TheVariants.{Do}
-use Rattle.ss_model.specs.History.{added}
-use Rattle.ss_model.specs.Refusals.{refuses}
-use Rattle.ss_model.specs.State.{live, state}
-use Rattle.ss_model.specs.declared.types.Ack.{Ack}
-use Rattle.ss_outside.proofs.CrashLemmas.{reads-none}
-use Rattle.ss_outside.proofs.StepLemmas.{step-none}
-use Rattle.ss_outside.specs.Disk.{DiskView, Told}
-use Rattle.ss_outside.specs.Step.{Step}
-use Rattle.ss_outside.specs.Verdict.{fine}
-use Rattle.ss_report.specs.declared.reply.Reply.{Reply}
-use Rattle.ss_report.specs.declared.reply.Reply.TheVariants.{Done, Refused}
-use Rattle.ss_store.specs.Calls.{KeepsWithin, StandsForEither}
+use Rattle.ss_program.proofs.Common.{◌≡◌, ◌+◌, ◌∙◌, ◌++◌, ◌∷◌, [], Err, Ok, Result, Some, None, inl, refl, sym, ap, subst, false, ◌↔◌, IsTrue, event_name}
+use Rattle.ss_program.proofs.Common.{Event, Refusal, Do, added, refuses, live, state, Ack, reads-none, step-none, DiskView, Told, Step, fine, Reply, Refused}
+use Rattle.ss_program.proofs.Common.{KeepsWithin, StandsForEither, StoreState, refuses_held, Stands, ApplyError, Turns-answers, Turns-failed, Turns-same}
+use Rattle.ss_program.proofs.Common.{records_in-kept, KeepsWithin-answers, KeepsWithin-failed, KeepsWithin-reads, refuses-kept, said-kept, AppliesEvent, IsOpen}
+use Rattle.ss_program.proofs.Common.{Brought, History, command_brings, history_after, StandsAround, Status, DiskFault, OutOfMemory}
+use Rattle.ss_report.specs.declared.reply.Reply.TheVariants.{Done}
 use Rattle.ss_store.specs.Extents.{records_in}
-use Rattle.ss_store.specs.Kept.{StoreState, refuses_held}
-use Rattle.ss_store.specs.Recover.{Stands}
-use Rattle.ss_store.specs.declared.error.ApplyError.{ApplyError}
-use Rattle.ss_store.specs.declared.error.ApplyError.TheVariants as errors
-use Rattle.ss_store.proofs.Calls.{Turns-answers, Turns-failed, Turns-same}
-use Rattle.ss_store.proofs.Extents.{records_in-kept}
-use Rattle.ss_store.proofs.Within.{KeepsWithin-answers, KeepsWithin-failed, KeepsWithin-reads}
-use Rattle.ss_store.proofs.FoundAlike.{refuses-kept, said-kept}
-use Rattle.ss_program.specs.Answer.{AppliesEvent, IsOpen}
-use Rattle.ss_program.specs.Line.{Brought, History, command_brings, history_after}
-use Rattle.ss_program.specs.Progress.{StandsAround}
-use Rattle.ss_program.specs.declared.status.Status.{Status}
-use Rattle.ss_program.specs.declared.status.Status.TheVariants.{DiskFault, OutOfMemory}
-use Rattle.ss_program.proofs.AnswerLemmas.{Adds-applied, Adds-none, IsSome-accepted, Stands-only_replies, StoreIsIn-open, StoreIsIn-sealed, brings-accepted, brings-refused}
+use Rattle.ss_program.proofs.AnswerLemmas.{Adds-applied, Adds-none, IsSome-accepted, Stands-only_replies, StoreIsIn-open, StoreIsIn-sealed, brings-accepted}
+use Rattle.ss_program.proofs.AnswerLemmas.{brings-refused}
 use Rattle.ss_program.proofs.AnswerLemmas.{not_refused}
+use Rattle.ss_store.specs.declared.error.ApplyError.TheVariants as errors
 use Rattle.ss_program.proofs.answer.apply.Goals as goal
 
 -- an event that the store doesn't refuse isn't refused by any history that its disk stands for

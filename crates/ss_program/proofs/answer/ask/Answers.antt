@@ -1,8 +1,4 @@
-use Rattle.std.proofs.Common.{◌∙◌, Err, Ok, ap}
-use Rattle.ss_model.specs.State.{state}
-use Rattle.ss_records.specs.Kept.{shown_by}
-use Rattle.ss_store.specs.Asked.{refuses_query_held}
-use Rattle.ss_program.specs.Line.{Brought}
+use Rattle.ss_program.proofs.Common.{◌∙◌, Err, Ok, ap, state, shown_by, refuses_query_held, Brought}
 use Rattle.ss_program.proofs.AnswerLemmas.{brings-answer_replies, brings-unanswered, not_unanswered, refuses_query-kept}
 use Rattle.ss_program.proofs.answer.ask.Goals as goal
 

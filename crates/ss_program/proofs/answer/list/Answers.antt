@@ -1,8 +1,5 @@
-use Rattle.std.proofs.Common.{◌≡◌, ◌∙◌, Err, sym, subst, rules}
+use Rattle.ss_program.proofs.Common.{◌≡◌, ◌∙◌, Err, sym, subst, rules, streams-kept, command_brings, text_said, Sends}
 use Rattle.ss_command.specs.declared.command.Command.TheVariants.{List as ListAll}
-use Rattle.ss_store.proofs.FoundAlike.{streams-kept}
-use Rattle.ss_program.specs.Line.{command_brings, text_said}
-use Rattle.ss_program.specs.Sent.{Sends}
 use Rattle.ss_program.proofs.RowLemmas.{list-head, list-rows}
 use Rattle.ss_program.proofs.answer.list.Goals as goal
 

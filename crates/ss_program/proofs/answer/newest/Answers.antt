@@ -1,8 +1,4 @@
-use Rattle.std.proofs.Common.{◌∙◌, Err, Ok, ap}
-use Rattle.ss_model.specs.State.{state}
-use Rattle.ss_records.specs.Kept.{shown_by}
-use Rattle.ss_store.specs.Newest.{refuses_reading_held}
-use Rattle.ss_program.specs.Line.{Brought}
+use Rattle.ss_program.proofs.Common.{◌∙◌, Err, Ok, ap, state, shown_by, refuses_reading_held, Brought}
 use Rattle.ss_program.proofs.AnswerLemmas.{not_unanswered}
 use Rattle.ss_program.proofs.NewestLemmas.{brings-newest, brings-unlooked, refuses_reading-kept}
 use Rattle.ss_program.proofs.answer.newest.Goals as goal

@@ -1,12 +1,7 @@
-use Rattle.std.proofs.Common.{refl, subst}
-use Rattle.ss_command.specs.declared.command.Command.TheVariants.{Ask, Certify, Series as AskRows, Last, Values, Windows, List as ListAll}
-use Rattle.ss_program.specs.Answer.{IsTextBrought}
-use Rattle.ss_program.specs.Devices.{over}
-use Rattle.ss_program.specs.Line.{command_brings}
-use Rattle.ss_program.specs.Sent.{Sends}
+use Rattle.ss_program.proofs.Common.{refl, subst, Ask, Certify, Last, Values, Windows, IsTextBrought, over, command_brings, Sends, sym}
+use Rattle.ss_command.specs.declared.command.Command.TheVariants.{Series as AskRows, List as ListAll}
 use Rattle.ss_program.proofs.AnswerLemmas.{StoreIsIn-open, ask-event, certify-event, last-event, series-event, values-event, windows-event}
 use Rattle.ss_program.proofs.TakesLemmas.{Shows-sent, TakesLine-shown, still}
-use Rattle.std.proofs.Common.{sym}
 use Rattle.ss_program.proofs.answer.obey.Goals as goal
 
 pub returns-in-Ask : goal.returns-in-Ask

@@ -1,4 +1,4 @@
-use Rattle.ss_model.specs.State.{state}
+use Rattle.ss_program.proofs.Common.{state}
 use Rattle.ss_program.proofs.AnswerLemmas.{Stands-only_replies}
 use Rattle.ss_program.proofs.answer.read.Goals as goal
 

@@ -1,9 +1,5 @@
-use Rattle.std.proofs.Common.{◌≡◌, ◌∙◌, Err, length, take_all, refl, sym, ap, subst, rules, arith}
-use Rattle.std.proofs.lemmas.Option.{slice_get_read}
-use Rattle.std.specs.List.{flat_map}
-use Rattle.ss_outside.specs.Verdict.{Counted, failed}
-use Rattle.ss_report.specs.Text.{said_line}
-use Rattle.ss_program.specs.Sent.{appended, Puts}
+use Rattle.ss_program.proofs.Common.{◌≡◌, ◌∙◌, Err, length, take_all, refl, sym, ap, subst, rules, arith, slice_get_read, flat_map, Counted, failed, said_line}
+use Rattle.ss_program.proofs.Common.{appended, Puts}
 use Rattle.ss_program.proofs.RowLemmas.{rows-less}
 use Rattle.ss_program.proofs.answer.send_replies.Goals as goal
 

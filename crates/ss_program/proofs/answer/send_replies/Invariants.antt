@@ -1,7 +1,4 @@
-use Rattle.std.proofs.Common.{◌≡◌, take}
-use Rattle.std.specs.List.{flat_map}
-use Rattle.ss_report.specs.Text.{said_line}
-use Rattle.ss_program.specs.Sent.{appended}
+use Rattle.ss_program.proofs.Common.{◌≡◌, take, flat_map, said_line, appended}
 use Rattle.ss_program.proofs.answer.send_replies.Given as goal
 
 -- the first replies were sent

@@ -1,12 +1,6 @@
-use Rattle.std.proofs.Common.{◌≡◌, ◌∙◌, Err, sym, subst, rules, arith}
-use Rattle.std.proofs.lemmas.List.{length-map}
-use Rattle.ss_model.specs.Shown.{row_of}
-use Rattle.ss_model.specs.State.{state}
+use Rattle.ss_program.proofs.Common.{◌≡◌, ◌∙◌, Err, sym, subst, rules, arith, length-map, row_of, state, streams-kept, AllAgree-recovered, SendsRows}
+use Rattle.ss_program.proofs.Common.{stream_rows}
 use Rattle.ss_report.specs.declared.reply.Reply.TheVariants.{Stream as StreamRow}
-use Rattle.ss_store.proofs.FoundAlike.{streams-kept}
-use Rattle.ss_store.proofs.KeptStates.{AllAgree-recovered}
-use Rattle.ss_program.specs.Answer.{SendsRows}
-use Rattle.ss_program.specs.Line.{stream_rows}
 use Rattle.ss_program.proofs.RowLemmas.{row-reply, rows-all, rows-less, rows-more}
 use Rattle.ss_program.proofs.answer.send_streams.Goals as goal
 

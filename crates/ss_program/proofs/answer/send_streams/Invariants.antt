@@ -1,11 +1,4 @@
-use Rattle.std.proofs.Common.{◌≡◌, ℕ, List, take}
-use Rattle.std.specs.List.{flat_map}
-use Rattle.ss_model.specs.State.{state}
-use Rattle.ss_report.specs.Text.{said_line}
-use Rattle.ss_store.specs.Kept.{StoreIsIn}
-use Rattle.ss_store.specs.Recover.{Stands}
-use Rattle.ss_program.specs.Line.{History, stream_rows}
-use Rattle.ss_program.specs.Sent.{appended}
+use Rattle.ss_program.proofs.Common.{◌≡◌, ℕ, List, take, flat_map, state, said_line, StoreIsIn, Stands, History, stream_rows, appended}
 use Rattle.ss_program.proofs.answer.send_streams.Given as goal
 
 -- the rows of the first streams were sent

@@ -1,11 +1,6 @@
-use Rattle.std.proofs.Common.{◌≡◌, ◌∙◌, Err, IfSome, sym, subst, rules, arith}
-use Rattle.std.specs.Int.{w64}
+use Rattle.ss_program.proofs.Common.{◌≡◌, ◌∙◌, Err, IfSome, sym, subst, rules, arith, w64, said_line, part_numbered, SendsRows, appended, AppendsLess}
 use mir.Val.{to_z, of_z}
-use Rattle.ss_report.specs.Text.{said_line}
 use Rattle.ss_report.specs.declared.reply.Reply.TheVariants.{Value as ValueRow}
-use Rattle.ss_store.specs.Kept.{part_numbered}
-use Rattle.ss_program.specs.Answer.{SendsRows}
-use Rattle.ss_program.specs.Sent.{appended, AppendsLess}
 use Rattle.ss_program.proofs.ValuesLemmas.{rows_in, values-all, values-less, values-more}
 use Rattle.ss_program.proofs.answer.send_values.Goals as goal
 

@@ -1,8 +1,4 @@
-use Rattle.std.proofs.Common.{◌≡◌, take, IfSome}
-use Rattle.std.specs.List.{flat_map}
-use Rattle.ss_report.specs.Text.{said_line}
-use Rattle.ss_store.specs.Kept.{part_numbered}
-use Rattle.ss_program.specs.Sent.{appended}
+use Rattle.ss_program.proofs.Common.{◌≡◌, take, IfSome, flat_map, said_line, part_numbered, appended}
 use Rattle.ss_program.proofs.ValuesLemmas.{rows_in}
 use Rattle.ss_program.proofs.answer.send_values.Given as goal
 

@@ -1,17 +1,6 @@
-use Rattle.std.proofs.Common.{◌≡◌, ◌∙◌, Ok, Err, refl, sym, subst, rules}
-use Rattle.ss_model.specs.State.{state, stream_numbered}
-use Rattle.ss_outside.proofs.CrashLemmas.{reads-joined}
-use Rattle.ss_outside.proofs.StepLemmas.{step-then}
-use Rattle.ss_outside.specs.Crash.{OnlyReads}
-use Rattle.ss_outside.specs.Step.{Step}
-use Rattle.ss_outside.specs.Verdict.{Counted, fine, verdict}
-use Rattle.ss_store.specs.Kept.{part_numbered}
-use Rattle.ss_store.specs.Recover.{Stands}
-use Rattle.ss_store.proofs.FoundAlike.{windows-kept}
-use Rattle.ss_program.specs.Answer.{IsRowsText, Shows}
-use Rattle.ss_program.specs.Devices.{over}
-use Rattle.ss_program.specs.Sent.{appended, AppendsLess, Sends}
-use Rattle.ss_program.specs.Status.{disk_verdict, IsDiskStop}
+use Rattle.ss_program.proofs.Common.{◌≡◌, ◌∙◌, Ok, Err, refl, sym, subst, rules, state, stream_numbered, reads-joined, step-then, OnlyReads, Step, Counted}
+use Rattle.ss_program.proofs.Common.{fine, verdict, part_numbered, Stands, windows-kept, IsRowsText, Shows, over, appended, AppendsLess, Sends, disk_verdict}
+use Rattle.ss_program.proofs.Common.{IsDiskStop}
 use Rattle.ss_program.proofs.AnswerLemmas.{StoreIsIn-open}
 use Rattle.ss_program.proofs.RowLemmas.{none-sent, rows-after, rows-cut-sent, rows-end, rows-first, rows-step, rows-unread}
 use Rattle.ss_program.proofs.TakesLemmas.{Shows-sent, Shows-stopped, failed-err, sent-all, still}

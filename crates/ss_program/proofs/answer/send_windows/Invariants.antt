@@ -1,18 +1,5 @@
-use Rattle.std.proofs.Common.{◌≡◌, take, Some, IfSome}
-use Rattle.std.specs.List.{flat_map}
-use Rattle.std.specs.Option.{option_map}
-use Rattle.ss_line.specs.Line.{StandsIn}
-use Rattle.ss_model.specs.State.{Stream, state, stream_numbered}
-use Rattle.ss_outside.specs.Crash.{OnlyReads}
-use Rattle.ss_outside.specs.Disk.{OfContent}
-use Rattle.ss_outside.specs.Step.{Step}
-use Rattle.ss_outside.specs.Verdict.{fine}
-use Rattle.ss_report.specs.Text.{said_line}
-use Rattle.ss_store.specs.Kept.{part_numbered}
-use Rattle.ss_store.specs.Recover.{Stands}
-use Rattle.ss_program.specs.Answer.{IsOpen}
-use Rattle.ss_program.specs.Line.{History, window_rows}
-use Rattle.ss_program.specs.Sent.{appended}
+use Rattle.ss_program.proofs.Common.{◌≡◌, take, Some, IfSome, flat_map, option_map, StandsIn, Stream, state, stream_numbered, OnlyReads, OfContent, Step, fine}
+use Rattle.ss_program.proofs.Common.{said_line, part_numbered, Stands, IsOpen, History, window_rows, appended}
 use Rattle.ss_program.proofs.RowLemmas.{rows_done, rows_left}
 use Rattle.ss_program.proofs.answer.send_windows.Given as goal
 

@@ -1,18 +1,5 @@
-use Rattle.std.proofs.Common.{◌≡◌, ◌∙◌, Err, refl, sym, ap, subst, rules}
-use Rattle.std.proofs.lemmas.List.{append-nil}
-use Rattle.std.specs.List.{flat_map}
-use Rattle.ss_command.specs.declared.command.Command.TheVariants.{Last}
-use Rattle.ss_journal.specs.Kept.{IsSealed}
-use Rattle.ss_outside.proofs.StepLemmas.{step-as}
-use Rattle.ss_outside.specs.Crash.{OnlyReads}
-use Rattle.ss_outside.specs.Step.{Step}
-use Rattle.ss_outside.specs.Verdict.{fine}
-use Rattle.ss_report.specs.Text.{said_line}
-use Rattle.ss_program.specs.Answer.{IsOpen, IsTextBrought, Shows}
-use Rattle.ss_program.specs.Devices.{over}
-use Rattle.ss_program.specs.Line.{command_brings, text_said}
-use Rattle.ss_program.specs.Sent.{AppendsLess}
-use Rattle.ss_program.specs.Status.{disk_verdict}
+use Rattle.ss_program.proofs.Common.{◌≡◌, ◌∙◌, Err, refl, sym, ap, subst, rules, append-nil, flat_map, Last, IsSealed, step-as, OnlyReads, Step, fine}
+use Rattle.ss_program.proofs.Common.{said_line, IsOpen, IsTextBrought, Shows, over, command_brings, text_said, AppendsLess, disk_verdict}
 use Rattle.ss_program.proofs.AnswerLemmas.{Stands-only_replies}
 use Rattle.ss_program.proofs.NewestLemmas.{last-some}
 use Rattle.ss_program.proofs.SendLemmas.{AppendsLess-none}

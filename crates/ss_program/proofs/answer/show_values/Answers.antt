@@ -1,8 +1,4 @@
-use Rattle.std.proofs.Common.{◌≡◌, Err, sym, subst, rules}
-use Rattle.ss_command.specs.declared.command.Command.TheVariants.{Values}
-use Rattle.ss_store.specs.Kept.{part_numbered}
-use Rattle.ss_program.specs.Line.{command_brings, text_said}
-use Rattle.ss_program.specs.Sent.{Sends}
+use Rattle.ss_program.proofs.Common.{◌≡◌, Err, sym, subst, rules, Values, part_numbered, command_brings, text_said, Sends}
 use Rattle.ss_program.proofs.ValuesLemmas.{told-refused, told-values, values-head, values-refused, values-rows}
 use Rattle.ss_program.proofs.answer.show_values.Goals as goal
 

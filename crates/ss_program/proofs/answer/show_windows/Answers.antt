@@ -1,16 +1,5 @@
-use Rattle.std.proofs.Common.{◌≡◌, ◌∙◌, Err, refl, sym, subst, rules}
-use Rattle.std.specs.List.{flat_map}
-use Rattle.ss_command.specs.declared.command.Command.TheVariants.{Windows}
-use Rattle.ss_outside.specs.Verdict.{Counted}
-use Rattle.ss_report.specs.Text.{said_line}
-use Rattle.ss_report.specs.declared.reply.Reply.TheVariants.{WindowsHead}
-use Rattle.ss_store.specs.Kept.{part_numbered}
-use Rattle.ss_store.proofs.FoundAlike.{found-kept, unknown-kept, windows-kept}
-use Rattle.ss_program.specs.Answer.{IsTextBrought, Shows}
-use Rattle.ss_program.specs.Devices.{over}
-use Rattle.ss_program.specs.Line.{command_brings, text_said, window_rows}
-use Rattle.ss_program.specs.Sent.{Sends}
-use Rattle.ss_program.specs.Status.{ended, sink_verdict}
+use Rattle.ss_program.proofs.Common.{◌≡◌, ◌∙◌, Err, refl, sym, subst, rules, flat_map, Windows, Counted, said_line, WindowsHead, part_numbered, found-kept}
+use Rattle.ss_program.proofs.Common.{unknown-kept, windows-kept, IsTextBrought, Shows, over, command_brings, text_said, window_rows, Sends, ended, sink_verdict}
 use Rattle.ss_program.proofs.AnswerLemmas.{StoreIsIn-open}
 use Rattle.ss_program.proofs.RowLemmas.{windows-count, windows-head, windows-rows, windows-unknown}
 use Rattle.ss_program.proofs.TakesLemmas.{Shows-sent, failed-err, less-sent, sends-less, sent-all, still}

@@ -1,8 +1,4 @@
-use Rattle.std.proofs.Common.{◌≡◌, Err, sym, subst, rules}
-use Rattle.ss_command.specs.declared.command.Command.TheVariants.{Do}
-use Rattle.ss_program.specs.Answer.{TakesLine}
-use Rattle.ss_program.specs.Devices.{over}
-use Rattle.ss_program.specs.Line.{command_brings}
+use Rattle.ss_program.proofs.Common.{◌≡◌, Err, sym, subst, rules, Do, TakesLine, over, command_brings}
 use Rattle.ss_program.proofs.TakesLemmas.{TakesLine-applied, TakesLine-stopped}
 use Rattle.ss_program.proofs.answer.take.Goals as goal
 

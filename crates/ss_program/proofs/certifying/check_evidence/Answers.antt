@@ -1,8 +1,4 @@
-use Rattle.std.proofs.Common.{Err, Ok, ap, subst}
-use Rattle.ss_certify.specs.Called.{ChecksEvidence}
-use Rattle.ss_outside.proofs.StepLemmas.{step-as}
-use Rattle.ss_outside.specs.Step.{Step}
-use Rattle.ss_outside.specs.Verdict.{fine}
+use Rattle.ss_program.proofs.Common.{Err, Ok, ap, subst, ChecksEvidence, step-as, Step, fine}
 use Rattle.ss_program.proofs.CertifyLemmas.{never-wrong}
 use Rattle.ss_program.proofs.certifying.check_evidence.Goals as goal
 

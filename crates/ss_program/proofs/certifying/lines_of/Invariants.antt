@@ -1,6 +1,4 @@
-use Rattle.std.proofs.Common.{◌≡◌, ◌+◌, ◌*◌, ◌∷◌, [], true, false, length, take}
-use Rattle.std.specs.List.{flat_map}
-use Rattle.ss_certify.specs.Told.{head_of, side_of}
+use Rattle.ss_program.proofs.Common.{◌≡◌, ◌+◌, ◌*◌, ◌∷◌, [], true, false, length, take, flat_map, head_of, side_of}
 use Rattle.ss_program.proofs.certifying.lines_of.Given as goal
 
 -- the head, and the lines of the first certificates, two of each

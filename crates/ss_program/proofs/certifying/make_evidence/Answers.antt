@@ -1,4 +1,4 @@
-use Rattle.std.proofs.Common.{Err, ap}
+use Rattle.ss_program.proofs.Common.{Err, ap}
 use Rattle.ss_program.proofs.CertifyLemmas.{Recovers-only_replies}
 use Rattle.ss_program.proofs.certifying.make_evidence.Goals as goal
 

@@ -1,21 +1,6 @@
-use Rattle.std.proofs.Common.{◌≡◌, ◌∙◌, Err, inl, inr, refl, sym, ap, subst, rules}
-use Rattle.std.specs.Prelude.{IsErr}
-use Rattle.std.proofs.lemmas.List.{append-nil}
-use Rattle.std.specs.List.{flat_map}
-use Rattle.ss_command.specs.declared.command.Command.TheVariants.{Certify}
-use Rattle.ss_model.specs.State.{state}
-use Rattle.ss_outside.proofs.StepLemmas.{step-as}
-use Rattle.ss_outside.specs.Crash.{OnlyReads}
-use Rattle.ss_outside.specs.Step.{Step}
-use Rattle.ss_outside.specs.Verdict.{fine}
-use Rattle.ss_report.specs.Text.{said_line}
-use Rattle.ss_report.specs.declared.reply.Reply.TheVariants.{Refused}
-use Rattle.ss_program.specs.Answer.{IsTextBrought, Shows}
-use Rattle.ss_program.specs.Devices.{over}
-use Rattle.ss_program.specs.Line.{command_brings, text_said}
-use Rattle.ss_program.specs.Sent.{AppendsLess, Sends}
-use Rattle.ss_program.specs.Status.{disk_verdict}
-use Rattle.ss_certify.specs.Told.{told}
+use Rattle.ss_program.proofs.Common.{◌≡◌, ◌∙◌, Err, inl, inr, refl, sym, ap, subst, rules, IsErr, append-nil, flat_map, Certify, state, step-as, OnlyReads}
+use Rattle.ss_program.proofs.Common.{Step, fine, said_line, Refused, IsTextBrought, Shows, over, command_brings, text_said, AppendsLess, Sends, disk_verdict}
+use Rattle.ss_program.proofs.Common.{told}
 use Rattle.ss_program.proofs.AnswerLemmas.{Sends-at_sink, StoreIsIn-open, refuses_query-kept}
 use Rattle.ss_program.proofs.CertifyLemmas.{brings-certified, brings-refused_certify, certified-some}
 use Rattle.ss_program.proofs.SendLemmas.{AppendsLess-none}

@@ -1,5 +1,4 @@
-use Rattle.std.proofs.Common.{[]}
-use Rattle.ss_store.proofs.Unformed.{Stands-unformed}
+use Rattle.ss_program.proofs.Common.{[], Stands-unformed}
 use Rattle.ss_program.proofs.ChainLemmas.{extends-front, extends-linked, extends-split, length-linked}
 use Rattle.ss_program.proofs.chain_laws.chains_of_runs_hold_one_history.Goals as goal
 

@@ -1,9 +1,4 @@
-use Rattle.std.proofs.Common.{◌≡◌, ◌∙◌, refl, sym, subst}
-use Rattle.ss_store.specs.Surveyed.{survey_of}
-use Rattle.ss_store.specs.declared.surveying.Survey.{Survey}
-use Rattle.ss_program.specs.Checked.{survey_line}
-use Rattle.ss_program.specs.Sent.{appended, AppendsLess}
-use Rattle.ss_program.specs.declared.status.Status.TheVariants.{Done, SinkFault}
+use Rattle.ss_program.proofs.Common.{◌≡◌, ◌∙◌, refl, sym, subst, survey_of, Survey, survey_line, appended, AppendsLess, Done, SinkFault}
 use Rattle.ss_program.proofs.EndLemmas.{Ends-opened, Ends-unopened, surveys-opens, unfed-unopened}
 use Rattle.ss_program.proofs.OpeningLemmas.{surveyed, unopened}
 use Rattle.ss_program.proofs.SendLemmas.{AppendsFront-all, appended-nil}

@@ -1,9 +1,4 @@
-use Rattle.std.proofs.Common.{◌∙◌, ◌∷◌, [], Err, Ok, ap, refl, sym}
-use Rattle.ss_report.specs.declared.reply.Reply.TheVariants.{Refused}
-use Rattle.ss_model.specs.State.{state}
-use Rattle.ss_sessions.specs.Cursors.{cursor_of}
-use Rattle.ss_sessions.specs.Errors.{refusal_of}
-use Rattle.ss_program.specs.Cursor.{Ordered}
+use Rattle.ss_program.proofs.Common.{◌∙◌, ◌∷◌, [], Err, Ok, ap, refl, sym, Refused, state, cursor_of, refusal_of, Ordered}
 use Rattle.ss_program.proofs.CursorLemmas.{open-opened, open-refused, open-wants_memory, unrefused-cursor}
 use Rattle.ss_sessions.specs.declared.error.CursorError.TheVariants.{Disk, OutOfMemory}
 use Rattle.ss_program.proofs.cursors.open_cursor.Goals as goal

@@ -1,8 +1,5 @@
-use Rattle.std.proofs.Common.{◌≡◌, ◌∙◌, Err, IsSome, Some, ap, drop, refl, sym, subst, take, rules, arith}
-use Rattle.ss_report.specs.declared.reply.Reply.TheVariants.{Window}
-use Rattle.ss_sessions.specs.Cursors.{cursor_of, with_cursor}
-use Rattle.ss_program.specs.Answer.{SendsRows}
-use Rattle.ss_program.specs.Cursor.{placed_rows}
+use Rattle.ss_program.proofs.Common.{◌≡◌, ◌∙◌, Err, IsSome, Some, ap, drop, refl, sym, subst, take, rules, arith, Window, cursor_of, with_cursor, SendsRows}
+use Rattle.ss_program.proofs.Common.{placed_rows}
 use Rattle.ss_program.proofs.CursorLemmas.{fits-rows, next-left, next-none, next-rest, next-row, placed-all, with_cursor-same}
 use Rattle.ss_program.proofs.SendLemmas.{appended-nil}
 use Rattle.ss_program.proofs.RowLemmas.{rows-all, rows-less, rows-more}

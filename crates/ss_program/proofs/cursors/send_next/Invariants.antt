@@ -1,10 +1,4 @@
-use Rattle.std.proofs.Common.{◌≡◌, ◌-◌, ◌≤◌, List, Some, drop, take}
-use Rattle.std.specs.List.{flat_map}
-use Rattle.ss_model.specs.declared.types.Placed.{Placed}
-use Rattle.ss_sessions.specs.Cursors.{cursor_of, with_cursor}
-use Rattle.ss_program.specs.Cursor.{placed_rows}
-use Rattle.ss_report.specs.Text.{said_line}
-use Rattle.ss_program.specs.Sent.{appended}
+use Rattle.ss_program.proofs.Common.{◌≡◌, ◌-◌, ◌≤◌, List, Some, drop, take, flat_map, Placed, cursor_of, with_cursor, placed_rows, said_line, appended}
 use Rattle.ss_program.proofs.cursors.send_next.Given as goal
 
 -- so many rows were sent, and the cursor goes on with the others

@@ -1,14 +1,5 @@
-use Rattle.std.proofs.Common.{◌≡◌, ◌∙◌, Err, List, ap, length, min, subst, sym, take, rules, Some}
-use Rattle.std.proofs.lemmas.Result.{on_ok_weaker}
-use Rattle.std.specs.List.{flat_map}
-use Rattle.ss_model.specs.declared.types.Placed.{Placed}
-use Rattle.ss_outside.specs.Verdict.{Counted, verdict}
-use Rattle.ss_report.specs.Text.{said_line}
-use Rattle.ss_report.specs.declared.reply.Reply.TheVariants.{Rows}
-use Rattle.ss_sessions.specs.Cursors.{cursor_of, with_cursor}
-use Rattle.ss_program.specs.Cursor.{Ordered, next_brings, placed_rows}
-use Rattle.ss_program.specs.Line.{text_said}
-use Rattle.ss_program.specs.Sent.{AppendsLess, Puts, Sends, appended}
+use Rattle.ss_program.proofs.Common.{◌≡◌, ◌∙◌, Err, List, ap, length, min, subst, sym, take, rules, Some, on_ok_weaker, flat_map, Placed, Counted, verdict}
+use Rattle.ss_program.proofs.Common.{said_line, Rows, cursor_of, with_cursor, Ordered, next_brings, placed_rows, text_said, AppendsLess, Puts, Sends, appended}
 use Rattle.ss_program.proofs.CursorLemmas.{a-cursor, next-shown, shown-least}
 use Rattle.ss_program.proofs.RowLemmas.{AppendsLess-head, Sends-head}
 use Rattle.ss_program.proofs.cursors.show_next.Goals as goal

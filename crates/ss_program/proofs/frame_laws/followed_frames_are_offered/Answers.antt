@@ -1,8 +1,4 @@
-use Rattle.std.proofs.Common.{◌∙◌, ap, refl}
-use Rattle.ss_arguments.specs.declared.mode.Form.TheVariants.{Follow}
-use Rattle.ss_frames.proofs.PieceLemmas.{pieces-frames}
-use Rattle.ss_program.specs.Session.{after_lines, text_of}
-use Rattle.ss_program.specs.Talk.{begun}
+use Rattle.ss_program.proofs.Common.{◌∙◌, ap, refl, Follow, pieces-frames, after_lines, text_of, begun}
 use Rattle.ss_program.proofs.FollowedLemmas.{followed}
 use Rattle.ss_program.proofs.frame_laws.followed_frames_are_offered.Goals as goal
 

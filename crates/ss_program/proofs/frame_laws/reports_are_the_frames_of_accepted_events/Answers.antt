@@ -1,6 +1,4 @@
-use Rattle.std.proofs.Common.{refl}
-use Rattle.ss_arguments.specs.declared.mode.Form.TheVariants.{Frames}
-use Rattle.ss_program.specs.Talk.{begun}
+use Rattle.ss_program.proofs.Common.{refl, Frames, begun}
 use Rattle.ss_program.proofs.FollowedLemmas.{accepted-undropped, text_of-frames}
 use Rattle.ss_program.proofs.frame_laws.reports_are_the_frames_of_accepted_events.Goals as goal
 

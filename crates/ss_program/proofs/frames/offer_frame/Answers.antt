@@ -1,15 +1,10 @@
-use Rattle.std.proofs.Common.{[], ◌∷◌, None, Some, refl}
-use Rattle.ss_command.specs.declared.command.Command.TheVariants.{Do}
-use Rattle.ss_frames.specs.Frame.{FrameState}
-use Rattle.ss_records.specs.Kept.{shown_by}
-use Rattle.ss_replica.specs.declared.judging.Due.TheVariants as due
-use Rattle.ss_report.specs.declared.reply.Reply.TheVariants as said
-use Rattle.ss_program.specs.Line.{command_brings, frame_brings, only_replies}
-use Rattle.ss_program.specs.Talk.{turn_brought}
+use Rattle.ss_program.proofs.Common.{[], ◌∷◌, None, Some, refl, Do, FrameState, shown_by, command_brings, frame_brings, only_replies, turn_brought}
 use Rattle.ss_program.proofs.BroughtLemmas.{TakesBrought-said, TakesBrought-still}
 use Rattle.ss_program.proofs.StepLemmas.{step-told}
 use Rattle.ss_program.proofs.TakesLemmas.{still}
 use Rattle.ss_program.proofs.WrittenLemmas.{TakesTurn-where, frame-due}
+use Rattle.ss_replica.specs.declared.judging.Due.TheVariants as due
+use Rattle.ss_report.specs.declared.reply.Reply.TheVariants as said
 use Rattle.ss_program.proofs.frames.offer_frame.Goals as goal
 
 pub returns-in-Next-clause-takes : goal.returns-in-Next-clause-takes

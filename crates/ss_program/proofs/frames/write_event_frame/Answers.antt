@@ -1,20 +1,6 @@
-use Rattle.std.proofs.Common.{◌≡◌, ◌∙◌, Bool, true, IfErr, None, Err, Ok, Result, refl, sym, ap, subst, rules, ◌∷◌}
-use Rattle.std.specs.Prelude.{OnOk}
-use Rattle.ss_command.specs.declared.command.Command.TheVariants.{Do}
-use Rattle.ss_catalog.specs.declared.event.Event.{Event}
-use Rattle.ss_journal.proofs.ShownLemmas.{shown-sealed}
-use Rattle.ss_outside.proofs.StepLemmas.{step-as, step-none}
-use Rattle.ss_outside.specs.Step.{Step}
-use Rattle.ss_outside.specs.Verdict.{Counted, fine}
-use Rattle.ss_report.specs.Text.{said_line}
-use Rattle.ss_report.specs.declared.reply.Reply.{Reply}
-use Rattle.ss_store.specs.Kept.{StoreState}
-use Rattle.ss_program.specs.Amid.{IsReady, TakesNone, TakesTurn, amid, owed_by}
-use Rattle.ss_program.specs.Line.{command_in, frame_replies}
-use Rattle.ss_program.specs.Status.{disk_verdict, ended, sink_verdict, IsShowStop, IsStop}
-use Rattle.ss_program.specs.Talk.{Talk, event_turn}
-use Rattle.ss_program.specs.declared.staging.Staged.{Staged}
-use Rattle.ss_program.specs.declared.status.Status.{Status}
+use Rattle.ss_program.proofs.Common.{◌≡◌, ◌∙◌, Bool, true, IfErr, None, Err, Ok, Result, refl, sym, ap, subst, rules, ◌∷◌, OnOk, Do, Event, shown-sealed}
+use Rattle.ss_program.proofs.Common.{step-as, step-none, Step, Counted, fine, said_line, Reply, StoreState, IsReady, TakesNone, TakesTurn, amid, owed_by}
+use Rattle.ss_program.proofs.Common.{command_in, frame_replies, disk_verdict, ended, sink_verdict, IsShowStop, IsStop, Talk, event_turn, Staged, Status}
 use Rattle.ss_program.proofs.AmidLemmas.{owed-nothing}
 use Rattle.ss_program.proofs.AnswerLemmas.{IsStop-apply, IsStop-show}
 use Rattle.ss_program.proofs.BroughtLemmas.{TakesTurn-owed, TakesTurn-said, TakesTurn-silent, TakesTurn-starved, TakesTurn-stopped, TakesTurn-unsealed}

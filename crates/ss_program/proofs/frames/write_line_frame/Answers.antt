@@ -1,9 +1,5 @@
-use Rattle.std.proofs.Common.{◌∙◌, None, Ok, Option, ap, sym}
-use Rattle.ss_command.specs.Grammar.{meaning}
-use Rattle.ss_command.specs.declared.command.Command.{Command}
-use Rattle.ss_outside.proofs.StepLemmas.{step-as, step-none}
-use Rattle.ss_program.specs.Amid.{TakesTurn, amid, owed_by}
-use Rattle.ss_program.specs.Talk.{event_turn, meant_turn, silent}
+use Rattle.ss_program.proofs.Common.{◌∙◌, None, Ok, Option, ap, sym, meaning, Command, step-as, step-none, TakesTurn, amid, owed_by, event_turn, meant_turn}
+use Rattle.ss_program.proofs.Common.{silent}
 use Rattle.ss_program.proofs.BroughtLemmas.{TakesBrought-silent}
 use Rattle.ss_program.proofs.WrittenLemmas.{TakesTurn-alike, meant-event, meant-none}
 use Rattle.ss_program.proofs.frames.write_line_frame.Goals as goal

@@ -1,6 +1,4 @@
-use Rattle.std.proofs.Common.{◌∙◌, subst}
-use Rattle.ss_store.specs.Kept.{StoreState}
-use Rattle.ss_program.specs.Status.{EndsServing}
+use Rattle.ss_program.proofs.Common.{◌∙◌, subst, StoreState, EndsServing}
 use Rattle.ss_program.proofs.EndLemmas.{Ends-opened, Ends-unopened, judged-refused, serving-stop, unfed-unopened}
 use Rattle.ss_program.proofs.GenerateLemmas.{Generates-opened, Generates-unopened}
 use Rattle.ss_program.proofs.LeftLemmas.{opened_left, opened_moments}

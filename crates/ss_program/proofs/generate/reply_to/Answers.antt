@@ -1,6 +1,4 @@
-use Rattle.ss_command.specs.declared.command.Command.TheVariants.{Ask}
-use Rattle.ss_outside.proofs.StepLemmas.{step-as}
-use Rattle.ss_program.specs.Line.{command_brings}
+use Rattle.ss_program.proofs.Common.{Ask, step-as, command_brings}
 use Rattle.ss_program.proofs.AnswerLemmas.{ask-event}
 use Rattle.ss_program.proofs.TakesLemmas.{DoesCommand-asked}
 use Rattle.ss_program.proofs.generate.reply_to.Goals as goal

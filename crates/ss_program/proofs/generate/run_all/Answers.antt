@@ -1,14 +1,5 @@
-use Rattle.std.proofs.Common.{◌≡◌, ℕ, Err, List, Option, length, map, sym, ap, subst, rules, arith}
-use Rattle.ss_command.specs.Printed.{printed}
-use Rattle.ss_command.specs.declared.command.Command.{Command}
-use Rattle.ss_outside.proofs.StepLemmas.{step-as, step-none, step-then}
-use Rattle.ss_outside.specs.Disk.{NothingPending}
-use Rattle.ss_outside.specs.Step.{Step}
-use Rattle.ss_store.specs.Uses.{StandsShort}
-use Rattle.ss_program.specs.Line.{History}
-use Rattle.ss_program.specs.Session.{plain_after}
-use Rattle.ss_program.specs.Status.{disk_verdict, ended}
-use Rattle.ss_program.specs.Tally.{RunsAll}
+use Rattle.ss_program.proofs.Common.{◌≡◌, ℕ, Err, List, Option, length, map, sym, ap, subst, rules, arith, printed, Command, step-as, step-none, step-then}
+use Rattle.ss_program.proofs.Common.{NothingPending, Step, StandsShort, History, plain_after, disk_verdict, ended, RunsAll}
 use Rattle.ss_program.proofs.GenerateLemmas.{AreSingle, IsAt, IsAt-end, IsAt-more, IsAt-start, IsAt-stop, single-commands}
 use Rattle.ss_program.proofs.generate.run_all.Goals as goal
 

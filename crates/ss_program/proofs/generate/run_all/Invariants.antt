@@ -1,10 +1,4 @@
-use Rattle.std.proofs.Common.{◌+◌, ◌*◌, ◌≤◌, ℕ, Option, length}
-use Rattle.ss_outside.specs.Disk.{NothingPending}
-use Rattle.ss_outside.specs.Step.{Step}
-use Rattle.ss_outside.specs.Verdict.{fine}
-use Rattle.ss_store.specs.Uses.{StandsShort}
-use Rattle.ss_program.specs.Answer.{IsOpen}
-use Rattle.ss_program.specs.Line.{History}
+use Rattle.ss_program.proofs.Common.{◌+◌, ◌*◌, ◌≤◌, ℕ, Option, length, NothingPending, Step, fine, StandsShort, IsOpen, History}
 use Rattle.ss_program.proofs.GenerateLemmas.{AreSingle, IsAt}
 use Rattle.ss_program.proofs.generate.run_all.Given as goal
 

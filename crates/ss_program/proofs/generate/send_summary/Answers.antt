@@ -1,7 +1,4 @@
-use Rattle.std.proofs.Common.{◌≡◌, None, Err, sym, subst, rules}
-use Rattle.ss_program.specs.Answer.{SendsRows}
-use Rattle.ss_program.specs.Generated.{summary_lines}
-use Rattle.ss_program.specs.Sent.{Sends}
+use Rattle.ss_program.proofs.Common.{◌≡◌, None, Err, sym, subst, rules, SendsRows, summary_lines, Sends}
 use Rattle.ss_program.proofs.GenerateLemmas.{Sends-less, Sends-summary}
 use Rattle.ss_program.proofs.generate.send_summary.Goals as goal
 

@@ -1,7 +1,4 @@
-use Rattle.std.proofs.Common.{length, refl, sym}
-use Rattle.ss_program.specs.Generated.{generated}
-use Rattle.ss_program.specs.Session.{replies}
-use Rattle.ss_program.specs.declared.status.Status.TheVariants.{SinkFault}
+use Rattle.ss_program.proofs.Common.{length, refl, sym, generated, replies, SinkFault}
 use Rattle.ss_program.proofs.AnswerLemmas.{IsStop-apply}
 use Rattle.ss_program.proofs.EndLemmas.{unfed-stop}
 use Rattle.ss_program.proofs.GenerateLemmas.{Generates-done, Generates-stop}

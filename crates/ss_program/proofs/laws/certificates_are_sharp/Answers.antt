@@ -1,6 +1,4 @@
-use Rattle.std.proofs.Common.{◌∙◌, ap, append_assoc, sym}
-use Rattle.ss_certify.specs.Told.{told}
-use Rattle.ss_program.specs.Session.{plain_after, replies}
+use Rattle.ss_program.proofs.Common.{◌∙◌, ap, append_assoc, sym, told, plain_after, replies}
 use Rattle.ss_program.proofs.LawLemmas.{certified-line, lines-leave, replies-among}
 use Rattle.ss_program.proofs.laws.certificates_are_sharp.Goals as goal
 

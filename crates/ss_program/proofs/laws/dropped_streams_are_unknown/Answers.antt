@@ -1,7 +1,4 @@
-use Rattle.std.proofs.Common.{◌∙◌, ◌++◌, ◌∷◌, ap}
-use Rattle.ss_catalog.specs.declared.refusal.Refusal.TheVariants.{Unknown}
-use Rattle.ss_report.specs.declared.reply.Reply.TheVariants.{Refused}
-use Rattle.ss_program.specs.Session.{replies}
+use Rattle.ss_program.proofs.Common.{◌∙◌, ◌++◌, ◌∷◌, ap, Unknown, Refused, replies}
 use Rattle.ss_program.proofs.LawLemmas.{replies-around}
 use Rattle.ss_program.proofs.UnknownLemmas.{created-empty, query-dropped}
 use Rattle.ss_program.proofs.laws.dropped_streams_are_unknown.Goals as goal

@@ -1,7 +1,4 @@
-use Rattle.std.proofs.Common.{◌∙◌, ap}
-use Rattle.ss_model.specs.declared.outcome.Outcome.TheVariants.{Estimate}
-use Rattle.ss_report.specs.declared.reply.Reply.TheVariants.{Answered}
-use Rattle.ss_program.specs.Session.{plain_after, replies}
+use Rattle.ss_program.proofs.Common.{◌∙◌, ap, Estimate, Answered, plain_after, replies}
 use Rattle.ss_program.proofs.LawLemmas.{estimate-line, lines-leave, replies-around}
 use Rattle.ss_program.proofs.laws.guesses_lie_between_the_ends.Goals as goal
 

@@ -1,7 +1,4 @@
-use Rattle.std.proofs.Common.{◌∙◌, ◌∷◌, ap, append_assoc, length, sym}
-use Rattle.ss_report.specs.declared.reply.Reply.TheVariants.{ValuesHead}
-use Rattle.ss_program.specs.Line.{value_rows}
-use Rattle.ss_program.specs.Session.{plain_after, replies}
+use Rattle.ss_program.proofs.Common.{◌∙◌, ◌∷◌, ap, append_assoc, length, sym, ValuesHead, value_rows, plain_after, replies}
 use Rattle.ss_program.proofs.LawLemmas.{replies-among}
 use Rattle.ss_program.proofs.NewestLaws.{values-line}
 use Rattle.ss_program.proofs.laws.landmark_values_are_told.Goals as goal

@@ -1,6 +1,5 @@
-use Rattle.std.proofs.Common.{◌∙◌, ap}
+use Rattle.ss_program.proofs.Common.{◌∙◌, ap, plain_after, replies}
 use Rattle.ss_report.specs.declared.reply.Reply.TheVariants.{Last as LastLine}
-use Rattle.ss_program.specs.Session.{plain_after, replies}
 use Rattle.ss_program.proofs.LawLemmas.{lines-leave, replies-around}
 use Rattle.ss_program.proofs.NewestLaws.{last-line}
 use Rattle.ss_program.proofs.laws.newest_values_are_told.Goals as goal

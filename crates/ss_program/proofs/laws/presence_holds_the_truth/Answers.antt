@@ -1,7 +1,4 @@
-use Rattle.std.proofs.Common.{◌∙◌, ap}
-use Rattle.ss_model.specs.declared.outcome.Outcome.TheVariants.{Has}
-use Rattle.ss_report.specs.declared.reply.Reply.TheVariants.{Answered}
-use Rattle.ss_program.specs.Session.{plain_after, replies}
+use Rattle.ss_program.proofs.Common.{◌∙◌, ap, Has, Answered, plain_after, replies}
 use Rattle.ss_program.proofs.LawLemmas.{lines-leave, presence-line, replies-around}
 use Rattle.ss_program.proofs.laws.presence_holds_the_truth.Goals as goal
 

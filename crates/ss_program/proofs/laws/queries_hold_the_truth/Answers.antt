@@ -1,6 +1,4 @@
-use Rattle.std.proofs.Common.{◌∙◌, ap}
-use Rattle.ss_report.specs.declared.reply.Reply.TheVariants.{Answered}
-use Rattle.ss_program.specs.Session.{plain_after, replies}
+use Rattle.ss_program.proofs.Common.{◌∙◌, ap, Answered, plain_after, replies}
 use Rattle.ss_program.proofs.LawLemmas.{answered-line, lines-leave, replies-around}
 use Rattle.ss_program.proofs.laws.queries_hold_the_truth.Goals as goal
 

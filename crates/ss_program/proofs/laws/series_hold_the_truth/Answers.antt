@@ -1,7 +1,4 @@
-use Rattle.std.proofs.Common.{◌∙◌, ◌∷◌, ap, append_assoc, map, sym}
-use Rattle.ss_catalog.specs.Series.{row_count, row_start, rows_of}
-use Rattle.ss_report.specs.declared.reply.Reply.TheVariants.{SeriesHead, Row}
-use Rattle.ss_program.specs.Session.{plain_after, replies}
+use Rattle.ss_program.proofs.Common.{◌∙◌, ◌∷◌, ap, append_assoc, map, sym, row_count, row_start, rows_of, SeriesHead, Row, plain_after, replies}
 use Rattle.ss_program.proofs.LawLemmas.{answered-series, lines-leave, replies-among}
 use Rattle.ss_program.proofs.laws.series_hold_the_truth.Goals as goal
 

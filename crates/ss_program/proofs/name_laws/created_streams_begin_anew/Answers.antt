@@ -1,4 +1,4 @@
-use Rattle.std.proofs.Common.{ap}
+use Rattle.ss_program.proofs.Common.{ap}
 use Rattle.ss_program.proofs.AnewLemmas.{given_to-anew}
 use Rattle.ss_program.proofs.name_laws.created_streams_begin_anew.Goals as goal
 

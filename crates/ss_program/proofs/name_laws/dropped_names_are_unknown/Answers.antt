@@ -1,12 +1,5 @@
-use Rattle.std.proofs.Common.{◌∙◌, [], ◌∷◌, ◌++◌, sym, ap, subst}
-use Rattle.std.proofs.lemmas.List.{append-nil}
-use Rattle.ss_arguments.specs.declared.mode.Form.TheVariants.{Sessions}
-use Rattle.ss_catalog.specs.declared.refusal.Refusal.TheVariants.{Unknown}
-use Rattle.ss_report.specs.declared.reply.Reply.TheVariants.{Refused}
-use Rattle.ss_program.specs.Asked.{IsAsked}
-use Rattle.ss_program.specs.Line.{history_after}
-use Rattle.ss_program.specs.Session.{after_lines, plain_after, replies}
-use Rattle.ss_program.specs.Talk.{begun}
+use Rattle.ss_program.proofs.Common.{◌∙◌, [], ◌∷◌, ◌++◌, sym, ap, subst, append-nil, Sessions, Unknown, Refused, IsAsked, history_after, after_lines}
+use Rattle.ss_program.proofs.Common.{plain_after, replies, begun}
 use Rattle.ss_program.proofs.LawLemmas.{replies-around}
 use Rattle.ss_program.proofs.NeededLemmas.{cursor-unknown, form-lines, line-unknown, turn-unknown, unknown-lines}
 use Rattle.ss_program.proofs.UnknownLemmas.{lines-dropped}

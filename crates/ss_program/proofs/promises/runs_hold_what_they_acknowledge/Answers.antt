@@ -1,11 +1,5 @@
-use Rattle.std.proofs.Common.{◌++◌, None, take, refl, subst}
-use Rattle.ss_arguments.specs.declared.mode.Sealing.TheVariants.{Each, Shared}
-use Rattle.ss_store.specs.Recover.{Stands}
+use Rattle.ss_program.proofs.Common.{◌++◌, None, take, refl, subst, Each, Shared, Stands, accepted, steps, begun, Done, OutOfMemory, SourceFault}
 use Rattle.ss_program.proofs.HeldLemmas.{StandsForFirst-within}
-use Rattle.ss_program.specs.Session.{accepted}
-use Rattle.ss_program.specs.Steps.{steps}
-use Rattle.ss_program.specs.Talk.{begun}
-use Rattle.ss_program.specs.declared.status.Status.TheVariants.{Done, OutOfMemory, SourceFault}
 use Rattle.ss_program.proofs.promises.runs_hold_what_they_acknowledge.Goals as goal
 
 pub returns-clause-done : goal.returns-clause-done

@@ -1,6 +1,4 @@
-use Rattle.std.proofs.Common.{◌≡◌, Option, Some, None, IsSome, refl, sym, subst}
-use Rattle.ss_arguments.specs.declared.mode.Mode.{Mode}
-use Rattle.ss_program.specs.declared.status.Status.TheVariants.{Usage, RefusedStore, DiskFault, SinkFault, RecordChanged}
+use Rattle.ss_program.proofs.Common.{◌≡◌, Option, Some, None, IsSome, refl, sym, subst, Mode, Usage, RefusedStore, DiskFault, SinkFault, RecordChanged}
 use Rattle.ss_program.proofs.promises.statuses_have_their_causes.Goals as goal
 
 pub returns-clause-refused : goal.returns-clause-refused

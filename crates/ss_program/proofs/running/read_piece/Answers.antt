@@ -1,12 +1,7 @@
-use Rattle.std.proofs.Common.{◌≤◌, ◌++◌, ◌∙◌, Err, rules, refl, subst, arith}
-use Rattle.std.proofs.lemmas.Grind.{common_steps}
-use Rattle.ss_outside.proofs.StepLemmas.{step-as, step-none}
-use Rattle.ss_program.specs.Outcome.{ReadsPiece}
-use Rattle.ss_program.specs.Progress.{GoesOn, StopsIn}
-use Rattle.ss_program.specs.declared.status.Status.TheVariants.{SourceFault}
+use Rattle.ss_program.proofs.Common.{◌≤◌, ◌++◌, ◌∙◌, Err, rules, refl, subst, arith, common_steps, step-as, step-none, ReadsPiece, GoesOn, StopsIn, SourceFault}
+use Rattle.ss_program.proofs.Common.{steps_so_far}
 use Rattle.ss_program.proofs.ReadLemmas.{moved, stop-other, unmoved}
 use Rattle.ss_program.proofs.running.read_piece.Goals as goal
-use Rattle.ss_program.specs.Steps.{steps_so_far}
 
 pub returns-in-Err-clause-reads : goal.returns-in-Err-clause-reads
 returns-in-Err-clause-reads g c =

@@ -1,19 +1,6 @@
-use Rattle.std.proofs.Common.{◌≡◌, ◌∙◌, Option, Some, None, IsSome, inr, refl, subst, sym}
-use Rattle.ss_arguments.specs.Modes.{mode_of, words_of}
-use Rattle.ss_arguments.specs.declared.mode.Mode.{Mode}
-use Rattle.ss_arguments.specs.declared.mode.Mode.TheVariants.{Check, Gen}
-use Rattle.ss_outside.proofs.CrashLemmas.{at_start, of_content}
-use Rattle.ss_outside.specs.Disk.{Between}
-use Rattle.ss_outside.specs.Verdict.{Counted}
-use Rattle.ss_store.specs.Uses.{StandsShort}
-use Rattle.ss_program.specs.Checked.{ChecksStore}
-use Rattle.ss_program.specs.Devices.{over}
-use Rattle.ss_program.specs.Ending.{Ends, Feeds, IsUnfed, Unfed, served_by, serving}
-use Rattle.ss_program.specs.Generated.{GeneratesFrom}
-use Rattle.ss_program.specs.Outcome.{Reads, Serves, ServesInput}
-use Rattle.ss_program.specs.Status.{source_verdict}
-use Rattle.ss_program.specs.Talk.{begun_over}
-use Rattle.ss_program.specs.declared.status.Status.TheVariants.{OutOfMemory}
+use Rattle.ss_program.proofs.Common.{◌≡◌, ◌∙◌, Option, Some, None, IsSome, inr, refl, subst, sym, mode_of, words_of, Mode, Check, Gen, at_start, of_content}
+use Rattle.ss_program.proofs.Common.{Between, Counted, StandsShort, ChecksStore, over, Ends, Feeds, IsUnfed, Unfed, served_by, serving, GeneratesFrom, Reads}
+use Rattle.ss_program.proofs.Common.{Serves, ServesInput, source_verdict, begun_over, OutOfMemory}
 use Rattle.ss_program.proofs.EndLemmas.{Completes-calm, by-number, has-numbers, source-calm}
 use Rattle.ss_program.proofs.OpeningLemmas.{Serves-unopened}
 use Rattle.ss_program.proofs.running.run.Goals as goal

@@ -1,12 +1,5 @@
-use Rattle.std.proofs.Common.{◌≡◌, ◌∙◌, Some, sym, subst, ap}
-use Rattle.ss_arguments.specs.declared.mode.Mode.{Mode}
-use Rattle.ss_arguments.specs.declared.mode.Mode.TheVariants.{Gen}
-use Rattle.ss_outside.specs.Disk.{Between}
-use Rattle.ss_program.specs.Ending.{HasNumbers, Serving, served_by, serving}
-use Rattle.ss_program.specs.Generated.{GeneratesFrom}
-use Rattle.ss_program.specs.Outcome.{ServesInput}
-use Rattle.ss_arguments.specs.declared.mode.Form.{Form}
-use Rattle.ss_arguments.specs.declared.mode.Sealing.{Sealing}
+use Rattle.ss_program.proofs.Common.{◌≡◌, ◌∙◌, Some, sym, subst, ap, Mode, Gen, Between, HasNumbers, Serving, served_by, serving, GeneratesFrom, ServesInput}
+use Rattle.ss_program.proofs.Common.{Form, Sealing}
 use Rattle.ss_program.proofs.TakenLemmas.{Feeds-unfed}
 use Rattle.ss_program.proofs.running.run_mode.Goals as goal
 

@@ -1,8 +1,4 @@
-use Rattle.std.proofs.Common.{inr, refl}
-use Rattle.ss_outside.proofs.CrashLemmas.{at_start, of_content}
-use Rattle.ss_store.specs.Uses.{StandsShort}
-use Rattle.ss_program.specs.Talk.{begun_over}
-use Rattle.ss_program.specs.declared.status.Status.TheVariants.{OutOfMemory}
+use Rattle.ss_program.proofs.Common.{inr, refl, at_start, of_content, StandsShort, begun_over, OutOfMemory}
 use Rattle.ss_program.proofs.EndLemmas.{Ends-starved}
 use Rattle.ss_program.proofs.OpeningLemmas.{Reads-none, Serves-unopened}
 use Rattle.ss_program.proofs.ReadLemmas.{most_read-some}

@@ -1,15 +1,6 @@
-use Rattle.std.proofs.Common.{◌≡◌, ◌-◌, ◌+◌, if◌then◌else◌, List, ℕ, Option, Some, take, drop, refl, sym, ap, ◌∙◌, subst, arith, inl, inr}
-use Rattle.ss_outside.proofs.StepLemmas.{step-as, step-none, step-then}
-use Rattle.ss_outside.specs.Disk.{NothingPending}
-use Rattle.ss_outside.specs.Source.{RoseBy}
-use Rattle.ss_store.specs.Uses.{StandsShort}
-use Rattle.ss_program.specs.Line.{History}
-use Rattle.ss_program.specs.Outcome.{Serves}
-use Rattle.ss_program.specs.Progress.{HoldsTalk, sealing_by}
-use Rattle.ss_program.specs.Sent.{appended}
-use Rattle.ss_program.specs.Session.{after_lines, text_of}
-use Rattle.ss_program.specs.Talk.{begun_over}
-use Rattle.ss_program.specs.declared.status.Status.TheVariants.{InputLimit, SourceFault}
+use Rattle.ss_program.proofs.Common.{◌≡◌, ◌-◌, ◌+◌, if◌then◌else◌, List, ℕ, Option, Some, take, drop, refl, sym, ap, ◌∙◌, subst, arith, inl, inr, step-as}
+use Rattle.ss_program.proofs.Common.{step-none, step-then, NothingPending, RoseBy, StandsShort, History, Serves, HoldsTalk, sealing_by, appended, after_lines}
+use Rattle.ss_program.proofs.Common.{text_of, begun_over, InputLimit, SourceFault}
 use Rattle.ss_program.proofs.SendLemmas.{appended-nil}
 use Rattle.ss_program.proofs.StepLemmas.{step-told}
 use Rattle.ss_program.proofs.RunLemmas.{HasStopped-piece, IsThrough, IsThrough-end, IsThrough-more, IsThrough-start, Serves-finish, Serves-part, Serves-stop}

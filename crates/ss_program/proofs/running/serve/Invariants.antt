@@ -1,16 +1,5 @@
-use Rattle.std.proofs.Common.{◌≡◌, ◌-◌, ◌≤◌, List, ℕ, Option, Some}
-use Rattle.ss_outside.specs.Disk.{NothingPending}
-use Rattle.ss_outside.specs.Source.{RoseBy}
-use Rattle.ss_outside.specs.Step.{Step}
-use Rattle.ss_outside.specs.Verdict.{fine}
-use Rattle.ss_store.specs.Recover.{Stands}
-use Rattle.ss_program.specs.Amid.{IsAtRest}
-use Rattle.ss_store.specs.Uses.{StandsShort}
-use Rattle.ss_program.specs.Answer.{IsOpen}
-use Rattle.ss_program.specs.Line.{History}
-use Rattle.ss_program.specs.Progress.{sealing_by}
-use Rattle.ss_program.specs.Talk.{begun_over}
-use Rattle.ss_program.specs.declared.running.TheConstants.{LONGEST_INPUT}
+use Rattle.ss_program.proofs.Common.{◌≡◌, ◌-◌, ◌≤◌, List, ℕ, Option, Some, NothingPending, RoseBy, Step, fine, IsAtRest, StandsShort, History, sealing_by}
+use Rattle.ss_program.proofs.Common.{begun_over, LONGEST_INPUT}
 use Rattle.ss_program.proofs.RunLemmas.{IsThrough}
 use Rattle.ss_program.proofs.ReadLemmas.{IsLeft}
 use Rattle.ss_program.proofs.running.serve.Given as goal

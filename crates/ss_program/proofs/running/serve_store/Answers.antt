@@ -1,11 +1,4 @@
-use Rattle.std.proofs.Common.{◌∙◌, inr, refl, subst}
-use Rattle.ss_store.specs.Kept.{StoreState}
-use Rattle.ss_program.specs.Outcome.{Serves}
-use Rattle.ss_program.specs.Refused.{status_of_open}
-use Rattle.ss_program.specs.Progress.{sealing_by}
-use Rattle.ss_program.specs.Talk.{begun_over}
-use Rattle.ss_program.specs.Status.{EndsServing}
-use Rattle.ss_program.specs.declared.status.Status.TheVariants.{OutOfMemory}
+use Rattle.ss_program.proofs.Common.{◌∙◌, inr, refl, subst, StoreState, Serves, status_of_open, sealing_by, begun_over, EndsServing, OutOfMemory}
 use Rattle.ss_program.proofs.TakesLemmas.{still}
 use Rattle.ss_program.proofs.EndLemmas.{Ends-opened, Ends-unopened, judged-refused, unfed-unopened}
 use Rattle.ss_program.proofs.LeftLemmas.{opened_left, opened_moments}

@@ -1,4 +1,4 @@
-use Rattle.std.proofs.Common.{◌∙◌}
+use Rattle.ss_program.proofs.Common.{◌∙◌}
 use Rattle.ss_program.proofs.SendLemmas.{appended_more, fits_more}
 use Rattle.ss_program.proofs.sending.send.Goals as goal
 

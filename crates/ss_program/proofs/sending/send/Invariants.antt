@@ -1,5 +1,4 @@
-use Rattle.std.proofs.Common.{◌≡◌, ◌-◌, ◌≤◌, length, take}
-use Rattle.ss_program.specs.Sent.{appended}
+use Rattle.ss_program.proofs.Common.{◌≡◌, ◌-◌, ◌≤◌, length, take, appended}
 use Rattle.ss_program.proofs.sending.send.Given as goal
 
 -- the sink got so many bytes from the front

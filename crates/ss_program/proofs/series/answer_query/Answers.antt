@@ -1,5 +1,4 @@
-use Rattle.std.proofs.Common.{Err, ap}
-use Rattle.ss_model.specs.State.{state}
+use Rattle.ss_program.proofs.Common.{Err, ap, state}
 use Rattle.ss_program.proofs.AnswerLemmas.{Stands-only_replies}
 use Rattle.ss_program.proofs.series.answer_query.Goals as goal
 

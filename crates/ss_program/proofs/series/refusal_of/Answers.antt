@@ -1,9 +1,6 @@
-use Rattle.std.proofs.Common.{◌≡◌, ◌∙◌, Bool, true, false, Option, Some, None, refl, sym}
-use Rattle.std.proofs.lemmas.Bool.{le-ltb, lt-ltb}
-use Rattle.std.specs.Prelude.{is_some, not}
+use Rattle.ss_program.proofs.Common.{◌≡◌, ◌∙◌, Bool, true, false, Option, Some, None, refl, sym, le-ltb, lt-ltb, is_some, not, part_named, named-found}
+use Rattle.ss_program.proofs.Common.{named-missing, refuses_query_held-known, refuses_query_held-unknown}
 use Rattle.ss_catalog.specs.declared.stream_id.StreamId.{StreamId}
-use Rattle.ss_store.specs.Kept.{part_named}
-use Rattle.ss_store.proofs.AskedStreams.{named-found, named-missing, refuses_query_held-known, refuses_query_held-unknown}
 use Rattle.ss_program.proofs.series.refusal_of.Goals as goal
 
 -- whether a number was found

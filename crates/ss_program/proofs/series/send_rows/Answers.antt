@@ -1,27 +1,7 @@
-use Rattle.std.proofs.Common.{◌≡◌, ◌∙◌, ◌<◌, Ok, Err, None, refl, sym, ap, subst, rules, arith}
-use Rattle.std.specs.List.{flat_map}
-use Rattle.std.specs.Prelude.{IsTrue}
-use Rattle.ss_catalog.specs.Series.{row_count, whole_query}
-use Rattle.ss_catalog.specs.declared.series.Series.{Series}
-use Rattle.ss_model.specs.Series.{refuses_series}
-use Rattle.ss_model.specs.State.{state}
-use Rattle.ss_outside.proofs.CrashLemmas.{reads-joined}
-use Rattle.ss_outside.proofs.StepLemmas.{step-then}
-use Rattle.ss_outside.specs.Crash.{OnlyReads}
-use Rattle.ss_outside.specs.Disk.{DiskView}
-use Rattle.ss_outside.specs.Step.{Step}
-use Rattle.ss_outside.specs.Verdict.{Counted, fine, verdict}
-use Rattle.ss_report.specs.Text.{said_line}
-use Rattle.ss_report.specs.declared.reply.Reply.TheVariants.{Row}
-use Rattle.ss_store.specs.Asked.{refuses_query_held}
-use Rattle.ss_store.specs.Kept.{StoreState}
-use Rattle.ss_store.specs.Recover.{Stands}
-use Rattle.ss_program.specs.Answer.{IsOpen, Shows}
-use Rattle.ss_program.specs.Devices.{over}
-use Rattle.ss_program.specs.Line.{History, series_rows}
-use Rattle.ss_program.specs.Sent.{appended, AppendsLess, Sends}
-use Rattle.ss_program.specs.Series.{IsSeriesText}
-use Rattle.ss_program.specs.Status.{disk_verdict, IsDiskStop}
+use Rattle.ss_program.proofs.Common.{◌≡◌, ◌∙◌, ◌<◌, Ok, Err, None, refl, sym, ap, subst, rules, arith, flat_map, IsTrue, row_count, whole_query, Series}
+use Rattle.ss_program.proofs.Common.{refuses_series, state, reads-joined, step-then, OnlyReads, DiskView, Step, Counted, fine, verdict, said_line, Row}
+use Rattle.ss_program.proofs.Common.{refuses_query_held, StoreState, Stands, IsOpen, Shows, over, History, series_rows, appended, AppendsLess, Sends}
+use Rattle.ss_program.proofs.Common.{IsSeriesText, disk_verdict, IsDiskStop}
 use Rattle.ss_program.proofs.AnswerLemmas.{StoreIsIn-open, refuses_query-kept}
 use Rattle.ss_program.proofs.SendLemmas.{appended-nil}
 use Rattle.ss_program.proofs.SeriesLemmas.{row-cut, row-end, row-sent, row-taken_held, row-unread}

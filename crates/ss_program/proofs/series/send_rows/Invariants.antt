@@ -1,15 +1,4 @@
-use Rattle.std.proofs.Common.{◌≡◌, take}
-use Rattle.std.specs.List.{flat_map}
-use Rattle.ss_model.specs.State.{state}
-use Rattle.ss_outside.specs.Crash.{OnlyReads}
-use Rattle.ss_outside.specs.Disk.{OfContent}
-use Rattle.ss_outside.specs.Step.{Step}
-use Rattle.ss_outside.specs.Verdict.{fine}
-use Rattle.ss_report.specs.Text.{said_line}
-use Rattle.ss_store.specs.Recover.{Stands}
-use Rattle.ss_program.specs.Answer.{IsOpen}
-use Rattle.ss_program.specs.Line.{History, series_rows}
-use Rattle.ss_program.specs.Sent.{appended}
+use Rattle.ss_program.proofs.Common.{◌≡◌, take, flat_map, state, OnlyReads, OfContent, Step, fine, said_line, Stands, IsOpen, History, series_rows, appended}
 use Rattle.ss_program.proofs.series.send_rows.Given as goal
 
 -- the rows before this one were sent, and the disk was only read

@@ -1,18 +1,7 @@
-use Rattle.std.proofs.Common.{◌≡◌, ◌∙◌, Err, refl, sym, ap, subst, rules}
-use Rattle.std.proofs.lemmas.List.{append-nil}
-use Rattle.std.specs.List.{flat_map}
-use Rattle.ss_catalog.specs.Series.{whole_query}
+use Rattle.ss_program.proofs.Common.{◌≡◌, ◌∙◌, Err, refl, sym, ap, subst, rules, append-nil, flat_map, whole_query, state, Counted, said_line, Refused}
+use Rattle.ss_program.proofs.Common.{SeriesHead, refuses_query_held, IsTextBrought, Shows, over, command_brings, series_rows, text_said, appended, AppendsLess}
+use Rattle.ss_program.proofs.Common.{Sends, ended, sink_verdict}
 use Rattle.ss_command.specs.declared.command.Command.TheVariants.{Series as AskRows}
-use Rattle.ss_model.specs.State.{state}
-use Rattle.ss_outside.specs.Verdict.{Counted}
-use Rattle.ss_report.specs.Text.{said_line}
-use Rattle.ss_report.specs.declared.reply.Reply.TheVariants.{Refused, SeriesHead}
-use Rattle.ss_store.specs.Asked.{refuses_query_held}
-use Rattle.ss_program.specs.Answer.{IsTextBrought, Shows}
-use Rattle.ss_program.specs.Devices.{over}
-use Rattle.ss_program.specs.Line.{command_brings, series_rows, text_said}
-use Rattle.ss_program.specs.Sent.{appended, AppendsLess, Sends}
-use Rattle.ss_program.specs.Status.{ended, sink_verdict}
 use Rattle.ss_program.proofs.AnswerLemmas.{StoreIsIn-open, refuses_query-kept}
 use Rattle.ss_program.proofs.SeriesLemmas.{brings-refused_series, series-head, series-sent}
 use Rattle.ss_program.proofs.TakesLemmas.{Shows-reply, Shows-sent, failed-err, less-sent, sends-less, sent-all, still}

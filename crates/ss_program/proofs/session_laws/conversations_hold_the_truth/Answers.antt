@@ -1,6 +1,5 @@
-use Rattle.std.proofs.Common.{◌∙◌, ap, refl}
-use Rattle.ss_command.specs.declared.command.Command.TheVariants.{Ask, Certify, Last, Series as AskRows, Values}
-use Rattle.ss_program.specs.Talk.{turn_brought}
+use Rattle.ss_program.proofs.Common.{◌∙◌, ap, refl, Ask, Certify, Last, Values, turn_brought}
+use Rattle.ss_command.specs.declared.command.Command.TheVariants.{Series as AskRows}
 use Rattle.ss_program.proofs.ConversationLemmas.{asked-plain}
 use Rattle.ss_program.proofs.LawLemmas.{answered-line, answered-series, certified-line, estimate-line, presence-line}
 use Rattle.ss_program.proofs.NewestLaws.{last-line, values-line}

@@ -1,6 +1,4 @@
-use Rattle.ss_arguments.specs.declared.mode.Form.TheVariants.{Sessions}
-use Rattle.ss_program.specs.Session.{after_lines}
-use Rattle.ss_program.specs.Talk.{begun}
+use Rattle.ss_program.proofs.Common.{Sessions, after_lines, begun}
 use Rattle.ss_program.proofs.HeardLemmas.{cursor-opens, cursor-shows, cursor-shows-begun}
 use Rattle.ss_program.proofs.SessionLemmas.{after_lines-form}
 use Rattle.ss_program.proofs.session_laws.cursors_show_the_history_at_their_opening.Goals as goal

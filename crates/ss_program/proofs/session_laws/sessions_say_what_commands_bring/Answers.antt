@@ -1,4 +1,4 @@
-use Rattle.std.proofs.Common.{◌∷◌}
+use Rattle.ss_program.proofs.Common.{◌∷◌}
 use Rattle.ss_program.proofs.ConversationLemmas.{asked-brings}
 use Rattle.ss_program.proofs.SessionLemmas.{text_of-append}
 use Rattle.ss_program.proofs.session_laws.sessions_say_what_commands_bring.Goals as goal

@@ -1,10 +1,5 @@
-use Rattle.std.proofs.Common.{◌≡◌, Err, sym, subst, rules}
-use Rattle.std.specs.Option.{option_copied}
-use Rattle.ss_outside.proofs.StepLemmas.{step-as, step-then}
-use Rattle.ss_outside.specs.Step.{Step}
-use Rattle.ss_program.specs.Amid.{TakesTurn, amid, owed_by}
-use Rattle.ss_program.specs.Status.{disk_verdict, ended}
-use Rattle.ss_program.specs.Talk.{kept_turn}
+use Rattle.ss_program.proofs.Common.{◌≡◌, Err, sym, subst, rules, option_copied, step-as, step-then, Step, TakesTurn, amid, owed_by, disk_verdict, ended}
+use Rattle.ss_program.proofs.Common.{kept_turn}
 use Rattle.ss_program.proofs.BroughtLemmas.{TakesTurn-next, TakesTurn-unsealed}
 use Rattle.ss_program.proofs.spoken.stage_line.Goals as goal
 

@@ -1,6 +1,4 @@
-use Rattle.std.proofs.Common.{Some}
-use Rattle.ss_program.specs.Cursor.{close_brings}
-use Rattle.ss_program.specs.Talk.{Talk, turn_said}
+use Rattle.ss_program.proofs.Common.{Some, close_brings, Talk, turn_said}
 use Rattle.ss_program.proofs.BroughtLemmas.{TakesTurn-said}
 use Rattle.ss_program.proofs.OrderLemmas.{TakesClosed}
 use Rattle.ss_program.proofs.StepLemmas.{step-told}

@@ -1,10 +1,4 @@
-use Rattle.std.proofs.Common.{sym, subst}
-use Rattle.std.specs.Option.{option_copied}
-use Rattle.ss_arguments.specs.declared.mode.Form.TheVariants.{Frames}
-use Rattle.ss_outside.specs.Step.{Step}
-use Rattle.ss_program.specs.Amid.{TakesTurn, amid, owed_by}
-use Rattle.ss_program.specs.Status.{disk_verdict, ended}
-use Rattle.ss_program.specs.Talk.{kept_turn}
+use Rattle.ss_program.proofs.Common.{sym, subst, option_copied, Frames, Step, TakesTurn, amid, owed_by, disk_verdict, ended, kept_turn}
 use Rattle.ss_program.proofs.spoken.take_line.Goals as goal
 
 pub returns-in_default-clause-takes : goal.returns-in_default-clause-takes

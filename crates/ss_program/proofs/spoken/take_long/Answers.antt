@@ -1,7 +1,4 @@
-use Rattle.std.proofs.Common.{Ok, None, sym, subst, ⊎_elim}
-use Rattle.ss_outside.proofs.StepLemmas.{step-none}
-use Rattle.ss_program.specs.Amid.{TakesTurn, amid, owed_by}
-use Rattle.ss_program.specs.Talk.{kept_turn}
+use Rattle.ss_program.proofs.Common.{Ok, None, sym, subst, ⊎_elim, step-none, TakesTurn, amid, owed_by, kept_turn}
 use Rattle.ss_program.proofs.BroughtLemmas.{TakesBrought-silent}
 use Rattle.ss_program.proofs.spoken.take_long.Goals as goal
 

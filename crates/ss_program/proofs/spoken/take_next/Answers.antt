@@ -1,14 +1,5 @@
-use Rattle.std.proofs.Common.{◌≡◌, Err, Some, sym, subst, rules}
-use Rattle.ss_journal.proofs.ShownLemmas.{shown-sealed}
-use Rattle.ss_outside.proofs.StepLemmas.{step-as}
-use Rattle.ss_outside.specs.Step.{Step}
-use Rattle.ss_sessions.specs.Cursors.{Cursors}
-use Rattle.ss_program.specs.Amid.{TakesOrdered, amid, owed_by}
-use Rattle.ss_program.specs.Answer.{at_sink}
-use Rattle.ss_program.specs.Cursor.{next_brings}
-use Rattle.ss_program.specs.Line.{History}
-use Rattle.ss_program.specs.Status.{disk_verdict, ended}
-use Rattle.ss_program.specs.Talk.{Talk, turn_said}
+use Rattle.ss_program.proofs.Common.{◌≡◌, Err, Some, sym, subst, rules, shown-sealed, step-as, Step, Cursors, TakesOrdered, amid, owed_by, at_sink, next_brings}
+use Rattle.ss_program.proofs.Common.{History, disk_verdict, ended, Talk, turn_said}
 use Rattle.ss_program.proofs.BroughtLemmas.{TakesTurn-next, TakesTurn-unsealed}
 use Rattle.ss_program.proofs.OrderLemmas.{TakesShown}
 use Rattle.ss_program.proofs.SealLemmas.{step-sink}

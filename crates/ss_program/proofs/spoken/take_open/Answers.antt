@@ -1,16 +1,5 @@
-use Rattle.std.proofs.Common.{◌≡◌, ◌∙◌, Err, Ok, Some, sym, subst, rules}
-use Rattle.ss_journal.proofs.ShownLemmas.{shown-sealed}
-use Rattle.ss_outside.proofs.StepLemmas.{step-as}
-use Rattle.ss_outside.specs.Step.{Step}
-use Rattle.ss_outside.specs.Verdict.{fine}
-use Rattle.ss_sessions.specs.Cursors.{Cursors}
-use Rattle.ss_store.specs.Kept.{StoreState}
-use Rattle.ss_program.specs.declared.status.Status.TheVariants.{OutOfMemory}
-use Rattle.ss_program.specs.Amid.{TakesNone, TakesOrdered, amid, owed_by}
-use Rattle.ss_program.specs.Cursor.{open_brings}
-use Rattle.ss_program.specs.Line.{History}
-use Rattle.ss_program.specs.Status.{disk_verdict, ended}
-use Rattle.ss_program.specs.Talk.{Talk, turn_said}
+use Rattle.ss_program.proofs.Common.{◌≡◌, ◌∙◌, Err, Ok, Some, sym, subst, rules, shown-sealed, step-as, Step, fine, Cursors, StoreState, OutOfMemory, TakesNone}
+use Rattle.ss_program.proofs.Common.{TakesOrdered, amid, owed_by, open_brings, History, disk_verdict, ended, Talk, turn_said}
 use Rattle.ss_program.proofs.AmidLemmas.{owed-nothing}
 use Rattle.ss_program.proofs.AnswerLemmas.{IsStop-apply}
 use Rattle.ss_program.proofs.BroughtLemmas.{TakesTurn-said, TakesTurn-unsealed}

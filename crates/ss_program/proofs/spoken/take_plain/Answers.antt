@@ -1,9 +1,4 @@
-use Rattle.std.proofs.Common.{Ok, None, subst}
-use Rattle.ss_outside.proofs.StepLemmas.{step-none}
-use Rattle.ss_outside.specs.Step.{Step}
-use Rattle.ss_outside.specs.Verdict.{fine}
-use Rattle.ss_program.specs.Amid.{TakesBrought, amid, owed_by}
-use Rattle.ss_program.specs.Line.{meaning_in, nothing}
+use Rattle.ss_program.proofs.Common.{Ok, None, subst, step-none, Step, fine, TakesBrought, amid, owed_by, meaning_in, nothing}
 use Rattle.ss_program.proofs.BroughtLemmas.{TakesBrought-silent}
 use Rattle.ss_program.proofs.spoken.take_plain.Goals as goal
 

@@ -1,12 +1,5 @@
-use Rattle.std.proofs.Common.{◌∙◌, Ok, Option, Result, Some, ap, sym, subst}
-use Rattle.ss_catalog.specs.declared.refusal.Refusal.{Refusal}
-use Rattle.ss_outside.proofs.StepLemmas.{step-none}
-use Rattle.ss_outside.specs.Step.{Step}
-use Rattle.ss_outside.specs.Verdict.{fine}
-use Rattle.ss_sessions.specs.declared.order.Order.{Order}
-use Rattle.ss_program.specs.Amid.{TakesTurn, amid, owed_by}
-use Rattle.ss_program.specs.Line.{nothing}
-use Rattle.ss_program.specs.Talk.{turn_brought, turn_to}
+use Rattle.ss_program.proofs.Common.{◌∙◌, Ok, Option, Result, Some, ap, sym, subst, Refusal, step-none, Step, fine, Order, TakesTurn, amid, owed_by, nothing}
+use Rattle.ss_program.proofs.Common.{turn_brought, turn_to}
 use Rattle.ss_program.proofs.BroughtLemmas.{TakesBrought-silent}
 use Rattle.ss_program.proofs.spoken.take_said.Goals as goal
 

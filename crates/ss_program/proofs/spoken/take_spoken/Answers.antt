@@ -1,11 +1,4 @@
-use Rattle.std.proofs.Common.{None, Ok, subst}
-use Rattle.ss_outside.proofs.StepLemmas.{step-none}
-use Rattle.ss_outside.specs.Step.{Step}
-use Rattle.ss_outside.specs.Verdict.{fine}
-use Rattle.ss_sessions.specs.declared.order.Spoken.{Spoken}
-use Rattle.ss_program.specs.Amid.{TakesTurn, amid, owed_by}
-use Rattle.ss_program.specs.Line.{nothing}
-use Rattle.ss_program.specs.Talk.{turn_brought, turn_spoken}
+use Rattle.ss_program.proofs.Common.{None, Ok, subst, step-none, Step, fine, Spoken, TakesTurn, amid, owed_by, nothing, turn_brought, turn_spoken}
 use Rattle.ss_program.proofs.BroughtLemmas.{TakesBrought-silent}
 use Rattle.ss_program.proofs.spoken.take_spoken.Goals as goal
 

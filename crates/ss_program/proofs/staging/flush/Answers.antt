@@ -1,6 +1,4 @@
-use Rattle.std.proofs.Common.{Ok}
-use Rattle.ss_outside.proofs.StepLemmas.{step-none}
-use Rattle.ss_program.specs.Amid.{TakesNone, amid, owed_by}
+use Rattle.ss_program.proofs.Common.{Ok, step-none, TakesNone, amid, owed_by}
 use Rattle.ss_program.proofs.AmidLemmas.{TakesNone-still}
 use Rattle.ss_program.proofs.staging.flush.Goals as goal
 

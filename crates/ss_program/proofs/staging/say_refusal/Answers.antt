@@ -1,6 +1,4 @@
-use Rattle.std.proofs.Common.{refl}
-use Rattle.ss_report.specs.declared.reply.Reply.TheVariants.{Refused}
-use Rattle.ss_program.specs.Line.{refused}
+use Rattle.ss_program.proofs.Common.{refl, Refused, refused}
 use Rattle.ss_program.proofs.BroughtLemmas.{TakesBrought-said, TakesBrought-still}
 use Rattle.ss_program.proofs.TakesLemmas.{still}
 use Rattle.ss_program.proofs.StepLemmas.{step-told}

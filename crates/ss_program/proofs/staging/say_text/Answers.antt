@@ -1,8 +1,5 @@
-use Rattle.std.proofs.Common.{◌≡◌, ◌∙◌, ◌++◌, ℕ, List, Ok, Option, Some, ap, subst, sym}
-use Rattle.ss_outside.proofs.StepLemmas.{step-none}
-use Rattle.ss_outside.specs.Step.{Step}
-use Rattle.ss_outside.specs.Verdict.{fine}
-use Rattle.ss_program.specs.Amid.{Owed, TakesNone, amid, owed_by, with_text}
+use Rattle.ss_program.proofs.Common.{◌≡◌, ◌∙◌, ◌++◌, ℕ, List, Ok, Option, Some, ap, subst, sym, step-none, Step, fine, Owed, TakesNone, amid, owed_by}
+use Rattle.ss_program.proofs.Common.{with_text}
 use Rattle.ss_program.proofs.AmidLemmas.{TakesNone-still}
 use Rattle.ss_program.proofs.staging.say_text.Goals as goal
 

@@ -1,7 +1,4 @@
-use Rattle.std.proofs.Common.{◌∙◌, None, refl}
-use Rattle.ss_journal.proofs.ShownLemmas.{shown-sealed}
-use Rattle.ss_program.specs.Amid.{TakesNone, amid, owed_by, with_text}
-use Rattle.ss_program.specs.Answer.{at_sink}
+use Rattle.ss_program.proofs.Common.{◌∙◌, None, refl, shown-sealed, TakesNone, amid, owed_by, with_text, at_sink}
 use Rattle.ss_program.proofs.SealLemmas.{TakesNone-sent, TakesNone-unsealed, each-sent, step-sink}
 use Rattle.ss_program.proofs.staging.send_sealed.Goals as goal
 

@@ -1,8 +1,4 @@
-use Rattle.std.proofs.Common.{◌∙◌, Some, subst}
-use Rattle.ss_journal.proofs.ShownLemmas.{shown-sealed}
-use Rattle.ss_program.specs.Amid.{TakesNone, amid, owed_by}
-use Rattle.ss_program.specs.Answer.{at_sink}
-use Rattle.ss_program.specs.Sent.{Sends}
+use Rattle.ss_program.proofs.Common.{◌∙◌, Some, subst, shown-sealed, TakesNone, amid, owed_by, at_sink, Sends}
 use Rattle.ss_program.proofs.SealLemmas.{TakesNone-sent, TakesNone-unsealed, shared-sent, step-sink}
 use Rattle.ss_program.proofs.staging.send_waiting.Goals as goal
 

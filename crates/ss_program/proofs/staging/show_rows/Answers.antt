@@ -1,10 +1,5 @@
-use Rattle.std.proofs.Common.{◌≡◌, ◌∙◌, Err, sym, subst, rules}
-use Rattle.ss_journal.proofs.ShownLemmas.{shown-sealed}
-use Rattle.ss_outside.proofs.StepLemmas.{step-as}
-use Rattle.ss_outside.specs.Step.{Step}
-use Rattle.ss_program.specs.Amid.{TakesBrought, amid, owed_by}
-use Rattle.ss_program.specs.Line.{History, command_brings}
-use Rattle.ss_program.specs.Status.{disk_verdict, ended}
+use Rattle.ss_program.proofs.Common.{◌≡◌, ◌∙◌, Err, sym, subst, rules, shown-sealed, step-as, Step, TakesBrought, amid, owed_by, History, command_brings}
+use Rattle.ss_program.proofs.Common.{disk_verdict, ended}
 use Rattle.ss_program.proofs.BroughtLemmas.{TakesBrought-next, TakesBrought-unsealed, shown-opened}
 use Rattle.ss_program.proofs.PutLemmas.{TakesBrought-rows}
 use Rattle.ss_program.proofs.StepLemmas.{step-told}

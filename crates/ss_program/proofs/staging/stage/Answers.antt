@@ -1,23 +1,7 @@
-use Rattle.std.proofs.Common.{◌≡◌, ◌∙◌, ◌++◌, ◌∷◌, [], Err, Ok, Result, Some, refl, sym, ap, subst, false}
-use Rattle.std.specs.Prelude.{IsTrue}
-use Rattle.ss_catalog.specs.Events.{event_name}
-use Rattle.ss_command.specs.declared.command.Command.TheVariants.{Do}
-use Rattle.ss_model.specs.History.{added}
-use Rattle.ss_model.specs.Refusals.{refuses}
-use Rattle.ss_model.specs.State.{state}
-use Rattle.ss_outside.proofs.CrashLemmas.{reads-none}
-use Rattle.ss_outside.proofs.StepLemmas.{step-none}
-use Rattle.ss_outside.specs.Step.{Step}
-use Rattle.ss_outside.specs.Verdict.{fine}
-use Rattle.ss_records.specs.Kept.{shown_by}
-use Rattle.ss_report.specs.declared.reply.Reply.{Reply}
-use Rattle.ss_report.specs.declared.reply.Reply.TheVariants.{Done, Refused}
-use Rattle.ss_store.proofs.FoundAlike.{refuses-kept, said-kept}
-use Rattle.ss_store.specs.Recover.{Stands}
-use Rattle.ss_program.specs.Line.{Brought, History, command_brings}
-use Rattle.ss_program.specs.Amid.{StagesBrought}
-use Rattle.ss_program.specs.declared.status.Status.{Status}
-use Rattle.ss_program.specs.declared.status.Status.TheVariants.{DiskFault}
+use Rattle.ss_program.proofs.Common.{◌≡◌, ◌∙◌, ◌++◌, ◌∷◌, [], Err, Ok, Result, Some, refl, sym, ap, subst, false, IsTrue, event_name, Do, added, refuses, state}
+use Rattle.ss_program.proofs.Common.{reads-none, step-none, Step, fine, shown_by, Reply, Refused, refuses-kept, said-kept, Stands, Brought, History}
+use Rattle.ss_program.proofs.Common.{command_brings, StagesBrought, Status, DiskFault}
+use Rattle.ss_report.specs.declared.reply.Reply.TheVariants.{Done}
 use Rattle.ss_program.proofs.AnswerLemmas.{IsSome-accepted, brings-accepted, brings-refused}
 use Rattle.ss_program.proofs.StagingLemmas.{Turns-looked, Turns-staged, accepted-shown}
 use Rattle.ss_program.proofs.staging.stage.Goals as goal

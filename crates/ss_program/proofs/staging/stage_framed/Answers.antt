@@ -1,23 +1,10 @@
-use Rattle.std.proofs.Common.{◌≡◌, ◌∙◌, ◌++◌, ◌∷◌, [], true, false, None, Err, Ok, Result, sym, ap, subst, rules}
-use Rattle.std.specs.Prelude.{IsTrue}
-use Rattle.ss_command.specs.declared.command.Command.TheVariants.{Do}
-use Rattle.ss_model.specs.History.{added}
-use Rattle.ss_model.specs.Refusals.{refuses}
-use Rattle.ss_model.specs.State.{state}
-use Rattle.ss_outside.specs.Step.{Step}
-use Rattle.ss_records.specs.Kept.{shown_by}
-use Rattle.ss_report.specs.declared.reply.Reply.{Reply}
-use Rattle.ss_store.proofs.KeptStates.{AllAgree-recovered}
-use Rattle.ss_store.specs.Recover.{Stands}
-use Rattle.ss_program.specs.Amid.{StagesFramed}
-use Rattle.ss_program.specs.Line.{Brought, History, accepted_frame, command_brings, command_in, history_after}
-use Rattle.ss_program.specs.Status.{disk_verdict, ended}
-use Rattle.ss_program.specs.declared.staging.Staged.{Staged}
-use Rattle.ss_program.specs.declared.status.Status.{Status}
+use Rattle.ss_program.proofs.Common.{◌≡◌, ◌∙◌, ◌++◌, ◌∷◌, [], true, false, None, Err, Ok, Result, sym, ap, subst, rules, IsTrue, Do, added, refuses, state}
+use Rattle.ss_program.proofs.Common.{Step, shown_by, Reply, AllAgree-recovered, Stands, StagesFramed, Brought, History, accepted_frame, command_brings}
+use Rattle.ss_program.proofs.Common.{command_in, history_after, disk_verdict, ended, Staged, Status}
 use Rattle.ss_program.proofs.AnswerLemmas.{brings-accepted}
 use Rattle.ss_program.proofs.FrameLemmas.{Turns-answered, frame-done, frame-other, replies-framed, same-event}
-use Rattle.ss_program.proofs.staging.stage_framed.Goals as goal
 use Rattle.ss_program.proofs.staging.stage_framed.Goals.{in-Done, in_default, in_default-via-in-Done+else-framed, in_default-via-in_default}
+use Rattle.ss_program.proofs.staging.stage_framed.Goals as goal
 
 pub returns-in_err-reply-clause-stages : goal.returns-in_err-reply-clause-stages
 returns-in_err-reply-clause-stages g c =

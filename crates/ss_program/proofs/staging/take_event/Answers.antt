@@ -1,17 +1,5 @@
-use Rattle.std.specs.List.{flat_map}
-use Rattle.std.proofs.Common.{◌≡◌, ◌∙◌, Err, Ok, sym, ap, subst, rules}
-use Rattle.ss_command.specs.declared.command.Command.TheVariants.{Do}
-use Rattle.ss_journal.proofs.ShownLemmas.{shown-sealed}
-use Rattle.ss_model.specs.Refusals.{refuses}
-use Rattle.ss_model.specs.State.{state}
-use Rattle.ss_outside.proofs.StepLemmas.{step-as}
-use Rattle.ss_outside.specs.Step.{Step}
-use Rattle.ss_outside.specs.Verdict.{fine}
-use Rattle.ss_program.specs.Amid.{TakesBrought, TakesNone, amid, owed_by, staged_replies}
-use Rattle.ss_program.specs.declared.staging.Staged.{Staged}
-use Rattle.ss_report.specs.Text.{said_line}
-use Rattle.ss_program.specs.Line.{History, command_in}
-use Rattle.ss_program.specs.Status.{disk_verdict, ended}
+use Rattle.ss_program.proofs.Common.{flat_map, ◌≡◌, ◌∙◌, Err, Ok, sym, ap, subst, rules, Do, shown-sealed, refuses, state, step-as, Step, fine, TakesBrought}
+use Rattle.ss_program.proofs.Common.{TakesNone, amid, owed_by, staged_replies, Staged, said_line, History, command_in, disk_verdict, ended}
 use Rattle.ss_program.proofs.AmidLemmas.{owed-nothing}
 use Rattle.ss_program.proofs.AnswerLemmas.{IsStop-apply, event-some}
 use Rattle.ss_program.proofs.BroughtLemmas.{TakesBrought-halted, TakesBrought-said, TakesBrought-starved, TakesBrought-text, TakesBrought-unsealed}

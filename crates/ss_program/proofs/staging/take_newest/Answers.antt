@@ -1,9 +1,5 @@
-use Rattle.std.proofs.Common.{◌≡◌, ◌∙◌, Err, Ok, sym, subst, rules}
-use Rattle.ss_command.specs.declared.command.Command.TheVariants.{Last}
-use Rattle.ss_outside.specs.Step.{Step}
-use Rattle.ss_program.specs.Amid.{TakesBrought, amid, owed_by}
-use Rattle.ss_program.specs.Line.{History, command_brings}
-use Rattle.ss_program.specs.Status.{disk_verdict, ended}
+use Rattle.ss_program.proofs.Common.{◌≡◌, ◌∙◌, Err, Ok, sym, subst, rules, Last, Step, TakesBrought, amid, owed_by, History, command_brings, disk_verdict}
+use Rattle.ss_program.proofs.Common.{ended}
 use Rattle.ss_program.proofs.AnswerLemmas.{last-event}
 use Rattle.ss_program.proofs.BroughtLemmas.{TakesBrought-owed, TakesBrought-said, TakesBrought-stopped}
 use Rattle.ss_program.proofs.NewestLemmas.{last-some}

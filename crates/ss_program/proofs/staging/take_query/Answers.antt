@@ -1,9 +1,4 @@
-use Rattle.std.proofs.Common.{◌≡◌, ◌∙◌, Err, Ok, sym, subst, rules}
-use Rattle.ss_command.specs.declared.command.Command.TheVariants.{Ask}
-use Rattle.ss_outside.specs.Step.{Step}
-use Rattle.ss_program.specs.Amid.{TakesBrought, amid, owed_by}
-use Rattle.ss_program.specs.Line.{History, command_brings}
-use Rattle.ss_program.specs.Status.{disk_verdict, ended}
+use Rattle.ss_program.proofs.Common.{◌≡◌, ◌∙◌, Err, Ok, sym, subst, rules, Ask, Step, TakesBrought, amid, owed_by, History, command_brings, disk_verdict, ended}
 use Rattle.ss_program.proofs.AnswerLemmas.{ask-event, ask-some}
 use Rattle.ss_program.proofs.BroughtLemmas.{TakesBrought-owed, TakesBrought-said, TakesBrought-stopped}
 use Rattle.ss_program.proofs.StagingLemmas.{Stages-asked}

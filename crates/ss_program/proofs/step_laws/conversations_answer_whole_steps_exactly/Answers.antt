@@ -1,6 +1,5 @@
-use Rattle.std.proofs.Common.{◌∙◌, ap, refl}
-use Rattle.ss_command.specs.declared.command.Command.TheVariants.{Ask, Series as AskRows}
-use Rattle.ss_program.specs.Talk.{turn_brought}
+use Rattle.ss_program.proofs.Common.{◌∙◌, ap, refl, Ask, turn_brought}
+use Rattle.ss_command.specs.declared.command.Command.TheVariants.{Series as AskRows}
 use Rattle.ss_program.proofs.ConversationLemmas.{asked-plain}
 use Rattle.ss_program.proofs.WholeLemmas.{whole-line, whole-series}
 use Rattle.ss_program.proofs.step_laws.conversations_answer_whole_steps_exactly.Goals as goal

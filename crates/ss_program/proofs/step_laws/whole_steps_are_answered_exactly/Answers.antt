@@ -1,7 +1,4 @@
-use Rattle.std.proofs.Common.{◌∙◌, ◌∷◌, ap, append_assoc, map, sym}
-use Rattle.ss_catalog.specs.Series.{row_count, row_start, rows_of}
-use Rattle.ss_report.specs.declared.reply.Reply.TheVariants.{Answered, SeriesHead, Row}
-use Rattle.ss_program.specs.Session.{plain_after, replies}
+use Rattle.ss_program.proofs.Common.{◌∙◌, ◌∷◌, ap, append_assoc, map, sym, row_count, row_start, rows_of, Answered, SeriesHead, Row, plain_after, replies}
 use Rattle.ss_program.proofs.LawLemmas.{lines-leave, replies-among, replies-around}
 use Rattle.ss_program.proofs.WholeLemmas.{whole-line, whole-series}
 use Rattle.ss_program.proofs.step_laws.whole_steps_are_answered_exactly.Goals as goal

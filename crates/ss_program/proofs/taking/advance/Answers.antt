@@ -1,14 +1,8 @@
-use Rattle.std.proofs.Common.{◌≡◌, ◌++◌, Ok, Err, take, ap, sym, ◌∙◌, subst, rules}
-use Rattle.std.specs.Option.{option_copied}
-use Rattle.ss_program.specs.Reading.{TellsStep, under_way}
-use Rattle.ss_outside.proofs.StepLemmas.{step-as, step-none}
-use Rattle.ss_outside.specs.Step.{Step}
-use Rattle.ss_program.specs.Amid.{GoesAmid, TakesBytes, amid, owed_by}
-use Rattle.ss_program.specs.Status.{disk_verdict, ended}
+use Rattle.ss_program.proofs.Common.{◌≡◌, ◌++◌, Ok, Err, take, ap, sym, ◌∙◌, subst, rules, option_copied, TellsStep, under_way, step-as, step-none, Step}
+use Rattle.ss_program.proofs.Common.{GoesAmid, TakesBytes, amid, owed_by, disk_verdict, ended, kept_so_far, kept_step, steps_so_far}
 use Rattle.ss_program.proofs.AmidLemmas.{GoesAmid-none}
 use Rattle.ss_program.proofs.InputLemmas.{Stops-piece, Takes-kept, advance-told}
 use Rattle.ss_program.proofs.taking.advance.Goals as goal
-use Rattle.ss_program.specs.Steps.{kept_so_far, kept_step, steps_so_far}
 
 pub returns-in-None-clause-takes : goal.returns-in-None-clause-takes
 returns-in-None-clause-takes g c =

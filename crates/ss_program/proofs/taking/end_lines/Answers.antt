@@ -1,5 +1,4 @@
-use Rattle.ss_program.specs.Reading.{under_way}
-use Rattle.ss_outside.proofs.StepLemmas.{step-then}
+use Rattle.ss_program.proofs.Common.{under_way, step-then}
 use Rattle.ss_program.proofs.InputLemmas.{TakesLast-then}
 use Rattle.ss_program.proofs.taking.end_lines.Goals as goal
 

@@ -1,6 +1,4 @@
-use Rattle.ss_program.specs.Reading.{under_way}
-use Rattle.ss_journal.proofs.ShownLemmas.{shown-sealed}
-use Rattle.ss_outside.proofs.StepLemmas.{step-as}
+use Rattle.ss_program.proofs.Common.{under_way, shown-sealed, step-as}
 use Rattle.ss_program.proofs.InputLemmas.{EndsSession-done, EndsSession-stopped}
 use Rattle.ss_program.proofs.StopLemmas.{going-stop}
 use Rattle.ss_program.proofs.taking.finish_lines.Goals as goal

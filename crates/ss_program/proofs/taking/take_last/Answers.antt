@@ -1,12 +1,8 @@
-use Rattle.std.proofs.Common.{◌≡◌, Ok, ap, sym, ◌∙◌, subst}
-use Rattle.std.specs.Option.{option_copied}
-use Rattle.ss_program.specs.Reading.{under_way}
-use Rattle.ss_outside.proofs.StepLemmas.{step-as, step-none}
-use Rattle.ss_program.specs.Amid.{GoesAmid, TakesLast, amid, owed_by}
+use Rattle.ss_program.proofs.Common.{◌≡◌, Ok, ap, sym, ◌∙◌, subst, option_copied, under_way, step-as, step-none, GoesAmid, TakesLast, amid, owed_by}
+use Rattle.ss_program.proofs.Common.{kept_so_far, kept_step, steps, steps_so_far}
 use Rattle.ss_program.proofs.AmidLemmas.{GoesAmid-none}
 use Rattle.ss_program.proofs.InputLemmas.{Takes-kept, TakesLast-line, last-told}
 use Rattle.ss_program.proofs.taking.take_last.Goals as goal
-use Rattle.ss_program.specs.Steps.{kept_so_far, kept_step, steps, steps_so_far}
 
 pub returns-in-None-clause-takes : goal.returns-in-None-clause-takes
 returns-in-None-clause-takes g c =

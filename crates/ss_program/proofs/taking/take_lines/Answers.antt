@@ -1,15 +1,9 @@
-use Rattle.std.proofs.Common.{◌≡◌, ◌++◌, Err, take, take_all, refl, sym, subst, ◌∙◌, arith, rules}
-use Rattle.std.proofs.lemmas.List.{append-nil}
-use Rattle.ss_program.specs.Reading.{under_way}
-use Rattle.ss_outside.proofs.StepLemmas.{step-as, step-none, step-then}
-use Rattle.ss_outside.specs.Step.{Step}
-use Rattle.ss_program.specs.Amid.{GoesAmid, OfAmid, TakesBytes, amid, owed_by}
-use Rattle.ss_program.specs.Status.{disk_verdict, ended}
+use Rattle.ss_program.proofs.Common.{◌≡◌, ◌++◌, Err, take, take_all, refl, sym, subst, ◌∙◌, arith, rules, append-nil, under_way, step-as, step-none, step-then}
+use Rattle.ss_program.proofs.Common.{Step, GoesAmid, OfAmid, TakesBytes, amid, owed_by, disk_verdict, ended, kept_so_far, steps_so_far}
 use Rattle.ss_program.proofs.SendLemmas.{fits_more}
 use Rattle.ss_program.proofs.InputLemmas.{OfAmid-more, OfAmid-stops}
 use Rattle.ss_program.proofs.AmidLemmas.{GoesAmid-none}
 use Rattle.ss_program.proofs.taking.take_lines.Goals as goal
-use Rattle.ss_program.specs.Steps.{kept_so_far, steps_so_far}
 
 pub loop-done-init : goal.loop-done-init
 loop-done-init g c =

@@ -1,10 +1,6 @@
-use Rattle.std.proofs.Common.{◌≡◌, ◌-◌, ◌≤◌, ◌++◌, length, take}
-use Rattle.ss_program.specs.Reading.{under_way}
-use Rattle.ss_outside.specs.Step.{Step}
-use Rattle.ss_outside.specs.Verdict.{fine}
-use Rattle.ss_program.specs.Amid.{GoesAmid, IsReady, OfAmid, amid, owed_by}
+use Rattle.ss_program.proofs.Common.{◌≡◌, ◌-◌, ◌≤◌, ◌++◌, length, take, under_way, Step, fine, GoesAmid, IsReady, OfAmid, amid, owed_by, kept_so_far}
+use Rattle.ss_program.proofs.Common.{steps_so_far}
 use Rattle.ss_program.proofs.taking.take_lines.Given as goal
-use Rattle.ss_program.specs.Steps.{kept_so_far, steps_so_far}
 
 -- so many bytes of the piece were taken
 abbrev pub invariant-loop-done : goal.invariant-loop-done

@@ -1,11 +1,5 @@
-use Rattle.std.proofs.Common.{◌≡◌, Err, sym, subst, rules}
-use Rattle.ss_program.specs.Reading.{under_way}
-use Rattle.ss_journal.proofs.ShownLemmas.{shown-sealed}
-use Rattle.ss_outside.proofs.StepLemmas.{step-as, step-then}
-use Rattle.ss_outside.specs.Step.{Step}
-use Rattle.ss_program.specs.Progress.{TakesPiece}
-use Rattle.ss_program.specs.Amid.{amid, owed_by}
-use Rattle.ss_program.specs.Status.{disk_verdict, ended}
+use Rattle.ss_program.proofs.Common.{◌≡◌, Err, sym, subst, rules, under_way, shown-sealed, step-as, step-then, Step, TakesPiece, amid, owed_by, disk_verdict}
+use Rattle.ss_program.proofs.Common.{ended}
 use Rattle.ss_program.proofs.InputLemmas.{TakesPiece-sealed, TakesPiece-stopped, session_of}
 use Rattle.ss_program.proofs.BroughtLemmas.{shown-opened}
 use Rattle.ss_program.proofs.taking.take_piece.Goals as goal

@@ -1,7 +1,7 @@
 use Rattle.ss_command.specs.LineState.{under_way as line_under_way}
 use Rattle.ss_program.proofs.StepsLemmas.{line-short, piece-short}
-use Rattle.ss_program.proofs.step_reader.StepReader.finish.Goals as goal
 use Rattle.ss_program.proofs.step_reader.StepReader.finish.Goals.{in-Lines, in-Pieces}
+use Rattle.ss_program.proofs.step_reader.StepReader.finish.Goals as goal
 
 pub returns-clause-short : goal.returns-clause-short
 returns-clause-short c = elim c.match-self.branch [
