@@ -1,9 +1,9 @@
 -- Between two lines of a session: how it begins, how it goes on, and where a run stops.
 use Rattle.ss_program.proofs.Common.{◌≡◌, ℕ, ◌≤◌, ◌++◌, List, [], ◌∷◌, length, Option, Some, None, Result, Ok, Err, OnOk, refl, sym, ap, ◌∙◌, subst}
 use Rattle.ss_program.proofs.Common.{append_assoc, arith, append-nil, length-append, at_start, joined, of_content, weaker, KnowsNow, LeavesOnly, DiskView}
-use Rattle.ss_program.proofs.Common.{NothingPending, Told, shown_by, Cursors, StoreState, Amid, AreOwed, GoesAmid, HasRoom, IsAmid, IsAtRest, IsReady, Takes}
-use Rattle.ss_program.proofs.Common.{TakesNone, one_more, owed_by, IsOpen, NoneWait, SessionState, StandsBeyond, StandsWithin, StopsIn, sealing_by, HoldsTalk}
-use Rattle.ss_program.proofs.Common.{appended, after_lines, text_of, Talk, Sealing, Each, Shared, Status}
+use Rattle.ss_program.proofs.Common.{NothingPending, Told, shown_by, Cursors, Amid, AreOwed, GoesAmid, HasRoom, IsAmid, IsAtRest, Takes, TakesNone, one_more}
+use Rattle.ss_program.proofs.Common.{owed_by, IsOpen, NoneWait, SessionState, StandsBeyond, StandsWithin, StopsIn, sealing_by, HoldsTalk, appended, after_lines}
+use Rattle.ss_program.proofs.Common.{text_of, Talk, Sealing, Each, Shared, Status}
 use Rattle.ss_program.proofs.SessionLemmas.{after_lines-append, moments-more, text_of-append}
 
 -- where none wait, no line is owed anything; which tells how events come to the disk
@@ -31,11 +31,6 @@ AreOwed-more Each None ls line few = few
 AreOwed-more Each (Some n) ls line few = omega (arith, few, length-append ls (line ∷ []))
 AreOwed-more Shared None ls line few = tt
 AreOwed-more Shared (Some n) ls line few = few
-
--- a store that can be called, with nothing staged and nothing that waits
-pub IsReady-open : (disk : DiskView) (store : StoreState) (waiting : Option (List ℕ)) → IsOpen disk store → IsReady disk store waiting
-IsReady-open disk store None opens = record { serves = opens.serves; staged = opens.sealed }
-IsReady-open disk store (Some replies) opens = record { serves = opens.serves; staged = tt }
 
 -- a session whose store can be called, with nothing staged, and in which no reply waits is at rest
 pub IsAtRest-ok : (result : Result (Unit {0}) Status) (disk : DiskView) (session : SessionState) → OnOk result (IsOpen disk session.store) →

@@ -8,10 +8,9 @@ use Rattle.ss_program.proofs.Common.{Answered, Refused, WindowsHead, reads-none,
 use Rattle.ss_program.proofs.Common.{shown_by, refuses_query_held, KeepsWithin, StandsForEither, Turns, StoreIsIn, StoreIsKept, StoreState, Stands, ApplyError}
 use Rattle.ss_program.proofs.Common.{refuses_query_held-is, Turns-answers, Turns-failed, Turns-reads, Turns-weaker, KeepsWithin-answers, KeepsWithin-failed}
 use Rattle.ss_program.proofs.Common.{KeepsWithin-reads, AllAgree-recovered, Adds, IsOpen, Replies, at_sink, accepted_in, command_in, framed_replies}
-use Rattle.ss_program.proofs.Common.{answer_replies, brings, brings_in, Brought, command_brings, History, history_after, kept_in, line_text, meaning_in}
-use Rattle.ss_program.proofs.Common.{only_replies, refused, text_said, the_event, unless_refused, window_rows, appended, AppendsLess, Sends, StandsAround}
-use Rattle.ss_program.proofs.Common.{IsApplyStop, IsDiskStop, IsShowStop, IsStop, Status, Done, Usage, RefusedStore, DiskFault, SourceFault, SinkFault}
-use Rattle.ss_program.proofs.Common.{OutOfMemory, InputLimit, RecordChanged}
+use Rattle.ss_program.proofs.Common.{answer_replies, brings_in, Brought, command_brings, History, history_after, kept_in, meaning_in, only_replies, refused}
+use Rattle.ss_program.proofs.Common.{text_said, the_event, unless_refused, window_rows, appended, AppendsLess, Sends, StandsAround, IsApplyStop, IsShowStop}
+use Rattle.ss_program.proofs.Common.{IsStop, Status, Done, Usage, RefusedStore, DiskFault, SourceFault, SinkFault, OutOfMemory, InputLimit, RecordChanged}
 use Rattle.ss_command.specs.Grammar.{meaning}
 use Rattle.ss_command.specs.declared.command.Command.TheVariants.{Series as AskRows, List as ListAll}
 use Rattle.ss_model.specs.Refusals.{refuses_reading}
@@ -145,17 +144,6 @@ pub Sends-at_sink : (before after : Option (List ℕ)) (text : List ℕ) (sent :
 Sends-at_sink before after text (Ok u) sends = sends
 Sends-at_sink before after text (Err e) sends = sends
 
-pub IsShowStop-disk : (tells : Bool) (status : Status) → IsDiskStop tells status → IsShowStop tells status
-IsShowStop-disk tells DiskFault stop = tt
-IsShowStop-disk tells RecordChanged stop = stop
-IsShowStop-disk tells Done stop = absurd stop
-IsShowStop-disk tells Usage stop = absurd stop
-IsShowStop-disk tells RefusedStore stop = absurd stop
-IsShowStop-disk tells SourceFault stop = absurd stop
-IsShowStop-disk tells SinkFault stop = absurd stop
-IsShowStop-disk tells OutOfMemory stop = absurd stop
-IsShowStop-disk tells InputLimit stop = absurd stop
-
 pub IsStop-show : (tells : Bool) (status : Status) → IsShowStop tells status → IsStop tells status
 IsStop-show tells DiskFault stop = tt
 IsStop-show tells RecordChanged stop = stop
@@ -252,9 +240,6 @@ module _ (speaker : Option ℕ) where
   meaning-some framed history (Ok (Some (Values name from to))) some = let none = values-event history name from to in cc
   meaning-some framed history (Ok (Some (Windows name))) some = let none = windows-event history name in cc
   meaning-some framed history (Ok (Some ListAll)) some = cc
-
-pub text-some : (history : History) (line : List ℕ) → IsSome (brings history line).event → 0 < length (line_text history line)
-text-some history line some = meaning-some None false history (meaning line) some
 
 -- what a call answers
 abbrev answered : {T : Type 0} → T → Result T Status

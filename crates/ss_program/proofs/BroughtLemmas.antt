@@ -19,9 +19,6 @@ given value = Ok value
 abbrev pub halted : {T : Type 0} → Status → Result T Status
 halted status = Err status
 
-abbrev the_reply : Reply → Result Reply Status
-the_reply reply = Ok reply
-
 abbrev the_answer : Unit {0} → Result (Unit {0}) Status
 the_answer u = Ok u
 

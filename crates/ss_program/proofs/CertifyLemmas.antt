@@ -1,14 +1,13 @@
 -- What a certificate brings, and that the evidence that is made for it is right.
 use Rattle.ss_program.proofs.Common.{◌≡◌, ℕ, ◌<◌, true, false, ◌↔◌, List, [], ◌∷◌, length, Ok, Option, Some, None, IsTrue, refl, sym, ap, ◌∙◌, subst, arith}
-use Rattle.ss_program.proofs.Common.{inl, inr, cases_Bool, length-append, flat_map, get_or, is_some, option_map, pos, adds_up, End, Query, Refusal, All-named}
-use Rattle.ss_program.proofs.Common.{HasCuts-seen_of, ChecksEvidence, evidence_in, IsEvidence, evidence_of, head_of, three_runs, side_of, told, Evidence}
-use Rattle.ss_program.proofs.Common.{Certify, stands, Stream, state, stream_named, shown-sealed, IsSealed, DiskView, OfContent, Told, seen_of, RecordsState}
-use Rattle.ss_program.proofs.Common.{shown_by, said_line, Reply, StoreState, Recovers, Recovers-StoreIsIn, IsOpen, HasEvidence, Brought, History, certified}
-use Rattle.ss_program.proofs.Common.{command_brings, refused, only_replies, text_said, unless_refused}
+use Rattle.ss_program.proofs.Common.{inl, inr, cases_Bool, length-append, flat_map, is_some, option_map, adds_up, End, Query, Refusal, All-named}
+use Rattle.ss_program.proofs.Common.{HasCuts-seen_of, ChecksEvidence, evidence_in, IsEvidence, evidence_of, head_of, side_of, told, Evidence, Certify, stands}
+use Rattle.ss_program.proofs.Common.{Stream, state, stream_named, shown-sealed, IsSealed, DiskView, OfContent, Told, seen_of, RecordsState, shown_by, said_line}
+use Rattle.ss_program.proofs.Common.{Reply, StoreState, Recovers, Recovers-StoreIsIn, IsOpen, HasEvidence, Brought, History, certified, command_brings, refused}
+use Rattle.ss_program.proofs.Common.{only_replies, text_said, unless_refused}
 use Rattle.ss_certify.proofs.MadeLemmas.{IsEvidence-evidence_of}
 use Rattle.ss_model.specs.Answers.{refuses_query}
 use Rattle.ss_model.specs.Standing.{IsState, IsStream}
-use Rattle.ss_model.specs.declared.types.Run.{Run}
 use Rattle.ss_program.proofs.AnswerLemmas.{StoreIsIn-open}
 use Rattle.ss_program.proofs.TextLemmas.{said_line-some}
 
@@ -98,11 +97,3 @@ module _ (speaker : Option ℕ) where
       (head-some (head_of known.0) (flat_map (λ c. side_of c true ∷ side_of c false ∷ []) known.0.certs.items))
 
 -- ---- its lines
-
--- three runs, one by one
-pub three-three_runs : (runs : List Run) (none : Run) → none ≡ record { value = pos 0; times = 0 } →
-    get_or runs 0 none ∷ get_or runs 1 none ∷ get_or runs 2 none ∷ [] ≡ three_runs runs
-three-three_runs [] none is = rw is refl
-three-three_runs (a ∷ []) none is = rw is refl
-three-three_runs (a ∷ b ∷ []) none is = rw is refl
-three-three_runs (a ∷ b ∷ c ∷ rest) none is = refl

@@ -13,8 +13,8 @@ pub use Rattle.std.proofs.lemmas.Result.{on_ok_weaker}
 pub use Rattle.std.specs.Int.{cast_unsigned, w64}
 pub use Rattle.std.specs.List.{last_or, slice_get, list_any}
 pub use Rattle.std.specs.Option.{option_copied}
-pub use Rattle.std.specs.Prelude.{flat_map, fold, is_some, nat_lt, option_map, ◌+ℤ◌, All, filter, find, nat_le, IsErr, replicate, get_or, negsuc, max}
-pub use Rattle.std.specs.Prelude.{slice_set, count_by, ⊤, ◌==◌, ◌≤ℤ◌, int_le, sum_by}
+pub use Rattle.std.specs.Prelude.{flat_map, fold, is_some, nat_lt, option_map, ◌+ℤ◌, All, filter, find, nat_le, IsErr, replicate, negsuc, max, slice_set}
+pub use Rattle.std.specs.Prelude.{count_by, ⊤, ◌==◌, ◌≤ℤ◌, int_le, sum_by}
 pub use Rattle.ss_arguments.specs.Modes.{mode_of, words_of}
 pub use Rattle.ss_arguments.specs.declared.mode.Form.{Form}
 pub use Rattle.ss_arguments.specs.declared.mode.Form.TheVariants.{Lines, Sessions, Frames, Follow}
@@ -42,7 +42,7 @@ pub use Rattle.ss_certify.proofs.SharpLemmas.{All-named, HasCuts-seen_of, MayBeT
 pub use Rattle.ss_certify.specs.Called.{evidence_in, ChecksEvidence}
 pub use Rattle.ss_certify.specs.Evidence.{base_of, parts_of, IsEvidence, end_asked}
 pub use Rattle.ss_certify.specs.Made.{certificate_of, evidence_of}
-pub use Rattle.ss_certify.specs.Told.{head_of, three_runs, side_of, told}
+pub use Rattle.ss_certify.specs.Told.{head_of, side_of, told}
 pub use Rattle.ss_certify.specs.declared.evidence.Evidence.{Evidence}
 pub use Rattle.ss_command.proofs.SayLemmas.{meant-sayable}
 pub use Rattle.ss_command.specs.Grammar.{meaning, ◌>>=◌, name_of, is_comment}

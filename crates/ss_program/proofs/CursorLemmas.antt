@@ -213,18 +213,10 @@ module _ (cursors : Cursors) (session : ℕ) (rows : List Placed) (has : cursor_
 
 -- ---- what showing the next rows brings
 
-pub no-cursor : (o : Option (List Placed)) → None ≡ option_map (λ (rows : List Placed). length rows) o → o ≡ None
-no-cursor None is = refl
-no-cursor (Some rows) is = cc
-
 pub a-cursor : (o : Option (List Placed)) (left : ℕ) → Some left ≡ option_map (λ (rows : List Placed). length rows) o →
     (rows : List Placed) × (o ≡ Some rows) × (left ≡ length rows)
 a-cursor None left is = cc
 a-cursor (Some rows) left is = (rows, refl, cc)
-
-pub next-refused : (cursors : Cursors) (session count : ℕ) → cursor_of cursors session ≡ None →
-    next_brings cursors session count ≡ leaves_cursors cursors (refused refusals.NoCursor)
-next-refused cursors session count none = ap (λ o. showing cursors session count o) none
 
 pub next-shown : (cursors : Cursors) (session count : ℕ) (rows : List Placed) → cursor_of cursors session ≡ Some rows →
     next_brings cursors session count ≡ showing cursors session count (Some rows)

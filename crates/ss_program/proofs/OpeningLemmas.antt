@@ -4,8 +4,7 @@ use Rattle.ss_program.proofs.Common.{LeavesOnly, Told, Stream, state, OpensAs, R
 use Rattle.ss_program.proofs.Common.{recovers, SurveysAs, survey_of, OpenError, Survey, Reads, Serves, StandsWithin, HoldsTalk, AsRefused, status_of_open, Talk}
 use Rattle.ss_program.proofs.Common.{Sealing, Status, Done, DiskFault, SourceFault, SinkFault, OutOfMemory, InputLimit, steps}
 use Rattle.ss_program.proofs.HoldsLemmas.{HoldsReported-done}
-use Rattle.ss_program.proofs.ReadLemmas.{AreRead-none}
-use Rattle.ss_program.proofs.ReadLemmas.{Reads-stop}
+use Rattle.ss_program.proofs.ReadLemmas.{AreRead-none, Reads-stop}
 use Rattle.ss_program.proofs.SendLemmas.{appended-nil}
 use Rattle.ss_store.specs.declared.error.OpenError.TheVariants as opening
 

@@ -5,8 +5,7 @@ use Rattle.ss_program.proofs.Common.{RecordsState, shown_by, Stands, StandsShort
 use Rattle.ss_program.proofs.Common.{History, text_said, the_event, HoldsTalk, NoneWait, StandsWithin, StopsIn, appended, AppendsLess, Sends, StopsSaying}
 use Rattle.ss_program.proofs.Common.{after_line, after_lines, text_of, Talk, Turn, after_turn, turn_brought, turn_of, Failed, Cursors, Sealing, Status, Done}
 use Rattle.ss_program.proofs.Common.{Usage, RefusedStore, DiskFault, SourceFault, SinkFault, OutOfMemory, InputLimit, RecordChanged}
-use Rattle.ss_program.proofs.AmidLemmas.{AreOwed-none, GoesAmid-none, IsAmid-begin, StandsBeyond-all}
-use Rattle.ss_program.proofs.AmidLemmas.{owed-nothing, said-all, sealing-owed}
+use Rattle.ss_program.proofs.AmidLemmas.{AreOwed-none, GoesAmid-none, IsAmid-begin, StandsBeyond-all, owed-nothing, said-all, sealing-owed}
 use Rattle.ss_program.proofs.LeftLemmas.{Adds-left, Adds-moments}
 use Rattle.ss_program.proofs.SendLemmas.{appended-appended}
 use Rattle.ss_program.proofs.SessionLemmas.{StandsWithin-after, StandsWithin-before, after_lines-push, text_of-one, text_of-push}

@@ -3,8 +3,8 @@ use Rattle.ss_program.proofs.Common.{◌≡◌, ℕ, suc, ◌+◌, ◌-◌, ◌<
 use Rattle.ss_program.proofs.Common.{IfSome, Ok, Err, Result, sym, ap, ◌∙◌, subst, arith, inl, inr, drop-cons, flat_map-append, append-nil, length-append}
 use Rattle.ss_program.proofs.Common.{length-map, take-append-drop, take-append-le, take_more, get_or_from_slice_get, slice_get-map, slice_get_cases}
 use Rattle.ss_program.proofs.Common.{slice_get_within, flat_map, slice_get, option_map, IsErr, Windows, StandsIn, index_of, place_at, placed_of, Placed, Stream}
-use Rattle.ss_program.proofs.Common.{state, stream_named, said_line, Reply, Refused, WindowsHead, Window, ListHead, Brought, History, command_brings}
-use Rattle.ss_program.proofs.Common.{stream_rows, text_said, window_rows, appended, AppendsLess, Sends, Failed}
+use Rattle.ss_program.proofs.Common.{state, stream_named, said_line, Reply, Refused, WindowsHead, Window, ListHead, History, command_brings, stream_rows}
+use Rattle.ss_program.proofs.Common.{text_said, window_rows, appended, AppendsLess, Sends, Failed}
 use Rattle.ss_command.specs.declared.command.Command.TheVariants.{List as ListAll}
 use Rattle.ss_line.specs.declared.entry.At.{At}
 use Rattle.ss_line.specs.declared.entry.Entry.{Entry}
@@ -19,11 +19,6 @@ module _ (speaker : Option ℕ) where
       sent →
       Sends before after (flat_map (said_line speaker) (reply ∷ [])) sent
   Sends-one before after reply sent sends = subst (λ bs. Sends before after bs sent) (sym (append-nil (said_line speaker reply))) sends
-
-  pub Sends-only : (before after : Option (List ℕ)) (brought : Brought) {E : Type 0} (reply : Reply) (sent : Result (Unit {0}) E) →
-      brought.replies ≡ reply ∷ [] → Sends before after (said_line speaker reply) sent → Sends before after (text_said speaker brought) sent
-  Sends-only before after brought reply sent one sends =
-      subst (λ rs. Sends before after (flat_map (said_line speaker) rs) sent) (sym one) (Sends-one before after reply sent sends)
 
   -- a head was sent, and then its rows
   pub Sends-head : (before held after : Option (List ℕ)) (head : Reply) (rows : List Reply) {E : Type 0} (sent : Result (Unit {0}) E) →
@@ -134,11 +129,6 @@ module _ (speaker : Option ℕ) where
       (Sends-head speaker before held after (WindowsHead (length s.windows)) (window_rows s) sent
       (subst (λ n. held ≡ appended before (said_line speaker (WindowsHead n))) all first) rows)
 
--- a fact of a stream that stands, from another
-pub IfSome-more : {A : Type 0} (P Q : A → Type 0) (o : Option A) → ((a : A) → P a → Q a) → IfSome o P → IfSome o Q
-IfSome-more P Q None more holds = tt
-IfSome-more P Q (Some a) more holds = more a holds
-
 -- how many windows of a stream were sent, where this one is next
 abbrev pub rows_done : List (At × Entry) → Option At → ℕ
 rows_done entries None = length entries
@@ -175,13 +165,6 @@ pub rows-after : {P : Type 0} (part : Option P) (entries_of : P → List (At × 
 rows-after None entries_of at next stands is index = tt
 rows-after (Some p) entries_of at next stands is index =
     rows_at (entries_of p) (index_of (entries_of p) at + 1) next (omega (arith, stands)) is index
-
--- fewer are left after each
-pub rows-fewer : {P : Type 0} (part : Option P) (entries_of : P → List (At × Entry)) (at : At) (next : Option At) → IsSome part →
-    IfSome part (λ p. StandsIn (entries_of p) at) → IfSome part (λ p. rows_done (entries_of p) next ≡ index_of (entries_of p) at + 1) →
-    rows_left (option_map entries_of part) next < rows_left (option_map entries_of part) (Some at)
-rows-fewer None entries_of at next some stands is = cc
-rows-fewer (Some p) entries_of at next some stands is = omega (arith, stands, is)
 
 module _ (speaker : Option ℕ) where
   -- none was sent yet

@@ -54,13 +54,6 @@ AppendsFront-longer before after a b part = (
   part.1 ∙ ap (λ bs. appended before bs) (take-min part.0 a ∙ sym (take-append-le (min part.0 (length a)) a b (omega arith))),
 )
 
--- a front of what comes after is a front of the whole
-pub AppendsFront-after : (before after : Option (List ℕ)) (a b : List ℕ) → AppendsFront (appended before a) after b → AppendsFront before after (a ++ b)
-AppendsFront-after before after a b part = (
-  length a + part.0,
-  part.1 ∙ appended-appended before a (take part.0 b) ∙ ap (λ bs. appended before bs) (sym (take-append-add a b part.0)),
-)
-
 -- what sending a line leaves, whatever it answers
 pub SaysLine-sent : (before after : Option (List ℕ)) (line : List ℕ) (had has : ℕ) (result : Result (Unit {0}) Failed) →
     Puts line before had after has result → SaysLine line before after had has

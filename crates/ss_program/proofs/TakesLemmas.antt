@@ -6,8 +6,7 @@ use Rattle.ss_program.proofs.Common.{TakesLine, at_sink, Devices, over, Brought,
 use Rattle.ss_program.proofs.Common.{IsApplyStop, IsDiskStop, IsShowStop, IsStop, disk_verdict, ended, sink_verdict, Status, Done, Usage, RefusedStore}
 use Rattle.ss_program.proofs.Common.{DiskFault, SourceFault, SinkFault, OutOfMemory, InputLimit, RecordChanged}
 use Rattle.ss_program.proofs.AnswerLemmas.{Adds-answers, Adds-failed, Adds-reads, Stands-only_replies, IsStop-apply, IsStop-show, Replies-sent}
-use Rattle.ss_program.proofs.AnswerLemmas.{Replies-only_replies, Replies-stopped}
-use Rattle.ss_program.proofs.AnswerLemmas.{event-some}
+use Rattle.ss_program.proofs.AnswerLemmas.{Replies-only_replies, Replies-stopped, event-some}
 
 -- the disk was only read, and then a text was sent
 pub Shows-sent : (text : History → List ℕ → Type 0) (old new : DiskView) (store : StoreState) (before after : Option (List ℕ)) (had has : ℕ)

@@ -5,8 +5,7 @@ use Rattle.ss_program.proofs.Common.{Reply, Answered, Refused, SeriesHead, Row, 
 use Rattle.ss_program.proofs.Common.{Closed, Framed}
 use Rattle.std.specs.Fmt.{decimal, signed_decimal}
 use Rattle.ss_catalog.specs.Refusal.{refusal_name}
-use Rattle.ss_report.specs.declared.reply.Reply.TheVariants.{Done as AckLine}
-use Rattle.ss_report.specs.declared.reply.Reply.TheVariants.{Stream as StreamRow, Last, Value, Old, Gap}
+use Rattle.ss_report.specs.declared.reply.Reply.TheVariants.{Done as AckLine, Stream as StreamRow, Last, Value, Old, Gap}
 
 -- a line of words isn't empty
 spaced_line-some : (first : List ℕ) (rest : List (List ℕ)) → 0 < length (spaced_line first rest)

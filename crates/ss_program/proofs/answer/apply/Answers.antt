@@ -6,8 +6,7 @@ use Rattle.ss_program.proofs.Common.{Brought, History, command_brings, history_a
 use Rattle.ss_report.specs.declared.reply.Reply.TheVariants.{Done}
 use Rattle.ss_store.specs.Extents.{records_in}
 use Rattle.ss_program.proofs.AnswerLemmas.{Adds-applied, Adds-none, IsSome-accepted, Stands-only_replies, StoreIsIn-open, StoreIsIn-sealed, brings-accepted}
-use Rattle.ss_program.proofs.AnswerLemmas.{brings-refused}
-use Rattle.ss_program.proofs.AnswerLemmas.{not_refused}
+use Rattle.ss_program.proofs.AnswerLemmas.{brings-refused, not_refused}
 use Rattle.ss_store.specs.declared.error.ApplyError.TheVariants as errors
 use Rattle.ss_program.proofs.answer.apply.Goals as goal
 
