@@ -77,7 +77,7 @@ unrefused-cursor streams name cursor result why other =
     reasons-none (stands name streams) (is_some cursor) (λ is. other Unknown ((why Unknown).1 is)) (λ is. other Busy ((why Busy).1 is))
 
 -- one that isn't refused is over a stream that stands
-cursor-stands : (streams : List Stream) (name : List ℕ) (cursor : Option (List Placed)) → refuses_cursor streams name cursor ≡ None →
+pub cursor-stands : (streams : List Stream) (name : List ℕ) (cursor : Option (List Placed)) → refuses_cursor streams name cursor ≡ None →
     (s : Stream) × (stream_named name streams ≡ Some s)
 unfolding refuses_cursor
 cursor-stands streams name cursor none = reasons-stands (stream_named name streams) (is_some cursor) none

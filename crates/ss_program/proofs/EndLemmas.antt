@@ -20,35 +20,18 @@ not-refused content streams is some = unrefused (recover content) streams is som
 pub judged-refused : (content : List ℕ) → IsRefusedContent content → (streams : List Stream) → Recovers streams content → ⊥
 judged-refused content some streams is = not-refused content streams is some
 
+refused-refuses : (before after : Option (List ℕ)) (old new : Told) → OnlyReads old new → Refuses before after RefusedStore old new
+refused-refuses before after old new reads = record { how = inl refl; unwritten = reads; silent = λ other. absurd (other refl) }
+
 -- Opening, or surveying, answered an error, of which nothing or a line was said.
 open-refuses : (error : OpenError) (old new : Told) (before after : Option (List ℕ)) (had has : ℕ) → OpensAs old.content (Err error) →
     OnlyReads old new → AsRefused error before after had has → Refuses before after (status_of_open error) old new
 open-refuses opening.Disk old new before after had has opens reads said = record { how = inr (inl refl); unwritten = reads; silent = λ _. said.0 }
 open-refuses opening.OutOfMemory old new before after had has opens reads said = record { how = inr (inr refl); unwritten = reads; silent = λ _. said.0 }
-open-refuses opening.NotAStore old new before after had has opens reads said = record {
-  how = inl refl;
-  unwritten = reads;
-  silent = λ other. absurd
-      (other refl);
-}
-open-refuses (opening.BadEntry n) old new before after had has opens reads said = record {
-  how = inl refl;
-  unwritten = reads;
-  silent = λ other. absurd
-      (other refl);
-}
-open-refuses (opening.BadSlot n) old new before after had has opens reads said = record {
-  how = inl refl;
-  unwritten = reads;
-  silent = λ other. absurd
-      (other refl);
-}
-open-refuses (opening.BadStream id) old new before after had has opens reads said = record {
-  how = inl refl;
-  unwritten = reads;
-  silent = λ other. absurd
-      (other refl);
-}
+open-refuses opening.NotAStore old new before after had has opens reads said = refused-refuses before after old new reads
+open-refuses (opening.BadEntry n) old new before after had has opens reads said = refused-refuses before after old new reads
+open-refuses (opening.BadSlot n) old new before after had has opens reads said = refused-refuses before after old new reads
+open-refuses (opening.BadStream id) old new before after had has opens reads said = refused-refuses before after old new reads
 open-refuses (opening.Changed slot) old new before after had has opens reads said = absurd opens
 
 Ends-refused : (error : OpenError) (found : Recovered) (line : List ℕ) → refusal_line found ≡ Some line → (old new : DiskView) (before after : Option (List ℕ)) (had has : ℕ) → new.tells ≡ old.tells →

@@ -16,7 +16,7 @@ use Rattle.ss_report.specs.declared.reply.Reply.TheVariants.{Window as WindowRow
 use Rattle.ss_sessions.proofs.CursorLemmas.{cursor_of-with_cursor}
 use Rattle.ss_sessions.specs.Cursors.{refuses_cursor}
 use Rattle.ss_sessions.specs.declared.TheConstants.{ADDRESS, SESSIONS}
-use Rattle.ss_program.proofs.CursorLemmas.{cursor_of-with, next-shown}
+use Rattle.ss_program.proofs.CursorLemmas.{cursor-stands, cursor_of-with, next-shown}
 use Rattle.ss_program.proofs.SessionLemmas.{after_lines-form}
 use Rattle.ss_sessions.specs.declared.order.Order.TheVariants as orders
 
@@ -261,24 +261,13 @@ next-rows cursors session count rows has =
     ap (λ (o : Ordered). o.brought) (next-shown cursors session count rows has)
     ∙ ap (λ n. only_replies (Rows n ∷ placed_rows (take count rows))) (sym (length-map (take count rows) (λ p. WindowRow p)))
 
--- one that isn't refused is over a stream that stands
-stream-stands : (o : Option Stream) (cursor : Option (List Placed)) → first_that_applies (cursor_refusals (is_some o) cursor) ≡ None →
-    (s : Stream) × (o ≡ Some s)
-stream-stands None cursor none = cc
-stream-stands (Some s) cursor none = (s, refl)
-
-unrefused-stands : (streams : List Stream) (name : List ℕ) (cursor : Option (List Placed)) → refuses_cursor streams name cursor ≡ None →
-    (s : Stream) × (stream_named name streams ≡ Some s)
-unfolding refuses_cursor
-unrefused-stands streams name cursor none = stream-stands (stream_named name streams) cursor none
-
 -- the stream of a cursor that is opened
 opened-over : (history : History) (cursors : Cursors) (session : ℕ) (name : List ℕ) → session < length cursors →
     refuses_cursor (state history) name (cursor_of cursors session) ≡ None →
     (s : Stream) × (stream_named name (state history) ≡ Some s)
     × (cursor_of (open_brings history cursors session name).cursors session ≡ Some (cursor_rows s))
 opened-over history cursors session name inside none =
-    let s = unrefused-stands (state history) name (cursor_of cursors session) none in (
+    let s = cursor-stands (state history) name (cursor_of cursors session) none in (
       s.0,
       s.1,
       ap (λ r. cursor_of (unless_unopened r cursors (opening cursors session (stream_named name (state history)))).cursors session) none
@@ -292,7 +281,7 @@ pub cursor-opens : (framed : Bool) (talk : Talk) (line name : List ℕ) (session
     (s : Stream) × (stream_named name (state talk.history) ≡ Some s)
     × ((turn_of talk line).says ≡ text_said (Some session) (only_replies (Cursor (length s.windows) ∷ [])))
 cursor-opens framed talk line name session form opens none =
-    let s = unrefused-stands (state talk.history) name (cursor_of talk.cursors session) none in (
+    let s = cursor-stands (state talk.history) name (cursor_of talk.cursors session) none in (
       s.0,
       s.1,
       ap (λ (t : Turn). t.says) (turn-heard framed talk line (To session (Ok (Some (orders.Open name)))) form opens)

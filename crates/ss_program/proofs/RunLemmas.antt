@@ -3,8 +3,8 @@ use Rattle.ss_program.proofs.Common.{◌≡◌, ◌⊎◌, inl, inr, take_all, l
 use Rattle.ss_program.proofs.Common.{Option, Some, refl, sym, ap, ◌∙◌, subst, arith, take-add, append-nil, drop-drop, take-append-drop, joined, of_content}
 use Rattle.ss_program.proofs.Common.{KnowsNow, LeavesOnly, Told, Stands, Reports, Serves, Stopped, Took, steps_within, EndsWell, GoesOn, HoldsTalk, HasReplied}
 use Rattle.ss_program.proofs.Common.{HasTaken, SessionState, StandsWithin, StopsIn, appended, AppendsFront, after_lines, report, report_so_far, text_of, IsStop}
-use Rattle.ss_program.proofs.Common.{Talk, LONGEST_INPUT, Sealing, Status, Done, Usage, RefusedStore, DiskFault, SourceFault, SinkFault, OutOfMemory}
-use Rattle.ss_program.proofs.Common.{InputLimit, RecordChanged, steps, steps_so_far}
+use Rattle.ss_program.proofs.Common.{Talk, LONGEST_INPUT, Sealing, Status, Done, DiskFault, SourceFault, SinkFault, OutOfMemory, InputLimit, steps}
+use Rattle.ss_program.proofs.Common.{steps_so_far}
 use Rattle.ss_program.proofs.SendLemmas.{AppendsFront-all}
 use Rattle.ss_program.proofs.SessionLemmas.{StopsAmong-front, StopsAmong-more, StopsIn-more, after_lines-accepted, front-report, moments-more}
 use Rattle.ss_program.proofs.TakeLemmas.{GoesOn-start, GoesOn-then, StopsIn-then}
@@ -130,39 +130,19 @@ Stopped-as sealing talk input left before after old new status has = (has.taken,
 Reports-stop : (sealing : Sealing) (talk : Talk) (input : List ℕ) (left before after : Option (List ℕ)) (old new : Told) (status : Status) →
     AppendsFront before after (report talk input) → HasStopped sealing talk input left before after old new status → IsStop true status →
     Reports sealing talk input left before after new status
-Reports-stop sealing talk input left before after old new DiskFault front has stop = record {
-  front = front;
-  whole = λ is. cc;
-  broken = λ is. inr (Stopped-as sealing talk input left before after old new DiskFault has);
-  faulted = λ is. cc;
-  cut = λ is. cc;
-  starved = λ is. cc;
-  limited = λ is. cc;
-}
-Reports-stop sealing talk input left before after old new SinkFault front has stop = record {
-  front = front;
-  whole = λ is. cc;
-  broken = λ is. cc;
-  faulted = λ is. cc;
-  cut = λ is. Stopped-as sealing talk input left before after old new SinkFault has;
-  starved = λ is. cc;
-  limited = λ is. cc;
-}
-Reports-stop sealing talk input left before after old new OutOfMemory front has stop = record {
-  front = front;
-  whole = λ is. cc;
-  broken = λ is. cc;
-  faulted = λ is. cc;
-  cut = λ is. cc;
-  starved = λ is. inr (Stopped-as sealing talk input left before after old new OutOfMemory has);
-  limited = λ is. cc;
-}
-Reports-stop sealing talk input left before after old new RecordChanged front has stop = absurd (stop refl)
-Reports-stop sealing talk input left before after old new Done front has stop = absurd stop
-Reports-stop sealing talk input left before after old new Usage front has stop = absurd stop
-Reports-stop sealing talk input left before after old new RefusedStore front has stop = absurd stop
-Reports-stop sealing talk input left before after old new SourceFault front has stop = absurd stop
-Reports-stop sealing talk input left before after old new InputLimit front has stop = absurd stop
+Reports-stop sealing talk input left before after old new status front has stop =
+    let other = stop-other true status stop in
+    let at = λ (s : Status) (is : status ≡ s). subst (λ x. Stopped sealing talk input left before after new x) is
+    (Stopped-as sealing talk input left before after old new status has) in
+    record {
+      front = front;
+      whole = λ is. absurd (other.0 is);
+      broken = λ is. inr (at DiskFault is);
+      faulted = λ is. absurd (other.2 is);
+      cut = λ is. at SinkFault is;
+      starved = λ is. inr (at OutOfMemory is);
+      limited = λ is. absurd (other.1 is);
+    }
 
 pub Serves-stop : (sealing : Sealing) (talk : Talk) (input : List ℕ) (left before after : Option (List ℕ)) (old new : Told) (tells : Bool)
     (status : Status) → IsTrue tells → IsStop tells status → HasStopped sealing talk input left before after old new status →

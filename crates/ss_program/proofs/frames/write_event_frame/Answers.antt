@@ -6,7 +6,7 @@ use Rattle.ss_program.proofs.AnswerLemmas.{IsStop-apply, IsStop-show}
 use Rattle.ss_program.proofs.BroughtLemmas.{TakesTurn-owed, TakesTurn-said, TakesTurn-silent, TakesTurn-starved, TakesTurn-stopped, TakesTurn-unsealed}
 use Rattle.ss_program.proofs.FrameLemmas.{Turns-answered, done-framed, drop-silent, refused-silent, same-written, says-frame, written-wants}
 use Rattle.ss_program.proofs.StepLemmas.{step-told}
-use Rattle.ss_program.proofs.StopLemmas.{counted-apply}
+use Rattle.ss_program.proofs.TakesLemmas.{apply-counted}
 use Rattle.ss_program.proofs.frames.write_event_frame.Goals as goal
 
 -- what stops the run where something is said stops it where an event is done
@@ -192,5 +192,5 @@ returns-in_default-status g c =
       };
       ready = tt;
       status = IsStop-apply old.tells status c.in-Err.ensures.status;
-      counted = counted-apply old.tells (g.K.Sink.faults c.args.sink.now) status c.in-Err.ensures.status;
+      counted = apply-counted old.tells (g.K.Sink.faults c.args.sink.now) status c.in-Err.ensures.status;
     }

@@ -5,7 +5,7 @@ use Rattle.ss_program.proofs.AnswerLemmas.{IsStop-apply}
 use Rattle.ss_program.proofs.BroughtLemmas.{TakesTurn-said, TakesTurn-unsealed}
 use Rattle.ss_program.proofs.OrderLemmas.{TakesOpened, TakesOpened-starved, TakesOpened-stopped}
 use Rattle.ss_program.proofs.StepLemmas.{step-told}
-use Rattle.ss_program.proofs.StopLemmas.{counted-apply}
+use Rattle.ss_program.proofs.TakesLemmas.{apply-counted}
 use Rattle.ss_program.proofs.spoken.take_open.Goals as goal
 
 pub returns-in-Ok-clause-takes : goal.returns-in-Ok-clause-takes
@@ -91,5 +91,5 @@ returns-in_default g c =
       };
       ready = tt;
       status = IsStop-apply old.tells status c.in-Err.ensures.status;
-      counted = counted-apply old.tells (g.K.Sink.faults c.args.sink.now) status c.in-Err.ensures.status;
+      counted = apply-counted old.tells (g.K.Sink.faults c.args.sink.now) status c.in-Err.ensures.status;
     }

@@ -5,7 +5,7 @@ use Rattle.ss_program.proofs.AnswerLemmas.{IsStop-apply, event-some}
 use Rattle.ss_program.proofs.BroughtLemmas.{TakesBrought-halted, TakesBrought-said, TakesBrought-starved, TakesBrought-text, TakesBrought-unsealed}
 use Rattle.ss_program.proofs.FrameLemmas.{IsSome-framed}
 use Rattle.ss_program.proofs.StepLemmas.{step-told}
-use Rattle.ss_program.proofs.StopLemmas.{counted-apply}
+use Rattle.ss_program.proofs.TakesLemmas.{apply-counted}
 use Rattle.ss_program.proofs.staging.take_event.Goals as goal
 
 pub returns-in-Ok-clause-takes : goal.returns-in-Ok-clause-takes
@@ -89,5 +89,5 @@ returns-in_default g c =
       };
       ready = tt;
       status = IsStop-apply old.tells status c.in-Err.ensures.status;
-      counted = counted-apply old.tells (g.K.Sink.faults c.args.sink.now) status c.in-Err.ensures.status;
+      counted = apply-counted old.tells (g.K.Sink.faults c.args.sink.now) status c.in-Err.ensures.status;
     }
