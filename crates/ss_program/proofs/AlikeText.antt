@@ -1,9 +1,9 @@
 -- What lines bring after the same events, whichever of their values are old.
 use Rattle.ss_program.proofs.Common.{◌≡◌, ◌⊎◌, ◌∙◌, ℕ, ℤ, List, [], ◌∷◌, ◌++◌, length, Option, Some, None, Result, Ok, Err, refl, sym, ap, ap₂, subst, inl, inr}
-use Rattle.ss_program.proofs.Common.{◌+ℤ◌, All, false, flat_map, map, option_map, pos, length-map, map-append, All-head, All-tail, listed, event_name}
-use Rattle.ss_program.proofs.Common.{row_query, row_start, rows_of, row_count, whole_query, Event, End, Kind, Query, Refusal, Series, evidence_in, base_of}
-use Rattle.ss_program.proofs.Common.{parts_of, certificate_of, evidence_of, Evidence, meant-sayable, meaning, IsSayable, takes_value, Command, Do, Ask, Certify}
-use Rattle.ss_program.proofs.Common.{Last, Values, Windows, is_free, history-old, state-old, answer_of, refuses_query, added, marked_values, newest_in}
+use Rattle.ss_program.proofs.Common.{arith, common_steps, ◌+ℤ◌, All, false, flat_map, map, option_map, pos, length-map, map-append, All-head, All-tail, listed}
+use Rattle.ss_program.proofs.Common.{event_name, row_query, row_start, rows_of, row_count, whole_query, Event, End, Kind, Query, Refusal, Series, evidence_in}
+use Rattle.ss_program.proofs.Common.{base_of, parts_of, certificate_of, evidence_of, Evidence, meant-sayable, meaning, IsSayable, takes_value, Command, Do, Ask}
+use Rattle.ss_program.proofs.Common.{Certify, Last, Values, Windows, is_free, history-old, state-old, answer_of, refuses_query, added, marked_values, newest_in}
 use Rattle.ss_program.proofs.Common.{refuses_values, as_old, unfiltered_stream, unfiltered_window, IsHistory, refuses, refuses_reading, refuses_series, Stream}
 use Rattle.ss_program.proofs.Common.{state, stream_named, ack_of, Outcome, Has, Presence, Maybe, Ack, seen_count, seen_of, seen_sum, Seen, Cut, reply_line}
 use Rattle.ss_program.proofs.Common.{Reply, Refused, SeriesHead, WindowsHead, ListHead, Recovers, Stands, recovers, Brought, History, answer_replies, brings}
@@ -117,13 +117,7 @@ event-alike one other event same =
 
 -- a series asks for no value
 unvalued : (kind : Kind) → takes_value kind ≡ false → (v : ℤ) → kind ≡ kinds.Has v → ⊥
-unvalued kinds.Count none v is = cc
-unvalued kinds.Sum none v is = cc
-unvalued kinds.Min none v is = cc
-unvalued kinds.Max none v is = cc
-unvalued (kinds.Has value) none v is = cc
-unvalued kinds.CountGuess none v is = cc
-unvalued kinds.SumGuess none v is = cc
+unvalued kind none v is = grind (arith, common_steps)
 
 said-command : (one other : History) (command : Command) → HaveSameEvents one other → IsSayable command →
     ((query : Query) (v : ℤ) → command ≡ Ask query → query.kind ≡ kinds.Has v → ⊥) →

@@ -1,24 +1,18 @@
 -- Between two lines of a session: how it begins, how it goes on, and where a run stops.
 use Rattle.ss_program.proofs.Common.{◌≡◌, ℕ, ◌≤◌, ◌++◌, List, [], ◌∷◌, length, Option, Some, None, Result, Ok, Err, OnOk, refl, sym, ap, ◌∙◌, subst}
-use Rattle.ss_program.proofs.Common.{append_assoc, arith, append-nil, length-append, at_start, joined, of_content, weaker, KnowsNow, LeavesOnly, DiskView}
-use Rattle.ss_program.proofs.Common.{NothingPending, Told, shown_by, Cursors, Amid, AreOwed, GoesAmid, HasRoom, IsAmid, IsAtRest, Takes, TakesNone, one_more}
-use Rattle.ss_program.proofs.Common.{owed_by, IsOpen, NoneWait, SessionState, StandsBeyond, StandsWithin, StopsIn, sealing_by, HoldsTalk, appended, after_lines}
-use Rattle.ss_program.proofs.Common.{text_of, Talk, Sealing, Each, Shared, Status}
+use Rattle.ss_program.proofs.Common.{common_steps, append_assoc, arith, append-nil, length-append, at_start, joined, of_content, weaker, KnowsNow, LeavesOnly}
+use Rattle.ss_program.proofs.Common.{DiskView, NothingPending, Told, shown_by, Cursors, Amid, AreOwed, GoesAmid, HasRoom, IsAmid, IsAtRest, Takes, TakesNone}
+use Rattle.ss_program.proofs.Common.{one_more, owed_by, IsOpen, NoneWait, SessionState, StandsBeyond, StandsWithin, StopsIn, sealing_by, HoldsTalk, appended}
+use Rattle.ss_program.proofs.Common.{after_lines, text_of, Talk, Sealing, Each, Shared, Status}
 use Rattle.ss_program.proofs.SessionLemmas.{after_lines-append, moments-more, text_of-append}
 
 -- where none wait, no line is owed anything; which tells how events come to the disk
 pub AreOwed-none : (sealing : Sealing) (waiting : Option (List ℕ)) → sealing_by waiting ≡ sealing → AreOwed sealing (owed_by waiting).lines []
-AreOwed-none Each None is = refl
-AreOwed-none Each (Some replies) is = cc
-AreOwed-none Shared None is = cc
-AreOwed-none Shared (Some replies) is = tt
+AreOwed-none sealing waiting is = grind (arith, common_steps)
 
 pub sealing-owed : (sealing : Sealing) (waiting : Option (List ℕ)) (ls : List (List ℕ)) → AreOwed sealing (owed_by waiting).lines ls →
     sealing_by waiting ≡ sealing
-sealing-owed Each None ls few = refl
-sealing-owed Each (Some replies) ls few = absurd few
-sealing-owed Shared None ls few = absurd few
-sealing-owed Shared (Some replies) ls few = refl
+sealing-owed sealing waiting ls few = grind (arith, common_steps)
 
 pub owed-nothing : (waiting : Option (List ℕ)) → NoneWait waiting → (owed_by waiting).text ≡ []
 owed-nothing None none = refl

@@ -1,8 +1,8 @@
 -- What a line brings, by what it means, and what sending it leaves.
 use Rattle.ss_program.proofs.Common.{⊎_elim, ◌≡◌, ℕ, ◌<◌, Bool, ◌++◌, ◌↔◌, List, [], ◌∷◌, length, Option, Some, None, IsSome, Ok, Err, Result, false, IfErr}
-use Rattle.ss_program.proofs.Common.{refl, sym, ap, ◌∙◌, subst, arith, inl, inr, cases_lt, cond-true, cond-false, le-leb, lt-leb, lt-ltb, append-nil}
-use Rattle.ss_program.proofs.Common.{length-append, flat_map, ◌+◌, nat_le, IsErr, IsTrue, Event, End, Query, Series, Refusal, unless_long, LONGEST_LINE}
-use Rattle.ss_program.proofs.Common.{Command, Do, Ask, Certify, Last, Values, Windows, event_name, added, answer-known, outcome_of, refuses_query}
+use Rattle.ss_program.proofs.Common.{common_steps, refl, sym, ap, ◌∙◌, subst, arith, inl, inr, cases_lt, cond-true, cond-false, le-leb, lt-leb, lt-ltb}
+use Rattle.ss_program.proofs.Common.{append-nil, length-append, flat_map, ◌+◌, nat_le, IsErr, IsTrue, Event, End, Query, Series, Refusal, unless_long}
+use Rattle.ss_program.proofs.Common.{LONGEST_LINE, Command, Do, Ask, Certify, Last, Values, Windows, event_name, added, answer-known, outcome_of, refuses_query}
 use Rattle.ss_program.proofs.Common.{refuses_values, ack_of, refuses, refuses_series, Stream, live, state, stream_named, Outcome, Ack, Failed, said_line, Reply}
 use Rattle.ss_program.proofs.Common.{Answered, Refused, WindowsHead, reads-none, KnowsNow, OnlyReads, DiskView, Told, shown-sealed, IsSealed, RecordsState}
 use Rattle.ss_program.proofs.Common.{shown_by, refuses_query_held, KeepsWithin, StandsForEither, Turns, StoreIsIn, StoreIsKept, StoreState, Stands, ApplyError}
@@ -145,26 +145,10 @@ Sends-at_sink before after text (Ok u) sends = sends
 Sends-at_sink before after text (Err e) sends = sends
 
 pub IsStop-show : (tells : Bool) (status : Status) → IsShowStop tells status → IsStop tells status
-IsStop-show tells DiskFault stop = tt
-IsStop-show tells RecordChanged stop = stop
-IsStop-show tells SinkFault stop = tt
-IsStop-show tells Done stop = absurd stop
-IsStop-show tells Usage stop = absurd stop
-IsStop-show tells RefusedStore stop = absurd stop
-IsStop-show tells SourceFault stop = absurd stop
-IsStop-show tells OutOfMemory stop = absurd stop
-IsStop-show tells InputLimit stop = absurd stop
+IsStop-show tells status stop = grind (arith, common_steps)
 
 pub IsStop-apply : (tells : Bool) (status : Status) → IsApplyStop tells status → IsStop tells status
-IsStop-apply tells DiskFault stop = tt
-IsStop-apply tells RecordChanged stop = stop
-IsStop-apply tells OutOfMemory stop = tt
-IsStop-apply tells Done stop = absurd stop
-IsStop-apply tells Usage stop = absurd stop
-IsStop-apply tells RefusedStore stop = absurd stop
-IsStop-apply tells SourceFault stop = absurd stop
-IsStop-apply tells SinkFault stop = absurd stop
-IsStop-apply tells InputLimit stop = absurd stop
+IsStop-apply tells status stop = grind (arith, common_steps)
 
 module _ (speaker : Option ℕ) where
   -- one reply was sent, or less than it
@@ -178,16 +162,7 @@ module _ (speaker : Option ℕ) where
   -- what a command shows was sent, or less than it
   pub Replies-only_replies : (tells : Bool) (brought : Brought) (before after : Option (List ℕ)) (sent : Result Unit Status) → IfErr sent (IsShowStop tells) →
       Sends before after (text_said speaker brought) sent → Replies speaker brought before after sent
-  Replies-only_replies tells brought before after (Ok u) stop sends = sends
-  Replies-only_replies tells brought before after (Err SinkFault) stop sends = sends
-  Replies-only_replies tells brought before after (Err DiskFault) stop sends = sends
-  Replies-only_replies tells brought before after (Err RecordChanged) stop sends = sends
-  Replies-only_replies tells brought before after (Err Done) stop sends = absurd stop
-  Replies-only_replies tells brought before after (Err Usage) stop sends = absurd stop
-  Replies-only_replies tells brought before after (Err RefusedStore) stop sends = absurd stop
-  Replies-only_replies tells brought before after (Err SourceFault) stop sends = absurd stop
-  Replies-only_replies tells brought before after (Err OutOfMemory) stop sends = absurd stop
-  Replies-only_replies tells brought before after (Err InputLimit) stop sends = absurd stop
+  Replies-only_replies tells brought before after sent stop sends = grind (arith, common_steps)
 
   -- no reply was sent to an event at which the store stopped the run
   pub Replies-stopped : (tells : Bool) (brought : Brought) (held : Option (List ℕ)) (status : Status) → IsApplyStop tells status → IsSome brought.event →

@@ -1,9 +1,9 @@
 -- How a run ends.
-use Rattle.ss_program.proofs.Common.{◌≡◌, ◌⊎◌, inl, inr, ℕ, List, Option, Some, None, Err, Bool, IsSome, cond, nat_eq, refl, sym, ap, ◌∙◌, subst, IsTrue}
-use Rattle.ss_program.proofs.Common.{mode_of, Mode, Serve, Check, Gen, Stream, reads-none, step-none, step-then, OnlyReads, DiskView, Told, Step, Counted, Rose}
-use Rattle.ss_program.proofs.Common.{fine, OpensAs, Recovered, Recovers, damaged_entry, damaged_slot, damaged_stream, no_store, recover, recovers, SurveysAs}
-use Rattle.ss_program.proofs.Common.{OpenError, Devices, over, Completes, Ends, HasNumbers, IsRefusedContent, IsUnfed, Refuses, served_by, AsRefused}
-use Rattle.ss_program.proofs.Common.{refusal_line, status_of_open, SaysLine, EndsAs, EndsServing, IsStop, disk_verdict, exit_number, sink_verdict}
+use Rattle.ss_program.proofs.Common.{◌≡◌, ◌⊎◌, inl, inr, ℕ, List, Option, Some, None, Err, Bool, IsSome, cond, nat_eq, refl, sym, ap, ◌∙◌, subst, IsTrue, arith}
+use Rattle.ss_program.proofs.Common.{common_steps, mode_of, Mode, Serve, Check, Gen, Stream, reads-none, step-none, step-then, OnlyReads, DiskView, Told, Step}
+use Rattle.ss_program.proofs.Common.{Counted, Rose, fine, OpensAs, Recovered, Recovers, damaged_entry, damaged_slot, damaged_stream, no_store, recover}
+use Rattle.ss_program.proofs.Common.{recovers, SurveysAs, OpenError, Devices, over, Completes, Ends, HasNumbers, IsRefusedContent, IsUnfed, Refuses, served_by}
+use Rattle.ss_program.proofs.Common.{AsRefused, refusal_line, status_of_open, SaysLine, EndsAs, EndsServing, IsStop, disk_verdict, exit_number, sink_verdict}
 use Rattle.ss_program.proofs.Common.{source_verdict, IsApplyStop, Status, Done, Usage, RefusedStore, DiskFault, SourceFault, SinkFault, OutOfMemory, InputLimit}
 use Rattle.ss_program.proofs.Common.{RecordChanged}
 use Rattle.ss_arguments.proofs.ModeLemmas.{mode_of-gen}
@@ -108,39 +108,14 @@ Ends-unopened T (opening.BadStream id) old new before after had has tells counte
 -- how a run ends whose store was opened
 serving-other : (tells : Bool) (status : Status) → EndsServing tells status →
     (status ≡ Usage → ⊥) × (status ≡ RefusedStore → ⊥) × (status ≡ RecordChanged → IsTrue tells → ⊥)
-serving-other tells Done ends = (λ w. cc, λ w. cc, λ w. cc)
-serving-other tells SourceFault ends = (λ w. cc, λ w. cc, λ w. cc)
-serving-other tells InputLimit ends = (λ w. cc, λ w. cc, λ w. cc)
-serving-other tells DiskFault ends = (λ w. cc, λ w. cc, λ w. cc)
-serving-other tells SinkFault ends = (λ w. cc, λ w. cc, λ w. cc)
-serving-other tells OutOfMemory ends = (λ w. cc, λ w. cc, λ w. cc)
-serving-other tells RecordChanged ends = (λ w. cc, λ w. cc, λ _. ends)
-serving-other tells Usage ends = absurd ends
-serving-other tells RefusedStore ends = absurd ends
+serving-other tells status ends = (λ w. grind (arith, common_steps), λ w. grind (arith, common_steps), λ w told. grind (arith, common_steps))
 
 pub serving-stop : (tells : Bool) (status : Status) → (status ≡ Done) ⊎ IsStop tells status → EndsServing tells status
-serving-stop tells status (inl is) = subst (EndsServing tells) (sym is) tt
-serving-stop tells DiskFault (inr stop) = tt
-serving-stop tells SinkFault (inr stop) = tt
-serving-stop tells OutOfMemory (inr stop) = tt
-serving-stop tells RecordChanged (inr stop) = stop
-serving-stop tells Done (inr stop) = absurd stop
-serving-stop tells Usage (inr stop) = absurd stop
-serving-stop tells RefusedStore (inr stop) = absurd stop
-serving-stop tells SourceFault (inr stop) = absurd stop
-serving-stop tells InputLimit (inr stop) = absurd stop
+serving-stop tells status how = grind (arith, common_steps)
 
 -- a run over a generated file that stops at a command has said nothing
 pub unfed-stop : (tells : Bool) (held : Option (List ℕ)) (status : Status) → IsApplyStop tells status → IsUnfed held held status
-unfed-stop tells held DiskFault stop = refl
-unfed-stop tells held OutOfMemory stop = refl
-unfed-stop tells held RecordChanged stop = refl
-unfed-stop tells held SinkFault stop = absurd stop
-unfed-stop tells held Done stop = absurd stop
-unfed-stop tells held Usage stop = absurd stop
-unfed-stop tells held RefusedStore stop = absurd stop
-unfed-stop tells held SourceFault stop = absurd stop
-unfed-stop tells held InputLimit stop = absurd stop
+unfed-stop tells held status stop = grind (arith, common_steps)
 
 -- there was no memory, and no device was called
 pub Ends-starved : (disk : DiskView) (held : Option (List ℕ)) (faults : ℕ) → Ends (over disk held faults) (over disk held faults) OutOfMemory
@@ -201,15 +176,7 @@ status_at n =
 
 status_at-number : (status : Status) → status_at (exit_number status) ≡ status
 unfolding status_at
-status_at-number Done = refl
-status_at-number Usage = refl
-status_at-number RefusedStore = refl
-status_at-number DiskFault = refl
-status_at-number SourceFault = refl
-status_at-number SinkFault = refl
-status_at-number OutOfMemory = refl
-status_at-number InputLimit = refl
-status_at-number RecordChanged = refl
+status_at-number status = grind (arith, common_steps)
 
 pub one-status : (number : ℕ) (a b : Status) → EndsAs number a → EndsAs number b → a ≡ b
 one-status number a b is_a is_b = sym (status_at-number a) ∙ ap (λ n. status_at n) (sym is_a ∙ is_b) ∙ status_at-number b
@@ -220,24 +187,12 @@ by-number P number actual is has status other = subst P (one-status number actua
 
 -- what a survey answers where it is refused
 pub surveys-opens : (content : List ℕ) (error : OpenError) → SurveysAs content (Err error) → OpensAs content (Err error)
-surveys-opens content opening.Disk is = tt
-surveys-opens content opening.OutOfMemory is = tt
-surveys-opens content opening.NotAStore is = is
-surveys-opens content (opening.BadEntry n) is = is
-surveys-opens content (opening.BadSlot n) is = is
-surveys-opens content (opening.BadStream id) is = is
-surveys-opens content (opening.Changed slot) is = absurd is
+surveys-opens content error is = grind (arith, common_steps)
 
 -- a run that reads no input doesn't end by it, where the store wasn't opened
 pub unfed-unopened : (error : OpenError) (before after : Option (List ℕ)) (had has : ℕ) → AsRefused error before after had has →
     IsUnfed before after (status_of_open error)
-unfed-unopened opening.Disk before after had has as_refused = as_refused.0
-unfed-unopened opening.OutOfMemory before after had has as_refused = as_refused.0
-unfed-unopened opening.NotAStore before after had has as_refused = tt
-unfed-unopened (opening.BadEntry n) before after had has as_refused = tt
-unfed-unopened (opening.BadSlot n) before after had has as_refused = tt
-unfed-unopened (opening.BadStream id) before after had has as_refused = tt
-unfed-unopened (opening.Changed slot) before after had has as_refused = as_refused.0
+unfed-unopened error before after had has as_refused = grind (arith, common_steps)
 
 -- a mode that was asked for has the numbers that it may have
 pub has-numbers : (words : List (List ℕ)) (mode : Mode) → mode_of words ≡ Some mode → HasNumbers mode

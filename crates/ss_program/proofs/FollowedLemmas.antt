@@ -1,11 +1,11 @@
 -- What is written where frames are written, and what comes of it where it is followed.
 use Rattle.ss_program.proofs.Common.{◌≡◌, ◌∙◌, ◌++◌, ◌<◌, ◌^◌, ℕ, List, [], ◌∷◌, Option, Some, None, Result, Ok, Err, Bool, true, false, map, refl, sym, ap}
-use Rattle.ss_program.proofs.Common.{append_assoc, arith, subst, All, flat_map, if◌then◌else◌, IfSome, flat_map-append, append-nil, All-cons, All-head, All-nil}
-use Rattle.ss_program.proofs.Common.{All-tail, Form, Lines, Sessions, Frames, Follow, event_name, is_name, step_number, Event, Create, Value, Open, Close, Drop}
-use Rattle.ss_program.proofs.Common.{Refusal, meant-sayable, meaning, IsSayable, IsStepOfNumber, Command, Do, Ask, Certify, Last, Values, Windows}
-use Rattle.ss_program.proofs.Common.{IsValidFrame-test, frame_in-spelling, pieces-frames, FrameState, IsValidFrame, frame_in, frame_spelled, is_valid_frame}
-use Rattle.ss_program.proofs.Common.{pieces, Happened, added, GoesOn-push, IsHistory, refuses, state, added_event, after_offer, after_offers, due_in}
-use Rattle.ss_program.proofs.Common.{next_offered, offered, offered_as, offers, event_frame, frame_of, step_of_event, Due, Next, reply_line, History}
+use Rattle.ss_program.proofs.Common.{common_steps, append_assoc, arith, subst, All, flat_map, if◌then◌else◌, IfSome, flat_map-append, append-nil, All-cons}
+use Rattle.ss_program.proofs.Common.{All-head, All-nil, All-tail, Form, Lines, Sessions, Frames, Follow, event_name, is_name, step_number, Event, Create, Value}
+use Rattle.ss_program.proofs.Common.{Open, Close, Drop, Refusal, meant-sayable, meaning, IsSayable, IsStepOfNumber, Command, Do, Ask, Certify, Last, Values}
+use Rattle.ss_program.proofs.Common.{Windows, IsValidFrame-test, frame_in-spelling, pieces-frames, FrameState, IsValidFrame, frame_in, frame_spelled}
+use Rattle.ss_program.proofs.Common.{is_valid_frame, pieces, Happened, added, GoesOn-push, IsHistory, refuses, state, added_event, after_offer, after_offers}
+use Rattle.ss_program.proofs.Common.{due_in, next_offered, offered, offered_as, offers, event_frame, frame_of, step_of_event, Due, Next, reply_line, History}
 use Rattle.ss_program.proofs.Common.{accepted_frame, accepted_in, due_brings, frame_brings, text_said, the_event, unless_refused, accepted, after_line}
 use Rattle.ss_program.proofs.Common.{after_lines, text_of, Talk, begun, meant_turn, turn_in, turn_of, writing}
 use Rattle.ss_command.specs.declared.command.Command.TheVariants.{Series as AskRows, List as ListAll}
@@ -186,11 +186,7 @@ turn-named Follow talk line is = absurd cc
 
 -- the frame of such an event is valid, and the next one
 some-frame : (history : History) (event : Event) → drops_none event ≡ true → event_frame history event ≡ Some (frame_of history event)
-some-frame history (Create name params) kept = refl
-some-frame history (Value name t v) kept = refl
-some-frame history (Open name t) kept = refl
-some-frame history (Close name t) kept = refl
-some-frame history (Drop name) kept = cc
+some-frame history event kept = grind (arith, common_steps)
 
 tested : (valid : Bool) (f g : FrameState) → (if valid then Some f else None) ≡ Some g → valid ≡ true
 tested true f g is = refl

@@ -1,10 +1,10 @@
 -- What stays of a cursor whatever is said, and what a line of sessions brings by what is heard.
 use Rattle.ss_program.proofs.Common.{◌≡◌, ◌≢◌, ◌∙◌, ℕ, ◌+◌, ◌<◌, ◌-◌, List, [], ◌∷◌, length, map, take, drop, Option, Some, None, Result, Ok, Err, Bool, true}
-use Rattle.ss_program.proofs.Common.{false, refl, sym, ap, subst, arith, inl, inr, cases_Bool, cond-false, cond-true, eq-eqb, eqb-true, leb-true, ltb-true}
-use Rattle.ss_program.proofs.Common.{drop-drop, drop-map, length-map, length-set, take-map, All-head, All-tail, cond_some, ◌==◌, ◌&&◌, if◌then◌else◌, is_some}
-use Rattle.ss_program.proofs.Common.{nat_le, nat_lt, option_map, Form, Lines, Sessions, Frames, Follow, Event, Refusal, is_comment, meaning, Command, Do, Ask}
-use Rattle.ss_program.proofs.Common.{Certify, Last, Values, Windows, FrameState, unless_long, first_word, rest_of, first_that_applies, refuses, placed_of}
-use Rattle.ss_program.proofs.Common.{Stream, state, stream_named, Placed, Cursor, Rows, Cursors, cursor_of, cursor_refusals, cursor_rows, flattened}
+use Rattle.ss_program.proofs.Common.{common_steps, false, refl, sym, ap, subst, arith, inl, inr, cases_Bool, cond-false, cond-true, eq-eqb, eqb-true, leb-true}
+use Rattle.ss_program.proofs.Common.{ltb-true, drop-drop, drop-map, length-map, length-set, take-map, All-head, All-tail, cond_some, ◌==◌, ◌&&◌, if◌then◌else◌}
+use Rattle.ss_program.proofs.Common.{is_some, nat_le, nat_lt, option_map, Form, Lines, Sessions, Frames, Follow, Event, Refusal, is_comment, meaning, Command}
+use Rattle.ss_program.proofs.Common.{Do, Ask, Certify, Last, Values, Windows, FrameState, unless_long, first_word, rest_of, first_that_applies, refuses}
+use Rattle.ss_program.proofs.Common.{placed_of, Stream, state, stream_named, Placed, Cursor, Rows, Cursors, cursor_of, cursor_refusals, cursor_rows, flattened}
 use Rattle.ss_program.proofs.Common.{with_cursor, said_of, session_of, spoken_of, spoken_to, spoken_words, Order, Spoken, Nothing, Unaddressed, To, IsOrder}
 use Rattle.ss_program.proofs.Common.{NoneCloses, heard_of, rows_asked, rows_asked_by, rows_asked_in, Ordered, close_brings, closing, next_brings, open_brings}
 use Rattle.ss_program.proofs.Common.{opening, order_in, placed_rows, showing, unless_unopened, History, accepted_frame, only_replies, text_said, window_rows}
@@ -97,10 +97,7 @@ pub turn-heard : (framed : Bool) (talk : Talk) (line : List ℕ) (spoken : Spoke
 turn-heard framed talk line spoken form heard = ap (λ f. turn_in f talk line) form ∙ kept-heard framed talk (unless_long line) spoken heard
 
 three_tests : (a b c : Bool) → (a && b && c) ≡ true → (a ≡ true) × (b ≡ true) × (c ≡ true)
-three_tests true true true is = (refl, refl, refl)
-three_tests true true false is = cc
-three_tests true false c is = cc
-three_tests false b c is = cc
+three_tests a b c is = grind (arith, common_steps)
 
 -- the number of a session is below that of all
 session-below : (word : List ℕ) (session : ℕ) → session_of word ≡ Some session → session < SESSIONS

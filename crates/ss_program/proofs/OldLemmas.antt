@@ -1,10 +1,10 @@
 -- What is read off a state doesn't depend on the filters of its windows, but for whether a value is there.
 use Rattle.ss_program.proofs.Common.{◌≡◌, ◌∙◌, ◌⊎◌, ℕ, ◌+◌, Bool, true, false, ◌&&◌, ◌||◌, ℤ, pos, List, [], ◌∷◌, ◌++◌, length, Option, Some, refl, sym, ap}
-use Rattle.ss_program.proofs.Common.{ap₂, inl, inr, ◌+ℤ◌, filter, fold, if◌then◌else◌, int_le, map, option_map, sum_by, list_any, cases_Bool, max_interval}
-use Rattle.ss_program.proofs.Common.{min_interval, SplitFigures, greatest_count, least_count, sum_interval, same_name, Kind, state-old, answer_of_kind}
-use Rattle.ss_program.proofs.Common.{Happened, is_extreme, is_split, is_whole, may_have, may_reach, presence_of, split_figures, split_windows, is_one_of}
-use Rattle.ss_program.proofs.Common.{as_old, unfiltered_stream, unfiltered_window, Stream, state, stream_named, Count, Sum, Min, Max, Has, Estimate, Presence}
-use Rattle.ss_program.proofs.Common.{Absent, Present, Maybe, Point}
+use Rattle.ss_program.proofs.Common.{arith, common_steps, ap₂, inl, inr, ◌+ℤ◌, filter, fold, if◌then◌else◌, int_le, map, option_map, sum_by, list_any}
+use Rattle.ss_program.proofs.Common.{cases_Bool, max_interval, min_interval, SplitFigures, greatest_count, least_count, sum_interval, same_name, Kind}
+use Rattle.ss_program.proofs.Common.{state-old, answer_of_kind, Happened, is_extreme, is_split, is_whole, may_have, may_reach, presence_of, split_figures}
+use Rattle.ss_program.proofs.Common.{split_windows, is_one_of, as_old, unfiltered_stream, unfiltered_window, Stream, state, stream_named, Count, Sum, Min, Max}
+use Rattle.ss_program.proofs.Common.{Has, Estimate, Presence, Absent, Present, Maybe, Point}
 use Rattle.ss_bounds.specs.Guess.{count_guess, sum_guess}
 use Rattle.ss_bounds.specs.Either.{greatest_in, least_in}
 use Rattle.ss_bounds.specs.Truth.{asked, total}
@@ -96,10 +96,7 @@ answer_of_kind-old kinds.SumGuess free from to ws marked other =
 
 -- where no window with all bits may have it, none may
 bits-weaker : (r a b h : Bool) → (r && (a && b && true)) ≡ false → (r && (a && b && h)) ≡ false
-bits-weaker false a b h none = refl
-bits-weaker true false b h none = refl
-bits-weaker true true false h none = refl
-bits-weaker true true true h none = cc
+bits-weaker r a b h none = grind (arith, common_steps)
 
 may-old : (v : ℤ) (free : ℕ → Bool) (from to : ℕ) (w : Window) →
     (may_reach free from to (unfiltered_window w) && may_have v (unfiltered_window w).summary) ≡ false →

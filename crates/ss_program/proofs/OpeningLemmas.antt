@@ -1,8 +1,8 @@
 -- What opening the store has to do with what a run leaves.
 use Rattle.ss_program.proofs.Common.{◌≡◌, ◌⊎◌, inl, inr, ℕ, List, [], Option, Some, Ok, Err, refl, sym, ap, ◌∙◌, arith, joined, now, weaker, KnowsNow}
-use Rattle.ss_program.proofs.Common.{LeavesOnly, Told, Stream, state, OpensAs, Recovers, Stands, no_store, damaged_entry, damaged_slot, damaged_stream}
-use Rattle.ss_program.proofs.Common.{recovers, SurveysAs, survey_of, OpenError, Survey, Reads, Serves, StandsWithin, HoldsTalk, AsRefused, status_of_open, Talk}
-use Rattle.ss_program.proofs.Common.{Sealing, Status, Done, DiskFault, SourceFault, SinkFault, OutOfMemory, InputLimit, steps}
+use Rattle.ss_program.proofs.Common.{common_steps, LeavesOnly, Told, Stream, state, OpensAs, Recovers, Stands, no_store, damaged_entry, damaged_slot}
+use Rattle.ss_program.proofs.Common.{damaged_stream, recovers, SurveysAs, survey_of, OpenError, Survey, Reads, Serves, StandsWithin, HoldsTalk, AsRefused}
+use Rattle.ss_program.proofs.Common.{status_of_open, Talk, Sealing, Status, Done, DiskFault, SourceFault, SinkFault, OutOfMemory, InputLimit, steps}
 use Rattle.ss_program.proofs.HoldsLemmas.{HoldsReported-done}
 use Rattle.ss_program.proofs.ReadLemmas.{AreRead-none, Reads-stop}
 use Rattle.ss_program.proofs.SendLemmas.{appended-nil}
@@ -69,13 +69,7 @@ Serves-refused sealing talk input left before after had has old new (opening.Cha
 
 -- and what was read then: nothing
 pub unopened-status : (error : OpenError) → (status_of_open error ≡ Done → ⊥) × (status_of_open error ≡ InputLimit → ⊥)
-unopened-status opening.Disk = (λ is. cc, λ is. cc)
-unopened-status opening.OutOfMemory = (λ is. cc, λ is. cc)
-unopened-status opening.NotAStore = (λ is. cc, λ is. cc)
-unopened-status (opening.BadEntry n) = (λ is. cc, λ is. cc)
-unopened-status (opening.BadSlot n) = (λ is. cc, λ is. cc)
-unopened-status (opening.BadStream id) = (λ is. cc, λ is. cc)
-unopened-status (opening.Changed slot) = (λ is. cc, λ is. cc)
+unopened-status error = (λ is. grind (arith, common_steps), λ is. grind (arith, common_steps))
 
 pub Reads-refused : (input : List ℕ) (left : Option (List ℕ)) (error : OpenError) → left ≡ Some input → Reads input left (status_of_open error)
 Reads-refused input left error is =

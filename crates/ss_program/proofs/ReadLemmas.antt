@@ -1,9 +1,8 @@
 -- What was read of an input, and the lines that had ended within it.
 use Rattle.ss_program.proofs.Common.{◌≡◌, ◌⊎◌, inl, inr, length-drop, ℕ, ◌+◌, ◌<◌, ◌≤◌, ◌++◌, List, [], ◌∷◌, length, take, drop, Bool, Option, Some, None, Ok}
-use Rattle.ss_program.proofs.Common.{Err, refl, sym, ap, ◌∙◌, subst, append_assoc, arith, take-add, append-nil, drop-drop, drop_all, length-take-le}
-use Rattle.ss_program.proofs.Common.{take-append-drop, Form, Sealing, Each, Shared, Moves, Failed, most_read, Moved, Reads, Took, steps_within, IsStop}
-use Rattle.ss_program.proofs.Common.{LONGEST_INPUT, Status, steps, steps_so_far, Done, Usage, RefusedStore, DiskFault, SourceFault, SinkFault, OutOfMemory}
-use Rattle.ss_program.proofs.Common.{InputLimit, RecordChanged}
+use Rattle.ss_program.proofs.Common.{common_steps, Err, refl, sym, ap, ◌∙◌, subst, append_assoc, arith, take-add, append-nil, drop-drop, drop_all}
+use Rattle.ss_program.proofs.Common.{length-take-le, take-append-drop, Form, Sealing, Each, Shared, Moves, Failed, most_read, Moved, Reads, Took, steps_within}
+use Rattle.ss_program.proofs.Common.{IsStop, LONGEST_INPUT, Status, steps, steps_so_far, Done, SourceFault, InputLimit}
 use Rattle.ss_program.proofs.StepsLemmas.{steps-all, steps-front, steps-more}
 
 -- some first bytes of the input were read, and these lines had ended within them
@@ -111,21 +110,12 @@ steps-read form input taken rest all =
 -- its status isn't that of a run that is done, nor that of an input that is too long
 pub stop-other : (tells : Bool) (status : Status) → IsStop tells status →
     (status ≡ Done → ⊥) × (status ≡ InputLimit → ⊥) × (status ≡ SourceFault → ⊥)
-stop-other tells DiskFault stop = (λ is. cc, λ is. cc, λ is. cc)
-stop-other tells SinkFault stop = (λ is. cc, λ is. cc, λ is. cc)
-stop-other tells OutOfMemory stop = (λ is. cc, λ is. cc, λ is. cc)
-stop-other tells RecordChanged stop = (λ is. cc, λ is. cc, λ is. cc)
-stop-other tells Done stop = absurd stop
-stop-other tells Usage stop = absurd stop
-stop-other tells RefusedStore stop = absurd stop
-stop-other tells SourceFault stop = absurd stop
-stop-other tells InputLimit stop = absurd stop
+stop-other tells status stop = (λ is. grind (arith, common_steps), λ is. grind (arith, common_steps), λ is. grind (arith, common_steps))
 
 -- and neither is it where the source failed
 pub end-other : (tells : Bool) (status : Status) → (status ≡ SourceFault) ⊎ IsStop tells status →
     (status ≡ Done → ⊥) × (status ≡ InputLimit → ⊥)
-end-other tells status (inl fault) = (λ is. cc, λ is. cc)
-end-other tells status (inr stop) = let other = stop-other tells status stop in (other.0, other.1)
+end-other tells status how = (λ is. grind (arith, common_steps), λ is. grind (arith, common_steps))
 
 -- so many bytes were read
 pub Moved-at : (input : List ℕ) (left : Option (List ℕ)) (n : ℕ) → IsLeft left input n → n ≤ LONGEST_INPUT → Moved (LONGEST_INPUT + 1) input left

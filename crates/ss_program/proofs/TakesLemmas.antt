@@ -1,9 +1,9 @@
 -- What a line does to the devices: what is shown, and what is added and replied.
-use Rattle.ss_program.proofs.Common.{◌≡◌, ℕ, Bool, List, Option, None, Ok, Err, Result, IfErr, refl, sym, subst, false, IsErr, Event, Do, refuses, state}
-use Rattle.ss_program.proofs.Common.{reads-none, step-none, KnowsNow, OnlyReads, DiskView, OfContent, Told, WhereTold, Step, Counted, fine, verdict, Failed}
-use Rattle.ss_program.proofs.Common.{said_line, Reply, IsSealed, RecordsState, StoreState, Stands, AppliesEvent, AsksQuery, DoesCommand, IsOpen, Shows}
-use Rattle.ss_program.proofs.Common.{TakesLine, at_sink, Devices, over, Brought, History, command_brings, text_said, appended, AppendsLess, Puts, Sends}
-use Rattle.ss_program.proofs.Common.{IsApplyStop, IsDiskStop, IsShowStop, IsStop, disk_verdict, ended, sink_verdict, Status, Done, Usage, RefusedStore}
+use Rattle.ss_program.proofs.Common.{◌≡◌, ℕ, Bool, List, Option, None, Ok, Err, Result, IfErr, refl, sym, subst, false, IsErr, Event, Do, refuses, state, arith}
+use Rattle.ss_program.proofs.Common.{common_steps, reads-none, step-none, KnowsNow, OnlyReads, DiskView, OfContent, Told, WhereTold, Step, Counted, fine}
+use Rattle.ss_program.proofs.Common.{verdict, Failed, said_line, Reply, IsSealed, RecordsState, StoreState, Stands, AppliesEvent, AsksQuery, DoesCommand}
+use Rattle.ss_program.proofs.Common.{IsOpen, Shows, TakesLine, at_sink, Devices, over, Brought, History, command_brings, text_said, appended, AppendsLess, Puts}
+use Rattle.ss_program.proofs.Common.{Sends, IsApplyStop, IsDiskStop, IsShowStop, IsStop, disk_verdict, ended, sink_verdict, Status, Done, Usage, RefusedStore}
 use Rattle.ss_program.proofs.Common.{DiskFault, SourceFault, SinkFault, OutOfMemory, InputLimit, RecordChanged}
 use Rattle.ss_program.proofs.AnswerLemmas.{Adds-answers, Adds-failed, Adds-reads, Stands-only_replies, IsStop-apply, IsStop-show, Replies-sent}
 use Rattle.ss_program.proofs.AnswerLemmas.{Replies-only_replies, Replies-stopped, event-some}
@@ -75,16 +75,7 @@ Shows-stopped text old new store before held had has InputLimit stop reads same 
 
 -- memory doesn't run out where something is shown
 show-memory : {A : Type 0} (tells : Bool) (result : Result Unit Status) → IfErr result (IsShowStop tells) → ended result ≡ OutOfMemory → A
-show-memory tells (Ok u) stop is = cc
-show-memory tells (Err DiskFault) stop is = cc
-show-memory tells (Err RecordChanged) stop is = cc
-show-memory tells (Err SinkFault) stop is = cc
-show-memory tells (Err Done) stop is = absurd stop
-show-memory tells (Err Usage) stop is = absurd stop
-show-memory tells (Err RefusedStore) stop is = absurd stop
-show-memory tells (Err SourceFault) stop is = absurd stop
-show-memory tells (Err OutOfMemory) stop is = absurd stop
-show-memory tells (Err InputLimit) stop is = absurd stop
+show-memory tells result stop is = absurd (grind (arith, common_steps))
 
 show-stop : (tells : Bool) (result : Result Unit Status) → IfErr result (IsShowStop tells) → IfErr result (IsStop tells)
 show-stop tells (Ok u) stop = tt
@@ -147,15 +138,7 @@ TakesLine-applied speaker event old new store before after had has reply (Err e)
 
 -- the sink's count where a call of the store stopped the run
 pub apply-counted : (tells : Bool) (n : ℕ) (status : Status) → IsApplyStop tells status → Counted (sink_verdict status) n n
-apply-counted tells n DiskFault stop = refl
-apply-counted tells n RecordChanged stop = refl
-apply-counted tells n OutOfMemory stop = refl
-apply-counted tells n Done stop = absurd stop
-apply-counted tells n Usage stop = absurd stop
-apply-counted tells n RefusedStore stop = absurd stop
-apply-counted tells n SourceFault stop = absurd stop
-apply-counted tells n SinkFault stop = absurd stop
-apply-counted tells n InputLimit stop = absurd stop
+apply-counted tells n status stop = grind (arith, common_steps)
 
 -- the run stopped at an event
 pub TakesLine-stopped : (speaker : Option ℕ) (event : Event) (old new : DiskView) (store : StoreState) (held : Option (List ℕ)) (n : ℕ) (status : Status) →

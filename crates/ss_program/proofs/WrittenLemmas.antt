@@ -1,8 +1,8 @@
 -- What frames bring that are written of lines, and what frames bring that are offered.
-use Rattle.ss_program.proofs.Common.{◌≡◌, ◌∙◌, List, ℕ, Option, Some, None, Result, Ok, Err, refl, sym, ap, Event, Command, Do, Ask, Certify, Last, Values}
-use Rattle.ss_program.proofs.Common.{Windows, FrameState, IsHistory, state, Told, RecordsState, shown_by, due_in, Due, Cursors, AllAgree-recovered, StoreIsIn}
-use Rattle.ss_program.proofs.Common.{StoreState, Stands, Amid, Owed, TakesTurn, amid, History, due_brings, event_in, frame_brings, after_lines, Talk, Turn}
-use Rattle.ss_program.proofs.Common.{event_turn, meant_turn, silent, turn_brought, Status}
+use Rattle.ss_program.proofs.Common.{◌≡◌, ◌∙◌, List, ℕ, Option, Some, None, Result, Ok, Err, sym, ap, Event, Command, Do, Ask, Certify, Last, Values, arith}
+use Rattle.ss_program.proofs.Common.{common_steps, Windows, FrameState, IsHistory, state, Told, RecordsState, shown_by, due_in, Due, Cursors}
+use Rattle.ss_program.proofs.Common.{AllAgree-recovered, StoreIsIn, StoreState, Stands, Amid, Owed, TakesTurn, amid, History, due_brings, event_in}
+use Rattle.ss_program.proofs.Common.{frame_brings, after_lines, Talk, Turn, event_turn, meant_turn, silent, turn_brought, Status}
 use Rattle.ss_command.specs.declared.command.Command.TheVariants.{Series as AskRows, List as ListAll}
 use Rattle.ss_recover.specs.Held.{AllAgree}
 
@@ -20,14 +20,7 @@ meant-event talk ListAll event is = cc
 
 -- and any other brings nothing
 pub meant-none : (talk : Talk) (command : Command) → None ≡ event_in command → meant_turn talk (Ok (Some command)) ≡ silent talk
-meant-none talk (Do other) is = cc
-meant-none talk (Ask query) is = refl
-meant-none talk (Certify query end) is = refl
-meant-none talk (AskRows series) is = refl
-meant-none talk (Last name) is = refl
-meant-none talk (Values name from to) is = refl
-meant-none talk (Windows name) is = refl
-meant-none talk ListAll is = refl
+meant-none talk command is = grind (arith, common_steps)
 
 -- a line is taken by any name of its turn
 pub TakesTurn-alike : {from to : Amid} {result : Result (Unit {0}) Status} {old new : Told} (turn other : Talk → Turn) →
