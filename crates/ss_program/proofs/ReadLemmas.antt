@@ -26,6 +26,13 @@ moved (Some bytes) after count into left moves is =
     let same : bytes ≡ left = cc in
     subst (λ bs. (count ≤ length bs) × (take count into ≡ take count bs) × (after ≡ Some (drop count bs))) same (moves.0, moves.2, moves.3)
 
+pub moved_on : (before after : Option (List ℕ)) (count : ℕ) (into left : List ℕ) → Moves before after (Ok count) into → before ≡ Some left →
+    (count ≤ length left) × (count ≡ 0 → left ≡ []) × (after ≡ Some (drop count left))
+moved_on None after count into left moves is = cc
+moved_on (Some bytes) after count into left moves is =
+    let same : bytes ≡ left = cc in
+    subst (λ bs. (count ≤ length bs) × (count ≡ 0 → bs ≡ []) × (after ≡ Some (drop count bs))) same (moves.0, moves.1, moves.3)
+
 -- and what one that failed left
 pub unmoved : (before after : Option (List ℕ)) (e : Failed) (into : List ℕ) → Moves before after (Err e) into → after ≡ before
 unmoved None after e into moves = moves

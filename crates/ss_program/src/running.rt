@@ -67,7 +67,8 @@ fn read_piece<D: Disk, S: Source, K: Sink>(
     source: &mut S,
     sink: &mut K,
 ) -> Result<u64, Status>
-    requires some { (0 < length buffer.old) × (0 < room) }
+    requires buffer { 0 < length buffer.old }
+    requires room { 0 < room }
     // The source is asked only where no reply waits, and all is on the disk.
     requires rests { IsAtRest (D.seen disk.old) session.old }
     ensures reads { Step (disk_verdict (ended result)) (D.seen disk.old) (D.seen disk.new) (ReadsPiece room session.old session.new

@@ -1,6 +1,6 @@
 use Rattle.ss_program.proofs.Common.{◌≤◌, ◌++◌, ◌∙◌, Err, rules, refl, subst, arith, common_steps, step-as, step-none, ReadsPiece, GoesOn, StopsIn, SourceFault}
-use Rattle.ss_program.proofs.Common.{steps_so_far}
-use Rattle.ss_program.proofs.ReadLemmas.{moved, stop-other, unmoved}
+use Rattle.ss_program.proofs.Common.{steps_so_far, length}
+use Rattle.ss_program.proofs.ReadLemmas.{moved, moved_on, stop-other, unmoved}
 use Rattle.ss_program.proofs.running.read_piece.Goals as goal
 
 pub returns-in-Err-clause-reads : goal.returns-in-Err-clause-reads
@@ -17,7 +17,7 @@ returns-in-Err-clause-feeds g c =
     let same = unmoved (g.S.Source.left c.args.source.now) (g.S.Source.left c.read.new.self) c.in-Err.field-0 c.read.new.into c.in-Err.ensures.moves in
     record {
       counted = c.in-Err.ensures.cause;
-      fault = λ _. (same, (refl, (refl, refl)));
+      fault = λ _. (same, (refl, refl, refl));
       count = tt;
       few = omega (arith, c.in-Err.ensures.takes);
       moves = tt;
@@ -36,6 +36,20 @@ returns-in-Ok-take-clause-reads g c =
           (takes.goes sealing talk before input at replied);
       stops = tt;
     })
+
+pub returns-in-Ok-take-clause-feeds : goal.returns-in-Ok-take-clause-feeds
+returns-in-Ok-take-clause-feeds g c =
+    let count = c.in-Ok.count in
+    let small : count ≤ c.args.room = first_of (search rules, grind (arith, common_steps)) in
+    let held : count ≤ length c.args.buffer.now = first_of (search rules, grind (arith, common_steps)) in
+    record {
+      counted = c.in-Ok.ensures.cause;
+      fault = λ is. absurd (cc);
+      count = (small, held, c.in-Ok.ensures.takes);
+      few = omega (arith, small, c.in-Ok.ensures.takes);
+      moves = λ bytes is. moved_on (g.S.Source.left c.args.source.now) (g.S.Source.left c.read.new.self) count c.read.new.into bytes c.in-Ok.ensures.moves is;
+      stopped = tt;
+    }
 
 pub returns-in-Err-take-clause-reads : goal.returns-in-Err-take-clause-reads
 returns-in-Err-take-clause-reads g c =
@@ -64,7 +78,7 @@ returns-in-Err-take-clause-feeds g c =
     let count = c.in-Ok.count in
     let small : count ≤ c.args.room = first_of (search rules, grind (arith, common_steps)) in
     record {
-      counted = search rules;
+      counted = first_of (search rules, grind (arith, common_steps));
       fault = λ is. absurd ((stop-other tells c.in-Err-take.status c.in-Err-take.ensures.status).2 is);
       count = tt;
       few = omega (arith, small, c.in-Ok.ensures.takes);

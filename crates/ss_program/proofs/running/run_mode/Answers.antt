@@ -1,4 +1,4 @@
-use Rattle.ss_program.proofs.Common.{◌≡◌, ◌∙◌, Some, sym, subst, ap, Mode, Gen, Between, HasNumbers, Serving, served_by, serving, GeneratesFrom, ServesInput}
+use Rattle.ss_program.proofs.Common.{◌≡◌, ◌∙◌, Some, refl, sym, subst, ap, Mode, Gen, Between, HasNumbers, Serving, served_by, serving, GeneratesFrom, ServesInput}
 use Rattle.ss_program.proofs.Common.{Form, Sealing}
 use Rattle.ss_program.proofs.TakenLemmas.{Feeds-unfed}
 use Rattle.ss_program.proofs.running.run_mode.Goals as goal

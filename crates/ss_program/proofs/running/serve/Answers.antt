@@ -1,6 +1,6 @@
 use Rattle.ss_program.proofs.Common.{◌≡◌, ◌-◌, ◌+◌, if◌then◌else◌, List, ℕ, Option, Some, take, drop, refl, sym, ap, ◌∙◌, subst, arith, inl, inr, step-as}
 use Rattle.ss_program.proofs.Common.{step-none, step-then, NothingPending, RoseBy, StandsShort, History, Serves, HoldsTalk, sealing_by, appended, after_lines}
-use Rattle.ss_program.proofs.Common.{text_of, begun_over, InputLimit, SourceFault}
+use Rattle.ss_program.proofs.Common.{text_of, begun_over, InputLimit, SourceFault, rules, common_steps, Counted, source_verdict}
 use Rattle.ss_program.proofs.SendLemmas.{appended-nil}
 use Rattle.ss_program.proofs.StepLemmas.{step-told}
 use Rattle.ss_program.proofs.RunLemmas.{HasStopped-piece, IsThrough, IsThrough-end, IsThrough-more, IsThrough-start, Serves-finish, Serves-part, Serves-stop}
@@ -72,6 +72,17 @@ loop-done-preserved g c =
       source = c.in-Ok.ensures.feeds.counted ∙ inv.source;
       sink = c.in-Ok.ensures.sink ∙ inv.sink;
     }
+
+-- the source's count stands still but where it fails
+pub returns-in-Ok-eq0-clause-source : goal.returns-in-Ok-eq0-clause-source
+returns-in-Ok-eq0-clause-source g c =
+    let same = c.in-Ok-eq0.ensures.feeds.counted ∙ c.loop-done.invariant.source in
+    first_of (search rules, grind (arith, common_steps))
+
+pub returns-in-Err-clause-source : goal.returns-in-Err-clause-source
+returns-in-Err-clause-source g c =
+    subst (λ n. Counted (source_verdict c.in-Err.status) n (g.S.Source.faults c.read_piece.new.source)) c.loop-done.invariant.source
+    c.in-Err.ensures.feeds.counted
 
 pub returns-in-Ok-eq0-clause-taken : goal.returns-in-Ok-eq0-clause-taken
 returns-in-Ok-eq0-clause-taken g c =
@@ -192,8 +203,8 @@ returns-in-Err-clause-serves g c =
     let talk = begun_over used c.args.session.now.form history in
     elim c.in-Err.ensures.status [
       | inl fault ↦ (let same = c.in-Err.ensures.feeds.fault fault in
-          subst (λ o. Serves sealing talk input left before o start new status) (sym same.2)
-          (subst (λ d. Serves sealing talk input left before (g.K.Sink.held c.loop-done.sink) start (g.D.Disk.seen d).told status) (sym same.3)
+          subst (λ o. Serves sealing talk input left before o start new status) (sym same.1.1)
+          (subst (λ d. Serves sealing talk input left before (g.K.Sink.held c.loop-done.sink) start (g.D.Disk.seen d).told status) (sym same.1.2)
           (Serves-part sealing status left old inv.fits (inl (fault, same.0)))))
       | inr stop ↦ Serves-stop sealing talk input left before after start new mid.tells status tells stop
           (HasStopped-piece sealing talk start mid.told new c.loop-done.session input (g.S.Source.left c.loop-done.source) left

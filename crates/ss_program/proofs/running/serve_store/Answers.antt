@@ -1,10 +1,17 @@
-use Rattle.ss_program.proofs.Common.{◌∙◌, inr, refl, subst, StoreState, Serves, status_of_open, sealing_by, begun_over, EndsServing, OutOfMemory}
+use Rattle.ss_program.proofs.Common.{◌∙◌, inr, refl, subst, StoreState, Serves, status_of_open, sealing_by, begun_over, EndsServing, OutOfMemory, arith, rules, common_steps}
 use Rattle.ss_program.proofs.TakesLemmas.{still}
 use Rattle.ss_program.proofs.EndLemmas.{Ends-opened, Ends-unopened, judged-refused, unfed-unopened}
 use Rattle.ss_program.proofs.LeftLemmas.{opened_left, opened_moments}
 use Rattle.ss_program.proofs.OpeningLemmas.{Reads-none, Reads-refused, Serves-opened, Serves-refused, Serves-unopened}
 use Rattle.ss_program.proofs.TakenLemmas.{Feeds-unfed}
 use Rattle.ss_program.proofs.running.serve_store.Goals as goal
+
+pub serve-requires-clause-front : goal.serve-requires-clause-front
+serve-requires-clause-front g c = record {
+  rests = first_of (search rules, grind (arith, common_steps));
+  line = first_of (search rules, grind (arith, common_steps));
+  cursors = first_of (search rules, grind (arith, common_steps));
+}
 
 pub returns-in-Ok-start-clause-ends : goal.returns-in-Ok-start-clause-ends
 returns-in-Ok-start-clause-ends g c =
@@ -50,7 +57,8 @@ returns-in-Err-start-clause-ends g c =
 
 pub returns-in-Err-start-clause-feeds : goal.returns-in-Err-start-clause-feeds
 returns-in-Err-start-clause-feeds g c =
-    Feeds-unfed (g.S.Source.faults c.args.source.now) (g.S.Source.taken c.args.source.now) (g.K.Sink.held c.args.sink.now) _ OutOfMemory refl refl
+    Feeds-unfed (g.S.Source.faults c.args.source.now) (g.S.Source.taken c.args.source.now) (g.K.Sink.held c.args.sink.now)
+    (g.K.Sink.held c.args.sink.now) OutOfMemory refl refl
 
 pub returns-in-Err-start-clause-reads : goal.returns-in-Err-start-clause-reads
 returns-in-Err-start-clause-reads g c input is = Reads-none input (g.S.Source.left c.args.source.now) is
