@@ -3,4 +3,5 @@ pub mod IndexLemmas
 pub mod HeldLemmas
 pub mod PushLemmas
 pub mod CutLemmas
+pub mod Places
 pub mod Rows

@@ -3,12 +3,13 @@ use Rattle.std.proofs.Common.{◌≡◌, ◌∙◌, ℕ, ◌+◌, List, [], ◌�
 use Rattle.std.proofs.Common.{sym, ap, ap₂, subst, append_assoc, arith, length-append, Some}
 use Rattle.std.specs.List.{remove}
 use Rattle.std.proofs.Math.Seq.{set-append_seam}
+use Rattle.std.proofs.lemmas.Option.{same_Some}
 use Rattle.ss_line.specs.Line.{StandsIn, entry_at, index_of}
 use Rattle.ss_line.specs.declared.entry.At.{At}
 use Rattle.ss_line.specs.declared.entry.Entry.{Entry}
+use Rattle.ss_line.proofs.Places.{index-once}
 use Rattle.ss_schedule.specs.Pairs.{AreSideBySide, joined_entry}
-use Rattle.ss_schedule.proofs.PairLemmas.{some-same}
-use Rattle.ss_schedule.proofs.Places.{entry-once, index-once, remove-seam, stands-once}
+use Rattle.ss_schedule.proofs.Places.{entry-once, remove-seam, stands-once}
 
 module _ (entries : List (At × Entry)) (left right : At) (it : AreSideBySide entries left right) where
   moved : entries ≡ (it.before ++ (left, it.window) ∷ []) ++ (right, it.next) ∷ it.rest
@@ -56,8 +57,8 @@ module _ (entries : List (At × Entry)) (left right : At) (it : AreSideBySide en
       joined_entry window next ≡ joined_entry it.window it.next
   joined-is window next read_left read_right =
       ap₂ joined_entry
-      (some-same window it.window (sym read_left ∙ entry-joined (remove entries (index_of entries right)) it.window cut-is))
-      (some-same next it.next (sym read_right ∙ entry-right))
+      (same_Some window it.window (sym read_left ∙ entry-joined (remove entries (index_of entries right)) it.window cut-is))
+      (same_Some next it.next (sym read_right ∙ entry-right))
 
   pub length-joined : (line : List (At × Entry)) (e : Entry) → line ≡ it.before ++ (left, e) ∷ it.rest → length line + 1 ≡ length entries
   length-joined line e is =

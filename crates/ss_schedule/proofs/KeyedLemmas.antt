@@ -4,9 +4,11 @@ use Rattle.std.proofs.Common.{refl, take, set}
 use Rattle.std.proofs.Common.{sym, ap, subst, arith, append_assoc, length-append, Option, Some, None, inl, inr, IfSome}
 use Rattle.std.proofs.lemmas.Bool.{cases_Bool, cases_eq, both_ways, eq-eqb}
 use Rattle.std.proofs.lemmas.List.{get_or-set_other, get_or-set_same, length-set}
+use Rattle.std.proofs.lemmas.Option.{same_Some}
 use Rattle.ss_line.specs.Line.{StandsIn, entry_at, index_of, is_at}
 use Rattle.ss_line.specs.declared.entry.At.{At}
 use Rattle.ss_line.specs.declared.entry.Entry.{Entry}
+use Rattle.ss_line.proofs.Places.{index-once, list_any-cons_false, same_place}
 use Rattle.ss_target.specs.Rule.{Rule, in_step}
 use Rattle.ss_windowing.specs.Windowing.{ArePositive, Fits, fits}
 use Rattle.ss_windowing.specs.declared.decay.TheConstants.{MOST_VALUES}
@@ -15,10 +17,9 @@ use Rattle.ss_schedule.specs.Held.{fit_of}
 use Rattle.ss_schedule.specs.Keyed.{AreBelow, AreInStep, TileUpTo, FollowUpTo, IsFirstKey, IsKeyOf, IsKeyed, PutsKey, ScheduleState, key_at, merge_rule}
 use Rattle.ss_schedule.specs.Pairs.{AreSideBySide, IsPairIn, IsSpan, NoPairFits, joined_entry, may_join, pair_at, pair_among, pair_of}
 use Rattle.ss_schedule.specs.declared.pair.Pair.{Pair}
-use Rattle.ss_schedule.proofs.PairLemmas.{pair_at-within, pair_among-absent, pair_among-here, some-same}
+use Rattle.ss_schedule.proofs.PairLemmas.{pair_at-within, pair_among-absent, pair_among-here}
 use Rattle.ss_schedule.proofs.JoinLemmas.{entry-left, entry-right, stands-left, stands-right}
 use Rattle.ss_schedule.proofs.Places.{AreApart, AreApart-seam, AreApart-tail, IsAt, IsAt-stands, apart-before, apart-behind}
-use Rattle.ss_schedule.proofs.Places.{index-once, list_any-cons_false, same_place}
 use Rattle.ss_schedule.proofs.Places.{take-seam}
 
 -- the positions of a pair in a line whose positions follow one another
@@ -327,8 +328,8 @@ module _ (entries : List (At × Entry)) (apart : AreApart entries) (at : At) (pa
   unfolding side_by_side
   read-is left window entry same read_left read_at =
       let place : it.left.0 ≡ left = sym (same ∙ ap (λ (p : Pair). p.left) it.pair_is) in
-      let first = some-same it.left.1 window (sym (entry-left entries it.left.0 at side_by_side) ∙ ap (entry_at entries) place ∙ read_left) in
-      let last = some-same it.entry entry (sym (entry-right entries it.left.0 at side_by_side) ∙ read_at) in
+      let first = same_Some it.left.1 window (sym (entry-left entries it.left.0 at side_by_side) ∙ ap (entry_at entries) place ∙ read_left) in
+      let last = same_Some it.entry entry (sym (entry-right entries it.left.0 at side_by_side) ∙ read_at) in
       sym (it.pair_is ∙ ap (λ (a : At). read_of a it.left.1 it.entry) place ∙ ap (λ (w : Entry). read_of left w it.entry) first ∙ ap (read_of left window) last)
 
   pub IsPairIn-read : (read : Pair) → read ≡ pair → IsPairIn entries read

@@ -4,16 +4,18 @@ use Rattle.std.proofs.Common.{sym, ap, subst, append_assoc, Option, Some, None, 
 use Rattle.std.specs.List.{list_any}
 use Rattle.std.proofs.lemmas.Bool.{cases_Bool, both_ways, or_parts}
 use Rattle.std.proofs.lemmas.List.Folds.{list_any-append}
+use Rattle.std.proofs.lemmas.Option.{same_Some}
 use Rattle.ss_line.specs.Line.{index_of, is_at, place_at}
 use Rattle.ss_line.specs.declared.entry.At.{At}
 use Rattle.ss_line.specs.declared.entry.Entry.{Entry}
+use Rattle.ss_line.proofs.Places.{index-once, list_any-cons_false, none-first, same_place}
 use Rattle.ss_schedule.specs.Keyed.{AreBelow, FollowUpTo, IsKeyOf, IsKeyed, PutsKey, ScheduleState, key_at, merge_rule}
 use Rattle.ss_schedule.specs.Pairs.{AreSideBySide, IsSpan, joined_entry, pair_at, pair_among, pair_of}
 use Rattle.ss_schedule.specs.declared.pair.Pair.{Pair}
 use Rattle.ss_schedule.proofs.KeyedLemmas.{AreBelow-append, AreBelow-parts, FollowUpTo-joined, IsSpan-pair, put-here, put-other, spans}
-use Rattle.ss_schedule.proofs.PairLemmas.{pair_at-neighbours, pair_at-past, pair_at-within, some-same}
+use Rattle.ss_schedule.proofs.PairLemmas.{pair_at-neighbours, pair_at-past, pair_at-within}
 use Rattle.ss_schedule.proofs.Places.{AreApart, AreApart-seam, apart-behind, apart-parts}
-use Rattle.ss_schedule.proofs.Places.{index-once, list_any-cons_false, none-first, place_at-behind, same_place, some-first}
+use Rattle.ss_schedule.proofs.Places.{place_at-behind, some-first}
 
 -- whether the first of these entries stands at the place
 abbrev pub is_first : At → List (At × Entry) → Bool
@@ -195,7 +197,7 @@ module _ (n : ℕ) (entries : List (At × Entry)) (left right : At) (it : AreSid
           further = first.1;
           is = first.2;
           place = first.3;
-          pair_is = some-same pair (pair_of (left, joined_entry it.window it.next) first.0)
+          pair_is = same_Some pair (pair_of (left, joined_entry it.window it.next) first.0)
               (sym is ∙ ap (λ es. pair_at es pair.right) line_is ∙ ap (pair_at joined) (sym first.3) ∙ there);
         }
 

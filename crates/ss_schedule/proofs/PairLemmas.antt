@@ -3,13 +3,14 @@ use Rattle.std.proofs.Common.{◌≡◌, ◌∙◌, suc, ◌+◌, false, List, [
 use Rattle.std.proofs.Common.{sym, ap, arith, append_assoc, length-append, Some, None, inl, inr}
 use Rattle.std.specs.List.{list_any}
 use Rattle.std.proofs.lemmas.Bool.{cases_Bool, cond-true, or_parts}
+use Rattle.std.proofs.lemmas.Option.{same_Some}
 use Rattle.ss_line.specs.Line.{StandsIn, entry_at, index_of, is_at, place_at, place_before}
 use Rattle.ss_line.specs.declared.entry.At.{At}
 use Rattle.ss_line.specs.declared.entry.Entry.{Entry}
+use Rattle.ss_line.proofs.Places.{index-once, is_at-same, place_at-seam}
 use Rattle.ss_schedule.specs.Pairs.{pair_at, pair_among, pair_of}
 use Rattle.ss_schedule.proofs.Places.{AreApart, AreApart-seam, Ends, IsAt-stands, apart-before, apart-behind, ends, with_last, without_last}
-use Rattle.ss_schedule.proofs.Places.{entry-once, index-once}
-use Rattle.ss_schedule.proofs.Places.{is_at-same, place_at-behind, place_at-seam}
+use Rattle.ss_schedule.proofs.Places.{entry-once, place_at-behind}
 
 pub pair_among-absent : (e : At × Entry) (entries : List (At × Entry)) (at : At) → list_any (is_at at) entries ≡ false →
     pair_among e entries at ≡ None
@@ -56,16 +57,13 @@ pair_at-seam before x at entry rest once = pair_at-past before x ((at, entry) �
 pub pair_at-first : (at : At) (entry : Entry) (rest : List (At × Entry)) → AreApart ((at, entry) ∷ rest) → pair_at ((at, entry) ∷ rest) at ≡ None
 pair_at-first at entry rest apart = pair_among-absent (at, entry) rest at (apart-behind [] at entry rest apart)
 
-pub some-same : {X : Type 0} (x y : X) → Some x ≡ Some y → x ≡ y
-some-same x y same = cc
-
 module _ (entries : List (At × Entry)) (apart : AreApart entries) where
   -- the entry that is read at a place
   pub entry-apart : (before : List (At × Entry)) (at : At) (entry read : Entry) (rest : List (At × Entry)) → entries ≡ before ++ (at, entry) ∷ rest →
       entry_at entries at ≡ Some read → entry ≡ read
   entry-apart before at entry read rest is found =
       let once = apart-before before at entry rest (AreApart-seam entries _ is apart) in
-      some-same entry read (sym (ap (λ es. entry_at es at) is ∙ entry-once before at entry rest once) ∙ found)
+      same_Some entry read (sym (ap (λ es. entry_at es at) is ∙ entry-once before at entry rest once) ∙ found)
 
   -- the pair of two neighbours
   pub pair_at-neighbours : (before : List (At × Entry)) (x : At × Entry) (at : At) (entry : Entry) (rest : List (At × Entry)) →
@@ -79,7 +77,7 @@ module _ (entries : List (At × Entry)) (apart : AreApart entries) where
       Some right ≡ place_at rest 0 → entry_at entries right ≡ Some next → pair_at entries right ≡ Some (pair_of (at, entry) (right, next))
   paired-behind at right entry next w before [] is first there read = absurd (cc)
   paired-behind at right entry next w before (x ∷ xs) is first there read =
-      let place = some-same right x.0 there in
+      let place = same_Some right x.0 there in
       let moved = is ∙ sym (append_assoc before ((at, w) ∷ []) (x ∷ xs)) in
       let second = entry-apart (before ++ (at, w) ∷ []) x.0 x.1 next xs moved (ap (entry_at entries) (sym place) ∙ read) in
       ap (pair_at entries) place ∙ pair_at-neighbours before (at, w) x.0 x.1 xs is ∙ cc
@@ -106,7 +104,7 @@ module _ (entries : List (At × Entry)) (apart : AreApart entries) where
       let long : length (front ++ x ∷ []) ≡ suc (length front) = omega (arith, length-append front (x ∷ [])) in
       let here : Some left ≡ Some x.0 = there ∙ ap (place_before entries) long ∙ ap (λ es. place_at es (length front)) moved
       ∙ place_at-seam front (x ∷ (at, w) ∷ rest) in
-      let place = some-same left x.0 here in
+      let place = same_Some left x.0 here in
       let second = entry-apart front x.0 x.1 window ((at, w) ∷ rest) moved (ap (entry_at entries) (sym place) ∙ read) in
       pair_at-neighbours front x at w rest moved ∙ cc
 

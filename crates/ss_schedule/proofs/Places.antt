@@ -1,13 +1,15 @@
 -- Where entries stand in a line.
 use Rattle.std.proofs.Common.{◌≡◌, ◌∙◌, ℕ, ◌+◌, ◌≤◌, Bool, true, false, cond, List, [], ◌∷◌, ◌++◌, length, refl, take}
-use Rattle.std.proofs.Common.{sym, ap, subst, arith, append_assoc, length-append, count_by, Some, None, inl, inr}
-use Rattle.std.specs.List.{find, list_any, position_or_len, remove}
+use Rattle.std.proofs.Common.{sym, ap, subst, arith, append_assoc, length-append, count_by, Some, inl, inr}
+use Rattle.std.specs.List.{list_any, remove}
 use Rattle.std.specs.Option.{option_map}
-use Rattle.std.proofs.lemmas.Bool.{cases_Bool, cond-true, eqb-true, eq-eqb, or_parts, both_ways}
+use Rattle.std.proofs.lemmas.Bool.{cases_Bool, cond-true, or_parts, both_ways}
 use Rattle.std.proofs.lemmas.List.Sums.{sum_by-append, sum_by-cons}
-use Rattle.ss_line.specs.Line.{StandsIn, entry_at, index_of, is_at, place_at}
+use Rattle.ss_line.specs.Line.{StandsIn, entry_at, is_at, place_at}
 use Rattle.ss_line.specs.declared.entry.At.{At}
 use Rattle.ss_line.specs.declared.entry.Entry.{Entry}
+pub use Rattle.ss_line.proofs.Places.{index-once}
+use Rattle.ss_line.proofs.Places.{find-once, is_at-same, list_any-cons_false, once-before, place_at-seam, same_place}
 
 -- no two entries stand at one place
 abbrev pub AreApart : List (At × Entry) → Type 0
@@ -20,15 +22,6 @@ pub record IsAt (entries : List (At × Entry)) (at : At) : Type 0 where
   pub rest : List (At × Entry)
   pub is : entries ≡ before ++ (at, entry) ∷ rest
   pub once : list_any (is_at at) before ≡ false
-
-pub is_at-same : (at : At) (entry : Entry) → is_at at (at, entry) ≡ true
-is_at-same at entry = eq-eqb at.0 at.0 refl
-
-pub same_place : (at : At) (e : At × Entry) → is_at at e ≡ true → e.0 ≡ at
-same_place at e is = let same = eqb-true e.0.0 at.0 is in ap (λ n. let a : At = record { 0 = n } in a) same
-
-pub list_any-cons_false : {X : Type 0} (p : X → Bool) (x : X) (xs : List X) → p x ≡ false → list_any p xs ≡ false → list_any p (x ∷ xs) ≡ false
-list_any-cons_false p x xs first rest = rw (first, rest) refl
 
 pub list_any-snoc_false : {X : Type 0} (p : X → Bool) (xs : List X) (x : X) → list_any p xs ≡ false → p x ≡ false →
     list_any p (xs ++ x ∷ []) ≡ false
@@ -56,47 +49,14 @@ IsAt-stands (e ∷ es) at stands =
           })
     ]
 
-position-once : {X : Type 0} (p : X → Bool) (before : List X) (x : X) (rest : List X) → list_any p before ≡ false → p x ≡ true →
-    position_or_len p (before ++ x ∷ rest) ≡ length before
-position-once p [] x rest once passes = rw passes refl
-position-once p (y ∷ ys) x rest once passes =
-    let parts = or_parts (p y) (list_any p ys) once in
-    let later = position-once p ys x rest parts.1 passes in
-    rw parts.0 (omega (arith, later))
-
-pub index-once : (before : List (At × Entry)) (at : At) (entry : Entry) (rest : List (At × Entry)) → list_any (is_at at) before ≡ false →
-    index_of (before ++ (at, entry) ∷ rest) at ≡ length before
-index-once before at entry rest once = position-once (is_at at) before (at, entry) rest once (is_at-same at entry)
-
 pub stands-once : (before : List (At × Entry)) (at : At) (entry : Entry) (rest : List (At × Entry)) → list_any (is_at at) before ≡ false →
     StandsIn (before ++ (at, entry) ∷ rest) at
 stands-once before at entry rest once = omega (arith, index-once before at entry rest once, length-append before ((at, entry) ∷ rest))
-
-find-once : {X : Type 0} (p : X → Bool) (before : List X) (x : X) (rest : List X) → list_any p before ≡ false → p x ≡ true →
-    find p (before ++ x ∷ rest) ≡ Some x
-find-once p [] x rest once passes = rw passes refl
-find-once p (y ∷ ys) x rest once passes =
-    let parts = or_parts (p y) (list_any p ys) once in rw parts.0 (find-once p ys x rest parts.1 passes)
 
 pub entry-once : (before : List (At × Entry)) (at : At) (entry : Entry) (rest : List (At × Entry)) → list_any (is_at at) before ≡ false →
     entry_at (before ++ (at, entry) ∷ rest) at ≡ Some entry
 entry-once before at entry rest once =
     ap (option_map (λ (e : At × Entry). e.1)) (find-once (is_at at) before (at, entry) rest once (is_at-same at entry))
-
--- what stands once is before nothing of its kind, and behind nothing of it
-once-before : {X : Type 0} (p : X → Bool) (before : List X) (x : X) (rest : List X) → p x ≡ true → count_by p (before ++ x ∷ rest) ≤ 1 →
-    list_any p before ≡ false
-once-before p [] x rest passes few = refl
-once-before p (y ∷ ys) x rest passes few =
-    let seam = sum_by-append (λ z. cond (p z) 1 0) ys (x ∷ rest) in
-    let here = sum_by-cons (λ z. cond (p z) 1 0) x rest in
-    let one : cond {A = ℕ} (p x) 1 0 ≡ 1 = cond-true (p x) 1 0 passes in
-    let first = sum_by-cons (λ z. cond (p z) 1 0) y (ys ++ x ∷ rest) in
-    elim (cases_Bool (p y)) [
-      | inl also ↦
-          (let another : cond {A = ℕ} (p y) 1 0 ≡ 1 = cond-true (p y) 1 0 also in absurd (omega (arith, seam, here, one, first, another, few)))
-      | inr fails ↦ list_any-cons_false p y ys fails (once-before p ys x rest passes (omega (arith, first, few)))
-    ]
 
 none-counted : {X : Type 0} (p : X → Bool) (xs : List X) → count_by p xs ≤ 0 → list_any p xs ≡ false
 none-counted p [] none = refl
@@ -107,6 +67,7 @@ none-counted p (x ∷ xs) none =
       | inr fails ↦ list_any-cons_false p x xs fails (none-counted p xs (omega (arith, first, none)))
     ]
 
+-- what stands once is behind nothing of its kind
 once-behind : {X : Type 0} (p : X → Bool) (before : List X) (x : X) (rest : List X) → p x ≡ true → count_by p (before ++ x ∷ rest) ≤ 1 →
     list_any p rest ≡ false
 once-behind p before x rest passes few =
@@ -121,10 +82,6 @@ module _ (before : List (At × Entry)) (at : At) (entry : Entry) (rest : List (A
 
   pub apart-behind : list_any (is_at at) rest ≡ false
   apart-behind = once-behind (is_at at) before (at, entry) rest (is_at-same at entry) (apart at)
-
-pub place_at-seam : (before after : List (At × Entry)) → place_at (before ++ after) (length before) ≡ place_at after 0
-place_at-seam [] after = refl
-place_at-seam (e ∷ es) after = place_at-seam es after
 
 -- the place behind the one before which these stand
 pub place_at-behind : (before : List (At × Entry)) (e : At × Entry) (rest : List (At × Entry)) →
@@ -190,10 +147,6 @@ fresh-none (e ∷ es) at fresh =
     ]
 
 -- the first place
-pub none-first : (entries : List (At × Entry)) → None ≡ place_at entries 0 → entries ≡ []
-none-first [] read = refl
-none-first (e ∷ es) read = absurd (cc)
-
 pub some-first : (entries : List (At × Entry)) (at : At) → Some at ≡ place_at entries 0 →
     (e : At × Entry) × (es : List (At × Entry)) × (entries ≡ e ∷ es) × (e.0 ≡ at)
 some-first [] at read = absurd (cc)

@@ -2,12 +2,14 @@
 use Rattle.std.proofs.Common.{◌≡◌, ◌∙◌, ℕ, suc, ◌+◌, ◌≤◌, List, [], ◌∷◌, ◌++◌, length, refl}
 use Rattle.std.proofs.Common.{sym, ap, arith, length-append, Option, Some, None, IfSome}
 use Rattle.std.specs.Option.{SomeIff}
+use Rattle.std.proofs.lemmas.Option.{same_Some}
 use Rattle.ss_line.specs.Line.{entry_at, place_before}
 use Rattle.ss_line.specs.declared.entry.At.{At}
 use Rattle.ss_line.specs.declared.entry.Entry.{Entry}
+use Rattle.ss_line.proofs.Places.{place_at-seam}
 use Rattle.ss_schedule.specs.Keyed.{TileUpTo, FollowUpTo}
-use Rattle.ss_schedule.proofs.PairLemmas.{entry-apart, some-same}
-use Rattle.ss_schedule.proofs.Places.{AreApart, Ends, ends, place_at-seam, with_last, without_last}
+use Rattle.ss_schedule.proofs.PairLemmas.{entry-apart}
+use Rattle.ss_schedule.proofs.Places.{AreApart, Ends, ends, with_last, without_last}
 
 TileUpTo-more : (n first : ℕ) (front : List (At × Entry)) (last new : At × Entry) → TileUpTo n first (front ++ last ∷ []) →
     new.1.first ≡ last.1.last + 1 →
@@ -35,7 +37,7 @@ pub follows-last : (n : ℕ) (entries : List (At × Entry)) (at : At) (e : Entry
     FollowUpTo n (entries ++ new ∷ [])
 follows-last n _ at e new without_last apart follow last read next order taken = absurd (cc)
 follows-last n _ at e new (with_last front x) apart follow last read next order taken =
-    let place = some-same at x.0 (last ∙ some-last front x) in
+    let place = same_Some at x.0 (last ∙ some-last front x) in
     let same = entry-apart (front ++ x ∷ []) apart front x.0 x.1 e [] refl (ap (entry_at (front ++ x ∷ [])) (sym place) ∙ read) in
     FollowUpTo-more n front x new follow (next ∙ ap (λ (w : Entry). w.last + 1) (sym same)) order taken
 

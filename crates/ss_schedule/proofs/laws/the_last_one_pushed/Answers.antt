@@ -1,5 +1,6 @@
 use Rattle.std.proofs.Common.{[]}
-use Rattle.ss_schedule.proofs.Places.{fresh-none, index-once}
+use Rattle.ss_line.proofs.Places.{index-once}
+use Rattle.ss_schedule.proofs.Places.{fresh-none}
 use Rattle.ss_schedule.proofs.laws.the_last_one_pushed.Goals as goal
 
 pub returns : goal.returns
