@@ -1,34 +1,19 @@
 -- The records of dropped streams, in the order in which they are cleared: each may go in turn, and their slots rise.
-use Rattle.std.proofs.Common.{◌≡◌, ◌∙◌, ℕ, ◌+◌, ◌<◌, ◌≤◌, Bool, true, false, not, List, [], ◌∷◌, ◌++◌, filter, map, refl, sym, ap, ap₂, subst}
-use Rattle.std.proofs.Common.{arith, inl, inr, IsPermutation, Option, Some, None, zero, suc}
-use Rattle.std.specs.Prelude.{◌==◌, count_by}
-use Rattle.std.specs.List.{AllByRecursion, list_any, range_with_len}
-use Rattle.std.proofs.lemmas.Bool.{and_parts, cases_Bool, cond-true, eq-eqb, eqb-true, not_from_false}
-use Rattle.std.proofs.lemmas.Bool.{or_cases, or_from, or_left, or_right, true≢false}
-use Rattle.std.proofs.lemmas.List.{map-append}
-use Rattle.std.proofs.lemmas.List.Elements.{filter_map-append}
-use Rattle.std.proofs.lemmas.List.Folds.{list_any-append}
-use Rattle.std.proofs.lemmas.List.Sorted.{IsPermutation-map, IsPermutation-sym, IsPermutation-trans}
-use Rattle.ss_journal.specs.Redo.{SlotMap}
-use Rattle.ss_records.specs.Live.{are_zeros}
+use Rattle.ss_recover.proofs.Words.{[], ◌++◌, ◌+◌, ◌<◌, ◌==◌, ◌∙◌, ◌∷◌, ◌≡◌, ◌≤◌, AllByRecursion, and_parts, ap, ap₂, are_zeros, AreSlotsOf, arith, Bool}
+use Rattle.ss_recover.proofs.Words.{cases_Bool, cond-true, count_by, Created, created_by, doomed_among, doomed_found, doomed_slots, eq-eqb, eqb-true, false}
+use Rattle.ss_recover.proofs.Words.{filter, filter_map-append, Found, GoInTurn, in_slot, inl, inr, is_doomed, is_drop_of, is_dropped, is_of, is_own}
+use Rattle.ss_recover.proofs.Words.{IsPermutation, IsPermutation-map, IsPermutation-sym, IsPermutation-trans, List, list_any, list_any-append, map, map-append}
+use Rattle.ss_recover.proofs.Words.{map-id, may_go, None, not, not_from_false, occupied, Option, or_cases, or_from, or_left, or_right, range_with_len, Record}
+use Rattle.ss_recover.proofs.Words.{records_beside, refl, SlotMap, slots_found, Some, stands_by, stream_of, streams_created, subst, suc, sym, true, true≢false}
+use Rattle.ss_recover.proofs.Words.{without_slots, zero, ℕ}
 use Rattle.ss_codec.specs.Decoded.{decoded}
-use Rattle.ss_codec.specs.declared.record.Record.{Record}
-use Rattle.ss_codec.specs.declared.record.Record.TheVariants as records
-use Rattle.ss_model.specs.State.{Created}
-use Rattle.ss_recover.specs.Carried.{created_by, is_drop_of, is_dropped, stands_by, stream_number, streams_created}
-use Rattle.ss_recover.specs.Doomed.{GoInTurn, doomed_among, doomed_slots, is_doomed, is_of, is_own, may_go, records_beside}
-use Rattle.ss_recover.specs.Held.{occupied}
-use Rattle.ss_recover.specs.Order.{stream_of}
-use Rattle.ss_recover.specs.Runs.{AreSlotsOf, doomed_found}
-use Rattle.ss_recover.specs.Usable.{in_slot, slots_found, without_slots}
-use Rattle.ss_recover.specs.declared.found.Found.{Found}
-use Rattle.ss_recover.proofs.DoomedLemmas.{IsGone, IsSoundOf, beside-found, doomed_among-found, doomed_found-moved, dropped-doomed, first-in_slot, own-doomed}
+use Rattle.ss_recover.proofs.DoomedLemmas.{beside-found, doomed_among-found, doomed_found-moved, dropped-doomed, first-in_slot, IsGone, IsSoundOf, own-doomed}
 use Rattle.ss_recover.proofs.DoomedLemmas.{without_slots-doomed}
-use Rattle.ss_recover.proofs.DroppedRecords.{numbered-cons}
+use Rattle.ss_recover.proofs.SoundNumbers.{is_numbered, numbered-cons, one-sound}
 use Rattle.ss_recover.proofs.InOrder.{Rise, Rise-filter, Rises-IsPermutation}
 use Rattle.ss_recover.proofs.Lists.{all-from_map, all-kept, all-passing, all_both, all_weaker, map-all, map-map}
-use Rattle.ss_recover.proofs.SoundNumbers.{is_numbered, one-sound}
 use Rattle.ss_recover.proofs.SoundStreams.{digit}
+use Rattle.ss_codec.specs.declared.record.Record.TheVariants as records
 
 -- ---- in turn
 
@@ -38,10 +23,6 @@ count n rs = count_by (is_numbered n) (streams_created rs)
 -- streams' own records, of which none is of a number
 none-of : (n : ℕ) (rs : List Record) → AllByRecursion (λ r. is_own r ≡ true) rs → count n rs ≡ 0 → list_any (is_of n) rs ≡ false
 none-of n [] own none = refl
-none-of n (records.Free ∷ rs) own none = absurd (true≢false (sym own.0))
-none-of n (records.Window id first summary ∷ rs) own none = absurd (true≢false (sym own.0))
-none-of n (records.Landmark id number values start finish ∷ rs) own none = absurd (true≢false (sym own.0))
-none-of n (records.Value id number index t v ∷ rs) own none = absurd (true≢false (sym own.0))
 none-of n (records.Stream id name params dropped ∷ rs) own none =
     let c : Created = record { number = id; name = name; params = params } in
     let sum = numbered-cons n (Some c) (streams_created rs) in
@@ -49,6 +30,7 @@ none-of n (records.Stream id name params dropped ∷ rs) own none =
       | inl same ↦ (let one : digit (id == n) ≡ 1 = cond-true (id == n) 1 0 same in absurd (omega (arith, sum, one, none)))
       | inr other ↦ or_from (id == n) (list_any (is_of n) rs) other (none-of n rs own.1 (omega (arith, sum, none)))
     ]
+none-of n (_ ∷ rs) own none = absurd (true≢false (sym own.0))
 
 -- of fewer records no more are of a number
 count-kept : (n : ℕ) (test : Record → Bool) (rs : List Record) → count n (filter test rs) ≤ count n rs
@@ -77,8 +59,7 @@ record GoesLast (others : List Record) (f : Found) : Type 0 where
 
 beside-parts : (fs : List Found) (others : List (ℕ × Option Record)) →
     records_beside (map in_slot fs ++ others) ≡ without_slots fs ++ records_beside others
-beside-parts fs others =
-    filter_map-append (λ (e : ℕ × Option Record). e.1) (map in_slot fs) others ∙ ap (λ l. l ++ records_beside others) (beside-found fs)
+beside-parts fs others = filter_map-append (λ (e : ℕ × Option Record). e.1) (map in_slot fs) others ∙ ap (λ l. l ++ records_beside others) (beside-found fs)
 
 heads-go : (fs : List Found) (others : List (ℕ × Option Record)) → AllByRecursion (GoesLast (records_beside others)) fs →
     AllByRecursion (λ (f : Found). count (stream_of f.holds) (without_slots fs) ≤ 1) fs → GoInTurn (map in_slot fs) others
@@ -97,9 +78,6 @@ heads-go (f ∷ fs) others last few = (
     goes : (r : Record) → is_own r ≡ true → stands_by r ≡ None → IsNoneAmong (records_beside others) r → count (stream_of r) (r ∷ without_slots fs) ≤ 1 →
         may_go r (records_beside (map in_slot fs ++ others)) ≡ true
     goes records.Free own gone apart few = absurd (true≢false (sym own))
-    goes (records.Window id first summary) own gone apart few = absurd (true≢false (sym own))
-    goes (records.Landmark id number values start finish) own gone apart few = absurd (true≢false (sym own))
-    goes (records.Value id number index t v) own gone apart few = absurd (true≢false (sym own))
     goes (records.Stream id name params false) own gone apart few = absurd (cc)
     goes (records.Stream id name params true) own gone apart few =
         let c : Created = record { number = id; name = name; params = params } in
@@ -108,6 +86,7 @@ heads-go (f ∷ fs) others last few = (
         not_from_false (list_any (is_of id) (records_beside (map in_slot fs ++ others)))
         (ap (list_any (is_of id)) (beside-parts fs others) ∙ list_any-append (is_of id) (without_slots fs) (records_beside others)
         ∙ or_from (list_any (is_of id) (without_slots fs)) (list_any (is_of id) (records_beside others)) (none-of id (without_slots fs) owns none) apart)
+    goes _ own gone apart few = absurd (true≢false (sym own))
 
 -- those of windows, landmarks and values go before them
 others-go : (us : List Record) (fs heads : List Found) (others : List (ℕ × Option Record)) →
@@ -128,10 +107,7 @@ others-go us (f ∷ fs) heads others doomed kept last =
     goes : (r : Record) → is_doomed false us r ≡ true → may_go r (records_beside (map in_slot (fs ++ heads) ++ others)) ≡ true
     goes records.Free doomed = absurd (true≢false (sym doomed))
     goes (records.Stream id name params dropped) doomed = absurd (true≢false (sym doomed))
-    goes (records.Window id first summary) doomed = gone id (dropped-doomed false us (records.Window id first summary) doomed)
-    goes (records.Landmark id number values start finish) doomed =
-        gone id (dropped-doomed false us (records.Landmark id number values start finish) doomed)
-    goes (records.Value id number index t v) doomed = gone id (dropped-doomed false us (records.Value id number index t v) doomed)
+    goes r doomed = gone (stream_of r) (dropped-doomed false us r doomed)
 
 -- what passes one test passes another
 any-kept : {X : Type 0} (p q : X → Bool) → ((x : X) → p x ≡ true → q x ≡ true) → (xs : List X) → list_any p xs ≡ true → list_any p (filter q xs) ≡ true
@@ -153,9 +129,7 @@ drops-doomed us n gone records.Free is = absurd (true≢false (sym is))
 drops-doomed us n gone (records.Stream id name params dropped) is =
     let parts = and_parts dropped (id == n) is in
     subst (λ m. is_dropped m us ≡ true) (sym (eqb-true id n parts.1)) gone
-drops-doomed us n gone (records.Window id first summary) is = absurd (true≢false (sym is))
-drops-doomed us n gone (records.Landmark id number values start finish) is = absurd (true≢false (sym is))
-drops-doomed us n gone (records.Value id number index t v) is = absurd (true≢false (sym is))
+drops-doomed us n gone _ is = absurd (true≢false (sym is))
 
 -- all of them may go in turn
 pub doomed-go : (all : List Found) (others : List (ℕ × Option Record)) → AllByRecursion (IsSoundOf (without_slots all)) (without_slots all) →
@@ -171,15 +145,13 @@ doomed-go all others sound gone apart =
     let gone_heads = all-kept (λ (f : Found). IsGone us f.holds) (λ (f : Found). is_doomed true us f.holds) all
     (all-from_map (IsGone us) (λ (f : Found). f.holds) all gone) in
     let last : AllByRecursion (GoesLast (records_beside others)) heads =
-    all_both (λ (f : Found). is_doomed true us f.holds ≡ true) (λ (f : Found). IsGone us f.holds) (GoesLast (records_beside others))
-    (λ f is silent.
+    all_both (λ (f : Found). is_doomed true us f.holds ≡ true) (λ (f : Found). IsGone us f.holds) (GoesLast (records_beside others)) (λ f is silent.
     let dropped = dropped-doomed true us f.holds is in
     record { own = own-doomed us f.holds is; gone = silent dropped; apart = apart (stream_of f.holds) dropped }) heads doomed gone_heads in
     let few : AllByRecursion (λ (f : Found). count (stream_of f.holds) (without_slots heads) ≤ 1) heads =
     all_both (λ (f : Found). is_doomed true us f.holds ≡ true) (λ (f : Found). IsSoundOf us f.holds)
-    (λ (f : Found). count (stream_of f.holds) (without_slots heads) ≤ 1)
-    (λ f is fine.
-    let one = one-sound us (stream_of f.holds) (fine (stream_of f.holds) (numbered f.holds (own-doomed us f.holds is))) in
+    (λ (f : Found). count (stream_of f.holds) (without_slots heads) ≤ 1) (λ f is fine.
+    let one = one-sound us (stream_of f.holds) fine in
     let kept = count-kept (stream_of f.holds) (is_doomed true us) us in
     let same : count (stream_of f.holds) (without_slots heads) ≡ count (stream_of f.holds) (filter (is_doomed true us) us) =
     ap (count (stream_of f.holds)) (without_slots-doomed true all) in
@@ -187,13 +159,6 @@ doomed-go all others sound gone apart =
     others-go us (doomed_found false all) heads others (all-passing (λ (f : Found). is_doomed false us f.holds) all)
     (λ n is. ap (is_dropped n) (without_slots-doomed true all) ∙ any-kept (is_drop_of n) (is_doomed true us) (drops-doomed us n is) us is)
     (heads-go heads others last few)
-  where
-    numbered : (r : Record) → is_own r ≡ true → stream_number r ≡ Some (stream_of r)
-    numbered records.Free own = absurd (true≢false (sym own))
-    numbered (records.Stream id name params dropped) own = refl
-    numbered (records.Window id first summary) own = refl
-    numbered (records.Landmark id number values start finish) own = refl
-    numbered (records.Value id number index t v) own = refl
 
 -- ---- in the order of the slots
 
@@ -219,13 +184,9 @@ Rise-found all found is =
     let live = filter (λ slot. not (are_zeros (found.bytes slot))) (range_with_len 0 found.extent) in
     let same : slots_found all ≡ live =
     sym (first-in_slot all) ∙ ap (map (λ (e : ℕ × Option Record). e.0)) is
-    ∙ map-map (λ (e : ℕ × Option Record). e.0) (λ slot. (slot, decoded (found.bytes slot))) live ∙ same-map live in
+    ∙ map-map (λ (e : ℕ × Option Record). e.0) (λ slot. (slot, decoded (found.bytes slot))) live ∙ map-id live in
     Rise-map (λ (f : Found). f.slot) all (subst (Rise (λ (s : ℕ). s)) (sym same)
     (Rise-filter (λ (s : ℕ). s) (λ slot. not (are_zeros (found.bytes slot))) (range_with_len 0 found.extent) (Rise-range 0 found.extent)))
-  where
-    same-map : (xs : List ℕ) → map (λ slot. slot) xs ≡ xs
-    same-map [] = refl
-    same-map (x ∷ xs) = ap (λ l. x ∷ l) (same-map xs)
 
 -- sorted slots are in the order of the slots
 pub slots-in_order : (own : Bool) (slots : List ℕ) (all sorted : List Found) → AreSlotsOf slots (doomed_found own sorted) → IsPermutation all sorted →
@@ -233,10 +194,8 @@ pub slots-in_order : (own : Bool) (slots : List ℕ) (all sorted : List Found) �
 slots-in_order own slots all sorted are moved rise =
     let here = doomed_found own all in
     let there = doomed_found own sorted in
-    Rises-IsPermutation (λ (s : ℕ). s) slots (slots_found here) are.rising
-    (IsPermutation-trans (slots_found here) (slots_found there) slots
-    (IsPermutation-map (λ (f : Found). f.slot) here there (doomed_found-moved own all sorted moved))
-    (IsPermutation-sym slots (slots_found there) are.are))
+    Rises-IsPermutation (λ (s : ℕ). s) slots (slots_found here) are.rising (IsPermutation-trans (slots_found here) (slots_found there) slots
+    (IsPermutation-map (λ (f : Found). f.slot) here there (doomed_found-moved own all sorted moved)) (IsPermutation-sym slots (slots_found there) are.are))
     (map-Rise (λ (f : Found). f.slot) here (Rise-filter (λ (f : Found). f.slot) (λ (f : Found). is_doomed own (without_slots all) f.holds) all rise))
 
 -- and are those that a map has

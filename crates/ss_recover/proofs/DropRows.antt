@@ -1,16 +1,8 @@
 -- Which records of dropped streams may go, beside which others.
-use Rattle.std.specs.Prelude.{◌≡◌, ℕ, Bool, true, false, pos, List, [], ◌∷◌, map, replicate, Some, None}
-use Rattle.std.proofs.Common.{refl, sym}
-use Rattle.std.proofs.lemmas.Bool.{true≢false}
-use Rattle.ss_summary.specs.Figures.{Figures}
-use Rattle.ss_summary.specs.Filters.{full}
+use Rattle.ss_recover.proofs.Words.{[], ◌∷◌, ◌≡◌, Bool, false, Figures, full, GoInTurn, has_place, List, map, may_go, None, pos, Record, refl, replicate, Some}
+use Rattle.ss_recover.proofs.Words.{Stream, streams_created, sym, true, true≢false, without_numbered, ℕ}
 use Rattle.ss_catalog.specs.Params.{exp as Exp}
-use Rattle.ss_codec.specs.declared.record.Record.{Record}
 use Rattle.ss_codec.specs.declared.record.Record.TheVariants as records
-use Rattle.ss_model.specs.State.{Stream}
-use Rattle.ss_recover.specs.Carried.{streams_created}
-use Rattle.ss_recover.specs.Conditions.{has_place}
-use Rattle.ss_recover.specs.Doomed.{GoInTurn, may_go, without_numbered}
 
 -- the name `a`, and one value 5
 abbrev a : List ℕ

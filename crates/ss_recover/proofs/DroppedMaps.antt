@@ -1,36 +1,24 @@
 -- Maps without a record of a dropped stream, and those of a stream that is dropped.
-use Rattle.std.proofs.Common.{◌≡◌, ◌∙◌, ℕ, ◌+◌, ◌-◌, ◌<◌, Bool, true, false, ◌||◌, cond, nat_eq, List, [], ◌∷◌, ◌++◌, map, length, refl, sym, ap, ap₂, subst}
-use Rattle.std.proofs.Common.{arith, inl, inr, IsPermutation, IsTrue, Option, Some, None}
-use Rattle.std.specs.Prelude.{is_none, nat_lt, not}
-use Rattle.std.specs.List.{AllByRecursion, filter_map, list_any, position_or_len, range_with_len}
-use Rattle.std.proofs.lemmas.Bool.{cases_Bool, cond-false, cond-true}
-use Rattle.std.proofs.lemmas.Bool.Decides.{nat_tests}
-use Rattle.std.proofs.lemmas.List.{length-append, map-append}
-use Rattle.std.proofs.lemmas.List.Elements.{All-from_recursion, filter_map-append, recursion_from_All}
-use Rattle.std.proofs.lemmas.List.Folds.{list_any-append}
-use Rattle.std.proofs.lemmas.List.Sorted.{All-permutation, IsPermutation-sym, list_any-IsPermutation}
-use Rattle.ss_journal.specs.Puts.{with_put}
-use Rattle.ss_journal.specs.Redo.{SlotMap, changed, zeros}
-use Rattle.ss_journal.specs.declared.put.Put.{Put}
-use Rattle.ss_records.specs.Live.{are_zeros}
+use Rattle.ss_recover.proofs.Words.{[], ◌++◌, ◌+◌, ◌-◌, ◌<◌, ◌||◌, ◌∙◌, ◌∷◌, ◌≡◌, All-from_recursion, All-permutation, AllByRecursion, ap, ap₂, are_zeros}
+use Rattle.ss_recover.proofs.Words.{arith, Bool, carries, cases_Bool, changed, cond, cond-false, cond-true, Created, decoded-spelling, decoded-Spells, false}
+use Rattle.ss_recover.proofs.Words.{filter_map, filter_map-append, HasWholeSlots, inl, inr, is_none, is_valid-free, IsPermutation, IsPermutation-sym, IsRecord}
+use Rattle.ss_recover.proofs.Words.{IsTrue, judged, length, length-append, List, list_any, list_any-append, list_any-IsPermutation, lowest_bad_slot}
+use Rattle.ss_recover.proofs.Words.{lowest_bad_stream, map, map-append, may_go, nat_eq, nat_lt, nat_tests, None, not, occupied, Option, position_or_len, Put}
+use Rattle.ss_recover.proofs.Words.{range_with_len, Record, records_beside, records_in, recursion_from_All, refl, SlotMap, Some, spelling-free, Stream}
+use Rattle.ss_recover.proofs.Words.{stream_number, streams_carried, subst, sym, true, with_put, without_numbered, zeros, ℕ}
 use Rattle.ss_codec.specs.Decoded.{decoded}
-use Rattle.ss_codec.specs.declared.record.Record.{Record}
-use Rattle.ss_codec.specs.declared.record.Record.TheVariants as records
-use Rattle.ss_codec.proofs.RecordLemmas.{decoded-Spells, decoded-spelling, is_valid-free, spelling-free}
-use Rattle.ss_model.specs.State.{Created, Stream}
-use Rattle.ss_recover.specs.Carried.{spelled, stream_number}
-use Rattle.ss_recover.specs.Doomed.{may_go, records_beside, without_numbered}
-use Rattle.ss_recover.specs.Held.{HasWholeSlots, IsRecord, occupied}
-use Rattle.ss_recover.specs.Parts.{carried, carries, judged, lowest_bad_slot, lowest_bad_stream, records_in, streams_carried}
+use Rattle.ss_recover.specs.Carried.{spelled}
+use Rattle.ss_recover.specs.Parts.{carried}
 use Rattle.ss_recover.proofs.DroppedRecords.{CarryThem, may-goes, may_go-same}
 use Rattle.ss_recover.proofs.DroppedStreams.{is-dropped}
-use Rattle.ss_recover.proofs.FreeSlots.{ZerosAreFree, any-filled, zeros_are_free}
+use Rattle.ss_recover.proofs.FreeSlots.{any-filled, zeros_are_free, ZerosAreFree}
 use Rattle.ss_recover.proofs.Lists.{all_behind, all_front, all_weaker, range-above, range-below}
-use Rattle.ss_recover.proofs.Occupied.{IsAmong, IsAmong-filled, back, filled, filled-live, filled-zeros, front, range-at}
+use Rattle.ss_recover.proofs.Occupied.{back, filled, filled-live, filled-zeros, front, IsAmong, IsAmong-filled, range-at}
 use Rattle.ss_recover.proofs.Permutations.{IsPermutation-filter_map}
 use Rattle.ss_recover.proofs.PutLemmas.{extent-stays}
 use Rattle.ss_recover.proofs.SoundNumbers.{AreSound, AreSound-none_bad, carries-judged}
 use Rattle.ss_recover.proofs.WholeSlots.{spells-same}
+use Rattle.ss_codec.specs.declared.record.Record.TheVariants as records
 
 -- what is beside a slot is what its bytes spell
 filled-spells : (bytes : ℕ → List ℕ) (slots : List ℕ) → AllByRecursion (λ e. e.1 ≡ decoded (bytes e.0)) (filled bytes slots)
@@ -46,8 +34,7 @@ entry-spells : (bytes : ℕ → List ℕ) (p n : ℕ) (was : Option Record) (res
     IsPermutation ((p, was) ∷ rest) (filled bytes (range_with_len 0 n)) → was ≡ decoded (bytes p)
 entry-spells bytes p n was rest moved =
     let P : ℕ × Option Record → Type 0 = λ e. e.1 ≡ decoded (bytes e.0) in
-    (recursion_from_All P ((p, was) ∷ rest)
-    (All-permutation P (filled bytes (range_with_len 0 n)) ((p, was) ∷ rest) (IsPermutation-sym _ _ moved)
+    (recursion_from_All P ((p, was) ∷ rest) (All-permutation P (filled bytes (range_with_len 0 n)) ((p, was) ∷ rest) (IsPermutation-sym _ _ moved)
     (All-from_recursion P (filled bytes (range_with_len 0 n)) (filled-spells bytes (range_with_len 0 n))))).0
 
 -- what slots spell, those below one, that one and those above it
@@ -147,11 +134,9 @@ module _ (found : SlotMap) (p : ℕ) (r : Record) (others : List (ℕ × Option 
       list_any-IsPermutation test (records_beside others) (records_beside (first ++ second))
       (IsPermutation-filter_map (λ (e : ℕ × Option Record). e.1) others (first ++ second) among.others)
       ∙ ap (list_any test) (filter_map-append (λ (e : ℕ × Option Record). e.1) first second)
-      ∙ list_any-append test (records_beside first) (records_beside second)
-      ∙ ap₂ (λ (a b : Bool). a || b)
+      ∙ list_any-append test (records_beside first) (records_beside second) ∙ ap₂ (λ (a b : Bool). a || b)
       (any-filled test free found.bytes (front p) (all_front (ZerosAreFree found.bytes) (front p) (p ∷ back p found.extent) free_all))
-      (any-filled test free found.bytes (back p found.extent) free_back.1)
-      ∙ sym (list_any-append test below_it above_it)
+      (any-filled test free found.bytes (back p found.extent) free_back.1) ∙ sym (list_any-append test below_it above_it)
 
 decoded-cleared : (put : Put) → put.bytes ≡ zeros → decoded put.bytes ≡ Some records.Free
 decoded-cleared put is = ap decoded (is ∙ sym spelling-free) ∙ decoded-spelling records.Free is_valid-free

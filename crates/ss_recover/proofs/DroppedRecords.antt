@@ -1,32 +1,19 @@
 -- Records without one of a dropped stream.
-use Rattle.std.proofs.Common.{◌≡◌, ◌⊎◌, ◌∙◌, ℕ, ◌+◌, Bool, true, false, not, ◌&&◌, ◌||◌, List, [], ◌∷◌, ◌++◌, map, refl, sym, ap}
-use Rattle.std.proofs.Common.{ap₂, subst, inl, inr, arith, Option, Some, None}
-use Rattle.std.specs.Prelude.{◌==◌, count_by, nat_lt}
-use Rattle.std.specs.List.{AllByRecursion, cons_option, filter_map, list_any}
-use Rattle.std.specs.Option.{option_map_or}
-use Rattle.std.proofs.lemmas.Bool.{and_cases, and_from, and_left, and_parts, and_right, cases_Bool, cond-false, eq-eqb, eqb-true, lt-ltb, ltb-true}
-use Rattle.std.proofs.lemmas.Bool.{not-true, or_from, or_parts, true≢false}
-use Rattle.std.proofs.lemmas.List.Elements.{filter_map-append}
-use Rattle.std.proofs.lemmas.List.Folds.{list_any-append}
-use Rattle.std.proofs.lemmas.List.Sums.{sum_by-append, sum_by-cons}
-use Rattle.ss_catalog.specs.declared.params.Params.{Params}
-use Rattle.ss_catalog.specs.declared.TheConstants.{MOST_STREAMS}
-use Rattle.ss_codec.specs.declared.record.Record.{Record}
-use Rattle.ss_codec.specs.declared.record.Record.TheVariants as records
-use Rattle.ss_model.specs.State.{Created, Stream}
-use Rattle.ss_recover.specs.Carried.{created_by, in_order, is_drop_of, is_dropped, is_mark_of, stands_by, stream_number, streams_created, streams_standing}
-use Rattle.ss_recover.specs.Carried.{window_of}
-use Rattle.ss_recover.specs.Conditions.{has_new_name, has_one_record, has_place, is_named_before, is_sound, keep_own_step}
-use Rattle.ss_recover.specs.Doomed.{is_of, may_go}
-use Rattle.ss_recover.specs.Order.{stream_of}
-use Rattle.ss_recover.specs.Parts.{lowest_bad_stream, stream_carried, streams_carried}
+use Rattle.ss_recover.proofs.Words.{[], ◌&&◌, ◌++◌, ◌==◌, ◌||◌, ◌∙◌, ◌∷◌, ◌≡◌, ◌⊎◌, AllByRecursion, and_cases, and_from, and_left, and_parts, and_right, ap}
+use Rattle.ss_recover.proofs.Words.{ap₂, arith, Bool, cases_Bool, cond-false, cons_option, count_by, Created, created_by, eq-eqb, eqb-true, false, filter_map}
+use Rattle.ss_recover.proofs.Words.{filter_map-append, has_new_name, has_one_record, has_place, in_order, inl, inr, is_drop_of, is_dropped, is_mark_of}
+use Rattle.ss_recover.proofs.Words.{is_named_before, is_of, keep_own_step, List, list_any, list_any-append, lowest_bad_stream, lt-ltb, ltb-true, map, may_go}
+use Rattle.ss_recover.proofs.Words.{MOST_STREAMS, nat_lt, None, not, not-true, Option, option_map_or, or_from, or_parts, Params, Record, refl, Some, stands_by}
+use Rattle.ss_recover.proofs.Words.{Stream, stream_carried, stream_number, stream_of, streams_carried, streams_created, streams_standing, subst, sum_by-append}
+use Rattle.ss_recover.proofs.Words.{sum_by-cons, sym, true, true≢false, window_of, ℕ}
+use Rattle.ss_recover.specs.Conditions.{is_sound}
 use Rattle.ss_recover.proofs.InOrder.{all-in_order}
-use Rattle.ss_recover.proofs.Lists.{all_append, all_behind, all_both, all_front, all_weaker, filter_map-kept, kept}
+use Rattle.ss_recover.proofs.Lists.{all-each, all_append, all_behind, all_both, all_front, all_weaker, filter_map-kept, kept}
 use Rattle.ss_recover.proofs.OwnSteps.{own_step-fewer}
-use Rattle.ss_recover.proofs.SoundNumbers.{AreSound, HaveSameValues, all-false, is_numbered, is_sound-kept, none_bad-AreSound, one-dropped, one-sound}
-use Rattle.ss_recover.proofs.SoundNumbers.{stands_at}
-use Rattle.ss_recover.proofs.SoundNumbers.{stream_carried-same}
+use Rattle.ss_recover.proofs.SoundNumbers.{all-false, AreSound, HaveSameValues, is_numbered, is_sound-kept, none_bad-AreSound, one-dropped, one-sound}
+use Rattle.ss_recover.proofs.SoundNumbers.{stands_at, stream_carried-same}
 use Rattle.ss_recover.proofs.SoundStreams.{digit, none-passes, stands_alone}
+use Rattle.ss_codec.specs.declared.record.Record.TheVariants as records
 
 -- one element in the place of another, of which the same is made
 pub made-changed : {X Y : Type 0} (f : X → Option Y) (xs ys : List X) (r q : X) → f r ≡ f q → filter_map f (xs ++ r ∷ ys) ≡ filter_map f (xs ++ q ∷ ys)
@@ -34,13 +21,11 @@ made-changed f xs ys r q same =
     filter_map-append f xs (r ∷ ys) ∙ ap (λ o. filter_map f xs ++ cons_option o (filter_map f ys)) same ∙ sym (filter_map-append f xs (q ∷ ys))
 
 list_any-changed : {X : Type 0} (p : X → Bool) (xs ys : List X) (r q : X) → p r ≡ p q → list_any p (xs ++ r ∷ ys) ≡ list_any p (xs ++ q ∷ ys)
-list_any-changed p xs ys r q same =
-    list_any-append p xs (r ∷ ys) ∙ ap (λ b. list_any p xs || (b || list_any p ys)) same ∙ sym (list_any-append p xs (q ∷ ys))
+list_any-changed p xs ys r q same = list_any-append p xs (r ∷ ys) ∙ ap (λ b. list_any p xs || (b || list_any p ys)) same ∙ sym (list_any-append p xs (q ∷ ys))
 
 -- one element less
 pub list_any-without : {X : Type 0} (p : X → Bool) (xs ys : List X) (q : X) → p q ≡ false → list_any p (xs ++ q ∷ ys) ≡ list_any p (xs ++ ys)
-list_any-without p xs ys q fails =
-    list_any-append p xs (q ∷ ys) ∙ ap (λ b. list_any p xs || (b || list_any p ys)) fails ∙ sym (list_any-append p xs ys)
+list_any-without p xs ys q fails = list_any-append p xs (q ∷ ys) ∙ ap (λ b. list_any p xs || (b || list_any p ys)) fails ∙ sym (list_any-append p xs ys)
 
 list_any-fewer : {X : Type 0} (p : X → Bool) (xs ys : List X) (q : X) → list_any p (xs ++ q ∷ ys) ≡ false → list_any p (xs ++ ys) ≡ false
 list_any-fewer p xs ys q none =
@@ -57,8 +42,7 @@ pub IsNoneOf-apart : (n : ℕ) (r : Record) → (stream_of r == n) ≡ false →
 IsNoneOf-apart n records.Free apart = record { window = refl; mark = refl }
 IsNoneOf-apart n (records.Stream id name params dropped) apart = record { window = refl; mark = refl }
 IsNoneOf-apart n (records.Window id first summary) apart = record { window = rw apart refl; mark = refl }
-IsNoneOf-apart n (records.Landmark id number values start finish) apart = record { window = refl; mark = apart }
-IsNoneOf-apart n (records.Value id number index t v) apart = record { window = refl; mark = apart }
+IsNoneOf-apart n _ apart = record { window = refl; mark = apart }
 
 pub HaveSameValues-changed : (n : ℕ) (xs ys : List Record) (r q : Record) → IsNoneOf n r → IsNoneOf n q → HaveSameValues n (xs ++ r ∷ ys) (xs ++ q ∷ ys)
 HaveSameValues-changed n xs ys r q first second = record {
@@ -74,10 +58,6 @@ streams-same : (rs us : List Record) (cs : List Created) → AllByRecursion (λ 
     map (stream_carried us) cs ≡ map (stream_carried rs) cs
 streams-same rs us [] same = refl
 streams-same rs us (c ∷ cs) same = ap₂ (λ (s : Stream) (ss : List Stream). s ∷ ss) (sym (stream_carried-same rs us c same.0)) (streams-same rs us cs same.1)
-
-pub all-each : {X : Type 0} (P : X → Type 0) → ((x : X) → P x) → (xs : List X) → AllByRecursion P xs
-all-each P each [] = tt
-all-each P each (x ∷ xs) = (each x, all-each P each xs)
 
 eq-swap : (m n : ℕ) → (n == m) ≡ false → (m == n) ≡ false
 eq-swap m n other = elim (cases_Bool (m == n)) [
@@ -144,8 +124,7 @@ module _ (xs ys : List Record) (r : Record) (id : ℕ) (is : IsOther id r) (gone
       record {
         sound = none_bad-AreSound us
             (all_weaker (λ n. is_sound rs n ≡ true) (λ n. is_sound us n ≡ true) each (filter_map stream_number us) parts.1);
-        same =
-            ap (λ cs. map (stream_carried us) (in_order (λ (c : Created). c.number) cs)) (sym standing) ∙ streams-same rs us ordered same;
+        same = ap (λ cs. map (stream_carried us) (in_order (λ (c : Created). c.number) cs)) (sym standing) ∙ streams-same rs us ordered same;
       }
     where
       choice : is_dropped id us ≡ true → (n : ℕ) → ((id == n) ≡ true) ⊎ ((id == n) ≡ false) → (is_dropped n us ≡ true) ⊎ HaveSameValues n rs us
@@ -162,12 +141,6 @@ module _ (xs ys : List Record) (r : Record) (id : ℕ) (is : IsOther id r) (gone
           go (Some c) rest = ap (λ b. is_numbered id c || b) rest
 
 -- ---- a stream's own goes, and no other is of its number
-
--- how many of some streams are of a number, with one more or none
-pub numbered-cons : (n : ℕ) (o : Option Created) (cs : List Created) → count_by (is_numbered n) (cons_option o cs)
-    ≡ digit (option_map_or (is_numbered n) o false) + count_by (is_numbered n) cs
-numbered-cons n None cs = omega arith
-numbered-cons n (Some c) cs = sum_by-cons (λ (d : Created). digit (is_numbered n d)) c cs
 
 -- a stream less leaves the others alone
 alone-fewer : (n : ℕ) (cs ds : List Created) (c : Created) → (c.number == n) ≡ false → stands_alone n (cs ++ c ∷ ds) ≡ true →
@@ -221,8 +194,7 @@ module _ (xs ys : List Record) (id : ℕ) (name : List ℕ) (params : Params) (n
   freed = xs ++ records.Free ∷ ys
 
   same-own : (n : ℕ) → HaveSameValues n held freed
-  same-own n =
-      HaveSameValues-changed n xs ys own records.Free (record { window = refl; mark = refl }) (record { window = refl; mark = refl })
+  same-own n = HaveSameValues-changed n xs ys own records.Free (record { window = refl; mark = refl }) (record { window = refl; mark = refl })
 
   -- no number of theirs is that of the stream
   others : AllByRecursion (λ n. (n == id) ≡ false) (filter_map stream_number freed)
@@ -249,8 +221,7 @@ module _ (xs ys : List Record) (id : ℕ) (name : List ℕ) (params : Params) (n
       λ n apart.
       let other = eq-swap id n apart in
       is_sound-kept held freed n
-      (λ a. ap (stands_alone n) fewer ∙ alone-fewer n (streams_created xs) (streams_created ys) head other (sym (ap (stands_alone n) created) ∙ a))
-      (λ ws k.
+      (λ a. ap (stands_alone n) fewer ∙ alone-fewer n (streams_created xs) (streams_created ys) head other (sym (ap (stands_alone n) created) ∙ a)) (λ ws k.
       ap (λ cs. keep_own_step n cs ws) fewer
       ∙ own_step-fewer n ws head (streams_created xs) (streams_created ys) (ap (λ cs. keep_own_step n cs ws) (sym created) ∙ k))
       (λ g. sym (dropped n other) ∙ g) (inr (same-own n)) in
@@ -268,20 +239,10 @@ module _ (xs ys : List Record) (id : ℕ) (name : List ℕ) (params : Params) (n
 pub may-goes : (xs ys : List Record) (r : Record) → may_go r (xs ++ ys) ≡ true → AreSound (xs ++ r ∷ ys) (filter_map stream_number (xs ++ r ∷ ys)) →
     CarryThem (xs ++ records.Free ∷ ys) (streams_carried (xs ++ r ∷ ys))
 may-goes xs ys records.Free may sound = absurd (true≢false (sym may))
-may-goes xs ys (records.Stream id name params true) may sound =
-    own-goes xs ys id name params (not-true (list_any (is_of id) (xs ++ ys)) may) sound
+may-goes xs ys (records.Stream id name params true) may sound = own-goes xs ys id name params (not-true (list_any (is_of id) (xs ++ ys)) may) sound
 may-goes xs ys (records.Stream id name params false) may sound = absurd (true≢false (sym may))
-may-goes xs ys (records.Window id first summary) may sound =
-    let r = records.Window id first summary in
-    other-goes xs ys r id
-    (record { created = refl; stands = refl; drops = λ n. refl; number = refl; apart = λ n apart. IsNoneOf-apart n r apart }) may sound
-may-goes xs ys (records.Landmark id number values start finish) may sound =
-    let r = records.Landmark id number values start finish in
-    other-goes xs ys r id
-    (record { created = refl; stands = refl; drops = λ n. refl; number = refl; apart = λ n apart. IsNoneOf-apart n r apart }) may sound
-may-goes xs ys (records.Value id number index t v) may sound =
-    let r = records.Value id number index t v in
-    other-goes xs ys r id
+may-goes xs ys r may sound =
+    other-goes xs ys r (stream_of r)
     (record { created = refl; stands = refl; drops = λ n. refl; number = refl; apart = λ n apart. IsNoneOf-apart n r apart }) may sound
 
 -- whether a record may go hangs on what tests some of the others pass
@@ -290,6 +251,4 @@ pub may_go-same : (r : Record) (first second : List Record) →
     may_go r first ≡ may_go r second
 may_go-same records.Free first second same = refl
 may_go-same (records.Stream id name params dropped) first second same = ap (λ b. dropped && not b) (same (is_of id) refl)
-may_go-same (records.Window id position summary) first second same = same (is_drop_of id) refl
-may_go-same (records.Landmark id number values start finish) first second same = same (is_drop_of id) refl
-may_go-same (records.Value id number index t v) first second same = same (is_drop_of id) refl
+may_go-same r first second same = same (is_drop_of (stream_of r)) refl

@@ -1,32 +1,22 @@
 -- Records of a stream that is dropped: the others are carried as they were.
-use Rattle.std.proofs.Common.{◌≡◌, ◌∙◌, ℕ, ◌≤◌, Bool, true, false, not, ◌||◌, leb, List, [], ◌∷◌, ◌++◌, filter, map, refl, sym, ap}
-use Rattle.std.proofs.Common.{ap₂, subst, inl, inr, arith}
-use Rattle.std.specs.Prelude.{◌==◌, count_by}
-use Rattle.std.specs.List.{AllByRecursion, filter_map, list_any}
-use Rattle.std.proofs.lemmas.Bool.{cases_Bool, cond-false, cond-true, eq-eqb}
-use Rattle.std.proofs.lemmas.Bool.{or_cases, or_left, or_right}
-use Rattle.std.proofs.lemmas.List.Folds.{list_any-append}
-use Rattle.std.proofs.lemmas.List.Sums.{sum_by-cons}
-use Rattle.ss_codec.specs.declared.record.Record.{Record}
-use Rattle.ss_codec.specs.declared.record.Record.TheVariants as records
-use Rattle.ss_model.specs.State.{Created, Stream}
-use Rattle.ss_recover.specs.Carried.{created_by, in_order, is_drop_of, stream_number, streams_created, streams_standing}
-use Rattle.ss_recover.specs.Conditions.{is_sound, keep_own_step}
-use Rattle.ss_recover.specs.Doomed.{without_numbered}
-use Rattle.ss_recover.specs.Parts.{stream_carried, streams_carried}
-use Rattle.ss_recover.proofs.Lists.{all_weaker, filter_map-kept, kept}
-use Rattle.ss_recover.proofs.SoundNumbers.{AreSound, HaveSameValues, is_numbered, is_sound-kept, none_bad-AreSound, one-sound}
+use Rattle.ss_recover.proofs.Words.{[], ◌++◌, ◌==◌, ◌||◌, ◌∙◌, ◌∷◌, ◌≡◌, ◌≤◌, AllByRecursion, ap, ap₂, arith, Bool, cases_Bool, cond-false, cond-true, count_by}
+use Rattle.ss_recover.proofs.Words.{Created, created_by, eq-eqb, false, filter, filter_map, in_order, inl, inr, is_drop_of, keep_own_step, leb, List, list_any}
+use Rattle.ss_recover.proofs.Words.{list_any-append, map, not, or_cases, or_left, or_right, Record, refl, Stream, stream_carried, stream_number}
+use Rattle.ss_recover.proofs.Words.{streams_carried, streams_created, streams_standing, subst, sum_by-cons, sym, true, without_numbered, ℕ}
+use Rattle.ss_recover.specs.Conditions.{is_sound}
+use Rattle.ss_recover.proofs.Lists.{all-each, all_weaker, filter_map-kept, kept}
+use Rattle.ss_recover.proofs.SoundNumbers.{AreSound, HaveSameValues, is_numbered, is_sound-kept, none_bad-AreSound, numbered-cons, one-sound}
 use Rattle.ss_recover.proofs.SoundNumbers.{stream_carried-same}
 use Rattle.ss_recover.proofs.SoundStreams.{digit, stands_alone}
 use Rattle.ss_recover.proofs.Unordered.{filter_map-in_order, kept-is}
-use Rattle.ss_recover.proofs.DroppedRecords.{CarryThem, HaveSameValues-changed, all-each, list_any-without, made-changed, numbered-cons, numbers-without}
+use Rattle.ss_recover.proofs.DroppedRecords.{CarryThem, HaveSameValues-changed, list_any-without, made-changed, numbers-without}
+use Rattle.ss_codec.specs.declared.record.Record.TheVariants as records
 
 -- a test that one element passes, and its first form doesn't
 list_any-also : {X : Type 0} (p : X → Bool) (xs ys : List X) (r q : X) → p r ≡ false → list_any p (xs ++ r ∷ ys) ≡ true → list_any p (xs ++ q ∷ ys) ≡ true
 list_any-also p xs ys r q fails any =
     let either = sym (list_any-append p xs ys) ∙ (sym (list_any-without p xs ys r fails) ∙ any) in
-    list_any-append p xs (q ∷ ys)
-    ∙ (elim (or_cases (list_any p xs) (list_any p ys) either) [
+    list_any-append p xs (q ∷ ys) ∙ (elim (or_cases (list_any p xs) (list_any p ys) either) [
       | inl front ↦ or_left (list_any p xs) (p q || list_any p ys) front
       | inr back ↦ or_right (list_any p xs) (p q || list_any p ys) (or_right (p q) (list_any p ys) back)
     ])
@@ -39,10 +29,6 @@ is_unlike n c = not (c.number == n)
 standing-unlike : (n : ℕ) (rs : List Record) → count_by (is_numbered n) (streams_created rs) ≡ 0 →
     filter (is_unlike n) (streams_standing rs) ≡ streams_standing rs
 standing-unlike n [] none = refl
-standing-unlike n (records.Free ∷ rs) none = standing-unlike n rs none
-standing-unlike n (records.Window id first summary ∷ rs) none = standing-unlike n rs none
-standing-unlike n (records.Landmark id number values start finish ∷ rs) none = standing-unlike n rs none
-standing-unlike n (records.Value id number index t v ∷ rs) none = standing-unlike n rs none
 standing-unlike n (records.Stream id name params true ∷ rs) none =
     let c : Created = record { number = id; name = name; params = params } in
     standing-unlike n rs (omega (arith, none, sum_by-cons (λ (d : Created). digit (is_numbered n d)) c (streams_created rs)))
@@ -54,6 +40,7 @@ standing-unlike n (records.Stream id name params false ∷ rs) none =
       | inl same ↦ (let one : digit (id == n) ≡ 1 = cond-true (id == n) 1 0 same in absurd (omega (arith, none, sum, one)))
       | inr other ↦ rw other (ap (λ cs. c ∷ cs) rest)
     ]
+standing-unlike n (_ ∷ rs) none = standing-unlike n rs none
 
 module _ (ys : List Record) (s : Created) where
   abbrev stood : Record
@@ -79,10 +66,6 @@ module _ (ys : List Record) (s : Created) where
       let same : (s.number == s.number) ≡ true = eq-eqb s.number s.number refl in
       rw same (sym (standing-unlike s.number ys
       (omega (arith, one, own-one, sum_by-cons (λ (d : Created). digit (is_numbered s.number d)) s (streams_created ys)))))
-  standing-dropped (records.Free ∷ xs) one = standing-dropped xs one
-  standing-dropped (records.Window id first summary ∷ xs) one = standing-dropped xs one
-  standing-dropped (records.Landmark id number values start finish ∷ xs) one = standing-dropped xs one
-  standing-dropped (records.Value id number index t v ∷ xs) one = standing-dropped xs one
   standing-dropped (records.Stream id name params dropped ∷ xs) one =
       let c : Created = record { number = id; name = name; params = params } in
       let sum = sum_by-cons (λ (d : Created). digit (is_numbered s.number d)) c (streams_created (xs ++ stood ∷ ys)) in
@@ -99,15 +82,14 @@ module _ (ys : List Record) (s : Created) where
           ≡ filter (is_unlike s.number) (streams_standing (records.Stream id name params b ∷ xs ++ stood ∷ ys))
       go true other rest = rest
       go false other rest = rw other (ap (λ cs. record { number = id; name = name; params = params } ∷ cs) rest)
+  standing-dropped (_ ∷ xs) one = standing-dropped xs one
 
 -- what passes a test in order is in order
 kept-in_order : (p : Created → Bool) (cs : List Created) → in_order (λ c. c.number) (filter p cs) ≡ filter p (in_order (λ c. c.number) cs)
 kept-in_order p cs =
     let key : Created → ℕ = λ c. c.number in
-    ap (in_order key) (sym (filter_map-kept p cs))
-    ∙ sym (filter_map-in_order key key (kept p) (λ x y z w is also.
-    ap₂ (λ (a b : Created). leb a.number b.number) (kept-is p x z is).1 (kept-is p y w also).1) cs)
-    ∙ filter_map-kept p (in_order key cs)
+    ap (in_order key) (sym (filter_map-kept p cs)) ∙ sym (filter_map-in_order key key (kept p) (λ x y z w is also.
+    ap₂ (λ (a b : Created). leb a.number b.number) (kept-is p x z is).1 (kept-is p y w also).1) cs) ∙ filter_map-kept p (in_order key cs)
 
 map-without : (rs us : List Record) (n : ℕ) (cs : List Created) → AllByRecursion (λ c. HaveSameValues c.number rs us) cs →
     map (stream_carried us) (filter (is_unlike n) cs) ≡ without_numbered n (map (stream_carried rs) cs)
@@ -127,8 +109,7 @@ module _ (xs ys : List Record) (s : Created) where
   after = xs ++ fell ys s ∷ ys
 
   same-drop : (n : ℕ) → HaveSameValues n before after
-  same-drop n =
-      HaveSameValues-changed n xs ys (stood ys s) (fell ys s) (record { window = refl; mark = refl }) (record { window = refl; mark = refl })
+  same-drop n = HaveSameValues-changed n xs ys (stood ys s) (fell ys s) (record { window = refl; mark = refl }) (record { window = refl; mark = refl })
 
   pub is-dropped : AreSound before (filter_map stream_number before) → CarryThem after (without_numbered s.number (streams_carried before))
   is-dropped sound =
@@ -144,8 +125,7 @@ module _ (xs ys : List Record) (s : Created) where
             (subst (AllByRecursion (λ n. is_sound after n ≡ true)) numbers
             (all_weaker (λ n. is_sound before n ≡ true) (λ n. is_sound after n ≡ true) each (filter_map stream_number before) sound));
         same =
-            ap (λ cs. map (stream_carried after) (in_order (λ (c : Created). c.number) cs))
-            (standing-dropped ys s xs (one-sound before s.number parts.0))
+            ap (λ cs. map (stream_carried after) (in_order (λ (c : Created). c.number) cs)) (standing-dropped ys s xs (one-sound before s.number parts.0))
             ∙ ap (map (stream_carried after)) (kept-in_order (is_unlike s.number) (streams_standing before))
             ∙ map-without before after s.number ordered (all-each (λ (c : Created). HaveSameValues c.number before after) (λ c. same-drop c.number) ordered);
       }

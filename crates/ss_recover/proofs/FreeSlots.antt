@@ -1,20 +1,10 @@
 -- Slots of zeros are free: they give nothing to what is made of the records of a map.
-use Rattle.std.proofs.Common.{◌≡◌, ◌∙◌, ℕ, ◌<◌, Bool, true, false, ◌||◌, List, [], ◌∷◌, map, length, replicate, refl, sym, ap, arith, inl, inr, Option, Some}
-use Rattle.std.proofs.Common.{None}
-use Rattle.std.specs.Prelude.{is_none}
-use Rattle.std.specs.List.{AllByRecursion, cons_option, filter_map, list_any, range_with_len}
-use Rattle.std.proofs.lemmas.Bool.{cases_Bool}
-use Rattle.ss_journal.specs.Redo.{SlotMap}
-use Rattle.ss_records.specs.Live.{are_zeros}
-use Rattle.ss_records.proofs.LiveLemmas.{replicate-are_zeros}
+use Rattle.ss_recover.proofs.Words.{[], ◌<◌, ◌||◌, ◌∙◌, ◌∷◌, ◌≡◌, AllByRecursion, ap, are_zeros, arith, Bool, cases_Bool, cond-false, cons_option}
+use Rattle.ss_recover.proofs.Words.{decoded-spelling, false, filter_map, Free, HasWholeSlots, inl, inr, is_none, is_valid-free, length, List, list_any, map}
+use Rattle.ss_recover.proofs.Words.{None, Option, range_with_len, Record, records_beside, records_in, refl, replicate, replicate-are_zeros, SlotMap, Some}
+use Rattle.ss_recover.proofs.Words.{spelling-free, sym, true, ℕ}
 use Rattle.ss_codec.specs.Decoded.{decoded}
-use Rattle.ss_codec.specs.declared.record.Record.{Record}
-use Rattle.ss_codec.specs.declared.record.Record.TheVariants.{Free}
-use Rattle.ss_codec.proofs.RecordLemmas.{decoded-spelling, is_valid-free, spelling-free}
-use Rattle.ss_recover.specs.Doomed.{records_beside}
-use Rattle.ss_recover.specs.Held.{HasWholeSlots}
-use Rattle.ss_recover.specs.Parts.{records_in}
-use Rattle.ss_recover.proofs.Lists.{all_weaker, range-within}
+use Rattle.ss_recover.proofs.Lists.{all_weaker, any-made, kept, range-within}
 use Rattle.ss_recover.proofs.Occupied.{filled, filled-live, filled-zeros}
 
 -- a whole slot of zeros is free
@@ -60,19 +50,15 @@ list_any-filled bytes (slot ∷ slots) each =
       | inr live ↦ rw (filled-live bytes slot slots live) (ap (λ b. is_none (decoded (bytes slot)) || b) rest)
     ]
 
+-- what is in slots, without them
+pub beside-seconds : (es : List (ℕ × Option Record)) → records_beside es ≡ records_in (map (λ (e : ℕ × Option Record). e.1) es)
+beside-seconds [] = refl
+beside-seconds (e ∷ es) = ap (cons_option e.1) (beside-seconds es)
+
 -- nor to whether some record passes a test
 pub any-filled : (test : Record → Bool) → test Free ≡ false → (bytes : ℕ → List ℕ) (slots : List ℕ) → AllByRecursion (ZerosAreFree bytes) slots →
     list_any test (records_beside (filled bytes slots)) ≡ list_any test (records_in (map (λ slot. decoded (bytes slot)) slots))
-any-filled test free bytes [] each = refl
-any-filled test free bytes (slot ∷ slots) each =
-    let rest = any-filled test free bytes slots each.1 in
-    elim (cases_Bool (are_zeros (bytes slot))) [
-      | inl zeros ↦ rw (filled-zeros bytes slot slots zeros, each.0 zeros, free) rest
-      | inr live ↦
-          rw (filled-live bytes slot slots live)
-          (elim (decoded (bytes slot)) as (λ o. list_any test (cons_option o (records_beside (filled bytes slots)))
-          ≡ list_any test (cons_option o (records_in (map (λ slot. decoded (bytes slot)) slots)))) [
-            | None ↦ rest
-            | Some r ↦ ap (λ b. test r || b) rest
-          ])
-    ]
+any-filled test free bytes slots each =
+    ap (list_any test) (beside-seconds (filled bytes slots))
+    ∙ sym (any-made test (records_in (map (λ slot. decoded (bytes slot)) slots)) (records_in (map (λ e. e.1) (filled bytes slots)))
+    (filter_map-filled (kept test) (cond-false _ _ _ free) bytes slots each))

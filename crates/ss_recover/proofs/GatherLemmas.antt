@@ -1,37 +1,18 @@
 -- The slots that were read, and one more.
-use Rattle.std.proofs.Common.{◌≡◌, ◌∙◌, ℕ, zero, suc, ◌+◌, ◌-◌, ◌<◌, ◌≤◌, ◌^◌, ◌*◌, ◌/◌, ◌%◌, All, Bool, true, false, not, cond, nat_eq, List, [], ◌∷◌, ◌++◌, map, filter, length, set}
-use Rattle.std.proofs.Common.{replicate, get_or, Option, Some, None, Result, Ok, Err, refl, sym, ap, ap₂, subst, inl, inr, arith, append-nil}
-use Rattle.std.specs.Prelude.{◌≢◌, is_none, ◌⊎◌}
-use Rattle.std.specs.List.{AllByRecursion, position_or_len, range_with_len}
-use Rattle.std.proofs.lemmas.Bool.{cases_lt, true≢false, cond-true, cond-false, eq-eqb, ne_eqb, lt-ltb, false_from_ne_true}
-use Rattle.std.proofs.lemmas.List.{get_or_default, length-append, length-map, length-set, map-append}
-use Rattle.std.proofs.lemmas.List.Elements.{All-push, filter-append}
-use Rattle.std.proofs.lemmas.List.FromFn.{get_or-map-range_with_len, length-map-range_with_len, length-range_with_len}
-use Rattle.std.proofs.lemmas.List.Sums.{length-filter, count_by-le-length, position_or_len_is}
-use Rattle.ss_journal.specs.Kept.{JournalState, IsKept, IsSealed, shown}
-use Rattle.ss_journal.specs.Redo.{SlotMap, StandsFor}
-use Rattle.ss_journal.proofs.MapLemmas.{SameMap-refl}
-use Rattle.ss_journal.proofs.RedoLemmas.{StandsFor-from, StandsFor-same}
-use Rattle.ss_journal.proofs.ShownLemmas.{shown-sealed, IsShown-sealed}
-use Rattle.ss_records.specs.Kept.{AreLiveOver}
-use Rattle.ss_records.specs.Live.{are_zeros, is_live, AreBelow, AreLiveBelow}
-use Rattle.ss_records.specs.Pages.{IsPage}
-use Rattle.ss_records.proofs.LiveLemmas.{is_live-below, is_live-set}
+use Rattle.ss_recover.proofs.Words.{[], ◌%◌, ◌*◌, ◌++◌, ◌+◌, ◌-◌, ◌/◌, ◌<◌, ◌^◌, ◌∙◌, ◌∷◌, ◌≡◌, ◌≢◌, ◌≤◌, All, All-push, ap, append-nil, ap₂, are_zeros}
+use Rattle.ss_recover.proofs.Words.{AreBelow, AreFoundBelow, AreGathered, AreLiveBelow, AreLiveOver, arith, BadSlot, BadStream, below, Bool, cases_lt, cond}
+use Rattle.ss_recover.proofs.Words.{cond-false, cond-true, count_by-le-length, Disk, eq-eqb, Err, false, false_from_ne_true, filter, filter-append, Found, Free}
+use Rattle.ss_recover.proofs.Words.{Gathered, get_or, get_or-map-range_with_len, in_slot, inl, inr, is_live, is_live-below, is_live-set, is_none, IsKept}
+use Rattle.ss_recover.proofs.Words.{IsLowestBad, IsSealed, IsUsable, JournalState, length, length-filter, length-map, length-map-range_with_len}
+use Rattle.ss_recover.proofs.Words.{length-range_with_len, length-set, List, lowest_bad_slot, lt-ltb, map, map-append, nat_eq, ne_eqb, None, not, Option}
+use Rattle.ss_recover.proofs.Words.{OutOfMemory, position_or_len, position_or_len_is, range_with_len, Record, RecoverError, refl, replicate, SameMap-refl, set}
+use Rattle.ss_recover.proofs.Words.{shown, SlotMap, Some, spelling-free, Spells-decoded, SpellsNone, StandsFor, StandsFor-from, StandsFor-same, subst, suc, sym}
+use Rattle.ss_recover.proofs.Words.{true, true≢false, verdict_of_rebuild, zero, ℕ}
+use Rattle.ss_journal.proofs.ShownLemmas.{IsShown-sealed, shown-sealed}
 use Rattle.ss_codec.specs.Decoded.{decoded}
-use Rattle.ss_codec.specs.declared.record.Record.{Record}
-use Rattle.ss_codec.specs.declared.record.Record.TheVariants.{Free}
-use Rattle.ss_codec.proofs.RecordLemmas.{Spells-decoded, spelling-free}
 use Rattle.ss_recover.specs.Carried.{spelled}
-use Rattle.ss_recover.specs.Gathered.{AreFound, AreFoundBelow, AreGathered, IsLowestBad, SpellsNone, below}
-use Rattle.ss_recover.specs.Rebuilt.{verdict_of_rebuild}
-use Rattle.ss_recover.specs.declared.recover_error.RecoverError.{RecoverError}
-use Rattle.ss_recover.specs.declared.recover_error.RecoverError.TheVariants.{BadSlot, BadStream, Disk, OutOfMemory}
-use Rattle.ss_recover.specs.Parts.{lowest_bad_slot}
-use Rattle.ss_recover.specs.Usable.{IsUsable, in_slot}
-use Rattle.ss_recover.specs.declared.found.Found.{Found}
-use Rattle.ss_recover.specs.declared.gathering.Gathered.{Gathered}
 use Rattle.ss_recover.proofs.FreeSlots.{decoded-free}
-use Rattle.ss_recover.proofs.Lists.{all_weaker, range-within, range_with_len-append}
+use Rattle.ss_recover.proofs.Lists.{all_weaker, filter-same, range-within, range_with_len-append}
 use Rattle.ss_recover.proofs.Occupied.{filled, filled-append, filled-live, filled-zeros}
 
 -- where nothing is staged, a map's extent is that of the journal
@@ -94,8 +75,7 @@ pub AreFoundBelow-free : (slot : ℕ) (read : Gathered) (found : SlotMap) → Ar
 AreFoundBelow-free slot read found gathered whole zeros before = record {
   are = record {
     occupied_by =
-        before.are.occupied_by
-        ∙ sym (ap (filled found.bytes) (range-more slot) ∙ filled-append found.bytes (range_with_len 0 slot) (slot ∷ [])
+        before.are.occupied_by ∙ sym (ap (filled found.bytes) (range-more slot) ∙ filled-append found.bytes (range_with_len 0 slot) (slot ∷ [])
         ∙ ap (λ l. filled found.bytes (range_with_len 0 slot) ++ l) (filled-zeros found.bytes slot [] zeros)
         ∙ append-nil (filled found.bytes (range_with_len 0 slot)));
     spelled_all =
@@ -105,10 +85,6 @@ AreFoundBelow-free slot read found gathered whole zeros before = record {
   live = below-more (λ k. is_live read.live k ≡ not (are_zeros (found.bytes k))) slot before.live
       (not_live slot read.live gathered.bounded ∙ sym (ap not zeros));
 }
-
-filter-same : (p q : ℕ → Bool) (xs : List ℕ) → AllByRecursion (λ x. p x ≡ q x) xs → filter p xs ≡ filter q xs
-filter-same p q [] same = refl
-filter-same p q (x ∷ xs) same = ap₂ (λ (b : Bool) (rest : List ℕ). cond b (x ∷ rest) rest) same.0 (filter-same p q xs same.1)
 
 -- a slot that is live now, and those before it
 module _ (live : List Bool) (slot : ℕ) (lt : slot < length live) where
@@ -158,8 +134,7 @@ module _ (slot : ℕ) (read new : Gathered) (f : Found) (added : new.all.items �
   AreFoundBelow-live found live is before = record {
     are = record {
       occupied_by =
-          ap (map in_slot) added ∙ map-append in_slot read.all.items (f ∷ [])
-          ∙ ap₂ (λ a b. a ++ b ∷ []) before.are.occupied_by (λ i. (same i, sym is i))
+          ap (map in_slot) added ∙ map-append in_slot read.all.items (f ∷ []) ∙ ap₂ (λ a b. a ++ b ∷ []) before.are.occupied_by (λ i. (same i, sym is i))
           ∙ sym (ap (filled found.bytes) (range-more slot) ∙ filled-append found.bytes (range_with_len 0 slot) (slot ∷ [])
           ∙ ap (λ l. filled found.bytes (range_with_len 0 slot) ++ l) (filled-live found.bytes slot [] live));
       spelled_all = below-more (λ k. decoded (found.bytes k) ≢ None) slot before.are.spelled_all (λ none. cc);

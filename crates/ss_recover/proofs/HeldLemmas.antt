@@ -1,44 +1,24 @@
 -- What is held is what the map carries.
-use Rattle.std.proofs.Common.{◌≡◌, ℕ, ◌<◌, ◌≤◌, true, false, List, [], ◌∷◌, All, filter, map, length, refl, sym, ap, ap₂, subst, ◌∙◌, arith}
-use Rattle.std.proofs.Common.{IsPermutation, None, Option}
-use Rattle.std.specs.Prelude.{◌==◌, is_none, not}
-use Rattle.std.specs.List.{AllByRecursion, IsDistinct, filter_map, list_all}
-use Rattle.std.specs.List.Sorted.{IsStrictlyIncreasing}
-use Rattle.std.proofs.lemmas.Bool.{and_from, ne_eqb, or_left, or_right}
-use Rattle.std.proofs.lemmas.List.{length-map}
-use Rattle.std.proofs.lemmas.List.Elements.{All-from_recursion, recursion_from_All}
-use Rattle.std.proofs.lemmas.List.Sorted.{All-permutation}
-use Rattle.std.proofs.lemmas.List.Sums.{sum_by-cons}
-use Rattle.ss_catalog.specs.Names.{same_name}
-use Rattle.ss_catalog.specs.Params.{step_number}
-use Rattle.ss_catalog.specs.declared.TheConstants.{MOST_STREAMS}
-use Rattle.ss_journal.specs.Redo.{SlotMap}
-use Rattle.ss_codec.specs.declared.record.Record.{Record}
-use Rattle.ss_codec.specs.declared.record.Record.TheVariants.{Free}
-use Rattle.ss_target.specs.Rule.{rule_of}
-use Rattle.ss_model.specs.Decay.{IsInStep}
-use Rattle.ss_model.specs.Marks.{lies_free}
-use Rattle.ss_model.specs.Standing.{IsState, IsStream}
-use Rattle.ss_model.specs.State.{Created, Stream, live, records_of}
-use Rattle.ss_model.specs.declared.types.TheConstants.{MOST_RECORDS}
-use Rattle.ss_model.specs.declared.types.Window.{Window}
-use Rattle.ss_recover.specs.Carried.{created_by, is_dropped, is_mark_of, marks_carried, stands_by, stream_number, spelled, streams_created, streams_standing}
-use Rattle.ss_recover.specs.Carried.{window_of, windows_carried}
-use Rattle.ss_recover.specs.Conditions.{is_sound, keep_own_step, keep_step, stands_sound, tile, times_rise}
-use Rattle.ss_recover.specs.Held.{AreHeld, HasWholeSlots}
-use Rattle.ss_recover.specs.Marked.{are_marks, landmarks_made}
-use Rattle.ss_recover.specs.Parts.{carried, carries, judged, lowest_bad_slot, lowest_bad_stream, records_in, stream_carried, streams_carried}
-use Rattle.ss_recover.specs.declared.parts.StreamParts.{StreamParts}
+use Rattle.ss_recover.proofs.Words.{[], ◌<◌, ◌==◌, ◌∙◌, ◌∷◌, ◌≡◌, ◌≤◌, All, All-from_recursion, All-permutation, AllByRecursion, and_from, ap, ap₂, are_marks}
+use Rattle.ss_recover.proofs.Words.{AreHeld, arith, carries, Created, created_by, false, filter, filter_map, Free, HasWholeSlots, is_dropped, is_mark_of}
+use Rattle.ss_recover.proofs.Words.{is_none, IsDistinct, IsInStep, IsPermutation, IsState, IsStream, IsStrictlyIncreasing, judged, keep_own_step, keep_step}
+use Rattle.ss_recover.proofs.Words.{landmarks_made, length, length-map, lies_free, List, list_all, live, lowest_bad_slot, lowest_bad_stream, map, marks_carried}
+use Rattle.ss_recover.proofs.Words.{MOST_RECORDS, MOST_STREAMS, ne_eqb, None, not, Option, or_left, or_right, Record, records_in, records_of}
+use Rattle.ss_recover.proofs.Words.{recursion_from_All, refl, rule_of, same_name, SlotMap, stands_by, stands_sound, step_number, Stream, stream_carried}
+use Rattle.ss_recover.proofs.Words.{stream_number, StreamParts, streams_carried, streams_created, streams_standing, subst, sum_by-cons, sym, tile, times_rise}
+use Rattle.ss_recover.proofs.Words.{true, Window, window_of, windows_carried, ℕ}
+use Rattle.ss_recover.specs.Carried.{spelled}
+use Rattle.ss_recover.specs.Conditions.{is_sound}
+use Rattle.ss_recover.specs.Parts.{carried}
 use Rattle.ss_recover.proofs.DroppedRecords.{IsNoneOf}
-use Rattle.ss_recover.proofs.HeldRecords.{every_slot_spells, made-none, made_of_records, standing-all_walked}
-use Rattle.ss_recover.proofs.InOrder.{Rise, Rise-increasing, in_order-IsPermutation}
-use Rattle.ss_recover.proofs.Lists.{all_both, all_weaker, filter-none, filter_map-kept, kept, position-none, all-from_map, map-map}
+use Rattle.ss_recover.proofs.HeldRecords.{all-number_of, all_walked, created, created-all_walked, every_slot_spells, HasOwn, HasOwn-each, made-none}
+use Rattle.ss_recover.proofs.HeldRecords.{made_of_records, standing-all_walked}
+use Rattle.ss_recover.proofs.InOrder.{in_order-IsPermutation, Rise, Rise-increasing}
+use Rattle.ss_recover.proofs.Lists.{all-from_map, all_both, all_weaker, filter-none, filter_map-kept, kept, map-map, position-none}
 use Rattle.ss_recover.proofs.Marks.{are_marks-marks_of, in_order-marks_of, landmarks_made-marks_of, length-marks_of, marks_of}
 use Rattle.ss_recover.proofs.OwnSteps.{keep_step-IsInStep, keeps, own_step-apart, own_step-moved}
 use Rattle.ss_recover.proofs.SoundNumbers.{is_sound-from, none_bad-AreSound}
-use Rattle.ss_recover.proofs.SoundStreams.{Rise-AreWindows, stands_alone, stands_alone-each, stands_alone-moved}
-use Rattle.ss_recover.proofs.SoundStreams.{tile-AreWindows, times_rise-AreWindows}
-use Rattle.ss_recover.proofs.HeldRecords.{HasOwn, HasOwn-each, all-number_of, all_walked, created, created-all_walked}
+use Rattle.ss_recover.proofs.SoundStreams.{Rise-AreWindows, stands_alone, stands_alone-each, stands_alone-moved, tile-AreWindows, times_rise-AreWindows}
 
 -- the streams of a state, and of each the windows and the landmarks that records carry
 abbrev Carries : List Record → Stream → Type 0
@@ -54,8 +34,7 @@ map-stream_carried records (s ∷ ss) each =
 -- no stream needs more records than all of them
 each-records_of : (ss : List Stream) (most : ℕ) → live ss ≤ most → AllByRecursion (λ s. records_of s ≤ most) ss
 each-records_of [] most room = tt
-each-records_of (s ∷ ss) most room =
-    let all = sum_by-cons records_of s ss in (omega (arith, all, room), each-records_of ss most (omega (arith, all, room)))
+each-records_of (s ∷ ss) most room = let all = sum_by-cons records_of s ss in (omega (arith, all, room), each-records_of ss most (omega (arith, all, room)))
 
 -- where the numbers of streams rise, each keeps to the step of its own record where its windows keep to its step
 pub own_step-each : (streams : List Stream) → Rise (λ (c : Created). c.number) (map created streams) →
@@ -69,8 +48,7 @@ own_step-each (s ∷ ss) rise each =
       and_from (keeps s.number s.windows (created s)) (keep_own_step s.number (map created ss) s.windows)
           (or_right (not (s.number == s.number)) (keep_step (step_number s.params.within) s.windows) (keep_step-IsInStep s.params s.windows each.0)) apart,
       all_both (λ (t : Stream). s.number < t.number) (λ t. keep_own_step t.number (map created ss) t.windows ≡ true)
-          (λ t. keep_own_step t.number (created s ∷ map created ss) t.windows ≡ true)
-          (λ t lt rest.
+          (λ t. keep_own_step t.number (created s ∷ map created ss) t.windows ≡ true) (λ t lt rest.
           and_from (keeps t.number t.windows (created s)) (keep_own_step t.number (map created ss) t.windows)
           (or_left (not (s.number == t.number)) (keep_step (step_number s.params.within) t.windows)
           (ap not (ne_eqb s.number t.number (λ same. absurd (omega (arith, lt, same)))))) rest)
@@ -109,8 +87,7 @@ module _ (streams : List Stream) (records : List Record) (state : IsState stream
   marks_are =
       all_both (λ s. IsPermutation (marks_of s.number 1 s.landmarks) (filter (is_mark_of s.number) records)) (λ s. records_of s ≤ MOST_RECORDS) MarksAre
       (λ s moved room.
-      in_order-marks_of s.number 1 s.landmarks (filter (is_mark_of s.number) records) moved
-      (omega (arith, length-marks_of s.number 1 s.landmarks, room)))
+      in_order-marks_of s.number 1 s.landmarks (filter (is_mark_of s.number) records) moved (omega (arith, length-marks_of s.number 1 s.landmarks, room)))
       streams those.marks (each-records_of streams MOST_RECORDS state.room)
 
   carries_each : AllByRecursion (Carries records) streams
@@ -137,17 +114,14 @@ HaveThose-made beside streams records state made none apart =
     let Apart : Stream → Type 0 = λ s. AllByRecursion (IsNoneOf s.number) beside in
     record {
       standing =
-          subst (λ l. IsPermutation l (streams_standing records)) (standing-all_walked streams)
-          (made Created stands_by refl (made-none stands_by beside none));
+          subst (λ l. IsPermutation l (streams_standing records)) (standing-all_walked streams) (made Created stands_by refl (made-none stands_by beside none));
       windows =
-          all_both (HasOwn streams) Apart (λ s. IsPermutation s.windows (filter_map (window_of s.number) records))
-          (λ s has other.
+          all_both (HasOwn streams) Apart (λ s. IsPermutation s.windows (filter_map (window_of s.number) records)) (λ s has other.
           subst (λ l. IsPermutation l (filter_map (window_of s.number) records)) has.windows
           (made Window (window_of s.number) refl (made-none (window_of s.number) beside
           (all_weaker (IsNoneOf s.number) (λ r. window_of s.number r ≡ None) (λ r is. is.window) beside other)))) streams own apart;
       marks =
-          all_both (HasOwn streams) Apart (λ s. IsPermutation (marks_of s.number 1 s.landmarks) (filter (is_mark_of s.number) records))
-          (λ s has other.
+          all_both (HasOwn streams) Apart (λ s. IsPermutation (marks_of s.number 1 s.landmarks) (filter (is_mark_of s.number) records)) (λ s has other.
           subst (λ l. IsPermutation l (filter (is_mark_of s.number) records)) has.marks
           (subst (λ l. IsPermutation l (filter (is_mark_of s.number) records)) (filter_map-kept (is_mark_of s.number) (all_walked streams))
           (subst (λ l. IsPermutation (filter_map (kept (is_mark_of s.number)) (all_walked streams)) l) (filter_map-kept (is_mark_of s.number) records)
@@ -166,9 +140,7 @@ module _ (streams : List Stream) (records : List Record) (state : IsState stream
       nothing (s ∷ ss) = (tt, nothing ss)
 
   moved : IsPermutation (map created streams) (streams_created records)
-  moved =
-      subst (λ l. IsPermutation l (streams_created records)) (created-all_walked streams)
-      (made Created created_by refl)
+  moved = subst (λ l. IsPermutation l (streams_created records)) (created-all_walked streams) (made Created created_by refl)
 
   few : length (map created streams) ≤ MOST_STREAMS
   few = omega (arith, state.few, length-map streams created)
@@ -195,8 +167,7 @@ module _ (streams : List Stream) (records : List Record) (state : IsState stream
       let Both : Stream → Type 0 = λ s. Carries records s × Own s in
       let Kept : Stream → Type 0 = λ s. IsStream s × (keep_own_step s.number (map created streams) s.windows ≡ true) in
       let All : Stream → Type 0 = λ s. Both s × Kept s in
-      all_both Alone All (λ s. is_sound records s.number ≡ true)
-      (λ s one all.
+      all_both Alone All (λ s. is_sound records s.number ≡ true) (λ s one all.
       let windows = all.0.0.0 in
       let landmarks = all.0.0.1 in
       let d : tile (windows_carried s.number records) ≡ true = ap tile windows ∙ tile-AreWindows s.windows all.1.0.windows in
@@ -207,11 +178,9 @@ module _ (streams : List Stream) (records : List Record) (state : IsState stream
       let h : keep_own_step s.number (streams_created records) (windows_carried s.number records) ≡ true =
       ap (keep_own_step s.number (streams_created records)) windows
       ∙ sym (own_step-moved s.number s.windows (map created streams) (streams_created records) moved) ∙ all.1.1 in
-      is_sound-from records s.number one
-      (or_right (is_dropped s.number records) (stands_sound records s.number)
+      is_sound-from records s.number one (or_right (is_dropped s.number records) (stands_sound records s.number)
       (and_from _ _ (and_from _ _ (and_from _ _ (and_from _ _ d e) f) g) h)))
-      streams alone
-      (all_both Both Kept All (λ s both is. (both, is)) streams
+      streams alone (all_both Both Kept All (λ s both is. (both, is)) streams
       (all_both (Carries records) Own Both (λ s carries marks. (carries, marks)) streams (carries_each streams records state those_made)
       (marks_are streams records state those_made))
       (all_both IsStream (λ s. keep_own_step s.number (map created streams) s.windows ≡ true) Kept (λ s is keep. (is, keep)) streams
@@ -222,8 +191,7 @@ module _ (streams : List Stream) (records : List Record) (state : IsState stream
       let numbers = filter_map stream_number records in
       let P : ℕ → Type 0 = λ number. is_sound records number ≡ true in
       let all : AllByRecursion P numbers =
-      recursion_from_All P numbers
-      (All-permutation P (filter_map stream_number (all_walked streams)) numbers (made ℕ stream_number refl)
+      recursion_from_All P numbers (All-permutation P (filter_map stream_number (all_walked streams)) numbers (made ℕ stream_number refl)
       (All-from_recursion P (filter_map stream_number (all_walked streams)) (all-number_of P streams sound))) in
       none_bad-AreSound records all
 

@@ -1,34 +1,20 @@
 -- The records of streams, as a walk takes them and as they are held, and those that the slots of a map spell.
-use Rattle.std.proofs.Common.{◌≡◌, ◌∙◌, ℕ, ◌<◌, false, List, [], ◌∷◌, ◌++◌, map, filter, flat_map, Option, None, refl, ap, ap₂, arith, append-nil}
-use Rattle.std.proofs.Common.{append_assoc, length, sym, subst, IsPermutation, Some}
-use Rattle.std.specs.Prelude.{is_none, zip}
-use Rattle.std.specs.List.{AllByRecursion, filter_map, cons_option, list_any, range_with_len}
-use Rattle.std.proofs.lemmas.Bool.{eq-eqb}
-use Rattle.std.proofs.lemmas.List.Concat.{flat_map-append}
-use Rattle.std.proofs.lemmas.List.Elements.{filter-append, filter_map-append}
-use Rattle.ss_codec.specs.declared.record.Record.{Record}
-use Rattle.ss_codec.specs.declared.record.Record.TheVariants as records
-use Rattle.ss_model.specs.State.{Stream, Created}
-use Rattle.ss_model.specs.declared.types.Window.{Window}
-use Rattle.ss_recover.specs.Carried.{created_by, is_mark_of, window_of, stands_by, stream_number, spelled}
-use Rattle.ss_recover.specs.Held.{stream_record, window_record, AllAgree, AreHeld, Agrees, HasWholeSlots, all_value_records, entries_of, landmark_records}
-use Rattle.ss_recover.specs.Held.{marks_held, mark_slots, slots_held, window_slots, occupied, records_held, span_held, span_of}
-use Rattle.ss_recover.specs.Order.{stream_of}
+use Rattle.ss_recover.proofs.Words.{[], ◌++◌, ◌<◌, ◌∙◌, ◌∷◌, ◌≡◌, Agrees, all_value_records, all_values, AllAgree, AllByRecursion, ap, append-nil, append_assoc}
+use Rattle.ss_recover.proofs.Words.{ap₂, AreHeld, arith, cons_option, Created, created_by, entries_of, Entry, eq-eqb, false, filter, filter-append, filter_map}
+use Rattle.ss_recover.proofs.Words.{filter_map-append, flat_map, flat_map-append, Free, HasWholeSlots, is_mark_of, is_none, IsPermutation, IsPermutation-map}
+use Rattle.ss_recover.proofs.Words.{IsPermutation-refl, IsPermutation-trans, landmark_records, length, length-append, length-map, List, list_any}
+use Rattle.ss_recover.proofs.Words.{list_any-IsPermutation, map, map-append, mark_slots, marks_held, None, occupied, Option, range_with_len, Record}
+use Rattle.ss_recover.proofs.Words.{records_held, records_in, refl, seconds-zip, SlotMap, slots_held, Some, span_held, span_of, stands_by, Stream}
+use Rattle.ss_recover.proofs.Words.{stream_number, stream_of, stream_record, StreamParts, subst, sym, Window, window_of, window_record, window_slots, zip, ℕ, ℤ}
+use Rattle.ss_recover.specs.Carried.{spelled}
 use Rattle.ss_recover.proofs.InOrder.{Rise, Rise-split}
-use Rattle.ss_recover.proofs.Lists.{all_append, all_behind, map-map}
-use Rattle.ss_recover.proofs.Marks.{each-mark_of, marks_of, own-marks, length-all_value_records, length-landmark_records, IsPermutation-walked}
-use Rattle.std.proofs.lemmas.List.{length-map, map-append, length-append}
-use Rattle.std.proofs.lemmas.List.Sorted.{IsPermutation-map, list_any-IsPermutation, IsPermutation-refl, IsPermutation-trans}
-use Rattle.ss_journal.specs.Redo.{SlotMap}
-use Rattle.ss_codec.specs.declared.record.Record.TheVariants.{Free}
-use Rattle.ss_landmarks.specs.Landmark.{all_values}
-use Rattle.ss_line.specs.declared.entry.Entry.{Entry}
-use Rattle.ss_recover.specs.Parts.{records_in}
-use Rattle.ss_recover.specs.declared.parts.StreamParts.{StreamParts}
+use Rattle.ss_recover.proofs.Lists.{all-each, all_append, all_behind, map-all, map-map}
+use Rattle.ss_recover.proofs.Marks.{each-mark_of, IsPermutation-walked, length-all_value_records, length-landmark_records, marks_of, own-marks}
 use Rattle.ss_recover.proofs.RunSound.{marks-own, windows-own}
 use Rattle.ss_recover.proofs.FreeSlots.{filter_map-filled, list_any-filled, zeros_are_free}
-use Rattle.ss_recover.proofs.Permutations.{IsPermutation-filter_map, IsPermutation-append_both}
-use Rattle.std.proofs.lemmas.Slice.Zip.{seconds-zip}
+use Rattle.ss_recover.proofs.Permutations.{IsPermutation-filter_map}
+use Rattle.ss_codec.specs.declared.record.Record.TheVariants as records
+use Rattle.std.proofs.lemmas.List.Sorted.{IsPermutation-append}
 
 -- a stream as it was created
 abbrev pub created : Stream → Created
@@ -56,8 +42,7 @@ created-windows number (w ∷ ws) = created-windows number ws
 
 created-walked : (s : Stream) → filter_map created_by (walked s) ≡ created s ∷ []
 created-walked s =
-    ap (λ l. created s ∷ l)
-    (filter_map-append created_by (marks_of s.number 1 s.landmarks) (map (window_record s.number) s.windows)
+    ap (λ l. created s ∷ l) (filter_map-append created_by (marks_of s.number 1 s.landmarks) (map (window_record s.number) s.windows)
     ∙ ap₂ ◌++◌ (created-marks s.number 1 s) (created-windows s.number s.windows))
 
 -- the streams that they create
@@ -70,16 +55,17 @@ made-same : {Y : Type 0} (f g : Record → Option Y) (rs : List Record) → AllB
 made-same f g [] same = refl
 made-same f g (r ∷ rs) same = (λ i. cons_option (same.0 i) (filter_map f rs)) ∙ ap (cons_option (g r)) (made-same f g rs same.1)
 
-stands-walked : (s : Stream) → AllByRecursion (λ r. stands_by r ≡ created_by r) (walked s)
-stands-walked s = (
-  refl,
-  all_append (λ r. stands_by r ≡ created_by r) (marks_of s.number 1 s.landmarks) (map (window_record s.number) s.windows)
-      (each-mark_of (λ r. stands_by r ≡ created_by r) s.number (λ n values start finish. refl) (λ n index t v. refl) 1 s.landmarks) (go s.windows),
+each-walked : (P : Record → Type 0) (s : Stream) → P (stream_record s) →
+    ((n values start : ℕ) (finish : Option ℕ) → P (records.Landmark s.number n values start finish)) →
+    ((n index t : ℕ) (v : ℤ) → P (records.Value s.number n index t v)) → ((w : Window) → P (window_record s.number w)) → AllByRecursion P (walked s)
+each-walked P s own landmark value window = (
+  own,
+  all_append P (marks_of s.number 1 s.landmarks) (map (window_record s.number) s.windows) (each-mark_of P s.number landmark value 1 s.landmarks)
+      (map-all P (window_record s.number) s.windows (all-each (λ w. P (window_record s.number w)) window s.windows)),
 )
-  where
-    go : (ws : List Window) → AllByRecursion (λ r. stands_by r ≡ created_by r) (map (window_record s.number) ws)
-    go [] = tt
-    go (w ∷ ws) = (refl, go ws)
+
+stands-walked : (s : Stream) → AllByRecursion (λ r. stands_by r ≡ created_by r) (walked s)
+stands-walked s = each-walked (λ r. stands_by r ≡ created_by r) s refl (λ n values start finish. refl) (λ n index t v. refl) (λ w. refl)
 
 pub standing-all_walked : (ss : List Stream) → filter_map stands_by (all_walked ss) ≡ map created ss
 standing-all_walked ss = made-same stands_by created_by (all_walked ss) (go ss) ∙ created-all_walked ss
@@ -95,8 +81,7 @@ own-windows number (w ∷ ws) = rw (eq-eqb number number refl) (ap (λ l. w ∷ 
 windows-walked : (number : ℕ) (s : Stream) → filter_map (window_of number) (walked s) ≡ filter_map (window_of number) (map (window_record s.number) s.windows)
 windows-walked number s =
     filter_map-append (window_of number) (marks_of s.number 1 s.landmarks) (map (window_record s.number) s.windows)
-    ∙ ap (λ l. l ++ filter_map (window_of number) (map (window_record s.number) s.windows))
-    (made-none (window_of number) (marks_of s.number 1 s.landmarks)
+    ∙ ap (λ l. l ++ filter_map (window_of number) (map (window_record s.number) s.windows)) (made-none (window_of number) (marks_of s.number 1 s.landmarks)
     (each-mark_of (λ r. window_of number r ≡ None) s.number (λ n values start finish. refl) (λ n index t v. refl) 1 s.landmarks))
 
 no-marks : (number other : ℕ) (ws : List Window) → filter (is_mark_of number) (map (window_record other) ws) ≡ []
@@ -116,15 +101,7 @@ pub record HasOwn (ss : List Stream) (s : Stream) : Type 0 where
 
 -- each is of the number of its stream
 pub all-own : (P : ℕ → Type 0) (s : Stream) → P s.number → AllByRecursion (λ r. P (stream_of r)) (walked s)
-all-own P s own = (
-  own,
-  all_append (λ r. P (stream_of r)) (marks_of s.number 1 s.landmarks) (map (window_record s.number) s.windows)
-      (each-mark_of (λ r. P (stream_of r)) s.number (λ n values start finish. own) (λ n index t v. own) 1 s.landmarks) (go s.windows),
-)
-  where
-    go : (ws : List Window) → AllByRecursion (λ r. P (stream_of r)) (map (window_record s.number) ws)
-    go [] = tt
-    go (w ∷ ws) = (own, go ws)
+all-own P s own = each-walked (λ r. P (stream_of r)) s own (λ n values start finish. own) (λ n index t v. own) (λ w. own)
 
 pub all-all_walked : (P : ℕ → Type 0) (ss : List Stream) → AllByRecursion (λ s. P s.number) ss → AllByRecursion (λ r. P (stream_of r)) (all_walked ss)
 all-all_walked P [] all = tt
@@ -162,10 +139,7 @@ HasOwn-each ss rise = own-each [] ss rise
 pub each-number : (P : ℕ → Type 0) (rs : List Record) → AllByRecursion (λ r. P (stream_of r)) rs → AllByRecursion P (filter_map stream_number rs)
 each-number P [] each = tt
 each-number P (records.Free ∷ rs) each = each-number P rs each.1
-each-number P (records.Stream id name params dropped ∷ rs) each = (each.0, each-number P rs each.1)
-each-number P (records.Window id first summary ∷ rs) each = (each.0, each-number P rs each.1)
-each-number P (records.Landmark id number values start finish ∷ rs) each = (each.0, each-number P rs each.1)
-each-number P (records.Value id number index t v ∷ rs) each = (each.0, each-number P rs each.1)
+each-number P (_ ∷ rs) each = (each.0, each-number P rs each.1)
 
 pub all-number_of : (P : ℕ → Type 0) (ss : List Stream) → AllByRecursion (λ s. P s.number) ss → AllByRecursion P (filter_map stream_number (all_walked ss))
 all-number_of P ss all = each-number P (all_walked ss) (all-all_walked P ss all)
@@ -186,8 +160,7 @@ records_of_streams streams = flat_map records_of_stream streams
 pub IsPermutation-all_walked : (ss : List Stream) → IsPermutation (all_walked ss) (records_of_streams ss)
 IsPermutation-all_walked [] = IsPermutation-refl []
 IsPermutation-all_walked (s ∷ ss) =
-    IsPermutation-append_both (walked s) (records_of_stream s) (all_walked ss) (records_of_streams ss) (IsPermutation-walked s)
-    (IsPermutation-all_walked ss)
+    IsPermutation-append (walked s) (records_of_stream s) (all_walked ss) (records_of_streams ss) (IsPermutation-walked s) (IsPermutation-all_walked ss)
 
 -- lists of one length side by side
 zip-append : {X Y : Type 0} (xs vs : List X) (ys ws : List Y) → length xs ≡ length ys → zip (xs ++ vs) (ys ++ ws) ≡ zip xs ys ++ zip vs ws
@@ -220,8 +193,7 @@ module _ (part : StreamParts) (s : Stream) (agrees : Agrees part s) where
       )
 
   long-firsts : length part.landmarks.slots ≡ length (map Some firsts)
-  long-firsts =
-      omega (arith, agrees.known.slots, ap length agrees.landmarks, length-landmark_records s.number 1 s.landmarks, length-map firsts Some)
+  long-firsts = omega (arith, agrees.known.slots, ap length agrees.landmarks, length-landmark_records s.number 1 s.landmarks, length-map firsts Some)
 
   long-others : length part.landmarks.value_slots ≡ length (map Some others)
   long-others =
@@ -268,8 +240,7 @@ second-held [] [] each = refl
 second-held [] (s ∷ ss) each = absurd each
 second-held (part ∷ parts) [] each = absurd each
 second-held (part ∷ parts) (s ∷ ss) each =
-    map-append (λ (e : ℕ × Option Record). e.1) (records_held (part, s)) (flat_map records_held (zip parts ss))
-    ∙ ap₂ ◌++◌
+    map-append (λ (e : ℕ × Option Record). e.1) (records_held (part, s)) (flat_map records_held (zip parts ss)) ∙ ap₂ ◌++◌
     (ap (map (λ (e : ℕ × Option Record). e.1)) (held-zip part s each.0)
     ∙ seconds-zip (slots_held part) (map Some (records_of_stream s)) (sym (held-long part s each.0))) (second-held parts ss each.1)
     ∙ sym (map-append Some (records_of_stream s) (records_of_streams ss))
@@ -297,8 +268,7 @@ module _ (parts : List StreamParts) (streams : List Stream) (found : SlotMap) (w
   unfolding spelled
   every_slot_spells =
       list_any-filled found.bytes (range_with_len 0 found.extent) (zeros_are_free found whole)
-      ∙ sym (list_any-IsPermutation is_none (map Some (all_walked streams)) (map (λ e. e.1) (occupied found)) moved)
-      ∙ list_any-Some (all_walked streams)
+      ∙ sym (list_any-IsPermutation is_none (map Some (all_walked streams)) (map (λ e. e.1) (occupied found)) moved) ∙ list_any-Some (all_walked streams)
 
   -- what is made of the records of the streams is what is made of those of the slots
   pub made_of_records : {Y : Type 0} (f : Record → Option Y) → f Free ≡ None →
@@ -307,7 +277,6 @@ module _ (parts : List StreamParts) (streams : List Stream) (found : SlotMap) (w
   made_of_records f free =
       subst (λ l. IsPermutation (filter_map f (all_walked streams)) l)
       (sym (filter_map-filled f free found.bytes (range_with_len 0 found.extent) (zeros_are_free found whole)))
-      (subst (λ l. IsPermutation (filter_map f l) (filter_map f (records_in (map (λ e. e.1) (occupied found)))))
-      (records_in-Some (all_walked streams))
+      (subst (λ l. IsPermutation (filter_map f l) (filter_map f (records_in (map (λ e. e.1) (occupied found))))) (records_in-Some (all_walked streams))
       (IsPermutation-filter_map f (records_in (map Some (all_walked streams))) (records_in (map (λ e. e.1) (occupied found)))
       (IsPermutation-filter_map (λ o. o) (map Some (all_walked streams)) (map (λ e. e.1) (occupied found)) moved)))

@@ -1,15 +1,7 @@
 -- The times of a stream's entries rise up to its last time.
-use Rattle.std.proofs.Common.{◌≡◌, ◌+◌, ◌≤◌, ℕ, List, [], ◌∷◌, map, max, MatchOption, Option, Some, None, refl, sym, ap, subst, arith}
-use Rattle.std.specs.List.{AllByRecursion}
-use Rattle.ss_line.specs.declared.entry.Entry.{Entry}
-use Rattle.ss_model.specs.Marks.{later, latest_of}
-use Rattle.ss_model.specs.Standing.{IsStream}
-use Rattle.ss_model.specs.State.{Stream}
-use Rattle.ss_model.specs.Tiling.{StandFrom}
-use Rattle.ss_model.specs.Windows.{newest_time}
-use Rattle.ss_model.specs.declared.types.Window.{Window}
-use Rattle.ss_recover.specs.Held.{Agrees, AllAgree, RiseToLast, TimesRise, entries_of, times_held, times_of}
-use Rattle.ss_recover.specs.declared.parts.StreamParts.{StreamParts}
+use Rattle.ss_recover.proofs.Words.{[], ◌+◌, ◌∷◌, ◌≡◌, ◌≤◌, Agrees, ap, arith, entries_of, Entry, IsStream, later, latest_of, List, map, MatchOption, max}
+use Rattle.ss_recover.proofs.Words.{newest_time, None, Option, refl, RiseToLast, Some, StandFrom, Stream, StreamParts, subst, sym, times_held, times_of}
+use Rattle.ss_recover.proofs.Words.{TimesRise, Window, ℕ}
 
 -- up to the newest time
 rise-agree : (first time newest last : ℕ) (es : List Entry) (ws : List Window) → StandFrom first time ws → newest_time ws ≡ Some newest → newest ≤ last →
@@ -61,13 +53,7 @@ rise-later None latest (e ∷ es) (w ∷ ws) stand is times = absurd (some-newes
 rise-later (Some t) None (e ∷ es) ws stand is times = rise-agree 1 0 t t (e ∷ es) ws stand is (omega arith) times
 rise-later (Some t) (Some u) (e ∷ es) ws stand is times = rise-agree 1 0 t (max t u) (e ∷ es) ws stand is (omega arith) times
 
-RiseToLast-Agrees : (part : StreamParts) (s : Stream) → Agrees part s → IsStream s → RiseToLast part
+pub RiseToLast-Agrees : (part : StreamParts) (s : Stream) → Agrees part s → IsStream s → RiseToLast part
 RiseToLast-Agrees part s agrees is =
     subst (λ (last : Option ℕ). MatchOption last (entries_of part ≡ []) (λ last. TimesRise 0 last (entries_of part))) (sym agrees.last_time)
     (rise-later (newest_time s.windows) (latest_of s.landmarks) (entries_of part) s.windows is.windows.stand refl agrees.times)
-
--- the same of each
-pub times-agree : (parts : List StreamParts) (ss : List Stream) → AllAgree parts ss → AllByRecursion IsStream ss → AllByRecursion RiseToLast parts
-times-agree [] ss each sound = tt
-times-agree (p ∷ ps) [] each sound = absurd each
-times-agree (p ∷ ps) (s ∷ ss) each sound = (RiseToLast-Agrees p s each.0 sound.0, times-agree ps ss each.1 sound.1)

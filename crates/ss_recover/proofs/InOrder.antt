@@ -1,19 +1,12 @@
 -- A list in the order of its keys: where its elements are those of a list whose keys rise, it is that list.
-use Rattle.std.proofs.Common.{◌≡◌, ℕ, ◌+◌, ◌<◌, ◌≤◌, Bool, true, false, zero, suc, cond, List, [], ◌∷◌, ◌++◌, filter, map, refl, ap, arith, IsPermutation}
-use Rattle.std.specs.Prelude.{nat_le, nat_lt, sum_by}
-use Rattle.std.specs.List.{AllByRecursion, AllPairs}
-use Rattle.std.specs.List.Sorted.{IsStrictlyIncreasing}
-use Rattle.std.proofs.lemmas.Bool.{cond_both}
-use Rattle.std.proofs.lemmas.Bool.Decides.{nat_tests}
-use Rattle.std.proofs.lemmas.List.Elements.{All-from_recursion, recursion_from_All}
+use Rattle.ss_recover.proofs.Words.{[], ◌++◌, ◌+◌, ◌<◌, ◌∷◌, ◌≡◌, ◌≤◌, All-from_recursion, All-permutation, AllByRecursion, AllPairs, ap, arith, Bool, cond}
+use Rattle.ss_recover.proofs.Words.{cond_both, false, filter, in_order, IsPermutation, IsPermutation-cons, IsPermutation-refl, IsPermutation-trans}
+use Rattle.ss_recover.proofs.Words.{IsStrictlyIncreasing, List, map, nat_le, nat_lt, nat_tests, put_in_order, recursion_from_All, refl, Rises, suc, sum_by}
+use Rattle.ss_recover.proofs.Words.{sum_by-cons, sum_by-IsPermutation, true, zero, ℕ}
 use Rattle.std.proofs.lemmas.List.Kept.{AllPairs-from_increasing}
-use Rattle.std.proofs.lemmas.List.Sorted.{IsPermutation-refl, IsPermutation-trans, IsPermutation-cons, All-permutation, sum_by-IsPermutation}
-use Rattle.std.proofs.lemmas.List.Sums.{sum_by-cons}
-use Rattle.ss_recover.specs.Carried.{put_in_order, in_order}
 use Rattle.ss_recover.proofs.Lists.{all-kept, all_behind}
-pub use Rattle.ss_recover.proofs.Lists.{all_weaker}
 use Rattle.ss_recover.proofs.Permutations.{IsPermutation-turn}
-use Rattle.ss_recover.specs.Order.{Rises}
+pub use Rattle.ss_recover.proofs.Lists.{all_weaker}
 
 le-nat_le : (m n : ℕ) → nat_le m n ≡ true → m ≤ n
 le-nat_le m n le = grind (arith, nat_tests)
@@ -37,20 +30,16 @@ module _ {X : Type 0} (key : X → ℕ) where
   Rises-put_in_order : (x : X) (ys : List X) → Rises key ys → Rises key (put_in_order key x ys)
   Rises-put_in_order x [] none = (tt, tt)
   Rises-put_in_order x (y ∷ ys) none =
-      cond_both (nat_le (key x) (key y)) (x ∷ y ∷ ys) (y ∷ put_in_order key x ys) (Rises key)
-      (λ test.
+      cond_both (nat_le (key x) (key y)) (x ∷ y ∷ ys) (y ∷ put_in_order key x ys) (Rises key) (λ test.
       let le = le-nat_le (key x) (key y) test in
-      ((le, all_weaker (λ z. key y ≤ key z) (λ z. key x ≤ key z) (λ z more. omega arith) ys none.0), none))
-      (λ test.
+      ((le, all_weaker (λ z. key y ≤ key z) (λ z. key x ≤ key z) (λ z more. omega arith) ys none.0), none)) (λ test.
       let over = lt-nat_le (key x) (key y) test in
       (all-put_in_order (λ z. key y ≤ key z) x ys (omega arith) none.0, Rises-put_in_order x ys none.1))
 
   IsPermutation-put_in_order : (x : X) (ys : List X) → IsPermutation (x ∷ ys) (put_in_order key x ys)
   IsPermutation-put_in_order x [] = IsPermutation-refl (x ∷ [])
   IsPermutation-put_in_order x (y ∷ ys) =
-      cond_both (nat_le (key x) (key y)) (x ∷ y ∷ ys) (y ∷ put_in_order key x ys) (IsPermutation (x ∷ y ∷ ys))
-      (λ le. IsPermutation-refl (x ∷ y ∷ ys))
-      (λ over.
+      cond_both (nat_le (key x) (key y)) (x ∷ y ∷ ys) (y ∷ put_in_order key x ys) (IsPermutation (x ∷ y ∷ ys)) (λ le. IsPermutation-refl (x ∷ y ∷ ys)) (λ over.
       IsPermutation-trans (x ∷ y ∷ ys) (y ∷ x ∷ ys) (y ∷ put_in_order key x ys) (IsPermutation-turn x y ys)
       (IsPermutation-cons y (x ∷ ys) (put_in_order key x ys) (IsPermutation-put_in_order x ys)))
 
@@ -124,23 +113,19 @@ module _ {X : Type 0} (key : X → ℕ) where
   -- the elements of a list whose keys rise, in another order in which they don't fall, are in that order
   pub Rises-IsPermutation : (xs ys : List X) → Rises key xs → IsPermutation ys xs → Rise ys → xs ≡ ys
   Rises-IsPermutation xs ys rises moved rise =
-      same-in_order xs ys rises rise
-      (λ f. sum_by-IsPermutation f ys xs moved)
-      (recursion_from_All (AreThose ys) xs
+      same-in_order xs ys rises rise (λ f. sum_by-IsPermutation f ys xs moved) (recursion_from_All (AreThose ys) xs
       (All-permutation (AreThose ys) ys xs moved (All-from_recursion (AreThose ys) ys (AreThose-Rise ys rise))))
 
   -- in any order, they are put in that order
   pub in_order-IsPermutation : (xs ys : List X) → IsPermutation ys xs → Rise ys → in_order key xs ≡ ys
   in_order-IsPermutation xs ys moved rise =
-      Rises-IsPermutation (in_order key xs) ys (Rises-in_order xs)
-      (IsPermutation-trans ys xs (in_order key xs) moved (IsPermutation-in_order xs)) rise
+      Rises-IsPermutation (in_order key xs) ys (Rises-in_order xs) (IsPermutation-trans ys xs (in_order key xs) moved (IsPermutation-in_order xs)) rise
 
   -- those that pass a test
   pub Rise-filter : (test : X → Bool) (xs : List X) → Rise xs → Rise (filter test xs)
   Rise-filter test [] rise = tt
   Rise-filter test (x ∷ xs) rise =
-      cond_both (test x) (x ∷ filter test xs) (filter test xs) Rise
-      (λ passes. (all-kept (λ y. key x < key y) test xs rise.0, Rise-filter test xs rise.1))
+      cond_both (test x) (x ∷ filter test xs) (filter test xs) Rise (λ passes. (all-kept (λ y. key x < key y) test xs rise.0, Rise-filter test xs rise.1))
       (λ fails. Rise-filter test xs rise.1)
 
   -- what comes before and after an element

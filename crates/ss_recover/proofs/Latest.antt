@@ -1,14 +1,8 @@
 -- The latest time of landmarks: none of them has a later one, and what it is when one opens, takes a value or closes.
-use Rattle.std.proofs.Common.{◌≡◌, ◌∙◌, ℕ, ◌<◌, ◌≤◌, List, [], ◌∷◌, ◌++◌, map, max, Option, Some, None, IfSome, refl, sym, ap, subst, arith}
-use Rattle.std.specs.Prelude.{option_to_list}
-use Rattle.std.specs.List.{AllByRecursion, fold}
-use Rattle.std.proofs.lemmas.List.{map-append}
-use Rattle.std.proofs.lemmas.List.Elements.{All-nil, All-cons, All-from_recursion, All-head, All-tail, recursion_from_All}
-use Rattle.std.proofs.lemmas.List.Sums.{fold-append}
-use Rattle.ss_landmarks.specs.Landmark.{Landmark, LandmarkValue, change_last, closed_at, opened_at, with_value}
-use Rattle.ss_landmarks.specs.Order.{AllEndBy, EndsBy}
-use Rattle.ss_model.specs.Marks.{later, latest_in, latest_of}
-use Rattle.ss_recover.proofs.Lists.{all_weaker, all-from_map, map-all}
+use Rattle.ss_recover.proofs.Words.{[], ◌++◌, ◌<◌, ◌∙◌, ◌∷◌, ◌≡◌, ◌≤◌, All-head, All-tail, AllByRecursion, AllEndBy, AllEndBy-later, ap, arith, change_last}
+use Rattle.ss_recover.proofs.Words.{closed_at, ends-latest, EndsBy, fold, fold-append, IfSome, Landmark, LandmarkValue, later, latest_in, latest_of, List, map}
+use Rattle.ss_recover.proofs.Words.{map-append, max, None, opened_at, Option, option_to_list, recursion_from_All, refl, Some, sym, with_value, ℕ}
+use Rattle.ss_recover.proofs.Lists.{map-all}
 
 -- the greatest of some times
 fold-most : (t u : ℕ) (ts : List ℕ) → t ≤ u → AllByRecursion (λ x. x ≤ u) ts → fold max t ts ≤ u
@@ -19,14 +13,6 @@ fold-least : (t : ℕ) (ts : List ℕ) → t ≤ fold max t ts
 fold-least t [] = omega arith
 fold-least t (x ∷ xs) = omega (arith, fold-least (max t x) xs)
 
-fold-each : (t : ℕ) (ts : List ℕ) → AllByRecursion (λ x. x ≤ fold max t ts) ts
-fold-each t [] = tt
-fold-each t (x ∷ xs) = (omega (arith, fold-least (max t x) xs), fold-each (max t x) xs)
-
-finish-by : (start last : ℕ) (finish : Option ℕ) → fold max start (option_to_list finish) ≤ last → IfSome finish (λ t. t ≤ last)
-finish-by start last None le = tt
-finish-by start last (Some t) le = omega (arith, le)
-
 begun-by : (start t : ℕ) (finish : Option ℕ) → start ≤ t → IfSome finish (λ f. f ≤ t) → fold max start (option_to_list finish) ≤ t
 begun-by start t None first last = first
 begun-by start t (Some f) first last = omega (arith, first, last)
@@ -36,17 +22,7 @@ times_of l = map (λ (value : LandmarkValue). value.t) l.values
 
 -- no time of a landmark is after its latest
 EndsBy-latest_in : (l : Landmark) (last : ℕ) → latest_in l ≤ last → EndsBy last l
-EndsBy-latest_in l last le =
-    let begun = fold max l.start (option_to_list l.finish) in
-    let first = fold-least l.start (option_to_list l.finish) in
-    let second = fold-least begun (times_of l) in
-    let end : begun ≤ last = omega (arith, second, le) in (
-      omega (arith, first, end),
-      finish-by l.start last l.finish end,
-      All-from_recursion (λ (value : LandmarkValue). value.t ≤ last) l.values
-          (all-from_map (λ t. t ≤ last) (λ (value : LandmarkValue). value.t) l.values
-          (all_weaker (λ t. t ≤ latest_in l) (λ t. t ≤ last) (λ t by. omega (arith, by, le)) (times_of l) (fold-each begun (times_of l)))),
-    )
+EndsBy-latest_in l last le = All-head (EndsBy last) l [] (AllEndBy-later (l ∷ []) (latest_in l) last le (ends-latest None (l ∷ []) (latest_in l) refl))
 
 times-by : (t : ℕ) (l : Landmark) → EndsBy t l → AllByRecursion (λ u. u ≤ t) (times_of l)
 times-by t l ends =
@@ -55,29 +31,6 @@ times-by t l ends =
 latest_in-EndsBy : (l : Landmark) (t : ℕ) → EndsBy t l → latest_in l ≤ t
 latest_in-EndsBy l t ends =
     fold-most (fold max l.start (option_to_list l.finish)) t (times_of l) (begun-by l.start t l.finish ends.0 ends.1) (times-by t l ends)
-
-later-le : (o p : Option ℕ) (last : ℕ) → IfSome (later o p) (λ t. t ≤ last) → IfSome o (λ t. t ≤ last) × IfSome p (λ t. t ≤ last)
-later-le None p last by = (tt, by)
-later-le (Some t) None last by = (by, tt)
-later-le (Some t) (Some u) last by = (omega (arith, by), omega (arith, by))
-
-AllEndBy-by : (ls : List Landmark) (last : ℕ) → IfSome (latest_of ls) (λ t. t ≤ last) → AllEndBy last ls
-AllEndBy-by [] last by = All-nil (EndsBy last)
-AllEndBy-by (l ∷ ls) last by =
-    let both = later-le (Some (latest_in l)) (latest_of ls) last by in
-    All-cons (EndsBy last) l ls (EndsBy-latest_in l last both.0) (AllEndBy-by ls last both.1)
-
--- no time of landmarks is after their latest
-pub AllEndBy-latest : (ls : List Landmark) (last : ℕ) → latest_of ls ≡ Some last → AllEndBy last ls
-AllEndBy-latest ls last is = AllEndBy-by ls last (subst (λ (o : Option ℕ). IfSome o (λ t. t ≤ last)) (sym is) (omega arith))
-
-some-later : (t : ℕ) (o : Option ℕ) → later (Some t) o ≡ None → ⊥
-some-later t None is = cc
-some-later t (Some u) is = cc
-
-pub none-latest : (ls : List Landmark) → latest_of ls ≡ None → ls ≡ []
-none-latest [] is = refl
-none-latest (l ∷ ls) is = absurd (some-later (latest_in l) (latest_of ls) is)
 
 -- a landmark that takes a value, or that closes, at a time that none of its times is after
 pub latest_in-closed : (l : Landmark) (t : ℕ) → EndsBy t l → latest_in (closed_at t l) ≡ t

@@ -1,3 +1,4 @@
+pub mod Words
 pub mod OrderLemmas
 pub mod Lists
 pub mod Permutations

@@ -1,10 +1,7 @@
 -- Lemmas on lists of anything, and on numbers in a row.
-use Rattle.std.proofs.Common.{◌≡◌, ℕ, zero, suc, ◌+◌, ◌<◌, ◌≤◌, Bool, true, false, cond, nat_eq, List, [], ◌∷◌, ◌++◌, map, filter, length, refl, ap}
-use Rattle.std.proofs.Common.{arith, inl, inr, Option, Some, None}
-use Rattle.std.specs.Prelude.{nat_lt}
-use Rattle.std.specs.List.{AllByRecursion, filter_map, list_all, list_any, position, position_or_len, range_with_len}
-use Rattle.std.proofs.lemmas.Bool.{and_from, and_parts, cases_Bool, cond-false, cond_both, le-ltb, or_parts}
-use Rattle.std.proofs.lemmas.Bool.Decides.{nat_tests}
+use Rattle.ss_recover.proofs.Words.{[], ◌++◌, ◌+◌, ◌<◌, ◌∙◌, ◌∷◌, ◌≡◌, ◌≤◌, AllByRecursion, and_from, and_parts, ap, ap₂, arith, Bool, cases_Bool, cond}
+use Rattle.ss_recover.proofs.Words.{cond-false, cond_both, false, filter, filter_map, inl, inr, le-ltb, length, List, list_all, list_any, map, nat_eq, nat_lt}
+use Rattle.ss_recover.proofs.Words.{nat_tests, None, Option, or_parts, position, position_or_len, range_with_len, refl, Some, suc, sym, true, zero, ℕ}
 
 -- what holds of each element
 pub all_weaker : {X : Type 0} (P Q : X → Type 0) → ((x : X) → P x → Q x) → (xs : List X) → AllByRecursion P xs → AllByRecursion Q xs
@@ -57,6 +54,14 @@ pub filter-none : {X : Type 0} (p : X → Bool) (xs : List X) → AllByRecursion
 filter-none p [] none = refl
 filter-none p (x ∷ xs) none = rw none.0 (filter-none p xs none.1)
 
+pub filter-same : {X : Type 0} (p q : X → Bool) (xs : List X) → AllByRecursion (λ x. p x ≡ q x) xs → filter p xs ≡ filter q xs
+filter-same p q [] same = refl
+filter-same p q (x ∷ xs) same = ap₂ (λ (b : Bool) rest. cond b (x ∷ rest) rest) same.0 (filter-same p q xs same.1)
+
+pub all-each : {X : Type 0} (P : X → Type 0) → ((x : X) → P x) → (xs : List X) → AllByRecursion P xs
+all-each P each [] = tt
+all-each P each (x ∷ xs) = (each x, all-each P each xs)
+
 pub all-passing : {X : Type 0} (p : X → Bool) (xs : List X) → AllByRecursion (λ x. p x ≡ true) (filter p xs)
 all-passing p [] = tt
 all-passing p (x ∷ xs) =
@@ -79,6 +84,25 @@ filter_map-kept p (x ∷ xs) = elim (cases_Bool (p x)) [
   | inr fails ↦ rw fails (filter_map-kept p xs)
 ]
 
+-- what passes a test passes it among those that do
+any-passing : {X : Type 0} (p : X → Bool) (xs : List X) → list_any p (filter p xs) ≡ list_any p xs
+any-passing p [] = refl
+any-passing p (x ∷ xs) = elim (cases_Bool (p x)) [
+  | inl passes ↦ rw (passes, passes) refl
+  | inr fails ↦ rw fails (any-passing p xs)
+]
+
+pub any-made : {X : Type 0} (p : X → Bool) (xs ys : List X) → filter_map (kept p) xs ≡ filter_map (kept p) ys → list_any p xs ≡ list_any p ys
+any-made p xs ys same = sym (any-passing p xs) ∙ ap (list_any p) (sym (filter_map-kept p xs) ∙ same ∙ filter_map-kept p ys) ∙ any-passing p ys
+
+-- a test of what is made of each
+pub filter-map : {X Y : Type 0} (p : Y → Bool) (g : X → Y) (xs : List X) → filter p (map g xs) ≡ map g (filter (λ x. p (g x)) xs)
+filter-map p g [] = refl
+filter-map p g (x ∷ xs) = elim (cases_Bool (p (g x))) [
+  | inl passes ↦ rw passes (ap (λ l. g x ∷ l) (filter-map p g xs))
+  | inr fails ↦ rw fails (filter-map p g xs)
+]
+
 pub map-map : {X Y Z : Type 0} (g : Y → Z) (f : X → Y) (xs : List X) → map g (map f xs) ≡ map (λ x. g (f x)) xs
 map-map g f [] = refl
 map-map g f (x ∷ xs) = ap (λ l. g (f x) ∷ l) (map-map g f xs)
@@ -94,8 +118,7 @@ position_or_len-none p (x ∷ xs) none =
 pub position-none : {X : Type 0} (p : X → Bool) (xs : List X) → list_any p xs ≡ false → position p xs ≡ None
 position-none p xs none =
     let all = position_or_len-none p xs none in
-    cond-false (nat_lt (position_or_len p xs) (length xs)) (Some (position_or_len p xs)) None
-    (le-ltb (position_or_len p xs) (length xs) (omega arith))
+    cond-false (nat_lt (position_or_len p xs) (length xs)) (Some (position_or_len p xs)) None (le-ltb (position_or_len p xs) (length xs) (omega arith))
 
 -- numbers in a row, in two parts
 pub range_with_len-append : (a n m k b : ℕ) → k ≡ n + m → b ≡ a + n → range_with_len a k ≡ range_with_len a n ++ range_with_len b m
@@ -104,8 +127,7 @@ range_with_len-append a zero m k b whole start =
     let at : b ≡ a = omega arith in
     rw (same, at) refl
 range_with_len-append a (suc n) m zero b whole start = absurd (omega arith)
-range_with_len-append a (suc n) m (suc k) b whole start =
-    ap (λ l. a ∷ l) (range_with_len-append (a + 1) n m k b (omega arith) (omega arith))
+range_with_len-append a (suc n) m (suc k) b whole start = ap (λ l. a ∷ l) (range_with_len-append (a + 1) n m k b (omega arith) (omega arith))
 
 -- a number isn't in a row below it, nor in one above it
 pub range-below : (p a n : ℕ) → a + n ≤ p → AllByRecursion (λ slot. nat_eq slot p ≡ false) (range_with_len a n)

@@ -1,39 +1,20 @@
 -- What is held of landmarks shows what their records make, one record after another.
-use Rattle.std.proofs.Common.{◌≡◌, ◌∙◌, ℕ, ℤ, ◌+◌, ◌<◌, ◌≤◌, Bool, true, false, List, [], ◌∷◌, ◌++◌, length, Option, Some, None, IfSome}
-use Rattle.std.proofs.Common.{MatchOption, refl, sym, ap, subst, arith, append-nil, length-append}
-use Rattle.std.specs.Prelude.{◌==◌, ◌&&◌, fold, nat_le, nat_lt, option_and_then}
-use Rattle.std.specs.Option.{option_map_or}
-use Rattle.std.specs.List.{list_all}
-use Rattle.std.proofs.lemmas.Bool.{and_parts, and_right, cond-true, cond-false, eq-eqb, eqb-true, leb-true}
-use Rattle.std.proofs.lemmas.Bool.Decides.{nat_tests}
-use Rattle.std.proofs.lemmas.List.{map-append}
-use Rattle.std.proofs.lemmas.List.Elements.{filter-append}
-use Rattle.std.proofs.lemmas.List.Folds.{list_all-append}
-use Rattle.std.proofs.lemmas.List.Sums.{fold-append}
-use Rattle.ss_codec.specs.declared.record.Record.{Record}
-use Rattle.ss_codec.specs.declared.record.Record.TheVariants as records
-use Rattle.ss_landmarks.specs.Free.{is_up_to}
-use Rattle.ss_landmarks.specs.Landmark.{Landmark, LandmarkValue, change_last, opened_at, with_value}
-use Rattle.ss_landmarks.specs.Landmarks.{AreKnown}
-use Rattle.ss_landmarks.specs.Order.{AreLandmarks, CanOpen, CanTake}
-use Rattle.ss_landmarks.specs.declared.landmarks.TheConstants.{LATEST_TIME, MOST_LANDMARK_SLOTS}
-use Rattle.ss_model.specs.Marks.{latest_of}
-use Rattle.ss_recover.specs.Carried.{is_mark_of}
-use Rattle.ss_recover.specs.Marked.{Marked, are_marks, has_all_values, is_next_landmark, is_next_value, landmarks_in, marked_by, marked_on}
-use Rattle.ss_recover.specs.Marked.{marked_with, nothing_marked}
-use Rattle.ss_recover.specs.Order.{stream_of}
-use Rattle.ss_recover.specs.Runs.{marks_in}
-use Rattle.ss_recover.specs.Shown.{AddsToLandmark, AreMade, HasClosed, HasNoMarks, IsReady, MayClose, OpensLandmark, ShowsLast, ShowsMarks}
-use Rattle.ss_recover.specs.Shown.{can_add, can_open, finish_of, has_said_last, is_landmark, is_value, still_open}
-use Rattle.ss_recover.specs.Usable.{HasValidTimes, without_slots}
-use Rattle.ss_recover.specs.declared.found.Found.{Found}
-use Rattle.ss_recover.specs.declared.marking.Last.{Last}
+use Rattle.ss_recover.proofs.Words.{[], ◌&&◌, ◌++◌, ◌+◌, ◌<◌, ◌==◌, ◌∙◌, ◌∷◌, ◌≡◌, ◌≤◌, AddsToLandmark, and-true, and_assoc, and_parts, and_right, ap}
+use Rattle.ss_recover.proofs.Words.{append-nil, are_marks, AreKnown, AreLandmarks, AreMade, arith, Bool, can_add, can_open, CanOpen, CanTake, change_last}
+use Rattle.ss_recover.proofs.Words.{cond-false, cond-true, eq-eqb, eqb-true, false, filter-append, finish_of, fold, fold-append, Found, has_all_values}
+use Rattle.ss_recover.proofs.Words.{has_said_last, HasClosed, HasNoMarks, HasValidTimes, IfSome, is_landmark, is_mark_of, is_next_landmark, is_next_value}
+use Rattle.ss_recover.proofs.Words.{is_up_to, is_value, IsReady, Landmark, landmarks_in, LandmarkValue, Last, latest_of, LATEST_TIME, leb-true, length}
+use Rattle.ss_recover.proofs.Words.{length-append, List, list_all, list_all-append, map-append, Marked, marked_by, marked_on, marked_with, marks_in}
+use Rattle.ss_recover.proofs.Words.{MatchOption, MayClose, MOST_LANDMARK_SLOTS, nat_le, nat_lt, nat_tests, None, nothing_marked, opened_at, OpensLandmark}
+use Rattle.ss_recover.proofs.Words.{Option, option_and_then, option_map_or, Record, refl, ShowsLast, ShowsMarks, Some, still_open, stream_of, subst, sym, true}
+use Rattle.ss_recover.proofs.Words.{with_value, without_slots, ℕ, ℤ}
 use Rattle.ss_recover.specs.declared.marking.Marks.{Marks}
 use Rattle.ss_recover.proofs.Latest.{latest_of-opened, latest_of-value}
 use Rattle.ss_recover.proofs.MarksSoFar.{marked-more, marked_on-none}
-use Rattle.ss_recover.proofs.RunMarks.{CanOpen-shown, CanTake-shown, MayClose-shown, add-shown, change_last-front, closed-shown, latest-shown}
-use Rattle.ss_recover.proofs.RunMarks.{open-shown, said-shown}
+use Rattle.ss_recover.proofs.RunMarks.{add-shown, CanOpen-shown, CanTake-shown, change_last-front, closed-shown, latest-shown, MayClose-shown, open-shown}
+use Rattle.ss_recover.proofs.RunMarks.{said-shown}
 use Rattle.ss_recover.proofs.WindowLaws.{few-found, found-more, records-more}
+use Rattle.ss_codec.specs.declared.record.Record.TheVariants as records
 
 marks-more : (n : ℕ) (own : List Found) (x : Found) → marks_in n (without_slots (own ++ x ∷ [])) ≡ marks_in n (without_slots own) ++ marks_in n (x.holds ∷ [])
 marks-more n own x = ap (marks_in n) (records-more own x) ∙ filter-append (is_mark_of n) (without_slots own) (x.holds ∷ [])
@@ -119,8 +100,7 @@ module _ (s : Marks) (n : ℕ) (m : Marked) (own : List Found) (shows : ShowsMar
           closes = may-close finish timed;
         };
         latest =
-            opens.latest
-            ∙ sym (ap latest_of opens.landmarks ∙ latest_of-opened start closed.landmarks.landmarks
+            opens.latest ∙ sym (ap latest_of opens.landmarks ∙ latest_of-opened start closed.landmarks.landmarks
             (CanOpen-shown ls s.latest m s.last closed.landmarks.landmarks number start shows.last shows.latest order can closes.landmarks).1);
         by = by-more n own x m next shows.by (eq-eqb n n refl) with_r;
         slots = opens.slots ∙ ap (λ k. k ++ slot ∷ []) (closes.slots ∙ shows.slots) ∙ sym (found-more is_landmark own x true refl);
@@ -128,10 +108,6 @@ module _ (s : Marks) (n : ℕ) (m : Marked) (own : List Found) (shows : ShowsMar
       } in
       subst (λ o. MatchOption o ⊥ (λ k. ShowsMarks (with_last opened (Some last)) n k (own ++ x ∷ []))) (sym with_r) new
     where
-      and-true : (b : Bool) → (b && true) ≡ b
-      and-true true = refl
-      and-true false = refl
-
       may-close : (o : Option ℕ) → HasValidTimes said start o → IfSome o (λ t. (start ≤ t) × (t ≤ LATEST_TIME))
       may-close None _ = tt
       may-close (Some t) timed = timed
@@ -145,8 +121,7 @@ module _ (s : Marks) (n : ℕ) (m : Marked) (own : List Found) (shows : ShowsMar
   pub none-added : (id number index t : ℕ) (v : ℤ) → s.last ≡ None → marked_with m (records.Value id number index t v) ≡ None
   none-added id number index t v none =
       let nothing = subst (λ last. ShowsLast last ls s.latest m) none shows.last in
-      cond-false (is_next_value m number index t) _ None
-      (ap (λ k. is_next_value k number index t) nothing.0 ∙ and_right (number == 0) false refl)
+      cond-false (is_next_value m number index t) _ None (ap (λ k. is_next_value k number index t) nothing.0 ∙ and_right (number == 0) false refl)
 
   pub added : (c : Last) (new : Marks) (slot number index t : ℕ) (v : ℤ) → s.last ≡ Some c → can_add (length ls) c number index t ≡ true →
       AddsToLandmark s new slot t v →
@@ -178,7 +153,7 @@ module _ (s : Marks) (n : ℕ) (m : Marked) (own : List Found) (shows : ShowsMar
           values = omega (arith, turn, was.values, length-append l.values (value ∷ []));
           from = λ u.
               ap (λ b. nat_le l.start u && b) (list_all-append (λ (y : LandmarkValue). nat_lt y.t u) l.values (value ∷ []))
-              ∙ grouped (nat_le l.start u) (list_all (λ (y : LandmarkValue). nat_lt y.t u) l.values) (nat_lt t u && true)
+              ∙ sym (and_assoc (nat_le l.start u) (list_all (λ (y : LandmarkValue). nat_lt y.t u) l.values) (nat_lt t u && true))
               ∙ after-from c.from t _ u late (was.from u);
           time = t;
           latest = adds.latest;
@@ -186,18 +161,13 @@ module _ (s : Marks) (n : ℕ) (m : Marked) (own : List Found) (shows : ShowsMar
           closes = closes-by t c.finish was.time both.1 was.closes;
         };
         latest =
-            adds.latest
-            ∙ sym (ap latest_of adds.landmarks ∙ latest_of-value value was.time ls (sym shows.latest ∙ was.latest) (omega (arith, early, late)));
+            adds.latest ∙ sym (ap latest_of adds.landmarks ∙ latest_of-value value was.time ls (sym shows.latest ∙ was.latest) (omega (arith, early, late)));
         by = by-more n own x m next shows.by (eq-eqb n n refl) with_r;
         slots = adds.slots ∙ shows.slots ∙ sym (found-more is_landmark own x false refl ∙ append-nil _);
         value_slots = adds.value_slots ∙ ap (λ k. k ++ slot ∷ []) shows.value_slots ∙ sym (found-more is_value own x true refl);
       } in
       subst (λ o. MatchOption o ⊥ (λ k. ShowsMarks (with_last new (Some last)) n k (own ++ x ∷ []))) (sym with_r) result
     where
-      grouped : (a b d : Bool) → (a && (b && d)) ≡ ((a && b) && d)
-      grouped true b d = refl
-      grouped false b d = refl
-
       after-from : (from t : ℕ) (a : Bool) (u : ℕ) → from ≤ t → a ≡ nat_le from u → (a && (nat_lt t u && true)) ≡ nat_le (t + 1) u
       after-from from t a u le a_is = rw a_is (grind (arith, nat_tests))
 
@@ -238,8 +208,7 @@ module _ (s : Marks) (n : ℕ) (m : Marked) (own : List Found) (shows : ShowsMar
     where
       with_first : (r : Record) → is_mark_of n r ≡ true → marked_with m r ≡ None → are_marks (marks_in n (without_slots own ++ r ∷ without_slots rest)) ≡ false
       with_first r mark none =
-          ap (λ o. option_map_or has_all_values o false)
-          (ap marked_by (filter-append (is_mark_of n) (without_slots own) (r ∷ without_slots rest)
+          ap (λ o. option_map_or has_all_values o false) (ap marked_by (filter-append (is_mark_of n) (without_slots own) (r ∷ without_slots rest)
           ∙ ap (λ l. marks_in n (without_slots own) ++ l)
           (cond-true (is_mark_of n r) (r ∷ marks_in n (without_slots rest)) (marks_in n (without_slots rest)) mark))
           ∙ fold-append marked_on (Some nothing_marked) (marks_in n (without_slots own)) (r ∷ marks_in n (without_slots rest))
@@ -250,9 +219,7 @@ module _ (s : Marks) (n : ℕ) (m : Marked) (own : List Found) (shows : ShowsMar
       go records.Free same none = absurd (cc)
       go (records.Stream id name params dropped) same none = absurd (cc)
       go (records.Window id first summary) same none = absurd (cc)
-      go (records.Landmark id number values start finish) same none =
-          with_first (records.Landmark id number values start finish) (eq-eqb id n same) none
-      go (records.Value id number index t v) same none = with_first (records.Value id number index t v) (eq-eqb id n same) none
+      go r same none = with_first r (eq-eqb (stream_of r) n same) none
 
 -- what comes next, where something may
 pub marked-next : (P : Marked → Type 0) (o : Option Marked) → MatchOption o ⊥ P → (m : Marked) × P m

@@ -1,30 +1,16 @@
 -- The records of landmarks in order, each landmark's before those of its values: the landmarks that they make, and the order of places.
-use Rattle.std.proofs.Common.{◌≡◌, ℕ, ℤ, ◌+◌, ◌*◌, ◌^◌, ◌<◌, ◌≤◌, true, false, List, [], ◌∷◌, ◌++◌, length, map, filter, refl, sym, ap, subst, ◌∙◌}
-use Rattle.std.proofs.Common.{arith, append-nil, append_assoc, length-append, inl, inr, IsPermutation, Option, Some, None, IfSome, MatchOption, is_none}
-use Rattle.std.specs.Prelude.{◌==◌, ◌||◌, ◌&&◌, nat_lt, fold}
-use Rattle.std.specs.Option.{option_map_or}
-use Rattle.std.specs.List.{All, AllByRecursion}
-use Rattle.std.proofs.lemmas.Bool.{and_from, cond-true, eq-eqb, le-leb, lt-ltb}
-use Rattle.std.proofs.lemmas.List.Elements.{recursion_from_All}
-use Rattle.std.proofs.lemmas.List.Sorted.{IsPermutation-append_comm, IsPermutation-append_left, IsPermutation-append_right, IsPermutation-cons}
-use Rattle.std.proofs.lemmas.List.Sorted.{IsPermutation-refl, IsPermutation-trans}
-use Rattle.std.proofs.lemmas.List.Sums.{fold-append}
-use Rattle.ss_codec.specs.declared.record.Record.{Record}
-use Rattle.ss_codec.specs.declared.record.Record.TheVariants as records
-use Rattle.ss_landmarks.specs.Free.{is_up_to}
-use Rattle.ss_landmarks.specs.Landmark.{Landmark, LandmarkValue, all_values, with_value}
-use Rattle.ss_landmarks.specs.Order.{AreLandmarks, FollowFrom, IsLandmark, RiseFrom}
-use Rattle.ss_landmarks.specs.declared.landmarks.TheConstants.{LATEST_TIME}
-use Rattle.ss_landmarks.proofs.OrderLemmas.{cases-finish}
-use Rattle.ss_model.specs.Marks.{later}
-use Rattle.ss_model.specs.State.{Stream}
-use Rattle.ss_recover.specs.Carried.{in_order, is_mark_of}
-use Rattle.ss_recover.specs.Held.{all_value_records, landmark_record, landmark_records, stream_record, value_records, values_said, window_record}
-use Rattle.ss_recover.specs.Marked.{Marked, are_marks, has_said, is_closed_before, is_next_landmark, is_next_value, has_all_values, landmarks_in}
-use Rattle.ss_recover.specs.Marked.{landmarks_made, marked_on, nothing_marked}
-use Rattle.ss_recover.specs.Order.{place_of}
-use Rattle.ss_recover.proofs.InOrder.{Rise, in_order-IsPermutation}
+use Rattle.ss_recover.proofs.Words.{[], ◌&&◌, ◌*◌, ◌++◌, ◌+◌, ◌<◌, ◌==◌, ◌^◌, ◌||◌, ◌∙◌, ◌∷◌, ◌≡◌, ◌≤◌, All, all_value_records, all_values, AllByRecursion}
+use Rattle.ss_recover.proofs.Words.{and_from, ap, append-nil, append_assoc, are_marks, AreLandmarks, arith, cases-finish, cond-true, eq-eqb, false, filter}
+use Rattle.ss_recover.proofs.Words.{fold, fold-append, FollowFrom, has_all_values, has_said, IfSome, in_order, inl, inr, is_closed_before, is_mark_of}
+use Rattle.ss_recover.proofs.Words.{is_next_landmark, is_next_value, is_none, is_up_to, IsLandmark, IsPermutation, IsPermutation-append_comm}
+use Rattle.ss_recover.proofs.Words.{IsPermutation-append_left, IsPermutation-append_right, IsPermutation-cons, IsPermutation-refl, IsPermutation-trans}
+use Rattle.ss_recover.proofs.Words.{Landmark, landmark_record, landmark_records, landmarks_in, landmarks_made, LandmarkValue, later, LATEST_TIME, le-leb}
+use Rattle.ss_recover.proofs.Words.{length, length-append, List, lt-ltb, map, Marked, marked_on, MatchOption, nat_lt, None, nothing_marked, Option}
+use Rattle.ss_recover.proofs.Words.{option_map_or, place_of, Record, recursion_from_All, refl, RiseFrom, Some, Stream, stream_record, subst, sym, true}
+use Rattle.ss_recover.proofs.Words.{value_records, values_said, window_record, with_value, ℕ, ℤ}
+use Rattle.ss_recover.proofs.InOrder.{in_order-IsPermutation, Rise}
 use Rattle.ss_recover.proofs.Lists.{all_append, all_push, all_weaker, filter-all, list_all-each}
+use Rattle.ss_codec.specs.declared.record.Record.TheVariants as records
 
 -- the records of landmarks numbered from here on, each followed by those of its values
 abbrev pub marks_of : ℕ → ℕ → List Landmark → List Record
@@ -101,8 +87,7 @@ over xs ms ys zs moved =
     let turned : IsPermutation ((xs ++ ys) ++ zs) ((ys ++ xs) ++ zs) =
     IsPermutation-append_left zs (xs ++ ys) (ys ++ xs) (IsPermutation-append_comm xs ys) in
     IsPermutation-trans (xs ++ ms) (xs ++ (ys ++ zs)) (ys ++ (xs ++ zs)) (IsPermutation-append_right xs ms (ys ++ zs) moved)
-    (subst (λ l. IsPermutation l (ys ++ (xs ++ zs))) (append_assoc xs ys zs)
-    (subst (λ l. IsPermutation ((xs ++ ys) ++ zs) l) (append_assoc ys xs zs) turned))
+    (subst (λ l. IsPermutation l (ys ++ (xs ++ zs))) (append_assoc xs ys zs) (subst (λ l. IsPermutation ((xs ++ ys) ++ zs) l) (append_assoc ys xs zs) turned))
 
 pub IsPermutation-marks_of : (number n : ℕ) (ls : List Landmark) →
     IsPermutation (marks_of number n ls) (landmark_records number n ls ++ all_value_records number n ls)
@@ -201,8 +186,7 @@ module _ (number said n : ℕ) (before : List Landmark) (here : n ≡ length bef
       let long : index + 1 ≡ length (l.values ++ value ∷ []) + 1 = omega (arith, next, length-append l.values (value ∷ [])) in
       let rest = take_values values (with_value value l) (value.t + 1) (index + 1) long (omega (arith, low, first))
       (below_next value from l.values first below) rise.3 parts.1 in
-      ap (λ o. fold marked_on o (value_records number n (index + 1) values)) one
-      ∙ rest
+      ap (λ o. fold marked_on o (value_records number n (index + 1) values)) one ∙ rest
       ∙ ap (λ vs. Some (last_is (record { start = l.start; finish = l.finish; values = vs }))) (append_assoc l.values (value ∷ []) values)
 
 -- a landmark has as many values as its record says
@@ -305,8 +289,7 @@ landmarks_made-marks_of number ls are =
 all-values-from : (number n index low : ℕ) (values : List LandmarkValue) → low ≤ n * 2 ^ 32 + index →
     AllByRecursion (λ r. low ≤ place_of r) (value_records number n index values)
 all-values-from number n index low [] le = tt
-all-values-from number n index low (value ∷ values) le =
-    (omega (arith, le), all-values-from number n (index + 1) low values (omega (arith, le)))
+all-values-from number n index low (value ∷ values) le = (omega (arith, le), all-values-from number n (index + 1) low values (omega (arith, le)))
 
 all-marks-from : (number n low : ℕ) (ls : List Landmark) → low ≤ n * 2 ^ 32 → AllByRecursion (λ r. low ≤ place_of r) (marks_of number n ls)
 all-marks-from number n low [] le = tt

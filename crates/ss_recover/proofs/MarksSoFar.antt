@@ -1,27 +1,14 @@
 -- The records of landmarks so far, while they come one by one, and the landmarks that they make.
-use Rattle.std.proofs.Common.{◌≡◌, ℕ, ℤ, ◌+◌, ◌<◌, ◌≤◌, Bool, true, false, cond, List, [], ◌∷◌, ◌++◌, length, refl, sym, ap, subst, ◌∙◌, arith}
-use Rattle.std.proofs.Common.{append-nil, append_assoc, length-append, Option, Some, None, IfSome, MatchOption, is_none}
-use Rattle.std.specs.Prelude.{◌==◌, FitsSigned, ⊤, ◌||◌, ◌&&◌, nat_le, nat_lt, fold, option_to_list}
-use Rattle.std.specs.Int.{w64}
-use Rattle.std.specs.Option.{option_map_or}
-use Rattle.std.specs.List.{All, AllByRecursion, list_all}
-use Rattle.std.proofs.lemmas.Bool.{and_parts, eqb-true, leb-true, ltb-true}
-use Rattle.std.proofs.lemmas.List.Elements.{All-from_recursion, All-push}
-use Rattle.std.proofs.lemmas.List.Sums.{fold-append}
-use Rattle.ss_codec.specs.declared.record.Record.{Record}
-use Rattle.ss_codec.specs.declared.record.Record.TheVariants as records
-use Rattle.ss_landmarks.specs.Free.{is_up_to}
-use Rattle.ss_landmarks.specs.Landmark.{Landmark, LandmarkValue, with_value}
-use Rattle.ss_landmarks.specs.Order.{AreLandmarks, FollowFrom, IsLandmark}
-use Rattle.ss_landmarks.specs.declared.landmarks.TheConstants.{LATEST_TIME}
-use Rattle.ss_landmarks.proofs.OrderLemmas.{RiseFrom_push}
-use Rattle.ss_recover.specs.Carried.{is_mark_of}
-use Rattle.ss_recover.specs.Held.{value_records, values_said}
-use Rattle.ss_recover.specs.Marked.{Marked, are_marks, has_said, is_closed_before, is_next_landmark, is_next_value, has_all_values, landmarks_in}
-use Rattle.ss_recover.specs.Marked.{landmarks_made, marked_by, marked_on, marked_with, nothing_marked}
+use Rattle.ss_recover.proofs.Words.{[], ⊤, ◌&&◌, ◌++◌, ◌+◌, ◌<◌, ◌==◌, ◌||◌, ◌∙◌, ◌∷◌, ◌≡◌, ◌≤◌, All, All-from_recursion, All-push, AllByRecursion, and_parts}
+use Rattle.ss_recover.proofs.Words.{ap, append-nil, append_assoc, are_marks, AreLandmarks, arith, Bool, cond, eqb-true, false, FitsSigned, fold, fold-append}
+use Rattle.ss_recover.proofs.Words.{FollowFrom, has_all_values, has_said, HasValidTimes, IfSome, is_closed_before, is_mark_of, is_next_landmark, is_next_value}
+use Rattle.ss_recover.proofs.Words.{is_none, is_up_to, IsLandmark, IsUsable, Landmark, landmarks_in, landmarks_made, LandmarkValue, LATEST_TIME, leb-true}
+use Rattle.ss_recover.proofs.Words.{length, length-append, List, list_all, ltb-true, Marked, marked_by, marked_on, marked_with, MatchOption, nat_le, nat_lt}
+use Rattle.ss_recover.proofs.Words.{None, nothing_marked, Option, option_map_or, option_to_list, Record, refl, RiseFrom_push, Some, subst, sym, true}
+use Rattle.ss_recover.proofs.Words.{value_records, values_said, w64, with_value, ℕ, ℤ}
 use Rattle.ss_recover.proofs.Lists.{all_weaker, each-list_all}
 use Rattle.ss_recover.proofs.Marks.{marks_of, marks_of-append, value_records-append}
-use Rattle.ss_recover.specs.Usable.{HasValidTimes, IsUsable}
+use Rattle.ss_codec.specs.declared.record.Record.TheVariants as records
 pub use Rattle.ss_recover.proofs.Latest.{latest_in-closed, latest_in-value, latest_of-last}
 
 -- and back: records of landmarks with all their values are those of the landmarks that they make
@@ -163,8 +150,7 @@ Stands-landmark number id n said start finish m m' rs same usable stands is =
     let counted = eqb-true n (length (landmarks_in m) + 1) tests.0 in
     let place : n ≡ 1 + length (landmarks_in m) = omega (arith, counted) in
     let so_far = stands.records ∙ whole-records number m.said m.before m.last stands.rightly (whole-next m.said start m.last tests.1) in
-    subst (λ k. Stands number k (rs ++ records.Landmark id n said start finish ∷ [])) parts.1
-    (record {
+    subst (λ k. Stands number k (rs ++ records.Landmark id n said start finish ∷ [])) parts.1 (record {
       follow = AreLandmarks-next m.said m.before m.last new stands.follow stands.rightly tests.1 usable.0;
       rightly = usable.1;
       records = λ i. so_far i ++ records.Landmark (same i) (place i) said start finish ∷ [];
@@ -202,8 +188,7 @@ Stands-value number id n index t said v before (Some l) m' rs same early fits st
     let longer : own ++ records.Value number k (1 + length l.values) t v ∷ []
     ≡ records.Landmark number k said l.start l.finish ∷ value_records number k 1 (l.values ++ value ∷ []) =
     ap (λ vs. records.Landmark number k said l.start l.finish ∷ vs) (sym (value_records-append number k 1 (1 + length l.values) l.values value refl)) in
-    subst (λ k. Stands number k (rs ++ records.Value id n index t v ∷ [])) parts.1
-    (record {
+    subst (λ k. Stands number k (rs ++ records.Value id n index t v ∷ [])) parts.1 (record {
       follow =
           FollowFrom-changed 0 before l (with_value value l) refl
           (λ was. IsLandmark-value l value was (leb-true l.start t first.1) above inner.1 early fits) stands.follow;
@@ -217,13 +202,11 @@ Stands-value number id n index t said v before (Some l) m' rs same early fits st
 Stands-record : (number : ℕ) (m m' : Marked) (rs : List Record) (r : Record) → is_mark_of number r ≡ true → IsUsable r → Stands number m rs →
     marked_with m r ≡ Some m' → Stands number m' (rs ++ r ∷ [])
 Stands-record number m m' rs records.Free own usable stands is = absurd (cc)
-Stands-record number m m' rs (records.Stream id name params dropped) own usable stands is = absurd (cc)
-Stands-record number m m' rs (records.Window id first f) own usable stands is = absurd (cc)
 Stands-record number m m' rs (records.Landmark id n said start finish) own usable stands is =
-    Stands-landmark number id n said start finish m m' rs (eqb-true id number own)
-    (IsLandmark-bare said start finish usable.2) stands is
+    Stands-landmark number id n said start finish m m' rs (eqb-true id number own) (IsLandmark-bare said start finish usable.2) stands is
 Stands-record number m m' rs (records.Value id n index t v) own usable stands is =
     Stands-value number id n index t m.said v m.before m.last m' rs (eqb-true id number own) usable.3 usable.4 stands is
+Stands-record number m m' rs _ own usable stands is = absurd (cc)
 
 pub marked_on-none : (rs : List Record) → fold marked_on None rs ≡ None
 marked_on-none [] = refl
@@ -262,8 +245,7 @@ AreOf-are_marks number rs own usable are = go (marked_by rs) refl are
 -- ---- the fold over the records
 
 pub marked-more : (rs : List Record) (r : Record) (m next : Marked) → marked_by rs ≡ Some m → marked_with m r ≡ Some next → marked_by (rs ++ r ∷ []) ≡ Some next
-marked-more rs r m next by with_r =
-    fold-append marked_on (Some nothing_marked) rs (r ∷ []) ∙ ap (λ o. marked_on o r) by ∙ with_r
+marked-more rs r m next by with_r = fold-append marked_on (Some nothing_marked) rs (r ∷ []) ∙ ap (λ o. marked_on o r) by ∙ with_r
 
 pub marks-made : (rs : List Record) (m : Marked) → marked_by rs ≡ Some m → landmarks_made rs ≡ landmarks_in m
 marks-made rs m by = ap (λ o. option_map_or landmarks_in o []) by

@@ -1,19 +1,9 @@
 -- The slots of a map that aren't zeros, where one of them changes.
-use Rattle.std.proofs.Common.{◌≡◌, ℕ, ◌+◌, ◌-◌, ◌<◌, Bool, true, false, not, cond, nat_eq, List, [], ◌∷◌, ◌++◌, map, filter, refl, sym, ap, ap₂, subst}
-use Rattle.std.proofs.Common.{◌∙◌, arith, inl, inr, IsPermutation, Option, append-nil}
-use Rattle.std.specs.Prelude.{sum_by}
-use Rattle.std.specs.List.{AllByRecursion, range_with_len}
-use Rattle.std.proofs.lemmas.Bool.{cases_Bool, cond-false, cond-true}
-use Rattle.std.proofs.lemmas.Bool.Decides.{nat_tests}
-use Rattle.std.proofs.lemmas.List.{map-append}
-use Rattle.std.proofs.lemmas.List.Elements.{All-from_recursion, recursion_from_All, filter-append}
-use Rattle.std.proofs.lemmas.List.Sorted.{IsPermutation-sym, IsPermutation-middle, All-permutation, sum_by-IsPermutation}
-use Rattle.std.proofs.lemmas.List.Sums.{sum_by-append, sum_by-cons}
-use Rattle.ss_journal.specs.Puts.{with_put}
-use Rattle.ss_journal.specs.declared.put.Put.{Put}
-use Rattle.ss_records.specs.Live.{are_zeros}
+use Rattle.ss_recover.proofs.Words.{[], ◌++◌, ◌+◌, ◌-◌, ◌<◌, ◌∙◌, ◌∷◌, ◌≡◌, All-from_recursion, All-permutation, AllByRecursion, ap, append-nil, ap₂, are_zeros}
+use Rattle.ss_recover.proofs.Words.{arith, Bool, cases_Bool, cond, cond-false, cond-true, false, filter, filter-append, inl, inr, IsPermutation}
+use Rattle.ss_recover.proofs.Words.{IsPermutation-middle, IsPermutation-sym, List, map, map-append, nat_eq, nat_tests, not, Option, Put, range_with_len, Record}
+use Rattle.ss_recover.proofs.Words.{recursion_from_All, refl, subst, sum_by, sum_by-append, sum_by-cons, sum_by-IsPermutation, sym, true, with_put, ℕ}
 use Rattle.ss_codec.specs.Decoded.{decoded}
-use Rattle.ss_codec.specs.declared.record.Record.{Record}
 use Rattle.ss_recover.proofs.Lists.{all_weaker, range-above, range-below, range-within, range_with_len-append}
 use Rattle.ss_recover.proofs.Permutations.{IsPermutation-filter}
 
@@ -24,8 +14,7 @@ filled bytes slots = map (λ slot. (slot, decoded (bytes slot))) (filter (λ slo
 pub filled-append : (bytes : ℕ → List ℕ) (xs ys : List ℕ) → filled bytes (xs ++ ys) ≡ filled bytes xs ++ filled bytes ys
 filled-append bytes xs ys =
     ap (map (λ slot. (slot, decoded (bytes slot)))) (filter-append (λ slot. not (are_zeros (bytes slot))) xs ys)
-    ∙ map-append (λ slot. (slot, decoded (bytes slot))) (filter (λ slot. not (are_zeros (bytes slot))) xs)
-    (filter (λ slot. not (are_zeros (bytes slot))) ys)
+    ∙ map-append (λ slot. (slot, decoded (bytes slot))) (filter (λ slot. not (are_zeros (bytes slot))) xs) (filter (λ slot. not (are_zeros (bytes slot))) ys)
 
 pub filled-live : (bytes : ℕ → List ℕ) (slot : ℕ) (slots : List ℕ) → are_zeros (bytes slot) ≡ false →
     filled bytes (slot ∷ slots) ≡ (slot, decoded (bytes slot)) ∷ filled bytes slots
@@ -43,8 +32,7 @@ pub filled-same : (first second : ℕ → List ℕ) (slots : List ℕ) → AllBy
     filled first slots ≡ filled second slots
 filled-same first second [] same = refl
 filled-same first second (slot ∷ slots) same =
-    filled-cons first slot slots
-    ∙ ap (λ b. cond (not (are_zeros b)) ((slot, decoded b) ∷ filled first slots) (filled first slots)) same.0
+    filled-cons first slot slots ∙ ap (λ b. cond (not (are_zeros b)) ((slot, decoded b) ∷ filled first slots) (filled first slots)) same.0
     ∙ ap (λ l. cond (not (are_zeros (second slot))) ((slot, decoded (second slot)) ∷ l) l) (filled-same first second slots same.1)
     ∙ sym (filled-cons second slot slots)
 
@@ -52,8 +40,7 @@ filled-same first second (slot ∷ slots) same =
 filled-with_put : (put : Put) (bytes : ℕ → List ℕ) (slots : List ℕ) → AllByRecursion (λ slot. nat_eq slot put.slot ≡ false) slots →
     filled (with_put put bytes) slots ≡ filled bytes slots
 filled-with_put put bytes slots beside =
-    filled-same (with_put put bytes) bytes slots
-    (all_weaker (λ slot. nat_eq slot put.slot ≡ false) (λ slot. with_put put bytes slot ≡ bytes slot)
+    filled-same (with_put put bytes) bytes slots (all_weaker (λ slot. nat_eq slot put.slot ≡ false) (λ slot. with_put put bytes slot ≡ bytes slot)
     (λ slot other. cond-false (nat_eq slot put.slot) put.bytes (bytes slot) other) slots beside)
 
 -- the slots below one, and those above it below another
@@ -127,8 +114,7 @@ filled-all : (bytes : ℕ → List ℕ) (P : ℕ → Type 0) (slots : List ℕ) 
 filled-all bytes P [] all = tt
 filled-all bytes P (slot ∷ slots) all = elim (cases_Bool (are_zeros (bytes slot))) [
   | inl zeros ↦
-      subst (AllByRecursion (λ e. P e.0 × (are_zeros (bytes e.0) ≡ false))) (sym (filled-zeros bytes slot slots zeros))
-      (filled-all bytes P slots all.1)
+      subst (AllByRecursion (λ e. P e.0 × (are_zeros (bytes e.0) ≡ false))) (sym (filled-zeros bytes slot slots zeros)) (filled-all bytes P slots all.1)
   | inr live ↦
       subst (AllByRecursion (λ e. P e.0 × (are_zeros (bytes e.0) ≡ false))) (sym (filled-live bytes slot slots live))
       ((all.0, live), filled-all bytes P slots all.1)
@@ -180,8 +166,7 @@ IsAmong-filled bytes p n was rest moved =
     let P : ℕ × Option Record → Type 0 = λ e. (e.0 < n) × (are_zeros (bytes e.0) ≡ false) in
     let each : AllByRecursion P (filled bytes (range_with_len 0 n)) =
     filled-all bytes (λ slot. slot < n) (range_with_len 0 n) (range-within 0 n n (omega arith)) in
-    let here = recursion_from_All P ((p, was) ∷ rest)
-    (All-permutation P (filled bytes (range_with_len 0 n)) ((p, was) ∷ rest) (IsPermutation-sym _ _ moved)
+    let here = recursion_from_All P ((p, was) ∷ rest) (All-permutation P (filled bytes (range_with_len 0 n)) ((p, was) ∷ rest) (IsPermutation-sym _ _ moved)
     (All-from_recursion P (filled bytes (range_with_len 0 n)) each)) in
     let whole = filled-at_live bytes p n here.0.0 here.0.1 in
     let x : ℕ × Option Record = (p, decoded (bytes p)) in

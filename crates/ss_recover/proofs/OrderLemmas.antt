@@ -1,16 +1,10 @@
 -- Lists in the order of a key: what the order keeps, and that it is the only one that keeps ties as they stand.
-use Rattle.std.proofs.Common.{◌≡◌, ℕ, suc, ◌≤◌, Bool, true, false, cond, eqb, ltb, leb, List, [], ◌∷◌, map, refl, sym, ap, ◌∙◌, subst, inl}
-use Rattle.std.proofs.Common.{inr, arith}
-use Rattle.std.specs.List.{filter, AllByRecursion}
-use Rattle.std.specs.Prelude.{not, ◌&&◌}
-use Rattle.std.specs.List.Sorted.{IsSortedByKey, IsStableByKey, IsNonDecreasingBy, ties}
+use Rattle.ss_recover.proofs.Words.{[], ◌&&◌, ◌∙◌, ◌∷◌, ◌≡◌, ◌≤◌, AllByRecursion, ap, arith, Bool, cases_Bool, cases_eq, cases_order, cond, cond-false}
+use Rattle.ss_recover.proofs.Words.{cond-true, cond_both, eq-eqb, eqb, false, filter, in_order, inl, inr, IsNonDecreasingBy, IsNonDecreasingBy-from_sort}
+use Rattle.ss_recover.proofs.Words.{IsSortedByKey, IsStableByKey, le-ltb, leb, leb-false, List, lt-ltb, ltb, map, ne_eqb, not, put_in_order, recursion_from_All}
+use Rattle.ss_recover.proofs.Words.{refl, Rises, subst, suc, sym, ties, true, ℕ}
 use Rattle.std.specs.Ordering.{is_lt, nat_cmp}
-use Rattle.std.proofs.lemmas.List.Sorted.{IsNonDecreasingBy-from_sort}
-use Rattle.std.proofs.lemmas.Bool.{cases_order, le-ltb, lt-ltb, cases_Bool, cases_eq, cond-true, cond-false, cond_both, leb-false, eq-eqb, ne_eqb}
-use Rattle.ss_recover.specs.Carried.{put_in_order, in_order}
-use Rattle.ss_recover.specs.Order.{Rises}
 use Rattle.ss_recover.proofs.InOrder.{Rises-in_order}
-use Rattle.std.proofs.lemmas.List.Elements.{recursion_from_All}
 
 pub put-less : {X : Type 0} (key : X → ℕ) (x y : X) (ys : List X) → leb (key x) (key y) ≡ true → put_in_order key x (y ∷ ys) ≡ x ∷ y ∷ ys
 put-less key x y ys is = cond-true _ _ _ is
@@ -24,8 +18,7 @@ filter-put : {X : Type 0} (key : X → ℕ) (k : ℕ) (x : X) (ys : List X) →
 filter-put key k x [] = refl
 filter-put key k x (y ∷ ys) =
     cond_both (leb (key x) (key y)) (x ∷ y ∷ ys) (y ∷ put_in_order key x ys) (λ zs. filter (λ z. eqb (key z) k) zs ≡ filter (λ z. eqb (key z) k) (x ∷ y ∷ ys))
-    (λ _. refl)
-    (λ is.
+    (λ _. refl) (λ is.
     let lt = leb-false _ _ is in
     let rest = filter-put key k x ys in
     elim (cases_eq (key y) k) [
@@ -41,8 +34,7 @@ filter-put key k x (y ∷ ys) =
 pub filter-in_order : {X : Type 0} (key : X → ℕ) (k : ℕ) (xs : List X) →
     filter (λ y. eqb (key y) k) (in_order key xs) ≡ filter (λ y. eqb (key y) k) xs
 filter-in_order key k [] = refl
-filter-in_order key k (x ∷ xs) =
-    filter-put key k x (in_order key xs) ∙ ap (λ zs. cond (eqb (key x) k) (x ∷ zs) zs) (filter-in_order key k xs)
+filter-in_order key k (x ∷ xs) = filter-put key k x (in_order key xs) ∙ ap (λ zs. cond (eqb (key x) k) (x ∷ zs) zs) (filter-in_order key k xs)
 
 -- what passes a filter is one of the list
 first-filter : {X : Type 0} (P : X → Type 0) (p : X → Bool) (ys : List X) (x : X) (xs : List X) → x ∷ xs ≡ filter p ys → AllByRecursion P ys → P x
@@ -69,10 +61,8 @@ tails key z x xs ys is =
 pub same_order : {X : Type 0} (key : X → ℕ) (xs ys : List X) → Rises key xs → Rises key ys →
     ((z : X) → filter (λ y. eqb (key y) (key z)) xs ≡ filter (λ y. eqb (key y) (key z)) ys) → xs ≡ ys
 same_order key [] [] up_x up_y same = refl
-same_order key [] (y ∷ ys) up_x up_y same =
-    let e = same y ∙ cond-true _ _ _ (eq-eqb (key y) (key y) refl) in cc
-same_order key (x ∷ xs) [] up_x up_y same =
-    let e = sym (same x) ∙ cond-true _ _ _ (eq-eqb (key x) (key x) refl) in cc
+same_order key [] (y ∷ ys) up_x up_y same = let e = same y ∙ cond-true _ _ _ (eq-eqb (key y) (key y) refl) in cc
+same_order key (x ∷ xs) [] up_x up_y same = let e = sym (same x) ∙ cond-true _ _ _ (eq-eqb (key x) (key x) refl) in cc
 same_order key (x ∷ xs) (y ∷ ys) up_x up_y same =
     let at_x = sym (cond-true _ _ _ (eq-eqb (key x) (key x) refl)) ∙ same x in
     let at_y = sym (cond-true _ _ _ (eq-eqb (key y) (key y) refl)) ∙ sym (same y) in
@@ -119,8 +109,7 @@ ties-key a b = rw (less-ltb a b, less-ltb b a) (elim (cases_order a b) [
 -- a stable sort by a key gives the list in the order of the key
 pub in_order-from_sort : {X : Type 0} (key : X → ℕ) (xs ys : List X) → IsSortedByKey key nat_cmp ys → IsStableByKey key nat_cmp xs ys → ys ≡ in_order key xs
 in_order-from_sort {X} key xs ys up stable =
-    same_order key ys (in_order key xs) (Rises-from_sorted key ys (IsNonDecreasingBy-from_sort key ys up)) (Rises-in_order key xs)
-    (λ z.
+    same_order key ys (in_order key xs) (Rises-from_sorted key ys (IsNonDecreasingBy-from_sort key ys up)) (Rises-in_order key xs) (λ z.
     let tie : (λ (y : X). ties (λ a b. is_lt (nat_cmp (key a) (key b))) z y) ≡ (λ (y : X). eqb (key y) (key z)) = λ i y. ties-key (key z) (key y) i in
     ap (λ (p : X → Bool). filter p ys) (sym tie) ∙ stable z ∙ ap (λ (p : X → Bool). filter p xs) tie ∙ sym (filter-in_order key (key z) xs))
 

@@ -1,17 +1,7 @@
 -- Windows that keep to the step of their stream's own record.
-use Rattle.std.proofs.Common.{◌≡◌, ◌∙◌, ℕ, ◌<◌, Bool, true, false, not, ◌&&◌, List, [], ◌∷◌, ◌++◌, All, refl, ap, ap₂, arith, IsPermutation}
-use Rattle.std.specs.Prelude.{◌==◌, ◌||◌}
-use Rattle.std.specs.List.{AllByRecursion, list_all}
-use Rattle.std.proofs.lemmas.Bool.{and_from, and_parts, eq-eqb, ne_eqb, or_left}
-use Rattle.std.proofs.lemmas.List.Elements.{All-from_recursion, recursion_from_All}
-use Rattle.std.proofs.lemmas.List.Folds.{list_all-append}
-use Rattle.ss_catalog.specs.Params.{step_number}
-use Rattle.ss_catalog.specs.declared.params.Params.{Params}
-use Rattle.ss_target.specs.Rule.{in_step, rule_of}
-use Rattle.ss_model.specs.Decay.{IsInStep}
-use Rattle.ss_model.specs.State.{Created}
-use Rattle.ss_model.specs.declared.types.Window.{Window}
-use Rattle.ss_recover.specs.Conditions.{keep_own_step, keep_step}
+use Rattle.ss_recover.proofs.Words.{[], ◌&&◌, ◌++◌, ◌<◌, ◌==◌, ◌||◌, ◌∙◌, ◌∷◌, ◌≡◌, All, All-from_recursion, AllByRecursion, and-true, and_from, and_parts, ap}
+use Rattle.ss_recover.proofs.Words.{ap₂, arith, Bool, Created, eq-eqb, false, in_step, IsInStep, IsPermutation, keep_own_step, keep_step, List, list_all}
+use Rattle.ss_recover.proofs.Words.{list_all-append, ne_eqb, not, or_left, Params, recursion_from_All, refl, rule_of, step_number, true, Window, ℕ}
 use Rattle.ss_recover.proofs.Lists.{all_weaker, each-list_all, list_all-each}
 use Rattle.ss_recover.proofs.Permutations.{along_permutation}
 
@@ -25,10 +15,6 @@ and_turn true false c = refl
 and_turn false true c = refl
 and_turn false false c = refl
 
-and_true : (a : Bool) → (a && true) ≡ a
-and_true true = refl
-and_true false = refl
-
 -- all pass a test in another order
 list_all-moved : {X : Type 0} (p : X → Bool) (xs ys : List X) → IsPermutation xs ys → list_all p xs ≡ list_all p ys
 list_all-moved p =
@@ -41,8 +27,7 @@ own_step-moved n ws = list_all-moved (keeps n ws)
 -- where no stream has the number
 pub own_step-apart : (n : ℕ) (ws : List Window) (cs : List Created) → AllByRecursion (λ c. c.number ≡ n → ⊥) cs → keep_own_step n cs ws ≡ true
 own_step-apart n ws cs apart =
-    list_all-each (keeps n ws) cs
-    (all_weaker (λ c. c.number ≡ n → ⊥) (λ c. keeps n ws c ≡ true)
+    list_all-each (keeps n ws) cs (all_weaker (λ c. c.number ≡ n → ⊥) (λ c. keeps n ws c ≡ true)
     (λ c other. or_left (not (c.number == n)) (keep_step (step_number c.params.within) ws) (ap not (ne_eqb c.number n other))) cs apart)
 
 -- streams of lower numbers, those of a number, and those of greater ones
@@ -52,14 +37,13 @@ own_step-parts n ws cs here later below above =
     let front = own_step-apart n ws cs (all_weaker (λ c. c.number < n) (λ c. c.number ≡ n → ⊥) (λ c lt same. absurd (omega (arith, lt, same))) cs below) in
     let back = own_step-apart n ws later (all_weaker (λ c. n < c.number) (λ c. c.number ≡ n → ⊥) (λ c lt same. absurd (omega (arith, lt, same))) later above) in
     list_all-append (keeps n ws) cs (here ++ later)
-    ∙ ap₂ ◌&&◌ front (list_all-append (keeps n ws) here later ∙ ap (λ b. keep_own_step n here ws && b) back ∙ and_true (keep_own_step n here ws))
+    ∙ ap₂ ◌&&◌ front (list_all-append (keeps n ws) here later ∙ ap (λ b. keep_own_step n here ws && b) back ∙ and-true (keep_own_step n here ws))
 
 -- the only stream with the number
 pub own_step-one : (n : ℕ) (ws : List Window) (c : Created) → c.number ≡ n →
     keep_own_step n (c ∷ []) ws ≡ keep_step (step_number c.params.within) ws
 own_step-one n ws c same =
-    ap (λ b. (not b || keep_step (step_number c.params.within) ws) && true) (eq-eqb c.number n same)
-    ∙ and_true (keep_step (step_number c.params.within) ws)
+    ap (λ b. (not b || keep_step (step_number c.params.within) ws) && true) (eq-eqb c.number n same) ∙ and-true (keep_step (step_number c.params.within) ws)
 
 -- without one of them
 pub own_step-fewer : (n : ℕ) (ws : List Window) (c : Created) (cs ds : List Created) → keep_own_step n (cs ++ c ∷ ds) ws ≡ true →
@@ -72,10 +56,8 @@ own_step-fewer n ws c (d ∷ cs) ds all =
 -- windows of a stream that keep to its step, as a test and of each
 pub IsInStep-keep_step : (params : Params) (ws : List Window) → keep_step (step_number params.within) ws ≡ true → All (IsInStep (rule_of params).step) ws
 IsInStep-keep_step params ws keep =
-    All-from_recursion (IsInStep (rule_of params).step) ws
-    (each-list_all (λ w. in_step (step_number params.within) w.summary.t_first w.summary.t_last) ws keep)
+    All-from_recursion (IsInStep (rule_of params).step) ws (each-list_all (λ w. in_step (step_number params.within) w.summary.t_first w.summary.t_last) ws keep)
 
 pub keep_step-IsInStep : (params : Params) (ws : List Window) → All (IsInStep (rule_of params).step) ws → keep_step (step_number params.within) ws ≡ true
 keep_step-IsInStep params ws each =
-    list_all-each (λ w. in_step (step_number params.within) w.summary.t_first w.summary.t_last) ws
-    (recursion_from_All (IsInStep (rule_of params).step) ws each)
+    list_all-each (λ w. in_step (step_number params.within) w.summary.t_first w.summary.t_last) ws (recursion_from_All (IsInStep (rule_of params).step) ws each)

@@ -1,15 +1,13 @@
 -- Lists of the same elements in another order, and what goes along with them.
-use Rattle.std.proofs.Common.{◌≡◌, ℕ, zero, suc, ◌<◌, Bool, true, false, cond, List, [], ◌∷◌, length, get_or, set, swap, filter, subst, arith}
-use Rattle.std.proofs.Common.{IsPermutation, Option, Some, None, ◌++◌}
-use Rattle.std.specs.List.{filter_map, cons_option}
-use Rattle.std.proofs.lemmas.List.Sorted.{IsPermutation-refl, IsPermutation-keeps, IsPermutation-trans, IsPermutation-cons, IsPermutation-append_left}
-use Rattle.std.proofs.lemmas.List.Sorted.{IsPermutation-append_comm, IsPermutation-append_right}
+use Rattle.ss_recover.proofs.Words.{[], ◌<◌, ◌∷◌, ◌≡◌, arith, Bool, cons_option, filter, filter_map, get_or, IsPermutation, IsPermutation-append_comm}
+use Rattle.ss_recover.proofs.Words.{IsPermutation-append_left, IsPermutation-cons, IsPermutation-keeps, IsPermutation-refl, IsPermutation-trans, length, List}
+use Rattle.ss_recover.proofs.Words.{None, Option, set, Some, subst, suc, swap, zero, ℕ}
+use Rattle.ss_recover.proofs.Lists.{filter_map-kept, kept}
 
 -- a relation holds along each permutation if it is reflexive and transitive, and goes under a head and over an exchange of
 -- the first two
 module _ {X : Type 0} (R : List X → List X → Type 0) (same : (xs : List X) → R xs xs)
-    (under : (x : X) (xs ys : List X) → R xs ys → R (x ∷ xs) (x ∷ ys))
-    (turn : (x y : X) (xs : List X) → R (x ∷ y ∷ xs) (y ∷ x ∷ xs))
+    (under : (x : X) (xs ys : List X) → R xs ys → R (x ∷ xs) (x ∷ ys)) (turn : (x y : X) (xs : List X) → R (x ∷ y ∷ xs) (y ∷ x ∷ xs))
     (chain : (xs ys zs : List X) → R xs ys → R ys zs → R xs zs) where
   to_head : (xs : List X) (j : ℕ) (x d : X) → j < length xs → R (x ∷ xs) (get_or xs j d ∷ set xs j x)
   to_head [] j x d inside = absurd (omega arith)
@@ -42,22 +40,15 @@ IsPermutation-turn x y xs = IsPermutation-append_left xs (x ∷ y ∷ []) (y ∷
 pub IsPermutation-same : {X : Type 0} (xs ys : List X) → xs ≡ ys → IsPermutation xs ys
 IsPermutation-same xs ys same = subst (IsPermutation xs) same (IsPermutation-refl xs)
 
-pub IsPermutation-append_both : {X : Type 0} (xs ys us vs : List X) → IsPermutation xs ys → IsPermutation us vs → IsPermutation (xs ++ us) (ys ++ vs)
-IsPermutation-append_both xs ys us vs first second =
-    IsPermutation-trans (xs ++ us) (ys ++ us) (ys ++ vs) (IsPermutation-append_left us xs ys first) (IsPermutation-append_right ys us vs second)
-
 -- what is made of each, where something is
 pub IsPermutation-filter_map : {X Y : Type 0} (f : X → Option Y) (xs ys : List X) → IsPermutation xs ys →
     IsPermutation (filter_map f xs) (filter_map f ys)
 IsPermutation-filter_map {X} {Y} f =
-    along_permutation (λ xs ys. IsPermutation (filter_map f xs) (filter_map f ys))
-    (λ xs. IsPermutation-refl (filter_map f xs))
-    (λ x xs ys rest.
+    along_permutation (λ xs ys. IsPermutation (filter_map f xs) (filter_map f ys)) (λ xs. IsPermutation-refl (filter_map f xs)) (λ x xs ys rest.
     elim (f x) as (λ o. IsPermutation (cons_option o (filter_map f xs)) (cons_option o (filter_map f ys))) [
       | None ↦ rest
       | Some y ↦ IsPermutation-cons y (filter_map f xs) (filter_map f ys) rest
-    ])
-    (λ x y xs.
+    ]) (λ x y xs.
     let zs = filter_map f xs in
     elim (f x) as (λ o. IsPermutation (cons_option o (cons_option (f y) zs)) (cons_option (f y) (cons_option o zs))) [
       | None ↦ IsPermutation-refl (cons_option (f y) zs)
@@ -66,28 +57,10 @@ IsPermutation-filter_map {X} {Y} f =
             | None ↦ IsPermutation-refl (u ∷ zs)
             | Some v ↦ IsPermutation-turn u v zs
           ]
-    ])
-    (λ xs ys zs. IsPermutation-trans (filter_map f xs) (filter_map f ys) (filter_map f zs))
+    ]) (λ xs ys zs. IsPermutation-trans (filter_map f xs) (filter_map f ys) (filter_map f zs))
 
 -- what passes a test
 pub IsPermutation-filter : {X : Type 0} (p : X → Bool) (xs ys : List X) → IsPermutation xs ys → IsPermutation (filter p xs) (filter p ys)
-IsPermutation-filter p =
-    along_permutation (λ xs ys. IsPermutation (filter p xs) (filter p ys))
-    (λ xs. IsPermutation-refl (filter p xs))
-    (λ x xs ys rest.
-    elim (p x) as (λ b. IsPermutation (cond b (x ∷ filter p xs) (filter p xs)) (cond b (x ∷ filter p ys) (filter p ys))) [
-      | true ↦ IsPermutation-cons x (filter p xs) (filter p ys) rest
-      | false ↦ rest
-    ])
-    (λ x y xs.
-    let zs = filter p xs in
-    elim (p x) as (λ a. IsPermutation (cond a (x ∷ cond (p y) (y ∷ zs) zs) (cond (p y) (y ∷ zs) zs))
-    (cond (p y) (y ∷ cond a (x ∷ zs) zs) (cond a (x ∷ zs) zs))) [
-      | true ↦
-          elim (p y) as (λ b. IsPermutation (x ∷ cond b (y ∷ zs) zs) (cond b (y ∷ x ∷ zs) (x ∷ zs))) [
-            | true ↦ IsPermutation-turn x y zs
-            | false ↦ IsPermutation-refl (x ∷ zs)
-          ]
-      | false ↦ IsPermutation-refl (cond (p y) (y ∷ zs) zs)
-    ])
-    (λ xs ys zs. IsPermutation-trans (filter p xs) (filter p ys) (filter p zs))
+IsPermutation-filter p xs ys moved =
+    subst (λ l. IsPermutation l (filter p ys)) (filter_map-kept p xs)
+    (subst (IsPermutation (filter_map (kept p) xs)) (filter_map-kept p ys) (IsPermutation-filter_map (kept p) xs ys moved))

@@ -1,23 +1,12 @@
 -- What a put of a record, or of zeros, makes of the slots that are occupied.
-use Rattle.std.proofs.Common.{◌≡◌, ℕ, zero, suc, ◌+◌, ◌<◌, ◌≤◌, Bool, true, false, cond, nat_eq, List, [], ◌∷◌, replicate, length, sym, ap, subst, ◌∙◌}
-use Rattle.std.proofs.Common.{arith, inl, inr, IsPermutation, Option, Some, None}
+use Rattle.ss_recover.proofs.Words.{[], ◌+◌, ◌<◌, ◌∙◌, ◌∷◌, ◌≡◌, ◌≤◌, ap, are_zeros, arith, Bool, cases_lt, changed, cond, cond-false, cond-true}
+use Rattle.ss_recover.proofs.Words.{decoded-Spells, false, false_from_ne_true, Free, inl, inr, IsPermutation, IsPermutation-cons, IsPermutation-trans, IsRecord}
+use Rattle.ss_recover.proofs.Words.{length, List, nat_eq, nat_tests, None, occupied, Option, Put, range_with_len, Record, replicate, replicate-are_zeros}
+use Rattle.ss_recover.proofs.Words.{SlotMap, Some, subst, suc, sym, true, with_put, zero, zeros, ℕ}
 use Rattle.std.specs.Str.{bytes_eq}
-use Rattle.std.specs.List.{range_with_len}
-use Rattle.std.proofs.lemmas.Bool.{cases_lt, cond-false, cond-true, false_from_ne_true}
-use Rattle.std.proofs.lemmas.Bool.Decides.{nat_tests}
-use Rattle.std.proofs.lemmas.List.Sorted.{IsPermutation-trans, IsPermutation-cons}
-use Rattle.ss_journal.specs.Puts.{with_put}
-use Rattle.ss_journal.specs.Redo.{SlotMap, changed, zeros}
-use Rattle.ss_journal.specs.declared.put.Put.{Put}
-use Rattle.ss_records.specs.Live.{are_zeros}
-use Rattle.ss_records.proofs.LiveLemmas.{replicate-are_zeros}
 use Rattle.ss_codec.specs.Decoded.{decoded, record_in}
 use Rattle.ss_codec.specs.Record.{is_valid, spelling}
-use Rattle.ss_codec.specs.declared.record.Record.{Record}
-use Rattle.ss_codec.specs.declared.record.Record.TheVariants.{Free}
-use Rattle.ss_codec.proofs.RecordLemmas.{decoded-Spells}
-use Rattle.ss_recover.specs.Held.{IsRecord, occupied}
-use Rattle.ss_recover.proofs.Occupied.{IsAmong, IsAmong-filled, beside, filled, filled-at_zeros, filled-before, filled-put_live, filled-put_zeros}
+use Rattle.ss_recover.proofs.Occupied.{beside, filled, filled-at_zeros, filled-before, filled-put_live, filled-put_zeros, IsAmong, IsAmong-filled}
 
 -- zeros spell a free slot, or nothing
 free_alone : (same valid : Bool) (r : Record) → cond same (cond valid (Some Free) None) None ≡ Some r → r ≡ Free

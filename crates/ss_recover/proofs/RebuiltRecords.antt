@@ -1,50 +1,29 @@
 -- The records that were found, as a walk answers them: those of dropped streams, and those of the streams that are held.
-use Rattle.std.proofs.Common.{◌≡◌, ◌∙◌, ℕ, Bool, true, false, List, [], ◌∷◌, ◌++◌, map, flat_map, refl, sym, ap, ap₂, subst, IsPermutation}
-use Rattle.std.proofs.Common.{Option, None}
-use Rattle.std.specs.Prelude.{◌==◌, zip}
-use Rattle.std.specs.List.{AllByRecursion, cons_option, filter_map, list_any}
-use Rattle.std.proofs.lemmas.Bool.{ne_eqb, true≢false}
-use Rattle.std.proofs.lemmas.List.Elements.{All-from_recursion, filter_map-append, recursion_from_All}
-use Rattle.std.proofs.lemmas.List.Sorted.{All-permutation, IsPermutation-append_left, IsPermutation-append_right, IsPermutation-map, IsPermutation-sym}
-use Rattle.std.proofs.lemmas.List.Sorted.{IsPermutation-trans, list_any-IsPermutation}
-use Rattle.ss_codec.specs.declared.record.Record.{Record}
-use Rattle.ss_codec.specs.declared.record.Record.TheVariants as records
-use Rattle.ss_codec.specs.declared.record.Record.TheVariants.{Free}
-use Rattle.ss_model.specs.State.{Stream}
-use Rattle.ss_recover.specs.Carried.{in_order, is_dropped, stands_by, stream_number}
+use Rattle.ss_recover.proofs.Words.{[], ◌++◌, ◌==◌, ◌∙◌, ◌≡◌, All-from_recursion, All-permutation, AllByRecursion, ap, ap₂, AreBuilt, Bool, doomed_found, false}
+use Rattle.ss_recover.proofs.Words.{filter_map, filter_map-append, flat_map, Found, found_key, Free, GoInTurn, in_order, in_slot, is_doomed, is_dropped, is_of}
+use Rattle.ss_recover.proofs.Words.{is_sound_in_order, IsPermutation, IsPermutation-append_left, IsPermutation-append_right, IsPermutation-map}
+use Rattle.ss_recover.proofs.Words.{IsPermutation-sym, IsPermutation-trans, key_of, List, list_any, list_any-IsPermutation, map, ne_eqb, None, Option, Parts}
+use Rattle.ss_recover.proofs.Words.{Record, records_beside, records_held, records_in, recursion_from_All, refl, stands_by, Stream, stream_number, stream_of}
+use Rattle.ss_recover.proofs.Words.{subst, sym, true, true≢false, without_slots, zip, ℕ}
 use Rattle.ss_recover.specs.Conditions.{is_sound}
-use Rattle.ss_recover.specs.Doomed.{GoInTurn, is_doomed, is_of, records_beside}
-use Rattle.ss_recover.specs.Held.{records_held}
-use Rattle.ss_recover.specs.Order.{found_key, key_of, stream_of}
-use Rattle.ss_recover.specs.Parts.{records_in}
-use Rattle.ss_recover.specs.Runs.{AreBuilt, doomed_found, is_sound_in_order}
-use Rattle.ss_recover.specs.Usable.{in_slot, without_slots}
-use Rattle.ss_recover.specs.declared.found.Found.{Found}
-use Rattle.ss_recover.specs.declared.parts.Parts.{Parts}
-use Rattle.ss_recover.proofs.DoomedLemmas.{IsGone, IsSoundOf, apart-dropped, beside-found, doomed_found-moved, dropped-doomed, each-IsGone, each-IsSoundOf}
-use Rattle.ss_recover.proofs.DoomedLemmas.{standing-kept}
+use Rattle.ss_recover.proofs.DoomedLemmas.{apart-dropped, beside-found, doomed_found-moved, dropped-doomed, each-IsGone, IsGone, standing-kept}
 use Rattle.ss_recover.proofs.DoomedTurns.{doomed-go}
 use Rattle.ss_recover.proofs.HeldLemmas.{HaveThose, HaveThose-made}
-use Rattle.ss_recover.proofs.HeldRecords.{IsPermutation-all_walked, all-all_walked, all_walked, each-number, records_in-Some, records_of_streams, second-held}
+use Rattle.ss_recover.proofs.HeldRecords.{all-all_walked, all_walked, each-number, IsPermutation-all_walked, records_in-Some, records_of_streams, second-held}
 use Rattle.ss_recover.proofs.InOrder.{IsPermutation-in_order}
 use Rattle.ss_recover.proofs.Lists.{all-passing, all_append, all_behind, all_both, all_front, all_weaker, map-all}
 use Rattle.ss_recover.proofs.OrderLemmas.{map-in_order}
-use Rattle.ss_recover.proofs.Permutations.{IsPermutation-append_both, IsPermutation-filter_map}
+use Rattle.ss_recover.proofs.Permutations.{IsPermutation-filter_map}
 use Rattle.ss_recover.proofs.SoundNumbers.{AreSound}
 use Rattle.ss_recover.proofs.SoundStreams.{none-passes}
 use Rattle.ss_recover.proofs.Unordered.{is_sound-in_order}
-
--- what is in slots, without them
-beside-seconds : (es : List (ℕ × Option Record)) → records_beside es ≡ records_in (map (λ (e : ℕ × Option Record). e.1) es)
-beside-seconds [] = refl
-beside-seconds (e ∷ es) = ap (cons_option e.1) (beside-seconds es)
+use Rattle.ss_codec.specs.declared.record.Record.TheVariants as records
+use Rattle.std.proofs.lemmas.List.Sorted.{IsPermutation-append}
+use Rattle.ss_recover.proofs.FreeSlots.{beside-seconds}
 
 is_of-apart : (n : ℕ) (r : Record) → (stream_of r == n) ≡ false → is_of n r ≡ false
 is_of-apart n Free apart = refl
-is_of-apart n (records.Stream id name params dropped) apart = apart
-is_of-apart n (records.Window id first summary) apart = apart
-is_of-apart n (records.Landmark id number values start finish) apart = apart
-is_of-apart n (records.Value id number index t v) apart = apart
+is_of-apart n _ apart = apart
 
 -- the records that are found, as those of dropped streams and those that are held
 module _ (parts : Parts) (streams : List Stream) (all sorted : List Found) (built : AreBuilt parts streams sorted) (order : sorted ≡ in_order found_key all)
@@ -65,24 +44,20 @@ module _ (parts : Parts) (streams : List Stream) (all sorted : List Found) (buil
       let in_records : without_slots sorted ≡ qs = ap without_slots order ∙ map-in_order key_of (λ (f : Found). f.holds) all in
       let P : Record → Type 0 = λ r. is_sound us (stream_of r) ≡ true in
       let Q : Record → Type 0 = λ r. is_sound_in_order qs (stream_of r) ≡ true in
-      recursion_from_All P us
-      (All-permutation P qs us (IsPermutation-sym us qs (IsPermutation-in_order key_of us))
+      recursion_from_All P us (All-permutation P qs us (IsPermutation-sym us qs (IsPermutation-in_order key_of us))
       (All-from_recursion P qs (all_weaker Q P (λ r fine. is_sound-in_order us (stream_of r) ∙ fine) qs
       (subst (λ l. AllByRecursion (λ r. is_sound_in_order l (stream_of r) ≡ true) l) in_records built.sound))))
 
   pub sound_numbers : AreSound us (filter_map stream_number us)
   sound_numbers = each-number (λ n. is_sound us n ≡ true) us sound_each
 
-  sound_of : AllByRecursion (IsSoundOf us) us
-  sound_of = each-IsSoundOf us us sound_numbers
-
   gone : AllByRecursion (IsGone us) us
-  gone = each-IsGone us sound_of
+  gone = each-IsGone us sound_each
 
   -- those of dropped streams and those that are held are all
   doomed-moved : IsPermutation doomed (doomed_found false sorted ++ doomed_found true sorted)
   doomed-moved =
-      IsPermutation-append_both (doomed_found false all) (doomed_found false sorted) (doomed_found true all) (doomed_found true sorted)
+      IsPermutation-append (doomed_found false all) (doomed_found false sorted) (doomed_found true all) (doomed_found true sorted)
       (doomed_found-moved false all sorted moved) (doomed_found-moved true all sorted moved)
 
   pub all-held : IsPermutation (map in_slot doomed ++ held) (map in_slot all)
@@ -94,8 +69,7 @@ module _ (parts : Parts) (streams : List Stream) (all sorted : List Found) (buil
       (IsPermutation-map in_slot sorted all (IsPermutation-sym all sorted moved)))
 
   records-held : records_beside held ≡ records_of_streams streams
-  records-held =
-      beside-seconds held ∙ ap records_in (second-held parts.streams.items streams built.each) ∙ records_in-Some (records_of_streams streams)
+  records-held = beside-seconds held ∙ ap records_in (second-held parts.streams.items streams built.each) ∙ records_in-Some (records_of_streams streams)
 
   all-walked_too : IsPermutation (without_slots doomed ++ all_walked streams) us
   all-walked_too =
@@ -134,19 +108,17 @@ module _ (parts : Parts) (streams : List Stream) (all sorted : List Found) (buil
       (all_walked streams) (all-all_walked (λ k. is_dropped k us ≡ false) streams kept_each))
 
   pub in_turn-built : GoInTurn (map in_slot doomed) held
-  in_turn-built = doomed-go all held sound_of gone none_held
+  in_turn-built = doomed-go all held sound_each gone none_held
 
   -- records of which is made what is made of those that were found have those of the streams
   pub have_those : (rs : List Record) → ((Y : Type 0) (f : Record → Option Y) → f Free ≡ None → filter_map f rs ≡ filter_map f us) → HaveThose streams rs
   have_those rs same =
-      HaveThose-made (without_slots doomed) streams rs built.state made none
-      (apart-dropped us (without_slots doomed) streams dropped_each kept_each)
+      HaveThose-made (without_slots doomed) streams rs built.state made none (apart-dropped us (without_slots doomed) streams dropped_each kept_each)
     where
       made : (Y : Type 0) (f : Record → Option Y) → f Free ≡ None → filter_map f (without_slots doomed) ≡ [] →
           IsPermutation (filter_map f (all_walked streams)) (filter_map f rs)
       made Y f free nothing =
-          subst (λ l. IsPermutation (filter_map f (all_walked streams)) l) (sym (same Y f free))
-          (subst (λ l. IsPermutation l (filter_map f us))
+          subst (λ l. IsPermutation (filter_map f (all_walked streams)) l) (sym (same Y f free)) (subst (λ l. IsPermutation l (filter_map f us))
           (filter_map-append f (without_slots doomed) (all_walked streams) ∙ ap (λ l. l ++ filter_map f (all_walked streams)) nothing)
           (IsPermutation-filter_map f (without_slots doomed ++ all_walked streams) us all-walked_too))
 

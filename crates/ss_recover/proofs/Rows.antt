@@ -1,44 +1,26 @@
 -- Worked maps of a few slots, and what each carries or where it is damaged.
-use Rattle.std.specs.Prelude.{◌≡◌, ℕ, ◌+◌, ◌-◌, ◌*◌, ◌^◌, true, false, pos, negsuc, List, [], ◌∷◌, length, replicate, slice_index_or, slice_set, map, Ok, Err}
-use Rattle.std.specs.Prelude.{◌≤◌, Bool, Option, Some, None, Result, filter}
-use Rattle.std.proofs.Common.{refl, ◌∙◌}
-use Rattle.ss_fields.specs.Fields as Numbers
-use Rattle.ss_summary.specs.Figures.{Figures}
-use Rattle.ss_summary.specs.Filters as Filters
-use Rattle.ss_summary.specs.Filters.{filter_of, full}
+use Rattle.ss_recover.proofs.Words.{[], ◌*◌, ◌+◌, ◌-◌, ◌^◌, ◌∙◌, ◌∷◌, ◌≡◌, ◌≤◌, AreKept, AreWhole, AreWholeBeside, bad_slot, bad_stream, BadSlot, BadStream}
+use Rattle.ss_recover.proofs.Words.{Bool, Carried, carries, Created, Disk, doomed_slots, Err, failed, false, Figures, filter, filter_of, fine, full, has_place}
+use Rattle.ss_recover.proofs.Words.{HasParts, is_live, IsPermutation, Landmark, length, List, map, MOST_STREAMS, MOST_VALUES, negsuc, no_memory, None, occupied}
+use Rattle.ss_recover.proofs.Words.{Ok, Option, OutOfMemory, Parts, pos, range_with_len, Rebuilds, RecordsState, RecoverError, refl, refused, replicate, Result}
+use Rattle.ss_recover.proofs.Words.{slice_index_or, slice_set, SlotMap, Some, StandsFor, Stream, StreamParts, tile, true, verdict_of_rebuild, Window, zeros, ℕ}
 use Rattle.ss_summary.specs.Points.{New}
-use Rattle.ss_summary.specs.Possible as Possible
 use Rattle.ss_summary.specs.Summaries.{summary_of}
-use Rattle.ss_catalog.specs.Names as Names
-use Rattle.ss_catalog.specs.declared.TheConstants.{MOST_STREAMS}
 use Rattle.ss_catalog.specs.Params.{exp as Exp}
-use Rattle.ss_windowing.specs.declared.decay.TheConstants.{MOST_VALUES}
-use Rattle.ss_journal.specs.Redo.{SlotMap, StandsFor, zeros}
-use Rattle.ss_codec.specs.Fields as Fields
-use Rattle.ss_codec.specs.Record.{spelling, is_valid}
+use Rattle.ss_codec.specs.Record.{is_valid, spelling}
 use Rattle.ss_codec.specs.Decoded.{decoded, finish_in, landmark_in, params_in, record_in, stream_in, value_in, window_in}
-use Rattle.ss_codec.specs.declared.record.Record.TheVariants as records
-use Rattle.ss_landmarks.specs.Landmark.{Landmark}
-use Rattle.ss_model.specs.Marks as Marks
-use Rattle.ss_model.specs.State.{Created, Stream}
-use Rattle.ss_model.specs.declared.types.Window.{Window}
 use Rattle.ss_recover.specs.Carried.{spelled}
-use Rattle.ss_recover.specs.Conditions.{is_sound, has_place, tile}
-use Rattle.ss_recover.specs.Parts.{Carried, bad_slot, bad_stream, carries, carried}
-use Rattle.std.specs.List.{range_with_len}
-use Rattle.std.specs.List.Sorted.{IsPermutation}
-use Rattle.ss_records.specs.Live.{is_live}
+use Rattle.ss_recover.specs.Conditions.{is_sound}
+use Rattle.ss_recover.specs.Parts.{carried}
 use Rattle.ss_outside.specs.Crash.{OnlyReads}
 use Rattle.ss_outside.specs.Disk.{Told}
-use Rattle.ss_outside.specs.Verdict.{fine, refused, failed, no_memory}
-use Rattle.ss_records.specs.Kept.{AreKept, RecordsState}
-use Rattle.ss_recover.specs.Doomed.{doomed_slots}
-use Rattle.ss_recover.specs.Held.{AreWhole, AreWholeBeside, occupied}
-use Rattle.ss_recover.specs.Rebuilt.{HasParts, Rebuilds, verdict_of_rebuild}
-use Rattle.ss_recover.specs.declared.parts.Parts.{Parts}
-use Rattle.ss_recover.specs.declared.parts.StreamParts.{StreamParts}
-use Rattle.ss_recover.specs.declared.recover_error.RecoverError.{RecoverError}
-use Rattle.ss_recover.specs.declared.recover_error.RecoverError.TheVariants.{BadSlot, BadStream, Disk, OutOfMemory}
+use Rattle.ss_fields.specs.Fields as Numbers
+use Rattle.ss_summary.specs.Filters as Filters
+use Rattle.ss_summary.specs.Possible as Possible
+use Rattle.ss_catalog.specs.Names as Names
+use Rattle.ss_codec.specs.Fields as Fields
+use Rattle.ss_codec.specs.declared.record.Record.TheVariants as records
+use Rattle.ss_model.specs.Marks as Marks
 
 -- a map of these slots, and none after them
 abbrev pub map_of : List (List ℕ) → SlotMap
@@ -49,16 +31,14 @@ abbrev stream_slot : ℕ → List ℕ → List ℕ
 stream_slot number name = spelling (records.Stream number name (Exp 2 1 1) false)
 
 abbrev marked_stream : ℕ → List ℕ → List Window → List Landmark → Stream
-marked_stream number name windows landmarks =
-    record { number = number; name = name; params = Exp 2 1 1; windows = windows; landmarks = landmarks }
+marked_stream number name windows landmarks = record { number = number; name = name; params = Exp 2 1 1; windows = windows; landmarks = landmarks }
 
 abbrev stream : ℕ → List ℕ → List Window → Stream
 stream number name windows = marked_stream number name windows []
 
 -- so many values 5, the first and the last at these times, with a filter that has all bits
 abbrev pub fives : ℕ → ℕ → ℕ → Figures
-fives count t_first t_last =
-    record { count = count; sum = pos (5 * count); min = pos 5; max = pos 5; t_first = t_first; t_last = t_last; filter = full }
+fives count t_first t_last = record { count = count; sum = pos (5 * count); min = pos 5; max = pos 5; t_first = t_first; t_last = t_last; filter = full }
 
 -- the same with the filter of their values
 abbrev filtered_fives : ℕ → ℕ → ℕ → Figures

@@ -1,37 +1,18 @@
 -- The streams of runs that are done: what is held agrees with streams that their records are of.
-use Rattle.std.proofs.Common.{◌≡◌, ◌∙◌, ℕ, ◌+◌, ◌<◌, Bool, true, List, [], ◌∷◌, ◌++◌, flat_map, map, filter, Option, Some, refl, sym, ap, ap₂, subst, inl, inr}
-use Rattle.std.proofs.Common.{false, cond}
-use Rattle.std.proofs.Common.{append-nil, append_assoc, IsPermutation}
-use Rattle.std.specs.Prelude.{zip}
-use Rattle.std.specs.List.{AllByRecursion, filter_map}
-use Rattle.std.proofs.lemmas.Bool.{cases_Bool, cond-true, cond-false}
-use Rattle.std.proofs.lemmas.List.{map-append}
-use Rattle.std.proofs.lemmas.List.Elements.{filter-append}
-use Rattle.std.proofs.lemmas.List.Sorted.{IsPermutation-cons, IsPermutation-middle}
-use Rattle.std.proofs.lemmas.List.Sorted.{IsPermutation-map, IsPermutation-refl, IsPermutation-trans}
-use Rattle.ss_codec.specs.declared.record.Record.{Record}
-use Rattle.ss_codec.specs.declared.record.Record.TheVariants as records
-use Rattle.ss_landmarks.specs.Landmark.{Landmark, LandmarkValue}
-use Rattle.ss_model.specs.Marks.{later, latest_of}
-use Rattle.ss_model.specs.State.{Stream, names_of}
-use Rattle.ss_model.specs.Windows.{newest_time}
-use Rattle.ss_model.specs.declared.types.Window.{Window}
-use Rattle.ss_recover.specs.Carried.{created_by, is_dropped, is_mark_of, window_of}
-use Rattle.ss_recover.specs.Held.{Agrees, AllAgree, all_value_records, in_slots, landmark_record, landmark_records, records_held, stream_record}
-use Rattle.ss_recover.specs.Held.{value_records, window_record, windows_held}
-use Rattle.ss_recover.specs.Marked.{landmarks_made}
-use Rattle.ss_recover.specs.Order.{Rises, place_of, stream_of}
-use Rattle.ss_recover.specs.Runs.{is_run}
-use Rattle.ss_recover.specs.Shown.{IsHeldOf, found_by, head_found, is_landmark, is_value, is_window}
-use Rattle.ss_recover.specs.Usable.{IsUsable, in_slot, slots_found, without_slots}
-use Rattle.ss_recover.specs.declared.found.Found.{Found}
-use Rattle.ss_recover.specs.declared.parts.StreamParts.{StreamParts}
-use Rattle.ss_recover.proofs.Lists.{all_weaker, filter-none, map-all}
+use Rattle.ss_recover.proofs.Words.{[], ◌++◌, ◌+◌, ◌<◌, ◌∙◌, ◌∷◌, ◌≡◌, Agrees, all_value_records, AllAgree, AllByRecursion, ap, append-nil, append_assoc, ap₂}
+use Rattle.ss_recover.proofs.Words.{Bool, cond, created_by, false, filter, filter-append, filter_map, flat_map, Found, found_by, head_found, in_slot, in_slots}
+use Rattle.ss_recover.proofs.Words.{is_dropped, is_landmark, is_mark_of, is_run, is_value, is_window, IsHeldOf, IsPermutation, IsPermutation-cons}
+use Rattle.ss_recover.proofs.Words.{IsPermutation-map, IsPermutation-middle, IsPermutation-refl, IsPermutation-trans, IsUsable, Landmark, landmark_record}
+use Rattle.ss_recover.proofs.Words.{landmark_records, landmarks_made, LandmarkValue, later, latest_of, List, map, map-append, names_of, newest_time, Option}
+use Rattle.ss_recover.proofs.Words.{place_of, Record, records_held, refl, Rises, slots_found, Some, Stream, stream_of, stream_record, StreamParts, subst, sym}
+use Rattle.ss_recover.proofs.Words.{true, value_records, Window, window_of, window_record, windows_held, without_slots, zip, ℕ}
+use Rattle.ss_recover.proofs.Lists.{all_weaker, filter-map, filter-none, map-all, map-map}
 use Rattle.ss_recover.proofs.Marks.{each-mark_of, marks_of}
-use Rattle.ss_recover.proofs.Permutations.{IsPermutation-append_both}
 use Rattle.ss_recover.proofs.RunSound.{alone-drops}
 use Rattle.ss_recover.proofs.RunStanding.{names-more, names_created}
 use Rattle.ss_recover.proofs.RunStream.{AreWalked, AreWalked-none, AreWalked-run, meets, rest-order, stream_made}
+use Rattle.ss_codec.specs.declared.record.Record.TheVariants as records
+use Rattle.std.proofs.lemmas.List.Sorted.{IsPermutation-append}
 
 -- of the records of landmarks, those of the landmarks and the others
 landmarks-values : (number n index : ℕ) (values : List LandmarkValue) → filter is_landmark (value_records number n index values) ≡ []
@@ -46,8 +27,7 @@ values-values number n index (v ∷ vs) = ap (λ rs. records.Value number n inde
 landmarks-marks : (number n : ℕ) (ls : List Landmark) → filter is_landmark (marks_of number n ls) ≡ landmark_records number n ls
 landmarks-marks number n [] = refl
 landmarks-marks number n (l ∷ ls) =
-    ap (λ rs. landmark_record number n l ∷ rs)
-    (filter-append is_landmark (value_records number n 1 l.values) (marks_of number (n + 1) ls)
+    ap (λ rs. landmark_record number n l ∷ rs) (filter-append is_landmark (value_records number n 1 l.values) (marks_of number (n + 1) ls)
     ∙ ap₂ ◌++◌ (landmarks-values number n 1 l.values) (landmarks-marks number (n + 1) ls))
 
 values-marks : (number n : ℕ) (ls : List Landmark) → filter is_value (marks_of number n ls) ≡ all_value_records number n ls
@@ -55,14 +35,6 @@ values-marks number n [] = refl
 values-marks number n (l ∷ ls) =
     filter-append is_value (value_records number n 1 l.values) (marks_of number (n + 1) ls)
     ∙ ap₂ ◌++◌ (values-values number n 1 l.values) (values-marks number (n + 1) ls)
-
-filter-records : (p : Record → Bool) (all : List Found) → without_slots (filter (λ (f : Found). p f.holds) all) ≡ filter p (without_slots all)
-filter-records p [] = refl
-filter-records p (f ∷ fs) =
-    elim (cases_Bool (p f.holds)) [
-      | inl is ↦ ap without_slots (cond-true (p f.holds) _ _ is) ∙ ap (λ rs. f.holds ∷ rs) (filter-records p fs) ∙ sym (cond-true (p f.holds) _ _ is)
-      | inr is ↦ ap without_slots (cond-false (p f.holds) _ _ is) ∙ filter-records p fs ∙ sym (cond-false (p f.holds) _ _ is)
-    ]
 
 -- the records that were found, each in its slot
 slots-records : (all : List Found) → in_slots (slots_found all) (without_slots all) ≡ map in_slot all
@@ -144,10 +116,6 @@ of-windows p false n [] is = refl
 of-windows p true n (w ∷ ws) is = rw (is w) (ap (λ l. window_record n w ∷ l) (of-windows p true n ws is))
 of-windows p false n (w ∷ ws) is = rw (is w) (of-windows p false n ws is)
 
-some-windows : (number : ℕ) (ws : List Window) → map Some (map (window_record number) ws) ≡ map (λ w. Some (window_record number w)) ws
-some-windows number [] = refl
-some-windows number (w ∷ ws) = ap (λ l. Some (window_record number w) ∷ l) (some-windows number ws)
-
 -- The records of a run, after those of lower numbers.
 module _ (front : List Record) (streams : List Stream) (done : AreWalked front streams) (all : List Found) (n : ℕ) (part : StreamParts)
     (held : IsHeldOf part all) (lower : AllByRecursion (λ r. stream_of r < n) front) (own : AllByRecursion (λ r. stream_of r ≡ n) (without_slots all))
@@ -224,29 +192,26 @@ module _ (front : List Record) (streams : List Stream) (done : AreWalked front s
       without_slots (found_by p held.rest)
       ≡ filter p (marks_of held.head.number 1 (landmarks_made ms)) ++ cond b (map (window_record held.head.number) ws) []
   of-kind p b is =
-      filter-records p held.rest ∙ ap (filter p) order-rest
+      sym (filter-map p (λ (f : Found). f.holds) held.rest) ∙ ap (filter p) order-rest
       ∙ filter-append p (marks_of held.head.number 1 (landmarks_made ms)) (map (window_record held.head.number) ws)
       ∙ ap (λ l. filter p (marks_of held.head.number 1 (landmarks_made ms)) ++ l) (of-windows p b held.head.number ws is)
 
   windows-held : windows_held (part, done_stream) ≡ map in_slot (head_found held.slot held.head ∷ found_by is_window held.rest)
   windows-held =
       ap₂ (λ (slot : ℕ) l. (slot, Some (stream_record done_stream)) ∷ l) held.in_slot
-      (ap₂ (λ (a : List ℕ) (b : List (Option Record)). zip a b) held.kept.entries
-      (sym (some-windows held.head.number ws)
+      (ap₂ (λ (a : List ℕ) (b : List (Option Record)). zip a b) held.kept.entries (sym (map-map Some (window_record held.head.number) ws)
       ∙ ap (map Some) (sym (of-kind is_window true (λ w. refl)
       ∙ ap (λ l. l ++ map (window_record held.head.number) ws) (no-windows held.head.number 1 (landmarks_made ms)))))
       ∙ slots-records (found_by is_window held.rest))
 
   landmarks-held : in_slots part.landmarks.slots (landmark_records held.head.number 1 (landmarks_made ms)) ≡ map in_slot (found_by is_landmark held.rest)
   landmarks-held =
-      ap₂ in_slots held.kept.slots
-      (sym (of-kind is_landmark false (λ w. refl) ∙ append-nil _ ∙ landmarks-marks held.head.number 1 (landmarks_made ms)))
+      ap₂ in_slots held.kept.slots (sym (of-kind is_landmark false (λ w. refl) ∙ append-nil _ ∙ landmarks-marks held.head.number 1 (landmarks_made ms)))
       ∙ slots-records (found_by is_landmark held.rest)
 
   values-held : in_slots part.landmarks.value_slots (all_value_records held.head.number 1 (landmarks_made ms)) ≡ map in_slot (found_by is_value held.rest)
   values-held =
-      ap₂ in_slots held.kept.value_slots
-      (sym (of-kind is_value false (λ w. refl) ∙ append-nil _ ∙ values-marks held.head.number 1 (landmarks_made ms)))
+      ap₂ in_slots held.kept.value_slots (sym (of-kind is_value false (λ w. refl) ∙ append-nil _ ∙ values-marks held.head.number 1 (landmarks_made ms)))
       ∙ slots-records (found_by is_value held.rest)
 
   -- they are those that are held, in another order
@@ -270,7 +235,7 @@ module _ (front : List Record) (streams : List Stream) (done : AreWalked front s
     records =
         subst (λ l. IsPermutation l (map in_slot (before ++ all))) (sym (held-push parts streams part done_stream each))
         (subst (IsPermutation (flat_map records_held (zip parts streams) ++ records_held (part, done_stream))) (sym (map-append in_slot before all))
-        (IsPermutation-append_both (flat_map records_held (zip parts streams)) (map in_slot before) (records_held (part, done_stream))
+        (IsPermutation-append (flat_map records_held (zip parts streams)) (map in_slot before) (records_held (part, done_stream))
         (map in_slot all) so_far done-held));
     walked =
         subst (λ l. AreWalked l (streams ++ done_stream ∷ [])) (sym (map-append (λ (f : Found). f.holds) before all ∙ (λ i. is i ++ split i)))

@@ -1,25 +1,13 @@
 -- What is held of the last landmark shows what its records say, while its values come.
-use Rattle.std.proofs.Common.{◌≡◌, ◌∙◌, ℕ, ◌+◌, ◌<◌, ◌≤◌, Bool, true, false, List, [], ◌∷◌, ◌++◌, length, Option, Some, None, IsNone}
-use Rattle.std.proofs.Common.{IsSome, IfSome}
-use Rattle.std.proofs.Common.{MatchOption, is_none, refl, sym, ap, subst, inl, inr, arith, length-append}
-use Rattle.std.specs.Prelude.{◌==◌, ◌&&◌, ◌||◌, nat_le, nat_lt, option_to_list}
-use Rattle.std.specs.Option.{option_map_or}
-use Rattle.std.specs.List.{All, list_all}
-use Rattle.std.proofs.lemmas.Bool.{and_parts, cond-true, cond-false, leb-true, ltb-true}
-use Rattle.std.proofs.lemmas.List.Elements.{All-from_recursion}
-use Rattle.ss_landmarks.specs.Free.{is_up_to}
-use Rattle.ss_landmarks.specs.Landmark.{Landmark, LandmarkValue, change_last, closed_at, open_landmark}
-use Rattle.ss_landmarks.specs.Order.{AreLandmarks, CanOpen, CanTake, FollowFrom}
-use Rattle.ss_landmarks.specs.declared.landmarks.TheConstants.{LATEST_TIME}
+use Rattle.ss_recover.proofs.Words.{[], ◌&&◌, ◌++◌, ◌+◌, ◌<◌, ◌==◌, ◌||◌, ◌∙◌, ◌∷◌, ◌≡◌, ◌≤◌, All, All-from_recursion, and_assoc, and_parts, ap, AreLandmarks}
+use Rattle.ss_recover.proofs.Words.{arith, can_add, can_open, CanClose-after, CanOpen, CanOpen-after, CanTake, cases-finish, change_last, closed_at}
+use Rattle.ss_recover.proofs.Words.{closes_before, cond-false, cond-true, ends-latest, false, finish_of, FollowFrom, has_all_values, has_said, has_said_last}
+use Rattle.ss_recover.proofs.Words.{IfSome, inl, inr, is_closed_before, is_next_landmark, is_next_value, is_none, is_up_to, IsLast, IsNone, IsSome, Landmark}
+use Rattle.ss_recover.proofs.Words.{landmarks_in, LandmarkValue, Last, latest_at_end, latest_of, LATEST_TIME, leb-true, length, length-append, List, list_all}
+use Rattle.ss_recover.proofs.Words.{ltb-true, Marked, MatchOption, MayClose, nat_le, nat_lt, None, open_landmark, Option, option_map_or, option_to_list, refl}
+use Rattle.ss_recover.proofs.Words.{ShowsLast, Some, still_open, subst, sym, true, with_closing, ℕ}
 use Rattle.ss_landmarks.proofs.OpenLemmas.{open_landmark-close}
-use Rattle.ss_landmarks.proofs.OrderLemmas.{cases-finish}
-use Rattle.ss_landmarks.proofs.TimeLemmas.{CanClose-after, CanOpen-after}
-use Rattle.ss_model.specs.Marks.{latest_of}
-use Rattle.ss_recover.specs.Marked.{Marked, has_all_values, has_said, is_closed_before, is_next_landmark, is_next_value, landmarks_in}
-use Rattle.ss_recover.specs.Shown.{IsLast, MayClose, ShowsLast, can_add, can_open, closes_before, finish_of}
-use Rattle.ss_recover.specs.Shown.{has_said_last, latest_at_end, still_open, with_closing}
-use Rattle.ss_recover.specs.declared.marking.Last.{Last}
-use Rattle.ss_recover.proofs.Latest.{AllEndBy-latest, latest_of-closed}
+use Rattle.ss_recover.proofs.Latest.{latest_of-closed}
 use Rattle.ss_recover.proofs.Lists.{all_weaker, each-list_all}
 
 -- ---- the last landmark
@@ -44,8 +32,7 @@ change_last-front change (y ∷ z ∷ zs) x = ap (λ ls. y ∷ ls) (change_last-
 
 open-held : (c : Last) (ls : List Landmark) (latest : Option ℕ) (m : Marked) (is : IsLast c ls latest m) → AreLandmarks ls →
     open_landmark ls ≡ Some (still_open is.landmark)
-open-held c ls latest m is order =
-    ap open_landmark is.held ∙ open-last 0 m.before (still_open is.landmark) (subst (FollowFrom 0) is.held order) refl
+open-held c ls latest m is order = ap open_landmark is.held ∙ open-last 0 m.before (still_open is.landmark) (subst (FollowFrom 0) is.held order) refl
 
 -- the landmarks with the last one, and how many they are
 in-held : (c : Last) (ls : List Landmark) (latest : Option ℕ) (m : Marked) (is : IsLast c ls latest m) → landmarks_in m ≡ m.before ++ is.landmark ∷ []
@@ -70,7 +57,7 @@ module _ (ls : List Landmark) (latest : Option ℕ) (m : Marked) where
         | None ↦ λ closes. tt
         | Some t ↦ λ closes. (
           closes.1,
-          CanClose-after ls shows.time t (AllEndBy-latest ls shows.time (sym is ∙ shows.latest))
+          CanClose-after ls shows.time t (ends-latest None ls shows.time (sym is ∙ shows.latest))
               (subst IsSome (sym (open-held c ls latest m shows order)) refl) closes.0,
         )
       ] shows.closes
@@ -80,8 +67,7 @@ module _ (ls : List Landmark) (latest : Option ℕ) (m : Marked) where
   closed-shown None shows = shows.1 ∙ sym (ap landmarks_in shows.0)
   closed-shown (Some c) shows =
       let l = shows.landmark in
-      ap (λ o. with_closing o ls) shows.finish ∙ ap (with_closing l.finish) shows.held
-      ∙ (elim (cases-finish l.finish) [
+      ap (λ o. with_closing o ls) shows.finish ∙ ap (with_closing l.finish) shows.held ∙ (elim (cases-finish l.finish) [
         | inl begun ↦
             (let same : still_open l ≡ l = λ i. record { start = l.start; finish = sym begun i; values = l.values } in
             ap (λ o. with_closing o (m.before ++ still_open l ∷ [])) begun ∙ ap (λ x. m.before ++ x ∷ []) same)
@@ -89,8 +75,7 @@ module _ (ls : List Landmark) (latest : Option ℕ) (m : Marked) where
             (let same : closed_at closed.0 (still_open l) ≡ l = λ i. record { start = l.start; finish = sym closed.1 i; values = l.values } in
             ap (λ o. with_closing o (m.before ++ still_open l ∷ [])) closed.1 ∙ change_last-front (closed_at closed.0) m.before (still_open l)
             ∙ ap (λ x. m.before ++ x ∷ []) same)
-      ])
-      ∙ sym (in-held c ls latest m shows)
+      ]) ∙ sym (in-held c ls latest m shows)
 
   -- and their latest time is the one that is held
   pub latest-shown : (last : Option Last) → ShowsLast last ls latest m → latest ≡ latest_of ls →
@@ -120,14 +105,11 @@ module _ (ls : List Landmark) (latest : Option ℕ) (m : Marked) where
   pub add-shown : (c : Last) (number index t : ℕ) → IsLast c ls latest m → can_add (length ls) c number index t ≡ is_next_value m number index t
   add-shown c number index t shows =
       (λ i. number == long-held c ls latest m shows i && (index == shows.values i + 1 && sym (shows.from t) i && is_up_to t (shows.finish i)))
-      ∙ ap (λ b. number == length (landmarks_in m) && b) (apart (index == length shows.landmark.values + 1) (nat_le shows.landmark.start t) _ _)
-      ∙ sym (ap (λ o. number == length (landmarks_in m) && option_map_or
+      ∙ ap (λ b. number == length (landmarks_in m) && b) (ap (λ a. a && is_up_to t shows.landmark.finish)
+      (sym (and_assoc (index == length shows.landmark.values + 1) (nat_le shows.landmark.start t)
+      (list_all (λ (value : LandmarkValue). nat_lt value.t t) shows.landmark.values)))) ∙ sym (ap (λ o. number == length (landmarks_in m) && option_map_or
       (λ (l : Landmark). index == length l.values + 1 && nat_le l.start t
       && list_all (λ (value : LandmarkValue). nat_lt value.t t) l.values && is_up_to t l.finish) o false) shows.last)
-    where
-      apart : (a b c d : Bool) → (a && (b && c) && d) ≡ (a && b && c && d)
-      apart true b c d = refl
-      apart false b c d = refl
 
   -- a landmark may open after those that have closed, and the last one may take a value
   pub CanOpen-shown : (last : Option Last) (us : List Landmark) (number start : ℕ) → ShowsLast last ls latest m → latest ≡ latest_of ls → AreLandmarks ls →
@@ -147,7 +129,7 @@ module _ (ls : List Landmark) (latest : Option ℕ) (m : Marked) where
             let is_closed : us ≡ change_last (closed_at f) ls = closed ∙ ap (λ o. with_closing o ls) some.1 in
             let last : latest_of us ≡ Some f =
             ap latest_of closed ∙ sym (latest-shown (Some c) shows is) ∙ ap (λ o. latest_at_end o latest) some.1 in (
-              CanOpen-after us f start (AllEndBy-latest us f last)
+              CanOpen-after us f start (ends-latest None us f last)
                   (subst (λ vs. IsNone (open_landmark vs)) (sym is_closed) (open_landmark-close 0 ls f order)) lt,
               subst (λ (o : Option ℕ). IfSome o (λ time. time < start)) (sym last) lt,
             )

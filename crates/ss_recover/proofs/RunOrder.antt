@@ -1,25 +1,16 @@
 -- Records in the order of their keys: those of one stream after another, and where those of one end.
-use Rattle.std.proofs.Common.{All, ◌≡◌, ◌∙◌, ℕ, zero, suc, ◌+◌, ◌*◌, ◌^◌, ◌<◌, ◌≤◌, List, [], ◌∷◌, ◌++◌, length, map, take, drop, get_or, refl, sym, ap}
-use Rattle.std.proofs.Common.{subst, arith}
-use Rattle.std.specs.List.{AllByRecursion}
-use Rattle.std.specs.List.Sorted.{IsNonDecreasingBy}
-use Rattle.std.proofs.lemmas.List.{length-drop, length-take, take-append-drop}
-use Rattle.std.proofs.lemmas.List.Elements.{All-drop, All-from_recursion, All-take, recursion_from_All}
-use Rattle.ss_codec.specs.declared.record.Record.{Record}
-use Rattle.ss_codec.specs.declared.record.Record.TheVariants as records
-use Rattle.ss_recover.specs.Order.{Rises, found_key, key_of, place_of, stream_of}
-use Rattle.ss_recover.specs.Shown.{IsNextRun}
-use Rattle.ss_recover.specs.Usable.{IsUsable}
-use Rattle.ss_recover.specs.declared.found.Found.{Found}
+use Rattle.ss_recover.proofs.Words.{[], ◌*◌, ◌++◌, ◌+◌, ◌<◌, ◌^◌, ◌∙◌, ◌∷◌, ◌≡◌, ◌≤◌, All, All-drop, All-from_recursion, All-take, AllByRecursion, ap, arith}
+use Rattle.ss_recover.proofs.Words.{drop, Found, found_key, get_or, IsNextRun, IsNonDecreasingBy, IsUsable, key_of, length, length-drop, length-take, List, map}
+use Rattle.ss_recover.proofs.Words.{place_of, Record, recursion_from_All, refl, Rises, stream_of, subst, suc, sym, take, take-append-drop, zero, ℕ}
 use Rattle.ss_recover.proofs.Lists.{all_behind, all_both, all_front, all_weaker, map-all}
+use Rattle.ss_codec.specs.declared.record.Record.TheVariants as records
 
 -- places have 65 bits
 place-below : (r : Record) → IsUsable r → place_of r < 2 ^ 65
 place-below records.Free usable = absurd usable
 place-below (records.Stream id name params dropped) usable = omega arith
-place-below (records.Window id first summary) usable = omega (arith, usable.1)
-place-below (records.Landmark id number values start finish) usable = omega (arith, usable.1)
 place-below (records.Value id number index t v) usable = omega (arith, usable.1, usable.2)
+place-below _ usable = omega (arith, usable.1)
 
 key-le : (a b p q : ℕ) → p < 2 ^ 65 → q < 2 ^ 65 → a * 2 ^ 65 + p ≤ b * 2 ^ 65 + q → a ≤ b
 key-le a b p q small_p small_q le = omega arith
@@ -79,8 +70,7 @@ own-front : (rest : List Found) (len : ℕ) (x : Found) → 0 < length rest → 
     AllByRecursion (λ (f : Found). stream_of x.holds < stream_of f.holds) (drop len rest) →
     (run : List Found) × (take len rest ≡ x ∷ run) × AllByRecursion (λ (f : Found). stream_of f.holds ≡ stream_of x.holds) (x ∷ run)
 own-front [] len x some is rises front back = absurd (omega (arith, some))
-own-front (y ∷ ys) zero x some is rises front back =
-    absurd (let lt = back.0 in let same = ap (λ (f : Found). stream_of f.holds) is in omega (arith, lt, same))
+own-front (y ∷ ys) zero x some is rises front back = absurd (let lt = back.0 in let same = ap (λ (f : Found). stream_of f.holds) is in omega (arith, lt, same))
 own-front (y ∷ ys) (suc len) x some is rises front back =
     let same : stream_of x.holds ≡ stream_of y.holds = ap (λ (f : Found). stream_of f.holds) is in
     let least = all_front (λ (f : Found). stream_of y.holds ≤ stream_of f.holds) (take len ys) (drop len ys)

@@ -1,14 +1,10 @@
 -- Worked rows: records in order of which some are of dropped streams, or of streams with a step, as a walk takes them.
-use Rattle.std.proofs.Common.{◌≡◌, ℕ, Bool, true, false, pos, List, [], ◌∷◌, map, refl, Some}
-use Rattle.ss_summary.specs.Filters.{full}
+use Rattle.ss_recover.proofs.Words.{[], ◌∷◌, ◌≡◌, Bool, doomed_found, false, Found, full, is_run, is_sound_in_order, List, map, pos, Record, refl, slots_found}
+use Rattle.ss_recover.proofs.Words.{Some, true, ℕ}
 use Rattle.ss_catalog.specs.Params.{exp as Exp}
-use Rattle.ss_codec.specs.declared.record.Record.{Record}
+use Rattle.ss_recover.specs.Conditions.{is_sound}
 use Rattle.ss_codec.specs.declared.record.Record.TheVariants as records
 use Rattle.ss_model.specs.Marks as Marks
-use Rattle.ss_recover.specs.Conditions.{is_sound}
-use Rattle.ss_recover.specs.Runs.{doomed_found, is_run, is_sound_in_order}
-use Rattle.ss_recover.specs.Usable.{slots_found}
-use Rattle.ss_recover.specs.declared.found.Found.{Found}
 
 -- the names `a` and `b`
 abbrev a : List ℕ
@@ -22,8 +18,7 @@ abbrev own : ℕ → List ℕ → Bool → Record
 own number name dropped = records.Stream number name (Exp 2 1 1) dropped
 
 abbrev window : ℕ → ℕ → Record
-window number first =
-    records.Window number first (record { count = 2; sum = pos 10; min = pos 5; max = pos 5; t_first = 10; t_last = 20; filter = full })
+window number first = records.Window number first (record { count = 2; sum = pos 10; min = pos 5; max = pos 5; t_first = 10; t_last = 20; filter = full })
 
 -- a dropped stream is a run with any records that aren't a stream's own, and one that stands with those alone that may come
 dropped-alone : is_run [] (own 0 a true ∷ []) ≡ true

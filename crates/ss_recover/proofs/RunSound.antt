@@ -1,31 +1,15 @@
 -- The records of a number are sound, among those of others, where they are a run.
-use Rattle.std.proofs.Common.{◌≡◌, ◌∙◌, ℕ, ◌+◌, ◌^◌, ◌<◌, ◌≤◌, Bool, true, false, not, ◌&&◌, List, [], ◌∷◌, ◌++◌, map, length, refl, sym, ap}
-use Rattle.std.proofs.Common.{ap₂, inl, inr, arith, append-nil}
-use Rattle.std.specs.Prelude.{◌==◌, ◌||◌, nat_lt}
-use Rattle.std.specs.List.{AllByRecursion, filter_map, list_all, list_any}
-use Rattle.std.proofs.lemmas.Bool.{and_parts, and_right, cases_Bool, eq-eqb, ne_eqb, or_from, not-true}
-use Rattle.std.proofs.lemmas.List.{length-map}
-use Rattle.std.proofs.lemmas.List.Elements.{filter-append, filter_map-append}
-use Rattle.std.proofs.lemmas.List.Folds.{list_any-append}
-use Rattle.ss_catalog.specs.Names.{same_name}
-use Rattle.ss_catalog.specs.Params.{step_number}
-use Rattle.ss_catalog.specs.declared.TheConstants.{MOST_STREAMS}
-use Rattle.ss_codec.specs.declared.record.Record.{Record}
-use Rattle.ss_codec.specs.declared.record.Record.TheVariants as records
-use Rattle.ss_model.specs.Marks.{lies_free}
-use Rattle.ss_model.specs.State.{Created}
-use Rattle.ss_model.specs.declared.types.Window.{Window}
-use Rattle.ss_recover.specs.Carried.{created_by, is_drop_of, is_dropped, is_mark_of, streams_created, window_of}
-use Rattle.ss_recover.specs.Conditions.{has_new_name, has_one_record, has_place, keep_own_step, keep_step, tile, times_rise}
-use Rattle.ss_recover.specs.Doomed.{is_own}
-use Rattle.ss_recover.specs.Held.{window_record}
-use Rattle.ss_recover.specs.Marked.{are_marks, landmarks_made}
-use Rattle.ss_recover.specs.Order.{Rises, place_of, stream_of}
-use Rattle.ss_recover.specs.Runs.{has_sound_values_in_order, has_sound_values_within, is_run, is_sound_in_order, marks_in, may_stand, windows_in}
-use Rattle.ss_recover.specs.Usable.{IsUsable}
+use Rattle.ss_recover.proofs.Words.{[], ◌&&◌, ◌++◌, ◌+◌, ◌<◌, ◌==◌, ◌^◌, ◌||◌, ◌∙◌, ◌∷◌, ◌≡◌, ◌≤◌, AllByRecursion, and_parts, and_right, ap, append-nil, ap₂}
+use Rattle.ss_recover.proofs.Words.{are_marks, arith, Bool, cases_Bool, Created, created_by, eq-eqb, false, filter-append, filter_map, filter_map-append}
+use Rattle.ss_recover.proofs.Words.{has_new_name, has_one_record, has_place, has_sound_values_in_order, has_sound_values_within, inl, inr, is_drop_of}
+use Rattle.ss_recover.proofs.Words.{is_dropped, is_mark_of, is_own, is_run, is_sound_in_order, IsUsable, keep_own_step, keep_step, landmarks_made, length}
+use Rattle.ss_recover.proofs.Words.{length-map, lies_free, List, list_all, list_any, list_any-append, map, marks_in, may_stand, MOST_STREAMS, nat_lt, ne_eqb}
+use Rattle.ss_recover.proofs.Words.{not, not-true, or-false, or_from, place_of, Record, refl, Rises, same_name, step_number, stream_of, streams_created, sym}
+use Rattle.ss_recover.proofs.Words.{tile, times_rise, true, Window, window_of, window_record, windows_in, ℕ}
 use Rattle.ss_recover.proofs.Lists.{all_weaker}
 use Rattle.ss_recover.proofs.OwnSteps.{own_step-one, own_step-parts}
 use Rattle.ss_recover.proofs.SoundStreams.{count-at, count-below, new-name}
+use Rattle.ss_codec.specs.declared.record.Record.TheVariants as records
 
 -- the windows and the records of landmarks of a number
 abbrev windows : ℕ → List Record → List Window
@@ -37,72 +21,49 @@ marks n rs = marks_in n rs
 -- what the records of some numbers create
 created-of : (P : ℕ → Type 0) (rs : List Record) → AllByRecursion (λ r. P (stream_of r)) rs → AllByRecursion (λ c. P c.number) (filter_map created_by rs)
 created-of P [] all = tt
-created-of P (records.Free ∷ rs) all = created-of P rs all.1
 created-of P (records.Stream id name params dropped ∷ rs) all = (all.0, created-of P rs all.1)
-created-of P (records.Window id first summary ∷ rs) all = created-of P rs all.1
-created-of P (records.Landmark id number values start finish ∷ rs) all = created-of P rs all.1
-created-of P (records.Value id number index t v ∷ rs) all = created-of P rs all.1
+created-of P (_ ∷ rs) all = created-of P rs all.1
 
 -- after the first place no stream is created
 none-created : (rs : List Record) → AllByRecursion (λ r. 1 ≤ place_of r) rs → filter_map created_by rs ≡ []
 none-created [] all = refl
-none-created (records.Free ∷ rs) all = none-created rs all.1
 none-created (records.Stream id name params dropped ∷ rs) all = absurd (let first = all.0 in omega (arith, first))
-none-created (records.Window id first summary ∷ rs) all = none-created rs all.1
-none-created (records.Landmark id number values start finish ∷ rs) all = none-created rs all.1
-none-created (records.Value id number index t v ∷ rs) all = none-created rs all.1
+none-created (_ ∷ rs) all = none-created rs all.1
 
 windows-apart : (n : ℕ) (rs : List Record) → AllByRecursion (λ r. stream_of r ≡ n → ⊥) rs → windows n rs ≡ []
 windows-apart n [] apart = refl
-windows-apart n (records.Free ∷ rs) apart = windows-apart n rs apart.1
-windows-apart n (records.Stream id name params dropped ∷ rs) apart = windows-apart n rs apart.1
 windows-apart n (records.Window id first summary ∷ rs) apart = rw (ne_eqb id n apart.0) (windows-apart n rs apart.1)
-windows-apart n (records.Landmark id number values start finish ∷ rs) apart = windows-apart n rs apart.1
-windows-apart n (records.Value id number index t v ∷ rs) apart = windows-apart n rs apart.1
+windows-apart n (_ ∷ rs) apart = windows-apart n rs apart.1
 
 marks-apart : (n : ℕ) (rs : List Record) → AllByRecursion (λ r. stream_of r ≡ n → ⊥) rs → marks n rs ≡ []
 marks-apart n [] apart = refl
-marks-apart n (records.Free ∷ rs) apart = marks-apart n rs apart.1
-marks-apart n (records.Stream id name params dropped ∷ rs) apart = marks-apart n rs apart.1
-marks-apart n (records.Window id first summary ∷ rs) apart = marks-apart n rs apart.1
 marks-apart n (records.Landmark id number values start finish ∷ rs) apart = rw (ne_eqb id n apart.0) (marks-apart n rs apart.1)
 marks-apart n (records.Value id number index t v ∷ rs) apart = rw (ne_eqb id n apart.0) (marks-apart n rs apart.1)
+marks-apart n (_ ∷ rs) apart = marks-apart n rs apart.1
 
 -- what says that its stream was dropped is of its number
 pub drops-apart : (n : ℕ) (rs : List Record) → AllByRecursion (λ r. stream_of r ≡ n → ⊥) rs → is_dropped n rs ≡ false
 drops-apart n [] apart = refl
-drops-apart n (records.Free ∷ rs) apart = drops-apart n rs apart.1
 drops-apart n (records.Stream id name params dropped ∷ rs) apart =
     or_from (dropped && (id == n)) (is_dropped n rs) (and_right dropped (id == n) (ne_eqb id n apart.0)) (drops-apart n rs apart.1)
-drops-apart n (records.Window id first summary ∷ rs) apart = drops-apart n rs apart.1
-drops-apart n (records.Landmark id number values start finish ∷ rs) apart = drops-apart n rs apart.1
-drops-apart n (records.Value id number index t v ∷ rs) apart = drops-apart n rs apart.1
+drops-apart n (_ ∷ rs) apart = drops-apart n rs apart.1
 
 -- where no stream is created, no record is a stream's own, and none says that one was dropped
 pub alone-own : (rs : List Record) → filter_map created_by rs ≡ [] → list_any is_own rs ≡ false
 alone-own [] none = refl
-alone-own (records.Free ∷ rs) none = alone-own rs none
 alone-own (records.Stream id name params dropped ∷ rs) none = cc
-alone-own (records.Window id first summary ∷ rs) none = alone-own rs none
-alone-own (records.Landmark id number values start finish ∷ rs) none = alone-own rs none
-alone-own (records.Value id number index t v ∷ rs) none = alone-own rs none
+alone-own (_ ∷ rs) none = alone-own rs none
 
 pub alone-drops : (n : ℕ) (rs : List Record) → filter_map created_by rs ≡ [] → is_dropped n rs ≡ false
 alone-drops n [] none = refl
-alone-drops n (records.Free ∷ rs) none = alone-drops n rs none
 alone-drops n (records.Stream id name params dropped ∷ rs) none = cc
-alone-drops n (records.Window id first summary ∷ rs) none = alone-drops n rs none
-alone-drops n (records.Landmark id number values start finish ∷ rs) none = alone-drops n rs none
-alone-drops n (records.Value id number index t v ∷ rs) none = alone-drops n rs none
+alone-drops n (_ ∷ rs) none = alone-drops n rs none
 
 -- and the other way round
 pub own-alone : (rs : List Record) → list_any is_own rs ≡ false → filter_map created_by rs ≡ []
 own-alone [] none = refl
-own-alone (records.Free ∷ rs) none = own-alone rs none
 own-alone (records.Stream id name params dropped ∷ rs) none = cc
-own-alone (records.Window id first summary ∷ rs) none = own-alone rs none
-own-alone (records.Landmark id number values start finish ∷ rs) none = own-alone rs none
-own-alone (records.Value id number index t v ∷ rs) none = own-alone rs none
+own-alone (_ ∷ rs) none = own-alone rs none
 
 own-created : (rs : List Record) (c : Created) (cs : List Created) → filter_map created_by rs ≡ c ∷ cs → list_any is_own rs ≡ true
 own-created rs c cs is =
@@ -176,11 +137,7 @@ module _ (front run back : List Record) (n : ℕ) (lower : AllByRecursion (λ r.
   dropped-own : is_dropped n all ≡ is_dropped n run
   dropped-own =
       list_any-append (is_drop_of n) front (run ++ back) ∙ ap (λ b. b || is_dropped n (run ++ back)) (drops-apart n front front-apart)
-      ∙ list_any-append (is_drop_of n) run back ∙ ap (λ b. is_dropped n run || b) (drops-apart n back back-apart) ∙ or-none (is_dropped n run)
-    where
-      or-none : (b : Bool) → (b || false) ≡ b
-      or-none true = refl
-      or-none false = refl
+      ∙ list_any-append (is_drop_of n) run back ∙ ap (λ b. is_dropped n run || b) (drops-apart n back back-apart) ∙ or-false (is_dropped n run)
 
   -- what its windows and landmarks meet
   abbrev meets_values : Bool
@@ -214,16 +171,6 @@ is_run-sound front (records.Window id first summary ∷ rest) back n lower own a
     let r = records.Window id first summary in
     let none = none-created rest (all_weaker (λ q. place_of r ≤ place_of q) (λ q. 1 ≤ place_of q) (λ q le. omega (arith, le)) rest rises.0) in
     sound-never front (r ∷ rest) back n lower own above (λ one. absurd (omega (arith, one, ap (λ (l : List Created). length l) none)))
-is_run-sound front (records.Landmark id number values start finish ∷ rest) back n lower own above usable rises some =
-    let r = records.Landmark id number values start finish in
-    let low = usable.0.0 in
-    let none = none-created rest (all_weaker (λ q. place_of r ≤ place_of q) (λ q. 1 ≤ place_of q) (λ q le. omega (arith, le, low)) rest rises.0) in
-    sound-never front (r ∷ rest) back n lower own above (λ one. absurd (omega (arith, one, ap (λ (l : List Created). length l) none)))
-is_run-sound front (records.Value id number index t v ∷ rest) back n lower own above usable rises some =
-    let r = records.Value id number index t v in
-    let low = usable.0.0 in
-    let none = none-created rest (all_weaker (λ q. place_of r ≤ place_of q) (λ q. 1 ≤ place_of q) (λ q le. omega (arith, le, low)) rest rises.0) in
-    sound-never front (r ∷ rest) back n lower own above (λ one. absurd (omega (arith, one, ap (λ (l : List Created). length l) none)))
 is_run-sound front (records.Stream id name params dropped ∷ rest) back n lower own above usable rises some =
     let r = records.Stream id name params dropped in
     let c : Created = record { number = id; name = name; params = params } in
@@ -244,8 +191,7 @@ is_run-sound front (records.Stream id name params dropped ∷ rest) back n lower
           sound-parts front (r ∷ rest) back n lower own above
           ∙ sym (joined (length (c ∷ streams_created rest) == 1) (nat_lt (length (streams_created front)) MOST_STREAMS)
           (has_new_name n (streams_created front ++ ((c ∷ streams_created rest) ++ streams_created back))) (is_dropped n (r ∷ rest) || values)
-          (ap (λ (l : List Created). length (c ∷ l) == 1) none))
-          ∙ (λ i. (nat_lt (sym few i) MOST_STREAMS && new i) && last i)
+          (ap (λ (l : List Created). length (c ∷ l) == 1) none)) ∙ (λ i. (nat_lt (sym few i) MOST_STREAMS && new i) && last i)
           ∙ ap (λ b. may && (not (list_any is_own rest) && (dropped || (has_sound_values_in_order rest n && b)))) keep
           ∙ ap (λ k. may && (not (list_any is_own rest) && (dropped || has_sound_values_within (step_number params.within) rest k))) (sym own.0)
       | u ∷ us ↦ λ is.
@@ -253,6 +199,10 @@ is_run-sound front (records.Stream id name params dropped ∷ rest) back n lower
           ∙ sym (and_right may (not (list_any is_own rest) && (dropped || has_sound_values_within (step_number params.within) rest id))
           (ap (λ b. not b && (dropped || has_sound_values_within (step_number params.within) rest id)) (own-created rest u us is)))
     ] refl
+is_run-sound front (x ∷ rest) back n lower own above usable rises some =
+    let low = usable.0.0 in
+    let none = none-created rest (all_weaker (λ q. place_of x ≤ place_of q) (λ q. 1 ≤ place_of q) (λ q le. omega (arith, le, low)) rest rises.0) in
+    sound-never front (x ∷ rest) back n lower own above (λ one. absurd (omega (arith, one, ap (λ (l : List Created). length l) none)))
 
 -- what the records of a run meet after a stream's own
 pub record MeetsRun (rest : List Record) (head : Created) : Type 0 where
@@ -289,13 +239,11 @@ run-meets names rest head run =
 -- what comes at or after a window is no record of a landmark or of a value
 no-marks : (n : ℕ) (rs : List Record) → AllByRecursion IsUsable rs → AllByRecursion (λ r. 2 ^ 64 ≤ place_of r) rs → marks n rs ≡ []
 no-marks n [] usable behind = refl
-no-marks n (records.Free ∷ rs) usable behind = no-marks n rs usable.1 behind.1
-no-marks n (records.Stream id name params dropped ∷ rs) usable behind = no-marks n rs usable.1 behind.1
-no-marks n (records.Window id first summary ∷ rs) usable behind = no-marks n rs usable.1 behind.1
 no-marks n (records.Landmark id number values start finish ∷ rs) usable behind =
     absurd (let few = usable.0.1 in let late = behind.0 in omega (arith, few, late))
 no-marks n (records.Value id number index t v ∷ rs) usable behind =
     absurd (let few = usable.0.1 in let short = usable.0.2 in let late = behind.0 in omega (arith, few, short, late))
+no-marks n (_ ∷ rs) usable behind = no-marks n rs usable.1 behind.1
 
 -- the records of a run are those of landmarks and their values, and then those of windows
 pub run-order : (n : ℕ) (rs : List Record) → AllByRecursion (λ r. stream_of r ≡ n) rs → AllByRecursion IsUsable rs → Rises place_of rs →
@@ -303,13 +251,10 @@ pub run-order : (n : ℕ) (rs : List Record) → AllByRecursion (λ r. stream_of
 run-order n [] own usable rises none = refl
 run-order n (records.Free ∷ rs) own usable rises none = absurd usable.0
 run-order n (records.Stream id name params dropped ∷ rs) own usable rises none = cc
-run-order n (records.Landmark id number values start finish ∷ rs) own usable rises none =
-    rw (eq-eqb id n own.0) (ap (λ l. records.Landmark id number values start finish ∷ l) (run-order n rs own.1 usable.1 rises.1 none))
-run-order n (records.Value id number index t v ∷ rs) own usable rises none =
-    rw (eq-eqb id n own.0) (ap (λ l. records.Value id number index t v ∷ l) (run-order n rs own.1 usable.1 rises.1 none))
 run-order n (records.Window id first summary ∷ rs) own usable rises none =
     let late = all_weaker (λ q. 2 ^ 64 + first ≤ place_of q) (λ q. 2 ^ 64 ≤ place_of q) (λ q le. omega (arith, le)) rs rises.0 in
     let none_marks = no-marks n rs usable.1 late in
     let rest : rs ≡ map (window_record n) (windows n rs) =
     run-order n rs own.1 usable.1 rises.1 none ∙ ap (λ l. l ++ map (window_record n) (windows n rs)) none_marks in
     rw (eq-eqb id n own.0, none_marks) (λ i. records.Window (own.0 i) first summary ∷ rest i)
+run-order n (r ∷ rs) own usable rises none = rw (eq-eqb (stream_of r) n own.0) (ap (λ l. r ∷ l) (run-order n rs own.1 usable.1 rises.1 none))

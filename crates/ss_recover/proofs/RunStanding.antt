@@ -1,27 +1,13 @@
 -- Records of streams of which some were dropped: what is made of them by one run more, and the names that they have.
-use Rattle.std.proofs.Common.{◌≡◌, ◌∙◌, ℕ, ◌<◌, ◌≤◌, Bool, true, false, not, ◌&&◌, cond, List, [], ◌∷◌, ◌++◌, map, filter, length, refl, sym, ap, subst}
-use Rattle.std.proofs.Common.{arith, append_assoc, IsPermutation}
-use Rattle.std.specs.Prelude.{◌||◌, if◌then◌else◌, nat_lt}
-use Rattle.std.specs.List.{AllByRecursion, filter_map, list_any}
-use Rattle.std.proofs.lemmas.Bool.{and_from, and_parts, and_right, lt-ltb, ltb-true, not-true, or_from, or_parts}
-use Rattle.std.proofs.lemmas.List.{length-append, map-append}
-use Rattle.std.proofs.lemmas.List.Elements.{filter-append, filter_map-append}
-use Rattle.std.proofs.lemmas.List.Folds.{list_any-append}
-use Rattle.std.proofs.lemmas.List.Sorted.{IsPermutation-cons, IsPermutation-middle, IsPermutation-refl, IsPermutation-trans}
-use Rattle.ss_catalog.specs.Names.{same_name}
-use Rattle.ss_catalog.specs.Params.{step_number}
-use Rattle.ss_catalog.specs.declared.TheConstants.{MOST_STREAMS}
-use Rattle.ss_catalog.specs.declared.params.Params.{Params}
-use Rattle.ss_codec.specs.declared.record.Record.{Record}
-use Rattle.ss_codec.specs.declared.record.Record.TheVariants as records
-use Rattle.ss_model.specs.State.{Created}
-use Rattle.ss_recover.specs.Carried.{created_by, is_drop_of, is_dropped, streams_created}
-use Rattle.ss_recover.specs.Doomed.{is_doomed, is_own}
-use Rattle.ss_recover.specs.Order.{stream_of}
-use Rattle.ss_recover.specs.Runs.{has_sound_values_within, is_run, may_stand}
-use Rattle.ss_recover.specs.Usable.{IsUsable}
-use Rattle.ss_recover.proofs.Lists.{all_weaker, filter-all, filter-none}
+use Rattle.ss_recover.proofs.Words.{[], ◌&&◌, ◌++◌, ◌<◌, ◌||◌, ◌∙◌, ◌∷◌, ◌≡◌, ◌≤◌, AllByRecursion, and-false, and-true, and_from, and_parts, ap, append-nil}
+use Rattle.ss_recover.proofs.Words.{append_assoc, ap₂, arith, Bool, cond, Created, created_by, false, filter, filter-append, filter_map, filter_map-append}
+use Rattle.ss_recover.proofs.Words.{has_sound_values_within, if◌then◌else◌, is_doomed, is_drop_of, is_dropped, is_own, is_run, IsPermutation}
+use Rattle.ss_recover.proofs.Words.{IsPermutation-cons, IsPermutation-middle, IsPermutation-refl, IsPermutation-trans, IsUsable, length, length-append, List}
+use Rattle.ss_recover.proofs.Words.{list_any, list_any-append, lt-ltb, ltb-true, map, map-append, may_stand, MOST_STREAMS, nat_lt, not, not-true, or-false}
+use Rattle.ss_recover.proofs.Words.{or_from, or_parts, Params, Record, refl, same_name, step_number, stream_of, streams_created, subst, sym, true, ℕ}
+use Rattle.ss_recover.proofs.Lists.{all_both, all_weaker, filter-all, filter-none, filter-same}
 use Rattle.ss_recover.proofs.RunSound.{drops-apart}
+use Rattle.ss_codec.specs.declared.record.Record.TheVariants as records
 
 -- ---- names
 
@@ -41,8 +27,7 @@ module _ (fewer names : List (List ℕ)) (few : AreFewer fewer names) where
   none-before : (name other : List ℕ) → list_any (same_name other) (names ++ name ∷ []) ≡ false →
       (list_any (same_name other) names ≡ false) × (list_any (same_name other) (name ∷ []) ≡ false)
   none-before name other none =
-      or_parts (list_any (same_name other) names) (list_any (same_name other) (name ∷ []))
-      (sym (list_any-append (same_name other) names (name ∷ [])) ∙ none)
+      or_parts (list_any (same_name other) names) (list_any (same_name other) (name ∷ [])) (sym (list_any-append (same_name other) names (name ∷ [])) ∙ none)
 
   -- one name more among the others, and among both
   pub AreFewer-more : (name : List ℕ) → AreFewer fewer (names ++ name ∷ [])
@@ -71,14 +56,11 @@ module _ (fewer names : List (List ℕ)) (few : AreFewer fewer names) where
   -- what is a run beside more names is one beside fewer
   pub is_run-fewer : (rs : List Record) → is_run names rs ≡ true → is_run fewer rs ≡ true
   is_run-fewer [] run = cc
-  is_run-fewer (records.Free ∷ rest) run = cc
   is_run-fewer (records.Stream id name params dropped ∷ rest) run =
       let asked : Bool = not (list_any is_own rest) && (dropped || has_sound_values_within (step_number params.within) rest id) in
       let parts = and_parts (may_stand names name) asked run in
       and_from (may_stand fewer name) asked (may-fewer name parts.0) parts.1
-  is_run-fewer (records.Window id first summary ∷ rest) run = cc
-  is_run-fewer (records.Landmark id number values start finish ∷ rest) run = cc
-  is_run-fewer (records.Value id number index t v ∷ rest) run = cc
+  is_run-fewer (_ ∷ rest) run = cc
 
 -- a stream's own record and others that create none
 pub names-more : (front rest : List Record) (id : ℕ) (name : List ℕ) (params : Params) (dropped : Bool) → filter_map created_by rest ≡ [] →
@@ -94,33 +76,18 @@ names-more front rest id name params dropped none =
 abbrev pub stands_in : List Record → Record → Bool
 stands_in rs r = not (is_dropped (stream_of r) rs)
 
-or-none : (b : Bool) → (b || false) ≡ b
-or-none true = refl
-or-none false = refl
-
 -- whether a record is a stream's own, or another
 abbrev is_kind : Bool → Record → Bool
 is_kind own r = if own then is_own r else not (is_own r)
 
-doomed-same : (own : Bool) (us vs : List Record) (r : Record) → is_dropped (stream_of r) us ≡ is_dropped (stream_of r) vs →
+pub doomed-same : (own : Bool) (us vs : List Record) (r : Record) → is_dropped (stream_of r) us ≡ is_dropped (stream_of r) vs →
     is_doomed own us r ≡ is_doomed own vs r
 doomed-same own us vs records.Free same = refl
-doomed-same own us vs (records.Stream id name params dropped) same = ap (λ b. is_kind own (records.Stream id name params dropped) && b) same
-doomed-same own us vs (records.Window id first summary) same = ap (λ b. is_kind own (records.Window id first summary) && b) same
-doomed-same own us vs (records.Landmark id number values start finish) same =
-    ap (λ b. is_kind own (records.Landmark id number values start finish) && b) same
-doomed-same own us vs (records.Value id number index t v) same = ap (λ b. is_kind own (records.Value id number index t v) && b) same
+doomed-same own us vs r same = ap (λ b. is_kind own r && b) same
 
 pub doomed-is : (own : Bool) (us : List Record) (r : Record) → IsUsable r → is_doomed own us r ≡ (is_kind own r && is_dropped (stream_of r) us)
 doomed-is own us records.Free usable = absurd usable
-doomed-is own us (records.Stream id name params dropped) usable = refl
-doomed-is own us (records.Window id first summary) usable = refl
-doomed-is own us (records.Landmark id number values start finish) usable = refl
-doomed-is own us (records.Value id number index t v) usable = refl
-
-and-all : (b : Bool) → (b && true) ≡ b
-and-all true = refl
-and-all false = refl
+doomed-is own us _ usable = refl
 
 -- none of some records is a stream's own
 pub none-own : {X : Type 0} (h : X → Record) (xs : List X) → list_any is_own (map h xs) ≡ false → AllByRecursion (λ x. is_own (h x) ≡ false) xs
@@ -132,35 +99,28 @@ module _ {X : Type 0} (h : X → Record) (fs rs : List Record) (n : ℕ) (lower 
     (own : AllByRecursion (λ r. stream_of r ≡ n) rs) where
   dropped-front : (k : ℕ) → k < n → is_dropped k (fs ++ rs) ≡ is_dropped k fs
   dropped-front k less =
-      list_any-append (is_drop_of k) fs rs
-      ∙ ap (λ b. is_dropped k fs || b)
-      (drops-apart k rs
-      (all_weaker (λ r. stream_of r ≡ n) (λ r. stream_of r ≡ k → ⊥) (λ r is same. absurd (omega (arith, is, same, less))) rs own))
-      ∙ or-none (is_dropped k fs)
+      list_any-append (is_drop_of k) fs rs ∙ ap (λ b. is_dropped k fs || b) (drops-apart k rs
+      (all_weaker (λ r. stream_of r ≡ n) (λ r. stream_of r ≡ k → ⊥) (λ r is same. absurd (omega (arith, is, same, less))) rs own)) ∙ or-false (is_dropped k fs)
 
   dropped-run : is_dropped n (fs ++ rs) ≡ is_dropped n rs
   dropped-run =
-      list_any-append (is_drop_of n) fs rs
-      ∙ ap (λ b. b || is_dropped n rs)
-      (drops-apart n fs
+      list_any-append (is_drop_of n) fs rs ∙ ap (λ b. b || is_dropped n rs) (drops-apart n fs
       (all_weaker (λ r. stream_of r < n) (λ r. stream_of r ≡ n → ⊥) (λ r less same. absurd (omega (arith, less, same))) fs lower))
 
   -- what stands or doesn't before the run stays so
   standing-front : (xs : List X) → AllByRecursion (λ x. stream_of (h x) < n) xs →
       filter (λ x. stands_in (fs ++ rs) (h x)) xs ≡ filter (λ x. stands_in fs (h x)) xs
-  standing-front [] less = refl
-  standing-front (x ∷ xs) less =
-      let rest = standing-front xs less.1 in
-      let same = dropped-front (stream_of (h x)) less.0 in
-      λ i. cond (not (same i)) (x ∷ rest i) (rest i)
+  standing-front xs less =
+      filter-same (λ x. stands_in (fs ++ rs) (h x)) (λ x. stands_in fs (h x)) xs
+      (all_weaker (λ x. stream_of (h x) < n) (λ x. stands_in (fs ++ rs) (h x) ≡ stands_in fs (h x))
+      (λ x lt. ap not (dropped-front (stream_of (h x)) lt)) xs less)
 
   doomed-front : (kind : Bool) (xs : List X) → AllByRecursion (λ x. stream_of (h x) < n) xs →
       filter (λ x. is_doomed kind (fs ++ rs) (h x)) xs ≡ filter (λ x. is_doomed kind fs (h x)) xs
-  doomed-front kind [] less = refl
-  doomed-front kind (x ∷ xs) less =
-      let rest = doomed-front kind xs less.1 in
-      let same = doomed-same kind (fs ++ rs) fs (h x) (dropped-front (stream_of (h x)) less.0) in
-      λ i. cond (same i) (x ∷ rest i) (rest i)
+  doomed-front kind xs less =
+      filter-same (λ x. is_doomed kind (fs ++ rs) (h x)) (λ x. is_doomed kind fs (h x)) xs
+      (all_weaker (λ x. stream_of (h x) < n) (λ x. is_doomed kind (fs ++ rs) (h x) ≡ is_doomed kind fs (h x))
+      (λ x lt. doomed-same kind (fs ++ rs) fs (h x) (dropped-front (stream_of (h x)) lt)) xs less)
 
   dropped-at : (x : X) (d : Bool) → is_dropped n rs ≡ d → stream_of (h x) ≡ n → is_dropped (stream_of (h x)) (fs ++ rs) ≡ d
   dropped-at x d is same = ap (λ k. is_dropped k (fs ++ rs)) same ∙ dropped-run ∙ is
@@ -178,66 +138,44 @@ module _ {X : Type 0} (h : X → Record) (fs rs : List Record) (n : ℕ) (lower 
   pub standing-more : (xs ys : List X) → AllByRecursion (λ x. stream_of (h x) < n) xs → AllByRecursion (λ x. stream_of (h x) ≡ n) ys → (d : Bool) →
       is_dropped n rs ≡ d →
       filter (λ x. stands_in (fs ++ rs) (h x)) (xs ++ ys) ≡ filter (λ x. stands_in fs (h x)) xs ++ cond d [] ys
-  standing-more xs ys less same d is =
-      filter-append (λ x. stands_in (fs ++ rs) (h x)) xs ys ∙ (λ i. standing-front xs less i ++ standing-run d is ys same i)
+  standing-more xs ys less same d is = filter-append (λ x. stands_in (fs ++ rs) (h x)) xs ys ∙ (λ i. standing-front xs less i ++ standing-run d is ys same i)
 
-  doomed-at : (kind : Bool) (x : X) → is_dropped n rs ≡ true → stream_of (h x) ≡ n → IsUsable (h x) →
-      is_doomed kind (fs ++ rs) (h x) ≡ is_kind kind (h x)
-  doomed-at kind x is same usable =
-      doomed-is kind (fs ++ rs) (h x) usable ∙ ap (λ b. is_kind kind (h x) && b) (dropped-at x true is same) ∙ and-all (is_kind kind (h x))
-
-  -- of a run that stands nothing is doomed
-  doomed-none : is_dropped n rs ≡ false → (kind : Bool) (xs : List X) → AllByRecursion (λ x. stream_of (h x) ≡ n) xs →
-      AllByRecursion (λ x. IsUsable (h x)) xs → filter (λ x. is_doomed kind (fs ++ rs) (h x)) xs ≡ []
-  doomed-none is kind [] same usable = refl
-  doomed-none is kind (x ∷ xs) same usable =
-      let fails : is_doomed kind (fs ++ rs) (h x) ≡ false =
-      doomed-is kind (fs ++ rs) (h x) usable.0 ∙ and_right (is_kind kind (h x)) _ (dropped-at x false is same.0) in
-      let rest = doomed-none is kind xs same.1 usable.1 in
-      λ i. cond (fails i) (x ∷ rest i) (rest i)
+  -- of a run that stands nothing is doomed, and of a dropped one all is, the stream's own apart from the others
+  doomed-at : (kind d : Bool) → is_dropped n rs ≡ d → (x : X) → stream_of (h x) ≡ n → IsUsable (h x) →
+      is_doomed kind (fs ++ rs) (h x) ≡ (is_kind kind (h x) && d)
+  doomed-at kind d is x same usable = doomed-is kind (fs ++ rs) (h x) usable ∙ ap (λ b. is_kind kind (h x) && b) (dropped-at x d is same)
 
   pub doomed-stay : (kind : Bool) (xs ys : List X) → AllByRecursion (λ x. stream_of (h x) < n) xs → AllByRecursion (λ x. stream_of (h x) ≡ n) ys →
       AllByRecursion (λ x. IsUsable (h x)) ys → is_dropped n rs ≡ false →
-      filter (λ x. is_doomed kind (fs ++ rs) (h x)) (xs ++ ys) ≡ filter (λ x. is_doomed kind fs (h x)) xs ++ []
+      filter (λ x. is_doomed kind (fs ++ rs) (h x)) (xs ++ ys) ≡ filter (λ x. is_doomed kind fs (h x)) xs
   doomed-stay kind xs ys less same usable is =
-      filter-append (λ x. is_doomed kind (fs ++ rs) (h x)) xs ys ∙ (λ i. doomed-front kind xs less i ++ doomed-none is kind ys same usable i)
-
-  -- of a dropped one all is, the stream's own apart from the others
-  rest-doomed : is_dropped n rs ≡ true → (kind : Bool) (xs : List X) → AllByRecursion (λ x. stream_of (h x) ≡ n) xs →
-      AllByRecursion (λ x. IsUsable (h x)) xs → AllByRecursion (λ x. is_own (h x) ≡ false) xs →
-      filter (λ x. is_doomed kind (fs ++ rs) (h x)) xs ≡ cond kind [] xs
-  rest-doomed is true [] same usable none = refl
-  rest-doomed is false [] same usable none = refl
-  rest-doomed is true (x ∷ xs) same usable none =
-      let fails = doomed-at true x is same.0 usable.0 ∙ none.0 in
-      let rest = rest-doomed is true xs same.1 usable.1 none.1 in
-      λ i. cond (fails i) (x ∷ rest i) (rest i)
-  rest-doomed is false (x ∷ xs) same usable none =
-      let passes = doomed-at false x is same.0 usable.0 ∙ ap not none.0 in
-      let rest = rest-doomed is false xs same.1 usable.1 none.1 in
-      λ i. cond (passes i) (x ∷ rest i) (rest i)
+      filter-append (λ x. is_doomed kind (fs ++ rs) (h x)) xs ys ∙ ap₂ ◌++◌ (doomed-front kind xs less) (filter-none (λ x. is_doomed kind (fs ++ rs) (h x)) ys
+      (all_both (λ x. stream_of (h x) ≡ n) (λ x. IsUsable (h x)) (λ x. is_doomed kind (fs ++ rs) (h x) ≡ false)
+      (λ x at fine. doomed-at kind false is x at fine ∙ and-false (is_kind kind (h x))) ys same usable)) ∙ append-nil (filter (λ x. is_doomed kind fs (h x)) xs)
 
   pub doomed-more : (kind : Bool) (xs : List X) (y : X) (ys : List X) → AllByRecursion (λ x. stream_of (h x) < n) xs →
       AllByRecursion (λ x. stream_of (h x) ≡ n) (y ∷ ys) → AllByRecursion (λ x. IsUsable (h x)) (y ∷ ys) → is_dropped n rs ≡ true →
       is_own (h y) ≡ true → AllByRecursion (λ x. is_own (h x) ≡ false) ys →
       filter (λ x. is_doomed kind (fs ++ rs) (h x)) (xs ++ y ∷ ys) ≡ filter (λ x. is_doomed kind fs (h x)) xs ++ cond kind (y ∷ []) ys
   doomed-more kind xs y ys less same usable is first none =
-      filter-append (λ x. is_doomed kind (fs ++ rs) (h x)) xs (y ∷ ys) ∙ (λ i. doomed-front kind xs less i ++ go kind i)
+      filter-append (λ x. is_doomed kind (fs ++ rs) (h x)) xs (y ∷ ys) ∙ ap₂ ◌++◌ (doomed-front kind xs less) (go kind)
     where
+      each : (k : Bool) → AllByRecursion (λ x. is_doomed k (fs ++ rs) (h x) ≡ is_kind k (h x)) (y ∷ ys)
+      each k = all_both (λ x. stream_of (h x) ≡ n) (λ x. IsUsable (h x)) (λ x. is_doomed k (fs ++ rs) (h x) ≡ is_kind k (h x))
+          (λ x at fine. doomed-at k true is x at fine ∙ and-true (is_kind k (h x))) (y ∷ ys) same usable
+
       go : (k : Bool) → filter (λ x. is_doomed k (fs ++ rs) (h x)) (y ∷ ys) ≡ cond k (y ∷ []) ys
       go true =
-          let passes = doomed-at true y is same.0 usable.0 ∙ first in
-          let rest = rest-doomed is true ys same.1 usable.1 none in
-          λ i. cond (passes i) (y ∷ rest i) (rest i)
+          filter-same (λ x. is_doomed true (fs ++ rs) (h x)) (λ x. is_own (h x)) (y ∷ ys) (each true)
+          ∙ rw first (ap (λ l. y ∷ l) (filter-none (λ x. is_own (h x)) ys none))
       go false =
-          let fails = doomed-at false y is same.0 usable.0 ∙ ap not first in
-          let rest = rest-doomed is false ys same.1 usable.1 none in
-          λ i. cond (fails i) (y ∷ rest i) (rest i)
+          filter-same (λ x. is_doomed false (fs ++ rs) (h x)) (λ x. not (is_own (h x))) (y ∷ ys) (each false)
+          ∙ rw first (filter-all (λ x. not (is_own (h x))) ys
+          (all_weaker (λ x. is_own (h x) ≡ false) (λ x. not (is_own (h x)) ≡ true) (λ x other. ap not other) ys none))
 
 -- those that pass one test, of these those that pass another and the rest, and those that fail the first
 pub in-three : {X : Type 0} (first second : X → Bool) (xs : List X) →
-    IsPermutation
-    ((filter (λ x. not (second x) && first x) xs ++ filter (λ x. second x && first x) xs) ++ filter (λ x. not (first x)) xs) xs
+    IsPermutation ((filter (λ x. not (second x) && first x) xs ++ filter (λ x. second x && first x) xs) ++ filter (λ x. not (first x)) xs) xs
 in-three first second [] = IsPermutation-refl []
 in-three {X} first second (x ∷ xs) = go (in-three first second xs) (first x) (second x)
   where

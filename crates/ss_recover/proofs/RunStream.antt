@@ -1,45 +1,25 @@
 -- Streams that records in order are of, one run after another.
-use Rattle.std.proofs.Common.{◌≡◌, ◌∙◌, ℕ, suc, zero, ◌<◌, ◌≤◌, true, false, List, [], ◌∷◌, ◌++◌, filter, map, length, refl, sym, ap, subst, arith}
-use Rattle.std.proofs.Common.{append_assoc, append-nil, inl, inr}
-use Rattle.std.specs.Prelude.{◌==◌, ◌&&◌, ◌||◌, nat_lt, not}
-use Rattle.std.specs.List.{AllByRecursion, IsDistinct, filter_map, list_any}
-use Rattle.std.proofs.lemmas.Bool.{and_parts, cases_eq, eq-eqb, ltb-true, not-true, or_left, or_parts}
-use Rattle.std.proofs.lemmas.List.{length-append, length-map, map-append}
-use Rattle.std.proofs.lemmas.List.Concat.{flat_map-append}
-use Rattle.std.proofs.lemmas.List.Elements.{All-from_recursion}
-use Rattle.std.proofs.lemmas.List.Sums.{sum_by-cons}
-use Rattle.std.proofs.lemmas.Map.Keys.{IsDistinct-cons, IsDistinct-from_apart, IsDistinct-head, IsDistinct-tail}
-use Rattle.ss_catalog.specs.Names.{same_name}
-use Rattle.ss_catalog.specs.declared.TheConstants.{MOST_STREAMS}
-use Rattle.ss_catalog.specs.Params.{step_number}
-use Rattle.ss_catalog.specs.declared.params.Params.{Params}
-use Rattle.ss_codec.specs.declared.record.Record.{Record}
-use Rattle.ss_codec.specs.declared.record.Record.TheVariants as records
-use Rattle.ss_model.proofs.NameLemmas.{same_name-swap}
-use Rattle.ss_model.specs.Standing.{IsState, IsStream}
-use Rattle.ss_model.specs.State as Streams
-use Rattle.ss_model.specs.State.{Created, Stream, live, names_of}
-use Rattle.ss_model.specs.declared.types.TheConstants.{MOST_RECORDS}
-use Rattle.ss_model.specs.declared.types.Window.{Window}
-use Rattle.ss_recover.specs.Carried.{is_dropped, is_mark_of, window_of}
-use Rattle.ss_recover.specs.Doomed.{is_own}
-use Rattle.ss_recover.specs.Held.{window_record}
-use Rattle.ss_recover.specs.Marked.{landmarks_made}
-use Rattle.ss_recover.specs.Order.{Rises, key_of, place_of, stream_of}
-use Rattle.ss_recover.specs.Runs.{has_sound_values_within, is_run, is_sound_in_order, may_stand}
-use Rattle.ss_recover.specs.Usable.{IsUsable}
+use Rattle.ss_recover.proofs.Words.{[], ◌&&◌, ◌++◌, ◌<◌, ◌==◌, ◌||◌, ◌∙◌, ◌∷◌, ◌≡◌, ◌≤◌, All-from_recursion, AllByRecursion, and_parts, ap, append-nil}
+use Rattle.ss_recover.proofs.Words.{append_assoc, arith, cases_eq, Created, eq-eqb, false, filter, filter_map, flat_map-append, has_sound_values_within, inl}
+use Rattle.ss_recover.proofs.Words.{inr, is_dropped, is_mark_of, is_own, is_run, is_sound_in_order, IsDistinct, IsDistinct-cons, IsDistinct-from_apart}
+use Rattle.ss_recover.proofs.Words.{IsDistinct-head, IsDistinct-tail, IsState, IsStream, IsUsable, key_of, landmarks_made, length, length-append, length-map}
+use Rattle.ss_recover.proofs.Words.{List, list_any, live, ltb-true, map, map-append, map-id, may_stand, MOST_RECORDS, MOST_STREAMS, names_of, nat_lt, not}
+use Rattle.ss_recover.proofs.Words.{not-true, or_left, or_parts, Params, place_of, Record, refl, Rises, same_name, same_name-swap, step_number, Stream}
+use Rattle.ss_recover.proofs.Words.{stream_of, subst, suc, sum_by-cons, sym, true, Window, window_of, window_record, zero, ℕ}
 use Rattle.ss_recover.proofs.HeldRecords.{all_walked, each-all_walked, walked}
-use Rattle.ss_recover.proofs.InOrder.{Rise, increasing-Rise}
+use Rattle.ss_recover.proofs.InOrder.{increasing-Rise, Rise}
 use Rattle.ss_recover.proofs.Lists.{all-kept, all-passing, all_append, all_behind, all_front, all_push, all_weaker}
 use Rattle.ss_recover.proofs.Marks.{length-marks_of, marks_of}
 use Rattle.ss_recover.proofs.MarksSoFar.{AreOf, AreOf-are_marks}
 use Rattle.ss_recover.proofs.OwnSteps.{IsInStep-keep_step}
-use Rattle.ss_recover.proofs.RunOrder.{places-rise, streams-rise, Rises-parts}
-use Rattle.ss_recover.proofs.RunSound.{MeetsRun, alone-drops, is_run-sound, own-alone, run-meets, run-order}
-use Rattle.ss_recover.proofs.RunStanding.{AreFewer, AreFewer-more, AreFewer-nil, AreFewer-push, is_run-fewer, names-more, names_created}
-use Rattle.ss_recover.proofs.RunStanding.{stands_in, standing-more}
+use Rattle.ss_recover.proofs.RunOrder.{places-rise, Rises-parts, streams-rise}
+use Rattle.ss_recover.proofs.RunSound.{alone-drops, is_run-sound, MeetsRun, own-alone, run-meets, run-order}
+use Rattle.ss_recover.proofs.RunStanding.{AreFewer, AreFewer-more, AreFewer-nil, AreFewer-push, is_run-fewer, names-more, names_created, standing-more}
+use Rattle.ss_recover.proofs.RunStanding.{stands_in}
 use Rattle.ss_recover.proofs.SoundStreams.{AreWindows-tile}
 use Rattle.ss_recover.proofs.ValidRecords.{all-window_of}
+use Rattle.ss_codec.specs.declared.record.Record.TheVariants as records
+use Rattle.ss_model.specs.State as Streams
 
 -- Records are those of streams of a state, in order.
 pub record AreWalked (front : List Record) (streams : List Stream) : Type 0 where
@@ -234,8 +214,7 @@ module _ (front : List Record) (streams : List Stream) (done : AreStanding front
       AreStanding (front ++ records.Stream id name params true ∷ own) streams
   step-dropped run =
       let r = records.Stream id name params true in
-      let none = not-true (list_any is_own own)
-      (and_parts (not (list_any is_own own)) (true || has_sound_values_within (step_number params.within) own id)
+      let none = not-true (list_any is_own own) (and_parts (not (list_any is_own own)) (true || has_sound_values_within (step_number params.within) own id)
       (and_parts (may_stand (names_created front) name)
       (not (list_any is_own own) && (true || has_sound_values_within (step_number params.within) own id)) run).1).0 in
       let alone = own-alone own none in
@@ -252,13 +231,11 @@ step : (front : List Record) (streams : List Stream) → AreStanding front strea
     AllByRecursion (λ q. stream_of q < stream_of r) front → AllByRecursion (λ q. stream_of q ≡ stream_of r) own → AllByRecursion IsUsable (r ∷ own) →
     Rises place_of (r ∷ own) → is_run (names_created front) (r ∷ own) ≡ true → (ss : List Stream) × AreStanding (front ++ r ∷ own) ss
 step front streams done records.Free own lower same usable rises run = absurd usable.0
-step front streams done (records.Window id place summary) own lower same usable rises run = absurd (cc)
-step front streams done (records.Landmark id n said start finish) own lower same usable rises run = absurd (cc)
-step front streams done (records.Value id n index t v) own lower same usable rises run = absurd (cc)
 step front streams done (records.Stream id name params false) own lower same usable rises run =
     step-standing front streams done id name params own lower same usable rises run
 step front streams done (records.Stream id name params true) own lower same usable rises run =
     (streams, step-dropped front streams done id name params own lower same run)
+step front streams done _ own lower same usable rises run = absurd (cc)
 
 pub walk : (most : ℕ) (front back : List Record) (streams : List Stream) → length back ≤ most → AreStanding front streams → AreBefore front back →
     AllByRecursion IsUsable back → Rises key_of back → AllByRecursion (λ r. is_sound_in_order (front ++ back) (stream_of r) ≡ true) back →
@@ -275,7 +252,7 @@ walk (suc most) front (r ∷ more) streams few done before usable order sound =
     let usable_run = all_front IsUsable run c.back (subst (AllByRecursion IsUsable) whole usable) in
     let orders = Rises-parts key_of run c.back (subst (Rises key_of) whole order) in
     let own : AllByRecursion (λ q. stream_of q ≡ n) run = (refl, c.same) in
-    let rises : Rises place_of run = subst (Rises place_of) (map-same run) (places-rise (λ (q : Record). q) n run orders.0 own) in
+    let rises : Rises place_of run = subst (Rises place_of) (map-id run) (places-rise (λ (q : Record). q) n run orders.0 own) in
     let is : is_run (names_created front) run ≡ true =
     sym (is_run-sound front run c.back n before.0 own c.above usable_run rises (omega arith))
     ∙ ap (λ l. is_sound_in_order (front ++ l) n) (sym whole) ∙ sound.0 in
@@ -287,7 +264,3 @@ walk (suc most) front (r ∷ more) streams few done before usable order sound =
     (AreBefore-run front run c.back n before.0 own c.above) (all_behind IsUsable run c.back (subst (AllByRecursion IsUsable) whole usable)) orders.1
     (subst (λ l. AllByRecursion (λ q. is_sound_in_order l (stream_of q) ≡ true) c.back) same sounds) in
     (rest.0, subst (λ l. AreStanding l rest.0) (sym same) rest.1)
-  where
-    map-same : (rs : List Record) → map (λ (q : Record). q) rs ≡ rs
-    map-same [] = refl
-    map-same (q ∷ qs) = ap (λ l. q ∷ l) (map-same qs)

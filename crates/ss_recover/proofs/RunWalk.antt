@@ -1,18 +1,9 @@
 -- Names that streams have, and the record at an index among others.
-use Rattle.std.proofs.Common.{◌≡◌, ◌∙◌, ℕ, suc, ◌<◌, Bool, true, false, List, ◌∷◌, ◌++◌, length, take, drop, Some, None, refl, sym, ap, get_or}
-use Rattle.std.specs.Prelude.{◌&&◌, not, is_some, nat_lt}
-use Rattle.std.specs.List.{list_any}
-use Rattle.std.proofs.lemmas.Bool.{and_right}
-use Rattle.std.proofs.Math.Seq.{drop-cons}
-use Rattle.std.proofs.lemmas.List.{length-map, take-append-drop}
+use Rattle.ss_recover.proofs.Words.{◌&&◌, ◌++◌, ◌<◌, ◌∙◌, ◌∷◌, ◌≡◌, and-true, and_right, ap, drop, drop-cons, false, Found, get_or, is_some, length, length-map}
+use Rattle.ss_recover.proofs.Words.{List, list_any, may_stand, MOST_STREAMS, names_in, nat_lt, None, not, same_name, Some, StreamId, suc, sym, take}
+use Rattle.ss_recover.proofs.Words.{take-append-drop, ℕ}
 use Rattle.std.proofs.lemmas.Map.Made.{is_some-lookup}
 use Rattle.ss_catalog.specs.Catalog.{id_of}
-use Rattle.ss_catalog.specs.Names.{same_name}
-use Rattle.ss_catalog.specs.declared.TheConstants.{MOST_STREAMS}
-use Rattle.ss_catalog.specs.declared.stream_id.StreamId.{StreamId}
-use Rattle.ss_recover.specs.Runs.{may_stand}
-use Rattle.ss_recover.specs.Shown.{names_in}
-use Rattle.ss_recover.specs.declared.found.Found.{Found}
 
 -- a name that no stream has, and one that a stream has
 pub stands-none : (names : List (List ℕ × StreamId)) (name : List ℕ) (k : ℕ) → id_of name names ≡ None → k ≡ length names →
@@ -21,10 +12,6 @@ stands-none names name k none is =
     let long : k ≡ length (names_in names) = is ∙ sym (length-map names (λ (n : List ℕ × StreamId). n.0)) in
     let new : list_any (same_name name) (names_in names) ≡ false = sym (is_some-lookup (same_name name) names) ∙ ap is_some none in
     sym (and-true (nat_lt k MOST_STREAMS)) ∙ (λ i. nat_lt (long i) MOST_STREAMS && not (sym new i))
-  where
-    and-true : (b : Bool) → (b && true) ≡ b
-    and-true true = refl
-    and-true false = refl
 
 pub stands-some : (names : List (List ℕ × StreamId)) (name : List ℕ) (id : StreamId) → id_of name names ≡ Some id → false ≡ may_stand (names_in names) name
 stands-some names name id is =
@@ -32,5 +19,4 @@ stands-some names name id is =
 
 -- the record at an index, among the others
 pub at-index : (all : List Found) (i : ℕ) (x : Found) → i < length all → x ≡ get_or all i x → all ≡ take i all ++ x ∷ drop (suc i) all
-at-index all i x within is =
-    sym (take-append-drop i all) ∙ ap (λ l. take i all ++ l) (drop-cons all i x within ∙ ap (λ y. y ∷ drop (suc i) all) (sym is))
+at-index all i x within is = sym (take-append-drop i all) ∙ ap (λ l. take i all ++ l) (drop-cons all i x within ∙ ap (λ y. y ∷ drop (suc i) all) (sym is))

@@ -1,39 +1,21 @@
 -- Runs that are done, one after another, and what the next one makes of them.
-use Rattle.std.proofs.Common.{◌≡◌, ◌∙◌, ◌⊎◌, ℕ, ◌+◌, ◌<◌, ◌≤◌, Bool, true, false, not, ◌&&◌, cond, List, [], ◌∷◌, ◌++◌, map, filter, flat_map, length, refl}
-use Rattle.std.proofs.Common.{All, take, drop, Result, Ok, Err, IfOk, IfErr, sym, ap, ap₂, subst, arith, inl, inr, append_assoc, append-nil, IsPermutation}
-use Rattle.std.specs.Prelude.{◌==◌, if◌then◌else◌, zip}
-use Rattle.std.specs.List.{AllByRecursion, list_any}
-use Rattle.std.proofs.lemmas.Bool.{and_parts, eq-eqb, not-true, or_left, or_right}
-use Rattle.std.proofs.Math.Seq.{drop-append_seam, take-add, take-append_seam}
-use Rattle.std.proofs.lemmas.List.{drop-drop, length-map, map-append, take-append-drop}
-use Rattle.std.proofs.lemmas.List.Elements.{recursion_from_All}
-use Rattle.std.proofs.lemmas.List.Folds.{list_any-append}
-use Rattle.std.proofs.lemmas.List.Sorted.{IsPermutation-append_right, IsPermutation-map, IsPermutation-trans}
-use Rattle.std.proofs.lemmas.List.Sums.{count_by-le-length, length-filter}
-use Rattle.ss_codec.specs.declared.record.Record.{Record}
-use Rattle.ss_codec.specs.declared.record.Record.TheVariants as records
-use Rattle.ss_model.specs.State.{Stream, names_of}
-use Rattle.ss_model.specs.declared.types.TheConstants.{MOST_RECORDS}
-use Rattle.ss_recover.specs.Carried.{is_dropped}
-use Rattle.ss_recover.specs.Doomed.{is_doomed, is_own}
-use Rattle.ss_recover.specs.Held.{AllAgree, records_held}
-use Rattle.ss_recover.specs.Order.{Rises, found_key, place_of, stream_of}
-use Rattle.ss_recover.specs.Runs.{AreBuilt, IsLowestUnsound, WalksAs, doomed_found, is_run, is_sound_in_order, may_stand}
-use Rattle.ss_recover.specs.Shown.{EndsWalk, HasNothing, HasTakenDropped, HasTakenStanding, IsNextRun, TakesAs, names_in}
-use Rattle.ss_recover.specs.Usable.{IsUsable, in_slot, slots_found, without_slots}
-use Rattle.ss_recover.specs.declared.found.Found.{Found}
-use Rattle.ss_recover.specs.declared.parts.Parts.{Parts}
-use Rattle.ss_recover.specs.declared.parts.StreamParts.{StreamParts}
-use Rattle.ss_recover.specs.declared.recover_error.RecoverError.{RecoverError}
-use Rattle.ss_recover.specs.declared.recover_error.RecoverError.TheVariants.{BadSlot, BadStream, Disk, OutOfMemory}
-use Rattle.ss_recover.specs.declared.walking.Walk.{Walk}
+use Rattle.ss_recover.proofs.Words.{[], ◌&&◌, ◌++◌, ◌+◌, ◌<◌, ◌==◌, ◌∙◌, ◌∷◌, ◌≡◌, ◌≤◌, ◌⊎◌, All, AllAgree, AllByRecursion, and_parts, ap, append-nil}
+use Rattle.ss_recover.proofs.Words.{append_assoc, ap₂, AreBuilt, arith, BadSlot, BadStream, Bool, cond, count_by-le-length, Disk, doomed_found, drop}
+use Rattle.ss_recover.proofs.Words.{drop-append_seam, drop-drop, EndsWalk, eq-eqb, Err, false, filter, flat_map, Found, found_key, HasNothing, HasTakenDropped}
+use Rattle.ss_recover.proofs.Words.{HasTakenStanding, IfErr, IfOk, if◌then◌else◌, in_slot, inl, inr, is_doomed, is_dropped, is_own, is_run, is_sound_in_order}
+use Rattle.ss_recover.proofs.Words.{IsLowestUnsound, IsNextRun, IsPermutation, IsPermutation-append_right, IsPermutation-map, IsPermutation-trans, IsUsable}
+use Rattle.ss_recover.proofs.Words.{length, length-filter, length-map, List, list_any, list_any-append, map, map-append, may_stand, MOST_RECORDS, names_in}
+use Rattle.ss_recover.proofs.Words.{names_of, not, not-true, Ok, or_left, or_right, OutOfMemory, Parts, place_of, Record, records_held, RecoverError}
+use Rattle.ss_recover.proofs.Words.{recursion_from_All, refl, Result, Rises, slots_found, Stream, stream_of, StreamParts, subst, sym, take, take-add}
+use Rattle.ss_recover.proofs.Words.{take-append-drop, take-append_seam, TakesAs, true, Walk, WalksAs, without_slots, zip, ℕ}
 use Rattle.ss_recover.proofs.Lists.{all-from_map, all-kept, all_append, all_behind, all_weaker, map-all}
 use Rattle.ss_recover.proofs.RunHeld.{AreHeldSoFar, AreHeldSoFar-none, done-push, done_stream, names-all, stays}
-use Rattle.ss_recover.proofs.RunOrder.{Rises-parts, places-rise}
+use Rattle.ss_recover.proofs.RunOrder.{places-rise, Rises-parts}
 use Rattle.ss_recover.proofs.RunSound.{is_run-sound, own-alone}
-use Rattle.ss_recover.proofs.RunStanding.{AreFewer, AreFewer-more, AreFewer-nil, AreFewer-push, doomed-is, doomed-more, doomed-stay, in-three}
-use Rattle.ss_recover.proofs.RunStanding.{is_run-fewer, names-more, names_created, none-own, standing-more, stands_in}
+use Rattle.ss_recover.proofs.RunStanding.{AreFewer, AreFewer-more, AreFewer-nil, AreFewer-push, doomed-is, doomed-more, doomed-stay, in-three, is_run-fewer}
+use Rattle.ss_recover.proofs.RunStanding.{names-more, names_created, none-own, standing-more, stands_in}
 use Rattle.ss_recover.proofs.RunStream.{AreBefore, AreBefore-run, IsState-walked}
+use Rattle.ss_codec.specs.declared.record.Record.TheVariants as records
 
 -- those of some records that are of streams that stand
 abbrev pub standing_found : List Found → List Found
@@ -64,8 +46,7 @@ AreDone-none walk none = record {
 
 -- a run after those that are done
 module _ (old : Walk) (front : List Found) (done : AreDone old front) (n : ℕ) (here : List Found)
-    (lower : AllByRecursion (λ r. stream_of r < n) (without_slots front))
-    (own : AllByRecursion (λ r. stream_of r ≡ n) (without_slots here))
+    (lower : AllByRecursion (λ r. stream_of r < n) (without_slots front)) (own : AllByRecursion (λ r. stream_of r ≡ n) (without_slots here))
     (usable : AllByRecursion (λ (f : Found). IsUsable f.holds) here) (rises : Rises place_of (without_slots here)) (some : 1 ≤ length here) where
   abbrev fs : List Record
   fs = without_slots front
@@ -77,8 +58,7 @@ module _ (old : Walk) (front : List Found) (done : AreDone old front) (n : ℕ) 
       is_sound_in_order (fs ++ (rs ++ rest)) n ≡ is_run (names_in old.names) rs
   is-sound rest above =
       is_run-sound fs rs rest n lower own above (map-all IsUsable (λ (f : Found). f.holds) here usable) rises
-      (omega (arith, some, length-map here (λ (f : Found). f.holds)))
-      ∙ ap (λ ns. is_run ns rs) (sym done.names_are)
+      (omega (arith, some, length-map here (λ (f : Found). f.holds))) ∙ ap (λ ns. is_run ns rs) (sym done.names_are)
 
   -- the records before it come before it and all after it
   before-all : (rest : List Record) → AllByRecursion (λ r. n < stream_of r) rest → AreBefore fs (rs ++ rest)
@@ -142,8 +122,7 @@ module _ (old : Walk) (front : List Found) (done : AreDone old front) (n : ℕ) 
       done.held.each done.held.records in
       let same : (kind : Bool) → slots_found (doomed_found kind (front ++ here)) ≡ slots_found (doomed_found kind front) =
       λ kind. ap slots_found (ap (λ us. filter (λ (f : Found). is_doomed kind us f.holds) (front ++ here)) whole
-      ∙ doomed-stay (λ (f : Found). f.holds) fs rs n lower own kind front here lower-found own-found usable still
-      ∙ append-nil (doomed_found kind front)) in
+      ∙ doomed-stay (λ (f : Found). f.holds) fs rs n lower own kind front here lower-found own-found usable still) in
       record {
         streams = done.streams ++ s ∷ [];
         held =
@@ -151,13 +130,10 @@ module _ (old : Walk) (front : List Found) (done : AreDone old front) (n : ℕ) 
             (subst (AreHeldSoFar (old.done.items ++ took.part ∷ []) (done.streams ++ s ∷ [])) (sym (stand-more false still)) held);
         names_are =
             took.names ∙ ap (λ (ns : List (List ℕ)). ns ++ took.part.name ∷ []) done.names_are
-            ∙ sym (names-all before done.streams done.held.walked here n took.part took.held below own usable rises fewer fs)
-            ∙ ap names_created (sym whole);
+            ∙ sym (names-all before done.streams done.held.walked here n took.part took.held below own usable rises fewer fs) ∙ ap names_created (sym whole);
         fewer =
-            subst (AreFewer (names_of (done.streams ++ s ∷ []))) (sym took.names)
-            (subst (λ l. AreFewer l (names_in old.names ++ took.part.name ∷ []))
-            (ap (λ (name : List ℕ). names_of done.streams ++ name ∷ []) took.held.name
-            ∙ sym (map-append (λ (u : Stream). u.name) done.streams (s ∷ [])))
+            subst (AreFewer (names_of (done.streams ++ s ∷ []))) (sym took.names) (subst (λ l. AreFewer l (names_in old.names ++ took.part.name ∷ []))
+            (ap (λ (name : List ℕ). names_of done.streams ++ name ∷ []) took.held.name ∙ sym (map-append (λ (u : Stream). u.name) done.streams (s ∷ [])))
             (AreFewer-push (names_of done.streams) (names_in old.names) done.fewer took.part.name));
         others = took.others ∙ done.others ∙ sym (same false);
         heads = took.heads ∙ done.heads ∙ sym (same true);
@@ -170,8 +146,7 @@ module _ (old : Walk) (front : List Found) (done : AreDone old front) (n : ℕ) 
       let x : Found = record { slot = took.slot; holds = records.Stream took.head.number took.head.name took.head.params true } in
       let asked = subst (λ l. is_run (names_in old.names) (without_slots l) ≡ true) took.split took.runs in
       let none : list_any is_own (without_slots took.rest) ≡ false =
-      not-true (list_any is_own (without_slots took.rest))
-      (and_parts (not (list_any is_own (without_slots took.rest))) true
+      not-true (list_any is_own (without_slots took.rest)) (and_parts (not (list_any is_own (without_slots took.rest))) true
       (and_parts (may_stand (names_in old.names) took.head.name) (not (list_any is_own (without_slots took.rest)) && true) asked).1).0 in
       let alone = own-alone (without_slots took.rest) none in
       let at = (subst (AllByRecursion (λ (f : Found). stream_of f.holds ≡ n)) took.split own-found).0 in
@@ -183,8 +158,7 @@ module _ (old : Walk) (front : List Found) (done : AreDone old front) (n : ℕ) 
       ∙ ap (λ l. filter (λ (f : Found). is_doomed kind (fs ++ rs) f.holds) (front ++ l)) took.split
       ∙ doomed-more (λ (f : Found). f.holds) fs rs n lower own kind front x took.rest lower-found
       (subst (AllByRecursion (λ (f : Found). stream_of f.holds ≡ n)) took.split own-found)
-      (subst (AllByRecursion (λ (f : Found). IsUsable f.holds)) took.split usable) dropped refl
-      (none-own (λ (f : Found). f.holds) took.rest none) in
+      (subst (AllByRecursion (λ (f : Found). IsUsable f.holds)) took.split usable) dropped refl (none-own (λ (f : Found). f.holds) took.rest none) in
       record {
         streams = done.streams;
         held =
@@ -195,8 +169,7 @@ module _ (old : Walk) (front : List Found) (done : AreDone old front) (n : ℕ) 
             ∙ sym (names-more fs (without_slots took.rest) took.head.number took.head.name took.head.params true alone)
             ∙ ap (λ l. names_created (fs ++ without_slots l)) (sym took.split) ∙ ap names_created (sym whole);
         fewer =
-            subst (AreFewer (names_of done.streams)) (sym took.names)
-            (AreFewer-more (names_of done.streams) (names_in old.names) done.fewer took.head.name);
+            subst (AreFewer (names_of done.streams)) (sym took.names) (AreFewer-more (names_of done.streams) (names_in old.names) done.fewer took.head.name);
         others =
             took.others ∙ ap (λ (l : List ℕ). l ++ slots_found took.rest) done.others
             ∙ sym (ap slots_found (more false) ∙ map-append (λ (f : Found). f.slot) (doomed_found false front) took.rest);
@@ -215,8 +188,7 @@ module _ (old : Walk) (front : List Found) (done : AreDone old front) (n : ℕ) 
       IsLowestUnsound n (fs ++ (rs ++ back))
   lowest back above fails = record {
     has =
-        list_any-append (λ r. stream_of r == n) fs (rs ++ back)
-        ∙ or_right (list_any (λ r. stream_of r == n) fs) (list_any (λ r. stream_of r == n) (rs ++ back))
+        list_any-append (λ r. stream_of r == n) fs (rs ++ back) ∙ or_right (list_any (λ r. stream_of r == n) fs) (list_any (λ r. stream_of r == n) (rs ++ back))
         (has-first rs own (omega (arith, some, length-map here (λ (f : Found). f.holds))));
     unsound = is-sound back above ∙ fails;
     lower =
@@ -279,9 +251,7 @@ module _ (all : List Found) (at n : ℕ) (run : List Found) (walk : Walk) (to : 
       sym (drop-drop (length run) at all) ∙ ap (drop (length run)) next.split ∙ drop-append_seam run next.back in
       record {
         within = next.within;
-        done =
-            subst (AreDone new) (sym whole)
-            (AreDone-more walk (take at all) to.done n run below-run run-own run-usable run-rises next.some new took);
+        done = subst (AreDone new) (sym whole) (AreDone-more walk (take at all) to.done n run below-run run-own run-usable run-rises next.some new took);
         below =
             subst (λ rs. AreBefore rs (without_slots (drop (at + length run) all)))
             (sym (ap without_slots whole ∙ map-append (λ (f : Found). f.holds) (take at all) run))
@@ -319,8 +289,7 @@ AreBuilt-done walk parts all done ends usable few =
     let doomed = doomed_found false all ++ doomed_found true all in
     let kept = standing_found all in
     let split : IsPermutation (doomed ++ kept) all =
-    subst (λ l. IsPermutation (l ++ kept) all)
-    (ap₂ ◌++◌ (sym (doomed-filter false us all each_usable)) (sym (doomed-filter true us all each_usable)))
+    subst (λ l. IsPermutation (l ++ kept) all) (ap₂ ◌++◌ (sym (doomed-filter false us all each_usable)) (sym (doomed-filter true us all each_usable)))
     (in-three (λ (f : Found). is_dropped (stream_of f.holds) us) (λ (f : Found). is_own f.holds) all) in
     let held = flat_map records_held (zip walk.done.items done.streams) in
     let none : AreBefore us [] = tt in
@@ -328,21 +297,18 @@ AreBuilt-done walk parts all done ends usable few =
       each = subst (λ ps. AllAgree ps done.streams) (sym ends.streams) done.held.each;
       records =
           subst (λ (ps : List StreamParts). IsPermutation (map in_slot doomed ++ flat_map records_held (zip ps done.streams)) (map in_slot all))
-          (sym ends.streams)
-          (IsPermutation-trans (map in_slot doomed ++ held) (map in_slot doomed ++ map in_slot kept) (map in_slot all)
+          (sym ends.streams) (IsPermutation-trans (map in_slot doomed ++ held) (map in_slot doomed ++ map in_slot kept) (map in_slot all)
           (IsPermutation-append_right (map in_slot doomed) held (map in_slot kept) done.held.records)
           (subst (λ l. IsPermutation l (map in_slot all)) (map-append in_slot doomed kept) (IsPermutation-map in_slot (doomed ++ kept) all split)));
       state =
-          IsState-walked (without_slots kept) done.streams done.held.walked
-          (omega (
+          IsState-walked (without_slots kept) done.streams done.held.walked (omega (
             arith,
             few,
             length-map kept (λ (f : Found). f.holds),
             length-filter (λ (f : Found). stands_in us f.holds) all,
             count_by-le-length (λ (f : Found). stands_in us f.holds) all,
           ));
-      sound =
-          subst (λ rs. AllByRecursion (λ r. is_sound_in_order rs (stream_of r) ≡ true) us) (append-nil us) (done.sound [] none);
+      sound = subst (λ rs. AllByRecursion (λ r. is_sound_in_order rs (stream_of r) ≡ true) us) (append-nil us) (done.sound [] none);
       others = ends.others;
       heads = ends.heads;
       doomed = ends.doomed;

@@ -1,24 +1,15 @@
 -- Which numbers are sound in some records, where they are in others that have the same of them.
-use Rattle.std.proofs.Common.{◌≡◌, ◌⊎◌, ◌∙◌, ℕ, Bool, true, false, not, ◌&&◌, ◌||◌, cond, List, [], ◌∷◌, filter, refl, sym, ap, inl, inr}
-use Rattle.std.proofs.Common.{arith, Option, Some, None}
-use Rattle.std.specs.Prelude.{◌==◌, count_by}
-use Rattle.std.specs.List.{AllByRecursion, filter_map, list_all, list_any}
-use Rattle.std.specs.Option.{option_map_or}
-use Rattle.std.proofs.lemmas.Bool.{and_from, and_parts, cases_Bool, cond-false, cond-true, eqb-true, or_cases, or_from, or_left, or_parts, or_right}
-use Rattle.std.proofs.lemmas.Bool.{true≢false}
-use Rattle.std.proofs.lemmas.List.Sums.{sum_by-cons}
-use Rattle.ss_codec.specs.declared.record.Record.{Record}
+use Rattle.ss_recover.proofs.Words.{[], ◌&&◌, ◌+◌, ◌==◌, ◌||◌, ◌∙◌, ◌∷◌, ◌≡◌, ◌≤◌, ◌⊎◌, AllByRecursion, and_from, and_parts, ap, are_marks, arith, Bool}
+use Rattle.ss_recover.proofs.Words.{carries, cases_Bool, cond, cond-true, cons_option, count_by, Created, created_by, eqb-true, false, false_from_ne_true}
+use Rattle.ss_recover.proofs.Words.{filter, filter_map, has_sound_values, in_order, inl, inr, is_drop_of, is_dropped, is_mark_of, judged, keep_own_step}
+use Rattle.ss_recover.proofs.Words.{landmarks_made, lies_free, List, list_all, list_any, lowest_bad_stream, lowest_in, marks_carried, None, not, Option}
+use Rattle.ss_recover.proofs.Words.{option_map_or, or_cases, or_left, or_parts, or_right, place_of, Record, refl, Some, stands_by, stands_sound, Stream}
+use Rattle.ss_recover.proofs.Words.{stream_carried, stream_number, streams_created, sum_by-cons, sym, tile, times_rise, true, true≢false, Window, window_of}
+use Rattle.ss_recover.proofs.Words.{windows_carried, ℕ}
+use Rattle.ss_recover.specs.Conditions.{is_sound}
+use Rattle.ss_recover.proofs.SoundStreams.{digit, stands_alone}
 use Rattle.ss_codec.specs.declared.record.Record.TheVariants as records
-use Rattle.ss_model.specs.Marks.{lies_free}
-use Rattle.ss_model.specs.State.{Created, Stream}
-use Rattle.ss_model.specs.declared.types.Window.{Window}
-use Rattle.ss_recover.specs.Carried.{in_order, is_dropped, is_mark_of, marks_carried, stands_by, stream_number, streams_created}
-use Rattle.ss_recover.specs.Carried.{window_of, windows_carried}
-use Rattle.ss_recover.specs.Conditions.{has_sound_values, is_sound, keep_own_step, stands_sound, tile, times_rise}
-use Rattle.ss_recover.specs.Marked.{are_marks, landmarks_made}
-use Rattle.ss_recover.specs.Order.{place_of}
-use Rattle.ss_recover.specs.Parts.{carries, judged, lowest_bad_stream, lowest_in, stream_carried}
-use Rattle.ss_recover.proofs.SoundStreams.{stands_alone}
+use Rattle.ss_recover.proofs.Lists.{all_weaker, any-made, filter_map-kept, kept}
 
 -- where streams are carried, no slot and no stream is damaged
 pub carries-judged : (slot number : Option ℕ) (ss streams : List Stream) → judged slot number ss ≡ carries streams →
@@ -88,14 +79,23 @@ pub is_sound-parts : (rs : List Record) (n : ℕ) → is_sound rs n ≡ true →
 unfolding is_sound
 is_sound-parts rs n sound = and_parts (stands_alone n (streams_created rs)) (is_dropped n rs || stands_sound rs n) sound
 
--- the same records of a number, and of streams and drops
-pub is_sound-made : (rs us : List Record) (n : ℕ) → streams_created rs ≡ streams_created us → is_dropped n rs ≡ is_dropped n us →
-    filter_map (window_of n) rs ≡ filter_map (window_of n) us → filter (is_mark_of n) rs ≡ filter (is_mark_of n) us → is_sound rs n ≡ is_sound us n
-unfolding is_sound
-is_sound-made rs us n created gone windows marks =
-    let values = sound_values-same n rs us (record { windows = windows; marks = marks }) in
-    let ordered = windows-same n rs us (record { windows = windows; marks = marks }) in
-    λ i. stands_alone n (created i) && (gone i || (values i && keep_own_step n (created i) (ordered i)))
+-- records of which the same is made have the same numbers that are sound
+module _ (rs us : List Record) (same : (Y : Type 0) (f : Record → Option Y) → f records.Free ≡ None → filter_map f rs ≡ filter_map f us) where
+  pub is_sound-made : (n : ℕ) → is_sound rs n ≡ is_sound us n
+  unfolding is_sound
+  is_sound-made n =
+      let is : HaveSameValues n rs us = record {
+        windows = same Window (window_of n) refl;
+        marks = sym (filter_map-kept (is_mark_of n) rs) ∙ same Record (kept (is_mark_of n)) refl ∙ filter_map-kept (is_mark_of n) us;
+      } in
+      let created = same Created created_by refl in
+      let gone = any-made (is_drop_of n) rs us (same Record (kept (is_drop_of n)) refl) in
+      let values = sound_values-same n rs us is in
+      let ordered = windows-same n rs us is in
+      λ i. stands_alone n (created i) && (gone i || (values i && keep_own_step n (created i) (ordered i)))
+
+  pub lowest-made : lowest_bad_stream rs ≡ lowest_bad_stream us
+  lowest-made = let numbers = same ℕ stream_number refl in λ i. lowest_in (filter (λ m. not (is_sound-made m i)) (numbers i))
 
 -- a number stays sound where it stands alone, stays dropped, and has the same values or is dropped
 pub is_sound-kept : (rs us : List Record) (n : ℕ) → (stands_alone n (streams_created rs) ≡ true → stands_alone n (streams_created us) ≡ true) →
@@ -109,8 +109,7 @@ is_sound-kept rs us n alone keeps gone same sound =
     kept : HaveSameValues n rs us → stands_sound rs n ≡ true → stands_sound us n ≡ true
     kept same fine =
         let both = and_parts (has_sound_values rs n) (keep_own_step n (streams_created rs) (windows_carried n rs)) fine in
-        and_from (has_sound_values us n) (keep_own_step n (streams_created us) (windows_carried n us))
-        (sym (sound_values-same n rs us same) ∙ both.0)
+        and_from (has_sound_values us n) (keep_own_step n (streams_created us) (windows_carried n us)) (sym (sound_values-same n rs us same) ∙ both.0)
         (keeps (windows_carried n us) (ap (keep_own_step n (streams_created rs)) (sym (windows-same n rs us same)) ∙ both.1))
 
     go : (is_dropped n us ≡ true) ⊎ HaveSameValues n rs us → (is_dropped n rs || stands_sound rs n) ≡ true →
@@ -133,62 +132,45 @@ numbered n c = cond (is_numbered n c) 1 0
 abbrev pub stands_at : ℕ → Record → Bool
 stands_at n r = option_map_or (is_numbered n) (stands_by r) false
 
--- where no record is the stream's own, none says either
-none-counted : (n : ℕ) (rs : List Record) → count_by (is_numbered n) (streams_created rs) ≡ 0 →
-    (is_dropped n rs ≡ false) × (list_any (stands_at n) rs ≡ false)
-none-counted n [] none = (refl, refl)
-none-counted n (records.Free ∷ rs) none = none-counted n rs none
-none-counted n (records.Window id first summary ∷ rs) none = none-counted n rs none
-none-counted n (records.Landmark id number values start finish ∷ rs) none = none-counted n rs none
-none-counted n (records.Value id number index t v ∷ rs) none = none-counted n rs none
-none-counted n (records.Stream id name params dropped ∷ rs) none =
-    let c : Created = record { number = id; name = name; params = params } in
-    let sum = sum_by-cons (numbered n) c (streams_created rs) in
-    let other : (id == n) ≡ false = elim (cases_Bool (id == n)) [
-      | inl same ↦ (let one : numbered n c ≡ 1 = cond-true (id == n) 1 0 same in absurd (omega (arith, sum, one, none)))
-      | inr apart ↦ apart
-    ] in
-    let rest = none-counted n rs (omega (arith, sum, none)) in
-    (or_from (dropped && id == n) (is_dropped n rs) (never dropped other) rest.0, or_from _ (list_any (stands_at n) rs) (stands dropped other) rest.1)
-  where
-    never : (b : Bool) → (id == n) ≡ false → (b && id == n) ≡ false
-    never true other = other
-    never false other = refl
+-- how many of some streams are of a number, with one more or none
+pub numbered-cons : (n : ℕ) (o : Option Created) (cs : List Created) → count_by (is_numbered n) (cons_option o cs)
+    ≡ digit (option_map_or (is_numbered n) o false) + count_by (is_numbered n) cs
+numbered-cons n None cs = omega arith
+numbered-cons n (Some c) cs = sum_by-cons (λ (d : Created). digit (is_numbered n d)) c cs
 
-    stands : (b : Bool) → (id == n) ≡ false → stands_at n (records.Stream id name params b) ≡ false
-    stands true other = refl
-    stands false other = other
+-- each stream's own record says that it was dropped, or that it stands
+counted : (n : ℕ) (rs : List Record) → count_by (is_numbered n) (streams_created rs) ≡ count_by (is_drop_of n) rs + count_by (stands_at n) rs
+counted n [] = refl
+counted n (r ∷ rs) =
+    omega (
+      arith,
+      numbered-cons n (created_by r) (streams_created rs),
+      sum_by-cons (λ (q : Record). digit (is_drop_of n q)) r rs,
+      sum_by-cons (λ (q : Record). digit (stands_at n q)) r rs,
+      one r,
+      counted n rs,
+    )
+  where
+    one : (q : Record) → digit (option_map_or (is_numbered n) (created_by q) false) ≡ digit (is_drop_of n q) + digit (stands_at n q)
+    one (records.Stream id name params true) = omega arith
+    one (records.Stream id name params false) = omega arith
+    one _ = refl
+
+some-counted : {X : Type 0} (p : X → Bool) (xs : List X) → list_any p xs ≡ true → 1 ≤ count_by p xs
+some-counted p [] any = absurd (true≢false (sym any))
+some-counted {X} p (x ∷ xs) any =
+    let sum = sum_by-cons (λ (y : X). digit (p y)) x xs in
+    elim (or_cases (p x) (list_any p xs) any) [
+      | inl here ↦ (let one : digit (p x) ≡ 1 = cond-true (p x) 1 0 here in omega (arith, sum, one))
+      | inr there ↦ omega (arith, sum, some-counted p xs there)
+    ]
 
 -- where one is, and the stream was dropped, none says that it stands
 pub one-dropped : (n : ℕ) (rs : List Record) → count_by (is_numbered n) (streams_created rs) ≡ 1 → is_dropped n rs ≡ true →
     list_any (stands_at n) rs ≡ false
-one-dropped n [] one gone = absurd (true≢false (sym gone))
-one-dropped n (records.Free ∷ rs) one gone = one-dropped n rs one gone
-one-dropped n (records.Window id first summary ∷ rs) one gone = one-dropped n rs one gone
-one-dropped n (records.Landmark id number values start finish ∷ rs) one gone = one-dropped n rs one gone
-one-dropped n (records.Value id number index t v ∷ rs) one gone = one-dropped n rs one gone
-one-dropped n (records.Stream id name params dropped ∷ rs) one gone =
-    let c : Created = record { number = id; name = name; params = params } in
-    let sum = sum_by-cons (numbered n) c (streams_created rs) in
-    elim (cases_Bool (id == n)) [
-      | inl same ↦
-          (let here : numbered n c ≡ 1 = cond-true (id == n) 1 0 same in
-          own dropped (none-counted n rs (omega (arith, sum, here, one))) gone)
-      | inr apart ↦
-          (let here : numbered n c ≡ 0 = cond-false (id == n) 1 0 apart in
-          other dropped apart gone (one-dropped n rs (omega (arith, sum, here, one))))
-    ]
-  where
-    own : (b : Bool) → (is_dropped n rs ≡ false) × (list_any (stands_at n) rs ≡ false) → is_dropped n (records.Stream id name params b ∷ rs) ≡ true →
-        list_any (stands_at n) (records.Stream id name params b ∷ rs) ≡ false
-    own true none gone = none.1
-    own false none gone = absurd (true≢false (sym gone ∙ none.0))
-
-    other : (b : Bool) → (id == n) ≡ false → is_dropped n (records.Stream id name params b ∷ rs) ≡ true → (is_dropped n rs ≡ true →
-        list_any (stands_at n) rs ≡ false) → list_any (stands_at n) (records.Stream id name params b ∷ rs) ≡ false
-    other true apart gone rest =
-        elim (or_cases (id == n) (is_dropped n rs) gone) [ inl same ↦ absurd (true≢false (sym same ∙ apart)) | inr there ↦ rest there ]
-    other false apart gone rest = or_from (id == n) (list_any (stands_at n) rs) apart (rest gone)
+one-dropped n rs one gone =
+    false_from_ne_true (list_any (stands_at n) rs)
+    (λ stands. absurd (omega (arith, one, counted n rs, some-counted (is_drop_of n) rs gone, some-counted (stands_at n) rs stands)))
 
 -- what a sound number has
 pub one-sound : (rs : List Record) (n : ℕ) → is_sound rs n ≡ true → count_by (is_numbered n) (streams_created rs) ≡ 1
@@ -200,13 +182,11 @@ one-sound rs n sound =
 -- no element passes a test that none does
 pub each-false : {X : Type 0} (xs : List X) → AllByRecursion (λ x. (p : X → Bool) → list_any p xs ≡ false → p x ≡ false) xs
 each-false [] = tt
-each-false {X} (x ∷ xs) =
-    ((λ p none. (or_parts (p x) (list_any p xs) none).0), go xs (each-false xs))
-  where
-    go : (ys : List X) → AllByRecursion (λ y. (p : X → Bool) → list_any p xs ≡ false → p y ≡ false) ys →
-        AllByRecursion (λ y. (p : X → Bool) → list_any p (x ∷ xs) ≡ false → p y ≡ false) ys
-    go [] each = tt
-    go (y ∷ ys) each = ((λ p none. each.0 p (or_parts (p x) (list_any p xs) none).1), go ys each.1)
+each-false {X} (x ∷ xs) = (
+  (λ p none. (or_parts (p x) (list_any p xs) none).0),
+  all_weaker (λ y. (p : X → Bool) → list_any p xs ≡ false → p y ≡ false) (λ y. (p : X → Bool) → list_any p (x ∷ xs) ≡ false → p y ≡ false)
+      (λ y rest p none. rest p (or_parts (p x) (list_any p xs) none).1) xs (each-false xs),
+)
 
 pub all-false : {X : Type 0} (p : X → Bool) (xs : List X) → list_any p xs ≡ false → AllByRecursion (λ x. p x ≡ false) xs
 all-false p [] none = tt

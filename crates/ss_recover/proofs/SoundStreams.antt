@@ -1,24 +1,10 @@
 -- The streams of a state meet the conditions that records have to meet.
-use Rattle.std.proofs.Common.{◌≡◌, ℕ, ◌+◌, ◌<◌, ◌≤◌, true, false, not, ◌&&◌, ◌||◌, cond, List, [], ◌∷◌, ◌++◌, length, map, refl, sym, ap, ap₂, subst, ◌∙◌}
-use Rattle.std.proofs.Common.{append_assoc, arith, length-append, IsPermutation, Bool}
-use Rattle.std.specs.Prelude.{◌==◌, count_by, nat_le, nat_lt}
-use Rattle.std.specs.List.{AllByRecursion, IsDistinct, list_any}
-use Rattle.std.proofs.lemmas.Bool.{and_from, and_left, and_parts, eq-eqb, eqb-true, le-ltb, leb-true, ltb-true, lt-ltb, ne_eqb, or_from}
-use Rattle.std.proofs.lemmas.Bool.Decides.{nat_tests}
-use Rattle.std.proofs.lemmas.List.Folds.{list_any-append}
-use Rattle.std.proofs.lemmas.List.Sorted.{list_any-IsPermutation, sum_by-IsPermutation}
-use Rattle.std.proofs.lemmas.List.Sums.{sum_by-append, sum_by-cons}
-use Rattle.std.proofs.lemmas.Map.Keys.{IsDistinct-head, IsDistinct-tail}
-use Rattle.ss_catalog.specs.Names.{same_name}
-use Rattle.ss_catalog.specs.declared.TheConstants.{MOST_STREAMS}
-use Rattle.ss_windowing.specs.declared.decay.TheConstants.{MOST_VALUES}
-use Rattle.ss_model.proofs.NameLemmas.{same_name-swap}
-use Rattle.ss_summary.specs.Figures.{IsPossible}
-use Rattle.ss_model.specs.State.{Created}
-use Rattle.ss_model.specs.Tiling.{AreWindows, StandFrom}
-use Rattle.ss_model.specs.Windows.{taken}
-use Rattle.ss_model.specs.declared.types.Window.{Window}
-use Rattle.ss_recover.specs.Conditions.{has_new_name, has_one_record, has_place, is_named_before, tile, tile_from, times_rise}
+use Rattle.ss_recover.proofs.Words.{[], ◌&&◌, ◌++◌, ◌+◌, ◌<◌, ◌==◌, ◌||◌, ◌∙◌, ◌∷◌, ◌≡◌, ◌≤◌, AllByRecursion, and_from, and_left, and_parts, ap, append_assoc}
+use Rattle.ss_recover.proofs.Words.{ap₂, AreWindows, arith, Bool, cond, count_by, Created, eq-eqb, eqb-true, false, has_new_name, has_one_record, has_place}
+use Rattle.ss_recover.proofs.Words.{is_named_before, IsDistinct, IsDistinct-head, IsDistinct-tail, IsPermutation, IsPossible, le-ltb, leb-true, length}
+use Rattle.ss_recover.proofs.Words.{length-append, List, list_any, list_any-append, list_any-IsPermutation, lt-ltb, ltb-true, map, MOST_STREAMS, MOST_VALUES}
+use Rattle.ss_recover.proofs.Words.{nat_le, nat_lt, nat_tests, ne_eqb, not, or-false, or_from, refl, same_name, same_name-swap, StandFrom, subst, sum_by-append}
+use Rattle.ss_recover.proofs.Words.{sum_by-cons, sum_by-IsPermutation, sym, taken, tile, tile_from, times_rise, true, Window, ℕ}
 use Rattle.ss_recover.proofs.InOrder.{Rise, Rise-split}
 use Rattle.ss_recover.proofs.Lists.{all-from_map, all_behind, all_weaker}
 
@@ -99,16 +85,11 @@ module _ (cs here later : List Created) (n : ℕ) (cs-below : AllByRecursion (λ
         and_left _ _ (le-ltb c.number c.number (omega arith)),
         all_weaker (λ o. n < o.number) (λ o. before c o ≡ false) (λ o lt. and_left _ _ (le-ltb o.number c.number (omega (arith, lt, is)))) later later-above,
       ) in
-      ap not
-      (list_any-append (named n us) cs (c ∷ later)
+      ap not (list_any-append (named n us) cs (c ∷ later)
       ∙ (λ i. first i || (named n us c || last i)) ∙ or-false (named n us c) ∙ ap (λ b. b && is_named_before us c) (eq-eqb c.number n is)
       ∙ list_any-append (before c) cs (c ∷ later) ∙ (λ i. by-name cs cs-below i || rest i)
       ∙ or-false (list_any (same_name c.name) (map (λ (o : Created). o.name) cs)))
     where
-      or-false : (b : Bool) → (b || false) ≡ b
-      or-false true = refl
-      or-false false = refl
-
       by-name : (us : List Created) → AllByRecursion (λ o. o.number < n) us →
           list_any (before c) us ≡ list_any (same_name c.name) (map (λ (o : Created). o.name) us)
       by-name [] lows = refl
@@ -171,8 +152,7 @@ tile_from-StandFrom first time [] stand = refl
 tile_from-StandFrom first time (w ∷ ws) stand =
     let start = stand.0 in
     let here : (w.first == first) ≡ true = grind (arith, nat_tests) in
-    and_from (w.first == first) (tile_from (first + w.summary.count) ws) here
-    (tile_from-StandFrom (first + w.summary.count) (w.summary.t_last + 1) ws stand.3)
+    and_from (w.first == first) (tile_from (first + w.summary.count) ws) here (tile_from-StandFrom (first + w.summary.count) (w.summary.t_last + 1) ws stand.3)
 
 pub tile-AreWindows : (ws : List Window) → AreWindows ws → tile ws ≡ true
 tile-AreWindows ws are =
@@ -247,24 +227,3 @@ Rise-StandFrom first time (w ∷ ws) stand =
 
 pub Rise-AreWindows : (ws : List Window) → AreWindows ws → Rise (λ w. w.first) ws
 Rise-AreWindows ws are = Rise-StandFrom 1 0 ws are.stand
-
--- the conditions of a sound number that wasn't dropped, one by one
-pub record MeetsAll (a b c d e f g : Bool) : Type 0 where
-  pub one : a ≡ true
-  pub place : b ≡ true
-  pub new : c ≡ true
-  pub tiles : d ≡ true
-  pub rising : e ≡ true
-  pub marks : f ≡ true
-  pub free : g ≡ true
-
-pub MeetsAll-and : (a b c gone d e f g : Bool) → gone ≡ false → (a && b && c && (gone || (d && e && f && g))) ≡ true → MeetsAll a b c d e f g
-MeetsAll-and a b c gone d e f g stands all =
-    let both = and_parts (a && b && c) (gone || (d && e && f && g)) all in
-    let third = and_parts (a && b) c both.0 in
-    let second = and_parts a b third.0 in
-    let values : (d && e && f && g) ≡ true = sym (ap (λ h. h || (d && e && f && g)) stands) ∙ both.1 in
-    let seventh = and_parts (d && e && f) g values in
-    let sixth = and_parts (d && e) f seventh.0 in
-    let fifth = and_parts d e sixth.0 in
-    record { one = second.0; place = second.1; new = third.1; tiles = fifth.0; rising = fifth.1; marks = sixth.1; free = seventh.1 }

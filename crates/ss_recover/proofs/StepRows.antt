@@ -1,22 +1,20 @@
 -- Worked maps of a stream whose windows keep to a step of the clock, and what each carries.
-use Rattle.std.specs.Prelude.{◌≡◌, ℕ, Bool, true, false, List, [], ◌∷◌, map, Option, Some, None}
-use Rattle.std.proofs.Common.{refl}
+use Rattle.ss_recover.proofs.Words.{[], ◌∷◌, ◌≡◌, bad_stream, Bool, Carried, carries, false, keep_step, List, map, None, Option, Params, refl, Some, true}
+use Rattle.ss_recover.proofs.Words.{Window, ℕ}
+use Rattle.ss_catalog.specs.declared.params.Family.TheVariants.{Exp}
+use Rattle.ss_codec.specs.Record.{is_valid, spelling}
+use Rattle.ss_codec.specs.Decoded.{decoded, finish_in, landmark_in, params_in, record_in, stream_in, value_in, window_in}
+use Rattle.ss_recover.specs.Carried.{spelled}
+use Rattle.ss_recover.specs.Conditions.{is_sound}
+use Rattle.ss_recover.specs.Parts.{carried}
+use Rattle.ss_recover.proofs.Rows.{a, AreCarried, fives, window, window_slot}
 use Rattle.ss_fields.specs.Fields as Numbers
 use Rattle.ss_summary.specs.Filters as Filters
 use Rattle.ss_summary.specs.Possible as Possible
 use Rattle.ss_catalog.specs.Names as Names
-use Rattle.ss_catalog.specs.declared.params.Family.TheVariants.{Exp}
-use Rattle.ss_catalog.specs.declared.params.Params.{Params}
 use Rattle.ss_codec.specs.Fields as Fields
-use Rattle.ss_codec.specs.Record.{spelling, is_valid}
-use Rattle.ss_codec.specs.Decoded.{decoded, finish_in, landmark_in, params_in, record_in, stream_in, value_in, window_in}
 use Rattle.ss_codec.specs.declared.record.Record.TheVariants as records
 use Rattle.ss_model.specs.Marks as Marks
-use Rattle.ss_model.specs.declared.types.Window.{Window}
-use Rattle.ss_recover.specs.Carried.{spelled}
-use Rattle.ss_recover.specs.Conditions.{is_sound, keep_step}
-use Rattle.ss_recover.specs.Parts.{Carried, bad_stream, carries, carried}
-use Rattle.ss_recover.proofs.Rows.{AreCarried, a, fives, window, window_slot}
 
 -- the target `exp 2 1 1` within a step
 abbrev params : Option ℕ → Params

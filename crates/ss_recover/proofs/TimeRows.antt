@@ -1,10 +1,6 @@
 -- Worked rows: the times of a stream's windows, as they are held.
-use Rattle.std.proofs.Common.{◌≡◌, ℕ, Bool, List, [], ◌∷◌, map, All, MatchOption, Some, None, refl, arith, subst}
-use Rattle.ss_line.specs.declared.entry.Entry.{Entry}
-use Rattle.ss_model.specs.State.{Stream}
-use Rattle.ss_summary.specs.Figures.{Figures}
-use Rattle.ss_recover.specs.Held.{Agrees, AreWhole, RiseToLast, TimesRise, entries_of, times_held, times_of}
-use Rattle.ss_recover.specs.declared.parts.StreamParts.{StreamParts}
+use Rattle.ss_recover.proofs.Words.{[], ◌∷◌, ◌≡◌, Agrees, All, AreWhole, arith, Bool, entries_of, Entry, Figures, List, map, MatchOption, None, refl}
+use Rattle.ss_recover.proofs.Words.{RiseToLast, Some, Stream, StreamParts, subst, times_held, times_of, TimesRise, ℕ}
 
 -- a window of the positions 3 and 4, with its values at these times
 abbrev entry : ℕ → ℕ → Entry

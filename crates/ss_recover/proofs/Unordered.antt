@@ -1,30 +1,19 @@
 -- Which numbers are sound doesn't hang on the order of the records.
-use Rattle.std.proofs.Common.{◌≡◌, ◌⊎◌, ◌∙◌, ℕ, ◌+◌, ◌*◌, ◌^◌, ◌<◌, ◌≤◌, Bool, true, false, not, ◌&&◌, ◌||◌, leb, List, [], ◌∷◌, filter, fold, min}
-use Rattle.std.proofs.Common.{Option, Some, None, refl, sym, ap, ap₂, inl, inr, arith, IsPermutation}
-use Rattle.std.specs.Prelude.{◌==◌}
-use Rattle.std.specs.List.{AllByRecursion, cons_option, filter_map, list_all, list_any}
-use Rattle.std.proofs.lemmas.Bool.{cases_Bool, cases_lt, cond-true, cond-false, cond_both, eq-eqb, eqb-true, leb-true, leb-false, le-leb, lt-leb}
-use Rattle.std.proofs.lemmas.Bool.{or_cases, or_left, or_right, true≢false}
-use Rattle.std.proofs.lemmas.List.Elements.{All-from_recursion, recursion_from_All}
-use Rattle.std.proofs.lemmas.List.Sorted.{All-permutation, IsPermutation-sym, list_any-IsPermutation}
-use Rattle.ss_codec.specs.declared.record.Record.{Record}
-use Rattle.ss_codec.specs.declared.record.Record.TheVariants as records
-use Rattle.ss_model.specs.Marks.{lies_free}
-use Rattle.ss_model.specs.declared.types.Window.{Window}
-use Rattle.ss_recover.specs.Carried.{created_by, in_order, is_drop_of, is_mark_of, marks_carried, stream_number, put_in_order, streams_created, window_of}
-use Rattle.ss_recover.specs.Carried.{windows_carried}
-use Rattle.ss_recover.specs.Conditions.{is_sound, keep_own_step, tile, times_rise}
-use Rattle.ss_recover.specs.Marked.{are_marks, landmarks_made}
-use Rattle.ss_recover.specs.Order.{Rises, key_of, place_of, stream_of}
-use Rattle.ss_recover.specs.Parts.{lowest_in, lowest_bad_stream}
-use Rattle.ss_recover.specs.Runs.{IsLowestUnsound, is_sound_in_order}
-use Rattle.ss_recover.specs.Usable.{IsUsable}
+use Rattle.ss_recover.proofs.Words.{[], ◌&&◌, ◌*◌, ◌+◌, ◌<◌, ◌==◌, ◌^◌, ◌||◌, ◌∙◌, ◌∷◌, ◌≡◌, ◌≤◌, ◌⊎◌, All-from_recursion, All-permutation, AllByRecursion, ap}
+use Rattle.ss_recover.proofs.Words.{ap₂, are_marks, arith, Bool, cases_Bool, cases_lt, cond-false, cond-true, cond_both, cons_option, created_by, eq-eqb}
+use Rattle.ss_recover.proofs.Words.{eqb-true, false, filter, filter_map, fold, in_order, inl, inr, is_drop_of, is_mark_of, is_sound_in_order, IsLowestUnsound}
+use Rattle.ss_recover.proofs.Words.{IsPermutation, IsPermutation-sym, IsUsable, keep_own_step, key_of, landmarks_made, le-leb, leb, leb-false, leb-true}
+use Rattle.ss_recover.proofs.Words.{lies_free, List, list_all, list_any, list_any-IsPermutation, lowest_bad_stream, lowest_in, lt-leb, marks_carried, min, None}
+use Rattle.ss_recover.proofs.Words.{not, Option, or_cases, or_left, or_right, place_of, put_in_order, Record, recursion_from_All, refl, Rises, Some}
+use Rattle.ss_recover.proofs.Words.{stream_number, stream_of, streams_created, sym, tile, times_rise, true, true≢false, Window, window_of, windows_carried, ℕ}
+use Rattle.ss_recover.specs.Conditions.{is_sound}
 use Rattle.ss_recover.proofs.InOrder.{IsPermutation-in_order, Rises-in_order}
 use Rattle.ss_recover.proofs.Lists.{all_weaker, filter_map-kept, kept}
 use Rattle.ss_recover.proofs.OwnSteps.{own_step-moved}
 use Rattle.ss_recover.proofs.Permutations.{IsPermutation-filter_map}
 use Rattle.ss_recover.proofs.SoundStreams.{stands_alone-moved}
 use Rattle.ss_recover.proofs.OrderLemmas.{put-less, put-more}
+use Rattle.ss_codec.specs.declared.record.Record.TheVariants as records
 
 -- elements that give something are put in order as what they give is
 module _ {X Y : Type 0} (key : X → ℕ) (key' : Y → ℕ) (h : X → Option Y)
@@ -43,8 +32,7 @@ module _ {X Y : Type 0} (key : X → ℕ) (key' : Y → ℕ) (h : X → Option Y
   put-none x none [] = ap (λ o. cons_option o []) none
   put-none x none (y ∷ ys) =
       cond_both (leb (key x) (key y)) (x ∷ y ∷ ys) (y ∷ put_in_order key x ys) (λ l. filter_map h l ≡ filter_map h (y ∷ ys))
-      (λ _. ap (λ o. cons_option o (filter_map h (y ∷ ys))) none)
-      (λ _. ap (cons_option (h y)) (put-none x none ys))
+      (λ _. ap (λ o. cons_option o (filter_map h (y ∷ ys))) none) (λ _. ap (cons_option (h y)) (put-none x none ys))
 
   put-some : (x : X) (z : Y) → h x ≡ Some z → (ys : List X) → Rises key ys → filter_map h (put_in_order key x ys) ≡ put_in_order key' z (filter_map h ys)
   put-some x z is [] rises = ap (λ o. cons_option o []) is
@@ -77,7 +65,6 @@ module _ {X Y : Type 0} (key : X → ℕ) (key' : Y → ℕ) (h : X → Option Y
 -- the key of a window of a number
 window-key : (n : ℕ) (r : Record) (z : Window) → window_of n r ≡ Some z → key_of r ≡ n * 2 ^ 65 + (2 ^ 64 + z.first)
 window-key n records.Free z is = cc
-window-key n (records.Stream id name params dropped) z is = cc
 window-key n (records.Window id first summary) z is =
     elim (cases_Bool (id == n)) [
       | inl same ↦
@@ -86,18 +73,14 @@ window-key n (records.Window id first summary) z is =
           ap₂ (λ (a b : ℕ). a * 2 ^ 65 + (2 ^ 64 + b)) (eqb-true id n same) (ap (λ (v : Window). v.first) w)
       | inr other ↦ let none : None ≡ Some z = sym (cond-false (id == n) _ _ other) ∙ is in cc
     ]
-window-key n (records.Landmark id number values start finish) z is = cc
-window-key n (records.Value id number index t v) z is = cc
+window-key n _ z is = cc
 
 -- the key of a landmark's record or a value's of a number
 mark-key : (n : ℕ) (r : Record) → is_mark_of n r ≡ true → key_of r ≡ n * 2 ^ 65 + place_of r
 mark-key n records.Free is = absurd (true≢false (sym is))
 mark-key n (records.Stream id name params dropped) is = absurd (true≢false (sym is))
 mark-key n (records.Window id first summary) is = absurd (true≢false (sym is))
-mark-key n (records.Landmark id number values start finish) is =
-    ap (λ (a : ℕ). a * 2 ^ 65 + place_of (records.Landmark id number values start finish)) (eqb-true id n is)
-mark-key n (records.Value id number index t v) is =
-    ap (λ (a : ℕ). a * 2 ^ 65 + place_of (records.Value id number index t v)) (eqb-true id n is)
+mark-key n r is = ap (λ (a : ℕ). a * 2 ^ 65 + place_of r) (eqb-true (stream_of r) n is)
 
 leb-shift : (c a b : ℕ) → leb (c + a) (c + b) ≡ leb a b
 leb-shift c a b = elim (cases_Bool (leb a b)) [
@@ -129,8 +112,7 @@ mark-order n x y z w is also =
 
 marks-in_order : (n : ℕ) (rs : List Record) → marks_carried n rs ≡ filter (is_mark_of n) (in_order key_of rs)
 marks-in_order n rs =
-    ap (in_order place_of) (sym (filter_map-kept (is_mark_of n) rs))
-    ∙ sym (filter_map-in_order key_of place_of (kept (is_mark_of n)) (mark-order n) rs)
+    ap (in_order place_of) (sym (filter_map-kept (is_mark_of n) rs)) ∙ sym (filter_map-in_order key_of place_of (kept (is_mark_of n)) (mark-order n) rs)
     ∙ filter_map-kept (is_mark_of n) (in_order key_of rs)
 
 -- the records of a number are sound in any order, where they are sound in order
@@ -170,25 +152,20 @@ least-is n (x ∷ xs) all has = ap Some (fold-least n x xs all.0 all.1 (go (or_c
 
 number-usable : (r : Record) → IsUsable r → stream_number r ≡ Some (stream_of r)
 number-usable records.Free usable = absurd usable
-number-usable (records.Stream id name params dropped) usable = refl
-number-usable (records.Window id first summary) usable = refl
-number-usable (records.Landmark id number values start finish) usable = refl
-number-usable (records.Value id number index t v) usable = refl
+number-usable _ usable = refl
 
 module _ (sound : ℕ → Bool) (n : ℕ) where
   abbrev bad : List ℕ → List ℕ
   bad ms = filter (λ m. not (sound m)) ms
 
   bad-has : sound n ≡ false → (m : ℕ) (ms : List ℕ) → (m ≡ n) ⊎ (list_any (λ k. k == n) (bad ms) ≡ true) → list_any (λ k. k == n) (bad (m ∷ ms)) ≡ true
-  bad-has fails m ms (inl is) =
-      ap (list_any (λ k. k == n)) (cond-true (not (sound m)) _ _ (ap not (ap sound is ∙ fails))) ∙ or_left (m == n) _ (eq-eqb m n is)
+  bad-has fails m ms (inl is) = ap (list_any (λ k. k == n)) (cond-true (not (sound m)) _ _ (ap not (ap sound is ∙ fails))) ∙ or_left (m == n) _ (eq-eqb m n is)
   bad-has fails m ms (inr rest) =
       cond_both (not (sound m)) (m ∷ bad ms) (bad ms) (λ l. list_any (λ k. k == n) l ≡ true) (λ _. or_right (m == n) _ rest) (λ _. rest)
 
   bad-least : (m : ℕ) (ms : List ℕ) → (m < n → sound m ≡ true) → AllByRecursion (λ k. n ≤ k) (bad ms) → AllByRecursion (λ k. n ≤ k) (bad (m ∷ ms))
   bad-least m ms fine all =
-      cond_both (not (sound m)) (m ∷ bad ms) (bad ms) (AllByRecursion (λ k. n ≤ k))
-      (λ fails. (not-less fails, all)) (λ _. all)
+      cond_both (not (sound m)) (m ∷ bad ms) (bad ms) (AllByRecursion (λ k. n ≤ k)) (λ fails. (not-less fails, all)) (λ _. all)
     where
       not-less : not (sound m) ≡ true → n ≤ m
       not-less fails = elim (cases_lt m n) [ inl lt ↦ absurd (true≢false (sym fails ∙ ap not (fine lt))) | inr le ↦ le ]
@@ -220,5 +197,4 @@ lowest-bad rs n usable lowest =
     (all_weaker (λ r. stream_of r < n → is_sound_in_order qs (stream_of r) ≡ true) (λ r. stream_of r < n → is_sound rs (stream_of r) ≡ true)
     (λ r fine lt. is_sound-in_order rs (stream_of r) ∙ fine lt) qs lowest.lower))) in
     least-is n (filter (λ m. not (is_sound rs m)) (filter_map stream_number rs)) (numbers-least (is_sound rs) n rs usable lower)
-    (numbers-has (is_sound rs) n (is_sound-in_order rs n ∙ lowest.unsound) rs usable
-    (list_any-IsPermutation (λ r. stream_of r == n) rs qs moved ∙ lowest.has))
+    (numbers-has (is_sound rs) n (is_sound-in_order rs n ∙ lowest.unsound) rs usable (list_any-IsPermutation (λ r. stream_of r == n) rs qs moved ∙ lowest.has))

@@ -1,21 +1,12 @@
 -- What valid records have, and what is made of the records of a map: streams of different numbers need no more of them than there are.
-use Rattle.std.proofs.Common.{◌≡◌, ℕ, ◌<◌, ◌≤◌, List, [], ◌∷◌, length, refl, arith, inl, inr, ◌^◌, IsTrue, MatchOption, Option, Some, None}
-use Rattle.std.proofs.Common.{map}
-use Rattle.std.specs.Prelude.{◌==◌, IsTrue}
-use Rattle.std.specs.List.{AllByRecursion, filter_map, cons_option, range_with_len}
-use Rattle.std.proofs.lemmas.Bool.{cases_Bool}
-use Rattle.ss_summary.specs.Figures.{IsPossible}
-use Rattle.ss_codec.specs.declared.record.Record.{Record}
-use Rattle.ss_codec.specs.declared.record.Record.TheVariants.{Free, Stream, Window, Landmark, Value}
-use Rattle.ss_recover.specs.Carried.{window_of, spelled}
+use Rattle.ss_recover.proofs.Words.{[], ◌<◌, ◌==◌, ◌^◌, ◌∷◌, ◌≡◌, ◌≤◌, AllByRecursion, arith, cases_Bool, cons_option, filter_map, Free, HasValidTimes, inl}
+use Rattle.ss_recover.proofs.Words.{inr, IsLandmark-is_valid, IsPossible, IsStream-is_valid, IsTrue, IsUsable, IsValue-is_valid, IsWindow-is_valid, LATEST_TIME}
+use Rattle.ss_recover.proofs.Words.{length, length-map-range_with_len, List, map, MatchOption, None, Option, range_with_len, Record, records_in, refl, SlotMap}
+use Rattle.ss_recover.proofs.Words.{Some, Spells-decoded, Value, window_of, ℕ}
+use Rattle.ss_codec.specs.declared.record.Record.TheVariants.{Landmark, Stream, Window}
+use Rattle.ss_recover.specs.Carried.{spelled}
 use Rattle.ss_codec.specs.Record.{is_valid}
-use Rattle.ss_codec.proofs.RecordLemmas.{IsLandmark-is_valid, IsStream-is_valid, IsValue-is_valid, IsWindow-is_valid, Spells-decoded}
-use Rattle.ss_landmarks.specs.declared.landmarks.TheConstants.{LATEST_TIME}
-use Rattle.ss_recover.specs.Usable.{HasValidTimes, IsUsable}
-use Rattle.std.proofs.lemmas.List.FromFn.{length-map-range_with_len}
-use Rattle.ss_journal.specs.Redo.{SlotMap}
 use Rattle.ss_codec.specs.Decoded.{decoded}
-use Rattle.ss_recover.specs.Parts.{records_in}
 
 HasValidTimes-interval : (values start : ℕ) (finish : Option ℕ) →
     MatchOption finish ((values ≡ 0) × (start ≤ LATEST_TIME)) (λ f. (values < 2 ^ 32) × (start ≤ f) × (f ≤ LATEST_TIME)) →
@@ -25,8 +16,7 @@ HasValidTimes-interval values start (Some f) is = (is.1, is.2)
 
 pub IsUsable-valid : (r : Record) → IsTrue (is_valid r) → (r ≡ Free → ⊥) → IsUsable r
 IsUsable-valid Free valid other = absurd (other refl)
-IsUsable-valid (Stream id name params dropped) valid other =
-    let is = IsStream-is_valid id name params dropped valid in (is.ranged, omega (arith, is.number))
+IsUsable-valid (Stream id name params dropped) valid other = let is = IsStream-is_valid id name params dropped valid in (is.ranged, omega (arith, is.number))
 IsUsable-valid (Window id first summary) valid other =
     let is = IsWindow-is_valid id first summary valid in
     let possible = is.possible in
@@ -75,13 +65,10 @@ few-records found =
 pub all-window_of : (number : ℕ) (rs : List Record) → AllByRecursion IsFine rs →
     AllByRecursion (λ w. IsPossible w.summary) (filter_map (window_of number) rs)
 all-window_of number [] valid = tt
-all-window_of number (Free ∷ rs) valid = all-window_of number rs valid.1
-all-window_of number (Stream id name params dropped ∷ rs) valid = all-window_of number rs valid.1
 all-window_of number (Window id first f ∷ rs) valid =
     let rest = all-window_of number rs valid.1 in
     elim (cases_Bool (id == number)) [
       | inl same ↦ rw same ((valid.0 (λ free. cc)).2, rest)
       | inr other ↦ rw other rest
     ]
-all-window_of number (Landmark id n values start finish ∷ rs) valid = all-window_of number rs valid.1
-all-window_of number (Value id n index t v ∷ rs) valid = all-window_of number rs valid.1
+all-window_of number (_ ∷ rs) valid = all-window_of number rs valid.1

@@ -1,22 +1,15 @@
 -- Maps of images: each slot has its 128 bytes, and maps that are the same carry the same.
-use Rattle.std.proofs.Common.{◌≡◌, ℕ, ◌<◌, ◌≤◌, ◌^◌, List, [], ◌∷◌, map, drop, length, refl, sym, ap, subst, ◌∙◌, arith, inl, inr}
-use Rattle.std.specs.List.{AllByRecursion, range_with_len}
-use Rattle.std.proofs.lemmas.Bool.{cases_Bool, cases_lt, cond-false, cond-true, cond_both, le-ltb, lt-ltb}
-use Rattle.std.proofs.lemmas.List.{length-drop, length-replicate, length-take}
-use Rattle.std.proofs.lemmas.List.Elements.{All-head, All-tail}
+use Rattle.ss_recover.proofs.Words.{[], ◌<◌, ◌^◌, ◌∙◌, ◌∷◌, ◌≡◌, ◌≤◌, All-head, All-tail, AllByRecursion, ap, arith, blank_map, cases_Bool, cases_lt}
+use Rattle.ss_recover.proofs.Words.{cond-false, cond-true, cond_both, drop, file_map, FillSlots, HasWholeSlots, inl, inr, le-ltb, length, length-drop}
+use Rattle.ss_recover.proofs.Words.{length-replicate, length-take, List, lt-ltb, map, MOST_SLOTS, not_a_store, occupied, Put, puts_in_use, range_with_len, redo}
+use Rattle.ss_recover.proofs.Words.{redo-born, redo-neither, redo-unborn, refl, SameMap, slot_within, SlotMap, stands, StandsFor, StandsFor-parts, subst, sym}
+use Rattle.ss_recover.proofs.Words.{with_put, with_puts, zeros, ℕ}
 use Rattle.ss_journal.specs.Checks.{slot_in}
-use Rattle.ss_journal.specs.Format.{kind_of, is_born, is_unborn, slot_at, slot_place, slots_in}
-use Rattle.ss_journal.specs.Puts.{FillSlots, with_put, with_puts}
-use Rattle.ss_journal.specs.Redo.{SameMap, SlotMap, StandsFor, blank_map, file_map, not_a_store, puts_in_use, redo, stands, zeros}
-use Rattle.ss_journal.specs.declared.format.TheConstants.{MOST_SLOTS}
-use Rattle.ss_journal.specs.declared.put.Put.{Put}
+use Rattle.ss_journal.specs.Format.{is_born, is_unborn, kind_of, slot_at, slot_place, slots_in}
 use Rattle.ss_journal.proofs.CheckLemmas.{length-slot_form}
-use Rattle.ss_journal.proofs.MapLemmas.{slot_within}
 use Rattle.ss_journal.proofs.PutLemmas.{extent_after-bound}
-use Rattle.ss_journal.proofs.RedoLemmas.{StandsFor-parts, redo-born, redo-neither, redo-unborn}
 use Rattle.ss_codec.specs.Decoded.{decoded}
 use Rattle.ss_recover.specs.Carried.{spelled}
-use Rattle.ss_recover.specs.Held.{HasWholeSlots, occupied}
 use Rattle.ss_recover.specs.Parts.{carried}
 use Rattle.ss_recover.proofs.Lists.{all_weaker, range-within}
 use Rattle.ss_recover.proofs.Occupied.{filled-same}

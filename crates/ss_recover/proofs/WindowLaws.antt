@@ -1,32 +1,16 @@
 -- The windows among records, one after another: what is asked of those that are left, and where they are held.
-use Rattle.std.proofs.Common.{◌≡◌, ◌∙◌, ℕ, ◌+◌, ◌<◌, ◌≤◌, Bool, true, false, ◌&&◌, cond, List, [], ◌∷◌, ◌++◌, map, length, take, drop, get_or, refl, sym, ap}
-use Rattle.std.proofs.Common.{All, Option, Some, None, add-one, arith, append-nil, subst}
-use Rattle.std.specs.Prelude.{◌==◌, nat_le, nat_lt}
-use Rattle.std.specs.List.{cons_option}
-use Rattle.std.proofs.Math.Seq.{drop-cons}
-use Rattle.std.proofs.lemmas.Bool.{and_from, and_left, cond-true, eq-eqb, le-leb, ne_eqb}
-use Rattle.std.proofs.lemmas.List.{length-map, map-append, take_more}
-use Rattle.std.proofs.lemmas.List.Elements.{filter-append, filter_map-append}
-use Rattle.std.proofs.lemmas.List.Sums.{count_by-le-length, length-filter, sum_by-append}
-use Rattle.ss_codec.specs.declared.record.Record.{Record}
-use Rattle.ss_codec.specs.declared.record.Record.TheVariants as records
+use Rattle.ss_recover.proofs.Words.{[], ◌&&◌, ◌++◌, ◌+◌, ◌<◌, ◌==◌, ◌∙◌, ◌∷◌, ◌≡◌, ◌≤◌, add-one, All, and_from, and_left, ap, append-nil, AreWindowsOf, arith}
+use Rattle.ss_recover.proofs.Words.{Bool, cond, cond-true, cons_option, count_by-le-length, drop, drop-cons, Entry, eq-eqb, false, filter-append}
+use Rattle.ss_recover.proofs.Words.{filter_map-append, Found, found_by, get_or, Grows, is_after, is_window, IsInside, le-leb, length, length-filter, length-map}
+use Rattle.ss_recover.proofs.Words.{List, map, map-append, MOST_RECORDS, MOST_VALUES, nat_le, nat_lt, ne_eqb, newest_time, None, Option, Record, refl}
+use Rattle.ss_recover.proofs.Words.{slots_found, Some, span_held, span_of, stream_of, subst, sum_by-append, sym, take, take_more, taken, tile, tile_from}
+use Rattle.ss_recover.proofs.Words.{times_held, times_of, times_rise, true, Window, window_of, windows_in, without_slots, ℕ}
 use Rattle.ss_line.specs.declared.entry.At.{At}
-use Rattle.ss_line.specs.declared.entry.Entry.{Entry}
 use Rattle.ss_line.specs.declared.line.TheConstants.{MOST_PLACES}
 use Rattle.ss_summary.specs.declared.summary.TheConstants.{GREATEST_COUNT}
-use Rattle.ss_windowing.specs.declared.decay.TheConstants.{MOST_VALUES}
-use Rattle.ss_model.specs.Windows.{newest_time, taken}
-use Rattle.ss_model.specs.declared.types.TheConstants.{MOST_RECORDS}
-use Rattle.ss_model.specs.declared.types.Window.{Window}
-use Rattle.ss_recover.specs.Carried.{window_of}
-use Rattle.ss_recover.specs.Conditions.{tile, tile_from, times_rise}
-use Rattle.ss_recover.specs.Held.{span_held, span_of, times_held, times_of}
-use Rattle.ss_recover.specs.Order.{stream_of}
-use Rattle.ss_recover.specs.Runs.{windows_in}
-use Rattle.ss_recover.specs.Shown.{AreWindowsOf, Grows, IsInside, found_by, is_after, is_window}
-use Rattle.ss_recover.specs.Usable.{slots_found, without_slots}
-use Rattle.ss_recover.specs.declared.found.Found.{Found}
+use Rattle.ss_model.proofs.Closes.{newest_time_push}
 use Rattle.ss_recover.specs.declared.windows.Windows.{Windows}
+use Rattle.ss_codec.specs.declared.record.Record.TheVariants as records
 
 -- the windows of a number among records that were found
 abbrev pub windows_at : ℕ → List Found → List Window
@@ -110,8 +94,7 @@ module _ (n : ℕ) (all : List Found) (i : ℕ) (x : Found) (within : i < length
 
   pub tile-fails : (next : ℕ) → TileTo n all i next → (w : Window) → window_of n x.holds ≡ Some w → (w.first ≡ next → ⊥) → tile (windows_at n all) ≡ false
   tile-fails next to w some apart =
-      and_left (tile_from 1 (windows_at n all)) (nat_le (taken (windows_at n all)) MOST_VALUES)
-      (to.left ∙ ap (tile_from next) (left-window w some)
+      and_left (tile_from 1 (windows_at n all)) (nat_le (taken (windows_at n all)) MOST_VALUES) (to.left ∙ ap (tile_from next) (left-window w some)
       ∙ ap (λ b. b && tile_from (next + w.summary.count) (windows_at n (drop (i + 1) all))) (ne_eqb w.first next apart))
 
 -- at the end
@@ -126,30 +109,21 @@ tile-holds n all i next to none whole =
 
 own-window : (n : ℕ) (r : Record) (w : Window) → window_of n r ≡ Some w → is_window r ≡ true
 own-window n records.Free w is = cc
-own-window n (records.Stream id name params dropped) w is = cc
 own-window n (records.Window id first summary) w is = refl
-own-window n (records.Landmark id number values start finish) w is = cc
-own-window n (records.Value id number index t v) w is = cc
+own-window n _ w is = cc
 
 no-window : (n : ℕ) (r : Record) → stream_of r ≡ n → window_of n r ≡ None → is_window r ≡ false
 no-window n records.Free own is = refl
-no-window n (records.Stream id name params dropped) own is = refl
 no-window n (records.Window id first summary) own is = absurd (
     let w : Window = record { first = first; summary = summary } in
     let wrong : Some w ≡ None = sym (cond-true (id == n) (Some w) None (eq-eqb id n own)) ∙ is in cc)
-no-window n (records.Landmark id number values start finish) own is = refl
-no-window n (records.Value id number index t v) own is = refl
+no-window n _ own is = refl
 
 pub found-more : (p : Record → Bool) (all : List Found) (x : Found) (b : Bool) → p x.holds ≡ b →
     slots_found (found_by p (all ++ x ∷ [])) ≡ slots_found (found_by p all) ++ slots_found (cond b (x ∷ []) [])
 found-more p all x b is =
     ap slots_found (filter-append (λ (f : Found). p f.holds) all (x ∷ []) ∙ ap (λ c. found_by p all ++ cond c (x ∷ []) []) is)
     ∙ map-append (λ (f : Found). f.slot) (found_by p all) (cond b (x ∷ []) [])
-
-newest_time-push : (ws : List Window) (w : Window) → newest_time (ws ++ w ∷ []) ≡ Some w.summary.t_last
-newest_time-push [] w = refl
-newest_time-push (v ∷ []) w = refl
-newest_time-push (v ∷ u ∷ us) w = newest_time-push (u ∷ us) w
 
 module _ (n : ℕ) (all : List Found) (x : Found) (windows : Windows) (are : AreWindowsOf n all windows) where
   pub AreWindowsOf-other : stream_of x.holds ≡ n → window_of n x.holds ≡ None → AreWindowsOf n (all ++ x ∷ []) windows
@@ -159,8 +133,7 @@ module _ (n : ℕ) (all : List Found) (x : Found) (windows : Windows) (are : Are
       record {
         positions = are.positions ∙ ap (map span_of) (sym same);
         times = are.times ∙ ap (map times_of) (sym same);
-        entries =
-            are.entries ∙ sym (found-more is_window all x false (no-window n x.holds own none) ∙ append-nil (slots_found (found_by is_window all)));
+        entries = are.entries ∙ sym (found-more is_window all x false (no-window n x.holds own none) ∙ append-nil (slots_found (found_by is_window all)));
         newest = are.newest ∙ ap newest_time (sym same);
       }
 
@@ -181,7 +154,7 @@ module _ (n : ℕ) (all : List Found) (x : Found) (windows : Windows) (are : Are
         entries =
             ap (map (λ (e : Entry). e.slot)) more ∙ map-append (λ (e : Entry). e.slot) (map second windows.line.entries) (grows.entry ∷ [])
             ∙ (λ i. are.entries i ++ grows.in_slot i ∷ []) ∙ sym (found-more is_window all x true (own-window n x.holds w some));
-        newest = grows.newest ∙ sym (ap newest_time one ∙ newest_time-push (windows_at n all) w);
+        newest = grows.newest ∙ sym (ap newest_time one ∙ newest_time_push (windows_at n all) w);
       }
 
 pub AreWindowsOf-none : (n : ℕ) (windows : Windows) → windows.line.entries ≡ [] → windows.newest ≡ None → AreWindowsOf n [] windows

@@ -23,43 +23,29 @@ stream_number (Value id number index t v) = Some id
 
 -- the stream that a record creates, if it is a stream's record
 abbrev pub created_by : Record → Option State.Created
-created_by Free = None
 created_by (Stream id name params dropped) = Some (record { number = id; name = name; params = params })
-created_by (Window id first summary) = None
-created_by (Landmark id number values start finish) = None
-created_by (Value id number index t v) = None
+created_by _ = None
 
 -- the same of one that stands: a stream's record that isn't dropped
 abbrev pub stands_by : Record → Option State.Created
-stands_by Free = None
 stands_by (Stream id name params dropped) = if dropped then None else Some (record { number = id; name = name; params = params })
-stands_by (Window id first summary) = None
-stands_by (Landmark id number values start finish) = None
-stands_by (Value id number index t v) = None
+stands_by _ = None
 
 -- whether a record is that of the stream of this number, and says that it was dropped
 abbrev pub is_drop_of : ℕ → Record → Bool
-is_drop_of number Free = false
 is_drop_of number (Stream id name params dropped) = dropped && id == number
-is_drop_of number (Window id first summary) = false
-is_drop_of number (Landmark id n values start finish) = false
-is_drop_of number (Value id n index t v) = false
+is_drop_of number _ = false
 
 -- the window of a record, if it is one of the stream of this number
 abbrev pub window_of : ℕ → Record → Option Model.Window
-window_of number Free = None
-window_of number (Stream id name params dropped) = None
 window_of number (Window id first summary) = if id == number then Some (record { first = first; summary = summary }) else None
-window_of number (Landmark id n values start finish) = None
-window_of number (Value id n index t v) = None
+window_of number _ = None
 
 -- whether a record is that of a landmark of the stream of this number, or of a value of one
 abbrev pub is_mark_of : ℕ → Record → Bool
-is_mark_of number Free = false
-is_mark_of number (Stream id name params dropped) = false
-is_mark_of number (Window id first summary) = false
 is_mark_of number (Landmark id n values start finish) = id == number
 is_mark_of number (Value id n index t v) = id == number
+is_mark_of number _ = false
 
 -- an element before the first one whose key isn't less
 abbrev pub put_in_order : {X : Type 0} → (X → ℕ) → X → List X → List X

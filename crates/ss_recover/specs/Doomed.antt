@@ -17,11 +17,8 @@ is_of number r = option_map_or (λ n. n == number) (stream_number r) false
 
 -- whether a record is a stream's own
 abbrev pub is_own : Record → Bool
-is_own Free = false
 is_own (Stream id name params dropped) = true
-is_own (Window id first summary) = false
-is_own (Landmark id number values start finish) = false
-is_own (Value id number index t v) = false
+is_own _ = false
 
 -- Whether a record may go and leave the others: it is of a dropped stream, and none of them would then be of a stream without
 -- its own record.

@@ -4,7 +4,7 @@ use Rattle.std.specs.Prelude.{option_and_then, option_to_list, Option, Some, Non
 use Rattle.std.specs.List.{list_all}
 use Rattle.std.specs.Option.{option_map_or}
 use Rattle.ss_codec.specs.declared.record.Record.{Record}
-use Rattle.ss_codec.specs.declared.record.Record.TheVariants.{Free, Stream, Window, Landmark, Value}
+use Rattle.ss_codec.specs.declared.record.Record.TheVariants.{Landmark, Value}
 use Rattle.ss_landmarks.specs.Free.{is_up_to}
 use Rattle.ss_landmarks.specs.Landmark as marks
 use Rattle.ss_landmarks.specs.Landmark.{LandmarkValue, with_value}
@@ -49,9 +49,6 @@ is_next_value marked number index t =
 
 -- the landmarks with one more record of a landmark or a value, if it may come after those so far. Others change nothing.
 abbrev pub marked_with : Marked → Record → Option Marked
-marked_with marked Free = Some marked
-marked_with marked (Stream id name params dropped) = Some marked
-marked_with marked (Window id first summary) = Some marked
 marked_with marked (Landmark id number values start finish) =
     if is_next_landmark marked number start
     then Some (record {
@@ -68,6 +65,7 @@ marked_with marked (Value id number index t v) =
       said = marked.said;
     })
     else None
+marked_with marked _ = Some marked
 
 -- the same, unless one before it may not come
 abbrev pub marked_on : Option Marked → Record → Option Marked

@@ -9,7 +9,7 @@ use Rattle.ss_catalog.specs.Params.{step_number}
 use Rattle.ss_catalog.specs.declared.TheConstants.{MOST_STREAMS}
 use Rattle.ss_codec.specs.declared.record.Record.{Record}
 use Rattle.ss_codec.specs.declared.record.Record.TheVariants as records
-use Rattle.ss_codec.specs.declared.record.Record.TheVariants.{Free, Stream}
+use Rattle.ss_codec.specs.declared.record.Record.TheVariants.{Stream}
 use Rattle.ss_model.specs.Marks.{lies_free}
 use Rattle.ss_model.specs.Standing.{IsState}
 use Rattle.ss_model.specs.State as Streams
@@ -58,12 +58,9 @@ may_stand names name = nat_lt (length names) MOST_STREAMS && not (list_any (same
 -- that is new. Of the others nothing more is asked where it says that the stream was dropped.
 abbrev pub is_run : List (List ℕ) → List Record → Bool
 is_run names [] = false
-is_run names (Free ∷ rest) = false
 is_run names (Stream id name params dropped ∷ rest) =
     may_stand names name && (not (list_any is_own rest) && (dropped || has_sound_values_within (step_number params.within) rest id))
-is_run names (records.Window id first summary ∷ rest) = false
-is_run names (records.Landmark id number values start finish ∷ rest) = false
-is_run names (records.Value id number index t v ∷ rest) = false
+is_run names (_ ∷ rest) = false
 
 -- the records of the number meet all conditions, where those of each stream come in order
 abbrev pub is_sound_in_order : List Record → ℕ → Bool

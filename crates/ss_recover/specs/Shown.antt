@@ -113,25 +113,16 @@ ShowsLast (Some c) landmarks latest m = IsLast c landmarks latest m
 
 -- which record was found
 abbrev pub is_landmark : Record → Bool
-is_landmark records.Free = false
-is_landmark (records.Stream id name params dropped) = false
-is_landmark (records.Window id first summary) = false
 is_landmark (records.Landmark id number values start finish) = true
-is_landmark (records.Value id number index t v) = false
+is_landmark _ = false
 
 abbrev pub is_value : Record → Bool
-is_value records.Free = false
-is_value (records.Stream id name params dropped) = false
-is_value (records.Window id first summary) = false
-is_value (records.Landmark id number values start finish) = false
 is_value (records.Value id number index t v) = true
+is_value _ = false
 
 abbrev pub is_window : Record → Bool
-is_window records.Free = false
-is_window (records.Stream id name params dropped) = false
 is_window (records.Window id first summary) = true
-is_window (records.Landmark id number values start finish) = false
-is_window (records.Value id number index t v) = false
+is_window _ = false
 
 -- the stream's own record
 abbrev pub head_found : ℕ → Created → Found

@@ -1,16 +1,6 @@
-use Rattle.std.proofs.Common.{◌≡◌, ◌∙◌, true, Ok, refl, sym, ap, ap₂, subst, List}
-use Rattle.std.specs.Prelude.{◌&&◌}
-use Rattle.std.specs.List.{list_all}
-use Rattle.std.proofs.lemmas.Bool.{and_from}
-use Rattle.ss_catalog.specs.Params.{step_number}
-use Rattle.ss_catalog.specs.declared.params.Params.{Params}
-use Rattle.ss_landmarks.specs.Landmark.{Landmark}
-use Rattle.ss_model.specs.Marks.{later, lies_free}
-use Rattle.ss_recover.specs.Conditions.{keep_step, tile, times_rise}
-use Rattle.ss_recover.specs.Marked.{are_marks, landmarks_made}
-use Rattle.ss_recover.specs.Runs.{has_sound_values_in_order, marks_in, windows_in}
-use Rattle.ss_recover.specs.Shown.{AreMade, MakesMarks}
-use Rattle.ss_recover.specs.Usable.{without_slots}
+use Rattle.ss_recover.proofs.Words.{◌&&◌, ◌∙◌, ◌≡◌, and_from, ap, ap₂, are_marks, AreMade, has_sound_values_in_order, keep_step, Landmark, landmarks_made}
+use Rattle.ss_recover.proofs.Words.{later, lies_free, List, list_all, MakesMarks, marks_in, Ok, Params, refl, step_number, subst, sym, tile, times_rise, true}
+use Rattle.ss_recover.proofs.Words.{windows_in, without_slots}
 use Rattle.ss_recover.proofs.building.build.Goals as goal
 
 pub returns : goal.returns

@@ -1,9 +1,5 @@
-use Rattle.std.proofs.Common.{◌≡◌, ℕ, ◌+◌, ◌-◌, Bool, true, false, cond, List, [], refl, ap, ◌∙◌, arith}
-use Rattle.std.specs.Prelude.{◌==◌, count_by}
-use Rattle.std.specs.List.{range_with_len}
-use Rattle.std.proofs.lemmas.List.Sums.{sum_by-cons}
-use Rattle.ss_landmarks.specs.Free.{free, is_free}
-use Rattle.ss_landmarks.specs.Landmark.{Landmark}
+use Rattle.ss_recover.proofs.Words.{[], ◌+◌, ◌-◌, ◌==◌, ◌∙◌, ◌≡◌, ap, arith, Bool, cond, count_by, false, free, is_free, Landmark, List, range_with_len, refl}
+use Rattle.ss_recover.proofs.Words.{sum_by-cons, true, ℕ}
 use Rattle.ss_recover.proofs.free.is_free.Goals as goal
 
 -- of one time, one is free or none

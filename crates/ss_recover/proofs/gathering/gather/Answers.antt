@@ -1,10 +1,7 @@
-use Rattle.std.proofs.Common.{◌≡◌, ◌∙◌, ◌≤◌, List, ℕ, ap, arith, rules, subst, sym}
+use Rattle.ss_recover.proofs.Words.{◌∙◌, ◌≡◌, ◌≤◌, after-step, ap, AreFoundBelow, arith, IsKept, IsSealed, JournalState, List, rules, StandsFor, step-from}
+use Rattle.ss_recover.proofs.Words.{step-pair, step-refused, subst, sym, ℕ}
 use Rattle.ss_outside.proofs.CrashLemmas.{reads-joined}
-use Rattle.ss_journal.specs.Kept.{IsKept, IsSealed, JournalState}
-use Rattle.ss_journal.specs.Redo.{StandsFor}
-use Rattle.ss_journal.proofs.StepLemmas.{after-step, step-from, step-pair, step-refused}
-use Rattle.ss_recover.specs.Gathered.{AreFoundBelow}
-use Rattle.ss_recover.proofs.GatherLemmas.{IsLowestBad-told, StandsFor-sealed, extent-kept}
+use Rattle.ss_recover.proofs.GatherLemmas.{extent-kept, IsLowestBad-told, StandsFor-sealed}
 use Rattle.ss_recover.proofs.gathering.gather.Goals as goal
 
 pub read_page-requires-clause-one_disk : goal.read_page-requires-clause-one_disk

@@ -1,8 +1,5 @@
-use Rattle.std.proofs.Common.{◌≡◌, ◌-◌, ◌%◌, ◌<◌, ◌≤◌}
-use Rattle.std.specs.Vec.{vec_capacity}
+use Rattle.ss_recover.proofs.Words.{◌%◌, ◌-◌, ◌<◌, ◌≡◌, ◌≤◌, AreFoundBelow, AreGathered, FindsOut, fine, vec_capacity}
 use Rattle.ss_outside.specs.Step.{Step}
-use Rattle.ss_outside.specs.Verdict.{fine}
-use Rattle.ss_recover.specs.Gathered.{AreFoundBelow, AreGathered, FindsOut}
 use Rattle.ss_recover.proofs.gathering.gather.Given as goal
 
 abbrev pub invariant-loop-slot : goal.invariant-loop-slot

@@ -1,5 +1,4 @@
-use Rattle.std.proofs.Common.{◌≡◌, sym, inl, inr}
-use Rattle.ss_codec.specs.declared.record.Record.TheVariants.{Free}
+use Rattle.ss_recover.proofs.Words.{◌≡◌, Free, inl, inr, sym}
 use Rattle.ss_recover.proofs.ValidRecords.{IsUsable-valid}
 use Rattle.ss_recover.proofs.gathering.record_in.Goals as goal
 

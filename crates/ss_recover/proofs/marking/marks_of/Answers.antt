@@ -1,13 +1,6 @@
-use Rattle.std.proofs.Common.{◌≡◌, ◌+◌, ◌∙◌, List, [], ◌∷◌, ◌++◌, Err, Ok, suc, take, drop, sym, ap, subst}
-use Rattle.std.proofs.lemmas.List.{take_all, take_more}
-use Rattle.std.proofs.lemmas.Result.{err_from_is_err_and}
-use Rattle.ss_recover.specs.Marked.{are_marks, marked_with, nothing_marked}
-use Rattle.ss_recover.specs.Order.{stream_of}
-use Rattle.ss_recover.specs.Runs.{marks_in}
-use Rattle.ss_recover.specs.Shown.{MakesMarks, ShowsMarks, StepsAs}
-use Rattle.ss_recover.specs.Usable.{without_slots}
-use Rattle.ss_recover.specs.declared.found.Found.{Found}
-use Rattle.ss_recover.proofs.MarkLaws.{ShowsMarks-none, are-made, close-ready, marked-next, stops}
+use Rattle.ss_recover.proofs.Words.{[], ◌++◌, ◌+◌, ◌∙◌, ◌∷◌, ◌≡◌, ap, are_marks, drop, Err, err_from_is_err_and, Found, List, MakesMarks, marked_with, marks_in}
+use Rattle.ss_recover.proofs.Words.{nothing_marked, Ok, ShowsMarks, StepsAs, stream_of, subst, suc, sym, take, take_all, take_more, without_slots}
+use Rattle.ss_recover.proofs.MarkLaws.{are-made, close-ready, marked-next, ShowsMarks-none, stops}
 use Rattle.ss_recover.proofs.RunWalk.{at-index}
 use Rattle.ss_recover.proofs.WindowLaws.{each-at}
 use Rattle.ss_recover.proofs.marking.marks_of.Goals as goal
@@ -38,8 +31,7 @@ returns-then-not-branch c =
     ap (λ (fs : List Found). are_marks (marks_in c.args.id (without_slots fs))) (at-index all i x c.loop-one-test.true c.one-item.is)
     ∙ stops c.loop-one.marks c.args.id so_far.0 (take i all) so_far.1 x (drop (suc i) all) own
     (subst (λ b. StepsAs (Ok b) (marked_with so_far.0 x.holds) (λ next. ShowsMarks c.take.new.self (stream_of x.holds) next (take i all ++ x ∷ [])))
-    c.if-not-branch.true
-    (c.in_ok-take.ensures so_far.0 (take i all) (subst (λ n. ShowsMarks c.loop-one.marks n so_far.0 (take i all)) (sym own) so_far.1)))
+    c.if-not-branch.true (c.in_ok-take.ensures so_far.0 (take i all) (subst (λ n. ShowsMarks c.loop-one.marks n so_far.0 (take i all)) (sym own) so_far.1)))
 
 pub loop-one-preserved : goal.loop-one-preserved
 loop-one-preserved c =
@@ -50,8 +42,7 @@ loop-one-preserved c =
     let own = each-at (λ f. stream_of f.holds ≡ c.args.id) all i x c.requires.own c.loop-one-test.true c.one-item.is in
     let step =
     subst (λ b. StepsAs (Ok b) (marked_with so_far.0 x.holds) (λ next. ShowsMarks c.take.new.self (stream_of x.holds) next (take i all ++ x ∷ [])))
-    c.if-not-branch.false
-    (c.in_ok-take.ensures so_far.0 (take i all) (subst (λ n. ShowsMarks c.loop-one.marks n so_far.0 (take i all)) (sym own) so_far.1)) in
+    c.if-not-branch.false (c.in_ok-take.ensures so_far.0 (take i all) (subst (λ n. ShowsMarks c.loop-one.marks n so_far.0 (take i all)) (sym own) so_far.1)) in
     let next = marked-next (λ next. ShowsMarks c.take.new.self (stream_of x.holds) next (take i all ++ x ∷ [])) (marked_with so_far.0 x.holds) step in (
       next.0,
       subst (λ n. ShowsMarks c.take.new.self n next.0 (take (i + 1) all)) own

@@ -1,6 +1,4 @@
-use Rattle.std.proofs.Common.{take}
-use Rattle.ss_recover.specs.Marked.{Marked}
-use Rattle.ss_recover.specs.Shown.{ShowsMarks}
+use Rattle.ss_recover.proofs.Words.{Marked, ShowsMarks, take}
 use Rattle.ss_recover.proofs.marking.marks_of.Given as goal
 
 abbrev pub invariant-loop-one : goal.invariant-loop-one

@@ -1,21 +1,10 @@
-use Rattle.std.proofs.Common.{◌≡◌, Err, Ok, ◌∙◌, All, List, length, refl, sym, ap, subst, arith}
-use Rattle.std.proofs.lemmas.Result.{err_from_is_err_and}
-use Rattle.std.proofs.lemmas.List.Sorted.{All-permutation, length_permutation}
-use Rattle.ss_outside.specs.Verdict.{Counted}
+use Rattle.ss_recover.proofs.Words.{◌∙◌, All, All-permutation, ap, AreBelow, AreFound, AreWholeBeside, arith, Counted, Err, err_from_is_err_and, Found}
+use Rattle.ss_recover.proofs.Words.{found_key, IsUsable, JournalState, length, length_permutation, List, Ok, RecordsState, refl, Rises, step-from, subst, sym}
+use Rattle.ss_recover.proofs.Words.{WalksAs}
 use Rattle.ss_outside.proofs.StepLemmas.{step-verdict}
-use Rattle.ss_journal.specs.Kept.{JournalState}
-use Rattle.ss_journal.proofs.StepLemmas.{step-from}
-use Rattle.ss_records.specs.Kept.{RecordsState}
-use Rattle.ss_records.specs.Live.{AreBelow}
-use Rattle.ss_recover.specs.Gathered.{AreFound}
-use Rattle.ss_recover.specs.Held.{AreWholeBeside}
-use Rattle.ss_recover.specs.Order.{Rises, found_key}
-use Rattle.ss_recover.specs.Runs.{WalksAs}
-use Rattle.ss_recover.specs.Usable.{IsUsable}
-use Rattle.ss_recover.specs.declared.found.Found.{Found}
-use Rattle.ss_recover.proofs.GatherLemmas.{AreLiveOver-read, IsKept-read, few-gathered, slots-gathered, verdict-told}
+use Rattle.ss_recover.proofs.GatherLemmas.{AreLiveOver-read, few-gathered, IsKept-read, slots-gathered, verdict-told}
 use Rattle.ss_recover.proofs.InOrder.{Rises-in_order}
-use Rattle.ss_recover.proofs.RebuiltParts.{refuses-found, rebuilds, walk-verdict, whole-from_walk}
+use Rattle.ss_recover.proofs.RebuiltParts.{rebuilds, refuses-found, walk-verdict, whole-from_walk}
 use Rattle.ss_recover.proofs.WholeSlots.{HasWholeSlots-StandsFor}
 use Rattle.ss_recover.proofs.rebuilding.rebuild.Goals as goal
 

@@ -1,7 +1,4 @@
-use Rattle.std.proofs.Common.{rules}
-use Rattle.std.proofs.lemmas.List.Sorted.{answers_always}
-use Rattle.std.proofs.lemmas.Result.{on_ok_weaker}
-use Rattle.ss_recover.specs.Order.{found_key}
+use Rattle.ss_recover.proofs.Words.{answers_always, found_key, on_ok_weaker, rules}
 use Rattle.ss_recover.proofs.OrderLemmas.{in_order-from_sort}
 use Rattle.ss_recover.proofs.sorting.sort.Goals as goal
 

@@ -1,7 +1,4 @@
-use Rattle.std.proofs.Common.{◌≡◌, false, take}
-use Rattle.std.specs.List.{list_any}
-use Rattle.ss_recover.specs.Doomed.{is_own}
-use Rattle.ss_recover.specs.Usable.{without_slots}
+use Rattle.ss_recover.proofs.Words.{◌≡◌, false, is_own, list_any, take, without_slots}
 use Rattle.ss_recover.proofs.walking.has_own.Given as goal
 
 abbrev pub invariant-loop-one : goal.invariant-loop-one

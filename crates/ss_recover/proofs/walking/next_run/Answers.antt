@@ -1,10 +1,6 @@
-use Rattle.std.proofs.Common.{◌∙◌, ℕ, ◌-◌, ◌≤◌, ◌<◌, length, take, drop, leb, leb-true, rules, sym, ap}
-use Rattle.std.proofs.lemmas.Bool.{leb-false}
-use Rattle.std.proofs.lemmas.List.{take_rest}
-use Rattle.std.proofs.lemmas.List.Sorted.{IsPartitionPoint-from_clause, IsPartitionedBy-leb}
-use Rattle.ss_recover.specs.Order.{stream_of}
-use Rattle.ss_recover.specs.declared.found.Found.{Found}
-use Rattle.ss_recover.proofs.RunOrder.{IsNextRun-from, Rises-pairs, all-dropped, all-taken, sliced-rises}
+use Rattle.ss_recover.proofs.Words.{◌-◌, ◌<◌, ◌∙◌, ◌≤◌, ap, drop, Found, IsPartitionedBy-leb, IsPartitionPoint-from_clause, leb, leb-false, leb-true, length}
+use Rattle.ss_recover.proofs.Words.{rules, stream_of, sym, take, take_rest, ℕ}
+use Rattle.ss_recover.proofs.RunOrder.{all-dropped, all-taken, IsNextRun-from, Rises-pairs, sliced-rises}
 use Rattle.ss_recover.proofs.walking.next_run.Goals as goal
 
 pub returns : goal.returns

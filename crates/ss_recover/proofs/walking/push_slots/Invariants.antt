@@ -1,5 +1,4 @@
-use Rattle.std.proofs.Common.{◌≡◌, ◌++◌, take}
-use Rattle.ss_recover.specs.Usable.{slots_found}
+use Rattle.ss_recover.proofs.Words.{◌++◌, ◌≡◌, slots_found, take}
 use Rattle.ss_recover.proofs.walking.push_slots.Given as goal
 
 abbrev pub invariant-loop-one : goal.invariant-loop-one

@@ -1,9 +1,4 @@
-use Rattle.std.proofs.Common.{◌∙◌, Err, sym, ap, subst, arith}
-use Rattle.std.proofs.lemmas.List.{take_all}
-use Rattle.std.proofs.lemmas.Result.{err_from_is_err_and}
-use Rattle.ss_recover.specs.Runs.{WalksAs}
-use Rattle.ss_recover.specs.Shown.{TakesAs}
-use Rattle.ss_recover.specs.Usable.{without_slots}
+use Rattle.ss_recover.proofs.Words.{◌∙◌, ap, arith, Err, err_from_is_err_and, subst, sym, take_all, TakesAs, WalksAs, without_slots}
 use Rattle.ss_recover.proofs.RunsDone.{AreDone, AreDone-none, IsDoneTo-more, walk-refused, walks-end}
 use Rattle.ss_recover.proofs.RunStream.{nothing-before}
 use Rattle.ss_recover.proofs.walking.streams_of.Goals as goal

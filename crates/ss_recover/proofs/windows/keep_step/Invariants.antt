@@ -1,7 +1,5 @@
-use Rattle.std.proofs.Common.{◌≡◌, drop}
-use Rattle.ss_target.specs.Rule.{rule_of}
+use Rattle.ss_recover.proofs.Words.{◌≡◌, drop, keep_step, rule_of}
 use Rattle.ss_target.specs.Targets.{params_of}
-use Rattle.ss_recover.specs.Conditions.{keep_step}
 use Rattle.ss_recover.proofs.WindowLaws.{windows_at}
 use Rattle.ss_recover.proofs.windows.keep_step.Given as goal
 

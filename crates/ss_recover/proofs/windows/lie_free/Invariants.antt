@@ -1,6 +1,4 @@
-use Rattle.std.proofs.Common.{◌≡◌, drop}
-use Rattle.std.specs.List.{list_all}
-use Rattle.ss_model.specs.Marks.{lies_free}
+use Rattle.ss_recover.proofs.Words.{◌≡◌, drop, lies_free, list_all}
 use Rattle.ss_recover.proofs.WindowLaws.{windows_at}
 use Rattle.ss_recover.proofs.windows.lie_free.Given as goal
 

@@ -1,7 +1,7 @@
-use Rattle.std.proofs.Common.{◌≡◌, ◌+◌, ◌∙◌, sym, subst, arith}
+use Rattle.ss_recover.proofs.Words.{◌+◌, ◌∙◌, ◌≡◌, arith, subst, sym}
 use Rattle.ss_recover.proofs.WindowLaws.{TileTo, TileTo-other, TileTo-window}
+use Rattle.ss_recover.proofs.windows.tile.Goals.{in-None, in-Some+else-window-next}
 use Rattle.ss_recover.proofs.windows.tile.Goals as goal
-use Rattle.ss_recover.proofs.windows.tile.Goals.{in-Some+else-window-next, in-None}
 
 pub loop-one-preserved : goal.loop-one-preserved
 loop-one-preserved c =

@@ -1,5 +1,4 @@
-use Rattle.std.proofs.Common.{◌≡◌, drop}
-use Rattle.ss_recover.specs.Conditions.{times_rise}
+use Rattle.ss_recover.proofs.Words.{◌≡◌, drop, times_rise}
 use Rattle.ss_recover.proofs.WindowLaws.{rise_from, windows_at}
 use Rattle.ss_recover.proofs.windows.times_rise.Given as goal
 

@@ -1,5 +1,4 @@
-use Rattle.std.proofs.Common.{take}
-use Rattle.ss_recover.specs.Shown.{AreWindowsOf}
+use Rattle.ss_recover.proofs.Words.{AreWindowsOf, take}
 use Rattle.ss_recover.proofs.windows.windows_of.Given as goal
 
 abbrev pub invariant-loop-one : goal.invariant-loop-one

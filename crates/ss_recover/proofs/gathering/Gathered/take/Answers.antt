@@ -1,9 +1,7 @@
-use Rattle.std.proofs.Common.{◌≡◌, ◌∙◌, ℕ, List, Bool, true, false, length, refl, sym, ap, arith, rules}
-use Rattle.ss_records.specs.Live.{are_zeros}
+use Rattle.ss_recover.proofs.Words.{◌∙◌, ◌≡◌, ap, are_zeros, arith, false, Found, Gathered, length, List, refl, rules, sym, true, ℕ}
 use Rattle.ss_codec.specs.Decoded.{decoded}
-use Rattle.ss_recover.specs.declared.found.Found.{Found}
-use Rattle.ss_recover.specs.declared.gathering.Gathered.{Gathered}
-use Rattle.ss_recover.proofs.GatherLemmas.{AreFoundBelow-free, AreFoundBelow-live, AreGathered-free, AreGathered-live, IsLowestBad-here, length-gathered, spells-none}
+use Rattle.ss_recover.proofs.GatherLemmas.{AreFoundBelow-free, AreFoundBelow-live, AreGathered-free, AreGathered-live, IsLowestBad-here, length-gathered}
+use Rattle.ss_recover.proofs.GatherLemmas.{spells-none}
 use Rattle.ss_recover.proofs.gathering.Gathered.take.Goals as goal
 
 pub returns-then-are_zeros-clause-gathered : goal.returns-then-are_zeros-clause-gathered

@@ -1,8 +1,5 @@
-use Rattle.std.proofs.Common.{◌≡◌, ◌/◌}
-use Rattle.std.specs.Vec.{vec_capacity}
-use Rattle.ss_journal.specs.Redo.{SlotMap}
+use Rattle.ss_recover.proofs.Words.{◌/◌, ◌≡◌, AreFoundBelow, AreGathered, SlotMap, vec_capacity}
 use Rattle.ss_records.specs.Pages.{IsPage}
-use Rattle.ss_recover.specs.Gathered.{AreFoundBelow, AreGathered}
 use Rattle.ss_recover.proofs.gathering.Gathered.take_page.Given as goal
 
 abbrev pub invariant-loop-slot : goal.invariant-loop-slot

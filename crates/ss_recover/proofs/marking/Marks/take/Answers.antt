@@ -1,12 +1,5 @@
-use Rattle.std.proofs.Common.{ℤ, [], ◌∷◌, ◌++◌, sym, subst}
-use Rattle.std.specs.Int.{w64}
-use Rattle.std.proofs.lemmas.Int.{to_z-of_z}
-use Rattle.ss_codec.specs.declared.record.Record.{Record}
+use Rattle.ss_recover.proofs.Words.{[], ◌++◌, ◌∷◌, IsUsable, marked_with, Record, ShowsMarks, StepsAs, stream_of, subst, sym, to_z-of_z, w64, ℤ}
 use Rattle.ss_codec.specs.declared.record.Record.TheVariants as records
-use Rattle.ss_recover.specs.Marked.{marked_with}
-use Rattle.ss_recover.specs.Order.{stream_of}
-use Rattle.ss_recover.specs.Shown.{ShowsMarks, StepsAs}
-use Rattle.ss_recover.specs.Usable.{IsUsable}
 use Rattle.ss_recover.proofs.marking.Marks.take.Goals as goal
 
 pub returns-in-Landmark : goal.returns-in-Landmark

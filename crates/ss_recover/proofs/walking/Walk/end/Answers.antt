@@ -1,5 +1,4 @@
-use Rattle.std.proofs.Common.{◌∙◌, ◌++◌, ap, refl}
-use Rattle.std.proofs.lemmas.List.Sorted.{IsNonDecreasingBy-from_sort, IsPermutation-sym}
+use Rattle.ss_recover.proofs.Words.{◌++◌, ◌∙◌, ap, IsNonDecreasingBy-from_sort, IsPermutation-sym, refl}
 use Rattle.ss_recover.proofs.OrderLemmas.{Rises-from_sorted}
 use Rattle.ss_recover.proofs.walking.Walk.end.Goals as goal
 

@@ -1,23 +1,8 @@
-use Rattle.std.proofs.Common.{◌≡◌, ◌∙◌, ℕ, Bool, true, false, not, Some, List, [], ◌∷◌, ◌++◌, All, Result, Ok, Err, refl, sym, ap, subst, inl, inr, arith}
-use Rattle.std.specs.Prelude.{◌&&◌, ◌||◌, IfErr, OnOk, ⊤}
-use Rattle.std.specs.List.{list_any}
-use Rattle.std.proofs.lemmas.Bool.{and_from, and_right}
-use Rattle.std.proofs.lemmas.List.Elements.{All-tail}
-use Rattle.ss_catalog.specs.Params.{step_number}
-use Rattle.ss_catalog.specs.declared.params.Params.{Params}
-use Rattle.ss_catalog.specs.declared.stream_id.StreamId.{StreamId}
+use Rattle.ss_recover.proofs.Words.{[], ⊤, ◌&&◌, ◌++◌, ◌||◌, ◌∙◌, ◌∷◌, ◌≡◌, AddsName, All, All-tail, and_from, and_right, ap, arith, Bool, BuildsAs, Created}
+use Rattle.ss_recover.proofs.Words.{Err, false, Found, has_sound_values_within, head_found, IfErr, inl, inr, is_own, is_run, IsHeldOf, IsUsable, List, list_any}
+use Rattle.ss_recover.proofs.Words.{may_stand, names_in, not, Ok, OnOk, OutOfMemory, Params, PutsDropped, PutsStanding, RecoverError, refl, Result, Some}
+use Rattle.ss_recover.proofs.Words.{step_number, stream_of, StreamId, StreamParts, subst, sym, TakesAs, true, Walk, without_slots, ℕ}
 use Rattle.ss_codec.specs.declared.record.Record.TheVariants as records
-use Rattle.ss_model.specs.State.{Created}
-use Rattle.ss_recover.specs.Doomed.{is_own}
-use Rattle.ss_recover.specs.Order.{stream_of}
-use Rattle.ss_recover.specs.Runs.{has_sound_values_within, is_run, may_stand}
-use Rattle.ss_recover.specs.Shown.{AddsName, BuildsAs, IsHeldOf, PutsDropped, PutsStanding, TakesAs, head_found, names_in}
-use Rattle.ss_recover.specs.Usable.{IsUsable, without_slots}
-use Rattle.ss_recover.specs.declared.found.Found.{Found}
-use Rattle.ss_recover.specs.declared.parts.StreamParts.{StreamParts}
-use Rattle.ss_recover.specs.declared.recover_error.RecoverError.{RecoverError}
-use Rattle.ss_recover.specs.declared.recover_error.RecoverError.TheVariants.{OutOfMemory}
-use Rattle.ss_recover.specs.declared.walking.Walk.{Walk}
 use Rattle.ss_recover.proofs.walking.Walk.take.Goals as goal
 
 -- a walk with other names
@@ -74,8 +59,7 @@ returns-then-dropped g c =
     let r = c.in-Stream in
     takes-dropped old c.add_name.new.names c.args.id c.args.run.now rest first.slot (record { number = r.id; name = r.name; params = r.params })
     (subst (λ b. AddsName old.names c.add_name.new.names r.name (Ok b)) c.if-not-branch.false c.in_ok-add_name.ensures)
-    (sym c.has_own.ensures ∙ c.if-has_own.false)
-    (c.in-Some.ensures.cases.0
+    (sym c.has_own.ensures ∙ c.if-has_own.false) (c.in-Some.ensures.cases.0
     ∙ (λ i. record { slot = first.slot; holds = (r.is ∙ ap (records.Stream r.id r.name r.params) c.if-dropped.true) i } ∷ rest))
     c.put_dropped.new.self c.put_dropped.result c.put_dropped.ensures.ok c.put_dropped.ensures.err
 
