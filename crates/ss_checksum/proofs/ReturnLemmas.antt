@@ -1,10 +1,12 @@
 -- One bit doesn't come back to itself within 4,352 steps, so two bits of at most 544 bytes are told.
-use Rattle.std.proofs.Common.{◌≡◌, ◌≢◌, ◌∙◌, refl, ap, ap₂, ℕ, zero, suc, ◌+◌, ◌-◌, ◌*◌, ◌^◌, ◌<◌, ◌≤◌, Bool, true, not, ◌&&◌, ◌==◌, List, length, arith, lit<, lit≤, inl, inr}
+use Rattle.std.proofs.Common.{◌≡◌, ◌≢◌, ◌∙◌, refl, ap, ap₂, ℕ, zero, suc, ◌+◌, ◌-◌, ◌*◌, ◌^◌, ◌<◌, ◌≤◌, Bool, true, not, ◌&&◌, ◌==◌, List, length, arith, lit<}
+use Rattle.std.proofs.Common.{lit≤, inl, inr}
 use Rattle.std.specs.Prelude.{bit_xor}
-use Rattle.std.proofs.Math.Nat.{one-le-pow, pow-le-pow_right, pow-suc}
+use Rattle.std.proofs.Math.Nat.{pow-le-pow_right}
 use Rattle.std.proofs.lemmas.Bool.Decides.{nat_tests}
 use Rattle.std.proofs.lemmas.Bool.{and_parts, cases_lt, cases_eq}
 use Rattle.std.proofs.lemmas.Nat.{pow-add, xor_comm, xor_lt}
+use Rattle.std.proofs.Math.Pow.{pow-lt}
 use Rattle.ss_checksum.specs.Changes.{AreAsLong, difference}
 use Rattle.ss_checksum.specs.Checksum.{after_bit, after_bits}
 use Rattle.ss_checksum.specs.Codeword.{IsChecked}
@@ -53,20 +55,13 @@ pair-some n i m some few inside =
       | inr left ↦ omega (arith, whole, after_bits-some rest (bit_xor (after_bits m 1) 1) (omega (arith, left)) small)
     ]
 
-power-lt : (i j : ℕ) → i < j → 2 ^ i < 2 ^ j
-power-lt i j order =
-    let double : 2 ^ suc i ≡ 2 ^ i * 2 = pow-suc 2 i in
-    let most : 2 ^ suc i ≤ 2 ^ j = pow-le-pow_right {n = 2} (lit≤ tt) order in
-    let some : 0 < 2 ^ i = one-le-pow i 2 (lit≤ tt) in
-    omega (arith, double, most, some)
-
 -- the higher of two bits of a number below a power stands below it
 higher-below : (n i j : ℕ) → i < j → bit_xor (2 ^ i) (2 ^ j) < 2 ^ n → j < n
 higher-below n i j order few =
     elim (cases_lt j n) [
       | inl lt ↦ lt
       | inr ge ↦
-          let apart : bit_xor (1 * 2 ^ j) (2 ^ i) ≡ 1 * 2 ^ j + 2 ^ i = xor_parts 1 j (2 ^ i) (power-lt i j order) in
+          let apart : bit_xor (1 * 2 ^ j) (2 ^ i) ≡ 1 * 2 ^ j + 2 ^ i = xor_parts 1 j (2 ^ i) (pow-lt {i = i} {j = j} order) in
           let one : 1 * 2 ^ j ≡ 2 ^ j = omega arith in
           let same : bit_xor (2 ^ i) (2 ^ j) ≡ 2 ^ j + 2 ^ i = xor_comm (2 ^ i) (2 ^ j) ∙ rw one at apart in
           absurd (omega (arith, few, same, pow-le-pow_right {n = 2} (lit≤ tt) ge))

@@ -1,8 +1,8 @@
 -- Filters as they are spelled, with zeros where they have all bits.
-use Rattle.std.specs.Prelude.{◌≡◌, ℕ, ◌+◌, ◌*◌, ◌-◌, ◌^◌, ◌<◌, Bool, true, false, not, ◌==◌, List, [], ◌∷◌, length, replicate, slice_index}
+use Rattle.std.specs.Prelude.{◌≡◌, ℕ, ◌+◌, ◌*◌, ◌-◌, ◌^◌, ◌<◌, true, false, ◌==◌, List, [], ◌∷◌, length, replicate, slice_index}
 use Rattle.std.specs.List.{list_all}
 use Rattle.std.proofs.Common.{arith, refl, sym, ◌∙◌, inl, inr, lit<}
-use Rattle.std.proofs.lemmas.Bool.{cases_Bool}
+use Rattle.std.proofs.lemmas.Bool.{cases_Bool, not-true}
 use Rattle.std.proofs.lemmas.Bool.Decides.{nat_tests}
 use Rattle.ss_fields.specs.Fields.{number_at, number_bytes}
 use Rattle.ss_fields.proofs.FieldLemmas.{number_at-take}
@@ -76,10 +76,6 @@ pub record IsSpelled (bytes : List ℕ) : Type 0 where
   pub third : word_spelled (filter_in bytes) 2 ≡ number_at 8 bytes 88
   pub fourth : word_spelled (filter_in bytes) 3 ≡ number_at 8 bytes 96
 
-not_false : (b : Bool) → not b ≡ true → b ≡ false
-not_false false test = refl
-not_false true test = sym test
-
 number-not_full : (filter : Filter) → filter_number filter ≡ 1 → is_full filter ≡ false
 number-not_full filter is = elim (cases_Bool (is_full filter)) [
   | inl all ↦ absurd (let none = rw all at is in omega arith)
@@ -89,7 +85,7 @@ number-not_full filter is = elim (cases_Bool (is_full filter)) [
 pub IsSpelled-is_filter_spelled : (bytes : List ℕ) → length bytes ≡ 128 → AreBytes bytes → is_filter_spelled bytes ≡ true → IsSpelled bytes
 IsSpelled-is_filter_spelled bytes long are test = elim (cases_Bool (slice_index bytes 1 == 1)) [
   | inl words ↦
-      (let some : is_full (four (λ k. number_at 8 bytes (72 + 8 * k))) ≡ false = not_false _ (rw words at test) in
+      (let some : is_full (four (λ k. number_at 8 bytes (72 + 8 * k))) ≡ false = not-true _ (rw words at test) in
       let kind : slice_index bytes 1 ≡ 1 = grind (arith, nat_tests) in
       record {
         number = rw (words, some) (sym kind);

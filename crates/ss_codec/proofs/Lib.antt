@@ -8,4 +8,4 @@ mod DroppedRows
 mod StepRows
 pub mod WindowBytes
 mod WindowRows
-mod ZeroLemmas
+pub mod ZeroLemmas

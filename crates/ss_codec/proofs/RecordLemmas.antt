@@ -1,5 +1,5 @@
 -- Each valid record is what its spelling is read as.
-use Rattle.std.specs.Prelude.{◌≡◌, ◌↔◌, ℕ, ◌+◌, ◌-◌, ◌^◌, ◌<◌, ◌≤◌, ◌==◌, ℤ, pos, negsuc, Bool, true, false, ◌&&◌, nat_lt, cond, IsTrue, FitsSigned, List}
+use Rattle.std.specs.Prelude.{◌≡◌, ◌↔◌, ℕ, ◌+◌, ◌-◌, ◌^◌, ◌<◌, ◌≤◌, ◌==◌, ℤ, Bool, true, false, ◌&&◌, nat_lt, cond, IsTrue, FitsSigned, List}
 use Rattle.std.specs.Prelude.{length, replicate, slice_index, take, drop, Option, Some, None, IsSome, IfSome, IfNone, MatchOption}
 use Rattle.std.specs.Int.{w64, w128}
 use Rattle.std.specs.Str.{bytes_eq}
@@ -8,13 +8,14 @@ use Rattle.std.proofs.lemmas.List.{length-drop, length-replicate, length-take}
 use Rattle.std.proofs.lemmas.Int.{ints}
 use Rattle.std.proofs.lemmas.Bool.Decides.{nat_tests}
 use Rattle.std.proofs.lemmas.Slice.Eq.{bytes_eq-Decides}
+use Rattle.std.proofs.lemmas.Bool.{false_from_ne_true}
 use Rattle.ss_fields.specs.Fields.{number_at}
 use Rattle.ss_fields.proofs.FieldLemmas.{number_at-take, i64_at-take, i128_at-take}
 use Rattle.ss_summary.specs.Figures.{Figures, IsPossible}
 use Rattle.ss_summary.specs.Possible.{is_possible, fits_i64}
 use Rattle.ss_summary.specs.declared.summary.TheConstants.{GREATEST_COUNT}
 use Rattle.ss_summary.proofs.SummaryLemmas.{IsPossible-sum}
-use Rattle.ss_summary.proofs.PossibleLemmas.{is_possible-tells}
+use Rattle.ss_summary.proofs.PossibleLemmas.{fits-true, is_possible-tells, true-fits}
 use Rattle.ss_catalog.specs.Names.{is_name}
 use Rattle.ss_catalog.proofs.NameLemmas.{length-is_name}
 use Rattle.ss_catalog.specs.Params.{in_range, step_number}
@@ -29,10 +30,6 @@ use Rattle.ss_codec.proofs.FieldLemmas.{AreInOrder, HasFields, HasFields-with_fi
 use Rattle.ss_codec.proofs.ParameterLemmas.{AreSmall-in_range, params_in-numbers}
 use Rattle.ss_codec.proofs.FilterSpelling.{filter_in-numbers, word_spelled-fits}
 use Rattle.ss_codec.proofs.FieldOrder.{landmark-in_order, stream-in_order, value-in_order, window-in_order}
-
-pub not_true : (b : Bool) → (b ≡ true → ⊥) → b ≡ false
-not_true true never = absurd (never refl)
-not_true false never = refl
 
 pub four_tests : (a b c d : Bool) → (a && b && c && d) ≡ true → (a ≡ true) × (b ≡ true) × (c ≡ true) × (d ≡ true)
 four_tests true true true true all = (refl, refl, refl, refl)
@@ -141,14 +138,6 @@ unfolding is_valid
 is_valid-IsLandmark id number values start finish stream low high interval =
     let test = is_interval-IsInterval values start finish interval in
     grind (arith, nat_tests)
-
-pub fits-true : (z : ℤ) → fits_i64 z ≡ true → FitsSigned w64 z
-fits-true (pos n) test = let small : n < 2 ^ 63 = grind (arith, nat_tests) in record { sfits = small }
-fits-true (negsuc n) test = let small : n < 2 ^ 63 = grind (arith, nat_tests) in record { sfits = small }
-
-pub true-fits : (z : ℤ) → FitsSigned w64 z → fits_i64 z ≡ true
-true-fits (pos n) fits = let small : n < 2 ^ 63 = fits.sfits in grind (arith, nat_tests)
-true-fits (negsuc n) fits = let small : n < 2 ^ 63 = fits.sfits in grind (arith, nat_tests)
 
 -- what a valid value of a landmark says
 pub record IsValue (id number index t : ℕ) (v : ℤ) : Type 0 where
@@ -298,7 +287,7 @@ value_in-fields id number index t v bytes is has =
     λ i. Value (stream i) (number_is i) (index_is i) (time i) (v_is i)
 
 -- what a spelling has
-spelled : (r : Record) → AreInOrder 128 0 (fields r) → HasFields (spelling r) (fields r)
+pub spelled : (r : Record) → AreInOrder 128 0 (fields r) → HasFields (spelling r) (fields r)
 unfolding spelling
 spelled r order = HasFields-with_fields 128 0 (fields r) (replicate 128 0) (length-replicate {A = ℕ} 128 0) order
 
@@ -373,7 +362,7 @@ tested_figures (Some g) f possible is =
     let test = (is_possible-tells f).1 (possible.0 refl) in
     rw (test, is) refl
 tested_figures None f possible is =
-    let no : is_possible f ≡ false = not_true (is_possible f) (λ test. absurd (cc (possible.1 ((is_possible-tells f).0 test)))) in
+    let no : is_possible f ≡ false = false_from_ne_true (is_possible f) (λ test. absurd (cc (possible.1 ((is_possible-tells f).0 test)))) in
     rw no refl
 
 -- a stream whose name would be too long is none
@@ -384,7 +373,7 @@ checked-long bytes long more =
     let size = length-take (slice_index bytes 2) (drop 24 bytes) in
     let rest = length-drop 24 bytes in
     let dropped = slice_index bytes 3 == 1 in
-    let no : is_valid (Stream (number_at 4 bytes 4) word (params_in 8 56 bytes) dropped) ≡ false = not_true _ (λ valid.
+    let no : is_valid (Stream (number_at 4 bytes 4) word (params_in 8 56 bytes) dropped) ≡ false = false_from_ne_true _ (λ valid.
     let short = (IsStream-is_valid (number_at 4 bytes 4) word (params_in 8 56 bytes) dropped valid).short in
     omega arith) in
     rw no refl

@@ -62,10 +62,6 @@ stream_bytes =
     ++ replicate 72 0
 
 -- how these are spelled
-spelling-free : spelling Free ≡ replicate 128 0
-unfolding spelling
-spelling-free = refl
-
 spelling-stream : spelling stream ≡ stream_bytes
 unfolding spelling Fields.with_field Numbers.number_bytes
 spelling-stream = refl

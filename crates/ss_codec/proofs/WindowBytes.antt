@@ -71,7 +71,7 @@ joined n at bytes field rest is more =
     ∙ ap (λ (xs : List ℕ). part n at bytes ++ xs) (more ∙ sym (drop-drop n at bytes))
     ∙ take-append-drop n (drop at bytes)
 
-three_tests : (a b c : Bool) → (a && b && c) ≡ true → (a ≡ true) × (b ≡ true) × (c ≡ true)
+pub three_tests : (a b c : Bool) → (a && b && c) ≡ true → (a ≡ true) × (b ≡ true) × (c ≡ true)
 three_tests true true true all = (refl, refl, refl)
 three_tests true true false all = absurd cc
 three_tests true false c all = absurd cc

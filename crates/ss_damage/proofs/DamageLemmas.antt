@@ -1,9 +1,10 @@
 -- What is read from damaged bytes: no record where they don't end with their check, and no sound entry.
-use Rattle.std.proofs.Common.{◌≡◌, ◌≢◌, ◌∙◌, refl, sym, ap, subst, ℕ, ◌+◌, ◌-◌, ◌*◌, ◌^◌, ◌<◌, Bool, true, false, List, [], ◌∷◌, length, take, drop, arith, inl, inr, None, Some, Option, ◌⊎◌}
+use Rattle.std.proofs.Common.{◌≡◌, ◌≢◌, ◌∙◌, refl, sym, ap, subst, ℕ, ◌+◌, ◌-◌, ◌*◌, ◌^◌, ◌<◌, List, [], ◌∷◌, length, take, drop, arith, inl, inr, None, Some}
+use Rattle.std.proofs.Common.{Option, ◌⊎◌}
 use Rattle.std.specs.Prelude.{IsFalse, IsTrue, bit_xor, replicate, slice_index}
 use Rattle.std.specs.Int.Bits.{xor_zero_r}
 use Rattle.std.proofs.lemmas.List.{drop-drop, take-take, take_all}
-use Rattle.std.proofs.lemmas.Bool.{cases_eq}
+use Rattle.std.proofs.lemmas.Bool.{cases_eq, false_from_ne_true}
 use Rattle.ss_checksum.specs.Changes.{AreAsLong, difference, number_of}
 use Rattle.ss_checksum.specs.Codeword.{IsChecked}
 use Rattle.ss_checksum.proofs.CodewordLemmas.{bursts, fronts}
@@ -21,7 +22,8 @@ use Rattle.ss_journal.specs.declared.kind.Kind.TheVariants.{Checked}
 use Rattle.ss_journal.specs.declared.put.Put.{Put}
 use Rattle.ss_journal.proofs.CheckLemmas.{length-slot_form, slot_form-twice, slot_form-zeros}
 use Rattle.ss_damage.specs.Damage.{AreOddBits, AreTwoBits, in_entry, in_slot, IsBurst, is_entry, read_from}
-use Rattle.ss_damage.proofs.FormLemmas.{AreBytes-number_bytes, AreBytes-slot_form, IsChecked-entry, IsChecked-good, IsChecked-slot_form, length-in_entry, take-slot_form}
+use Rattle.ss_damage.proofs.FormLemmas.{AreBytes-number_bytes, AreBytes-slot_form, IsChecked-entry, IsChecked-good, IsChecked-slot_form, length-in_entry}
+use Rattle.ss_damage.proofs.FormLemmas.{take-slot_form}
 use Rattle.ss_damage.proofs.NumberLemmas.{drop-some, no_burst, no_two_bits, take-some}
 use Rattle.ss_damage.proofs.SpelledLemmas.{AreBytes-spelling, IsSpread, IsSpread-same, IsSpread-spelling, end-spelling, length-spelling}
 
@@ -149,15 +151,11 @@ record_moved from to r few few_too apart valid live =
       | inr zeros ↦ absurd ((IsSpread-in_slot from r valid live).kind (ap (λ (list : List ℕ). slice_index list 0) zeros))
     ]
 
-not-true : (b : Bool) → (b ≡ true → ⊥) → b ≡ false
-not-true true never = absurd (never refl)
-not-true false never = refl
-
 -- bytes of an entry that don't end with their check aren't sound
 unsound : (n : ℕ) (puts : List Put) (bytes : List ℕ) (extent : ℕ) → FillSlots puts → IsTxn puts → AreAsLong (in_entry n puts) bytes
     → ¬ IsChecked (number_bytes 4 n) bytes → IsFalse (is_entry n bytes extent)
 unsound n puts bytes extent whole txn long bad =
-    not-true (is_entry n bytes extent)
+    false_from_ne_true (is_entry n bytes extent)
     (λ good. bad (IsChecked-good n 165 bytes extent (long.same ∙ length-in_entry n 165 puts whole txn) good))
 
 pub entry_burst : (n : ℕ) (puts : List Put) (bytes : List ℕ) (extent : ℕ) → FillSlots puts → IsTxn puts → IsBurst (in_entry n puts) bytes

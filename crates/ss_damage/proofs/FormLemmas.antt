@@ -1,5 +1,6 @@
 -- What the file has of a live record ends with its check, and so does an entry behind its gate.
-use Rattle.std.proofs.Common.{◌≡◌, ◌∙◌, refl, sym, ap, ap₂, subst, ℕ, zero, suc, ◌+◌, ◌-◌, ◌*◌, ◌/◌, ◌^◌, ◌<◌, List, [], ◌∷◌, ◌++◌, length, take, drop, arith, inl, inr}
+use Rattle.std.proofs.Common.{◌≡◌, ◌∙◌, refl, sym, ap, ap₂, subst, ℕ, zero, suc, ◌+◌, ◌-◌, ◌*◌, ◌/◌, ◌^◌, ◌<◌, List, [], ◌∷◌, ◌++◌, length, take, drop, arith}
+use Rattle.std.proofs.Common.{inl, inr}
 use Rattle.std.specs.Prelude.{IsTrue, flat_map, replicate, slice_index}
 use Rattle.std.specs.Int.{byte_at, bytes_high_first, bytes_low_first}
 use Rattle.std.specs.Int.Bits.{xor_zero_l}
@@ -18,7 +19,7 @@ use Rattle.ss_journal.specs.Puts.{FillSlots, IsTxn}
 use Rattle.ss_journal.specs.declared.put.Put.{Put}
 use Rattle.ss_journal.proofs.CheckLemmas.{entry_form-gate, entry_form-twice, length-entry_form, slot_form-free, slot_form-live, take-masked_from}
 use Rattle.ss_journal.proofs.EntryLemmas.{IsSoundEntry-good, length-entry_body, length-puts_bytes}
-use Rattle.ss_damage.proofs.NumberLemmas.{list_all-zeros}
+use Rattle.ss_codec.proofs.ZeroLemmas.{list_all-zeros}
 
 masked-zeros : (mask : List ℕ) → masked (replicate (length mask) 0) mask ≡ mask
 masked-zeros [] = refl
@@ -50,7 +51,8 @@ take-slot_form slot bytes = elim (cases_eq (slice_index bytes 0) 0) [
   | inr live ↦ ap (take 124) (slot_form-live slot bytes live) ∙ take-masked_from 124 (check_of slot (take 124 bytes)) bytes
 ]
 
-pub IsChecked-entry_form : (n gate : ℕ) (bytes : List ℕ) → drop 539 bytes ≡ replicate 4 0 → IsChecked (number_bytes 4 n) (drop 1 (entry_form Checked n (gate ∷ bytes)))
+pub IsChecked-entry_form : (n gate : ℕ) (bytes : List ℕ) → drop 539 bytes ≡ replicate 4 0 →
+    IsChecked (number_bytes 4 n) (drop 1 (entry_form Checked n (gate ∷ bytes)))
 unfolding entry_form
 IsChecked-entry_form n gate bytes end = IsChecked-masked (number_bytes 4 n) bytes 539 end
 
@@ -131,5 +133,6 @@ pub AreBytes-slot_form : (slot : ℕ) (bytes : List ℕ) → (slice_index bytes 
 AreBytes-slot_form slot bytes live end are =
     let sum = check_bytes (checksum (number_bytes 4 slot ++ take 124 bytes)) in
     let both : AreBytes (take 124 bytes ++ sum) =
-    All-append (λ b. b < 2 ^ 8) (take 124 bytes) sum (All-take (λ b. b < 2 ^ 8) 124 bytes are) (low_bytes 0 4 (checksum (number_bytes 4 slot ++ take 124 bytes))) in
+    All-append (λ b. b < 2 ^ 8) (take 124 bytes) sum (All-take (λ b. b < 2 ^ 8) 124 bytes are)
+    (low_bytes 0 4 (checksum (number_bytes 4 slot ++ take 124 bytes))) in
     subst AreBytes (sym (slot_form-live slot bytes live ∙ masked-end sum bytes 124 refl end)) both

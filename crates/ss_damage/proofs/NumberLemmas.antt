@@ -1,13 +1,13 @@
 -- Bytes as one number: its parts, and which of them a run of bits or two bits can reach.
-use Rattle.std.proofs.Common.{◌≡◌, ◌∙◌, refl, sym, ap, ap₂, ℕ, zero, suc, ◌+◌, ◌-◌, ◌*◌, ◌^◌, ◌<◌, ◌≤◌, ◌==◌, true, List, [], ◌∷◌, length, take, drop, arith, lit≤, inl, inr}
+use Rattle.std.proofs.Common.{◌≡◌, ◌∙◌, refl, sym, ap, ap₂, ℕ, zero, suc, ◌+◌, ◌-◌, ◌*◌, ◌^◌, ◌<◌, ◌≤◌, List, [], ◌∷◌, length, take, drop, arith, lit≤, inl}
+use Rattle.std.proofs.Common.{inr}
 use Rattle.std.specs.Prelude.{bit_xor, replicate}
-use Rattle.std.specs.List.{list_all}
-use Rattle.std.proofs.lemmas.Bool.Decides.{nat_tests}
 use Rattle.std.proofs.Math.Nat.{mul_assoc, one-le-pow, pow-le-pow_right, pow-suc}
 use Rattle.std.proofs.lemmas.Bool.{cases_eq, cases_lt}
 use Rattle.std.proofs.lemmas.List.{drop-drop, length-take}
 use Rattle.std.proofs.lemmas.List.Elements.{All-drop, All-take}
 use Rattle.std.proofs.lemmas.Nat.{mul-le, pow-add, same_from_place, xor_comm}
+use Rattle.std.proofs.Math.Pow.{pow-lt}
 use Rattle.ss_checksum.specs.Changes.{number_of}
 use Rattle.ss_checksum.proofs.ChangeLemmas.{AreBytes, bits_of, bits_of-is, number_of-lt}
 use Rattle.ss_checksum.proofs.StepLemmas.{xor_parts}
@@ -30,13 +30,6 @@ take-some (suc n) (x ∷ xs) some = elim (cases_eq x 0) [
 pub zeros-none : (xs : List ℕ) → number_of xs ≡ 0 → xs ≡ replicate (length xs) 0
 zeros-none [] none = refl
 zeros-none (x ∷ xs) none = ap₂ ◌∷◌ (omega (arith, none)) (zeros-none xs (omega (arith, none)))
-
-pub list_all-zeros : (xs : List ℕ) → list_all (λ byte. byte == 0) xs ≡ true → xs ≡ replicate (length xs) 0
-list_all-zeros [] all = refl
-list_all-zeros (x ∷ xs) all =
-    let first : x ≡ 0 = grind (arith, nat_tests) in
-    let rest : list_all (λ byte. byte == 0) xs ≡ true = grind (arith, nat_tests) in
-    ap₂ ◌∷◌ first (list_all-zeros xs rest)
 
 -- the number before a place, and the one from there on
 pub number_of-split : (n : ℕ) (xs : List ℕ) → number_of xs ≡ number_of (take n xs) + 2 ^ (8 * n) * number_of (drop n xs)
@@ -76,16 +69,9 @@ one_part n x y k few some more is = elim (cases_lt k n) [
       omega (arith, some, (same_from_place y x (2 ^ (k - n)) 0 (2 ^ n) few (one-le-pow n 2 (lit≤ tt)) there).1)
 ]
 
-power-lt : (i j : ℕ) → i < j → 2 ^ i < 2 ^ j
-power-lt i j order =
-    let double : 2 ^ suc i ≡ 2 ^ i * 2 = pow-suc 2 i in
-    let most : 2 ^ suc i ≤ 2 ^ j = pow-le-pow_right {n = 2} (lit≤ tt) order in
-    let some : 0 < 2 ^ i = one-le-pow i 2 (lit≤ tt) in
-    omega (arith, double, most, some)
-
 two_bits : (i j : ℕ) → i < j → bit_xor (2 ^ i) (2 ^ j) ≡ 2 ^ j + 2 ^ i
 two_bits i j order =
-    let apart : bit_xor (1 * 2 ^ j) (2 ^ i) ≡ 1 * 2 ^ j + 2 ^ i = xor_parts 1 j (2 ^ i) (power-lt i j order) in
+    let apart : bit_xor (1 * 2 ^ j) (2 ^ i) ≡ 1 * 2 ^ j + 2 ^ i = xor_parts 1 j (2 ^ i) (pow-lt {i = i} {j = j} order) in
     let one : 1 * 2 ^ j ≡ 2 ^ j = omega arith in
     xor_comm (2 ^ i) (2 ^ j) ∙ rw one at apart
 
@@ -95,11 +81,11 @@ two_parts n x y i j few some more order is = elim (cases_lt j n) [
   | inl lt ↦
       let double : 2 ^ suc j ≡ 2 ^ j * 2 = pow-suc 2 j in
       let below : 2 ^ suc j ≤ 2 ^ n = pow-le-pow_right {n = 2} (lit≤ tt) lt in
-      absurd (omega (arith, is, below, double, some, power-lt i j order, at_least (2 ^ n) y more))
+      absurd (omega (arith, is, below, double, some, pow-lt {i = i} {j = j} order, at_least (2 ^ n) y more))
   | inr ge ↦ elim (cases_lt i n) [
     | inl lt ↦
         let there : y * 2 ^ n + x ≡ 2 ^ (j - n) * 2 ^ n + 2 ^ i = omega (arith, is, multiple n j ge) in
-        (same_from_place y x (2 ^ (j - n)) (2 ^ i) (2 ^ n) few (power-lt i n lt) there).0
+        (same_from_place y x (2 ^ (j - n)) (2 ^ i) (2 ^ n) few (pow-lt {i = i} {j = n} lt) there).0
     | inr le ↦
         let there : y * 2 ^ n + x ≡ (2 ^ (j - n) + 2 ^ (i - n)) * 2 ^ n + 0 = omega (arith, is, multiple n j ge, multiple n i le) in
         absurd (omega (arith, some, (same_from_place y x (2 ^ (j - n) + 2 ^ (i - n)) 0 (2 ^ n) few (one-le-pow n 2 (lit≤ tt)) there).1))

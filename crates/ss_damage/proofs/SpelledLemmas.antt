@@ -1,5 +1,6 @@
 -- What the spelling of a live record has: bytes, of which four are left for the check, and some that aren't 0 at three places.
-use Rattle.std.proofs.Common.{◌≡◌, ◌≢◌, ◌∙◌, refl, sym, ap, ℕ, ◌+◌, ◌-◌, ◌^◌, ◌<◌, ◌≤◌, true, false, Bool, List, [], ◌∷◌, ◌++◌, length, take, drop, get_or, arith, lit<, lit≤, inl, inr, None, Some, Option}
+use Rattle.std.proofs.Common.{◌≡◌, ◌≢◌, ◌∙◌, refl, sym, ap, ℕ, ◌+◌, ◌-◌, ◌^◌, ◌<◌, ◌≤◌, true, false, Bool, List, [], ◌∷◌, ◌++◌, length, take, drop, get_or}
+use Rattle.std.proofs.Common.{arith, lit<, lit≤, inl, inr, None, Some, Option}
 use Rattle.std.specs.Prelude.{IsTrue, if◌then◌else◌, replicate, slice_index}
 use Rattle.std.specs.Int.{cast_unsigned, w64, w128}
 use Rattle.std.specs.List.{list_all}
@@ -19,10 +20,10 @@ use Rattle.ss_codec.specs.declared.record.Record.{Record}
 use Rattle.ss_codec.specs.declared.record.Record.TheVariants.{Free, Stream, Window, Landmark, Value}
 use Rattle.ss_codec.specs.Fields.{Field, with_field, with_fields}
 use Rattle.ss_codec.specs.Record.{closing_time, drop_number, family, fields, filter_number, is_full, is_valid, parameters, spelling, state_number, word_spelled}
-use Rattle.ss_codec.proofs.FieldLemmas.{AreInOrder, HasFields, HasFields-with_fields, length-with_fields, part, slice_index-part}
+use Rattle.ss_codec.proofs.FieldLemmas.{AreInOrder, length-with_fields, part, slice_index-part}
 use Rattle.ss_codec.proofs.FieldOrder.{byte-within, landmark-in_order, number-within, stream-in_order, value-in_order, window-in_order}
 use Rattle.ss_codec.proofs.ParameterLemmas.{AreSmall-in_range}
-use Rattle.ss_codec.proofs.RecordLemmas.{IsLandmark-is_valid, IsStream-is_valid, IsValue-is_valid, IsWindow-is_valid}
+use Rattle.ss_codec.proofs.RecordLemmas.{IsLandmark-is_valid, IsStream-is_valid, IsValue-is_valid, IsWindow-is_valid, spelled}
 use Rattle.ss_fields.specs.Fields.{number_bytes}
 use Rattle.ss_fields.proofs.FieldLemmas.{length-number_bytes, number_at-take}
 use Rattle.ss_summary.specs.declared.filter.Filter.{Filter}
@@ -126,10 +127,6 @@ parameter-some params ranged = of_family params.family (grind (arith, nat_tests)
     of_family : (f : Family) → is_family f ≡ true → 0 < (parameters f).0
     of_family (Exp b r s) is = grind (arith, nat_tests)
     of_family (Power p q r s) is = grind (arith, nat_tests)
-
-spelled : (r : Record) → AreInOrder 128 0 (fields r) → HasFields (spelling r) (fields r)
-unfolding spelling
-spelled r order = HasFields-with_fields 128 0 (fields r) (replicate 128 0) (length-replicate {A = ℕ} 128 0) order
 
 pub IsSpread-spelling : (r : Record) → IsTrue (is_valid r) → r ≢ Free → IsSpread (spelling r)
 IsSpread-spelling Free valid live = absurd (live refl)
@@ -348,9 +345,6 @@ AreBytes-name name is =
     let all : list_all is_name_byte name ≡ true = grind (arith, nat_tests) in
     All-from_get_or (λ b. b < 2 ^ 8) name 0 (λ i lt. name_byte-few (get_or name i 0) (AllPass-from_list_all is_name_byte name all i 0 lt))
 
-number : (n x : ℕ) → AreBytes (number_bytes n x)
-number n x = AreBytes-number_bytes n x
-
 each_field : (r : Record) → IsTrue (is_valid r) → FieldsAreBytes (fields r)
 each_field Free valid = tt
 each_field (Stream id name params dropped) valid =
@@ -364,14 +358,14 @@ each_field (Stream id name params dropped) valid =
           (
             one (drop_number dropped) (drop-few dropped),
             (
-              number 4 id,
+              AreBytes-number_bytes 4 id,
               (
-                number 4 numbers.0,
+                AreBytes-number_bytes 4 numbers.0,
                 (
-                  number 4 numbers.1,
+                  AreBytes-number_bytes 4 numbers.1,
                   (
-                    number 4 numbers.2,
-                    (number 4 numbers.3, (AreBytes-name name is.named, (number 4 (step_number params.within), tt))),
+                    AreBytes-number_bytes 4 numbers.2,
+                    (AreBytes-number_bytes 4 numbers.3, (AreBytes-name name is.named, (AreBytes-number_bytes 4 (step_number params.within), tt))),
                   ),
                 ),
               ),
@@ -385,28 +379,28 @@ each_field (Window id first f) valid = (
   (
     one (filter_number f.filter) (filter-few f.filter),
     (
-      number 4 id,
+      AreBytes-number_bytes 4 id,
       (
-        number 8 first,
+        AreBytes-number_bytes 8 first,
         (
-          number 8 f.count,
+          AreBytes-number_bytes 8 f.count,
           (
-            number 16 (cast_unsigned w128 f.sum),
+            AreBytes-number_bytes 16 (cast_unsigned w128 f.sum),
             (
-              number 8 (cast_unsigned w64 f.min),
+              AreBytes-number_bytes 8 (cast_unsigned w64 f.min),
               (
-                number 8 (cast_unsigned w64 f.max),
+                AreBytes-number_bytes 8 (cast_unsigned w64 f.max),
                 (
-                  number 8 f.t_first,
+                  AreBytes-number_bytes 8 f.t_first,
                   (
-                    number 8 f.t_last,
+                    AreBytes-number_bytes 8 f.t_last,
                     (
-                      number 8 (word_spelled f.filter 0),
+                      AreBytes-number_bytes 8 (word_spelled f.filter 0),
                       (
-                        number 8 (word_spelled f.filter 1),
+                        AreBytes-number_bytes 8 (word_spelled f.filter 1),
                         (
-                          number 8 (word_spelled f.filter 2),
-                          (number 8 (word_spelled f.filter 3), tt),
+                          AreBytes-number_bytes 8 (word_spelled f.filter 2),
+                          (AreBytes-number_bytes 8 (word_spelled f.filter 3), tt),
                         ),
                       ),
                     ),
@@ -425,14 +419,14 @@ each_field (Landmark id n values start finish) valid = (
   (
     one (state_number finish) (state-few finish),
     (
-      number 4 id,
+      AreBytes-number_bytes 4 id,
       (
-        number 4 n,
+        AreBytes-number_bytes 4 n,
         (
-          number 4 values,
+          AreBytes-number_bytes 4 values,
           (
-            number 8 start,
-            (number 8 (closing_time finish), tt),
+            AreBytes-number_bytes 8 start,
+            (AreBytes-number_bytes 8 (closing_time finish), tt),
           ),
         ),
       ),
@@ -441,7 +435,16 @@ each_field (Landmark id n values start finish) valid = (
 )
 each_field (Value id n index t v) valid = (
   one 4 (lit< tt),
-  (number 4 id, (number 4 n, (number 4 index, (number 8 t, (number 8 (cast_unsigned w64 v), tt))))),
+  (
+    AreBytes-number_bytes 4 id,
+    (
+      AreBytes-number_bytes 4 n,
+      (
+        AreBytes-number_bytes 4 index,
+        (AreBytes-number_bytes 8 t, (AreBytes-number_bytes 8 (cast_unsigned w64 v), tt)),
+      ),
+    ),
+  ),
 )
 
 pub AreBytes-spelling : (r : Record) → IsTrue (is_valid r) → AreBytes (spelling r)

@@ -6,12 +6,13 @@ use Rattle.std.specs.Int.{w64}
 use Rattle.std.specs.Str.{bytes_eq}
 use Rattle.std.proofs.Common.{arith, refl, sym, ap, ◌∙◌, lit≤, subst, true≢false}
 use Rattle.std.proofs.lemmas.List.{length-drop, length-replicate, length-take}
-use Rattle.std.proofs.lemmas.Bool.{eq-eqb, eqb-true}
+use Rattle.std.proofs.lemmas.Bool.{eq-eqb, eqb-true, false_from_ne_true}
 use Rattle.std.proofs.lemmas.Bool.Decides.{nat_tests}
 use Rattle.std.proofs.lemmas.Slice.Eq.{bytes_eq-Decides}
 use Rattle.ss_fields.specs.Fields.{number_bytes}
 use Rattle.ss_fields.proofs.FieldLemmas.{number_at-take, i64_at-take}
 use Rattle.ss_summary.specs.Possible.{fits_i64}
+use Rattle.ss_summary.proofs.PossibleLemmas.{fits-true, true-fits}
 use Rattle.ss_catalog.specs.Names.{is_name}
 use Rattle.ss_catalog.specs.Params.{in_range, step_number}
 use Rattle.ss_catalog.specs.Events.{event_name, IsInTime}
@@ -23,7 +24,7 @@ use Rattle.ss_codec.specs.Record.{has_small_step, parameters}
 use Rattle.ss_codec.proofs.FieldLemmas.{AreInOrder, HasFields, HasFields-with_fields, length-with_fields, part, slice_index-part}
 use Rattle.ss_codec.proofs.FieldOrder.{byte-within, number-within}
 use Rattle.ss_codec.proofs.ParameterLemmas.{AreSmall-in_range, params_in-numbers}
-use Rattle.ss_codec.proofs.RecordLemmas.{fits-true, four_tests, not_true, small-test, true-fits}
+use Rattle.ss_codec.proofs.RecordLemmas.{four_tests, small-test}
 use Rattle.ss_frames.specs.Frame.{
   FrameState,
   IsValidFrame,
@@ -287,7 +288,7 @@ event_name-event_in bytes =
 pub checked-unnamed : (bytes : List ℕ) → is_name (name_in bytes) ≡ false → checked (frame_read bytes) ≡ None
 checked-unnamed bytes unnamed =
     let x = frame_read bytes in
-    let no : is_valid_frame x.number x.event ≡ false = not_true _ (λ test.
+    let no : is_valid_frame x.number x.event ≡ false = false_from_ne_true _ (λ test.
     let valid = HasFrame-IsValidFrame x.number x.event (IsValidFrame-test x.number x.event test) in
     true≢false (sym valid.named ∙ ap is_name (event_name-event_in bytes) ∙ unnamed)) in
     rw no refl
@@ -301,7 +302,7 @@ pub unnamed-none : (word : List ℕ) (found : Option (List ℕ)) → found ≡ c
 unnamed-none word found is none = unnamed-by (is_name word) word (sym is ∙ none)
 
 pub is_name-long : (word : List ℕ) → 32 < length word → is_name word ≡ false
-is_name-long word long = not_true (is_name word) (λ named. let short = length-is_name word named in omega arith)
+is_name-long word long = false_from_ne_true (is_name word) (λ named. let short = length-is_name word named in omega arith)
 
 pub checked-long : (bytes : List ℕ) → length bytes ≡ 64 → 32 < slice_index bytes 2 → checked (frame_read bytes) ≡ None
 checked-long bytes long more =

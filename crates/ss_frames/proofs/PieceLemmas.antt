@@ -5,7 +5,8 @@ use Rattle.std.proofs.Common.{arith, refl, sym, ap, ◌∙◌, append_assoc, ⊎
 use Rattle.std.proofs.Math.Seq.{take-add}
 use Rattle.std.proofs.lemmas.Bool.{cases_lt, cond-false, cond-true, eq-eqb, ne_eqb}
 use Rattle.std.proofs.lemmas.List.Concat.{flat_map-append}
-use Rattle.std.proofs.lemmas.List.{append-nil, drop-append-le, drop-drop, drop_all, drop_at, take_all, take_at, length-append, length-drop, length-take-le, take-append-drop, take-append-le}
+use Rattle.std.proofs.lemmas.List.{append-nil, drop-append-le, drop-drop, drop_all, drop_at, take_all, take_at, length-append, length-drop, length-take-le}
+use Rattle.std.proofs.lemmas.List.{take-append-drop, take-append-le}
 use Rattle.std.proofs.lemmas.List.FromFn.{fill_by_all, get_or-map-range_with_len, length-map-range_with_len, map-range_with_len_more, take-map-range_with_len}
 use Rattle.std.proofs.lemmas.List.Elements.{All-head, All-tail}
 use Rattle.ss_frames.specs.Frame.{FrameState, IsValidFrame, frame_spelled}
@@ -133,7 +134,9 @@ module _ (piece rest : List ℕ) (size : length piece ≡ 64) where
   unended_piece-cons = ap (λ n. drop (64 * n) (piece ++ rest)) whole-cons ∙ drop-cons_piece (whole_pieces rest)
 
   pub pieces-cons : pieces (piece ++ rest) ≡ piece ∷ pieces rest
-  pieces-cons = ap (λ ps. ps ++ unless_empty (unended_piece (piece ++ rest))) pieces_so_far-cons ∙ ap (λ bs. piece ∷ (pieces_so_far rest ++ unless_empty bs)) unended_piece-cons
+  pieces-cons =
+      ap (λ ps. ps ++ unless_empty (unended_piece (piece ++ rest))) pieces_so_far-cons
+      ∙ ap (λ bs. piece ∷ (pieces_so_far rest ++ unless_empty bs)) unended_piece-cons
 
 pieces-nil : pieces [] ≡ []
 unfolding pieces_so_far unended_piece

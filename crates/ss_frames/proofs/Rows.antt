@@ -319,11 +319,7 @@ valid-value_before : is_valid_frame 2 (Value (97 ∷ []) 0 (negsuc (2 ^ 63))) �
 unfolding is_valid_frame Names.is_name
 valid-value_before = refl
 
--- the pieces of an input: none, one that the input ends within, a whole one, and one and a byte
-pieces-none : pieces [] ≡ []
-unfolding pieces_so_far unended_piece
-pieces-none = refl
-
+-- the pieces of an input (of none: `pieces-nil`): one that the input ends within, a whole one, and one and a byte
 pieces-byte : pieces (7 ∷ []) ≡ (7 ∷ []) ∷ []
 unfolding pieces_so_far unended_piece
 pieces-byte = refl

@@ -53,11 +53,11 @@ sum-true count sum min max test =
 true-sum : (count : ℕ) (sum min max : ℤ) → Sum count sum min max → has_sum count sum min max ≡ true
 true-sum count sum min max s = three-true min max (max +ℤ pos (count - 1) *ℤ min) sum sum (min +ℤ pos (count - 1) *ℤ max) s.order s.low s.high
 
-fits-true : (z : ℤ) → fits_i64 z ≡ true → FitsSigned w64 z
+pub fits-true : (z : ℤ) → fits_i64 z ≡ true → FitsSigned w64 z
 fits-true (pos n) test = let small : n < 2 ^ 63 = grind (arith, nat_tests) in record { sfits = small }
 fits-true (negsuc n) test = let small : n < 2 ^ 63 = grind (arith, nat_tests) in record { sfits = small }
 
-true-fits : (z : ℤ) → FitsSigned w64 z → fits_i64 z ≡ true
+pub true-fits : (z : ℤ) → FitsSigned w64 z → fits_i64 z ≡ true
 true-fits (pos n) fits = let small : n < 2 ^ 63 = fits.sfits in grind (arith, nat_tests)
 true-fits (negsuc n) fits = let small : n < 2 ^ 63 = fits.sfits in grind (arith, nat_tests)
 
