@@ -1,12 +1,10 @@
 -- Rebuilt contents are contents like the actual ones, and the contents of the streams of a history are contents.
-use Rattle.std.specs.Prelude.{◌≡◌, ℕ, ◌+◌, ◌≤◌, ℤ, pos, ◌+ℤ◌, ◌≤ℤ◌, List, [], ◌∷◌, All, Some}
-use Rattle.std.proofs.Common.{ap, arith, inl, inr, refl, sym, ◌∙◌, subst}
-use Rattle.std.proofs.lemmas.Bool.{cases_Bool}
+use Rattle.std.specs.Prelude.{◌≡◌, ℕ, ◌+◌, ◌≤◌, ℤ, pos, ◌+ℤ◌, ◌≤ℤ◌, List, All, Some}
+use Rattle.std.proofs.Common.{ap, arith, refl, sym, ◌∙◌, subst}
 use Rattle.std.proofs.lemmas.Int.{ints}
 use Rattle.std.proofs.lemmas.List.{length-append}
-use Rattle.std.proofs.lemmas.List.Elements.{All-get_or, All-head, All-tail}
+use Rattle.std.proofs.lemmas.List.Elements.{All-get_or}
 use Rattle.ss_bounds.specs.Truth.{asked}
-use Rattle.ss_catalog.specs.Names.{same_name}
 use Rattle.ss_catalog.specs.declared.query.Kind.TheVariants as kinds
 use Rattle.ss_catalog.specs.declared.query.Query.{Query}
 use Rattle.ss_landmarks.specs.Free.{is_free}
@@ -18,18 +16,18 @@ use Rattle.ss_model.specs.Standing.{IsStream}
 use Rattle.ss_target.specs.Rule.{rule_of}
 use Rattle.ss_model.specs.State.{Stream, state, stream_after, stream_named}
 use Rattle.ss_model.specs.Windows.{windows}
-use Rattle.ss_model.proofs.IntervalLemmas.{AreOf, count-lies, sum-lies}
+use Rattle.ss_model.proofs.IntervalLemmas.{AreOf, count-lies, sum-lies, total-append}
 use Rattle.ss_model.proofs.HistoryLemmas.{IsState-state}
 use Rattle.ss_model.proofs.PieceLemmas.{AreOf-windows}
 use Rattle.ss_model.proofs.ReadLemmas.{All-state}
-use Rattle.ss_model.proofs.RisingLemmas.{values-rise}
+use Rattle.ss_model.proofs.RisingLemmas.{All-named, values-rise}
 use Rattle.ss_model.proofs.Stretches.{taken-windows}
 use Rattle.ss_contents.specs.Attained.{IsAttained, MayBeTrue, truth_of_kind}
 use Rattle.ss_contents.specs.Contents.{Contents, contents_of, own_windows, AreContents, Like, count_in, sum_in}
 use Rattle.ss_contents.specs.Rebuilt.{rebuilt}
 use Rattle.ss_contents.specs.Sides.{Sides, AllFit, count_inside, sum_inside}
 use Rattle.ss_contents.proofs.PieceLemmas.{AreOf-alike, length-others}
-use Rattle.ss_contents.proofs.ReplacedLemmas.{AreReplaced, replaced-all, total-append}
+use Rattle.ss_contents.proofs.ReplacedLemmas.{AreReplaced, replaced-all}
 use Rattle.ss_contents.proofs.SayableLemmas.{sayable-others, sayable-standing}
 use Rattle.ss_contents.proofs.StepLemmas.{windows-others}
 
@@ -136,14 +134,6 @@ IsAttained-state history whole =
     (All-state (λ s. AreContents (contents_of history s) → IsAttainedBySides history s) history
     (λ c sound from to sides fit. IsAttained-rebuilt (contents_of history (stream_after history c)) from to sides sound fit))
     (All-get_or (λ s. AreContents (contents_of history s)) (state history) k d inside (AreContents-contents_of history whole))
-
--- what holds of each stream holds of the one of a name
-All-named : (P : Stream → Type 0) (name : List ℕ) (streams : List Stream) (s : Stream) → All P streams → stream_named name streams ≡ Some s → P s
-All-named P name [] s all found = cc
-All-named P name (u ∷ us) s all found = elim (cases_Bool (same_name name u.name)) [
-  | inl same ↦ (let here : Some u ≡ Some s = rw same at found in let here : u ≡ s = cc in subst P here (All-head P u us all))
-  | inr other ↦ (let later : stream_named name us ≡ Some s = rw other at found in All-named P name us s (All-tail P u us all) later)
-]
 
 pub AreContents-named : (history : List Happened) (name : List ℕ) (s : Stream) → IsHistory history → stream_named name (state history) ≡ Some s
     → AreContents (contents_of history s)

@@ -27,7 +27,7 @@ use Rattle.ss_contents.specs.Attained.{MayBeTrue, truth_of_kind}
 use Rattle.ss_contents.specs.Contents.{AreContents, Contents, IsSayableValue, Like, contents_of, count_in, own_windows, unfiltered_windows}
 use Rattle.ss_contents.specs.Moved.{AreKeptAlike, MayBeCounted, at_times_of, moved}
 use Rattle.ss_contents.proofs.ContentsLemmas.{AreContents-named}
-use Rattle.ss_contents.proofs.PieceLemmas.{AreOf-alike}
+use Rattle.ss_contents.proofs.PieceLemmas.{AreOf-alike, cons-same}
 use Rattle.ss_contents.proofs.StepLemmas.{boundaries-others}
 
 -- ---- lists
@@ -139,9 +139,6 @@ summary_of-at_times_of (p ∷ ps) (t ∷ ts) same first last =
     rw (count, sum, min, max, end, filter, first) refl
 
 -- ---- windows
-
-cons-same : {X : Type 0} {x y : X} {xs ys : List X} → x ∷ xs ≡ y ∷ ys → (x ≡ y) × (xs ≡ ys)
-cons-same same = (cc, cc)
 
 stretches-at_times_of : (first : ℕ) (bs : List ℕ) (ps ts : List Point) → length ps ≡ length ts
     → unfiltered_windows (stretches first bs ts) ≡ unfiltered_windows (stretches first bs ps)

@@ -9,6 +9,7 @@ use Rattle.std.proofs.lemmas.List.Elements.{filter-append, All-from_recursion, A
 use Rattle.ss_summary.specs.Summaries.{least, greatest}
 use Rattle.ss_summary.specs.Summaries as summaries
 use Rattle.ss_bounds.specs.Truth.{values_alone, total, AllBetween}
+use Rattle.ss_model.proofs.FoundLemmas.{each-append}
 use Rattle.ss_contents.specs.Rebuilt.{at_time}
 
 -- the values at times that pass a test, and those at the others
@@ -71,10 +72,6 @@ each-kept P p xs false here rest = rest
 each-picked : (P : ℤ → Type 0) (test : ℕ → Bool) (values : List Point) → AllByRecursion P (values_alone values) → AllByRecursion P (picked test values)
 each-picked P test [] each = tt
 each-picked P test (p ∷ ps) each = each-kept P p (filter (λ q. test q.0) ps) (test p.0) each.0 (each-picked P test ps each.1)
-
-pub each-append : {X : Type 0} (P : X → Type 0) (xs ys : List X) → AllByRecursion P xs → AllByRecursion P ys → AllByRecursion P (xs ++ ys)
-each-append P [] ys first second = second
-each-append P (x ∷ xs) ys first second = (first.0, each-append P xs ys first.1 second)
 
 -- what holds of each value holds of one that occurs among both
 holds-contained : (P : ℤ → Type 0) (test : ℕ → Bool) (values : List Point) (x : ℤ) → AllByRecursion P (values_alone values)

@@ -51,7 +51,7 @@ stretches-AreOf before end (b ∷ bs) (p ∷ ps) others count rising of =
 pub length-others : (rule : Rule) (values others : List Point) → AreOf (windows rule values) others → length others ≡ length values
 length-others rule values others of = length-AreOf (windows rule values) others of ∙ taken-windows rule values
 
-cons-same : {X : Type 0} {x y : X} {xs ys : List X} → x ∷ xs ≡ y ∷ ys → (x ≡ y) × (xs ≡ ys)
+pub cons-same : {X : Type 0} {x y : X} {xs ys : List X} → x ∷ xs ≡ y ∷ ys → (x ≡ y) × (xs ≡ ys)
 cons-same same = (cc, cc)
 
 -- values of some windows are those of windows that are alike

@@ -13,16 +13,12 @@ use Rattle.ss_model.specs.Interval.{is_split, is_whole, split_figures, split_win
 use Rattle.ss_model.specs.Truth.{RiseAtFree}
 use Rattle.ss_model.specs.declared.types.Window.{Window}
 use Rattle.ss_model.proofs.AskedLemmas.{Asked, apart, asked-append, asked-of, split, total-alone, whole}
-use Rattle.ss_model.proofs.IntervalLemmas.{AreOf}
+use Rattle.ss_model.proofs.IntervalLemmas.{AreOf, total-append}
 use Rattle.ss_contents.specs.Rebuilt.{placed, replaced}
 use Rattle.ss_contents.specs.Sides.{Sides, FitSplit, AllFit, count_inside, sum_inside}
 use Rattle.ss_contents.proofs.FilledLemmas.{RiseAtFree-earlier}
 use Rattle.ss_contents.proofs.PieceLemmas.{RiseAtFree-append, RiseAtFree-behind, RiseAtFree-front, free-last, time_at_end-later}
 use Rattle.ss_contents.proofs.PlacedLemmas.{AreOf-placed, RiseAtFree-placed, picked-placed}
-
-pub total-append : (xs ys : List ℤ) → total (xs ++ ys) ≡ (total xs +ℤ total ys)
-total-append [] ys = omega (arith, ints)
-total-append (x ∷ xs) ys = let rest = total-append xs ys in omega (arith, ints)
 
 -- a range that doesn't hold all times of a window holds one end at most
 ends-few : (p q r s : Bool) → (p && s) ≡ false → (if p && q then 1 else 0) + (if r && s then 1 else 0) ≤ 1

@@ -1,5 +1,5 @@
 -- Values that can be said, and windows of such values.
-use Rattle.std.specs.Prelude.{ℕ, ◌+◌, ◌≤◌, Bool, ℤ, ◌≤ℤ◌, FitsSigned, List, [], ◌∷◌, ◌++◌, All}
+use Rattle.std.specs.Prelude.{ℕ, ◌+◌, ◌≤◌, Bool, ℤ, ◌≤ℤ◌, FitsSigned, List, [], ◌∷◌, All}
 use Rattle.std.specs.Int.{w64}
 use Rattle.std.specs.List.{AllByRecursion}
 use Rattle.std.proofs.Common.{arith, sym, subst}
@@ -13,8 +13,8 @@ use Rattle.ss_model.specs.Tiling.{StandFrom}
 use Rattle.ss_model.specs.Truth.{RiseAtFree}
 use Rattle.ss_model.specs.declared.types.Window.{Window}
 use Rattle.ss_model.proofs.IntervalLemmas.{AreOf}
+use Rattle.ss_model.proofs.FoundLemmas.{each-append, each-behind, each-front}
 use Rattle.ss_contents.specs.Contents.{IsSayableValue}
-use Rattle.ss_contents.proofs.PickedLemmas.{each-append}
 use Rattle.ss_contents.proofs.PieceLemmas.{RiseAtFree-behind, RiseAtFree-front, time_at_end-later}
 
 -- the last time of a window, its least and its greatest value can be said
@@ -22,14 +22,6 @@ pub record HasSayable (w : Window) : Type 0 where
   pub last : w.summary.t_last ≤ LAST_TIME
   pub min : FitsSigned w64 w.summary.min
   pub max : FitsSigned w64 w.summary.max
-
-each-front : {X : Type 0} (P : X → Type 0) (xs ys : List X) → AllByRecursion P (xs ++ ys) → AllByRecursion P xs
-each-front P [] ys each = tt
-each-front P (x ∷ xs) ys each = (each.0, each-front P xs ys each.1)
-
-each-behind : {X : Type 0} (P : X → Type 0) (xs ys : List X) → AllByRecursion P (xs ++ ys) → AllByRecursion P ys
-each-behind P [] ys each = each
-each-behind P (x ∷ xs) ys each = each-behind P xs ys each.1
 
 -- a summary of values that can be said, and back
 extremes-sayable : (p : Point) (ps : List Point) → AllByRecursion IsSayableValue (p ∷ ps)

@@ -36,13 +36,14 @@ use Rattle.ss_model.proofs.RisingLemmas.{All-named, named-after, values-rise}
 use Rattle.ss_model.proofs.SplitLemmas.{AreAllSplit-stream}
 
 -- what a choice gave it gave of something
-mapped : {A B : Type 0} (f : A → B) (o : Option A) (b : B) → option_map f o ≡ Some b → (a : A) × (o ≡ Some a) × (f a ≡ b)
+pub mapped : {A B : Type 0} (f : A → B) (o : Option A) (b : B) → option_map f o ≡ Some b → (a : A) × (o ≡ Some a) × (f a ≡ b)
 mapped f None b same = cc
 mapped f (Some a) b same = (a, refl, cc)
 
 -- each kind of answer holds the truth
 kind-holds : (kind : Kind) (free : ℕ → Bool) (query : Query) (ws : List Window) (plain marked : List Point) → AreExactlyOf ws plain
-    → RiseAtFree free 0 plain → AreAllSplit (split_windows free query.from query.to ws) → kind ≡ query.kind → HoldsTruth query plain marked (answer_of_kind kind free query.from query.to ws marked)
+    → RiseAtFree free 0 plain → AreAllSplit (split_windows free query.from query.to ws) → kind ≡ query.kind
+    → HoldsTruth query plain marked (answer_of_kind kind free query.from query.to ws marked)
 kind-holds kinds.Count free query ws plain marked of rising each is =
     count-lies free query.from query.to ws plain marked 0 (AreOf-exactly ws plain of) rising
 kind-holds kinds.Sum free query ws plain marked of rising each is =

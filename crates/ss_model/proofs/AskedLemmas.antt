@@ -32,7 +32,7 @@ pub greatest-alone : (v : ℤ) (ps : List Point) → greatest v ps ≡ chosen in
 greatest-alone v [] = refl
 greatest-alone v (p ∷ ps) = ap (int_max v) (greatest-alone p.1 ps)
 
-time_at_end-after : (free : ℕ → Bool) (p : Point) (ps : List Point) → RiseAtFree free (p.0 + 1) ps → p.0 ≤ time_at_end p.0 ps
+pub time_at_end-after : (free : ℕ → Bool) (p : Point) (ps : List Point) → RiseAtFree free (p.0 + 1) ps → p.0 ≤ time_at_end p.0 ps
 time_at_end-after free p [] rising = omega arith
 time_at_end-after free p (q ∷ qs) rising = omega (arith, rising.0, time_at_end-after free q qs rising.2)
 

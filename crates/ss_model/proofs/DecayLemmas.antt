@@ -10,6 +10,7 @@ use Rattle.ss_windowing.specs.Exp.{exp_length}
 use Rattle.ss_windowing.specs.declared.decay.TheConstants.{MOST_VALUES}
 use Rattle.ss_windowing.specs.Windowing.{cut, window_index, ArePositive, NeverFall, fits}
 use Rattle.ss_windowing.proofs.WindowingLemmas.{cut-monotone, holds-window_index, window_index-monotone}
+use Rattle.ss_windowing.proofs.FirstFitLemmas.{lengths-monotone}
 use Rattle.ss_summary.specs.Summaries.{summary_of, time_at_end}
 use Rattle.ss_summary.specs.Points.{Point}
 use Rattle.ss_model.specs.Boundaries.{boundaries}
@@ -173,25 +174,25 @@ NoneIsDue-windows rule values =
     [] values tt
 
 -- where two positions lie apart, the older has a greater index
-window_index-apart : (len : ℕ → ℕ) (l r n : ℕ) → l ≤ r → fits len l r n ≡ false → window_index len (n - r) < window_index len (n - l)
+pub window_index-apart : (len : ℕ → ℕ) (l r n : ℕ) → l ≤ r → fits len l r n ≡ false → window_index len (n - r) < window_index len (n - l)
 window_index-apart len l r n order unfit =
     let apart = eqb-false _ _ unfit in
     omega (arith, window_index-monotone len (n - r) (n - l) (omega arith), apart)
 
 -- whether two steps are others
-abbrev apart : ℕ → ℕ → ℕ
+abbrev pub apart : ℕ → ℕ → ℕ
 apart a b = cond (a == b) 0 1
 
-apart-same : (a : ℕ) → apart a a ≡ 0
+pub apart-same : (a : ℕ) → apart a a ≡ 0
 apart-same a = rw (eq-eqb a a refl) refl
 
-apart_le : (a b : ℕ) → apart a b ≤ 1
+pub apart_le : (a b : ℕ) → apart a b ≤ 1
 apart_le a b = cond_both (a == b) 0 1 (λ (k : ℕ). k ≤ 1) (λ same. omega arith) (λ other. omega arith)
 
-apart-ne : (a b : ℕ) → (a ≡ b → ⊥) → apart a b ≡ 1
+pub apart-ne : (a b : ℕ) → (a ≡ b → ⊥) → apart a b ≡ 1
 apart-ne a b other = rw (ne_eqb a b other) refl
 
-apart_through : (a b c : ℕ) → apart a c ≤ apart a b + apart b c
+pub apart_through : (a b c : ℕ) → apart a c ≤ apart a b + apart b c
 apart_through a b c = elim (cases_eq a b) [
   | inl same ↦ rw same (omega arith)
   | inr other ↦ omega (arith, apart-ne a b other, apart_le a c)
@@ -324,7 +325,7 @@ length-closed_met rule n (w ∷ ws) tiles all some =
     omega (arith, apart-same (step_of rule.step t))
 
 -- without a step no time goes on to another
-steps_after-none : (t : ℕ) (us : List ℕ) → steps_after 0 t us ≡ 0
+pub steps_after-none : (t : ℕ) (us : List ℕ) → steps_after 0 t us ≡ 0
 steps_after-none t [] = refl
 steps_after-none t (u ∷ us) = omega (arith, steps_after-none u us)
 
@@ -341,13 +342,6 @@ length-closed len n ws tiles all some =
     let bound = length_cover (without_step len) n 0 (closed (without_step len) n ws)
     (TileFrom-closed (without_step len) n ws (TileFrom-StandFrom 1 0 ws tiles.stand)) (NoneIsDue-closed (without_step len) n ws tiles) some in
     omega (arith, bound, steps_after-none 0 (ends_of (closed (without_step len) n ws)))
-
-len-monotone : (len : ℕ → ℕ) (i j : ℕ) → NeverFall len → i ≤ j → len i ≤ len j
-len-monotone len i zero rising order = let same : i ≡ 0 = omega arith in rw same (omega arith)
-len-monotone len i (suc j) rising order = elim (cases_lt j i) [
-  | inl late ↦ (let same : i ≡ suc j = omega arith in rw same (omega arith))
-  | inr early ↦ omega (arith, len-monotone len i j rising early, rw add-one at (rising j))
-]
 
 -- positions that lie together in one target window are no more than it holds
 fits-length : (len : ℕ → ℕ) (l r n count : ℕ) → ArePositive len → l + count ≡ r + 1 → r ≤ n → fits len l r n ≡ true → count ≤ len (window_index len (n - r))
@@ -386,7 +380,7 @@ IsWithinTarget-closed rule n (w ∷ ws) full tiles room within = IsWithinTarget-
 
 IsWithinTarget-later : (len : ℕ → ℕ) (n : ℕ) (w : Window) → NeverFall len → IsWithinTarget len n w → IsWithinTarget len (n + 1) w
 IsWithinTarget-later len n w rising within =
-    omega (arith, within, len-monotone len _ _ rising (window_index-monotone len (n - last_position w) (n + 1 - last_position w) (omega arith)))
+    omega (arith, within, lengths-monotone len _ _ rising (window_index-monotone len (n - last_position w) (n + 1 - last_position w) (omega arith)))
 
 pub IsWithinTarget-windows : (rule : Rule) (values : List Point) → ArePositive rule.lengths → NeverFall rule.lengths →
     All (IsWithinTarget rule.lengths (length values)) (windows rule values)

@@ -118,9 +118,21 @@ IsStrictlyIncreasing_push numbers n rising below k inside =
           rw (left, right) (below k (omega arith)))
     ]
 
-AllByRecursion_push : {X : Type 0} (P : X → Type 0) (xs : List X) (x : X) → AllByRecursion P xs → P x → AllByRecursion P (xs ++ x ∷ [])
-AllByRecursion_push P [] x all one = (one, tt)
-AllByRecursion_push P (y ∷ ys) x all one = (all.0, AllByRecursion_push P ys x all.1 one)
+-- what holds of each element of two lists
+pub each-append : {X : Type 0} (P : X → Type 0) (xs ys : List X) → AllByRecursion P xs → AllByRecursion P ys → AllByRecursion P (xs ++ ys)
+each-append P [] ys first second = second
+each-append P (x ∷ xs) ys first second = (first.0, each-append P xs ys first.1 second)
+
+pub each-front : {X : Type 0} (P : X → Type 0) (xs ys : List X) → AllByRecursion P (xs ++ ys) → AllByRecursion P xs
+each-front P [] ys each = tt
+each-front P (x ∷ xs) ys each = (each.0, each-front P xs ys each.1)
+
+pub each-behind : {X : Type 0} (P : X → Type 0) (xs ys : List X) → AllByRecursion P (xs ++ ys) → AllByRecursion P ys
+each-behind P [] ys each = each
+each-behind P (x ∷ xs) ys each = each-behind P xs ys each.1
+
+pub AllByRecursion_push : {X : Type 0} (P : X → Type 0) (xs : List X) (x : X) → AllByRecursion P xs → P x → AllByRecursion P (xs ++ x ∷ [])
+AllByRecursion_push P xs x all one = each-append P xs (x ∷ []) all (one, tt)
 
 pub IsDistinct_push : (streams : List Stream) (name : List ℕ) → IsDistinct same_name (names_of streams) → stands name streams ≡ false →
     IsDistinct same_name (names_of streams ++ name ∷ [])

@@ -56,7 +56,7 @@ mins_of ws = map (λ (w : Window). w.summary.min) ws
 abbrev maxs_of : List Window → List ℤ
 maxs_of ws = map (λ (w : Window). w.summary.max) ws
 
-total-append : (xs ys : List ℤ) → total (xs ++ ys) ≡ (total xs +ℤ total ys)
+pub total-append : (xs ys : List ℤ) → total (xs ++ ys) ≡ (total xs +ℤ total ys)
 total-append [] ys = omega (arith, ints)
 total-append (x ∷ xs) ys = let rest = total-append xs ys in omega (arith, ints)
 

@@ -1,9 +1,9 @@
 -- The landmarks of a stream: their latest time, and which times stay free when they change and when windows are joined.
-use Rattle.std.proofs.Common.{◌≡◌, ℕ, ◌+◌, ◌-◌, ◌<◌, ◌≤◌, ℤ, Bool, true, false, ◌&&◌, List, [], ◌∷◌, map, max, refl, ap, sym, subst, ◌∙◌, arith}
+use Rattle.std.proofs.Common.{◌≡◌, ℕ, ◌+◌, ◌-◌, ◌<◌, ◌≤◌, ℤ, true, false, ◌&&◌, List, [], ◌∷◌, map, max, refl, ap, sym, subst, ◌∙◌, arith}
 use Rattle.std.proofs.Common.{Option, None, Some, IfSome, MatchOption, is_none, inl, inr}
 use Rattle.std.specs.Prelude.{All, ◌⊎◌, nat_le, option_to_list, is_some}
 use Rattle.std.specs.List.{fold, list_all}
-use Rattle.std.proofs.lemmas.Bool.{cases_Bool, cond-true, cond-false, and_right, le-leb, lt-leb, leb-true}
+use Rattle.std.proofs.lemmas.Bool.{cases_Bool, cond-true, cond-false, and_right, le-leb, lt-leb, leb-true, and_parts}
 use Rattle.std.proofs.lemmas.List.Elements.{All-nil, All-head, All-tail, All-cons}
 use Rattle.ss_landmarks.specs.Free.{covers, free, is_free}
 use Rattle.ss_landmarks.specs.Landmark.{Landmark, LandmarkValue, closed_at, open_landmark}
@@ -37,11 +37,11 @@ times-by (x ∷ xs) m last le all =
     let here = All-head (λ t. t ≤ m) x.t times all in
     All-cons (λ (value : LandmarkValue). value.t ≤ last) x xs (omega (arith, here)) (times-by xs m last le (All-tail (λ t. t ≤ m) x.t times all))
 
-finish-by : (start last : ℕ) (finish : Option ℕ) → fold max start (option_to_list finish) ≤ last → IfSome finish (λ t. t ≤ last)
+pub finish-by : (start last : ℕ) (finish : Option ℕ) → fold max start (option_to_list finish) ≤ last → IfSome finish (λ t. t ≤ last)
 finish-by start last None le = tt
 finish-by start last (Some t) le = omega (arith, le)
 
-EndsBy-latest_in : (l : Landmark) (last : ℕ) → latest_in l ≤ last → EndsBy last l
+pub EndsBy-latest_in : (l : Landmark) (last : ℕ) → latest_in l ≤ last → EndsBy last l
 EndsBy-latest_in l last le =
     let times = map (λ (value : LandmarkValue). value.t) l.values in
     let begun = fold max l.start (option_to_list l.finish) in
@@ -50,12 +50,12 @@ EndsBy-latest_in l last le =
     let end : begun ≤ last = omega (arith, all.0, le) in
     (omega (arith, first.0, end), finish-by l.start last l.finish end, times-by l.values (latest_in l) last le all.1)
 
-later-le : (o p : Option ℕ) (last : ℕ) → IfSome (later o p) (λ t. t ≤ last) → IfSome o (λ t. t ≤ last) × IfSome p (λ t. t ≤ last)
+pub later-le : (o p : Option ℕ) (last : ℕ) → IfSome (later o p) (λ t. t ≤ last) → IfSome o (λ t. t ≤ last) × IfSome p (λ t. t ≤ last)
 later-le None p last by = (tt, by)
 later-le (Some t) None last by = (by, tt)
 later-le (Some t) (Some u) last by = (omega (arith, by), omega (arith, by))
 
-AllEndBy-latest : (ls : List Landmark) (last : ℕ) → IfSome (latest_of ls) (λ t. t ≤ last) → AllEndBy last ls
+pub AllEndBy-latest : (ls : List Landmark) (last : ℕ) → IfSome (latest_of ls) (λ t. t ≤ last) → AllEndBy last ls
 AllEndBy-latest [] last by = All-nil (EndsBy last)
 AllEndBy-latest (l ∷ ls) last by =
     let both = later-le (Some (latest_in l)) (latest_of ls) last by in
@@ -66,7 +66,7 @@ pub ends-latest : (o : Option ℕ) (ls : List Landmark) (last : ℕ) → later o
 ends-latest o ls last is =
     AllEndBy-latest ls last (later-le o (latest_of ls) last (subst (λ (p : Option ℕ). IfSome p (λ t. t ≤ last)) (sym is) (omega arith))).1
 
-some-later : (t : ℕ) (p : Option ℕ) → later (Some t) p ≡ None → ⊥
+pub some-later : (t : ℕ) (p : Option ℕ) → later (Some t) p ≡ None → ⊥
 some-later t None is = cc
 some-later t (Some u) is = cc
 
@@ -74,7 +74,7 @@ none-both : (o p : Option ℕ) → later o p ≡ None → p ≡ None
 none-both None p is = is
 none-both (Some t) p is = absurd (some-later t p is)
 
-none-marked : (ls : List Landmark) → latest_of ls ≡ None → ls ≡ []
+pub none-marked : (ls : List Landmark) → latest_of ls ≡ None → ls ≡ []
 none-marked [] is = refl
 none-marked (l ∷ ls) is = absurd (some-later (latest_in l) (latest_of ls) is)
 
@@ -253,17 +253,13 @@ pub record LiesFree (ls : List Landmark) (w : Window) : Type 0 where
   pub last : is_free ls w.summary.t_last ≡ true
   pub few : w.summary.count ≤ free ls w.summary.t_first w.summary.t_last
 
-all_true : (a b c : Bool) → (a && b && c) ≡ true → (a ≡ true) × (b ≡ true) × (c ≡ true)
-all_true true true c is = (refl, refl, is)
-all_true true false c is = cc
-all_true false b c is = cc
-
 pub LiesFree-lies_free : (ls : List Landmark) (w : Window) → lies_free ls w ≡ true → LiesFree ls w
 unfolding lies_free
 LiesFree-lies_free ls w is =
-    let parts = all_true (is_free ls w.summary.t_first) (is_free ls w.summary.t_last)
-    (nat_le w.summary.count (free ls w.summary.t_first w.summary.t_last)) is in
-    record { first = parts.0; last = parts.1; few = leb-true w.summary.count (free ls w.summary.t_first w.summary.t_last) parts.2 }
+    let few = nat_le w.summary.count (free ls w.summary.t_first w.summary.t_last) in
+    let parts = and_parts (is_free ls w.summary.t_first && is_free ls w.summary.t_last) few is in
+    let ends = and_parts (is_free ls w.summary.t_first) (is_free ls w.summary.t_last) parts.0 in
+    record { first = ends.0; last = ends.1; few = leb-true w.summary.count (free ls w.summary.t_first w.summary.t_last) parts.1 }
 
 pub lies_free-LiesFree : (ls : List Landmark) (w : Window) → LiesFree ls w → lies_free ls w ≡ true
 unfolding lies_free

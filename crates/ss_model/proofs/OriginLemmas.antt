@@ -162,12 +162,12 @@ unfolding state
 state-old history = ap (λ ss. map (stream_after (map as_old history)) ss) (standing-old history) ∙ streams-old history (standing history)
 
 -- what refusals read
-taken-unfiltered : (ws : List Window) → taken (map unfiltered_window ws) ≡ taken ws
+pub taken-unfiltered : (ws : List Window) → taken (map unfiltered_window ws) ≡ taken ws
 taken-unfiltered [] = refl
 taken-unfiltered (w ∷ ws) =
     taken-cons (unfiltered_window w) (map unfiltered_window ws) ∙ ap (λ n. w.summary.count + n) (taken-unfiltered ws) ∙ sym (taken-cons w ws)
 
-newest-unfiltered : (ws : List Window) → newest_time (map unfiltered_window ws) ≡ newest_time ws
+pub newest-unfiltered : (ws : List Window) → newest_time (map unfiltered_window ws) ≡ newest_time ws
 newest-unfiltered [] = refl
 newest-unfiltered (w ∷ []) = refl
 newest-unfiltered (w ∷ v ∷ ws) = newest-unfiltered (v ∷ ws)
@@ -183,7 +183,7 @@ outline-unfiltered s = record {
   last_time = ap (λ t. later t (latest_of s.landmarks)) (newest-unfiltered s.windows);
 }
 
-outlines-unfiltered : (ss : List Stream) → SameOutlines (map unfiltered_stream ss) ss
+pub outlines-unfiltered : (ss : List Stream) → SameOutlines (map unfiltered_stream ss) ss
 outlines-unfiltered [] = tt
 outlines-unfiltered (s ∷ ss) = (outline-unfiltered s, outlines-unfiltered ss)
 

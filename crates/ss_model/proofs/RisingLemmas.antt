@@ -30,6 +30,7 @@ use Rattle.ss_model.proofs.NameLemmas.{same_name-Decides, same_name-same}
 use Rattle.ss_model.proofs.StandLemmas.{later-is_past}
 use Rattle.ss_model.proofs.StepLemmas.{CanAppend-refuses, CanCloseAt-refuses, CanOpenAt-refuses}
 use Rattle.ss_model.proofs.Stretches.{newest_time-windows}
+use Rattle.ss_model.proofs.StreamLemmas.{none-is_some}
 
 -- ---- values at rising times
 
@@ -70,16 +71,12 @@ first-is_before None other t late old is = cc
 first-is_before (Some a) None t late old is = let same : a ≡ old = cc in grind (arith, nat_tests)
 first-is_before (Some a) (Some b) t late old is = let same : a ≡ old = cc in grind (arith, nat_tests)
 
-none-open : (o : Option Landmark) → is_some o ≡ false → o ≡ None
-none-open None closed = refl
-none-open (Some l) closed = cc
-
 -- a time later than all others is free, where no landmark is open
 free-next : (last : Option ℕ) (o : Option ℕ) (ls : List Landmark) (t : ℕ) → later o (latest_of ls) ≡ last → has_open ls ≡ false
     → is_past last t ≡ false → is_free ls t ≡ true
 free-next None o ls t is closed late = rw (none-latest o ls is) refl
 free-next (Some last) o ls t is closed late =
-    free-later ls last t (ends-latest o ls last is) (none-open (open_landmark ls) closed) (later-is_past (Some last) t late last refl)
+    free-later ls last t (ends-latest o ls last is) (none-is_some (open_landmark ls) closed) (later-is_past (Some last) t late last refl)
 
 -- a value isn't the first of a landmark where none is open
 is_opening-closed : (o : Option Landmark) (t : ℕ) → is_some o ≡ false → option_map_or (λ (l : Landmark). l.start == t && length l.values == 0) o false ≡ false

@@ -48,7 +48,7 @@ outcome-known streams series row none =
     either-answer (answer_of (whole_query series)) (answer_of (row_query series row)) (stream_named series.name streams)
     (answer-known streams (whole_query series) none)
 
-some-outcome : (o : Option Outcome) → IsSome o → (outcome : Outcome) × (o ≡ Some outcome)
+pub some-outcome : (o : Option Outcome) → IsSome o → (outcome : Outcome) × (o ≡ Some outcome)
 some-outcome None some = cc
 some-outcome (Some outcome) some = (outcome, refl)
 

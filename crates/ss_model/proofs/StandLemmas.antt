@@ -1,11 +1,11 @@
 -- What every state meets, through one step.
-use Rattle.std.proofs.Common.{◌≡◌, ℕ, ◌+◌, ◌<◌, ◌≤◌, ℤ, Bool, true, false, not, List, [], ◌∷◌, ◌++◌, length, refl, ap, sym, ◌∙◌, arith, None, Some}
+use Rattle.std.proofs.Common.{◌≡◌, ℕ, ◌+◌, ◌<◌, ◌≤◌, ℤ, Bool, false, not, List, [], ◌∷◌, ◌++◌, length, refl, ap, sym, ◌∙◌, arith, None, Some}
 use Rattle.std.proofs.Common.{subst, inl, inr}
-use Rattle.std.specs.Prelude.{All, Option, FitsSigned, nat_le, ◌||◌, ◌==◌}
+use Rattle.std.specs.Prelude.{All, Option, FitsSigned, nat_le, ◌==◌}
 use Rattle.std.specs.Int.{w64}
 use Rattle.std.specs.List.{IsDistinct, list_any}
 use Rattle.std.specs.Option.{option_map_or}
-use Rattle.std.proofs.lemmas.Bool.{cases_Bool, cond-false, cond-true, cond_both, eqb-false, not-false}
+use Rattle.std.proofs.lemmas.Bool.{cases_Bool, cond-false, cond-true, cond_both, eqb-false, not-false, or_parts}
 use Rattle.std.proofs.lemmas.Bool.Decides.{nat_tests}
 use Rattle.std.proofs.lemmas.List.{length_push, length-append, map-append}
 use Rattle.std.proofs.lemmas.List.Elements.{All-nil, All-head, All-tail, All-cons, All-append, All-push}
@@ -65,16 +65,12 @@ IsState-nil = record {
   room = omega arith;
 }
 
-or-false : (a b : Bool) → (a || b) ≡ false → (a ≡ false) × (b ≡ false)
-or-false true b wrong = cc
-or-false false b none = (refl, none)
-
 -- a number is left where the last one isn't taken
 next_number-le : (streams : List Stream) → All IsStream streams → list_any (λ s. s.number == LAST_STREAM) streams ≡ false →
     next_number (numbers_of streams) ≤ LAST_STREAM
 next_number-le [] each none = omega arith
 next_number-le (s ∷ ss) each none =
-    let free = or-false (s.number == LAST_STREAM) (list_any (λ u. u.number == LAST_STREAM) ss) none in
+    let free = or_parts (s.number == LAST_STREAM) (list_any (λ u. u.number == LAST_STREAM) ss) none in
     let one = All-head IsStream s ss each in
     let low = one.number in
     let apart = eqb-false s.number LAST_STREAM free.0 in
@@ -94,10 +90,17 @@ unfolding stepped_from
 IsState-create origin streams name params before can =
     let number = next_number (numbers_of streams) in
     let new : Stream = record { number = number; name = name; params = params; windows = []; landmarks = [] } in
-    let limits = or-false (nat_le MOST_STREAMS (length streams)) (list_any (λ s. s.number == LAST_STREAM) streams) can.room in
+    let limits = or_parts (nat_le MOST_STREAMS (length streams)) (list_any (λ s. s.number == LAST_STREAM) streams) can.room in
     record {
       each = All-push IsStream streams new before.each
-          (record { target = can.target; number = next_number-le streams before.each limits.1; windows = AreWindows-nil; steps = All-nil (IsInStep (rule_of params).step); landmarks = tt; free = refl });
+          (record {
+            target = can.target;
+            number = next_number-le streams before.each limits.1;
+            windows = AreWindows-nil;
+            steps = All-nil (IsInStep (rule_of params).step);
+            landmarks = tt;
+            free = refl;
+          });
       numbers = rw (map-append (λ (s : Stream). s.number) streams (new ∷ []))
           (IsStrictlyIncreasing_push (numbers_of streams) number before.numbers (below_next (numbers_of streams)));
       names = rw (map-append (λ (s : Stream). s.name) streams (new ∷ [])) (IsDistinct_push streams name before.names can.new);

@@ -45,14 +45,14 @@ lt-is_past o last t is past = let here : is_past (Some last) t ≡ false = ap (�
 le-is_before : (o : Option ℕ) (last t : ℕ) → o ≡ Some last → is_before o t ≡ false → last ≤ t
 le-is_before o last t is before = let here : is_before (Some last) t ≡ false = ap (λ p. is_before p t) (sym is) ∙ before in grind (arith, nat_tests)
 
-none-is_some : (o : Option Landmark) → is_some o ≡ false → o ≡ None
+pub none-is_some : (o : Option Landmark) → is_some o ≡ false → o ≡ None
 none-is_some None is = refl
 none-is_some (Some l) is = cc
 
-none-open : (ls : List Landmark) → has_open ls ≡ true → ls ≡ [] → ⊥
+pub none-open : (ls : List Landmark) → has_open ls ≡ true → ls ≡ [] → ⊥
 none-open ls begun is = let wrong : false ≡ true = ap has_open (sym is) ∙ begun in cc
 
-some-open : (ls : List Landmark) → has_open ls ≡ true → 0 < length ls
+pub some-open : (ls : List Landmark) → has_open ls ≡ true → 0 < length ls
 some-open [] begun = absurd (none-open [] begun refl)
 some-open (l ∷ ls) begun = omega arith
 
@@ -100,7 +100,7 @@ module _ (s : Stream) (t : ℕ) where
     | inr end ↦ CanClose-after s.landmarks end.0 t end.1.marks begun (le-is_before (last_time s) end.0 t end.1.is before)
   ]
 
-first-is_opening : (o : Option Landmark) (t : ℕ) → option_map_or (λ (l : Landmark). l.start == t && length l.values == 0) o false ≡ true →
+pub first-is_opening : (o : Option Landmark) (t : ℕ) → option_map_or (λ (l : Landmark). l.start == t && length l.values == 0) o false ≡ true →
     MatchOption o ⊥ (λ l. (l.start ≤ t) × (length l.values ≡ 0))
 first-is_opening None t is = (let wrong : false ≡ true = is in cc)
 first-is_opening (Some l) t is =
@@ -216,7 +216,7 @@ IsStream-value s p sound none past few possible =
 
 -- ---- how many records it needs then
 
-length-change_last : (change : Landmark → Landmark) (ls : List Landmark) → length (change_last change ls) ≡ length ls
+pub length-change_last : (change : Landmark → Landmark) (ls : List Landmark) → length (change_last change ls) ≡ length ls
 length-change_last change [] = refl
 length-change_last change (l ∷ []) = refl
 length-change_last change (l ∷ next ∷ ls) = let rest = length-change_last change (next ∷ ls) in omega (arith, rest)

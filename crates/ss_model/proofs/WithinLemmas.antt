@@ -14,7 +14,7 @@ use Rattle.ss_model.specs.declared.types.Window.{Window}
 use Rattle.ss_model.proofs.ReadLemmas.{within-state}
 
 -- what holds of each element holds of the one that is found
-IfSome-find : {X : Type 0} (P : X → Type 0) (test : X → Bool) (xs : List X) → All P xs → IfSome (find test xs) P
+pub IfSome-find : {X : Type 0} (P : X → Type 0) (test : X → Bool) (xs : List X) → All P xs → IfSome (find test xs) P
 IfSome-find P test [] all = tt
 IfSome-find P test (x ∷ xs) all = elim (cases_Bool (test x)) [
   | inl found ↦ rw found (All-head P x xs all)

@@ -12,7 +12,8 @@ use Rattle.ss_bounds.specs.Guess.{count_guess, sum_guess}
 use Rattle.ss_bounds.specs.Truth.{HoldsExtreme}
 use Rattle.ss_landmarks.specs.Free.{is_free}
 use Rattle.ss_summary.specs.Points.{Point}
-use Rattle.ss_model.specs.Interval.{interval_of_count, interval_of_sum, interval_of_least, interval_of_greatest, is_split, known_count, known_sum, presence_of, split_windows}
+use Rattle.ss_model.specs.Interval.{interval_of_count, interval_of_sum, interval_of_least, interval_of_greatest, is_split, known_count, known_sum, presence_of}
+use Rattle.ss_model.specs.Interval.{split_windows}
 use Rattle.ss_model.specs.Interval.{IsExact}
 use Rattle.ss_model.specs.Marks.{marked_values}
 use Rattle.ss_model.specs.Refusals.{stands, first_that_applies}
