@@ -1,6 +1,6 @@
 -- How much the windows that a range splits leave open of a count.
-use Rattle.std.proofs.Common.{ℕ, zero, suc, ◌≡◌, ◌+◌, ◌-◌, ◌<◌, ◌≤◌, inl, inr, true, false, List, [], ◌∷◌, ◌++◌, length, take, drop, refl, ap, ◌∙◌, arith}
-use Rattle.std.proofs.Common.{length-append, add-one}
+use Rattle.std.proofs.Common.{ℕ, ◌≡◌, ◌+◌, ◌-◌, ◌<◌, ◌≤◌, inl, inr, true, false, List, [], ◌∷◌, ◌++◌, length, take, drop, refl, ap, ◌∙◌, arith}
+use Rattle.std.proofs.Common.{length-append}
 use Rattle.std.specs.Prelude.{All, Bool, ◌||◌, sum_by, if◌then◌else◌}
 use Rattle.std.proofs.lemmas.Bool.{cases_Bool, cases_lt}
 use Rattle.std.proofs.lemmas.Bool.Decides.{nat_tests}
@@ -30,6 +30,7 @@ use Rattle.ss_model.proofs.ReadLemmas.{All-state}
 use Rattle.ss_model.proofs.RisingLemmas.{values-rise}
 use Rattle.ss_model.proofs.Rises.{Rises, Rises-low, Rises-boundaries}
 use Rattle.ss_model.proofs.Stretches.{count-summary_of, length-back, length-front}
+use Rattle.ss_model.proofs.AskedLemmas.{time_at_end-after}
 use Rattle.ss_summary.specs.Figures.{Figures}
 use Rattle.ss_summary.specs.Points.{Point}
 use Rattle.ss_summary.specs.Summaries.{summary_of, time_at_end}
@@ -37,16 +38,12 @@ use Rattle.ss_target.specs.Lengths.{has_target, lengths_of}
 use Rattle.ss_target.proofs.LengthLemmas.{lengths_of-never_fall, lengths_of-positive}
 use Rattle.ss_windowing.specs.Windowing.{ArePositive, NeverFall}
 use Rattle.ss_windowing.proofs.WindowingLemmas.{window_index-monotone}
+use Rattle.ss_windowing.proofs.FirstFitLemmas.{lengths-monotone}
 
 -- how many values have a time or a later one, of two lists
 since-append : (t : ℕ) (xs ys : List Point) → values_since t (xs ++ ys) ≡ values_since t xs + values_since t ys
 since-append t [] ys = omega arith
 since-append t (p ∷ ps) ys = omega (arith, since-append t ps ys)
-
--- the last of some values is no earlier than the first
-time_at_end-after : (free : ℕ → Bool) (p : Point) (ps : List Point) → RiseAtFree free (p.0 + 1) ps → p.0 ≤ time_at_end p.0 ps
-time_at_end-after free p [] rising = omega arith
-time_at_end-after free p (q ∷ qs) rising = omega (arith, rising.0, time_at_end-after free q qs rising.2)
 
 -- where all have: each of them
 all-since : (free : ℕ → Bool) (t start : ℕ) (values : List Point) → t ≤ start → RiseAtFree free start values → values_since t values ≡ length values
@@ -106,13 +103,6 @@ in-place-windows rule [] = tt
 in-place-windows rule (p ∷ ps) =
     in-place-stretches 0 (length (p ∷ ps)) (boundaries rule (time_at (p ∷ ps)) (length (p ∷ ps))) (p ∷ ps) (omega arith)
     (Rises-boundaries rule (time_at (p ∷ ps)) (length (p ∷ ps)) (omega arith))
-
-len-monotone : (len : ℕ → ℕ) (i j : ℕ) → NeverFall len → i ≤ j → len i ≤ len j
-len-monotone len i zero rising order = let same : i ≡ 0 = omega arith in rw same (omega arith)
-len-monotone len i (suc j) rising order = elim (cases_lt j i) [
-  | inl late ↦ (let same : i ≡ suc j = omega arith in rw same (omega arith))
-  | inr early ↦ omega (arith, len-monotone len i j rising early, rw add-one at (rising j))
-]
 
 -- how many values the windows that a time cuts have between their first and their last
 abbrev pub inner : Window → ℕ
@@ -186,7 +176,7 @@ module _ (len : ℕ → ℕ) (never_falls : NeverFall len) (free : ℕ → Bool)
       let some = some-since t p ps unended in
       let long = length-append (p ∷ ps) rest in
       let age : n - last_position w ≤ values_since t ((p ∷ ps) ++ rest) - 1 = omega (arith, is.count) in
-      let longer = len-monotone len _ _ never_falls (window_index-monotone len _ _ age) in
+      let longer = lengths-monotone len _ _ never_falls (window_index-monotone len _ _ age) in
       rw (cut.0, cut.1, none) (omega (arith, within, longer))
 
   open-earlier : (w : Window) (ws : List Window) (p : Point) (ps rest : List Point) → IsOf w p ps → time_at_end p.0 ps < t →

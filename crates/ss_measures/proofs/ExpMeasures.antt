@@ -1,26 +1,15 @@
 -- How long the windows of an exponential target are by their age, and how many of them hold so many values.
-use Rattle.std.proofs.Common.{ℕ, zero, suc, ◌≡◌, ◌+◌, ◌-◌, ◌*◌, ◌/◌, ◌^◌, ◌<◌, ◌≤◌, inl, inr, refl, ap, ◌∙◌, lit≤, arith}
+use Rattle.std.proofs.Common.{ℕ, zero, suc, ◌≡◌, ◌+◌, ◌-◌, ◌*◌, ◌/◌, ◌^◌, ◌<◌, ◌≤◌, inl, inr, refl, lit≤, arith}
 use Rattle.std.proofs.Math.Nat.{mul_comm, mul-le-mul_left, div-mul-le_self, one-le-pow, pow-suc, pow-zero, le_trans}
 use Rattle.std.proofs.lemmas.Bool.{cases_lt}
-use Rattle.std.proofs.lemmas.Nat.{div-mul-add, div_below}
+use Rattle.std.proofs.lemmas.Nat.{div_below}
 use Rattle.ss_windowing.specs.Exp.{exp_length, IsExp}
 use Rattle.ss_windowing.specs.ExpLaws.{exp_length-positive}
 use Rattle.ss_windowing.specs.Windowing.{cut, window_index}
 use Rattle.ss_windowing.proofs.WindowingLemmas.{cut-monotone, holds-window_index, index_le_cut}
+use Rattle.ss_windowing.proofs.ExpLemmas.{cut-group}
 use Rattle.ss_model.specs.Decay.{cover}
 use Rattle.ss_model.proofs.DecayLemmas.{cover_le}
-
--- a window's length by its group and its place in the group
-length-in_group : (b r s g k : ℕ) → k < r → exp_length b r s (r * g + k) ≡ s * b ^ g
-length-in_group b r s g k inside =
-    ap (λ n. s * b ^ ((n + k) / r)) (mul_comm r g) ∙ ap (λ q. s * b ^ q) (div-mul-add g r k inside)
-
--- along a group each window adds one length
-cut-along : (b r s g k : ℕ) → k ≤ r → cut (exp_length b r s) (r * g + k) ≡ cut (exp_length b r s) (r * g) + k * (s * b ^ g)
-cut-along b r s g zero inside = let same : r * g + 0 ≡ r * g = omega arith in rw same (omega arith)
-cut-along b r s g (suc k) inside =
-    let same : r * g + suc k ≡ suc (r * g + k) = omega arith in
-    rw same (omega (arith, cut-along b r s g k (omega arith), length-in_group b r s g k inside))
 
 -- the lengths of the first groups, times b - 1, are those of the next group without the first one's
 line : (d x y z : ℕ) → d * x + y ≡ z → d * (x + z) + y ≡ z * (d + 1)
@@ -36,7 +25,7 @@ cut-line b r s (suc g) h =
     let base : b - 1 + 1 ≡ b = omega (arith, h.base_low) in
     let power : r * (s * b ^ suc g) ≡ r * (s * b ^ g) * b = rw pow-suc (omega arith) in
     let before = line (b - 1) (cut (exp_length b r s) (r * g)) (r * s) (r * (s * b ^ g)) (cut-line b r s g h) in
-    rw (next, cut-along b r s g r (omega arith), power) (rw base at before)
+    rw (next, cut-group b r s g r (omega arith), power) (rw base at before)
 
 pub length-line : (b r s age : ℕ) → IsExp b r s → r * exp_length b r s (window_index (exp_length b r s) age) ≤ (b - 1) * age + r * s
 length-line b r s age h =

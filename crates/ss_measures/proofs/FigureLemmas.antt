@@ -4,8 +4,9 @@ use Rattle.std.proofs.Common.{arith, inl, inr, refl, subst}
 use Rattle.std.proofs.lemmas.Bool.{cases_lt}
 use Rattle.std.proofs.lemmas.Int.{ints, clamps}
 use Rattle.ss_bounds.proofs.LeastLemmas.{at_most-least_of, greatest_of-at_least, greatest_of-at_most, least_of-at_most}
-use Rattle.ss_bounds.proofs.Numbers.{minus-times, plus-times, times-le-times}
+use Rattle.ss_bounds.proofs.Numbers.{minus-times, plus-times}
 use Rattle.ss_bounds.specs.Split.{SplitFigures, greatest_count, high_sum, least_count, low_sum, sum_interval}
+use Rattle.ss_summary.proofs.Bounds.{times-le-times}
 
 -- what the values of a window may be, however it is split
 pub record AreValues (count : ℕ) (sum least greatest : ℤ) : Type 0 where

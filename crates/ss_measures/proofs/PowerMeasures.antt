@@ -1,13 +1,13 @@
 -- How long the windows of a power-law target are by their age, and how many of them hold so many values.
 use Rattle.std.proofs.Common.{ℕ, zero, suc, ◌≡◌, ◌+◌, ◌-◌, ◌*◌, ◌^◌, ◌<◌, ◌≤◌, inl, inr, ap, ◌∙◌, arith}
-use Rattle.std.proofs.Math.Nat.{mul-pos, one-le-pow, mul-le-mul_left, mul-le-mul_right, pow-le-pow_left, pow-suc, pow-succ', pow-zero, le_trans}
+use Rattle.std.proofs.Math.Nat.{mul-le-mul_left, mul-le-mul_right, pow-le-pow_left, pow-suc, pow-succ', pow-zero, le_trans}
 use Rattle.std.proofs.lemmas.Bool.{cases_lt}
-use Rattle.ss_windowing.specs.Windowing.{ArePositive, cut, window_index}
+use Rattle.ss_windowing.specs.Windowing.{cut, window_index}
 use Rattle.ss_windowing.proofs.WindowingLemmas.{cut-monotone, holds-window_index}
 use Rattle.ss_power.specs.Power.{group_size, power_length, IsPower}
 use Rattle.ss_power.specs.PowerLaws.{power_length-positive}
 use Rattle.ss_power.specs.PowerSum.{power_sum}
-use Rattle.ss_power.proofs.PowerLemmas.{cut-power_sum, cut-sizes}
+use Rattle.ss_power.proofs.PowerLemmas.{cut-power_sum, cut-sizes, group_size-positive}
 use Rattle.ss_model.specs.Decay.{cover}
 use Rattle.ss_model.proofs.DecayLemmas.{cover_le}
 
@@ -48,10 +48,6 @@ sum-below e (suc m) =
     let less : m ≤ m + 1 = omega arith in
     rw next (omega (arith, sum-below e m, mul-le-mul_left m (pow-le-pow_left less e)))
 
--- a group of the target, as the cuts of windows and of values have it
-sizes-positive : {p q r s : ℕ} → IsPower p q r s → ArePositive (group_size p r)
-sizes-positive {p} h g = mul-pos h.repeat_low (one-le-pow (p - 1) (g + 1) (omega arith))
-
 -- the values of the first groups are at least the power of their number
 cut-above : (p q r s g : ℕ) → IsPower p q r s →
     r * s * g ^ (p + q) ≤ (p + q) * cut (power_length p q r s) (cut (group_size p r) g)
@@ -79,7 +75,7 @@ unfolding power_length
 length-before p q r s g i h inside =
     let sizes = group_size p r in
     let j = window_index sizes i in
-    let here = holds-window_index sizes i (sizes-positive h) in
+    let here = holds-window_index sizes i (group_size-positive h) in
     let below : j + 1 ≤ g = elim (cases_lt j g) [
       | inl before ↦ omega (arith, before)
       | inr after ↦ absurd (omega (arith, here.start, cut-monotone sizes g j after))

@@ -20,14 +20,15 @@ use Rattle.ss_measures.specs.Sizes.{HoldsAtMost, TakesAtMost}
 use Rattle.ss_model.specs.Decay.{cover, steps_met}
 use Rattle.ss_model.specs.History.{Happened, values_of}
 use Rattle.ss_model.specs.Marks.{has_open}
-use Rattle.ss_model.specs.Refusals.{first_that_applies, has_all_records, has_all_streams, has_most_values, is_before, is_early, is_past, of_named, refuses, stands}
+use Rattle.ss_model.specs.Refusals.{first_that_applies, has_all_records, has_all_streams, has_most_values, is_before, is_early, is_past, of_named, refuses}
+use Rattle.ss_model.specs.Refusals.{stands}
 use Rattle.ss_model.specs.State.{Stream, last_time, live, records_of, state, values_in}
 use Rattle.ss_model.specs.declared.types.TheConstants.{MOST_RECORDS}
-use Rattle.ss_power.specs.Power.{IsPower, power_length}
+use Rattle.ss_power.specs.Power.{IsPower}
 use Rattle.ss_summary.specs.Points.{Point}
 use Rattle.ss_target.specs.Lengths.{has_target, lengths_of}
 use Rattle.ss_target.specs.Rule.{rule_of}
-use Rattle.ss_windowing.specs.Exp.{IsExp, exp_length}
+use Rattle.ss_windowing.specs.Exp.{IsExp}
 
 -- streams of which each needs at most so many
 live-few : (streams : List Stream) (few : Stream → ℕ) (most : ℕ) → All (λ s. records_of s ≤ few s) streams → All (λ s. few s ≤ most) streams

@@ -4,11 +4,11 @@ use Rattle.std.proofs.Common.{ap, append_assoc, arith, refl, subst, sym, ◌∙�
 use Rattle.ss_catalog.specs.Params.{step_number}
 use Rattle.ss_landmarks.specs.Landmark.{all_values}
 use Rattle.ss_measures.specs.Sizes.{NeedsAtMost, UsesFewSlots}
-use Rattle.ss_model.proofs.DecayLemmas.{length-windows_met}
+use Rattle.ss_model.proofs.DecayLemmas.{length-windows_met, steps_after-none}
 use Rattle.ss_model.proofs.HistoryLemmas.{by_pushes}
 use Rattle.ss_model.proofs.ReadLemmas.{All-state}
 use Rattle.ss_model.proofs.Stretches.{taken-windows}
-use Rattle.ss_model.specs.Decay.{cover, steps_after, steps_met}
+use Rattle.ss_model.specs.Decay.{cover, steps_met}
 use Rattle.ss_model.specs.History.{Happened, values_of}
 use Rattle.ss_target.specs.Rule.{Rule, rule_of}
 use Rattle.ss_model.specs.State.{records_of, state, values_in}
@@ -40,14 +40,9 @@ records-few history =
     + length s.landmarks + length (all_values s.landmarks)) history
     (λ c. let few = few-taken (rule_of c.params) (values_of history c.name) in omega (arith, few))
 
--- without a step all values lie in one
-steps_after-alone : (t : ℕ) (us : List ℕ) → steps_after 0 t us ≡ 0
-steps_after-alone t [] = refl
-steps_after-alone t (u ∷ us) = omega (arith, steps_after-alone u us)
-
 steps_met-alone : (ts : List ℕ) → steps_met 0 ts ≤ 1
 steps_met-alone [] = omega arith
-steps_met-alone (t ∷ ts) = omega (arith, steps_after-alone t ts)
+steps_met-alone (t ∷ ts) = omega (arith, steps_after-none t ts)
 
 pub records-alone : (history : List Happened) → All (λ s. s.params.within ≡ None → records_of s ≤
     max 1 (2 * cover (lengths_of s.params) (values_in s)) + length s.landmarks + length (all_values s.landmarks)) (state history)
@@ -58,7 +53,8 @@ records-alone history =
     let rule = rule_of c.params in
     let values = values_of history c.name in
     let few = few-taken rule values in
-    let met : steps_met rule.step (times values) ≤ 1 = subst (λ step. steps_met step (times values) ≤ 1) (ap step_number (sym none)) (steps_met-alone (times values)) in
+    let met : steps_met rule.step (times values) ≤ 1 =
+    subst (λ step. steps_met step (times values) ≤ 1) (ap step_number (sym none)) (steps_met-alone (times values)) in
     omega (arith, few, met))
 
 pub slots-few : (history : List Happened) (extent : List Happened → ℕ) (most : ℕ) → UsesFewSlots extent history → NeedsAtMost most history

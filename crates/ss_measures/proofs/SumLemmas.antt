@@ -3,8 +3,9 @@ use Rattle.std.proofs.Common.{ℕ, zero, suc, ◌≡◌, ◌+◌, ◌-◌, ◌�
 use Rattle.std.specs.Prelude.{ℤ, pos, ◌+ℤ◌, ◌-ℤ◌, ◌*ℤ◌, ◌≤ℤ◌}
 use Rattle.std.specs.Int.{int_max, int_min}
 use Rattle.std.proofs.lemmas.Int.{ints, clamps}
-use Rattle.ss_bounds.proofs.Numbers.{minus-times, times-le-times, times-minus}
+use Rattle.ss_bounds.proofs.Numbers.{minus-times, times-minus}
 use Rattle.ss_bounds.specs.Split.{SplitFigures, IsSplit, greatest_count, greatest_of, high_sum, least_count, least_of, low_sum, sum_interval}
+use Rattle.ss_summary.proofs.Bounds.{times-le-times}
 
 none-times : (n : ℕ) → (pos n *ℤ pos 0) ≡ pos 0
 none-times n = omega (arith, ints)

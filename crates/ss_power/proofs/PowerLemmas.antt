@@ -18,7 +18,7 @@ use Rattle.ss_power.specs.PowerLaws.{power_length-positive}
 use Rattle.ss_power.specs.PowerSum.{cap, power_sum}
 use Rattle.ss_power.proofs.SumLemmas.{power-small, within-cap, lt-power_sum-cap}
 
-group_size-positive : {p q r s : ℕ} → IsPower p q r s → ArePositive (group_size p r)
+pub group_size-positive : {p q r s : ℕ} → IsPower p q r s → ArePositive (group_size p r)
 group_size-positive {p} h g = mul-pos h.repeat_low (one-le-pow (p - 1) (g + 1) (omega arith))
 
 -- a group has its first window at r times a power sum

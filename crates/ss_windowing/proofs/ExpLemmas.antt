@@ -11,12 +11,12 @@ use Rattle.ss_windowing.specs.declared.decay.TheConstants.{MOST_VALUES}
 use Rattle.ss_windowing.proofs.WindowingLemmas.{cut-monotone, index_le_cut}
 
 -- a window's length by its group and its place in the group
-exp_length-group : (b r s g k : ℕ) → k < r → exp_length b r s (r * g + k) ≡ s * b ^ g
+pub exp_length-group : (b r s g k : ℕ) → k < r → exp_length b r s (r * g + k) ≡ s * b ^ g
 exp_length-group b r s g k inside =
     ap (λ n. s * b ^ ((n + k) / r)) (mul_comm r g) ∙ ap (λ q. s * b ^ q) (div-mul-add g r k inside)
 
 -- along a group each window adds one length
-cut-group : (b r s g k : ℕ) → k ≤ r → cut (exp_length b r s) (r * g + k) ≡ cut (exp_length b r s) (r * g) + k * (s * b ^ g)
+pub cut-group : (b r s g k : ℕ) → k ≤ r → cut (exp_length b r s) (r * g + k) ≡ cut (exp_length b r s) (r * g) + k * (s * b ^ g)
 cut-group b r s g zero inside = let same : r * g + 0 ≡ r * g = omega arith in rw same (omega arith)
 cut-group b r s g (suc k) inside =
     let same : r * g + suc k ≡ suc (r * g + k) = omega arith in
