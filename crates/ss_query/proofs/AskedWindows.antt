@@ -8,6 +8,7 @@ use Rattle.ss_codec.specs.declared.record.Record.{Record}
 use Rattle.ss_line.specs.Line.{IsLine, entry_at, index_of, place_at}
 use Rattle.ss_line.specs.declared.entry.At.{At}
 use Rattle.ss_line.specs.declared.entry.Entry.{Entry}
+use Rattle.ss_line.proofs.Places.{none-first}
 use Rattle.ss_catalog.specs.declared.query.Kind.{Kind}
 use Rattle.ss_catalog.specs.declared.query.Query.{Query}
 use Rattle.ss_landmarks.specs.ValuesIn.{values_between}
@@ -33,7 +34,7 @@ use Rattle.ss_query.specs.declared.read_error.ReadError.{ReadError}
 use Rattle.ss_query.specs.declared.read_error.ReadError.TheVariants as error
 use Rattle.ss_query.proofs.NextWindow.{AreLeft, AreLeft-early, AreLeft-more, Follows-next, IsBeside-here, IsNext, IsNext-here, IsWalkedTo}
 use Rattle.ss_query.proofs.NextWindow.{IsWalkedTo-more, after, late-next, seen_by}
-use Rattle.ss_query.proofs.Places.{entries_in, none-first}
+use Rattle.ss_query.proofs.Places.{entries_in}
 use Rattle.ss_query.proofs.Rooms.{HasRoom-none}
 
 -- Entries are looked at in a row, by records that are others then, of what they show, up to a place of a line. What they show

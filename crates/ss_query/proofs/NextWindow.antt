@@ -17,6 +17,7 @@ use Rattle.ss_landmarks.specs.ValuesIn.{tally_of, values_between}
 use Rattle.ss_line.specs.Line.{IsLine, StandsIn, entry_at, index_of, place_at}
 use Rattle.ss_line.specs.declared.entry.At.{At}
 use Rattle.ss_line.specs.declared.entry.Entry.{Entry}
+use Rattle.ss_line.proofs.Places.{place_at-seam}
 use Rattle.ss_journal.specs.declared.format.TheConstants.{MOST_SLOTS}
 use Rattle.ss_model.specs.Windows.{taken}
 use Rattle.ss_model.proofs.Stretches.{taken-cons}
@@ -33,7 +34,7 @@ use Rattle.ss_query.specs.Asked.{Follows, HasCuts, HasRoom, marks_seen, seen_aft
 use Rattle.ss_query.specs.Held.{IsHeldIn}
 use Rattle.ss_query.specs.Slots.{HasRecords}
 use Rattle.ss_query.specs.declared.asking.Seen.{Seen}
-use Rattle.ss_query.proofs.Places.{IsAt-first, entries_in, index_of-next, place_at-seam, read-once, slice_get-entry}
+use Rattle.ss_query.proofs.Places.{IsAt-first, entries_in, index_of-next, read-once, slice_get-entry}
 use Rattle.ss_query.proofs.Records.{HasRecords-permutation, zip-held}
 use Rattle.ss_query.proofs.Seeing.{apart-early, apart-late, fold-late}
 

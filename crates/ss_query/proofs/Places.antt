@@ -1,16 +1,18 @@
 -- Where entries stand in a line.
-use Rattle.std.proofs.Common.{◌≡◌, ◌∙◌, ℕ, zero, suc, ◌+◌, ◌≤◌, Bool, true, false, cond, List, [], ◌∷◌, ◌++◌, length, map, refl}
+use Rattle.std.proofs.Common.{◌≡◌, ◌∙◌, ℕ, zero, suc, ◌+◌, ◌≤◌, true, false, cond, List, [], ◌∷◌, ◌++◌, length, map, refl}
 use Rattle.std.proofs.Common.{sym, ap, subst, arith, append_assoc, length-append, count_by, Option, Some, None, inl, inr}
 use Rattle.std.specs.Prelude.{slice_get, IfSome}
-use Rattle.std.specs.List.{find, list_any, position_or_len}
+use Rattle.std.specs.List.{find, list_any}
 use Rattle.std.specs.Option.{option_map}
-use Rattle.std.proofs.lemmas.Bool.{cases_Bool, cond-true, eqb-true, eq-eqb, or_parts}
+use Rattle.std.proofs.lemmas.Bool.{cases_Bool, cond-true, eq-eqb}
 use Rattle.std.proofs.lemmas.List.Folds.{find_at}
 use Rattle.std.proofs.lemmas.Option.{slice_get-map}
-use Rattle.std.proofs.lemmas.List.Sums.{sum_by-append, sum_by-cons}
+use Rattle.std.proofs.lemmas.List.Sums.{sum_by-cons}
 use Rattle.ss_line.specs.Line.{IsLine, LineState, entry_at, index_of, is_at, place_at}
 use Rattle.ss_line.specs.declared.entry.At.{At}
 use Rattle.ss_line.specs.declared.entry.Entry.{Entry}
+pub use Rattle.ss_line.proofs.Places.{index-once, none-first}
+use Rattle.ss_line.proofs.Places.{find-once, is_at-same, list_any-cons_false, once-before, place_at-seam, same_place}
 
 -- an entry stands at a place, and none before it
 pub record IsAt (entries : List (At × Entry)) (at : At) (entry : Entry) : Type 0 where
@@ -18,12 +20,6 @@ pub record IsAt (entries : List (At × Entry)) (at : At) (entry : Entry) : Type 
   pub rest : List (At × Entry)
   pub is : entries ≡ before ++ (at, entry) ∷ rest
   pub once : list_any (is_at at) before ≡ false
-
-same_place : (at : At) (e : At × Entry) → is_at at e ≡ true → e.0 ≡ at
-same_place at e is = let same = eqb-true e.0.0 at.0 is in ap (λ n. let a : At = record { 0 = n } in a) same
-
-list_any-cons_false : {X : Type 0} (p : X → Bool) (x : X) (xs : List X) → p x ≡ false → list_any p xs ≡ false → list_any p (x ∷ xs) ≡ false
-list_any-cons_false p x xs first rest = rw (first, rest) refl
 
 -- what is read at a place
 pub IsAt-entry_at : (entries : List (At × Entry)) (at : At) (entry : Entry) → entry_at entries at ≡ Some entry → IsAt entries at entry
@@ -45,46 +41,13 @@ IsAt-entry_at (e ∷ es) at entry read =
           })
     ]
 
-position-once : {X : Type 0} (p : X → Bool) (before : List X) (x : X) (rest : List X) → list_any p before ≡ false → p x ≡ true →
-    position_or_len p (before ++ x ∷ rest) ≡ length before
-position-once p [] x rest once passes = rw passes refl
-position-once p (y ∷ ys) x rest once passes =
-    let parts = or_parts (p y) (list_any p ys) once in
-    let later = position-once p ys x rest parts.1 passes in
-    rw parts.0 (omega (arith, later))
-
-pub index-once : (before : List (At × Entry)) (at : At) (entry : Entry) (rest : List (At × Entry)) → list_any (is_at at) before ≡ false →
-    index_of (before ++ (at, entry) ∷ rest) at ≡ length before
-index-once before at entry rest once = position-once (is_at at) before (at, entry) rest once (eq-eqb at.0 at.0 refl)
-
-find-once : {X : Type 0} (p : X → Bool) (before : List X) (x : X) (rest : List X) → list_any p before ≡ false → p x ≡ true →
-    find p (before ++ x ∷ rest) ≡ Some x
-find-once p [] x rest once passes = rw passes refl
-find-once p (y ∷ ys) x rest once passes =
-    let parts = or_parts (p y) (list_any p ys) once in rw parts.0 (find-once p ys x rest parts.1 passes)
-
--- what stands once is before nothing of its kind
-once-count : {X : Type 0} (p : X → Bool) (before : List X) (x : X) (rest : List X) → p x ≡ true → count_by p (before ++ x ∷ rest) ≤ 1 →
-    list_any p before ≡ false
-once-count p [] x rest passes few = refl
-once-count p (y ∷ ys) x rest passes few =
-    let seam = sum_by-append (λ z. cond (p z) 1 0) ys (x ∷ rest) in
-    let here = sum_by-cons (λ z. cond (p z) 1 0) x rest in
-    let one : cond {A = ℕ} (p x) 1 0 ≡ 1 = cond-true (p x) 1 0 passes in
-    let first = sum_by-cons (λ z. cond (p z) 1 0) y (ys ++ x ∷ rest) in
-    elim (cases_Bool (p y)) [
-      | inl also ↦
-          (let another : cond {A = ℕ} (p y) 1 0 ≡ 1 = cond-true (p y) 1 0 also in absurd (omega (arith, seam, here, one, first, another, few)))
-      | inr fails ↦ list_any-cons_false p y ys fails (once-count p ys x rest passes (omega (arith, first, few)))
-    ]
-
 -- what is read at a place before which it doesn't stand
 pub find-read : (entries before : List (At × Entry)) (at : At) (entry : Entry) (rest : List (At × Entry)) (read : Entry) →
     entries ≡ before ++ (at, entry) ∷ rest →
     list_any (is_at at) before ≡ false → entry_at entries at ≡ Some read → entry ≡ read
 find-read entries before at entry rest read is once found =
     let here : find (is_at at) entries ≡ Some (at, entry) =
-    ap (find (is_at at)) is ∙ find-once (is_at at) before (at, entry) rest once (eq-eqb at.0 at.0 refl) in
+    ap (find (is_at at)) is ∙ find-once (is_at at) before (at, entry) rest once (is_at-same at entry) in
     let same : Some entry ≡ Some read = sym (ap (option_map (λ (e : At × Entry). e.1)) here) ∙ found in
     cc
 
@@ -94,21 +57,13 @@ pub read-once : (entries before : List (At × Entry)) (at : At) (entry : Entry) 
     count_by (is_at at) entries ≤ 1 → entry_at entries at ≡ Some read → entry ≡ read
 read-once entries before at entry rest read is few found =
     find-read entries before at entry rest read is
-    (once-count (is_at at) before (at, entry) rest (eq-eqb at.0 at.0 refl) (subst (λ es. count_by (is_at at) es ≤ 1) is few)) found
-
-pub place_at-seam : (before after : List (At × Entry)) → place_at (before ++ after) (length before) ≡ place_at after 0
-place_at-seam [] after = refl
-place_at-seam (e ∷ es) after = place_at-seam es after
+    (once-before (is_at at) before (at, entry) rest (is_at-same at entry) (subst (λ es. count_by (is_at at) es ≤ 1) is few)) found
 
 -- the first place
 pub IsAt-first : (entries : List (At × Entry)) (at : At) → Some at ≡ place_at entries 0 →
     (entry : Entry) × (rest : List (At × Entry)) × (entries ≡ (at, entry) ∷ rest)
 IsAt-first [] at read = absurd (cc)
 IsAt-first (e ∷ es) at read = let place : e.0 ≡ at = cc in (e.1, es, ap (λ (a : At). (a, e.1) ∷ es) place)
-
-pub none-first : (entries : List (At × Entry)) → None ≡ place_at entries 0 → entries ≡ []
-none-first [] read = refl
-none-first (e ∷ es) read = absurd (cc)
 
 module _ (entries : List (At × Entry)) (left : At) (window : Entry) (before rest : List (At × Entry))
     (is : entries ≡ before ++ (left, window) ∷ rest) (once : list_any (is_at left) before ≡ false) where
@@ -133,7 +88,7 @@ module _ (entries : List (At × Entry)) (left : At) (window : Entry) (before res
       let front = before ++ (left, window) ∷ [] in
       let moved : entries ≡ front ++ (right, there.0) ∷ there.1 = cut ∙ sym (append_assoc before ((left, window) ∷ []) ((right, there.0) ∷ there.1)) in
       let alone : list_any (is_at right) front ≡ false =
-      once-count (is_at right) front (right, there.0) there.1 (eq-eqb right.0 right.0 refl) (subst (λ es. count_by (is_at right) es ≤ 1) moved (apart right)) in
+      once-before (is_at right) front (right, there.0) there.1 (is_at-same right there.0) (subst (λ es. count_by (is_at right) es ≤ 1) moved (apart right)) in
       let one : there.0 ≡ next = read-once entries front right there.0 there.1 next moved (apart right) read in
       (there.1, cut ∙ ap (λ e. before ++ (left, window) ∷ (right, e) ∷ there.1) one, alone)
 

@@ -72,7 +72,7 @@ zip-append (x ∷ xs) us [] vs same = absurd (omega arith)
 zip-append (x ∷ xs) us (y ∷ ys) vs same = ap (λ l. (x, y) ∷ l) (zip-append xs us ys vs (omega arith))
 
 -- the windows of a stream and their entries, cut at one place
-same-length : (es : List Entry) (ws : List Window) → map span_held es ≡ map span_of ws → length es ≡ length ws
+pub same-length : (es : List Entry) (ws : List Window) → map span_held es ≡ map span_of ws → length es ≡ length ws
 same-length es ws same = let long = ap (λ l. length l) same in omega (arith, long, length-map es span_held, length-map ws span_of)
 
 pub zip-held : (number : ℕ) (front : List Entry) (es : List Entry) (before : List Window) (ws : List Window) → map span_held front ≡ map span_of before →

@@ -1,5 +1,5 @@
 -- A window that lies free among landmarks, and that a range splits: its figures, by counts of free times.
-use Rattle.std.proofs.Common.{◌≡◌, ◌∙◌, ℕ, ◌+◌, ◌-◌, ◌<◌, ◌≤◌, max, min, List, sym, ap₂, subst, arith, IsTrue}
+use Rattle.std.proofs.Common.{◌≡◌, ◌∙◌, ℕ, ◌+◌, ◌-◌, ◌≤◌, max, min, List, sym, ap₂, subst, arith, IsTrue}
 use Rattle.std.specs.Prelude.{ℤ}
 use Rattle.ss_bounds.specs.Split.{IsSplit, SplitFigures}
 use Rattle.ss_bounds.specs.Times.{ends_in, split_of, times_inside, times_outside}
