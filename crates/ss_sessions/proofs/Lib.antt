@@ -1,4 +1,3 @@
-pub mod FoundLemmas
 pub mod CopyLemmas
 pub mod CursorLemmas
 pub mod Rows

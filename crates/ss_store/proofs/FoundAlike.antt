@@ -23,7 +23,7 @@ use Rattle.ss_store.proofs.KeptStates.{AllAgree-recovered}
 use Rattle.ss_store.proofs.Refusals.{refuses_held-is}
 
 -- what is found passes the test
-find_passes : {X : Type 0} (test : X → Bool) (xs : List X) (x : X) → find test xs ≡ Some x → test x ≡ true
+pub find_passes : {X : Type 0} (test : X → Bool) (xs : List X) (x : X) → find test xs ≡ Some x → test x ≡ true
 find_passes test [] x is = cc
 find_passes test (y ∷ ys) x is = elim (cases_Bool (test y)) [
   | inl hit ↦ (let here : Some y ≡ Some x = rw hit at is in let same : y ≡ x = cc in subst (λ z. test z ≡ true) same hit)
@@ -66,7 +66,7 @@ streams-kept store image history kept stands =
     length-AllAgree store.streams (state history)
     (AllAgree-recovered store image (state history) kept stands.state).0
 
-windows_alike : (part : Option StreamParts) (o : Option Stream) (s : Stream) → o ≡ Some s → SomeAgree part o →
+pub windows_alike : (part : Option StreamParts) (o : Option Stream) (s : Stream) → o ≡ Some s → SomeAgree part o →
     IfSome part (λ p. length p.line.entries ≡ length s.windows)
 windows_alike None o s is agree = tt
 windows_alike (Some part) None s is agree = absurd agree
@@ -81,7 +81,7 @@ windows-kept store image history number s kept stands is =
     (SomeAgree-numbered store.streams (state history) number (AllAgree-recovered store image (state history) kept stands.state).0)
 
 -- a stream that isn't held doesn't stand
-none_alike : (part : Option StreamParts) (o : Option Stream) → None ≡ option_map (λ (p : StreamParts). p.id) part → SomeAgree part o → o ≡ None
+pub none_alike : (part : Option StreamParts) (o : Option Stream) → None ≡ option_map (λ (p : StreamParts). p.id) part → SomeAgree part o → o ≡ None
 none_alike None None is agree = refl
 none_alike None (Some s) is agree = absurd agree
 none_alike (Some part) o is agree = cc
@@ -93,7 +93,7 @@ unknown-kept store image history name kept stands none =
     (SomeAgree-named store.streams (state history) name (AllAgree-recovered store image (state history) kept stands.state).0)
 
 -- and one that is held is found by its name and by its number
-both_found : (parts : List StreamParts) (streams : List Stream) (name : List ℕ) (part : StreamParts) → AllAgree parts streams →
+pub both_found : (parts : List StreamParts) (streams : List Stream) (name : List ℕ) (part : StreamParts) → AllAgree parts streams →
     part_named name parts ≡ Some part → part_numbered part.id.0 parts ≡ Some part →
     (s : Stream) × (stream_named name streams ≡ Some s) × (stream_numbered part.id.0 streams ≡ Some s)
 both_found [] [] name part each named numbered = cc
@@ -117,7 +117,7 @@ both_found (p ∷ ps) (s ∷ ss) name part each named numbered =
       ]
     ]
 
-found_alike : (parts : List StreamParts) (streams : List Stream) (name : List ℕ) (id : StreamId) (o : Option StreamParts) → AllAgree parts streams →
+pub found_alike : (parts : List StreamParts) (streams : List Stream) (name : List ℕ) (id : StreamId) (o : Option StreamParts) → AllAgree parts streams →
     o ≡ part_named name parts → Some id ≡ option_map (λ (p : StreamParts). p.id) o → part_numbered id.0 parts ≡ o →
     (s : Stream) × (stream_named name streams ≡ Some s) × (stream_numbered id.0 streams ≡ Some s)
 found_alike parts streams name id None each named number numbered = cc

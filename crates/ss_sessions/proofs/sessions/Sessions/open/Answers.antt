@@ -5,13 +5,13 @@ use Rattle.ss_outside.specs.Step.{Step}
 use Rattle.ss_records.specs.Kept.{shown_by}
 use Rattle.ss_store.specs.Kept.{part_named}
 use Rattle.ss_store.proofs.KeptStates.{AllAgree-recovered}
+use Rattle.ss_store.proofs.FoundAlike.{found_alike}
 use Rattle.ss_sessions.specs.Cursors.{cursor_of, refuses_cursor}
 use Rattle.ss_sessions.specs.Errors.{verdict_of_cursor}
 use Rattle.ss_sessions.specs.Opened.{OpensCursor, refuses_cursor_held}
 use Rattle.ss_sessions.specs.declared.error.CursorRefusal.TheVariants.{Unknown, Busy}
 use Rattle.ss_sessions.proofs.CursorLemmas.{cursor_of-with_cursor, err-alike, exactly-refused, exactly-unrefused, is_some-cursor_of, opened-alike, refused-busy}
 use Rattle.ss_sessions.proofs.CursorLemmas.{refused-unknown, refuses_cursor-held, unrefused}
-use Rattle.ss_sessions.proofs.FoundLemmas.{found_alike}
 use Rattle.ss_sessions.proofs.sessions.Sessions.open.Goals as goal
 
 pub returns-in_default-clause-opens : goal.returns-in_default-clause-opens
