@@ -8,11 +8,12 @@ use Rattle.std.proofs.lemmas.Bool.{cases_lt}
 use Rattle.std.proofs.lemmas.Bool.Decides.{nat_tests}
 use Rattle.std.proofs.lemmas.List.Sums.{sum_by-cons}
 use Rattle.std.proofs.Math.Nat.{mul-le-mul_left, mul-pos}
+use Rattle.ss_summary.proofs.Bounds.{times-le-times}
 use Rattle.ss_bounds.specs.Split.{SplitFigures, IsSplit, least_count, greatest_count, low_sum, high_sum, sum_interval}
 use Rattle.ss_bounds.specs.Guess.{Fraction, whole, plus, sum_of, nearest, spread_over, guess_of_count, guess_of_sum}
 use Rattle.ss_bounds.specs.Guess.{AreAllSplit, count_guess, sum_guess}
 use Rattle.ss_bounds.specs.Truth.{total}
-use Rattle.ss_bounds.proofs.Numbers.{times-le-times, minus-times, times-minus, times-plus, product-times, more-times}
+use Rattle.ss_bounds.proofs.Numbers.{minus-times, times-minus, times-plus, product-times, more-times}
 use Rattle.ss_bounds.proofs.TruthLemmas.{sum_interval-at}
 use Rattle.ss_bounds.proofs.AttainedLemmas.{greatest_count-few}
 

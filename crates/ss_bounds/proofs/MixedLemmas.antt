@@ -1,5 +1,6 @@
 -- Fractions as the code holds them: a whole number and a proper fraction.
-use Rattle.std.specs.Prelude.{◌≡◌, ℕ, ◌+◌, ◌-◌, ◌*◌, ◌/◌, ◌%◌, ◌^◌, ◌<◌, ◌≤◌, Bool, true, false, ℤ, pos, ◌+ℤ◌, ◌-ℤ◌, ◌*ℤ◌, ◌≤ℤ◌, FitsSigned, unsigned_abs, map, Option, None, Some}
+use Rattle.std.specs.Prelude.{◌≡◌, ℕ, ◌+◌, ◌-◌, ◌*◌, ◌/◌, ◌%◌, ◌^◌, ◌<◌, ◌≤◌, Bool, true, false, ℤ, pos, ◌+ℤ◌, ◌-ℤ◌, ◌*ℤ◌, ◌≤ℤ◌, FitsSigned, unsigned_abs, map}
+use Rattle.std.specs.Prelude.{Option, None, Some}
 use Rattle.std.specs.Int.{w128}
 use Rattle.std.specs.Ordering.{MatchOrdering}
 use Rattle.std.specs.declared.cmp.Ordering.TheVariants.{Less, Equal, Greater}
@@ -7,6 +8,7 @@ use Rattle.std.proofs.Common.{Ordering, arith, ap, ap₂, refl, sym, subst, ◌�
 use Rattle.std.proofs.lemmas.Bool.Decides.{nat_tests}
 use Rattle.std.proofs.lemmas.Int.{ints, by_lt_z, to_z-of_z, to_z_pos}
 use Rattle.std.proofs.Math.Nat.{div-le_self, mul-le-mul_left, mul-le-mul, mul-pos}
+use Rattle.ss_summary.proofs.Bounds.{times-le-times}
 use Rattle.ss_bounds.specs.Split.{SplitFigures, IsSplit}
 use Rattle.ss_bounds.specs.Extremes.{listed}
 use Rattle.ss_bounds.specs.Guess.{Fraction, whole, plus, sum_of, is_even, nearest, spread_over, guess_of_count, guess_of_sum}
@@ -14,7 +16,7 @@ use Rattle.ss_bounds.specs.Mixed.{IsProper, IsMixed, IsNear, IsSpread, AreRests,
 use Rattle.ss_bounds.specs.declared.mixed.Mixed.{Mixed}
 use Rattle.ss_bounds.specs.declared.spread.Spread.{Spread}
 use Rattle.ss_bounds.proofs.Held.{held, held-is, sum-fits}
-use Rattle.ss_bounds.proofs.Numbers.{times-le-times, times-minus, times-plus, plus-times, product-times}
+use Rattle.ss_bounds.proofs.Numbers.{times-minus, times-plus, plus-times, product-times}
 use mir.Val.{to_z}
 use Rattle.ss_bounds.proofs.GuessLemmas.{IsNearest, nearest-is, next-times, products-turned, product-turned, mean-low, mean-high}
 
@@ -112,7 +114,8 @@ nearest-mixed k m n half more even a b first second even_is is_half is_more =
     let some : 0 < u * v = mul-pos first.fits.some second.fits.some in
     let near = rise-nearest z (u * v) rest half more even some (rests-below u v m.over n.over first.fits.proper second.fits.proper) even_is is_half is_more in
     let found = nearest-is (record { over = (pos (u * v) *ℤ z) +ℤ pos rest; under = u * v }) _ some near in
-    let parts : plus (whole k) (plus (record { over = (pos u *ℤ m.whole) +ℤ pos m.over; under = u }) (record { over = (pos v *ℤ n.whole) +ℤ pos n.over; under = v }))
+    let parts : plus (whole k)
+    (plus (record { over = (pos u *ℤ m.whole) +ℤ pos m.over; under = u }) (record { over = (pos v *ℤ n.whole) +ℤ pos n.over; under = v }))
     ≡ record { over = (pos (u * v) *ℤ z) +ℤ pos rest; under = u * v } =
     ap₂ (λ (o : ℤ) (w : ℕ). record { over = o; under = w }) (plus-parts k m.whole n.whole u v m.over n.over) (omega arith) in
     found ∙ ap nearest (sym parts) ∙ ap₂ (λ c d. nearest (plus (whole k) (plus c d))) (sym (mixed-is a m first)) (sym (mixed-is b n second))

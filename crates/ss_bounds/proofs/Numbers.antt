@@ -3,13 +3,9 @@ use Rattle.std.specs.Prelude.{◌≡◌, ℕ, ◌+◌, ◌-◌, ◌*◌, ◌^◌
 use Rattle.std.specs.Int.{w64}
 use Rattle.std.proofs.Common.{ap, arith}
 use Rattle.std.proofs.lemmas.Int.{ints}
-use Rattle.std.proofs.Math.Nat.{mul-le-mul, mul-le-mul_left}
+use Rattle.std.proofs.Math.Nat.{mul-le-mul}
 use borrow.Author.Differences.{up, down}
-
-pub times-le-times : (n : ℕ) (a b : ℤ) → a ≤ℤ b → (pos n *ℤ a) ≤ℤ (pos n *ℤ b)
-times-le-times n a b at_most =
-    let scaled : n * (up a + down b) ≤ n * (up b + down a) = mul-le-mul_left n (omega (arith, ints)) in
-    omega (arith, ints)
+use Rattle.ss_summary.proofs.Bounds.{times-le-times}
 
 pub plus-times : (x d : ℕ) (a : ℤ) → (pos (x + d) *ℤ a) ≡ ((pos x *ℤ a) +ℤ (pos d *ℤ a))
 plus-times x d a = omega (arith, ints)

@@ -3,9 +3,10 @@ use Rattle.std.specs.Prelude.{◌≡◌, ℕ, ◌-◌, ◌<◌, ◌≤◌, ℤ, 
 use Rattle.std.proofs.Common.{arith, inl, inr}
 use Rattle.std.proofs.lemmas.Bool.{cases_lt}
 use Rattle.std.proofs.lemmas.Int.{ints, clamps}
+use Rattle.ss_summary.proofs.Bounds.{times-le-times}
 use Rattle.ss_bounds.specs.Split.{SplitFigures, IsSplit, low_sum, high_sum}
 use Rattle.ss_bounds.specs.Parted.{CanBeParted}
-use Rattle.ss_bounds.proofs.Numbers.{times-le-times, minus-times}
+use Rattle.ss_bounds.proofs.Numbers.{minus-times}
 
 module _ (s : SplitFigures) (split : IsSplit s) (x : ℕ) (few : x < s.count) where
   -- the sum of all, against that of as many of the greatest or of the least, but for one

@@ -3,9 +3,9 @@ use Rattle.std.specs.Prelude.{◌≡◌, ◌⊎◌, ℕ, zero, suc, ◌+◌, ◌
 use Rattle.std.proofs.Common.{arith, inl, inr, refl, sym, ap, ◌∙◌}
 use Rattle.std.proofs.lemmas.Bool.{cases_lt}
 use Rattle.std.proofs.lemmas.Int.{ints, by_lt_z}
+use Rattle.ss_summary.proofs.Bounds.{times-le-times}
 use Rattle.ss_bounds.specs.Lines.{IsStraight, IsLastLeast, lower}
 use Rattle.ss_bounds.specs.Attained.{IsFirstLeast}
-use Rattle.ss_bounds.proofs.Numbers.{times-le-times}
 
 module _ (f : ℕ → ℤ) where
   -- which of two numbers `lower` gives

@@ -9,6 +9,7 @@ use Rattle.ss_model.specs.Answers.{outcome_of}
 use Rattle.ss_model.specs.Standing.{IsState, IsStream}
 use Rattle.ss_model.specs.State.{Stream, stream_named}
 use Rattle.ss_model.specs.declared.outcome.Outcome.{Outcome}
+use Rattle.ss_model.proofs.RisingLemmas.{All-named}
 use Rattle.ss_outside.specs.Disk.{DiskView}
 use Rattle.ss_outside.specs.Step.{Step}
 use Rattle.ss_outside.specs.Verdict.{fine}
@@ -24,7 +25,7 @@ use Rattle.ss_certify.specs.Evidence.{IsEvidence, end_asked}
 use Rattle.ss_certify.specs.Made.{evidence_of}
 use Rattle.ss_certify.specs.declared.evidence.Evidence.{Evidence}
 use Rattle.ss_certify.proofs.MadeLemmas.{IsEvidence-evidence_of}
-use Rattle.ss_certify.proofs.SharpLemmas.{All-named, MayBeTrue-answer, end_asked-answer}
+use Rattle.ss_certify.proofs.SharpLemmas.{MayBeTrue-answer, end_asked-answer}
 
 -- a look and what is made of it have the same errors
 pub error-same : {B : Type 0} (e other : AskError) (P : Type 0) → ◌≡◌ {A = Result Seen AskError} (Err e) (Err other) ↔ P →

@@ -6,8 +6,8 @@ use Rattle.std.proofs.Common.{ap, arith, refl, subst, sym, ◌∙◌, get_or, le
 use Rattle.std.proofs.lemmas.Int.{ints}
 use Rattle.std.proofs.lemmas.List.{length-replicate, take_more, take-append-drop}
 use Rattle.ss_bounds.specs.Truth.{total}
-use Rattle.ss_bounds.proofs.Numbers.{times-le-times}
 use Rattle.ss_bounds.proofs.Held.{held, held64, held-is, held-times}
+use Rattle.ss_summary.proofs.Bounds.{times-le-times}
 use Rattle.ss_certify.specs.Runs.{values_of_runs, run_count, run_total}
 use Rattle.ss_model.specs.declared.types.Run.{Run}
 

@@ -1,6 +1,7 @@
 -- Both ends of an answer of count or of sum may be the true one, since evidence can be made for each.
 use Rattle.std.specs.Prelude.{◌≡◌, ℕ, true, ℤ, pos, List, Some}
 use Rattle.std.proofs.Common.{ap, refl, subst, sym, ◌∙◌}
+use Rattle.std.proofs.lemmas.Option.{same_Some}
 use Rattle.ss_catalog.specs.Queries.{adds_up}
 use Rattle.ss_catalog.specs.declared.query.End.{End}
 use Rattle.ss_catalog.specs.declared.query.End.TheVariants.{Lo, Hi}
@@ -21,9 +22,6 @@ use Rattle.ss_certify.proofs.MadeLemmas.{IsEvidence-evidence_of}
 use Rattle.ss_certify.proofs.SharpLemmas.{HasCuts-seen_of, IsStream-named, MayBeTrue-answer, end_asked-answer}
 
 -- so each end of an answer may be the true one
-pub same-value : {X : Type 0} (x y : X) → Some x ≡ Some y → x ≡ y
-same-value x y same = cc
-
 module _ (streams : List Stream) (query : Query) (outcome : Outcome) (answered : outcome_of streams query ≡ Some outcome)
     (adds : adds_up query.kind ≡ true) where
   MayBeTrue-end : (end : End) (v : ℤ) → end_asked end outcome ≡ Some v → MayBeTrue streams query v
@@ -33,7 +31,7 @@ module _ (streams : List Stream) (query : Query) (outcome : Outcome) (answered :
       let w = evidence_of query.kind end seen in
       let shown = IsEvidence-evidence_of query.kind end seen adds (HasCuts-seen_of query.kind query.from query.to s sound) in
       let answer = sym (end_asked-answer streams query s end w found shown sound outcome answered) ∙ asked in
-      subst (IsTruthOfLike (contents_of history s) query) (same-value w.answer v answer)
+      subst (IsTruthOfLike (contents_of history s) query) (same_Some w.answer v answer)
       (MayBeTrue-answer streams query s end w found shown history s whole is found)
 
 pub MayBeTrue-counts : (streams : List Stream) (query : Query) (lo hi : ℕ) → outcome_of streams query ≡ Some (Count lo hi)

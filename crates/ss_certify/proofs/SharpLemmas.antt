@@ -3,15 +3,14 @@
 use Rattle.std.specs.Prelude.{◌≡◌, ℕ, ◌+◌, ◌≤◌, ℤ, pos, ◌+ℤ◌, true, IsTrue, List, [], ◌∷◌, length, map, All}
 use Rattle.std.specs.Prelude.{Option, None, Some, IfSome, option_map}
 use Rattle.std.specs.List.{filter, list_all}
-use Rattle.std.proofs.Common.{ap, ap₂, arith, inl, inr, refl, sym, subst, ◌∙◌}
-use Rattle.std.proofs.lemmas.Bool.{and_parts, cases_Bool}
+use Rattle.std.proofs.Common.{ap, ap₂, arith, refl, sym, subst, ◌∙◌}
+use Rattle.std.proofs.lemmas.Bool.{and_parts}
 use Rattle.std.proofs.lemmas.Int.{ints}
 use Rattle.std.proofs.lemmas.List.Elements.{All-cons, All-filter, All-head, All-map, All-nil, All-tail, filter_passes}
 use Rattle.std.proofs.lemmas.List.Sums.{sum_by-cons}
 use Rattle.ss_bounds.specs.Extremes.{listed}
 use Rattle.ss_bounds.specs.Split.{IsSplit, SplitFigures, greatest_count, least_count}
 use Rattle.ss_bounds.specs.Truth.{total}
-use Rattle.ss_catalog.specs.Names.{same_name}
 use Rattle.ss_catalog.specs.declared.query.End.{End}
 use Rattle.ss_catalog.specs.declared.query.End.TheVariants.{Lo, Hi}
 use Rattle.ss_catalog.specs.declared.query.Kind.{Kind}
@@ -40,6 +39,7 @@ use Rattle.ss_query.specs.declared.cut.Cut.{Cut}
 use Rattle.ss_query.proofs.Outcomes.{seen_count-seen, seen_sum-seen, outcome_seen-seen_of}
 use Rattle.ss_query.proofs.Seeing.{IsSeen-seen_of}
 use Rattle.ss_model.proofs.SplitLemmas.{IsSplit-window}
+pub use Rattle.ss_model.proofs.RisingLemmas.{All-named}
 use Rattle.ss_summary.specs.Figures.{IsPossible}
 use Rattle.ss_certify.specs.Checked.{Certifies, inside_of, outside_of}
 use Rattle.ss_certify.specs.Evidence.{AllCertify, IsEvidence, base_of, cuts_of, end_asked, parts_of}
@@ -166,14 +166,6 @@ module _ (kind : Kind) (from to : ℕ) (s : Stream) (is : IsStream s) where
       (AllFit-certifies (cuts_of (seen_of kind from to s)) certs (λ k d inside. (IsCut-seen_of k d inside).split) certify)
 
 -- ---- what evidence shows
-
--- what holds of each stream holds of the one of a name
-pub All-named : (P : Stream → Type 0) (name : List ℕ) (streams : List Stream) (s : Stream) → All P streams → stream_named name streams ≡ Some s → P s
-All-named P name [] s all found = cc
-All-named P name (u ∷ us) s all found = elim (cases_Bool (same_name name u.name)) [
-  | inl same ↦ (let here : Some u ≡ Some s = rw same at found in let here : u ≡ s = cc in subst P here (All-head P u us all))
-  | inr other ↦ (let later : stream_named name us ≡ Some s = rw other at found in All-named P name us s (All-tail P u us all) later)
-]
 
 pub IsStream-named : (history : List Happened) (name : List ℕ) (s : Stream) → IsHistory history → stream_named name (state history) ≡ Some s → IsStream s
 IsStream-named history name s whole = All-named IsStream name (state history) s (IsState-state history whole).each

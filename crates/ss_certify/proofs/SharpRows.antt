@@ -3,6 +3,7 @@ use Rattle.std.specs.Prelude.{◌≡◌, ℕ, ◌+◌, ◌^◌, ℤ, pos, negsuc
 use Rattle.std.proofs.Common.{◌≤◌, ◌∙◌, ap, arith, length, lit≤, refl, subst, sym}
 use Rattle.std.proofs.lemmas.Int.{ints}
 use Rattle.std.proofs.lemmas.List.Elements.{All-cons, All-head, All-nil, All-tail}
+use Rattle.std.proofs.lemmas.Option.{same_Some}
 use Rattle.ss_bounds.specs.Split.{SplitFigures, sum_interval}
 use Rattle.ss_windowing.specs.Windowing.{window_index}
 use Rattle.ss_catalog.specs.declared.event.Event.TheVariants.{Create, Value}
@@ -30,7 +31,7 @@ use Rattle.ss_certify.specs.Fill.{run}
 use Rattle.ss_certify.specs.Runs.{HaveValues, values_of_runs}
 use Rattle.ss_certify.specs.declared.evidence.Cert.{Cert}
 use Rattle.ss_certify.specs.declared.evidence.Evidence.{Evidence}
-use Rattle.ss_certify.proofs.SharpAnswers.{MayBeTrue-counts, MayBeTrue-sums, same-value}
+use Rattle.ss_certify.proofs.SharpAnswers.{MayBeTrue-counts, MayBeTrue-sums}
 use Rattle.ss_certify.proofs.SharpLemmas.{MayBeTrue-answer}
 
 abbrev a : List ℕ
@@ -272,5 +273,5 @@ unfolding state window_index sum_interval bit_of filter_of union
 sum-outside whole may =
     let like = may history readings whole refl refl in
     let high : sum_in 25 55 like.contents ≤ℤ pos 25 = (sum_in-lies (contents_of history readings) like.contents 25 55 like.sound like.like).1 in
-    let truth : sum_in 25 55 like.contents ≡ pos 26 = same-value _ _ like.truth in
+    let truth : sum_in 25 55 like.contents ≡ pos 26 = same_Some _ _ like.truth in
     omega (arith, ints)

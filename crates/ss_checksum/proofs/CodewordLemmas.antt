@@ -1,5 +1,6 @@
 -- The steps over bytes that end with their checksum always lead to the same number. So two such differ by one that the steps make nothing of.
-use Rattle.std.proofs.Common.{◌≡◌, ◌∙◌, inl, inr, refl, sym, ap, ℕ, ◌+◌, ◌-◌, ◌*◌, ◌^◌, ◌<◌, ◌≤◌, List, [], ◌∷◌, ◌++◌, length, drop, take, length-append, arith, lit<, lit≤}
+use Rattle.std.proofs.Common.{◌≡◌, ◌∙◌, inl, inr, refl, sym, ap, ℕ, ◌+◌, ◌-◌, ◌*◌, ◌^◌, ◌<◌, ◌≤◌, List, [], ◌∷◌, ◌++◌, length, drop, take, length-append, arith}
+use Rattle.std.proofs.Common.{lit<, lit≤}
 use Rattle.std.specs.Prelude.{bit_xor}
 use Rattle.std.specs.Int.Bits.{xor_assoc, xor_self, xor_zero_l}
 use Rattle.std.proofs.Math.Nat.{mul-le-mul_right, pow-le-pow_right}
@@ -13,7 +14,8 @@ use Rattle.ss_checksum.specs.Changes.{AreAsLong, difference, number_of}
 use Rattle.ss_checksum.specs.Checksum.{after_bits, after_byte, after_bytes, checksum}
 use Rattle.ss_checksum.specs.Codeword.{IsChecked, check_bytes}
 use Rattle.ss_checksum.proofs.StepLemmas.{after_bits-lt, after_bits-some, after_bits-xor, from_none, xor_cancel}
-use Rattle.ss_checksum.proofs.ChangeLemmas.{AreBytes, after_bytes-is, below_power, bits_of, bits_of-is, bits_of-same, difference-lt, moved_down, number_of-lt, number_of-same}
+use Rattle.ss_checksum.proofs.ChangeLemmas.{AreBytes, after_bytes-is, below_power, bits_of, bits_of-is, bits_of-same, difference-lt, moved_down, number_of-lt}
+use Rattle.ss_checksum.proofs.ChangeLemmas.{number_of-same}
 
 abbrev ones : ℕ
 ones = 2 ^ 32 - 1
@@ -48,7 +50,8 @@ residue front xs front_bytes bytes checked =
     after_bytes-lt start covered (after_bytes-lt ones front (lit< tt) front_bytes) (before-bytes covered (check_bytes sum) parts) in
     let sum_is : sum ≡ bit_xor state ones = ap (λ s. bit_xor s ones) (fold-append after_byte ones front covered) in
     let few : sum < 2 ^ 32 = rw sum_is (xor_lt 32 state ones small (lit< tt)) in
-    let turned : bit_xor state sum ≡ ones = ap (bit_xor state) sum_is ∙ sym (xor_assoc state state ones) ∙ ap (λ s. bit_xor s ones) (xor_self state) ∙ xor_zero_l ones in
+    let turned : bit_xor state sum ≡ ones =
+    ap (bit_xor state) sum_is ∙ sym (xor_assoc state state ones) ∙ ap (λ s. bit_xor s ones) (xor_self state) ∙ xor_zero_l ones in
     ap (after_bytes start) checked.are
     ∙ fold-append after_byte start covered (check_bytes sum)
     ∙ after_bytes-is state (check_bytes sum) (behind-bytes covered (check_bytes sum) parts)

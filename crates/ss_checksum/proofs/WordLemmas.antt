@@ -60,7 +60,8 @@ four-words-steps state one two three four a b c d read_a read_b read_c read_d =
     ∙ words-steps (after_bytes (after_bytes state one) two) three four c d read_c read_d
 
 -- over pieces of one length, and then over what is left behind them
-pub fold-chunks : {A : Type 0} (f : ℕ → A → ℕ) (n k state : ℕ) (xs : List A) → fold f (fold (fold f) state (first_chunks n k xs)) (drop (k * n) xs) ≡ fold f state xs
+pub fold-chunks : {A : Type 0} (f : ℕ → A → ℕ) (n k state : ℕ) (xs : List A) →
+    fold f (fold (fold f) state (first_chunks n k xs)) (drop (k * n) xs) ≡ fold f state xs
 fold-chunks f n zero state xs =
     let none : 0 * n ≡ 0 = omega arith in
     ap (λ k. fold f state (drop k xs)) none

@@ -2,7 +2,6 @@ use Rattle.std.proofs.Common.{ap, arith, ◌∙◌}
 use Rattle.ss_bounds.specs.Split.{SplitFigures, low_sum}
 use Rattle.ss_bounds.proofs.Held.{computed-low_sum, computed-rest}
 use Rattle.ss_bounds.proofs.lines.low_sum.Goals as goal
-use Rattle.ss_bounds.proofs.lines.low_sum.Goals.{After-max}
 
 pub overflow_sub-split-inside-2 : goal.overflow_sub-split-inside-2
 overflow_sub-split-inside-2 c =
