@@ -6,7 +6,7 @@ use Rattle.std.proofs.lemmas.List.Elements.{All-cons, All-head, All-nil, All-tai
 use Rattle.ss_journal.specs.Newest.{newest_after, with_newest}
 use Rattle.ss_journal.specs.Puts.{is_put, slots_rise_from}
 use Rattle.ss_journal.specs.Writes.{AreSlots}
-use Rattle.ss_journal.proofs.NewestLemmas.{rise-newest_after, with_newest-cases}
+use Rattle.ss_journal.proofs.NewestLemmas.{few-with_newest, rise-newest_after, with_newest-cases}
 use Rattle.ss_journal.specs.declared.put.Put.{Put}
 
 is_put-first : (put : Put) (puts : List Put) (slot : ℕ) → slot ≡ put.slot → IsTrue (is_put (put ∷ puts) slot)
@@ -61,11 +61,6 @@ length-least put [] = omega arith
 length-least put (first ∷ rest) = with_newest-cases (λ puts. length (first ∷ rest) ≤ length puts) put first rest
     (λ _. omega arith) (λ _. omega arith) (λ _. omega (arith, length-least put rest))
 
-length-most : (put : Put) (held : List Put) → length (with_newest put held) ≤ length held + 1
-length-most put [] = omega arith
-length-most put (first ∷ rest) = with_newest-cases (λ puts. length puts ≤ length (first ∷ rest) + 1) put first rest
-    (λ _. omega arith) (λ _. omega arith) (λ _. omega (arith, length-most put rest))
-
 -- a slot more where it wasn't put
 length-more : (put : Put) (held : List Put) → IsFalse (is_put held put.slot) → length (with_newest put held) ≡ length held + 1
 length-more put [] none = refl
@@ -115,7 +110,7 @@ room-with : (put : Put) (staged waiting : List Put) → Held staged waiting → 
     → length (with_newest put waiting) + length staged ≤ length waiting + length (with_newest put staged)
 room-with put staged waiting held rise = elim (cases_Bool (is_put staged put.slot)) [
   | inl is ↦ omega (arith, length-least put staged, length-same 0 put waiting rise (held put.slot is))
-  | inr none ↦ omega (arith, length-more put staged none, length-most put waiting)
+  | inr none ↦ omega (arith, length-more put staged none, few-with_newest put waiting)
 ]
 
 pub held-after : (puts staged waiting : List Put) → Held staged waiting → Held (newest_after puts staged) (newest_after puts waiting)

@@ -181,7 +181,7 @@ numbers-created_again : map (λ k. map (λ s. s.number) (state (take k created_a
 unfolding state window_index created_again a b
 numbers-created_again = refl
 
-one_value : ℕ → ℕ → Window
+abbrev one_value : ℕ → ℕ → Window
 one_value t v =
     record { first = 1; summary = record { count = 1; sum = pos v; min = pos v; max = pos v; t_first = t; t_last = t; filter = filter_of (pos v) } }
 

@@ -39,9 +39,10 @@ use Rattle.ss_target.specs.Rule.{Rule, rule_of}
 use Rattle.ss_model.specs.Windows.{stretches, time_at, time_of_last, windows}
 use Rattle.ss_model.specs.declared.newest.Known.{Known}
 use Rattle.ss_model.specs.declared.types.Window.{Window}
-use Rattle.ss_model.proofs.MarkLemmas.{none-latest}
+use Rattle.ss_model.proofs.MarkLemmas.{none-latest, some-later}
 use Rattle.ss_model.proofs.Rises.{Rises, Rises-boundaries, Rises-low}
 use Rattle.ss_model.proofs.Stretches.{length-back}
+use Rattle.ss_model.proofs.AnswerLemmas.{mapped}
 
 -- ---- the last of a list
 
@@ -85,7 +86,8 @@ record EndsWith (values : List Point) (ws : List Window) : Type 0 where
   value : IsLast values window.summary.t_last window.summary.min window.summary.max
 
 -- a window more in front changes nothing
-EndsWith-cut : (front rest : List Point) (w : Window) (ws : List Window) → 0 < length rest → ((r : Point) (rs : List Point) → rest ≡ r ∷ rs → EndsWith (r ∷ rs) ws) →
+EndsWith-cut : (front rest : List Point) (w : Window) (ws : List Window) → 0 < length rest →
+    ((r : Point) (rs : List Point) → rest ≡ r ∷ rs → EndsWith (r ∷ rs) ws) →
     EndsWith (front ++ rest) (w ∷ ws)
 EndsWith-cut front [] w ws some behind = absurd (omega arith)
 EndsWith-cut front (r ∷ rs) w ws some behind =
@@ -158,10 +160,6 @@ IsNewest-marked from x (z ∷ zs) y rising last =
 
 All-earlier : (xs : List Point) (first last : ℕ) → first ≤ last → All (λ (q : Point). q.0 ≤ first) xs → All (λ (q : Point). q.0 ≤ last) xs
 All-earlier xs first last order all k d below = let early = all k d below in omega arith
-
-some-later : (t : ℕ) (p : Option ℕ) → later (Some t) p ≡ None → ⊥
-some-later t None none = none-some t (sym none)
-some-later t (Some u) none = none-some (max t u) (sym none)
 
 -- ---- what is known of the newest of some values
 
@@ -265,14 +263,10 @@ newest_of-holds history c whole order =
     (plain ++ marked_of history c.name)) (sym (newest_time-windows (rule_of c.params) plain))
     (newest-holds (is_free landmarks) (rule_of c.params) plain landmarks (values-rise history c.name whole) order)
 
-All-found : {X : Type 0} (P : X → Type 0) (p : X → Bool) (xs : List X) (x : X) → All P xs → find p xs ≡ Some x → P x
+pub All-found : {X : Type 0} (P : X → Type 0) (p : X → Bool) (xs : List X) (x : X) → All P xs → find p xs ≡ Some x → P x
 All-found P p xs x all found =
     let at = sym (find_at p xs) ∙ found in
     subst P (get_or_from_slice_get xs (position_or_len p xs) x x at) (all (position_or_len p xs) x (slice_get_within xs (position_or_len p xs) x at))
-
-mapped : {X Y : Type 0} (f : X → Y) (o : Option X) (y : Y) → option_map f o ≡ Some y → (x : X) × (o ≡ Some x) × (f x ≡ y)
-mapped f None y is = absurd (none-some y is)
-mapped f (Some x) y is = (x, refl, same_Some (f x) y is)
 
 -- the same of the stream of a name
 pub newest_in-holds : (history : List Happened) (name : List ℕ) (told : Newest) → IsHistory history → newest_in (state history) name ≡ Some told →

@@ -37,7 +37,7 @@ readings =
 ends : List Window → List (ℕ × ℕ × ℕ × ℕ)
 ends ws = map (λ (w : Window). (w.first, last_position w, w.summary.t_first, w.summary.t_last)) ws
 
-exp_within : ℕ → Rule
+abbrev exp_within : ℕ → Rule
 exp_within step = record { lengths = exp_length 2 1 1; step = step }
 
 -- at the seventh value 5 to 6 lie in one target window, but 50 and 60 in different minutes
@@ -65,7 +65,7 @@ tens : List Point
 tens =
     (7, pos 1, New) ∷ (8, pos 2, New) ∷ (11, pos 3, New) ∷ (12, pos 4, New) ∷ (19, pos 5, New) ∷ (20, pos 6, New) ∷ (21, pos 7, New) ∷ []
 
-fours_within : ℕ → Rule
+abbrev fours_within : ℕ → Rule
 fours_within step = record { lengths = power_length 1 0 1 4; step = step }
 
 windows-tens : ends (windows (fours_within 10) tens) ≡ (1, 2, 7, 8) ∷ (3, 5, 11, 19) ∷ (6, 7, 20, 21) ∷ []

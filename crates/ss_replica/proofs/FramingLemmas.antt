@@ -37,11 +37,13 @@ checked-valid f valid = cond-true (is_valid_frame f.number f.event) (Some f) Non
 
 -- so it is the one that its event has
 pub checked-last : (history : List Happened) (event : Event) → IsHistory (history ++ added event ∷ []) → is_name (event_name event) ≡ true →
-    step_of_event event < 2 ^ 32 → length (own (history ++ added event ∷ []) (event_name event)) < 2 ^ 64 → checked (frame_of history event) ≡ event_frame history event
+    step_of_event event < 2 ^ 32 → length (own (history ++ added event ∷ []) (event_name event)) < 2 ^ 64 →
+    checked (frame_of history event) ≡ event_frame history event
 unfolding is_valid_frame
 checked-last history (Create name params) whole named small few =
     let can = CanCreate-refuses (state history) name params (GoesOn-push history (added (Create name params)) whole).accepted in
-    checked-valid (frame_of history (Create name params)) (ap length (own-created history name params New), named, can.target, test-small (step_number params.within) small)
+    checked-valid (frame_of history (Create name params))
+    (ap length (own-created history name params New), named, can.target, test-small (step_number params.within) small)
 checked-last history (Value name t v) whole named small few =
     let said = (GoesOn-push history (added (Value name t v)) whole).said in
     checked-valid (frame_of history (Value name t v)) ((two-owned history (Value name t v) whole refl, few), named, said.0, said.1)

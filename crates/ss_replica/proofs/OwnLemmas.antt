@@ -1,7 +1,6 @@
 -- What a stream owns, with one more event, and beside the stream that stands.
 use Rattle.std.proofs.Common.{◌≡◌, ◌∙◌, ℕ, ◌+◌, true, false, List, [], ◌∷◌, ◌++◌, length, map, refl, ap, sym, arith, subst, None, Some, inl, inr}
 use Rattle.std.specs.Prelude.{Option}
-use Rattle.std.specs.Option.{option_or}
 use Rattle.std.proofs.lemmas.Bool.{cases_Bool, cond_both}
 use Rattle.std.proofs.lemmas.List.{length-map, map-append}
 use Rattle.std.proofs.lemmas.List.Sums.{fold-append}
@@ -67,10 +66,6 @@ pub own-dropped : (history : List Happened) (name : List ℕ) (origin : Origin) 
 own-dropped history name origin = own-push history (Drop name) origin name ∙ rw (same_name-same name) refl
 
 -- ---- the stream of a name, with one more event
-
-option_or-none : {X : Type 0} (o : Option X) → option_or o None ≡ o
-option_or-none None = refl
-option_or-none (Some x) = refl
 
 -- a stream that has just been created
 pub named-created : (history : List Happened) (name : List ℕ) (params : Params) (origin : Origin) → GoesOn history (Create name params, origin) →
