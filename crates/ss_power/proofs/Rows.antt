@@ -1,7 +1,7 @@
 -- Worked rows, each computed.
-use Rattle.std.proofs.Common.{◌≡◌, ◌^◌, ℕ, false, true, Bool, [], ◌∷◌, List, map, refl}
+use Rattle.std.proofs.Common.{◌≡◌, ◌^◌, ℕ, false, true, Bool, [], ◌∷◌, List, map, refl, lit≤, arith}
 use Rattle.ss_windowing.specs.Windowing.{cut, fits, window_index}
-use Rattle.ss_power.specs.Power.{group_size, group_length, power_length}
+use Rattle.ss_power.specs.Power.{IsPower, group_size, group_length, power_length}
 use Rattle.ss_power.specs.PowerSum.{cap, power_sum}
 use Rattle.ss_power.specs.declared.power.TheConstants.{LEAST_POWER, GREATEST_POWER, GREATEST_WIDENING, MOST_TICKS}
 use Rattle.ss_power.specs.declared.power_sum.TheConstants.{GREATEST_EXPONENT}
@@ -84,3 +84,48 @@ fit-1-4 = refl
 fit-never : fit_at (power_length 1 0 1 2) 1 4 (4 ∷ 5 ∷ 6 ∷ 7 ∷ 8 ∷ []) ≡ false ∷ false ∷ false ∷ false ∷ false ∷ []
 unfolding fit_at power_length window_index
 fit-never = refl
+
+-- the least parameters that a target may have, and the greatest
+IsPower-least : IsPower 1 0 1 1
+IsPower-least = record {
+  power_low = lit≤ tt;
+  power_high = lit≤ tt;
+  widening_high = lit≤ tt;
+  repeat_low = lit≤ tt;
+  repeat_high = lit≤ tt;
+  scale_low = lit≤ tt;
+  scale_high = lit≤ tt;
+}
+
+IsPower-greatest : IsPower 4 3 65536 65536
+IsPower-greatest = record {
+  power_low = lit≤ tt;
+  power_high = lit≤ tt;
+  widening_high = lit≤ tt;
+  repeat_low = lit≤ tt;
+  repeat_high = lit≤ tt;
+  scale_low = lit≤ tt;
+  scale_high = lit≤ tt;
+}
+
+-- and none of them is less or greater
+IsPower-power_0 : IsPower 0 0 1 1 → ⊥
+IsPower-power_0 is = omega (arith, is.power_low)
+
+IsPower-power_5 : IsPower 5 0 1 1 → ⊥
+IsPower-power_5 is = omega (arith, is.power_high)
+
+IsPower-widening_4 : IsPower 1 4 1 1 → ⊥
+IsPower-widening_4 is = omega (arith, is.widening_high)
+
+IsPower-repeat_0 : IsPower 1 0 0 1 → ⊥
+IsPower-repeat_0 is = omega (arith, is.repeat_low)
+
+IsPower-repeat_65537 : IsPower 1 0 65537 1 → ⊥
+IsPower-repeat_65537 is = omega (arith, is.repeat_high)
+
+IsPower-scale_0 : IsPower 1 0 1 0 → ⊥
+IsPower-scale_0 is = omega (arith, is.scale_low)
+
+IsPower-scale_65537 : IsPower 1 0 1 65537 → ⊥
+IsPower-scale_65537 is = omega (arith, is.scale_high)
