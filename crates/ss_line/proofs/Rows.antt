@@ -1,12 +1,13 @@
 -- Worked rows: a line of three, at the places 2, 0 and 1, and the nodes that hold it, of which that of place 3 is free.
-use Rattle.std.proofs.Common.{◌≡◌, ℕ, ◌*◌, ◌^◌, List, [], ◌∷◌, remove, Option, Some, None, slice_get, ap, refl}
+use Rattle.std.proofs.Common.{◌≡◌, ℕ, ◌+◌, ◌*◌, ◌^◌, ◌<◌, ◌≤◌, List, [], ◌∷◌, length, remove, Option, Some, None, slice_get, ap, refl}
+use Rattle.std.specs.Prelude.{All, count_by}
 use Rattle.std.specs.Option.{option_and_then}
 use Rattle.ss_line.specs.declared.entry.At.{At}
 use Rattle.ss_line.specs.declared.entry.Entry.{Entry}
 use Rattle.ss_line.specs.declared.chain.Node.{Node}
 use Rattle.ss_line.specs.declared.chain.Chain.{Chain}
 use Rattle.ss_line.specs.declared.line.TheConstants.{MOST_PLACES}
-use Rattle.ss_line.specs.Line.{index_of, entry_at, place_at, place_before}
+use Rattle.ss_line.specs.Line.{IsLine, LineState, is_at, index_of, entry_at, place_at, place_before}
 use Rattle.ss_line.specs.Chain.{entry_in, behind_in, before_in}
 use Rattle.ss_line.specs.Held.{entries_from}
 
@@ -78,3 +79,14 @@ module _ (chain : Chain) (are : chain.nodes.items ≡ nodes) where
 
 pub MOST_PLACES-is : MOST_PLACES ≡ 2 ^ 24
 MOST_PLACES-is = refl
+
+-- what is true of each line
+module _ (held : LineState) (is : IsLine held) where
+  IsLine-most : length held.entries + held.spare ≤ 2 ^ 24
+  IsLine-most = is.most
+
+  IsLine-below : All (λ (entry : At × Entry). entry.0.0 < length held.entries + held.spare) held.entries
+  IsLine-below = is.below
+
+  IsLine-apart : (at : At) → count_by (is_at at) held.entries ≤ 1
+  IsLine-apart = is.apart

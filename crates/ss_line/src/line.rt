@@ -35,7 +35,7 @@ impl Model for Line {
 
 impl Line {
     ghost use Rattle.std.specs.Prelude.{◌≡◌, ◌+◌, ◌≤◌, ◌<◌, max, [], ◌∷◌, ◌++◌, length, slice_set, remove};
-    ghost use Rattle.std.specs.Prelude.{All, Some, IfSome, OnOk};
+    ghost use Rattle.std.specs.Prelude.{All, Some, IfSome, IsOk, OnOk};
     ghost use Rattle.ss_line.specs.declared.entry.At.{At};
     ghost use Rattle.ss_line.specs.Line.{IsLine, StandsIn, index_of, entry_at, place_at, place_before};
 
@@ -69,11 +69,12 @@ impl Line {
         self.len + self.spare
     }
 
-    /// Makes `extra` places to spare, if there are fewer, and no more than these. An error leaves the entries, and the spare
-    /// never falls.
+    /// Makes `extra` places to spare, if there are fewer, and no more than these. Where there are as many it finds no error. An
+    /// error leaves the entries, and the spare never falls.
     pub fn reserve(&mut self, extra: u32) -> Result<(), AllocError>
         requires { length self.old.entries + extra ≤ MOST_PLACES }
         ensures ok { OnOk result (extra ≤ self.new.spare) }
+        ensures enough { extra ≤ self.old.spare → IsOk result }
         ensures grows { self.old.spare ≤ self.new.spare }
         ensures least { self.new.spare ≤ max self.old.spare extra }
         ensures entries { self.new.entries ≡ self.old.entries }
