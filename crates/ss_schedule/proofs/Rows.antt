@@ -1,14 +1,18 @@
 -- Worked rows: a line of three, at the places 2, 0 and 1.
-use Rattle.std.proofs.Common.{◌≡◌, ◌-◌, ◌*◌, ◌^◌, ℕ, List, [], ◌∷◌, Option, Some, None, arith, refl, lit≤}
+use Rattle.std.proofs.Common.{◌≡◌, ◌-◌, ◌*◌, ◌^◌, ◌≤◌, ℕ, List, [], ◌∷◌, Option, Some, None, arith, refl, lit≤}
 use Rattle.ss_catalog.specs.Params.{exp as Exp}
 use Rattle.ss_line.specs.declared.entry.At.{At}
 use Rattle.ss_line.specs.declared.entry.Entry.{Entry}
-use Rattle.ss_target.specs.Rule.{rule_of}
+use Rattle.ss_target.specs.Rule.{Rule, rule_of}
+use Rattle.ss_windowing.specs.FirstFit.{IsFirstFit}
+use Rattle.ss_windowing.specs.Windowing.{Fits}
+use Rattle.ss_windowing.specs.declared.decay.TheConstants.{MOST_VALUES}
 use Rattle.ss_windowing.specs.Windowing.{window_index}
 use Rattle.std.proofs.lemmas.Bool.{both_ways}
-use Rattle.ss_schedule.specs.Keyed.{FollowUpTo, key_at}
+use Rattle.ss_schedule.specs.Keyed.{AreInStep, FollowUpTo, IsFirstKey, NeverFit, key_at}
 use Rattle.ss_schedule.specs.declared.sifting.TheConstants.{NEVER}
-use Rattle.ss_schedule.specs.Pairs.{NoPairFits, joined_entry, pair_at}
+use Rattle.ss_schedule.specs.Pairs.{IsSpan, NoPairFits, joined_entry, pair_at}
+use Rattle.ss_schedule.specs.declared.pair.Pair.{Pair}
 
 abbrev place : ℕ → At
 place n = record { 0 = n }
@@ -98,3 +102,35 @@ fits-together h = both_ways _ h.1.0 refl
 -- the count that stands for none is past every count
 pub NEVER-is : NEVER ≡ 2 ^ 64 - 1
 NEVER-is = refl
+
+-- the positions of a pair begin at 1 or above, and end at or below a count
+module _ (n : ℕ) (pair : Pair) (is : IsSpan n pair) where
+  IsSpan-begins : 1 ≤ pair.first
+  IsSpan-begins = is.begins
+
+  IsSpan-order : pair.first ≤ pair.last
+  IsSpan-order = is.order
+
+  IsSpan-taken : pair.last ≤ n
+  IsSpan-taken = is.taken
+
+-- a key names the left neighbour, and a count up to the greatest
+module _ (rule : Rule) (n : ℕ) (pair : Pair) (key : At × ℕ) (is : IsFirstKey rule n pair key) where
+  IsFirstKey-left : key.0 ≡ pair.left
+  IsFirstKey-left = is.left
+
+  IsFirstKey-together : AreInStep rule pair
+  IsFirstKey-together = is.together
+
+  IsFirstKey-first : IsFirstFit rule.lengths pair.first pair.last n key.1
+  IsFirstKey-first = is.first
+
+  IsFirstKey-few : key.1 ≤ MOST_VALUES
+  IsFirstKey-few = is.few
+
+-- those that never fit don't at the greatest count either, nor at the first one
+NeverFit-last : (len : ℕ → ℕ) (l r n : ℕ) → NeverFit len l r n → n ≤ MOST_VALUES → ¬ Fits len l r MOST_VALUES
+NeverFit-last len l r n never few = never MOST_VALUES few (omega arith)
+
+NeverFit-first : (len : ℕ → ℕ) (l r n : ℕ) → NeverFit len l r n → n ≤ MOST_VALUES → ¬ Fits len l r n
+NeverFit-first len l r n never few = never n (omega arith) few

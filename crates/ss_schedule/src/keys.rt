@@ -32,7 +32,7 @@ impl Model for Keys {
 
 impl Keys {
     ghost use Rattle.std.specs.Prelude.{◌≡◌, ◌+◌, ◌<◌, ◌≤◌, ℕ, max, [], ◌∷◌, ◌++◌, length, slice_set, Some, None, IfSome};
-    ghost use Rattle.std.specs.Prelude.{IfNone, OnOk, OnErr};
+    ghost use Rattle.std.specs.Prelude.{IfNone, IsOk, OnOk, OnErr};
     ghost use Rattle.ss_line.specs.declared.entry.At.{At};
     ghost use Rattle.ss_schedule.specs.Held.{fit_of};
     ghost use Rattle.ss_schedule.specs.Keyed.{key_at};
@@ -69,6 +69,7 @@ impl Keys {
     pub fn reserve(&mut self, places: u32) -> Result<(), AllocError>
         requires { places ≤ MOST_PLACES }
         ensures ok { OnOk result (places ≤ length self.new) }
+        ensures enough { places ≤ length self.old → IsOk result }
         ensures grows { length self.old ≤ length self.new }
         ensures least { length self.new ≤ max (length self.old) places }
         ensures keys { (at : At) → key_at self.new at ≡ key_at self.old at }

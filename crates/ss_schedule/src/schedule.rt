@@ -30,7 +30,7 @@ impl Model for Schedule {
 
 impl Schedule {
     ghost use Rattle.std.specs.Prelude.{◌≡◌, ◌+◌, ◌≤◌, ◌<◌, ℕ, max, true, List, [], ◌∷◌, ◌++◌, length, take, Some, None};
-    ghost use Rattle.std.specs.Prelude.{IfSome, IfNone, MatchOption, OnOk};
+    ghost use Rattle.std.specs.Prelude.{IfSome, IfNone, IsOk, MatchOption, OnOk};
     ghost use Rattle.ss_line.specs.declared.entry.At.{At};
     ghost use Rattle.ss_line.specs.declared.entry.Entry.{Entry};
     ghost use Rattle.ss_line.specs.Line.{StandsIn, index_of};
@@ -56,6 +56,7 @@ impl Schedule {
     pub fn reserve(&mut self, places: u32) -> Result<(), AllocError>
         requires { places ≤ MOST_PLACES }
         ensures ok { OnOk result (places ≤ length self.new.keys) }
+        ensures enough { places ≤ length self.old.keys → IsOk result }
         ensures grows { length self.old.keys ≤ length self.new.keys }
         ensures least { length self.new.keys ≤ max (length self.old.keys) places }
         ensures target { self.new.target ≡ self.old.target }
@@ -92,7 +93,7 @@ impl Schedule {
     }
 
     /// Takes up the entry at a place, when n values are held: it is the next one of the line after those that the schedule
-    /// is keyed for. At most 4 looks at the line.
+    /// is keyed for. At most 3 looks at the line.
     pub fn add_window<L: Ledger>(&mut self, line: &Line, at: At, n: u64, steps: &mut Steps<L>)
         requires stands { StandsIn line.now.entries at }
         requires room { at.0 < length self.old.keys }
@@ -101,7 +102,7 @@ impl Schedule {
         ensures keyed { IsKeyed n (take (index_of line.now.entries at + 1) line.now.entries) self.new }
         ensures target { self.new.target ≡ self.old.target }
         ensures room { length self.new.keys ≡ length self.old.keys }
-        ensures looks { steps.new ≤ steps.old + 4 }
+        ensures looks { steps.new ≤ steps.old + 3 }
     {
         let _len = line.len();
         let entry = line.get(at, steps);
