@@ -1,9 +1,12 @@
 -- Rows that pin what writes make of a content, what sources move and take and sinks append, and which calls of a disk in memory fail.
 use Rattle.std.proofs.Common.{◌≡◌, inl, inr, ℕ, ◌-◌, ◌^◌, ◌≤◌, List, [], ◌∷◌, take, drop, length, Option, Some, None, Ok, Err, refl, lit≤, arith}
-use Rattle.ss_outside.specs.Disk.{IsOutside, overwrite}
-use Rattle.ss_outside.specs.MemDisk.{IsListed, MemDiskState, made}
+use Rattle.std.proofs.Common.{EachIndex, slice_index}
+use Rattle.ss_outside.specs.Choice.{IsChosen, IsFilled, IsFree}
+use Rattle.ss_outside.specs.Disk.{IsOutside, IsOutsideAll, overwrite}
+use Rattle.ss_outside.specs.MemDisk.{DiskState, IsListed, MemDiskState, made}
 use Rattle.ss_outside.specs.Sink.{Appends}
 use Rattle.ss_outside.specs.Source.{Moves, RoseBy, Takes}
+use Rattle.ss_outside.specs.declared.mem_disk.Choice.TheVariants.{Fill, Kept, Lost}
 use Rattle.ss_outside.specs.declared.source.Failed.{Failed}
 
 -- bytes are written over what is there, and past the end
@@ -97,3 +100,48 @@ IsListed-first = inr (lit≤ tt)
 
 IsListed-later : IsListed (stops 3)
 IsListed-later = inr (lit≤ tt)
+
+-- which image each choice of a crash takes
+module _ (s : DiskState) (image : List ℕ) where
+  IsChosen-Lost : IsChosen Lost s image → image ≡ s.synced
+  IsChosen-Lost is = is
+
+  IsChosen-Kept : IsChosen Kept s image → image ≡ s.content
+  IsChosen-Kept is = is
+
+  IsChosen-Fill : (byte : ℕ) → IsChosen (Fill byte) s image → IsFilled s byte image
+  IsChosen-Fill byte is = is
+
+  -- it is as long as the disk ever was, with the byte at each free place, and what was synced at each other one
+  IsFilled-longest : (byte : ℕ) → IsFilled s byte image → length image ≡ s.longest
+  IsFilled-longest byte is = is.longest
+
+  IsFilled-free : (byte : ℕ) → IsFilled s byte image → EachIndex image (λ place. IsFree s place → slice_index image place ≡ byte)
+  IsFilled-free byte is = is.free
+
+  IsFilled-kept : (byte : ℕ) → IsFilled s byte image
+      → EachIndex s.synced (λ place. IsOutsideAll s.pending place → slice_index image place ≡ slice_index s.synced place)
+  IsFilled-kept byte is = is.kept
+
+-- of four bytes that were synced, with two places pending from the second one on: those and all past the four are free
+abbrev torn : DiskState
+torn = record { content = 1 ∷ 8 ∷ 9 ∷ 4 ∷ []; synced = 1 ∷ 2 ∷ 3 ∷ 4 ∷ []; pending = (1, 2) ∷ []; longest = 6 }
+
+IsFree-before : IsFree torn 0 → ⊥
+IsFree-before (inl past) = omega (arith, past)
+IsFree-before (inr (inl inside)) = omega (arith, inside.0)
+IsFree-before (inr (inr none)) = none
+
+IsFree-first : IsFree torn 1
+IsFree-first = inr (inl (lit≤ tt, lit≤ tt))
+
+IsFree-second : IsFree torn 2
+IsFree-second = inr (inl (lit≤ tt, lit≤ tt))
+
+IsFree-last : IsFree torn 3 → ⊥
+IsFree-last (inl past) = omega (arith, past)
+IsFree-last (inr (inl inside)) = omega (arith, inside.1)
+IsFree-last (inr (inr none)) = none
+
+IsFree-past : IsFree torn 4
+IsFree-past = inl (lit≤ tt)

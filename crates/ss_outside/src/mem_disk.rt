@@ -58,7 +58,7 @@ impl Model for MemDisk {
 }
 
 impl MemDisk {
-    ghost use Rattle.std.specs.Prelude.{◌≡◌, ◌⊎◌, ◌+◌, ◌≤◌, ◌↔◌, length, Some, IsErr, IfOk, OnOk, OnErr};
+    ghost use Rattle.std.specs.Prelude.{◌≡◌, ◌⊎◌, ◌+◌, ◌≤◌, ◌↔◌, length, Some, IsErr, IsOk, IfOk, OnOk, OnErr};
     ghost use Rattle.ss_outside.specs.Verdict.{HasCause};
     ghost use Rattle.ss_outside.specs.Choice.{IsChosen};
     ghost use Rattle.ss_outside.specs.Disk.{NothingPending};
@@ -135,6 +135,7 @@ impl MemDisk {
         requires calls { CanBeSpare calls }
         requires bytes { CanBeSpare bytes }
         ensures reserved { OnOk result (self.new ≡ reserved self.old calls bytes) }
+        ensures enough { calls ≤ self.old.spare_calls → bytes ≤ self.old.spare_bytes → IsOk result }
         ensures kept { OnErr result (self.new ≡ self.old) }
     {
         self.bytes.reserve(bytes as usize)?;

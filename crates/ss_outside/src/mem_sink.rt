@@ -31,7 +31,7 @@ impl Model for MemSink {
 }
 
 impl MemSink {
-    ghost use Rattle.std.specs.Prelude.{◌≡◌, [], OnOk, OnErr};
+    ghost use Rattle.std.specs.Prelude.{◌≡◌, ◌≤◌, [], IsOk, OnOk, OnErr};
     ghost use Rattle.ss_outside.specs.Memory.{CanBeSpare, roomy};
 
     /// A sink that holds nothing. No put is listed as failing, and nothing is allocated.
@@ -53,10 +53,11 @@ impl MemSink {
         self.failing = calls;
     }
 
-    /// Takes memory ahead for so many more bytes at least.
+    /// Takes memory ahead for so many more bytes at least. It finds none only where fewer are spare.
     pub fn reserve(&mut self, bytes: u64) -> Result<(), AllocError>
         requires { CanBeSpare bytes }
         ensures reserved { OnOk result (self.new ≡ roomy self.old bytes) }
+        ensures enough { bytes ≤ self.old.spare → IsOk result }
         ensures kept { OnErr result (self.new ≡ self.old) }
     {
         self.steady.reserve(bytes)

@@ -103,6 +103,7 @@ impl Past {
     // Takes memory for so many more calls, and for so many more of their bytes.
     pub(crate) fn reserve(&mut self, calls: usize, bytes: usize) -> Result<(), AllocError>
         ensures reserved { OnOk result (self.new ≡ with_spare self.old calls bytes) }
+        ensures enough { calls ≤ self.old.spare_calls → bytes ≤ self.old.spare_bytes → IsOk result }
         ensures kept { OnErr result (self.new ≡ self.old) }
     {
         self.changes.reserve(calls)?;

@@ -26,7 +26,7 @@ impl Model for SteadySink {
 }
 
 impl SteadySink {
-    ghost use Rattle.std.specs.Prelude.{◌≡◌, [], OnOk, OnErr};
+    ghost use Rattle.std.specs.Prelude.{◌≡◌, ◌≤◌, [], IsOk, OnOk, OnErr};
     ghost use Rattle.ss_outside.specs.Memory.{CanBeSpare, steady_roomy};
 
     /// A sink that holds nothing. Nothing is allocated.
@@ -40,10 +40,11 @@ impl SteadySink {
         }
     }
 
-    /// Takes memory ahead for so many more bytes at least.
+    /// Takes memory ahead for so many more bytes at least. It finds none only where fewer are spare.
     pub fn reserve(&mut self, bytes: u64) -> Result<(), AllocError>
         requires { CanBeSpare bytes }
         ensures reserved { OnOk result (self.new ≡ steady_roomy self.old bytes) }
+        ensures enough { bytes ≤ self.old.spare → IsOk result }
         ensures kept { OnErr result (self.new ≡ self.old) }
     {
         let bytes = bytes as usize;
