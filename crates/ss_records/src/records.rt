@@ -141,6 +141,7 @@ impl Records {
         // A slot below the extent whose page is cached is read without the disk.
         ensures uncalled { slot < self.old.journal.extent → IsSome (cached_slot self.old.cached slot) → disk.new ≡ disk.old }
         ensures recalls { slot < self.old.journal.extent → Recalls slot self.old.cached self.new.cached }
+        ensures cached { self.old.journal.extent ≤ slot → self.new.cached ≡ self.old.cached }
         ensures uncached { OnErr result (self.new.cached ≡ self.old.cached) }
         ensures stopped { OnErr result (HasStopped self.new.journal) }
     {
