@@ -1,5 +1,5 @@
 -- Worked frames and what is none, and worked inputs and their pieces, each computed.
-use Rattle.std.specs.Prelude.{◌≡◌, ℕ, ◌-◌, ◌^◌, List, [], ◌∷◌, ◌++◌, pos, negsuc, replicate, slice_set, false, Some, None}
+use Rattle.std.specs.Prelude.{◌≡◌, ℕ, ◌-◌, ◌^◌, List, [], ◌∷◌, ◌++◌, pos, negsuc, replicate, slice_set, false, true, Some, None}
 use Rattle.std.proofs.Common.{refl}
 use Rattle.ss_fields.specs.Fields as Numbers
 use Rattle.ss_catalog.specs.Names as Names
@@ -11,6 +11,7 @@ use Rattle.ss_codec.specs.Decoded.{params_in}
 use Rattle.ss_frames.specs.declared.frame.TheConstants.{FRAME_SIZE, CREATE, VALUE, OPEN, CLOSE, NUMBER, NAME, CONTENT}
 use Rattle.ss_frames.specs.Frame.{event_in, frame_in, frame_spelled, is_valid_frame}
 use Rattle.ss_frames.specs.Pieces.{pieces, pieces_so_far, unended_piece}
+use Rattle.ss_frames.specs.PieceState.{HasReadPieces, PieceState, TellsPiece, piece_under_way}
 
 -- the numbers of the format
 frame_size : FRAME_SIZE ≡ 64
@@ -357,3 +358,21 @@ unended_piece-63 = refl
 unended_piece-64 : unended_piece (replicate 64 7) ≡ []
 unfolding unended_piece
 unended_piece-64 = refl
+
+-- what a piece reader answers: that no piece has ended, or which one has
+module _ (before after : List (List ℕ)) (s : PieceState) where
+  TellsPiece-none : TellsPiece before after false s → after ≡ before
+  TellsPiece-none tells = tells
+
+  TellsPiece-one : TellsPiece before after true s → after ≡ before ++ s.bytes ∷ []
+  TellsPiece-one tells = tells
+
+-- it keeps the bytes after the last whole piece, and none of a piece that has ended
+HasReadPieces-is : (input : List ℕ) (s : PieceState) → HasReadPieces input s → piece_under_way s ≡ unended_piece input
+HasReadPieces-is input s has = has
+
+piece_under_way-some : piece_under_way (record { bytes = 7 ∷ []; ended = false }) ≡ 7 ∷ []
+piece_under_way-some = refl
+
+piece_under_way-ended : piece_under_way (record { bytes = 7 ∷ []; ended = true }) ≡ []
+piece_under_way-ended = refl
