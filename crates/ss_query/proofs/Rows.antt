@@ -1,6 +1,6 @@
 -- Worked rows: the verdicts of reading, which window may come next, and what is answered from what is known.
-use Rattle.std.proofs.Common.{◌≡◌, ℕ, ◌<◌, ◌≤◌, All, List, [], ◌∷◌, ◌++◌, drop, map, ap, refl, arith, Option, None, Some, Err, Ok, pos}
-use Rattle.std.specs.Prelude.{◌+◌, ◌-◌, ◌^◌, IfSome, ℤ}
+use Rattle.std.proofs.Common.{◌≡◌, ℕ, ◌<◌, ◌≤◌, lit≤, All, List, [], ◌∷◌, ◌++◌, drop, map, ap, refl, arith, Option, None, Some, Err, Ok, pos}
+use Rattle.std.specs.Prelude.{◌+◌, ◌-◌, ◌^◌, IfSome, ℤ, unsigned_abs}
 use Rattle.std.specs.Option.{option_map_or}
 use Rattle.ss_outside.specs.Disk.{Told}
 use Rattle.ss_outside.specs.Verdict.{changed, failed, fine}
@@ -25,7 +25,7 @@ use Rattle.ss_recover.specs.declared.parts.StreamParts.{StreamParts}
 use Rattle.ss_summary.specs.Figures.{Figures}
 use Rattle.ss_summary.specs.Filters.{bit_of, filter_of, has, union}
 use Rattle.ss_query.specs.Answered.{AnswersStream, BeginsAt, BeginsNear, IsAnswered, IsSeenAs, SeesStream, begun_in, window_slots_of}
-use Rattle.ss_query.specs.Asked.{Follows, HasCuts, HasRoom, IsCut, cut_of, marks_seen, outcome_seen, seen_after, seen_of, seen_with}
+use Rattle.ss_query.specs.Asked.{Follows, HasCuts, HasRoom, IsCut, IsFewMarked, cut_of, marks_seen, outcome_seen, seen_after, seen_of, seen_with}
 use Rattle.ss_query.specs.Reading.{IsRead, IsWindowOf, KeepsRecords, ReadsWindow, verdict_of_read}
 use Rattle.ss_query.specs.declared.asking.Seen.{Seen}
 use Rattle.ss_query.specs.declared.cut.Cut.{Cut}
@@ -336,3 +336,13 @@ module _ (part : StreamParts) (was is : RecordsState) (slot : ℕ) (old new : To
 
   answers-changed : (query : Query) → AnswersStream part query was is (Err (error.Changed slot)) old new → AreKept is new.content
   answers-changed query answers = answers.kept
+
+-- of values of landmarks there are 2^24 at most, with a sum of so many of 64 bits; and not one more
+IsFewMarked-count : (tally : Tally) → IsFewMarked tally → tally.count ≤ 2 ^ 24
+IsFewMarked-count tally few = few.count
+
+IsFewMarked-sum : (tally : Tally) → IsFewMarked tally → unsigned_abs tally.sum ≤ 2 ^ 87
+IsFewMarked-sum tally few = few.sum
+
+IsFewMarked-most : IsFewMarked (record { count = 2 ^ 24; sum = pos (2 ^ 87); least = None; greatest = None })
+IsFewMarked-most = record { count = lit≤ tt; sum = lit≤ tt }
