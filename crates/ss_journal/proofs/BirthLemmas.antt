@@ -1,23 +1,14 @@
 -- The steps of the birth, and what a crash may leave of them.
-use Rattle.std.proofs.lemmas.Result.{on_ok_weaker}
-use Rattle.std.proofs.Common.{IsFalse, IsTrue, List, Ok, Result, [], ap, arith, drop, inl, inr, length, max, nat_le, refl, replicate, subst, sym, take, ℕ, ◌++◌}
-use Rattle.std.proofs.Common.{◌+◌, ◌-◌, ◌<◌, ◌==◌, ◌∙◌, ◌∷◌, ◌≡◌, ◌≤◌}
-use Rattle.std.proofs.lemmas.Bool.{cases_Bool, cases_lt, cond-false, cond-true, eqb-true, leb-true, or_cases, or_parts}
-use Rattle.std.proofs.lemmas.List.{append-nil, get_or-replicate, get_or_past, length-replicate, take-append-drop}
-use Rattle.std.specs.Prelude.{IsErr, slice_index}
-use Rattle.ss_outside.proofs.DiskLemmas.{get_or-overwrite_inside, get_or-overwrite_outside, length-overwrite}
-use Rattle.ss_outside.specs.Crash.{KnowsNow, OnlyReads}
-use Rattle.ss_outside.specs.Disk.{Told, overwrite}
-use Rattle.ss_journal.specs.Birth.{Begins, IsBegun, IsFormed, Leads, has_no_kind, blank_end, form_ranges, magic_bytes}
-use Rattle.ss_outside.specs.Step.{Syncs}
-use Rattle.ss_outside.specs.declared.source.Failed.{Failed}
-use Rattle.ss_journal.specs.declared.kind.Kind.{Kind}
-use Rattle.ss_journal.specs.declared.kind.Kind.TheVariants.{Plain, Checked}
-use Rattle.ss_journal.specs.Format.{IsShut, has_magic, has_magic_of, is_born, is_unborn, kind_of, magic, slots_in}
-use Rattle.ss_journal.specs.Gates.{opens}
-use Rattle.ss_journal.specs.Redo.{Gives, Redone, SameMap, SlotMap, StandsFor, blank_map}
-use Rattle.ss_journal.specs.Steps.{Durably, Marks, Reaches, Rewrites, Writes, WritesZeros}
-use Rattle.ss_journal.specs.Writes.{SameRest, DiffersAt, DiffersIn, Tears, length_with}
+use Rattle.ss_journal.proofs.Common.{on_ok_weaker, IsFalse, IsTrue, List, Ok, Result, [], ap, arith, drop, inl, inr, length, max, nat_le, refl, replicate}
+use Rattle.ss_journal.proofs.Common.{subst, sym, take, ℕ, ◌++◌, ◌+◌, ◌-◌, ◌<◌, ◌==◌, ◌∙◌, ◌∷◌, ◌≡◌, ◌≤◌, cases_Bool, cases_lt, cond-false, cond-true}
+use Rattle.ss_journal.proofs.Common.{eqb-true, leb-true, or_cases, or_parts, append-nil, get_or-replicate, get_or_past, length-replicate, take-append-drop}
+use Rattle.ss_journal.proofs.Common.{IsErr, slice_index, get_or-overwrite_inside, get_or-overwrite_outside, length-overwrite, KnowsNow, OnlyReads, Told}
+use Rattle.ss_journal.proofs.Common.{overwrite, Begins, IsFormed, Leads, has_no_kind, magic_bytes, Syncs, Failed, Kind, Plain, Checked, IsShut, has_magic}
+use Rattle.ss_journal.proofs.Common.{has_magic_of, is_born, is_unborn, magic, slots_in, opens, Gives, Redone, SameMap, SlotMap, StandsFor, blank_map, Durably}
+use Rattle.ss_journal.proofs.Common.{Reaches, Rewrites, Writes, WritesZeros, SameRest, DiffersAt, DiffersIn, Tears, length_with}
+use Rattle.ss_journal.specs.Birth.{IsBegun, blank_end, form_ranges}
+use Rattle.ss_journal.specs.Format.{kind_of}
+use Rattle.ss_journal.specs.Steps.{Marks}
 use Rattle.ss_journal.proofs.GateLemmas.{StandsFor-first_closed}
 use Rattle.ss_journal.proofs.HeaderLemmas.{has_magic-same, kind_of-other, kind_of-same, kind_of-short, length-magic, is_born-from, is_unborn-cases, is_unborn-gate, is_unborn-short, is_unborn-zero, long-has_magic}
 use Rattle.ss_journal.proofs.MapLemmas.{SameMap-trans, file_map-blank}

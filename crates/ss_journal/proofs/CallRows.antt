@@ -1,25 +1,15 @@
 -- Rows that pin what the calls of a journal leave, field by field.
-use Rattle.std.proofs.Common.{◌≡◌, ◌⊎◌, ◌∙◌, ap, ◌+◌, ◌*◌, ◌<◌, ◌≤◌, ℕ, List, [], ◌∷◌, length, Result, Ok, Err, IsTrue, IsFalse, Bool, true, not, ◌&&◌, ◌||◌, refl, lit≤}
-use Rattle.ss_outside.specs.Crash.{LeavesOnly, OnlyReads}
-use Rattle.ss_outside.specs.Disk.{NothingPending, SyncsAtMost, Told}
-use Rattle.ss_outside.specs.declared.source.Failed.{Failed}
-use Rattle.ss_journal.specs.declared.journal_error.JournalError.{JournalError}
-use Rattle.ss_journal.specs.declared.journal_error.JournalError.TheVariants.{NotAStore, BadEntry}
-use Rattle.ss_journal.specs.declared.phase.Phase.TheVariants.{Settled, Unborn}
-use Rattle.ss_journal.specs.declared.put.Put.{Put}
-use Rattle.ss_journal.specs.Calls.{ChangesMap, Commits, HasCommitted, HasMadeRoom, HasSealed, HasSettled, HasStaged, KeepsMap, KeepsShown, MakesDurable}
-use Rattle.ss_journal.specs.Calls.{MakesChecked, MakesRoom, Opens, ReadsPage, ReadsSlot, Seals, Settles, Stages, SyncsForRoom, entries_after, slot_in_page}
-use Rattle.ss_journal.specs.Birth.{has_no_kind}
-use Rattle.ss_journal.specs.Format.{is_born, is_plain, is_unborn, kind_of, magic, slots_in}
-use Rattle.ss_journal.specs.Gates.{IsClosed}
-use Rattle.ss_journal.specs.Kept.{HasRoomFor, IsBounded, IsInPhase, IsKept, IsSealed, IsSettled, IsShown, JournalState, shown}
-use Rattle.ss_journal.specs.declared.kind.Kind.TheVariants.{Plain, Checked}
-use Rattle.ss_journal.specs.Groups.{entry_count}
-use Rattle.ss_journal.specs.Newest.{DoAs, newest_after}
-use Rattle.ss_journal.specs.Puts.{FillSlots, extent_after, is_put, slots_fit}
-use Rattle.ss_journal.specs.Redo.{SameMap, SlotMap, StandsFor, bad_entry, changed, entries_in_use, not_a_store, puts_in_use, redo, stands, zeros}
-use Rattle.ss_journal.specs.Writes.{SameRest}
-use Rattle.std.specs.Prelude.{All, codes, slice_index}
+use Rattle.ss_journal.proofs.Common.{◌≡◌, ◌⊎◌, ◌∙◌, ap, ◌+◌, ◌*◌, ◌<◌, ◌≤◌, ℕ, List, [], ◌∷◌, length, Result, Ok, Err, IsTrue, IsFalse, Bool, true, not, ◌&&◌}
+use Rattle.ss_journal.proofs.Common.{◌||◌, refl, LeavesOnly, OnlyReads, NothingPending, SyncsAtMost, Told, Failed, JournalError, NotAStore, BadEntry, Settled}
+use Rattle.ss_journal.proofs.Common.{Unborn, Put, Commits, HasStaged, KeepsMap, KeepsShown, MakesDurable, MakesChecked, MakesRoom, ReadsPage, ReadsSlot}
+use Rattle.ss_journal.proofs.Common.{Seals, Settles, Stages, entries_after, slot_in_page, has_no_kind, is_born, is_plain, is_unborn, kind_of, magic, slots_in}
+use Rattle.ss_journal.proofs.Common.{IsClosed, HasRoomFor, IsBounded, IsInPhase, IsKept, IsSealed, IsSettled, IsShown, JournalState, shown, Plain, Checked}
+use Rattle.ss_journal.proofs.Common.{entry_count, DoAs, newest_after, FillSlots, extent_after, is_put, slots_fit, SameMap, SlotMap, StandsFor, bad_entry}
+use Rattle.ss_journal.proofs.Common.{changed, entries_in_use, not_a_store, puts_in_use, redo, stands, zeros, SameRest, All, slice_index}
+use Rattle.std.proofs.Common.{lit≤}
+use Rattle.ss_journal.specs.Calls.{ChangesMap, HasCommitted, HasMadeRoom, HasSealed, HasSettled}
+use Rattle.ss_journal.specs.Calls.{Opens, SyncsForRoom}
+use Rattle.std.specs.Prelude.{codes}
 
 -- the bytes that stand after the birth gate
 magic-plain : magic Plain ≡ codes "SSTORE01"

@@ -1,14 +1,12 @@
 -- The form that the file has of records and entries: taken twice it leaves them, and it leaves all but their checks.
-use Rattle.std.proofs.Common.{◌≡◌, ◌∙◌, refl, sym, ap, ℕ, zero, suc, ◌+◌, ◌-◌, ◌<◌, ◌≤◌, List, [], ◌∷◌, ◌++◌, length, take, drop, get_or, arith, inl, inr}
-use Rattle.std.specs.Prelude.{bit_xor, replicate, slice_index}
+use Rattle.ss_journal.proofs.Common.{◌≡◌, ◌∙◌, refl, sym, ap, ℕ, zero, suc, ◌+◌, ◌-◌, ◌<◌, ◌≤◌, List, [], ◌∷◌, ◌++◌, length, take, drop, get_or, arith, inl}
+use Rattle.ss_journal.proofs.Common.{inr, slice_index, set, cases_eq, cases_lt, cond-false, cond-true, eq-eqb, ne_eqb, append-nil, drop_all, drop_at}
+use Rattle.ss_journal.proofs.Common.{get_or-drop, get_or-take, length-append, length-drop, length-take, length-take-le, take-append-drop, take_all, take_at}
+use Rattle.ss_journal.proofs.Common.{check_of, masked_from, Kind, Plain, Checked}
+use Rattle.std.specs.Prelude.{bit_xor, replicate}
 use Rattle.std.specs.Int.Bits.{xor_assoc, xor_self, xor_zero_r}
-use Rattle.std.proofs.Math.ListN.{set}
-use Rattle.std.proofs.lemmas.Bool.{cases_eq, cases_lt, cond-false, cond-true, eq-eqb, ne_eqb}
-use Rattle.std.proofs.lemmas.List.{append-nil, drop_all, drop_at, get_or-drop, get_or-take, length-append, length-drop, length-take, length-take-le}
-use Rattle.std.proofs.lemmas.List.{set-append_right, take-append-drop, take_all, take_at}
-use Rattle.ss_journal.specs.Checks.{check_of, entry_form, masked, masked_from, slot_form}
-use Rattle.ss_journal.specs.declared.kind.Kind.{Kind}
-use Rattle.ss_journal.specs.declared.kind.Kind.TheVariants.{Plain, Checked}
+use Rattle.std.proofs.lemmas.List.{set-append_right}
+use Rattle.ss_journal.specs.Checks.{entry_form, masked, slot_form}
 
 masked-none : (mask : List ℕ) → masked [] mask ≡ []
 masked-none [] = refl

@@ -1,22 +1,11 @@
 -- A transaction in the next entry, and the gate that makes it count.
-use Rattle.std.proofs.Common.{IsFalse, IsTrue, List, [], ap, arith, drop, inl, inr, length, map, refl, subst, sym, take, ℕ, ◌++◌, ◌+◌, ◌<◌, ◌∙◌}
-use Rattle.std.proofs.Common.{◌∷◌, ◌≡◌, ◌≤◌, ◌⊎◌}
-use Rattle.std.proofs.lemmas.Bool.{cases_eq}
-use Rattle.std.proofs.lemmas.List.Concat.{flat_map-append}
-use Rattle.std.proofs.lemmas.List.FromFn.{map-range_with_len_more}
-use Rattle.std.proofs.lemmas.List.{append-nil, append_assoc, drop_at, length-append, length-take-le, take_at}
-use Rattle.std.specs.List.{range_with_len}
-use Rattle.std.specs.Prelude.{flat_map, slice_index}
-use Rattle.ss_outside.specs.Disk.{overwrite}
+use Rattle.ss_journal.proofs.Common.{IsFalse, IsTrue, List, [], ap, arith, drop, inl, inr, length, map, refl, subst, sym, take, ℕ, ◌++◌, ◌+◌, ◌<◌, ◌∙◌, ◌∷◌}
+use Rattle.ss_journal.proofs.Common.{◌≡◌, ◌≤◌, ◌⊎◌, cases_eq, flat_map-append, map-range_with_len_more, append-nil, append_assoc, drop_at, length-append}
+use Rattle.ss_journal.proofs.Common.{length-take-le, take_at, range_with_len, flat_map, slice_index, overwrite, entries, entry_body, is_good, open_prefix}
+use Rattle.ss_journal.proofs.Common.{puts_of, entry_in, entry_bytes, is_born, kind_of, EndsAt, IsClosed, entry_place, is_open, opens, EndsBefore, FillSlots}
+use Rattle.ss_journal.proofs.Common.{IsTxn, slots_fit, Gives, Redone, SameMap, SlotMap, StandsFor, changed, entries_in_use, file_map, puts_in_use, redo}
+use Rattle.ss_journal.proofs.Common.{redo_entries, stands, Put}
 use Rattle.ss_journal.proofs.NextEntry.{AddsEntry, IsReadyFor}
-use Rattle.ss_journal.specs.Entries.{entries, entry_body, is_good, open_prefix, puts_of}
-use Rattle.ss_journal.specs.Checks.{entry_in}
-use Rattle.ss_journal.specs.Format.{entry_bytes, is_born, kind_of}
-use Rattle.ss_journal.specs.Gates.{EndsAt, IsClosed, entry_place, is_open, opens}
-use Rattle.ss_journal.specs.Kept.{EndsBefore}
-use Rattle.ss_journal.specs.Puts.{FillSlots, IsTxn, slots_fit}
-use Rattle.ss_journal.specs.Redo.{Gives, Redone, SameMap, SlotMap, StandsFor, changed, entries_in_use, file_map, puts_in_use, redo, redo_entries, stands}
-use Rattle.ss_journal.specs.declared.put.Put.{Put}
 use Rattle.ss_journal.proofs.EntryLemmas.{is_good-body, puts_of-body}
 use Rattle.ss_journal.proofs.HeaderLemmas.{is_born-parts, is_born-same, kind_of-same, piece-same}
 use Rattle.ss_journal.proofs.MapLemmas.{SameMap-trans, changed-same, file_map-same}

@@ -1,20 +1,9 @@
 -- How entries come into the file: all of them behind the gate of the first, and then that gate.
-use Rattle.std.proofs.Common.{IsFalse, List, Ok, Result, [], ap, arith, drop, inl, inr, length, subst, suc, sym, take, ℕ, ⊎_elim, ◌+◌, ◌-◌, ◌*◌, ◌<◌, ◌∙◌}
-use Rattle.std.proofs.Common.{◌∷◌, ◌≡◌, ◌≤◌, ◌⊎◌}
-use Rattle.std.proofs.lemmas.Bool.{cases_Bool, cases_lt, eqb-true}
-use Rattle.std.proofs.lemmas.List.{ext_get_or, length-drop, take_all}
-use Rattle.std.proofs.lemmas.Result.{on_ok_weaker}
-use Rattle.std.specs.Prelude.{IsErr, slice_index}
-use Rattle.ss_outside.proofs.CrashLemmas.{joined, weaker}
-use Rattle.ss_outside.proofs.DiskLemmas.{get_or-overwrite_inside, get_or-overwrite_outside, length-overwrite}
-use Rattle.ss_outside.specs.Disk.{NothingPending, Told, overwrite}
-use Rattle.ss_outside.specs.Crash.{LeavesOnly}
-use Rattle.ss_outside.specs.declared.source.Failed.{Failed}
-use Rattle.ss_journal.specs.Gates.{IsClosed, entry_place, opens}
-use Rattle.ss_journal.specs.Kept.{EndsBefore}
-use Rattle.ss_journal.specs.Redo.{SlotMap, StandsFor}
-use Rattle.ss_journal.specs.Steps.{Durably, Enters, Writes}
-use Rattle.ss_journal.specs.Writes.{DiffersAt, length_with}
+use Rattle.ss_journal.proofs.Common.{IsFalse, List, Ok, Result, [], ap, arith, drop, inl, inr, length, subst, suc, sym, take, ℕ, ⊎_elim, ◌+◌, ◌-◌, ◌*◌, ◌<◌}
+use Rattle.ss_journal.proofs.Common.{◌∙◌, ◌∷◌, ◌≡◌, ◌≤◌, ◌⊎◌, cases_Bool, cases_lt, eqb-true, ext_get_or, length-drop, take_all, on_ok_weaker, IsErr}
+use Rattle.ss_journal.proofs.Common.{slice_index, joined, weaker, get_or-overwrite_inside, get_or-overwrite_outside, length-overwrite, NothingPending, Told}
+use Rattle.ss_journal.proofs.Common.{overwrite, LeavesOnly, Failed, IsClosed, entry_place, opens, EndsBefore, SlotMap, StandsFor, Durably, Enters, Writes}
+use Rattle.ss_journal.proofs.Common.{DiffersAt, length_with}
 use Rattle.ss_journal.proofs.CommitLemmas.{StandsFor-closed}
 use Rattle.ss_journal.proofs.HeaderLemmas.{is_born-parts}
 use Rattle.ss_journal.proofs.RangeLemmas.{DiffersIn-overwrite, get_or-differs, length-differs}

@@ -1,21 +1,15 @@
 -- How an entry is judged, and how it is spelled.
-use Rattle.std.proofs.Common.{IsFalse, IsTrue, List, [], ap, arith, drop, get_or, length, refl, replicate, subst, suc, sym, take, true, zero, ℕ, ◌&&◌, ◌*◌}
-use Rattle.std.proofs.Common.{◌++◌, ◌+◌, ◌-◌, ◌<◌, ◌==◌, ◌^◌, ◌∙◌, ◌∷◌, ◌≡◌, ◌≤◌}
-use Rattle.std.proofs.Math.Nat.{zero-add}
-use Rattle.std.proofs.lemmas.Bool.Decides.{nat_tests}
-use Rattle.std.proofs.lemmas.Bool.{and_from, and_parts, le-leb, leb-true, lt-leb}
-use Rattle.std.proofs.lemmas.List.Concat.{flat_map-append}
-use Rattle.std.proofs.lemmas.List.Elements.{All-get_or, All-head, All-map, All-tail}
-use Rattle.std.proofs.lemmas.List.FromFn.{fill_by_all, get_or-range_with_len, length-map-range_with_len, length-range_with_len}
-use Rattle.std.proofs.lemmas.List.{append-nil, append_assoc, drop-drop, drop-replicate, drop_at, length-append, length-drop, length-replicate, length-take}
-use Rattle.std.proofs.lemmas.List.{take-append-drop, take_all, take_at, take_more}
-use Rattle.std.specs.List.{list_all, range_with_len}
-use Rattle.std.specs.Prelude.{All, flat_map}
+use Rattle.ss_journal.proofs.Common.{IsFalse, IsTrue, List, [], ap, arith, drop, get_or, length, refl, replicate, subst, suc, sym, take, true, zero, ℕ, ◌&&◌}
+use Rattle.ss_journal.proofs.Common.{◌*◌, ◌++◌, ◌+◌, ◌-◌, ◌<◌, ◌==◌, ◌^◌, ◌∙◌, ◌∷◌, ◌≡◌, ◌≤◌, zero-add, nat_tests, and_from, and_parts, le-leb, leb-true}
+use Rattle.ss_journal.proofs.Common.{flat_map-append, All-get_or, All-head, All-map, All-tail, length-map-range_with_len, append-nil, append_assoc, drop-drop}
+use Rattle.ss_journal.proofs.Common.{drop-replicate, drop_at, length-append, length-drop, length-replicate, length-take, take-append-drop, take_all, take_at}
+use Rattle.ss_journal.proofs.Common.{take_more, range_with_len, All, flat_map, put_at, put_bytes, FillSlots, IsTxn, slots_fit, slots_rise_from, Put}
+use Rattle.std.proofs.lemmas.Bool.{lt-leb}
+use Rattle.std.proofs.lemmas.List.FromFn.{fill_by_all, get_or-range_with_len, length-range_with_len}
+use Rattle.std.specs.List.{list_all}
 use Rattle.ss_fields.proofs.FieldLemmas.{length-number_bytes, number_at-written}
 use Rattle.ss_fields.specs.Fields.{number_at, number_bytes}
-use Rattle.ss_journal.specs.Entries.{put_count, entry_body, is_good, put_at, put_bytes, puts_of}
-use Rattle.ss_journal.specs.Puts.{FillSlots, IsTxn, slots_fit, slots_rise_from}
-use Rattle.ss_journal.specs.declared.put.Put.{Put}
+use Rattle.ss_journal.specs.Entries.{put_count, entry_body, is_good, puts_of}
 use Rattle.ss_journal.proofs.PutLemmas.{AreSlots-rise, slots_fit-again}
 
 -- what is true of a sound entry

@@ -1,8 +1,5 @@
 -- What counts after a closed first gate.
-use Rattle.std.proofs.Common.{IsTrue, List, subst, ℕ}
-use Rattle.ss_journal.specs.Format.{is_born}
-use Rattle.ss_journal.specs.Gates.{IsClosed}
-use Rattle.ss_journal.specs.Redo.{Gives, Redone, SameMap, SlotMap, StandsFor, file_map}
+use Rattle.ss_journal.proofs.Common.{IsTrue, List, subst, ℕ, is_born, IsClosed, Gives, Redone, SameMap, SlotMap, StandsFor, file_map}
 use Rattle.ss_journal.proofs.RedoLemmas.{StandsFor-from, redo-first_closed}
 
 -- with the first gate closed the file alone gives the map

@@ -1,23 +1,12 @@
 -- A group of entries: its bytes, and what it makes of a content with room for it.
-use Rattle.std.proofs.Common.{IsFalse, IsTrue, List, [], ap, arith, drop, inl, inr, length, nat_lt, refl, subst, suc, sym, take, zero, ℕ, ◌++◌, ◌+◌, ◌*◌, ◌<◌}
-use Rattle.std.proofs.Common.{◌∙◌, ◌∷◌, ◌≡◌, ◌≤◌, ◌⊎◌}
+use Rattle.ss_journal.proofs.Common.{IsFalse, IsTrue, List, [], ap, arith, drop, inl, inr, length, nat_lt, refl, subst, suc, sym, take, zero, ℕ, ◌++◌, ◌+◌}
+use Rattle.ss_journal.proofs.Common.{◌*◌, ◌<◌, ◌∙◌, ◌∷◌, ◌≡◌, ◌≤◌, ◌⊎◌, cond-true, lt-ltb, append-nil, append_assoc, length-append, length-drop}
+use Rattle.ss_journal.proofs.Common.{take-append-drop, slice_index, get_or-overwrite_inside, get_or-overwrite_outside, length-overwrite, overwrite}
+use Rattle.ss_journal.proofs.Common.{entry_body, entry_form, entry_in, Kind, entry_bytes, is_born, kind_of, EndsAt, entry_place, opens, entry_count}
+use Rattle.ss_journal.proofs.Common.{group_bytes, open_entry, part, HasRoomFor, closed_behind, gate_behind, with_entries, FillSlots, IsTxn, slots_fit}
+use Rattle.ss_journal.proofs.Common.{slots_rise_from, Gives, Redone, SameMap, SlotMap, StandsFor, changed, entries_in_use, puts_in_use, Put}
 use Rattle.std.proofs.Math.Seq.{get_or-append_seam}
-use Rattle.std.proofs.lemmas.Bool.{cond-true, lt-ltb}
-use Rattle.std.proofs.lemmas.List.{append-nil, append_assoc, length-append, length-drop, take-append-drop}
-use Rattle.std.specs.Prelude.{slice_index}
-use Rattle.ss_outside.proofs.DiskLemmas.{get_or-overwrite_inside, get_or-overwrite_outside, length-overwrite}
-use Rattle.ss_outside.specs.Disk.{overwrite}
 use Rattle.ss_journal.proofs.NextEntry.{AddsEntry, AddsGroup, IsReadyFor}
-use Rattle.ss_journal.specs.Entries.{entry_body}
-use Rattle.ss_journal.specs.Checks.{entry_form, entry_in}
-use Rattle.ss_journal.specs.declared.kind.Kind.{Kind}
-use Rattle.ss_journal.specs.Format.{entry_bytes, is_born, kind_of}
-use Rattle.ss_journal.specs.Gates.{EndsAt, entry_place, opens}
-use Rattle.ss_journal.specs.Groups.{entry_count, group_bytes, open_entry, part}
-use Rattle.ss_journal.specs.Kept.{HasRoomFor, closed_behind, gate_behind, with_entries}
-use Rattle.ss_journal.specs.Puts.{FillSlots, IsTxn, slots_fit, slots_rise_from}
-use Rattle.ss_journal.specs.Redo.{Gives, Redone, SameMap, SlotMap, StandsFor, changed, entries_in_use, puts_in_use}
-use Rattle.ss_journal.specs.declared.put.Put.{Put}
 use Rattle.ss_journal.proofs.CommitLemmas.{AddsEntry-opened, StandsFor-opened, entry-overwrite}
 use Rattle.ss_journal.proofs.EntryLemmas.{length-entry_body}
 use Rattle.ss_journal.proofs.CheckLemmas.{entry_form-gate, entry_form-twice, length-entry_form}

@@ -1,21 +1,16 @@
 -- The header: whether a file is formatted, and how that is read.
-use Rattle.std.proofs.Common.{IsFalse, IsTrue, List, [], ap, arith, drop, eqb, inl, inr, length, nat_eq, nat_le, not, refl, rules, subst, suc, sym, take, ℕ}
-use Rattle.std.proofs.Common.{◌&&◌, ◌+◌, ◌<◌, ◌==◌, ◌||◌, ◌∙◌, ◌∷◌, ◌≡◌, ◌≤◌, ◌⊎◌, Bool, cond}
-use Rattle.std.proofs.Math.Nat.{zero-add}
-use Rattle.std.proofs.lemmas.Bool.Decides.{nat_tests}
-use Rattle.std.proofs.lemmas.Bool.{cond-false, cond-true, and_from, and_left, and_parts, both_ways, eq-eqb, eqb-true, false_from_ne_true, le-leb, leb-true, ne_eqb, not-true}
-use Rattle.std.proofs.lemmas.Bool.{not_from_false, or_cases, or_left, or_right}
+use Rattle.ss_journal.proofs.Common.{IsFalse, IsTrue, List, [], ap, arith, drop, inl, inr, length, nat_eq, nat_le, not, refl, rules, subst, suc, sym, take, ℕ}
+use Rattle.ss_journal.proofs.Common.{◌&&◌, ◌+◌, ◌<◌, ◌==◌, ◌||◌, ◌∙◌, ◌∷◌, ◌≡◌, ◌≤◌, ◌⊎◌, Bool, cond, zero-add, nat_tests, cond-false, cond-true, and_from}
+use Rattle.ss_journal.proofs.Common.{and_parts, both_ways, eq-eqb, eqb-true, false_from_ne_true, le-leb, leb-true, ne_eqb, not-true, not_from_false, or_cases}
+use Rattle.ss_journal.proofs.Common.{or_left, or_right, All-head, All-tail, ext_get_or, get_or-drop, get_or-take, length-drop, length-take, All, slice_index}
+use Rattle.ss_journal.proofs.Common.{IsReadFrom, Kind, Plain, Checked, has_magic, has_magic_of, magic, opens}
+use Rattle.std.proofs.Common.{eqb}
+use Rattle.std.proofs.lemmas.Bool.{and_left}
 use Rattle.std.proofs.lemmas.Grind.{get_or_after_one, same_number_lists}
-use Rattle.std.proofs.lemmas.List.Elements.{All-from_recursion, All-head, All-tail}
-use Rattle.std.proofs.lemmas.List.{ext_get_or, get_or-drop, get_or-take, length-drop, length-take}
+use Rattle.std.proofs.lemmas.List.Elements.{All-from_recursion}
 use Rattle.std.specs.Cmp.Lexicographic.{pointwise}
-use Rattle.std.specs.Prelude.{All, slice_index}
 use lib.Pointwise.{pointwise, pointwise_long}
-use Rattle.ss_outside.specs.Disk.{IsReadFrom}
-use Rattle.ss_journal.specs.declared.kind.Kind.{Kind}
-use Rattle.ss_journal.specs.declared.kind.Kind.TheVariants.{Plain, Checked}
-use Rattle.ss_journal.specs.Format.{has_magic, has_magic_of, is_born, is_unborn, kind_of, magic}
-use Rattle.ss_journal.specs.Gates.{opens}
+use Rattle.ss_journal.specs.Format.{is_born, is_unborn, kind_of}
 use Rattle.ss_journal.specs.Opening.{IsHead}
 
 -- a piece of two lists that agree there is the same

@@ -1,22 +1,11 @@
 -- Entries in use, whose puts are written into their slots, lost, torn or whole.
-use Rattle.std.proofs.Common.{IsFalse, IsTrue, List, [], ap, arith, inl, inr, length, nat_eq, refl, subst, sym, ℕ, ◌<◌, ◌^◌, ◌∙◌, ◌∷◌, ◌≡◌, ◌≤◌}
-use Rattle.std.proofs.lemmas.Bool.{cases_Bool, cases_eq, cases_lt, eqb-false, eqb-true, or_parts}
-use Rattle.std.proofs.lemmas.List.Elements.{All-weaker}
-use Rattle.std.proofs.lemmas.List.{ext_get_or}
-use Rattle.std.specs.Prelude.{flat_map, slice_index}
-use Rattle.ss_outside.proofs.DiskLemmas.{get_or-overwrite_inside}
-use Rattle.ss_outside.specs.Disk.{IsOutside, overwrite}
-use Rattle.ss_journal.specs.Entries.{entries, open_prefix, puts_of}
-use Rattle.ss_journal.specs.declared.kind.Kind.{Kind}
-use Rattle.ss_journal.specs.Format.{is_born, kind_of, slots_in}
-use Rattle.ss_journal.specs.Gates.{opens}
-use Rattle.ss_journal.specs.Newest.{DoAs}
-use Rattle.ss_journal.specs.Puts.{FillSlots, extent_after, is_put, slots_fit, with_puts}
-use Rattle.ss_journal.specs.Redo.{CameInPart, entries_in_use, Gives, InUse, Redone, SameMap, SlotMap, StandsFor, changed, file_map, puts_in_use}
-use Rattle.ss_journal.specs.Redo.{redo, redo_entries, stands}
-use Rattle.ss_journal.specs.Steps.{StaysShut}
-use Rattle.ss_journal.specs.Writes.{AreSlots, DiffersAt, DiffersIn, HasSlotsFor, length_with, slot_ranges, slots_written}
-use Rattle.ss_journal.specs.declared.put.Put.{Put}
+use Rattle.ss_journal.proofs.Common.{IsFalse, IsTrue, List, [], ap, arith, inl, inr, length, nat_eq, refl, subst, sym, ℕ, ◌<◌, ◌^◌, ◌∙◌, ◌∷◌, ◌≡◌, ◌≤◌}
+use Rattle.ss_journal.proofs.Common.{cases_Bool, cases_eq, cases_lt, eqb-false, eqb-true, or_parts, All-weaker, ext_get_or, flat_map, slice_index}
+use Rattle.ss_journal.proofs.Common.{get_or-overwrite_inside, IsOutside, overwrite, entries, open_prefix, puts_of, Kind, is_born, kind_of, slots_in, opens}
+use Rattle.ss_journal.proofs.Common.{DoAs, FillSlots, extent_after, is_put, slots_fit, with_puts, CameInPart, entries_in_use, Gives, Redone, SameMap, SlotMap}
+use Rattle.ss_journal.proofs.Common.{StandsFor, changed, file_map, puts_in_use, redo, redo_entries, stands, StaysShut, AreSlots, DiffersAt, DiffersIn}
+use Rattle.ss_journal.proofs.Common.{HasSlotsFor, length_with, slot_ranges, slots_written, Put}
+use Rattle.ss_journal.specs.Redo.{InUse}
 use Rattle.ss_journal.proofs.GateLemmas.{StandsFor-first_closed}
 use Rattle.ss_journal.proofs.HeaderLemmas.{is_born-parts, is_born-same, kind_of-same}
 use Rattle.ss_journal.proofs.MapLemmas.{SameMap-refl, SameMap-trans, file_map-same}

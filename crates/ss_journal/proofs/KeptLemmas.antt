@@ -1,29 +1,13 @@
 -- A journal and the content of its disk: opened, settled, read and committed.
-use Rattle.std.proofs.Common.{Ok, Result, IsTrue, List, [], ap, arith, inl, inr, length, nat_lt, refl, subst, sym, ℕ, ⊎_elim, ◌<◌, ◌^◌, ◌∙◌, ◌≡◌}
-use Rattle.std.proofs.Common.{false, ◌≢◌, ◌≤◌, ◌⊎◌}
+use Rattle.ss_journal.proofs.Common.{Ok, Result, IsTrue, List, [], ap, arith, inl, inr, length, nat_lt, refl, subst, sym, ℕ, ⊎_elim, ◌<◌, ◌^◌, ◌∙◌, ◌≡◌}
+use Rattle.ss_journal.proofs.Common.{false, ◌≢◌, ◌≤◌, ◌⊎◌, both_ways, cases_Bool, cases_lt, cond-false, cond-true, le-ltb, lt-ltb, IsErr, OnOk, flat_map}
+use Rattle.ss_journal.proofs.Common.{NothingPending, Told, Failed, the_type, Leads, MakesDurable, ReadsPage, ReadsSlot, Settles, puts_of, slot_form, slot_in}
+use Rattle.ss_journal.proofs.Common.{Kind, IsShut, is_born, is_unborn, kind_of, slot_at, slots_in, EndsAt, IsClosed, IsInPhase, IsKept, IsShown, JournalState}
+use Rattle.ss_journal.proofs.Common.{AreEntries, DoAs, extent_after, is_put, slots_fit, with_puts, Gives, Redone, SameMap, SlotMap, StandsFor, blank_map}
+use Rattle.ss_journal.proofs.Common.{changed, file_map, puts_in_use, zeros, Clears, Durably, Reaches, Settled, Unborn, Phase, Put}
 use denote.Enum.Bare.{sameb}
-use Rattle.std.proofs.lemmas.Bool.{both_ways, cases_Bool, cases_lt, cond-false, cond-true, le-ltb, lt-ltb}
 use Rattle.ss_journal.proofs.NextEntry.{IsReadyFor}
-use Rattle.std.specs.Prelude.{IsErr, OnOk, flat_map}
-use Rattle.ss_outside.specs.Disk.{NothingPending, Told}
-use Rattle.ss_outside.specs.declared.source.Failed.{Failed}
-use Rattle.ss_journal.specs.contracts.phase.Phase.{the_type}
-use Rattle.ss_journal.specs.Birth.{Leads}
-use Rattle.ss_journal.specs.Calls.{MakesDurable, ReadsPage, ReadsSlot, Settles}
-use Rattle.ss_journal.specs.Entries.{puts_of}
-use Rattle.ss_journal.specs.Checks.{slot_form, slot_in}
-use Rattle.ss_journal.specs.declared.kind.Kind.{Kind}
-use Rattle.ss_journal.specs.Format.{IsShut, is_born, is_unborn, kind_of, slot_at, slots_in}
-use Rattle.ss_journal.specs.Gates.{EndsAt, IsClosed}
-use Rattle.ss_journal.specs.Kept.{IsInPhase, IsKept, IsShown, JournalState}
-use Rattle.ss_journal.specs.Opening.{AreEntries}
-use Rattle.ss_journal.specs.Newest.{DoAs}
-use Rattle.ss_journal.specs.Puts.{extent_after, is_put, slots_fit, with_puts}
-use Rattle.ss_journal.specs.Redo.{Gives, Redone, SameMap, SlotMap, StandsFor, blank_map, changed, file_map, puts_in_use, zeros}
-use Rattle.ss_journal.specs.Steps.{Clears, Durably, Reaches}
-use Rattle.ss_journal.specs.declared.phase.Phase.TheVariants.{Born, Settled, Stopped, Unborn}
-use Rattle.ss_journal.specs.declared.phase.Phase.{Phase}
-use Rattle.ss_journal.specs.declared.put.Put.{Put}
+use Rattle.ss_journal.specs.declared.phase.Phase.TheVariants.{Born, Stopped}
 use Rattle.ss_journal.proofs.GateLemmas.{file_map-first_closed}
 use Rattle.ss_journal.proofs.HeaderLemmas.{is_born-unborn}
 use Rattle.ss_journal.proofs.MapLemmas.{SameMap-refl}

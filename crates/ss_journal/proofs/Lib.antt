@@ -1,3 +1,4 @@
+pub mod Common
 pub mod BirthLemmas
 pub mod CheckLemmas
 pub mod CommitLemmas

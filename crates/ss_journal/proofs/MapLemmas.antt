@@ -1,14 +1,8 @@
 -- The map of a file's slots, and maps that are the same.
-use Rattle.std.proofs.Common.{List, ap, arith, drop, inl, inr, length, refl, subst, sym, ℕ, ◌++◌, ◌+◌, ◌<◌, ◌∙◌, ◌≡◌, ◌≤◌}
-use Rattle.std.proofs.lemmas.Bool.{cases_lt, cond-false, cond-true, le-ltb, lt-ltb}
-use Rattle.std.proofs.lemmas.List.{ext_get_or, get_or-drop, get_or-replicate, get_or-take, length-drop, length-replicate, length-take}
-use Rattle.std.specs.Prelude.{slice_index}
-use Rattle.ss_journal.specs.Checks.{slot_form, slot_in}
-use Rattle.ss_journal.specs.declared.kind.Kind.{Kind}
-use Rattle.ss_journal.specs.Format.{kind_of, slot_at, slot_place, slots_in}
-use Rattle.ss_journal.specs.Puts.{extent_after}
-use Rattle.ss_journal.specs.Redo.{SameMap, SlotMap, blank_map, changed, file_map, zeros}
-use Rattle.ss_journal.specs.declared.put.Put.{Put}
+use Rattle.ss_journal.proofs.Common.{List, ap, arith, drop, inl, inr, length, refl, subst, sym, ℕ, ◌++◌, ◌+◌, ◌<◌, ◌∙◌, ◌≡◌, ◌≤◌, cases_lt, cond-false}
+use Rattle.ss_journal.proofs.Common.{cond-true, le-ltb, lt-ltb, ext_get_or, get_or-drop, get_or-replicate, get_or-take, length-drop, length-replicate}
+use Rattle.ss_journal.proofs.Common.{length-take, slice_index, slot_form, slot_in, Kind, kind_of, slot_at, slot_place, slots_in, extent_after, SameMap}
+use Rattle.ss_journal.proofs.Common.{SlotMap, blank_map, changed, file_map, zeros, Put}
 use Rattle.ss_journal.proofs.CheckLemmas.{slot_form-zeros}
 use Rattle.ss_journal.proofs.HeaderLemmas.{piece-same}
 use Rattle.ss_journal.proofs.PutLemmas.{extent_after-append, with_puts-append, with_puts-same}

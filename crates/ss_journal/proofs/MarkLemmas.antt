@@ -1,17 +1,11 @@
 -- A store is made a checked one before it is formatted.
-use Rattle.std.proofs.Common.{Err, IsFalse, IsTrue, List, Ok, Result, ap, arith, inl, inr, length, nat_le, not, refl, subst, sym, true, ℕ, ◌==◌, ◌||◌, ◌∙◌, ◌≡◌, ◌<◌, Bool, ◌&&◌}
-use Rattle.std.proofs.lemmas.Bool.{and_from, and_parts, both_ways, cases_Bool, eq-eqb, eqb-true, le-leb, leb-true, ne_eqb, not-true, not_from_false, or_cases, or_left, or_right}
-use Rattle.std.specs.Prelude.{IfOk, IsErr, slice_index}
-use Rattle.ss_outside.specs.Crash.{KnowsNow, OnlyReads}
-use Rattle.ss_outside.specs.Disk.{Told, overwrite}
-use Rattle.ss_outside.specs.declared.source.Failed.{Failed}
-use Rattle.ss_journal.specs.Birth.{Begins, IsMarked, has_no_kind}
-use Rattle.ss_journal.specs.Calls.{MakesChecked}
-use Rattle.ss_journal.specs.Format.{has_magic, has_magic_of, is_born, is_plain, is_unborn, kind_of, magic}
-use Rattle.ss_journal.specs.Redo.{SlotMap, StandsFor}
-use Rattle.ss_journal.specs.Steps.{Durably, Reaches, Writes}
-use Rattle.ss_journal.specs.Writes.{DiffersAt, SameRest}
-use Rattle.ss_journal.specs.declared.kind.Kind.TheVariants.{Checked, Plain}
+use Rattle.ss_journal.proofs.Common.{Err, IsFalse, IsTrue, List, Ok, Result, ap, arith, inl, inr, length, nat_le, not, refl, subst, sym, true, ℕ, ◌==◌, ◌||◌}
+use Rattle.ss_journal.proofs.Common.{◌∙◌, ◌≡◌, ◌<◌, Bool, ◌&&◌, and_from, and_parts, both_ways, cases_Bool, eq-eqb, eqb-true, le-leb, leb-true, ne_eqb}
+use Rattle.ss_journal.proofs.Common.{not-true, not_from_false, or_cases, or_left, or_right, IsErr, slice_index, KnowsNow, OnlyReads, Told, overwrite, Failed}
+use Rattle.ss_journal.proofs.Common.{Begins, has_no_kind, MakesChecked, has_magic, has_magic_of, is_born, is_plain, is_unborn, kind_of, magic, SlotMap}
+use Rattle.ss_journal.proofs.Common.{StandsFor, Durably, Reaches, Writes, DiffersAt, SameRest, Checked, Plain}
+use Rattle.std.specs.Prelude.{IfOk}
+use Rattle.ss_journal.specs.Birth.{IsMarked}
 use Rattle.ss_journal.proofs.BirthLemmas.{SameRest-overwrite, SameRest-trans, StandsFor-unborn, is_magic-overwrite}
 use Rattle.ss_journal.proofs.HeaderLemmas.{is_born-parts, is_unborn-cases, is_unborn-zero, kind_of-checked, long-has_magic_of}
 use Rattle.ss_journal.proofs.RangeLemmas.{DiffersIn-overwrite}

@@ -1,17 +1,12 @@
 -- Puts of which each slot has the newest alone, and puts that do what others do.
-use Rattle.std.proofs.Common.{IsFalse, IsTrue, List, [], ap, append-nil, append_assoc, arith, cond, drop, false, get_or, inl, inr, length, length-drop}
-use Rattle.std.proofs.Common.{length-take, nat_eq, nat_lt, refl, set, subst, suc, sym, take, true, zero, ℕ, ◌*◌, ◌++◌, ◌+◌, ◌<◌, ◌^◌, ◌∙◌, ◌∷◌, ◌≡◌, ◌≤◌}
-use Rattle.std.proofs.lemmas.Bool.Decides.{nat_tests}
-use Rattle.std.proofs.lemmas.Bool.{cases_lt, cond-false, cond-true, or_from}
-use Rattle.std.proofs.lemmas.List.Elements.{All-cons, All-drop, All-get_or, All-head, All-nil, All-tail, All-take, All-weaker}
+use Rattle.ss_journal.proofs.Common.{IsFalse, IsTrue, List, [], ap, arith, cond, drop, false, get_or, inl, inr, length, nat_eq, nat_lt, refl, subst, suc, sym}
+use Rattle.ss_journal.proofs.Common.{take, true, zero, ℕ, ◌*◌, ◌++◌, ◌+◌, ◌<◌, ◌^◌, ◌∙◌, ◌∷◌, ◌≡◌, ◌≤◌, nat_tests, cases_lt, cond-false, cond-true, or_from}
+use Rattle.ss_journal.proofs.Common.{All-cons, All-drop, All-get_or, All-head, All-nil, All-tail, All-take, All-weaker, drop_all, drop_more, take-append-drop}
+use Rattle.ss_journal.proofs.Common.{take_all, All, entry_count, part, DoAs, newest_after, with_newest, FillSlots, IsTxn, extent_after, is_put, slots_fit}
+use Rattle.ss_journal.proofs.Common.{slots_rise_from, with_put, with_puts, AreSlots, Put}
+use Rattle.std.proofs.Common.{append-nil, append_assoc, length-drop}
+use Rattle.std.proofs.Common.{length-take, set}
 use Rattle.std.proofs.Math.Seq.{take-add}
-use Rattle.std.proofs.lemmas.List.{drop_all, drop_more, take-append-drop, take_all}
-use Rattle.std.specs.Prelude.{All}
-use Rattle.ss_journal.specs.Groups.{entry_count, part}
-use Rattle.ss_journal.specs.Newest.{DoAs, newest_after, with_newest}
-use Rattle.ss_journal.specs.Puts.{FillSlots, IsTxn, extent_after, is_put, slots_fit, slots_rise_from, with_put, with_puts}
-use Rattle.ss_journal.specs.Writes.{AreSlots}
-use Rattle.ss_journal.specs.declared.put.Put.{Put}
 use Rattle.ss_journal.proofs.PutLemmas.{extent_after-append, is_put-none, le-extent_after, lt-next, next, next-below, slots_fit-cases, slots_fit-make}
 use Rattle.ss_journal.proofs.PutLemmas.{with_puts-append, with_puts-beside, with_puts-newest}
 

@@ -1,11 +1,6 @@
 -- When a transaction may be staged for the next entry, and what that entry adds.
+use Rattle.ss_journal.proofs.Common.{Put, EndsAt, is_born, kind_of, entry_count, slots_fit, SlotMap, stands, redo, entries_in_use, puts_in_use}
 use Rattle.std.specs.Prelude.{◌≡◌, ℕ, ◌+◌, List, ◌++◌, length, IsTrue}
-use Rattle.ss_journal.specs.declared.put.Put.{Put}
-use Rattle.ss_journal.specs.Gates.{EndsAt}
-use Rattle.ss_journal.specs.Format.{is_born, kind_of}
-use Rattle.ss_journal.specs.Groups.{entry_count}
-use Rattle.ss_journal.specs.Puts.{slots_fit}
-use Rattle.ss_journal.specs.Redo.{SlotMap, stands, redo, entries_in_use, puts_in_use}
 
 -- a formatted content with n entries in use, the gate after them closed, that stands for a map into which these puts fit
 pub record IsReadyFor (n : ℕ) (puts : List Put) (content : List ℕ) : Type 0 where

@@ -1,23 +1,12 @@
 -- How the entries of a formatted file are read one after another.
-use Rattle.std.proofs.Common.{Err, IsFalse, IsTrue, List, Ok, Some, [], ap, append_assoc, arith, drop, length, subst, sym, ℕ, ◌++◌, ◌+◌, ◌<◌, ◌∙◌, ◌∷◌, ◌≡◌}
-use Rattle.std.proofs.lemmas.Bool.{cond-false, cond-true}
-use Rattle.std.proofs.lemmas.List.Elements.{All-weaker}
-use Rattle.std.proofs.lemmas.List.FromFn.{length-map-range_with_len}
-use Rattle.std.proofs.lemmas.List.{append-nil, drop_all}
-use Rattle.std.specs.Prelude.{All, flat_map, slice_index}
-use Rattle.arrayvec.specs.ArrayVec.{ArrayVec}
-use Rattle.ss_journal.specs.Entries.{entries, is_good, open_prefix, puts_of}
-use Rattle.ss_journal.specs.Checks.{entry_form, entry_in}
-use Rattle.ss_journal.specs.declared.kind.Kind.{Kind}
-use Rattle.ss_journal.specs.Format.{entry_bytes, is_born, kind_of, slots_in}
-use Rattle.ss_journal.specs.Gates.{is_open, opens}
-use Rattle.ss_journal.specs.Opening.{AreEntries, InUseAs, NextAs}
-use Rattle.ss_journal.specs.Newest.{DoAs, newest_after}
-use Rattle.ss_journal.specs.Puts.{FillSlots, extent_after, slots_fit, slots_rise_from}
-use Rattle.ss_journal.specs.Redo.{entries_in_use, SlotMap, bad_entry, changed, file_map, puts_in_use, redo, redo_entries}
-use Rattle.ss_journal.specs.declared.journal_error.JournalError.TheVariants.{BadEntry, Disk, NotAStore, OutOfMemory}
-use Rattle.ss_journal.specs.declared.journal_error.JournalError.{JournalError}
-use Rattle.ss_journal.specs.declared.put.Put.{Put}
+use Rattle.ss_journal.proofs.Common.{Err, IsFalse, IsTrue, List, Ok, [], ap, arith, drop, length, subst, sym, ℕ, ◌++◌, ◌+◌, ◌<◌, ◌∙◌, ◌∷◌, ◌≡◌, cond-false}
+use Rattle.ss_journal.proofs.Common.{cond-true, All-weaker, length-map-range_with_len, append-nil, drop_all, All, flat_map, slice_index, ArrayVec, is_good}
+use Rattle.ss_journal.proofs.Common.{open_prefix, puts_of, entry_form, entry_in, Kind, entry_bytes, is_born, kind_of, slots_in, is_open, opens, AreEntries}
+use Rattle.ss_journal.proofs.Common.{DoAs, newest_after, FillSlots, extent_after, slots_fit, slots_rise_from, entries_in_use, SlotMap, bad_entry, changed}
+use Rattle.ss_journal.proofs.Common.{file_map, puts_in_use, redo, redo_entries, BadEntry, Disk, NotAStore, OutOfMemory, JournalError, Put}
+use Rattle.std.proofs.Common.{Some, append_assoc}
+use Rattle.ss_journal.specs.Entries.{entries}
+use Rattle.ss_journal.specs.Opening.{InUseAs, NextAs}
 use Rattle.ss_journal.proofs.CheckLemmas.{gate-entry_form}
 use Rattle.ss_journal.proofs.EntryLemmas.{IsSoundEntry-good}
 use Rattle.ss_journal.proofs.NewestLemmas.{All-newest_after, DoAs-added, DoAs-none}

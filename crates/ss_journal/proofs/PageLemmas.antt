@@ -1,23 +1,16 @@
 -- The slots of a page: read from a file, written over, cleared, and taken out of the form of the file.
-use Rattle.std.proofs.Common.{List, [], ap, arith, cond, drop, get_or, inl, inr, length, nat_eq, replicate, sym, take, ℕ, ◌++◌, ◌*◌, ◌+◌, ◌-◌}
-use Rattle.std.proofs.Common.{◌<◌, ◌∙◌, ◌∷◌, ◌≡◌, ◌≢◌, ◌≤◌, Bool, false, refl, suc, true, zero}
-use Rattle.std.specs.List.{flat_map, range_with_len}
-use Rattle.std.proofs.Math.ListN.{set}
+use Rattle.ss_journal.proofs.Common.{List, [], ap, arith, cond, drop, get_or, inl, inr, length, nat_eq, replicate, sym, take, ℕ, ◌++◌, ◌*◌, ◌+◌, ◌-◌, ◌<◌}
+use Rattle.ss_journal.proofs.Common.{◌∙◌, ◌∷◌, ◌≡◌, ◌≢◌, ◌≤◌, Bool, false, refl, suc, true, zero, range_with_len, set, cases_Bool, cases_eq, cases_order}
+use Rattle.ss_journal.proofs.Common.{cond-false, cond-true, drop-drop, drop-replicate, drop-take, drop_at, ext_get_or, get_or-drop, get_or-take, length-drop}
+use Rattle.ss_journal.proofs.Common.{length-replicate, length-take, length-take-le, take-replicate, take_all, take_more, IsReadFrom, slot_in_page, slot_form}
+use Rattle.ss_journal.proofs.Common.{slot_at, slot_place, slots_in, slot_said, with_put, with_puts, zeros, Kind, Put}
+use Rattle.std.specs.List.{flat_map}
 use Rattle.std.proofs.Math.Seq.{drop-append-add}
-use Rattle.std.proofs.lemmas.Bool.{cases_Bool, cases_eq, cases_order, cond-false, cond-true}
-use Rattle.std.proofs.lemmas.List.{drop-append-le, drop-drop, drop-replicate, drop-take, drop_at, ext_get_or, get_or-drop, get_or-take, length-drop}
-use Rattle.std.proofs.lemmas.List.{get_or-set_other, get_or-set_same, length-replicate, length-take, length-take-le, take-append-le, take-replicate, take_all, take_more}
+use Rattle.std.proofs.lemmas.List.{drop-append-le}
+use Rattle.std.proofs.lemmas.List.{get_or-set_other, get_or-set_same, take-append-le}
 use Rattle.std.proofs.lemmas.Slice.{drop-put_mid, take-put_mid_below}
 use borrow.Rule.Slice.PartMut.{post_of, put_mid}
-use Rattle.ss_outside.specs.Disk.{IsReadFrom}
-use Rattle.ss_journal.specs.Calls.{slot_in_page}
-use Rattle.ss_journal.specs.Checks.{slot_form}
-use Rattle.ss_journal.specs.Format.{slot_at, slot_place, slots_in}
-use Rattle.ss_journal.specs.Page.{page_said, slot_said}
-use Rattle.ss_journal.specs.Puts.{with_put, with_puts}
-use Rattle.ss_journal.specs.Redo.{zeros}
-use Rattle.ss_journal.specs.declared.kind.Kind.{Kind}
-use Rattle.ss_journal.specs.declared.put.Put.{Put}
+use Rattle.ss_journal.specs.Page.{page_said}
 use Rattle.ss_journal.proofs.CheckLemmas.{length-slot_form}
 use Rattle.ss_journal.proofs.MapLemmas.{slot_within}
 use Rattle.ss_journal.proofs.PutLemmas.{with_puts-append}

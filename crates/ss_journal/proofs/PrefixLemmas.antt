@@ -1,17 +1,11 @@
 -- The entries of a file, and its open prefix.
-use Rattle.std.proofs.Common.{inl, inr, IsFalse, IsTrue, List, [], ap, arith, drop, length, map, refl, subst, suc, sym, zero, ℕ, ◌+◌, ◌<◌, ◌∙◌, ◌∷◌, ◌≡◌, ◌≤◌}
-use Rattle.std.proofs.Math.Nat.{zero-add}
-use Rattle.std.proofs.lemmas.Bool.{cases_Bool, cases_eq, cond-false, cond-true, cond_both}
-use Rattle.std.proofs.lemmas.List.Elements.{All-cons, All-head, All-map, All-nil, All-tail}
-use Rattle.std.proofs.lemmas.List.FromFn.{get_or-map-range_with_len, length-map-range_with_len}
-use Rattle.std.proofs.lemmas.List.{drop_more, get_or-drop, get_or-take, length-drop, length-take}
-use Rattle.std.specs.List.{range_with_len}
-use Rattle.std.specs.Prelude.{All, slice_index}
-use Rattle.ss_journal.specs.Entries.{entries, open_prefix}
-use Rattle.ss_journal.specs.Checks.{entry_form, entry_in}
-use Rattle.ss_journal.specs.declared.kind.Kind.{Kind}
-use Rattle.ss_journal.specs.Format.{entry_bytes, kind_of}
-use Rattle.ss_journal.specs.Gates.{IsClosed, entry_place, is_open, opens}
+use Rattle.ss_journal.proofs.Common.{inl, inr, IsFalse, IsTrue, List, [], ap, arith, drop, length, map, refl, subst, suc, sym, zero, ℕ, ◌+◌, ◌<◌, ◌∙◌, ◌∷◌}
+use Rattle.ss_journal.proofs.Common.{◌≡◌, ◌≤◌, zero-add, cases_Bool, cases_eq, cond-false, cond-true, All-cons, All-head, All-map, All-nil, All-tail}
+use Rattle.ss_journal.proofs.Common.{length-map-range_with_len, drop_more, get_or-drop, get_or-take, length-drop, length-take, range_with_len, All}
+use Rattle.ss_journal.proofs.Common.{slice_index, open_prefix, entry_form, entry_in, Kind, entry_bytes, kind_of, IsClosed, entry_place, is_open, opens}
+use Rattle.std.proofs.lemmas.Bool.{cond_both}
+use Rattle.std.proofs.lemmas.List.FromFn.{get_or-map-range_with_len}
+use Rattle.ss_journal.specs.Entries.{entries}
 use Rattle.ss_journal.proofs.CheckLemmas.{gate-entry_form, length-entry_form}
 use Rattle.ss_journal.proofs.EntryLemmas.{All-range_with_len}
 use Rattle.ss_journal.proofs.HeaderLemmas.{piece-same}

@@ -1,14 +1,10 @@
 -- What puts make of maps and extents, and which puts fit.
-use Rattle.std.proofs.Common.{IsFalse, IsTrue, List, [], ap, arith, cond, drop, false, get_or, if◌then◌else◌, inl, inr, length, map, nat_eq, refl, subst, sym}
-use Rattle.std.proofs.Common.{take, true, ℕ, ⊎_elim, ◌++◌, ◌+◌, ◌<◌, ◌^◌, ◌∙◌, ◌∷◌, ◌≡◌, ◌≤◌}
-use Rattle.std.proofs.lemmas.Bool.Decides.{nat_tests}
-use Rattle.std.proofs.lemmas.Bool.{both_ways, cases_Bool, cases_lt, cond-false, cond-true, eq-eqb, false_from_ne_true, ne_eqb, or_cases, or_from, or_parts}
-use Rattle.std.proofs.lemmas.List.Elements.{All-cons, All-head, All-nil, All-tail}
-use Rattle.std.proofs.lemmas.List.{drop_more, take-append-drop}
-use Rattle.std.specs.Prelude.{All}
-use Rattle.ss_journal.specs.Puts.{AgreeBeside, IsTxn, extent_after, is_put, slots_fit, slots_rise_from, with_put, with_puts}
-use Rattle.ss_journal.specs.Writes.{AreSlots}
-use Rattle.ss_journal.specs.declared.put.Put.{Put}
+use Rattle.ss_journal.proofs.Common.{IsFalse, IsTrue, List, [], ap, arith, cond, drop, false, get_or, inl, inr, length, map, nat_eq, refl, subst, sym, take}
+use Rattle.ss_journal.proofs.Common.{true, ℕ, ⊎_elim, ◌++◌, ◌+◌, ◌<◌, ◌^◌, ◌∙◌, ◌∷◌, ◌≡◌, ◌≤◌, nat_tests, both_ways, cases_Bool, cases_lt, cond-false}
+use Rattle.ss_journal.proofs.Common.{cond-true, eq-eqb, false_from_ne_true, ne_eqb, or_cases, or_from, or_parts, All-cons, All-head, All-nil, All-tail}
+use Rattle.ss_journal.proofs.Common.{drop_more, take-append-drop, All, AgreeBeside, IsTxn, extent_after, is_put, slots_fit, slots_rise_from, with_put}
+use Rattle.ss_journal.proofs.Common.{with_puts, AreSlots, Put}
+use Rattle.std.proofs.Common.{if◌then◌else◌}
 
 -- the extent with one more slot
 abbrev pub next : ℕ → ℕ → ℕ

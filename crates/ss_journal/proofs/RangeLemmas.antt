@@ -1,12 +1,10 @@
 -- Contents that differ in some ranges: what writes there make of them, lost, torn or whole.
-use Rattle.std.proofs.Common.{List, [], ap, arith, drop, inl, inr, length, max, refl, replicate, sym, take, ℕ, ⊎_elim, ◌++◌, ◌+◌, ◌-◌, ◌∙◌, ◌∷◌, ◌≡◌, ◌≤◌}
-use Rattle.std.proofs.lemmas.Bool.{cases_lt}
-use Rattle.std.proofs.lemmas.List.{append_assoc, drop-drop, drop_at, get_or_past, length-append, length-replicate, length-take-le, replicate-append-replicate}
-use Rattle.std.proofs.lemmas.List.{append-nil, take-append-drop, take_at}
-use Rattle.std.specs.Prelude.{slice_index}
-use Rattle.ss_outside.proofs.DiskLemmas.{get_or-overwrite_outside, length-overwrite}
-use Rattle.ss_outside.specs.Disk.{IsOutside, IsOutsideAll, Torn, overwrite}
-use Rattle.ss_journal.specs.Writes.{DiffersAt, DiffersIn, SameRest, length_with}
+use Rattle.ss_journal.proofs.Common.{List, [], ap, arith, drop, inl, inr, length, max, refl, replicate, sym, take, ℕ, ⊎_elim, ◌++◌, ◌+◌, ◌-◌, ◌∙◌, ◌∷◌, ◌≡◌}
+use Rattle.ss_journal.proofs.Common.{◌≤◌, cases_lt, append_assoc, drop-drop, drop_at, get_or_past, length-append, length-replicate, length-take-le}
+use Rattle.ss_journal.proofs.Common.{append-nil, take-append-drop, take_at, slice_index, get_or-overwrite_outside, length-overwrite, IsOutside, IsOutsideAll}
+use Rattle.ss_journal.proofs.Common.{overwrite, DiffersAt, DiffersIn, SameRest, length_with}
+use Rattle.std.proofs.lemmas.List.{replicate-append-replicate}
+use Rattle.ss_outside.specs.Disk.{Torn}
 
 -- ranges make no file shorter
 pub length_with-le : (ranges : List (ℕ × ℕ)) (size : ℕ) → size ≤ length_with ranges size

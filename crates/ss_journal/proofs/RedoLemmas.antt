@@ -1,19 +1,12 @@
 -- What an image stands for.
-use Rattle.std.proofs.Common.{IsFalse, IsTrue, List, [], ap, arith, cond, false, inl, inr, length, refl, subst, sym, true, ℕ, ◌++◌, ◌+◌, ◌<◌, ◌^◌, ◌∙◌, ◌∷◌}
-use Rattle.std.proofs.Common.{◌≡◌, ◌≤◌}
-use Rattle.std.proofs.lemmas.Bool.Decides.{nat_tests}
-use Rattle.std.proofs.lemmas.Bool.{cases_Bool, cond-false, cond-true}
-use Rattle.std.proofs.lemmas.List.Elements.{All-append, All-head, All-nil, All-tail}
-use Rattle.std.specs.Prelude.{All, flat_map, slice_index}
-use Rattle.ss_journal.specs.Entries.{entries, is_good, open_prefix, puts_of}
-use Rattle.ss_journal.specs.Checks.{entry_in}
-use Rattle.ss_journal.specs.Format.{kind_of, is_born, is_unborn, slots_in}
-use Rattle.ss_journal.specs.Gates.{IsClosed, opens}
-use Rattle.ss_journal.specs.Puts.{extent_after, FillSlots, slots_fit}
-use Rattle.ss_journal.specs.Redo.{CameInPart, entries_in_use, Gives, Redone, SameMap, SlotMap, StandsFor, bad_entry, blank_map, changed, file_map, not_a_store}
-use Rattle.ss_journal.specs.Redo.{puts_in_use, redo, redo_entries, stands}
-use Rattle.ss_journal.specs.Writes.{AreSlots}
-use Rattle.ss_journal.specs.declared.put.Put.{Put}
+use Rattle.ss_journal.proofs.Common.{IsFalse, IsTrue, List, [], ap, arith, cond, false, inl, inr, length, refl, subst, sym, true, ℕ, ◌++◌, ◌+◌, ◌<◌, ◌^◌, ◌∙◌}
+use Rattle.ss_journal.proofs.Common.{◌∷◌, ◌≡◌, ◌≤◌, nat_tests, cases_Bool, cond-false, cond-true, All-head, All-nil, All-tail, All, flat_map, slice_index}
+use Rattle.ss_journal.proofs.Common.{entries, is_good, open_prefix, puts_of, entry_in, kind_of, is_born, is_unborn, slots_in, IsClosed, opens, extent_after}
+use Rattle.ss_journal.proofs.Common.{FillSlots, slots_fit, CameInPart, Gives, Redone, SameMap, SlotMap, StandsFor, bad_entry, blank_map, changed, file_map}
+use Rattle.ss_journal.proofs.Common.{not_a_store, puts_in_use, redo_entries, stands, AreSlots, Put}
+use Rattle.std.proofs.lemmas.List.Elements.{All-append}
+use Rattle.ss_journal.specs.Redo.{entries_in_use}
+use Rattle.ss_journal.specs.Redo.{redo}
 use Rattle.ss_journal.proofs.EntryLemmas.{FillSlots-puts_of, IsSoundEntry-good, is_good-again, is_good-some}
 use Rattle.ss_journal.proofs.HeaderLemmas.{has_magic-same, kind_of-same, is_born-from, is_born-parts, is_born-unborn, is_unborn-born}
 use Rattle.ss_journal.proofs.MapLemmas.{SameMap-sym, SameMap-trans, changed-append}

@@ -1,13 +1,8 @@
 -- How many puts wait, beside those that are staged.
-use Rattle.std.proofs.Common.{IsFalse, IsTrue, List, [], arith, false, inl, inr, length, nat_eq, refl, sym, ℕ, ◌+◌, ◌<◌, ◌^◌, ◌∙◌, ◌∷◌, ◌≡◌, ◌≤◌, ◌⊎◌}
-use Rattle.std.proofs.lemmas.Bool.Decides.{nat_tests}
-use Rattle.std.proofs.lemmas.Bool.{both_ways, cases_Bool, cases_eq, ne_eqb, or_from, or_parts}
-use Rattle.std.proofs.lemmas.List.Elements.{All-cons, All-head, All-nil, All-tail}
-use Rattle.ss_journal.specs.Newest.{newest_after, with_newest}
-use Rattle.ss_journal.specs.Puts.{is_put, slots_rise_from}
-use Rattle.ss_journal.specs.Writes.{AreSlots}
+use Rattle.ss_journal.proofs.Common.{IsFalse, IsTrue, List, [], arith, false, inl, inr, length, nat_eq, refl, sym, ℕ, ◌+◌, ◌<◌, ◌^◌, ◌∙◌, ◌∷◌, ◌≡◌, ◌≤◌, ◌⊎◌}
+use Rattle.ss_journal.proofs.Common.{nat_tests, both_ways, cases_Bool, cases_eq, ne_eqb, or_from, or_parts, All-cons, All-head, All-nil, All-tail}
+use Rattle.ss_journal.proofs.Common.{newest_after, with_newest, is_put, slots_rise_from, AreSlots, Put}
 use Rattle.ss_journal.proofs.NewestLemmas.{few-with_newest, rise-newest_after, with_newest-cases}
-use Rattle.ss_journal.specs.declared.put.Put.{Put}
 
 is_put-first : (put : Put) (puts : List Put) (slot : ℕ) → slot ≡ put.slot → IsTrue (is_put (put ∷ puts) slot)
 is_put-first put puts slot same = grind (arith, nat_tests, same)

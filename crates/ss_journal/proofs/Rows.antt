@@ -1,32 +1,21 @@
 -- Worked images, whole and in parts, and the numbers that are rules.
-use Rattle.std.proofs.Common.{◌≡◌, ℕ, ◌+◌, ◌*◌, ◌^◌, true, false, List, [], ◌∷◌, ◌++◌, drop, length, map, replicate, take, Ok, Err, refl}
-use Rattle.std.proofs.Common.{◌<◌, ap, arith}
-use Rattle.std.proofs.lemmas.Bool.{both_ways}
-use Rattle.std.proofs.lemmas.List.Elements.{All-cons, All-nil}
-use Rattle.std.proofs.lemmas.List.{append-nil}
-use Rattle.std.specs.Prelude.{slice_index}
+use Rattle.ss_journal.proofs.Common.{◌≡◌, ℕ, ◌+◌, ◌*◌, ◌^◌, true, false, List, [], ◌∷◌, ◌++◌, drop, length, map, replicate, take, Ok, Err, refl, ◌<◌, ap}
+use Rattle.ss_journal.proofs.Common.{arith, both_ways, All-cons, All-nil, append-nil, slice_index, fine, refused, failed, entries_after, slot_in_page}
+use Rattle.ss_journal.proofs.Common.{JournalError, Disk, NotAStore, BadEntry, OutOfMemory, Plain, Checked, Settled, has_no_kind, magic_bytes, is_plain, magic}
+use Rattle.ss_journal.proofs.Common.{slots_in, entry_count, group_bytes, open_entry, part, JournalState, closed_behind, gate_behind, shown, staged_bytes}
+use Rattle.ss_journal.proofs.Common.{with_entries, DoAs, newest_after, with_newest, slot_said, run_bytes, run_length, Put, open_prefix, SlotMap, Redone}
+use Rattle.ss_journal.proofs.Common.{stands, bad_entry, not_a_store, redo_entries, changed, zeros}
 use Rattle.ss_journal.proofs.NewestLemmas.{DoAs-added, DoAs-none}
 use Rattle.ss_fields.specs.Fields as Fields
-use Rattle.ss_outside.specs.Verdict.{fine, refused, no_memory, failed}
+use Rattle.ss_outside.specs.Verdict.{no_memory}
 use Rattle.ss_journal.specs.declared.format.TheConstants.{GATE_OPEN, MAGIC_END, ENTRIES, ENTRY_SIZE, FIRST_ENTRY, MOST_PUTS, PUT_SIZE, MOST_WAITING, SLOT_SIZE}
 use Rattle.ss_journal.specs.declared.format.TheConstants.{MOST_SLOTS, FIRST_SLOT, FILE_END, PAGE_SLOTS, PAGE_SIZE, MOST_PAGES}
-use Rattle.ss_journal.specs.Calls.{entries_after, slot_in_page, verdict_of_open}
-use Rattle.ss_journal.specs.declared.journal_error.JournalError.{JournalError}
-use Rattle.ss_journal.specs.declared.journal_error.JournalError.TheVariants.{Disk, NotAStore, BadEntry, OutOfMemory}
-use Rattle.ss_journal.specs.declared.kind.Kind.TheVariants.{Plain, Checked}
-use Rattle.ss_journal.specs.declared.phase.Phase.TheVariants.{Settled}
+use Rattle.ss_journal.specs.Calls.{verdict_of_open}
 use Rattle.ss_checksum.specs.Checksum as Checksum
-use Rattle.ss_journal.specs.Birth.{has_no_kind, magic_bytes}
-use Rattle.ss_journal.specs.Format.{is_plain, kind_of, magic, is_unborn, is_born, slots_in}
+use Rattle.ss_journal.specs.Format.{kind_of, is_unborn, is_born}
 use Rattle.ss_journal.specs.Checks.{slot_form, entry_form}
-use Rattle.ss_journal.specs.Groups.{entry_count, group_bytes, open_entry, part}
-use Rattle.ss_journal.specs.Kept.{JournalState, closed_behind, gate_behind, shown, staged_bytes, with_entries}
-use Rattle.ss_journal.specs.Newest.{DoAs, newest_after, with_newest}
-use Rattle.ss_journal.specs.Page.{slot_said}
-use Rattle.ss_journal.specs.Writes.{run_bytes, run_length}
-use Rattle.ss_journal.specs.declared.put.Put.{Put}
-use Rattle.ss_journal.specs.Entries.{puts_of, is_good, open_prefix, entries, entry_body}
-use Rattle.ss_journal.specs.Redo.{SlotMap, Redone, stands, bad_entry, not_a_store, redo_entries, redo, changed, zeros, entries_in_use}
+use Rattle.ss_journal.specs.Entries.{puts_of, is_good, entries, entry_body}
+use Rattle.ss_journal.specs.Redo.{redo, entries_in_use}
 
 -- a file that is empty, of any one byte, or that begins with 0 isn't formatted
 pub is_unborn-none : is_unborn [] ≡ true

@@ -1,17 +1,9 @@
 -- Runs of puts for neighbouring slots: their writes, one after another, are one write.
-use Rattle.std.proofs.Common.{List, [], ap, arith, drop, get_or, inl, inr, length, refl, subst, suc, sym, take, zero, ℕ, ⊎_elim, IsTrue}
-use Rattle.std.proofs.Common.{◌++◌, ◌+◌, ◌*◌, ◌-◌, ◌<◌, ◌^◌, ◌∙◌, ◌∷◌, ◌≡◌, ◌≤◌}
-use Rattle.std.proofs.lemmas.Bool.{cases_eq, cases_lt, cond-false, cond-true, eq-eqb, ne_eqb}
-use Rattle.std.proofs.lemmas.List.Elements.{All-head, All-tail}
-use Rattle.std.proofs.lemmas.List.{append-nil, append_assoc, length-append}
-use Rattle.ss_outside.proofs.DiskLemmas.{length-overwrite}
-use Rattle.ss_outside.specs.Disk.{IsOutside, IsOutsideAll, overwrite}
-use Rattle.ss_journal.specs.Checks.{slot_form}
-use Rattle.ss_journal.specs.declared.kind.Kind.{Kind}
-use Rattle.ss_journal.specs.Format.{slot_place, slots_in}
-use Rattle.ss_journal.specs.Puts.{FillSlots, slots_fit}
-use Rattle.ss_journal.specs.Writes.{AreSlots, HasSlotsFor, length_with, run_bytes, run_length, slot_ranges, slots_written}
-use Rattle.ss_journal.specs.declared.put.Put.{Put}
+use Rattle.ss_journal.proofs.Common.{List, [], ap, arith, drop, get_or, inl, inr, length, refl, subst, suc, sym, take, zero, ℕ, ⊎_elim, IsTrue, ◌++◌, ◌+◌}
+use Rattle.ss_journal.proofs.Common.{◌*◌, ◌-◌, ◌<◌, ◌^◌, ◌∙◌, ◌∷◌, ◌≡◌, ◌≤◌, cases_eq, cases_lt, cond-false, cond-true, eq-eqb, ne_eqb, All-head, All-tail}
+use Rattle.ss_journal.proofs.Common.{append-nil, append_assoc, length-append, length-overwrite, IsOutside, IsOutsideAll, overwrite, slot_form, Kind}
+use Rattle.ss_journal.proofs.Common.{slot_place, slots_in, FillSlots, slots_fit, AreSlots, HasSlotsFor, length_with, run_bytes, run_length, slot_ranges}
+use Rattle.ss_journal.proofs.Common.{slots_written, Put}
 use Rattle.ss_journal.proofs.CheckLemmas.{length-slot_form}
 use Rattle.ss_journal.proofs.PutLemmas.{slots_fit-cases}
 use Rattle.ss_journal.proofs.RangeLemmas.{Covers, overwrite-none, overwrite-overwrite}

@@ -1,25 +1,11 @@
 -- The steps of a journal: what is staged is sealed, room is made, and a transaction is committed.
-use Rattle.std.proofs.Common.{ap, arith, ◌*◌, ◌+◌, ◌≤◌, Err, List, Ok, Result, [], ◌∙◌, inl, inr, length, subst, sym, ℕ, ⊎_elim, ◌<◌, ◌≡◌, ◌⊎◌}
-use Rattle.std.proofs.lemmas.Result.{on_ok_weaker}
-use Rattle.std.specs.Prelude.{IsErr, OnOk, slice_index}
-use Rattle.ss_outside.proofs.CrashLemmas.{joined, weaker}
-use Rattle.ss_outside.specs.Disk.{Told, overwrite}
-use Rattle.ss_outside.specs.declared.source.Failed.{Failed}
-use Rattle.ss_journal.specs.Calls.{Commits, KeepsMap, KeepsShown, MakesRoom, Seals, Stages}
-use Rattle.ss_journal.specs.Gates.{entry_place}
-use Rattle.ss_journal.specs.Format.{slots_in}
-use Rattle.ss_journal.specs.Groups.{entry_count, group_bytes}
-use Rattle.ss_journal.specs.Kept.{IsBounded, IsInPhase, IsKept, IsSealed, IsShown, JournalState, closed_behind, shown, staged_bytes}
-use Rattle.ss_journal.specs.Puts.{FillSlots}
-use Rattle.ss_journal.specs.declared.kind.Kind.{Kind}
+use Rattle.ss_journal.proofs.Common.{ap, arith, ◌*◌, ◌+◌, ◌≤◌, Err, List, Ok, Result, [], ◌∙◌, inl, inr, length, subst, sym, ℕ, ⊎_elim, ◌<◌, ◌≡◌, ◌⊎◌}
+use Rattle.ss_journal.proofs.Common.{on_ok_weaker, IsErr, OnOk, slice_index, joined, weaker, Told, overwrite, Failed, Commits, KeepsMap, KeepsShown}
+use Rattle.ss_journal.proofs.Common.{MakesRoom, Seals, Stages, entry_place, slots_in, entry_count, group_bytes, IsBounded, IsInPhase, IsKept, IsSealed}
+use Rattle.ss_journal.proofs.Common.{IsShown, JournalState, closed_behind, shown, staged_bytes, FillSlots, Kind, DoAs, SlotMap, StandsFor, changed}
+use Rattle.ss_journal.proofs.Common.{puts_in_use, Enters, Reaches, StaysShut, Settled, Phase, Put}
 use Rattle.ss_journal.proofs.GroupLemmas.{opens-closed_behind}
 use Rattle.ss_journal.proofs.NewestLemmas.{entry_count-some}
-use Rattle.ss_journal.specs.Newest.{DoAs}
-use Rattle.ss_journal.specs.Redo.{SlotMap, StandsFor, changed, puts_in_use}
-use Rattle.ss_journal.specs.Steps.{Enters, Reaches, StaysShut}
-use Rattle.ss_journal.specs.declared.phase.Phase.TheVariants.{Settled}
-use Rattle.ss_journal.specs.declared.phase.Phase.{Phase}
-use Rattle.ss_journal.specs.declared.put.Put.{Put}
 use Rattle.ss_journal.proofs.KeptLemmas.{settled-kept}
 use Rattle.ss_journal.proofs.ShownLemmas.{IfStaged-from, IfStaged-some, IsKept-sealed, IsShown-sealed, closed_behind-fits, length-group_bytes, shown-sealed, with_entries-some}
 use Rattle.ss_journal.proofs.TearLemmas.{on_err}

@@ -1,17 +1,7 @@
 -- The steps of a settling: puts come into their slots, and the first gate closes.
-use Rattle.std.proofs.Common.{List, Ok, Result, [], ap, arith, length, refl, subst, sym, ℕ, ◌∙◌, ◌<◌, ◌∷◌, ◌≡◌, ◌≤◌}
-use Rattle.std.specs.Prelude.{IsErr}
-use Rattle.ss_outside.specs.Crash.{KnowsNow}
-use Rattle.ss_outside.specs.Disk.{Told, overwrite}
-use Rattle.ss_outside.specs.Step.{Syncs}
-use Rattle.ss_outside.specs.declared.source.Failed.{Failed}
-use Rattle.ss_journal.specs.declared.kind.Kind.{Kind}
-use Rattle.ss_journal.specs.Format.{kind_of}
-use Rattle.ss_journal.specs.Redo.{HasEntries, StandsFor}
-use Rattle.std.proofs.lemmas.Result.{on_ok_weaker}
-use Rattle.ss_journal.specs.Steps.{Clears, Durably, Reaches, StaysShut, Writes, WritesSlots}
-use Rattle.ss_journal.specs.Writes.{DiffersAt, slots_written}
-use Rattle.ss_journal.specs.declared.put.Put.{Put}
+use Rattle.ss_journal.proofs.Common.{List, Ok, Result, [], ap, arith, length, refl, subst, sym, ℕ, ◌∙◌, ◌<◌, ◌∷◌, ◌≡◌, ◌≤◌, IsErr, KnowsNow, Told, overwrite}
+use Rattle.ss_journal.proofs.Common.{Syncs, Failed, Kind, kind_of, HasEntries, StandsFor, on_ok_weaker, Clears, Durably, Reaches, StaysShut, Writes}
+use Rattle.ss_journal.proofs.Common.{WritesSlots, DiffersAt, slots_written, Put}
 use Rattle.ss_journal.proofs.InUseLemmas.{StandsFor-applied, StandsFor-slots_torn, closed-written, differs-written, long-slots_written}
 use Rattle.ss_journal.proofs.RangeLemmas.{DiffersIn-overwrite}
 use Rattle.ss_journal.proofs.StepLemmas.{reaches-joined, reaches-rewritten, reaches-torn}

@@ -1,22 +1,13 @@
 -- What a journal shows: the content with the entries that are staged.
-use Rattle.std.proofs.Common.{IsTrue, List, [], ap, arith, drop, inl, inr, length, nat_lt, refl, subst, sym, ℕ, ◌++◌, ◌+◌, ◌*◌, ◌<◌}
-use Rattle.std.proofs.Common.{◌∙◌, ◌∷◌, ◌≡◌, ◌≤◌, ◌⊎◌}
-use Rattle.std.proofs.lemmas.Bool.{cases_Bool, cases_lt, cond-false, cond-true, le-ltb, lt-ltb}
-use Rattle.std.proofs.lemmas.List.{append-nil, append_assoc, length-append, length-take}
-use Rattle.std.specs.Prelude.{slice_index, zero, suc}
-use Rattle.ss_outside.proofs.DiskLemmas.{get_or-overwrite_outside, length-overwrite}
-use Rattle.ss_outside.specs.Disk.{overwrite}
-use Rattle.ss_journal.specs.Format.{is_born, kind_of, slot_at, slot_place, slots_in}
-use Rattle.ss_journal.specs.Gates.{entry_place}
-use Rattle.ss_journal.specs.Entries.{entry_body}
-use Rattle.ss_journal.specs.Groups.{entry_count, group_bytes, open_entry, part}
-use Rattle.ss_journal.specs.Puts.{FillSlots}
+use Rattle.ss_journal.proofs.Common.{IsTrue, List, [], ap, arith, drop, inl, inr, length, nat_lt, refl, subst, sym, ℕ, ◌++◌, ◌+◌, ◌*◌, ◌<◌, ◌∙◌, ◌∷◌, ◌≡◌}
+use Rattle.ss_journal.proofs.Common.{◌≤◌, ◌⊎◌, cases_Bool, cases_lt, cond-false, cond-true, le-ltb, lt-ltb, append-nil, append_assoc, length-append}
+use Rattle.ss_journal.proofs.Common.{length-take, slice_index, get_or-overwrite_outside, length-overwrite, overwrite, is_born, kind_of, slot_at, slot_place}
+use Rattle.ss_journal.proofs.Common.{slots_in, entry_place, entry_body, entry_count, group_bytes, open_entry, part, FillSlots, All-drop, All-take, HasRoomFor}
+use Rattle.ss_journal.proofs.Common.{IfStaged, IsBounded, IsKept, IsSealed, IsShown, JournalState, closed_behind, gate_behind, shown, staged_bytes}
+use Rattle.ss_journal.proofs.Common.{with_entries, Kind, Put}
+use Rattle.std.specs.Prelude.{zero, suc}
 use Rattle.ss_journal.proofs.CheckLemmas.{length-entry_form}
 use Rattle.ss_journal.proofs.EntryLemmas.{length-entry_body}
-use Rattle.std.proofs.lemmas.List.Elements.{All-drop, All-take}
-use Rattle.ss_journal.specs.Kept.{HasRoomFor, IfStaged, IsBounded, IsKept, IsSealed, IsShown, JournalState, closed_behind, gate_behind, shown, staged_bytes, with_entries}
-use Rattle.ss_journal.specs.declared.kind.Kind.{Kind}
-use Rattle.ss_journal.specs.declared.put.Put.{Put}
 use Rattle.ss_journal.proofs.HeaderLemmas.{is_born-parts, kind_of-same, piece-same}
 use Rattle.ss_journal.proofs.MapLemmas.{slot_within}
 use Rattle.ss_journal.proofs.RangeLemmas.{overwrite-end}

@@ -1,18 +1,10 @@
 -- Puts that are written into their slots, and slots that a crash tears.
-use Rattle.std.proofs.Common.{IsFalse, IsTrue, List, [], ap, arith, drop, inl, inr, length, max, nat_eq, subst, sym, take, ℕ, ◌++◌, ◌+◌, ◌<◌}
-use Rattle.std.proofs.Common.{◌^◌, ◌∙◌, ◌∷◌, ◌≡◌, ◌≤◌}
-use Rattle.std.proofs.lemmas.Bool.{cases_eq, cases_lt, cases_order, cond-false, cond-true, eq-eqb, eqb-false, le-ltb, lt-ltb, ne_eqb, or_parts}
-use Rattle.std.proofs.lemmas.List.Elements.{All-head, All-tail}
-use Rattle.std.proofs.lemmas.List.{append_assoc, drop_at, length-take-le, take_at}
-use Rattle.ss_outside.proofs.DiskLemmas.{get_or-overwrite_outside, length-overwrite}
-use Rattle.ss_outside.specs.Disk.{IsOutsideAll, overwrite}
-use Rattle.ss_journal.specs.Checks.{slot_form, slot_in}
-use Rattle.ss_journal.specs.declared.kind.Kind.{Kind}
-use Rattle.ss_journal.specs.Format.{kind_of, slot_at, slot_place, slots_in}
-use Rattle.ss_journal.specs.Puts.{AgreeBeside, FillSlots, extent_after, is_put, slots_fit}
-use Rattle.ss_journal.specs.Redo.{SameMap, changed, file_map}
-use Rattle.ss_journal.specs.Writes.{AreSlots, DiffersAt, DiffersIn, length_with, slot_ranges, slots_written}
-use Rattle.ss_journal.specs.declared.put.Put.{Put}
+use Rattle.ss_journal.proofs.Common.{IsFalse, IsTrue, List, [], ap, arith, drop, inl, inr, length, max, nat_eq, subst, sym, take, ℕ, ◌++◌, ◌+◌, ◌<◌, ◌^◌, ◌∙◌}
+use Rattle.ss_journal.proofs.Common.{◌∷◌, ◌≡◌, ◌≤◌, cases_eq, cases_lt, cases_order, cond-false, cond-true, eq-eqb, eqb-false, le-ltb, lt-ltb, ne_eqb}
+use Rattle.ss_journal.proofs.Common.{or_parts, All-head, All-tail, append_assoc, drop_at, length-take-le, take_at, get_or-overwrite_outside, length-overwrite}
+use Rattle.ss_journal.proofs.Common.{IsOutsideAll, overwrite, slot_form, slot_in, Kind, kind_of, slot_at, slot_place, slots_in, AgreeBeside, FillSlots}
+use Rattle.ss_journal.proofs.Common.{extent_after, is_put, slots_fit, SameMap, changed, file_map, AreSlots, DiffersAt, DiffersIn, length_with, slot_ranges}
+use Rattle.ss_journal.proofs.Common.{slots_written, Put}
 use Rattle.ss_journal.proofs.CheckLemmas.{length-slot_form, slot_form-twice}
 use Rattle.ss_journal.proofs.HeaderLemmas.{kind_of-same, piece-same}
 use Rattle.ss_journal.proofs.MapLemmas.{SameMap-refl, SameMap-trans, changed-same, slot_in-same, slot_within}

@@ -1,21 +1,10 @@
 -- A transaction is staged: what the journal shows has its puts.
-use Rattle.std.proofs.Common.{IsTrue, List, [], ap, arith, length, refl, subst, sym, ℕ, ◌++◌, ◌+◌, ◌<◌, ◌∙◌, ◌∷◌, ◌≡◌, ◌≤◌}
-use Rattle.std.proofs.lemmas.List.Elements.{All-weaker}
-use Rattle.std.specs.Prelude.{All}
-use Rattle.ss_journal.specs.Calls.{HasStaged, Stages}
+use Rattle.ss_journal.proofs.Common.{IsTrue, List, [], ap, arith, length, refl, subst, sym, ℕ, ◌++◌, ◌+◌, ◌<◌, ◌∙◌, ◌∷◌, ◌≡◌, ◌≤◌, All-weaker, All, HasStaged}
+use Rattle.ss_journal.proofs.Common.{Stages, Kind, kind_of, slots_in, EndsAt, entry_count, group_bytes, EndsBefore, HasRoomFor, IfStaged, IsBounded}
+use Rattle.ss_journal.proofs.Common.{IsInPhase, IsKept, IsSealed, IsSettled, IsShown, JournalState, shown, staged_bytes, with_entries, DoAs, newest_after}
+use Rattle.ss_journal.proofs.Common.{FillSlots, IsTxn, extent_after, slots_fit, slots_rise_from, SameMap, SlotMap, StandsFor, changed, puts_in_use, AreSlots}
+use Rattle.ss_journal.proofs.Common.{Settled, Phase, Put}
 use Rattle.ss_journal.proofs.NextEntry.{AddsGroup, IsReadyFor}
-use Rattle.ss_journal.specs.declared.kind.Kind.{Kind}
-use Rattle.ss_journal.specs.Format.{kind_of, slots_in}
-use Rattle.ss_journal.specs.Gates.{EndsAt}
-use Rattle.ss_journal.specs.Groups.{entry_count, group_bytes}
-use Rattle.ss_journal.specs.Kept.{EndsBefore, HasRoomFor, IfStaged, IsBounded, IsInPhase, IsKept, IsSealed, IsSettled, IsShown, JournalState, shown, staged_bytes, with_entries}
-use Rattle.ss_journal.specs.Newest.{DoAs, newest_after}
-use Rattle.ss_journal.specs.Puts.{FillSlots, IsTxn, extent_after, slots_fit, slots_rise_from}
-use Rattle.ss_journal.specs.Redo.{SameMap, SlotMap, StandsFor, changed, puts_in_use}
-use Rattle.ss_journal.specs.Writes.{AreSlots}
-use Rattle.ss_journal.specs.declared.phase.Phase.TheVariants.{Settled}
-use Rattle.ss_journal.specs.declared.phase.Phase.{Phase}
-use Rattle.ss_journal.specs.declared.put.Put.{Put}
 use Rattle.ss_journal.proofs.CommitLemmas.{EndsBefore-ready}
 use Rattle.ss_journal.proofs.GroupLemmas.{AddsGroup-written, StandsFor-written}
 use Rattle.ss_journal.proofs.HeaderLemmas.{is_born-parts}

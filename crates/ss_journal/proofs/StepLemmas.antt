@@ -1,16 +1,9 @@
 -- The steps of a call, one after another: what they leave of the disk, and of the map.
-use Rattle.std.proofs.Common.{Err, IsTrue, List, Ok, Result, [], ap, length, sym, subst, ℕ, ◌∙◌, ◌∷◌}
-use Rattle.std.proofs.lemmas.Result.{on_ok_weaker}
-use Rattle.std.specs.Prelude.{IsErr, OnOk}
-use Rattle.ss_outside.proofs.CrashLemmas.{reads-joined}
-use Rattle.ss_outside.specs.Crash.{KnowsNow, OnlyReads}
-use Rattle.ss_outside.specs.Disk.{DiskView, NothingPending, Told, overwrite}
-use Rattle.ss_outside.specs.Step.{Step, Syncs}
-use Rattle.ss_outside.specs.Verdict.{Counted, Verdict, failed, fine, refused, verdict}
-use Rattle.ss_outside.specs.declared.source.Failed.{Failed}
-use Rattle.ss_journal.specs.Redo.{SlotMap, StandsFor}
-use Rattle.ss_journal.specs.Steps.{Durably, Finds, Reaches, Rewrites, Writes}
-use Rattle.ss_journal.specs.Writes.{DiffersIn}
+use Rattle.ss_journal.proofs.Common.{Err, IsTrue, List, Ok, Result, [], ap, length, sym, subst, ℕ, ◌∙◌, ◌∷◌, on_ok_weaker, IsErr, OnOk, reads-joined}
+use Rattle.ss_journal.proofs.Common.{KnowsNow, OnlyReads, NothingPending, Told, overwrite, Step, Syncs, failed, fine, refused, Failed, SlotMap, StandsFor}
+use Rattle.ss_journal.proofs.Common.{Durably, Finds, Reaches, Rewrites, Writes, DiffersIn}
+use Rattle.ss_outside.specs.Disk.{DiskView}
+use Rattle.ss_outside.specs.Verdict.{Counted, Verdict, verdict}
 use Rattle.ss_journal.proofs.TearLemmas.{keeps-err, keeps-failed, keeps-joined, keeps-read, keeps-torn, on_err, on_ok, tears-after_read, tears-synced}
 
 module _ {old new : DiskView} {R S : Told → Told → Type 0} where

@@ -1,13 +1,10 @@
 -- What a crash may leave of some calls in a row: of writes, and of the map.
-use Rattle.std.proofs.Common.{Err, List, Ok, Result, [], inl, inr, subst, sym, ℕ, ◌++◌, ◌∷◌, ◌≡◌, ◌⊎◌}
-use Rattle.std.proofs.lemmas.Result.{on_ok_weaker}
-use Rattle.std.specs.Prelude.{IsErr, OnOk}
-use Rattle.ss_outside.proofs.CrashLemmas.{after_write, at_start, goes_on, joined, nothing_pending-same, now, of_content, read_leaves, weaker}
-use Rattle.ss_outside.specs.Crash.{Elapses, KnowsNow, LeavesOnly, OnlyReads}
-use Rattle.ss_outside.specs.Disk.{BecomesPending, NothingPending, StaysSame, Told}
-use Rattle.ss_journal.specs.Calls.{KeepsMap, MakesDurable}
-use Rattle.ss_journal.specs.Redo.{SlotMap, StandsFor}
-use Rattle.ss_journal.specs.Writes.{DiffersIn, IsTorn, Tears}
+use Rattle.ss_journal.proofs.Common.{Err, List, Ok, Result, [], inl, inr, subst, sym, ℕ, ◌++◌, ◌∷◌, ◌≡◌, ◌⊎◌, on_ok_weaker, IsErr, OnOk, joined, weaker}
+use Rattle.ss_journal.proofs.Common.{KnowsNow, LeavesOnly, OnlyReads, NothingPending, Told, KeepsMap, MakesDurable, SlotMap, StandsFor, DiffersIn, Tears}
+use Rattle.ss_outside.proofs.CrashLemmas.{after_write, at_start, goes_on, nothing_pending-same, now, of_content, read_leaves}
+use Rattle.ss_outside.specs.Crash.{Elapses}
+use Rattle.ss_outside.specs.Disk.{BecomesPending, StaysSame}
+use Rattle.ss_journal.specs.Writes.{IsTorn}
 use Rattle.ss_journal.proofs.RangeLemmas.{Covers, DiffersAt-torn, DiffersIn-append, DiffersIn-covered, DiffersIn-refl}
 
 IsTorn-none : (ranges : List (ℕ × ℕ)) (disk : Told) (image : List ℕ) → disk.may_leave image → IsTorn ranges disk image

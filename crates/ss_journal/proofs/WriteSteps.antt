@@ -1,20 +1,9 @@
 -- Puts are written into their slots run by run, and zeros piece by piece.
-use Rattle.std.proofs.Common.{List, Ok, Result, [], ap, arith, drop, length, refl, replicate, sym, subst, take, ℕ, ◌++◌, ◌+◌, ◌*◌, ◌-◌, ◌<◌, ◌^◌, ◌∙◌, ◌∷◌}
-use Rattle.std.proofs.Common.{◌≡◌, ◌≤◌}
-use Rattle.std.proofs.lemmas.List.Elements.{All-drop, All-take}
-use Rattle.std.proofs.lemmas.List.{drop-drop, drop_all, length-replicate, length-take-le, take-append-drop, take-replicate}
-use Rattle.std.proofs.lemmas.Result.{on_ok_weaker}
-use Rattle.std.specs.Prelude.{All, IsErr}
-use Rattle.ss_outside.specs.Crash.{KnowsNow}
-use Rattle.ss_outside.specs.Disk.{Told, overwrite}
-use Rattle.ss_outside.specs.Step.{Syncs}
-use Rattle.ss_outside.specs.declared.source.Failed.{Failed}
-use Rattle.ss_journal.specs.declared.kind.Kind.{Kind}
-use Rattle.ss_journal.specs.Format.{slot_place}
-use Rattle.ss_journal.specs.Puts.{FillSlots}
-use Rattle.ss_journal.specs.Steps.{Durably, Rewrites, Writes, WritesSlots, WritesZeros}
-use Rattle.ss_journal.specs.Writes.{AreSlots, HasSlotsFor, Tears, run_bytes, run_length, slot_ranges, slots_written}
-use Rattle.ss_journal.specs.declared.put.Put.{Put}
+use Rattle.ss_journal.proofs.Common.{List, Ok, Result, [], ap, arith, drop, length, refl, replicate, sym, subst, take, ℕ, ◌++◌, ◌+◌, ◌*◌, ◌-◌, ◌<◌, ◌^◌, ◌∙◌}
+use Rattle.ss_journal.proofs.Common.{◌∷◌, ◌≡◌, ◌≤◌, All-drop, All-take, drop-drop, drop_all, length-replicate, length-take-le, take-append-drop}
+use Rattle.ss_journal.proofs.Common.{take-replicate, on_ok_weaker, All, IsErr, KnowsNow, Told, overwrite, Syncs, Failed, Kind, slot_place, FillSlots, Durably}
+use Rattle.ss_journal.proofs.Common.{Rewrites, Writes, WritesSlots, WritesZeros, AreSlots, HasSlotsFor, Tears, run_bytes, run_length, slot_ranges}
+use Rattle.ss_journal.proofs.Common.{slots_written, Put}
 use Rattle.ss_journal.proofs.RangeLemmas.{Covers-part, overwrite-none, overwrite-zeros}
 use Rattle.ss_journal.proofs.RunLemmas.{Covers-run, HasSlotsFor-append, length-run_bytes, run_length-le, slots_written-append, slots_written-run, within-run}
 use Rattle.ss_journal.proofs.StepLemmas.{rewrites-synced}

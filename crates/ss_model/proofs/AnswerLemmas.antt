@@ -1,31 +1,15 @@
 -- What the answers of states hold.
-use Rattle.std.proofs.Common.{◌≡◌, ℕ, Bool, true, false, List, [], map, refl, ap, sym, ◌∙◌, subst, Some, None, inl, inr, IsSome, arith}
-use Rattle.std.specs.Prelude.{Option, option_map, is_some}
-use Rattle.std.specs.List.{filter}
-use Rattle.std.proofs.lemmas.Bool.{cases_Bool}
-use Rattle.std.proofs.lemmas.Int.{ints}
-use Rattle.ss_catalog.specs.Queries.{is_guess}
-use Rattle.ss_catalog.specs.declared.query.Kind.{Kind}
+use Rattle.ss_model.proofs.Common.{◌≡◌, ℕ, Bool, true, false, List, [], map, refl, ap, sym, ◌∙◌, subst, Some, None, inl, inr, IsSome, arith, Option}
+use Rattle.ss_model.proofs.Common.{option_map, is_some, filter, cases_Bool, ints, is_guess, Kind, Query, AreAllSplit, is_free, Point, HasEnds, HoldsTruth}
+use Rattle.ss_model.proofs.Common.{IsExactOutcome, IsOfKind, answer_of, split_by, landmarks_of, marked_of, values_of, Happened, is_split, split_figures}
+use Rattle.ss_model.proofs.Common.{split_windows, marked_values, SameOutlines, IsHistory, stands, IsStream, Created, Stream, standing, stream_after}
+use Rattle.ss_model.proofs.Common.{stream_named, RiseAtFree, rule_of, windows, Outcome, Window}
 use Rattle.ss_catalog.specs.declared.query.Kind.TheVariants as kinds
-use Rattle.ss_catalog.specs.declared.query.Query.{Query}
-use Rattle.ss_bounds.specs.Guess.{AreAllSplit}
 use Rattle.ss_bounds.proofs.GuessLemmas.{count_guess-within, sum_guess-within}
-use Rattle.ss_landmarks.specs.Free.{is_free}
-use Rattle.ss_summary.specs.Points.{Point}
-use Rattle.ss_model.specs.Answers.{HasEnds, HoldsTruth, IsExactOutcome, IsOfKind, answer_of, answer_of_kind, interval_query, outcome_of}
-use Rattle.ss_model.specs.Answers.{refuses_query, split_by, unguessed}
-use Rattle.ss_model.specs.History.{landmarks_of, marked_of, values_of, Happened}
-use Rattle.ss_model.specs.Interval.{is_split, known_count, known_sum, split_figures, split_windows}
-use Rattle.ss_model.specs.Marks.{marked_values}
-use Rattle.ss_model.specs.Outline.{SameOutlines}
-use Rattle.ss_model.specs.Refusals.{IsHistory, stands}
-use Rattle.ss_model.specs.Standing.{IsStream}
-use Rattle.ss_model.specs.State.{Created, Stream, state, standing, stream_after, stream_named}
-use Rattle.ss_model.specs.Truth.{RiseAtFree}
-use Rattle.ss_target.specs.Rule.{rule_of}
-use Rattle.ss_model.specs.Windows.{windows}
-use Rattle.ss_model.specs.declared.outcome.Outcome.{Outcome}
-use Rattle.ss_model.specs.declared.types.Window.{Window}
+use Rattle.ss_model.specs.Answers.{answer_of_kind, interval_query, outcome_of}
+use Rattle.ss_model.specs.Answers.{refuses_query, unguessed}
+use Rattle.ss_model.specs.Interval.{known_count, known_sum}
+use Rattle.ss_model.specs.State.{state}
 use Rattle.ss_model.proofs.HistoryLemmas.{IsState-state}
 use Rattle.ss_model.proofs.IntervalLemmas.{AreExactlyOf, AreOf-exactly, count-lies, sum-lies, least-HoldsExtreme, greatest-HoldsExtreme}
 use Rattle.ss_model.proofs.IntervalLemmas.{count-exact, sum-exact, least-exact, greatest-exact}

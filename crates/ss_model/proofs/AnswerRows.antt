@@ -1,30 +1,18 @@
 -- Worked rows of what states answer to queries, each computed from a history.
-use Rattle.std.specs.Prelude.{◌≡◌, ℕ, ℤ, pos, negsuc, true, List, [], ◌∷◌, map, Option, Some, None, codes}
-use Rattle.std.proofs.Common.{arith, refl}
-use Rattle.std.proofs.lemmas.Int.{ints}
+use Rattle.ss_model.proofs.Common.{ℤ, Option, codes, arith, refl, ints, Create, Value, Open, Close, Drop, Params, exp, power, is_guess, Kind, Query, Refusal}
+use Rattle.ss_model.proofs.Common.{Unknown, Range, Sure, SplitFigures, is_free, New, Happened, added, HasEnds, HoldsTruth, IsExactOutcome, IsOfKind, IsExact}
+use Rattle.ss_model.proofs.Common.{split_windows, Stream, Outcome, Sum}
+use Rattle.std.specs.Prelude.{◌≡◌, ℕ, pos, negsuc, true, List, [], ◌∷◌, map, Some, None}
 use Rattle.ss_windowing.specs.Windowing.{window_index}
 use Rattle.ss_power.specs.Power.{power_length}
-use Rattle.ss_catalog.specs.declared.event.Event.TheVariants.{Create, Value, Open, Close, Drop}
-use Rattle.ss_catalog.specs.declared.params.Params.{Params}
-use Rattle.ss_catalog.specs.Params.{exp, power}
-use Rattle.ss_catalog.specs.Queries.{is_guess}
-use Rattle.ss_catalog.specs.declared.query.Kind.{Kind}
 use Rattle.ss_catalog.specs.declared.query.Kind.TheVariants as kinds
-use Rattle.ss_catalog.specs.declared.query.Query.{Query}
-use Rattle.ss_catalog.specs.declared.refusal.Refusal.{Refusal}
 use Rattle.ss_catalog.specs.declared.refusal.Refusal.TheVariants as refusal
-use Rattle.ss_catalog.specs.declared.refusal.Refusal.TheVariants.{Unknown, Range}
-use Rattle.ss_bounds.specs.declared.extreme.Extreme.TheVariants.{Nothing, Sure, Maybe}
-use Rattle.ss_bounds.specs.Split.{SplitFigures, sum_interval}
-use Rattle.ss_landmarks.specs.Free.{is_free}
-use Rattle.ss_summary.specs.Points.{New}
-use Rattle.ss_model.specs.History.{Happened, added}
-use Rattle.ss_model.specs.Answers.{HasEnds, HoldsTruth, IsExactOutcome, IsOfKind, outcome_of, query_refusals, refuses_query}
-use Rattle.ss_model.specs.Interval.{IsExact, split_windows}
+use Rattle.ss_bounds.specs.declared.extreme.Extreme.TheVariants.{Nothing, Maybe}
+use Rattle.ss_bounds.specs.Split.{sum_interval}
+use Rattle.ss_model.specs.Answers.{outcome_of, query_refusals, refuses_query}
 use Rattle.ss_model.specs.Refusals.{refusals}
-use Rattle.ss_model.specs.State.{Stream, state}
-use Rattle.ss_model.specs.declared.outcome.Outcome.{Outcome}
-use Rattle.ss_model.specs.declared.outcome.Outcome.TheVariants.{Count, Sum, Min, Max, Estimate}
+use Rattle.ss_model.specs.State.{state}
+use Rattle.ss_model.specs.declared.outcome.Outcome.TheVariants.{Count, Min, Max, Estimate}
 
 a : List ℕ
 a = codes "a"

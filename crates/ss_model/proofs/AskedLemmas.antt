@@ -1,23 +1,11 @@
 -- The values of one window that a query asks for: all of them, none, or some.
-use Rattle.std.specs.Prelude.{◌≡◌, ℕ, ◌+◌, ◌<◌, ◌≤◌, Bool, true, false, ℤ, ◌+ℤ◌, ◌≤ℤ◌, List, [], ◌∷◌, ◌++◌}
-use Rattle.std.specs.Int.{int_min, int_max}
-use Rattle.std.specs.List.{filter}
-use Rattle.std.proofs.Common.{ap, arith, inl, inr, refl, ◌∙◌}
-use Rattle.std.proofs.lemmas.Bool.{cases_lt}
-use Rattle.std.proofs.lemmas.Bool.Decides.{nat_tests}
-use Rattle.std.proofs.lemmas.Int.{ints, clamps}
-use Rattle.std.proofs.lemmas.List.Elements.{filter-append}
-use Rattle.std.proofs.lemmas.List.{map-append}
-use Rattle.ss_summary.specs.Figures.{AreAlike, Figures}
-use Rattle.ss_summary.specs.Summaries.{summary_of, least, greatest, time_at_end}
+use Rattle.ss_model.proofs.Common.{ℤ, ◌+ℤ◌, ◌≤ℤ◌, int_min, int_max, filter, ap, arith, inl, inr, refl, ◌∙◌, cases_lt, nat_tests, ints, clamps, filter-append}
+use Rattle.ss_model.proofs.Common.{map-append, AreAlike, Figures, summary_of, least, greatest, time_at_end, chosen, lies_in, asked, values_alone, total}
+use Rattle.ss_model.proofs.Common.{AreSplit, Point, is_whole, is_split, split_figures, RiseAtFree, Window}
+use Rattle.std.specs.Prelude.{◌≡◌, ℕ, ◌+◌, ◌<◌, ◌≤◌, Bool, true, false, List, [], ◌∷◌, ◌++◌}
 use Rattle.ss_summary.specs.Summaries as summaries
-use Rattle.ss_bounds.specs.Extremes.{chosen}
-use Rattle.ss_bounds.specs.Times.{lies_in, split_of}
-use Rattle.ss_bounds.specs.Truth.{asked, values_alone, total, RiseFree, AreSplit}
-use Rattle.ss_summary.specs.Points.{Point}
-use Rattle.ss_model.specs.Interval.{is_whole, is_split, split_figures}
-use Rattle.ss_model.specs.Truth.{RiseAtFree}
-use Rattle.ss_model.specs.declared.types.Window.{Window}
+use Rattle.ss_bounds.specs.Times.{split_of}
+use Rattle.ss_bounds.specs.Truth.{RiseFree}
 
 -- what a summary says of values is what they say one by one
 pub total-alone : (ps : List Point) → summaries.total ps ≡ total (values_alone ps)

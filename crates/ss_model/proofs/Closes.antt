@@ -1,10 +1,6 @@
 -- What closing leaves as it was.
-use Rattle.std.proofs.Common.{◌≡◌, ℕ, ◌<◌, List, [], ◌∷◌, ◌++◌, length, Some, refl, arith, ◌∙◌}
-use Rattle.std.proofs.lemmas.Bool.{cond_both}
-use Rattle.ss_model.specs.Windows.{taken, newest_time}
-use Rattle.ss_model.specs.Closed.{joined_window, may_join, closed_onto, closed}
-use Rattle.ss_target.specs.Rule.{Rule}
-use Rattle.ss_model.specs.declared.types.Window.{Window}
+use Rattle.ss_model.proofs.Common.{◌≡◌, ℕ, ◌<◌, List, [], ◌∷◌, ◌++◌, length, Some, refl, arith, ◌∙◌, cond_both, taken, newest_time, joined_window, may_join}
+use Rattle.ss_model.proofs.Common.{closed_onto, closed, Rule, Window}
 use Rattle.ss_model.proofs.Stretches.{taken-cons}
 
 pub taken-closed_onto : (rule : Rule) (n : ℕ) (w : Window) (ws : List Window) → taken (closed_onto rule n w ws) ≡ taken (w ∷ ws)

@@ -1,25 +1,18 @@
 -- How many windows stand once those that are due are joined, and how long each is.
-use Rattle.std.proofs.Common.{◌≡◌, ℕ, zero, suc, ◌+◌, ◌-◌, ◌*◌, ◌/◌, ◌^◌, ◌<◌, ◌≤◌, ◌==◌, inl, inr, true, false, cond, List, [], ◌∷◌, ◌++◌, length, take, drop}
-use Rattle.std.proofs.Common.{map, refl, sym, ap, ◌∙◌, arith, lit≤, add-one, append_assoc}
+use Rattle.ss_model.proofs.Common.{◌≡◌, ℕ, zero, suc, ◌+◌, ◌-◌, ◌*◌, ◌/◌, ◌^◌, ◌<◌, ◌≤◌, inl, inr, true, false, cond, List, [], ◌∷◌, ◌++◌, length, take, drop}
+use Rattle.ss_model.proofs.Common.{map, refl, sym, ap, ◌∙◌, arith, lit≤, add-one, append_assoc, append-nil, length_push, map-append, take-append-drop}
+use Rattle.ss_model.proofs.Common.{All-nil, All-cons, All-head, All-tail, All-push, All, and_parts, cases_Bool, cases_lt, cond_both, eq-eqb, eqb-true}
+use Rattle.ss_model.proofs.Common.{eqb-false, ne_eqb, exp_length, MOST_VALUES, window_index, fits, window_index-monotone, summary_of, time_at_end, Point}
+use Rattle.ss_model.proofs.Common.{boundaries, Rule, in_step, step_of, without_step, stretches, windows, taken, time_at, last_position, joined_window}
+use Rattle.ss_model.proofs.Common.{may_join, closed_onto, closed, AreWindows, cover, ends_of, steps_met, IsInStep, NoneIsDue, IsWithinTarget, Window}
+use Rattle.std.proofs.Common.{◌==◌}
 use Rattle.std.proofs.Math.Nat.{div-one, pow-suc, one-le-pow}
-use Rattle.std.proofs.lemmas.List.{append-nil, length_push, map-append, take-append-drop}
-use Rattle.std.proofs.lemmas.List.Elements.{All-nil, All-cons, All-head, All-tail, All-push, All-weaker}
-use Rattle.std.specs.Prelude.{All}
-use Rattle.std.proofs.lemmas.Bool.{and_parts, cases_Bool, cases_eq, cases_lt, cond_both, eq-eqb, eqb-true, eqb-false, ne_eqb}
-use Rattle.ss_windowing.specs.Exp.{exp_length}
-use Rattle.ss_windowing.specs.declared.decay.TheConstants.{MOST_VALUES}
-use Rattle.ss_windowing.specs.Windowing.{cut, window_index, ArePositive, NeverFall, fits}
-use Rattle.ss_windowing.proofs.WindowingLemmas.{cut-monotone, holds-window_index, window_index-monotone}
+use Rattle.std.proofs.lemmas.List.Elements.{All-weaker}
+use Rattle.std.proofs.lemmas.Bool.{cases_eq}
+use Rattle.ss_windowing.specs.Windowing.{cut, ArePositive, NeverFall}
+use Rattle.ss_windowing.proofs.WindowingLemmas.{cut-monotone, holds-window_index}
 use Rattle.ss_windowing.proofs.FirstFitLemmas.{lengths-monotone}
-use Rattle.ss_summary.specs.Summaries.{summary_of, time_at_end}
-use Rattle.ss_summary.specs.Points.{Point}
-use Rattle.ss_model.specs.Boundaries.{boundaries}
-use Rattle.ss_target.specs.Rule.{Rule, in_step, step_of, without_step}
-use Rattle.ss_model.specs.Windows.{stretches, windows, taken, time_at}
-use Rattle.ss_model.specs.Closed.{last_position, joined_window, may_join, closed_onto, closed}
-use Rattle.ss_model.specs.Tiling.{AreWindows}
-use Rattle.ss_model.specs.Decay.{cover, ends_of, steps_after, steps_met, IsInStep, NoneIsDue, IsWithinTarget}
-use Rattle.ss_model.specs.declared.types.Window.{Window}
+use Rattle.ss_model.specs.Decay.{steps_after}
 use Rattle.ss_model.proofs.Rises.{Rises, Rises-low, Rises-boundaries}
 use Rattle.ss_model.proofs.Stretches.{count-summary_of, taken-cons, taken-windows, length-front, length-back}
 use Rattle.ss_model.proofs.Incremental.{windows_push}

@@ -1,25 +1,20 @@
 -- The streams of a state without one of them.
-use Rattle.std.proofs.Common.{◌≡◌, ◌≢◌, ℕ, ◌+◌, ◌<◌, ◌≤◌, Bool, true, false, not, List, [], ◌∷◌, ◌++◌, length, get_or, refl, ap, sym, ◌∙◌}
-use Rattle.std.proofs.Common.{arith, None, Some, suc, drop, subst, take, inl, inr}
-use Rattle.std.specs.Prelude.{All, filter, ◌==◌, if◌then◌else◌}
-use Rattle.std.specs.List.{AllByRecursion, AllPairs, IsDistinct, remove}
-use Rattle.std.specs.List.Sorted.{IsStrictlyIncreasing}
-use Rattle.std.proofs.lemmas.Bool.{cases_Bool, eq-eqb, ne_eqb}
-use Rattle.std.proofs.Math.Seq.{drop-cons, get_or-append_seam}
-use Rattle.std.proofs.lemmas.List.{get_or_append_left, get_or-append-add, get_or-map, length-append, length-map, take-append-drop}
-use Rattle.std.proofs.lemmas.List.Elements.{All-filter, All-head, All-tail, filter-append}
+use Rattle.ss_model.proofs.Common.{◌≡◌, ◌≢◌, ℕ, ◌+◌, ◌<◌, ◌≤◌, Bool, true, false, not, List, [], ◌∷◌, ◌++◌, length, get_or, refl, ap, sym, ◌∙◌, arith, None}
+use Rattle.ss_model.proofs.Common.{Some, suc, drop, subst, take, inl, inr, All, ◌==◌, if◌then◌else◌, AllByRecursion, IsDistinct, IsStrictlyIncreasing}
+use Rattle.ss_model.proofs.Common.{cases_Bool, eq-eqb, ne_eqb, get_or-append_seam, get_or_append_left, length-append, length-map, take-append-drop, All-head}
+use Rattle.ss_model.proofs.Common.{All-tail, filter-append, sum_by-append, sum_by-cons, IsDistinct-head, IsDistinct-tail, IsDistinct-cons, same_name, Drop}
+use Rattle.ss_model.proofs.Common.{Unknown, stands, IsState, IsStream, Stream, live, names_of, numbers_of, records_of, stream_named, ack_of, stepped}
+use Rattle.ss_model.proofs.Common.{without_named}
+use Rattle.std.specs.Prelude.{filter}
+use Rattle.std.specs.List.{AllPairs, remove}
+use Rattle.std.proofs.Math.Seq.{drop-cons}
+use Rattle.std.proofs.lemmas.List.{get_or-append-add, get_or-map}
+use Rattle.std.proofs.lemmas.List.Elements.{All-filter}
 use Rattle.std.proofs.lemmas.List.Filters.{length-filter_both, sum_by-filter_both}
 use Rattle.std.proofs.lemmas.List.Kept.{AllPairs-filter, AllPairs-from_increasing}
-use Rattle.std.proofs.lemmas.List.Sums.{sum_by-append, sum_by-cons}
-use Rattle.std.proofs.lemmas.Map.Keys.{IsDistinct-head, IsDistinct-tail, IsDistinct-cons}
-use Rattle.ss_catalog.specs.Names.{same_name}
-use Rattle.ss_catalog.specs.declared.event.Event.TheVariants.{Drop}
-use Rattle.ss_catalog.specs.declared.refusal.Refusal.TheVariants.{Unknown}
 use Rattle.ss_model.specs.ClosedState.{closed_state, closed_stream}
-use Rattle.ss_model.specs.Refusals.{refuses, stands}
-use Rattle.ss_model.specs.Standing.{IsState, IsStream}
-use Rattle.ss_model.specs.State.{Stream, live, names_of, numbers_of, records_of, stream_named}
-use Rattle.ss_model.specs.Steps.{ack_of, said_of, stepped, without_named, stepped_from}
+use Rattle.ss_model.specs.Refusals.{refuses}
+use Rattle.ss_model.specs.Steps.{said_of, stepped_from}
 use Rattle.ss_model.proofs.NameLemmas.{same_name-Decides, same_name-differ, same_name-same, same_name-swap}
 use Rattle.ss_model.proofs.FoundLemmas.{IsFound, stands-others}
 use Rattle.ss_model.proofs.StepLemmas.{filter-map}

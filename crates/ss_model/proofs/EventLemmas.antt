@@ -1,16 +1,11 @@
 -- What a stream was given, with one more event.
-use Rattle.std.proofs.Common.{◌≡◌, ℕ, ◌+◌, ◌-◌, Bool, true, false, not, List, [], ◌∷◌, ◌++◌, length, refl, ap, arith}
+use Rattle.ss_model.proofs.Common.{◌≡◌, ℕ, ◌+◌, ◌-◌, Bool, true, false, not, List, [], ◌∷◌, ◌++◌, length, refl, ap, arith, append-nil, length_push}
+use Rattle.ss_model.proofs.Common.{drop-append-le, filter-append, fold-append, common_steps, same_name, Event, Create, Value, Open, Close, Drop, Params}
+use Rattle.ss_model.proofs.Common.{Origin, is_for, creates, given_after, given_to, nothing_given, Happened}
 use Rattle.std.specs.List.{after_last, suffix_len}
-use Rattle.std.proofs.lemmas.List.{append-nil, reverse-append, length_push, drop-append-le}
-use Rattle.std.proofs.lemmas.List.Elements.{filter-append}
-use Rattle.std.proofs.lemmas.List.Sums.{fold-append, suffix_len-le-length}
-use Rattle.std.proofs.lemmas.Grind.{common_steps}
-use Rattle.ss_catalog.specs.Names.{same_name}
-use Rattle.ss_catalog.specs.declared.event.Event.{Event}
-use Rattle.ss_catalog.specs.declared.event.Event.TheVariants.{Create, Value, Open, Close, Drop}
-use Rattle.ss_catalog.specs.declared.params.Params.{Params}
-use Rattle.ss_summary.specs.Points.{Origin}
-use Rattle.ss_model.specs.History.{is_for, creates, events_of, given_after, given_to, nothing_given, Happened}
+use Rattle.std.proofs.lemmas.List.{reverse-append}
+use Rattle.std.proofs.lemmas.List.Sums.{suffix_len-le-length}
+use Rattle.ss_model.specs.History.{events_of}
 
 suffix_len-push_yes : {X : Type 0} (p : X → Bool) (xs : List X) (x : X) → p x ≡ true → suffix_len p (xs ++ x ∷ []) ≡ 1 + suffix_len p xs
 suffix_len-push_yes p xs x passes = rw (reverse-append xs (x ∷ []), passes) refl

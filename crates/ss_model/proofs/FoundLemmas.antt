@@ -1,18 +1,9 @@
 -- The one stream of a name among those of different names.
-use Rattle.std.proofs.Common.{◌≡◌, ℕ, zero, suc, ◌-◌, ◌+◌, ◌<◌, true, false, List, [], ◌∷◌, ◌++◌, length, map, get_or, refl, ap, sym, subst, ◌∙◌}
-use Rattle.std.proofs.Common.{arith, None, Some, inl, inr}
-use Rattle.std.specs.Prelude.{All}
-use Rattle.std.specs.List.{IsDistinct, AllByRecursion}
-use Rattle.std.specs.List.Sorted.{IsStrictlyIncreasing}
-use Rattle.std.proofs.lemmas.Bool.{cases_Bool, cases_lt}
-use Rattle.std.proofs.lemmas.List.{get_or_append_left, get_or-append_right, length_push, map-append}
-use Rattle.std.proofs.lemmas.List.Elements.{All-nil, All-head, All-tail, All-cons}
-use Rattle.std.proofs.lemmas.List.Folds.{find-append}
-use Rattle.std.proofs.lemmas.Map.Keys.{IsDistinct-head, IsDistinct-tail, IsDistinct-cons}
-use Rattle.ss_catalog.specs.Names.{same_name}
-use Rattle.ss_model.specs.State.{Stream, next_number, names_of, stream_named}
-use Rattle.ss_model.specs.Refusals.{stands}
-use Rattle.ss_model.specs.Steps.{change_named}
+use Rattle.ss_model.proofs.Common.{◌≡◌, ℕ, zero, suc, ◌-◌, ◌+◌, ◌<◌, true, false, List, [], ◌∷◌, ◌++◌, length, map, get_or, refl, ap, sym, subst, ◌∙◌, arith}
+use Rattle.ss_model.proofs.Common.{None, Some, inl, inr, All, IsDistinct, AllByRecursion, IsStrictlyIncreasing, cases_Bool, cases_lt, get_or_append_left}
+use Rattle.ss_model.proofs.Common.{length_push, map-append, All-nil, All-head, All-tail, All-cons, find-append, IsDistinct-head, IsDistinct-tail}
+use Rattle.ss_model.proofs.Common.{IsDistinct-cons, same_name, Stream, next_number, names_of, stream_named, stands, change_named}
+use Rattle.std.proofs.lemmas.List.{get_or-append_right}
 use Rattle.ss_model.proofs.NameLemmas.{same_name-Decides, same_name-swap}
 use Rattle.ss_model.proofs.StepLemmas.{changed}
 

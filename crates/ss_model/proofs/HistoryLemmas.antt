@@ -1,10 +1,6 @@
 -- Histories, event by event.
-use Rattle.std.proofs.Common.{◌≡◌, List, [], ◌∷◌, ◌++◌, refl, sym, None, append_assoc, subst, inl, inr}
-use Rattle.std.specs.Prelude.{◌⊎◌}
-use Rattle.std.proofs.lemmas.List.{append-nil}
-use Rattle.ss_model.specs.History.{CanBeSaid, Happened}
-use Rattle.ss_model.specs.Refusals.{IsHistory, refuses}
-use Rattle.ss_model.specs.Standing.{IsState}
+use Rattle.ss_model.proofs.Common.{◌≡◌, List, [], ◌∷◌, ◌++◌, refl, sym, None, append_assoc, subst, inl, inr, ◌⊎◌, append-nil, CanBeSaid, Happened, IsHistory}
+use Rattle.ss_model.proofs.Common.{refuses, IsState}
 use Rattle.ss_model.specs.State.{state}
 use Rattle.ss_model.proofs.StepLemmas.{state-push}
 use Rattle.ss_model.proofs.StandLemmas.{IsState-nil, IsState-stepped}

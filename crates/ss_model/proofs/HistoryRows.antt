@@ -1,23 +1,17 @@
 -- Worked rows of histories, their states and refusals, each computed.
-use Rattle.std.proofs.Common.{◌≡◌, ℕ, ◌+◌, ◌-◌, ◌^◌, true, false, List, [], ◌∷◌, ◌++◌, map, take, refl, Some, None, codes, pos, negsuc}
-use Rattle.std.specs.Prelude.{◌≤◌, length, nat_le, replicate, Option}
+use Rattle.ss_model.proofs.Common.{◌≡◌, ℕ, ◌+◌, ◌-◌, ◌^◌, true, false, List, [], ◌∷◌, ◌++◌, map, take, refl, Some, None, pos, negsuc, nat_le, Option, Event}
+use Rattle.ss_model.proofs.Common.{Create, Value, Open, Drop, exp, power, Refusal, Param, Exists, Unknown, New, Old, Origin, CanBeSaid, Given, Happened}
+use Rattle.ss_model.proofs.Common.{added, given_after, landmarks_of, values_of, Stream, next_number, live, last_time, IsHistory, has_all_records}
+use Rattle.ss_model.proofs.Common.{has_all_streams, IsState, ack_of, stepped, without_named, row_of, placed_of, Window, MOST_RECORDS}
+use Rattle.std.proofs.Common.{codes}
+use Rattle.std.specs.Prelude.{◌≤◌, length, replicate}
 use Rattle.ss_power.specs.Power.{power_length}
 use Rattle.ss_windowing.specs.Windowing.{window_index}
-use Rattle.ss_catalog.specs.declared.event.Event.{Event}
-use Rattle.ss_catalog.specs.declared.event.Event.TheVariants.{Create, Value, Open, Drop}
-use Rattle.ss_catalog.specs.Params.{exp, power}
-use Rattle.ss_catalog.specs.declared.refusal.Refusal.{Refusal}
-use Rattle.ss_catalog.specs.declared.refusal.Refusal.TheVariants.{Param, Exists, Streams, Unknown, Time, StreamFull}
+use Rattle.ss_catalog.specs.declared.refusal.Refusal.TheVariants.{Streams, Time, StreamFull}
 use Rattle.ss_summary.specs.Filters.{bit_of, filter_of, full, union}
-use Rattle.ss_summary.specs.Points.{New, Old, Origin}
-use Rattle.ss_model.specs.History.{CanBeSaid, Given, Happened, added, given_after, landmarks_of, values_of}
-use Rattle.ss_model.specs.State.{Stream, state, next_number, live, last_time}
-use Rattle.ss_model.specs.Refusals.{IsHistory, refuses, refuses_reading, has_all_records, has_all_streams}
-use Rattle.ss_model.specs.Standing.{IsState}
-use Rattle.ss_model.specs.Steps.{ack_of, stepped, stepped_from, without_named}
-use Rattle.ss_model.specs.Shown.{row_of, placed_of}
-use Rattle.ss_model.specs.declared.types.Window.{Window}
-use Rattle.ss_model.specs.declared.types.TheConstants.{MOST_RECORDS}
+use Rattle.ss_model.specs.State.{state}
+use Rattle.ss_model.specs.Refusals.{refuses, refuses_reading}
+use Rattle.ss_model.specs.Steps.{stepped_from}
 use Rattle.ss_model.proofs.Rows.{readings_windows}
 use Rattle.ss_model.proofs.HistoryLemmas.{GoesOn-push, IsHistory-nil, IsHistory_push}
 

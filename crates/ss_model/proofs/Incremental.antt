@@ -1,14 +1,8 @@
 -- The windows of one more value are those before and the new value, joined where they may be one.
-use Rattle.std.proofs.Common.{◌≡◌, ℕ, ◌+◌, ◌-◌, ◌<◌, Bool, true, false, cond, List, [], ◌∷◌, ◌++◌, length, take, drop, refl, ap, sym, ◌∙◌, subst}
-use Rattle.std.proofs.Common.{arith, add-one, append_assoc, length-append}
-use Rattle.std.proofs.lemmas.List.{take-append-drop, length_push}
-use Rattle.ss_summary.specs.Summaries.{summary_of, joined}
-use Rattle.ss_summary.specs.Points.{Point}
-use Rattle.ss_model.specs.Boundaries.{staying, boundaries}
-use Rattle.ss_target.specs.Rule.{Rule, may_be_one}
-use Rattle.ss_model.specs.Windows.{stretches, time_at, windows}
-use Rattle.ss_model.specs.Closed.{last_position, joined_window, may_join, closed_onto, closed}
-use Rattle.ss_model.specs.declared.types.Window.{Window}
+use Rattle.ss_model.proofs.Common.{◌≡◌, ℕ, ◌+◌, ◌-◌, ◌<◌, Bool, true, false, cond, List, [], ◌∷◌, ◌++◌, length, take, drop, refl, ap, sym, ◌∙◌, subst, arith}
+use Rattle.ss_model.proofs.Common.{add-one, append_assoc, take-append-drop, length_push, summary_of, joined, Point, staying, boundaries, Rule, may_be_one}
+use Rattle.ss_model.proofs.Common.{stretches, time_at, windows, last_position, joined_window, may_join, closed_onto, closed, Window}
+use Rattle.std.proofs.Common.{length-append}
 use Rattle.ss_summary.proofs.SummaryLemmas.{joined-summary_of}
 use Rattle.ss_model.proofs.Rises.{Rises, Rises-low, Rises-boundaries, Rises_push, boundaries-same}
 use Rattle.ss_model.proofs.Stretches.{count-summary_of, length-front, length-back, stretches_none, stretches_at, stretches_push}

@@ -1,24 +1,17 @@
 -- The answer to a query holds the truth, for any windows of some values.
-use Rattle.std.specs.Prelude.{◌≡◌, ℕ, suc, ◌+◌, ◌≤◌, Bool, true, false, ℤ, ◌+ℤ◌, ◌≤ℤ◌, List, [], ◌∷◌, ◌++◌, length, map, sum_by, Option, None, Some}
-use Rattle.std.specs.Int.{int_min, int_max}
-use Rattle.std.proofs.Common.{ap, ap₂, arith, refl, sym, ◌∙◌, subst}
-use Rattle.std.proofs.lemmas.Int.{ints, clamps}
-use Rattle.std.proofs.lemmas.List.{length-append}
-use Rattle.std.proofs.lemmas.List.Sums.{sum_by-cons}
-use Rattle.ss_summary.specs.Figures.{AreAlike, Figures, unfiltered}
-use Rattle.ss_summary.specs.Summaries.{summary_of}
-use Rattle.ss_bounds.specs.Split.{SplitFigures, least_count, greatest_count, sum_interval}
+use Rattle.ss_model.proofs.Common.{ℤ, ◌+ℤ◌, ◌≤ℤ◌, Option, int_min, int_max, ap, ap₂, arith, refl, sym, ◌∙◌, subst, ints, clamps, length-append, sum_by-cons}
+use Rattle.ss_model.proofs.Common.{AreAlike, Figures, unfiltered, summary_of, SplitFigures, sum_interval, asked, values_alone, total, AreSplit, HoldsExtreme}
+use Rattle.ss_model.proofs.Common.{asked-MayLieThere, Point, is_whole, is_split, split_windows, split_figures, interval_of_count, interval_of_sum}
+use Rattle.ss_model.proofs.Common.{interval_of_least, interval_of_greatest, IsExact, true_count, true_sum, true_least, true_greatest, RiseAtFree, Window}
+use Rattle.std.specs.Prelude.{◌≡◌, ℕ, suc, ◌+◌, ◌≤◌, Bool, true, false, List, [], ◌∷◌, ◌++◌, length, map, sum_by, None, Some}
+use Rattle.ss_bounds.specs.Split.{least_count, greatest_count}
 use Rattle.ss_bounds.specs.Either.{either, choice_in, lesser, greater, least_in, greatest_in}
-use Rattle.ss_bounds.specs.Truth.{asked, values_alone, total, AreSplit, MayAllLieThere, windows_alone, values_of_all, HoldsExtreme}
+use Rattle.ss_bounds.specs.Truth.{MayAllLieThere, windows_alone, values_of_all}
 use Rattle.ss_bounds.proofs.ChoiceLemmas.{IsChoice, IsChoice-min, IsChoice-max, choice_in-append, choice_in-cons, either-assoc}
 use Rattle.ss_bounds.specs.Extremes.{min_interval, max_interval}
 use Rattle.ss_bounds.proofs.ExtremeLemmas.{min_interval-HoldsExtreme, max_interval-HoldsExtreme}
-use Rattle.ss_bounds.proofs.TruthLemmas.{asked-MayLieThere, asked-sum}
-use Rattle.ss_summary.specs.Points.{Point}
-use Rattle.ss_model.specs.Interval.{is_whole, is_split, whole_windows, split_windows, split_figures, interval_of_count, interval_of_sum}
-use Rattle.ss_model.specs.Interval.{interval_of_least, interval_of_greatest, IsExact}
-use Rattle.ss_model.specs.Truth.{true_count, true_sum, true_least, true_greatest, RiseAtFree}
-use Rattle.ss_model.specs.declared.types.Window.{Window}
+use Rattle.ss_bounds.proofs.TruthLemmas.{asked-sum}
+use Rattle.ss_model.specs.Interval.{whole_windows}
 use Rattle.ss_model.proofs.AskedLemmas.{Asked, whole, apart, split, asked-of, asked-append, total-alone, least-alone, greatest-alone}
 
 -- the windows are of these values, each window of some of them, whose figures the window has in some sense

@@ -1,23 +1,11 @@
 -- Joining windows that are due: what it leads to, and what it leaves.
-use Rattle.std.proofs.Common.{◌≡◌, ℕ, zero, suc, ◌+◌, Bool, true, false, cond, List, [], ◌∷◌, ◌++◌, refl, sym, ap, ◌∙◌, subst, length}
-use Rattle.std.proofs.Common.{arith, append_assoc, length-append}
-use Rattle.std.specs.Prelude.{All, IsTrue}
-use Rattle.std.specs.List.{list_all}
-use Rattle.std.proofs.lemmas.Bool.{and_from, and_parts, cond-true, cond-false, cond_both}
-use Rattle.std.proofs.lemmas.List.Elements.{All-cons, All-head, All-tail}
-use Rattle.std.proofs.lemmas.List.Folds.{list_all-append}
-use Rattle.ss_landmarks.specs.Landmark.{Landmark}
-use Rattle.ss_summary.specs.Summaries.{summary_of}
-use Rattle.ss_summary.proofs.SummaryLemmas.{joined_assoc, IsPossible-joined}
-use Rattle.ss_summary.specs.Points.{Point}
-use Rattle.ss_model.specs.Windows.{windows, taken, newest_time}
-use Rattle.ss_model.specs.Closed.{last_position, joined_window, may_join, closed_onto, closed}
-use Rattle.ss_model.specs.Decay.{IsInStep, NoneIsDue}
-use Rattle.ss_model.specs.Joins.{JoinsTwo, Joins, JoinsDue}
-use Rattle.ss_model.specs.Marks.{lies_free}
-use Rattle.ss_target.specs.Rule.{Rule, may_be_one, step_of}
-use Rattle.ss_model.specs.Tiling.{AreWindows}
-use Rattle.ss_model.specs.declared.types.Window.{Window}
+use Rattle.ss_model.proofs.Common.{◌≡◌, ℕ, zero, suc, ◌+◌, Bool, true, false, cond, List, [], ◌∷◌, ◌++◌, refl, sym, ap, ◌∙◌, subst, length, arith}
+use Rattle.ss_model.proofs.Common.{append_assoc, All, IsTrue, list_all, and_from, and_parts, cond-true, cond-false, cond_both, All-cons, All-head, All-tail}
+use Rattle.ss_model.proofs.Common.{list_all-append, Landmark, summary_of, IsPossible-joined, Point, windows, taken, newest_time, last_position, joined_window}
+use Rattle.ss_model.proofs.Common.{may_join, closed_onto, closed, IsInStep, NoneIsDue, JoinsDue, lies_free, Rule, may_be_one, step_of, AreWindows, Window}
+use Rattle.std.proofs.Common.{length-append}
+use Rattle.ss_summary.proofs.SummaryLemmas.{joined_assoc}
+use Rattle.ss_model.specs.Joins.{JoinsTwo, Joins}
 use Rattle.ss_model.proofs.DecayLemmas.{MeetSteps-pushed, TileFrom-pushed, NoneIsDue-closed, NoneIsDue-windows}
 use Rattle.ss_model.proofs.Incremental.{windows_push}
 use Rattle.ss_model.proofs.RuleLemmas.{EndAlike-due, MeetSteps, MeetSteps-StandFrom, MeetSteps_joined, TileFrom, TileFrom-StandFrom, TileFrom_joined}

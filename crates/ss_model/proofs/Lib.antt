@@ -1,3 +1,4 @@
+pub mod Common
 mod Rows
 mod RuleRows
 mod HistoryRows

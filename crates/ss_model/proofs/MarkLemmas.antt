@@ -1,24 +1,19 @@
 -- The landmarks of a stream: their latest time, and which times stay free when they change and when windows are joined.
-use Rattle.std.proofs.Common.{◌≡◌, ℕ, ◌+◌, ◌-◌, ◌<◌, ◌≤◌, ℤ, true, false, ◌&&◌, List, [], ◌∷◌, map, max, refl, ap, sym, subst, ◌∙◌, arith}
-use Rattle.std.proofs.Common.{Option, None, Some, IfSome, MatchOption, is_none, inl, inr}
-use Rattle.std.specs.Prelude.{All, ◌⊎◌, nat_le, option_to_list, is_some}
-use Rattle.std.specs.List.{fold, list_all}
-use Rattle.std.proofs.lemmas.Bool.{cases_Bool, cond-true, cond-false, and_right, le-leb, lt-leb, leb-true, and_parts}
-use Rattle.std.proofs.lemmas.List.Elements.{All-nil, All-head, All-tail, All-cons}
-use Rattle.ss_landmarks.specs.Free.{covers, free, is_free}
-use Rattle.ss_landmarks.specs.Landmark.{Landmark, LandmarkValue, closed_at, open_landmark}
-use Rattle.ss_landmarks.specs.Order.{AllEndBy, AreLandmarks, EndsBy, FollowFrom}
+use Rattle.ss_model.proofs.Common.{◌≡◌, ℕ, ◌+◌, ◌-◌, ◌<◌, ◌≤◌, true, false, ◌&&◌, List, [], ◌∷◌, map, max, refl, ap, sym, subst, ◌∙◌, arith, None, Some}
+use Rattle.ss_model.proofs.Common.{IfSome, MatchOption, inl, inr, All, ◌⊎◌, nat_le, is_some, list_all, cases_Bool, cond-true, cond-false, le-leb, and_parts}
+use Rattle.ss_model.proofs.Common.{All-nil, All-head, All-tail, All-cons, free, is_free, Landmark, LandmarkValue, closed_at, open_landmark, AreLandmarks}
+use Rattle.ss_model.proofs.Common.{free-add, IsPossible, Point, joined_window, has_open, later, latest_of, with_closed, with_marked, with_opened}
+use Rattle.ss_model.proofs.Common.{single_window, AreNeighbours, AreWindows, StandFrom, newest_time, Window}
+use Rattle.std.proofs.Common.{ℤ}
+use Rattle.std.proofs.Common.{Option, is_none}
+use Rattle.std.specs.Prelude.{option_to_list}
+use Rattle.std.specs.List.{fold}
+use Rattle.std.proofs.lemmas.Bool.{and_right, lt-leb, leb-true}
+use Rattle.ss_landmarks.specs.Free.{covers}
+use Rattle.ss_landmarks.specs.Order.{AllEndBy, EndsBy, FollowFrom}
 use Rattle.ss_landmarks.proofs.Counting.{among-all, among-same}
 use Rattle.ss_landmarks.proofs.OrderLemmas.{cases-finish}
-use Rattle.ss_landmarks.proofs.TimeLemmas.{free-add}
-use Rattle.ss_summary.specs.Figures.{IsPossible}
-use Rattle.ss_summary.specs.Points.{Point}
-use Rattle.ss_model.specs.Closed.{joined_window}
-use Rattle.ss_model.specs.Marks.{has_open, later, latest_in, latest_of, lies_free, with_closed, with_marked, with_opened}
-use Rattle.ss_model.specs.Steps.{single_window}
-use Rattle.ss_model.specs.Tiling.{AreNeighbours, AreWindows, StandFrom}
-use Rattle.ss_model.specs.Windows.{newest_time}
-use Rattle.ss_model.specs.declared.types.Window.{Window}
+use Rattle.ss_model.specs.Marks.{latest_in, lies_free}
 
 -- ---- the latest time
 

@@ -1,23 +1,16 @@
 -- Worked rows of histories with landmarks, their states and refusals, each computed.
-use Rattle.std.proofs.Common.{◌≡◌, ℕ, ◌+◌, ◌^◌, Bool, true, false, not, List, [], ◌∷◌, ◌++◌, map, take, refl, Some, None, codes, pos}
-use Rattle.std.specs.Prelude.{Option}
+use Rattle.ss_model.proofs.Common.{◌≡◌, ℕ, ◌+◌, ◌^◌, Bool, true, false, not, List, [], ◌∷◌, ◌++◌, map, take, refl, Some, None, pos, Option, Event, Create}
+use Rattle.ss_model.proofs.Common.{Value, Open, Close, exp, power, Refusal, Landmark, opened_at, filter_of, full, union, New, Old, landmarks_of, marked_of}
+use Rattle.ss_model.proofs.Common.{values_of, Happened, added, has_open, first_that_applies, is_before, of_named, stands, row_of, Stream, last_time, live}
+use Rattle.ss_model.proofs.Common.{ack_of, stepped, Window}
+use Rattle.std.proofs.Common.{codes}
 use Rattle.ss_power.specs.Power.{power_length}
 use Rattle.ss_windowing.specs.Windowing.{window_index}
-use Rattle.ss_catalog.specs.declared.event.Event.{Event}
-use Rattle.ss_catalog.specs.declared.event.Event.TheVariants.{Create, Value, Open, Close}
-use Rattle.ss_catalog.specs.Params.{exp, power}
-use Rattle.ss_catalog.specs.declared.refusal.Refusal.{Refusal}
 use Rattle.ss_catalog.specs.declared.refusal.Refusal.TheVariants as refusal
-use Rattle.ss_landmarks.specs.Landmark.{Landmark, opened_at}
-use Rattle.ss_summary.specs.Filters.{filter_of, full, union}
-use Rattle.ss_summary.specs.Points.{New, Old}
-use Rattle.ss_model.specs.History.{landmarks_of, marked_of, values_of, Happened, added}
-use Rattle.ss_model.specs.Marks.{has_open, lies_free}
-use Rattle.ss_model.specs.Refusals.{first_that_applies, is_before, of_named, refuses, stands}
-use Rattle.ss_model.specs.Shown.{row_of}
-use Rattle.ss_model.specs.State.{Stream, last_time, live, state}
-use Rattle.ss_model.specs.Steps.{ack_of, stepped, stepped_from}
-use Rattle.ss_model.specs.declared.types.Window.{Window}
+use Rattle.ss_model.specs.Marks.{lies_free}
+use Rattle.ss_model.specs.Refusals.{refuses}
+use Rattle.ss_model.specs.State.{state}
+use Rattle.ss_model.specs.Steps.{stepped_from}
 
 b : List ℕ
 b = codes "b"

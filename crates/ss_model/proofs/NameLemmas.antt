@@ -1,10 +1,8 @@
 -- Names that are the same, and names that aren't.
-use Rattle.std.proofs.Common.{◌≡◌, ◌≢◌, ℕ, true, false, List, refl, sym, inl, inr}
+use Rattle.ss_model.proofs.Common.{◌≡◌, ◌≢◌, ℕ, true, false, List, refl, sym, inl, inr, cases_Bool, same_name}
 use Rattle.std.specs.Bool.{Decides}
-use Rattle.std.proofs.lemmas.Bool.{cases_Bool}
 use Rattle.std.proofs.lemmas.Bool.Decides.{same_from_decides}
 use Rattle.std.proofs.lemmas.Slice.Eq.{bytes_eq-Decides}
-use Rattle.ss_catalog.specs.Names.{same_name}
 
 pub same_name-Decides : (a b : List ℕ) → Decides (same_name a b) (a ≡ b)
 same_name-Decides a b = bytes_eq-Decides a b

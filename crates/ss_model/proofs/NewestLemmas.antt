@@ -1,44 +1,29 @@
 -- What is told of the newest value of a stream is true.
-use Rattle.std.proofs.Common.{◌≡◌, ◌∙◌, ℕ, suc, ◌+◌, ◌-◌, ◌<◌, ◌≤◌, ℤ, Bool, List, [], ◌∷◌, ◌++◌, length, map, take, drop, max, refl, sym, ap}
-use Rattle.std.proofs.Common.{subst, arith, Option, Some, None, inl, inr}
-use Rattle.std.specs.Prelude.{◌≤ℤ◌, ◌&&◌, All, Contains, nat_le, nat_lt, option_map}
-use Rattle.std.specs.List.{filter, last_or}
-use Rattle.std.proofs.lemmas.Bool.{cases_Bool}
-use Rattle.std.proofs.lemmas.Bool.Decides.{nat_tests}
-use Rattle.std.proofs.lemmas.Int.{ints, clamps}
-use Rattle.std.proofs.lemmas.List.{append-nil, take-append-drop}
-use Rattle.std.proofs.lemmas.List.Elements.{All-append, All-cons, All-head, All-nil, Contains-append_left, Contains-append_right}
+use Rattle.ss_model.proofs.Common.{◌≡◌, ◌∙◌, ℕ, suc, ◌+◌, ◌-◌, ◌<◌, ◌≤◌, Bool, List, [], ◌∷◌, ◌++◌, length, map, take, drop, max, refl, sym, ap, subst, arith}
+use Rattle.ss_model.proofs.Common.{Some, None, inl, inr, ◌≤ℤ◌, All, Contains, nat_le, nat_lt, option_map, filter, cases_Bool, nat_tests, ints, clamps}
+use Rattle.ss_model.proofs.Common.{append-nil, take-append-drop, All-append, All-cons, All-head, All-nil, Landmark, LandmarkValue, all_values, AreLandmarks}
+use Rattle.ss_model.proofs.Common.{Point, greatest, least, summary_of, time_at_end, boundaries, later, latest_of, marked_values, newer, HoldsNewest, IsNewest}
+use Rattle.ss_model.proofs.Common.{LiesWithin, kept_point, RiseAtFree, same_name, Happened, landmarks_of, marked_of, values_of, newest_in, newest_of}
+use Rattle.ss_model.proofs.Common.{IsHistory, IsStream, Created, Stream, standing, stream_after, stream_named, Newest, is_free, Rule, rule_of, stretches}
+use Rattle.ss_model.proofs.Common.{time_at, time_of_last, windows, Known, Window}
+use Rattle.std.proofs.Common.{ℤ}
+use Rattle.std.proofs.Common.{Option}
+use Rattle.std.specs.Prelude.{◌&&◌}
+use Rattle.std.specs.List.{last_or}
+use Rattle.std.proofs.lemmas.List.Elements.{Contains-append_left, Contains-append_right}
 use Rattle.std.proofs.lemmas.Option.{none-some, same_Some}
-use Rattle.ss_landmarks.specs.Landmark.{Landmark, LandmarkValue, all_values}
 use Rattle.ss_landmarks.specs.Newest.{newest_value}
-use Rattle.ss_landmarks.specs.Order.{AreLandmarks, RiseFrom}
+use Rattle.ss_landmarks.specs.Order.{RiseFrom}
 use Rattle.ss_landmarks.specs.ValuesIn.{lies_in}
 use Rattle.ss_landmarks.proofs.OrderLemmas.{RiseFrom-all_values}
-use Rattle.ss_summary.specs.Points.{Point}
-use Rattle.ss_summary.specs.Summaries.{greatest, least, summary_of, time_at_end}
-use Rattle.ss_model.specs.Boundaries.{boundaries}
-use Rattle.ss_model.specs.Marks.{later, latest_of, marked_values}
-use Rattle.ss_model.specs.Newest.{known_exactly, known_in, newer, newest_known, newest_told, newest_window}
-use Rattle.ss_model.specs.NewestTruth.{HoldsNewest, IsNewest, LiesWithin, kept_point}
-use Rattle.ss_model.specs.Truth.{RiseAtFree}
-use Rattle.ss_catalog.specs.Names.{same_name}
-use Rattle.ss_model.specs.History.{Happened, landmarks_of, marked_of, values_of}
-use Rattle.ss_model.specs.Newest.{newest_in, newest_of}
-use Rattle.ss_model.specs.Refusals.{IsHistory}
-use Rattle.ss_model.specs.Standing.{IsStream}
-use Rattle.ss_model.specs.State.{Created, Stream, standing, state, stream_after, stream_named}
-use Rattle.ss_model.specs.declared.newest.Newest.{Newest}
+use Rattle.ss_model.specs.Newest.{known_exactly, known_in, newest_known, newest_told, newest_window}
+use Rattle.ss_model.specs.State.{state}
 use Rattle.ss_model.proofs.HistoryLemmas.{IsState-state}
 use Rattle.ss_model.proofs.RisingLemmas.{named-after, values-rise}
 use Rattle.ss_model.proofs.Stretches.{newest_time-windows}
 use Rattle.std.specs.List.{find, position_or_len}
 use Rattle.std.proofs.lemmas.List.Folds.{find_at}
 use Rattle.std.proofs.lemmas.Option.{get_or_from_slice_get, slice_get_within}
-use Rattle.ss_landmarks.specs.Free.{is_free}
-use Rattle.ss_target.specs.Rule.{Rule, rule_of}
-use Rattle.ss_model.specs.Windows.{stretches, time_at, time_of_last, windows}
-use Rattle.ss_model.specs.declared.newest.Known.{Known}
-use Rattle.ss_model.specs.declared.types.Window.{Window}
 use Rattle.ss_model.proofs.MarkLemmas.{none-latest, some-later}
 use Rattle.ss_model.proofs.Rises.{Rises, Rises-boundaries, Rises-low}
 use Rattle.ss_model.proofs.Stretches.{length-back}

@@ -1,20 +1,14 @@
 -- Worked rows of the newest value and of the values of landmarks in a range, each computed.
-use Rattle.std.proofs.Common.{◌≡◌, ℕ, List, [], ◌∷◌, map, take, refl, Some, None, codes, pos, negsuc}
-use Rattle.std.specs.Prelude.{Option}
+use Rattle.ss_model.proofs.Common.{◌≡◌, ℕ, List, [], ◌∷◌, map, take, refl, Some, None, pos, negsuc, Option, Create, Open, Close, Drop, exp, power, Unknown}
+use Rattle.ss_model.proofs.Common.{Range, LandmarkValue, values_between, Happened, added, landmarks_of, newer, newest_in, Known, Newest, Nothing, Time}
+use Rattle.std.proofs.Common.{codes}
 use Rattle.ss_power.specs.Power.{power_length}
 use Rattle.ss_windowing.specs.Windowing.{window_index}
-use Rattle.ss_catalog.specs.declared.event.Event.TheVariants.{Create, Value as Append, Open, Close, Drop}
-use Rattle.ss_catalog.specs.Params.{exp, power}
-use Rattle.ss_catalog.specs.declared.refusal.Refusal.TheVariants.{Unknown, Range}
-use Rattle.ss_landmarks.specs.Landmark.{LandmarkValue}
-use Rattle.ss_landmarks.specs.ValuesIn.{values_between}
-use Rattle.ss_model.specs.History.{Happened, added, landmarks_of}
-use Rattle.ss_model.specs.Newest.{newer, newest_in, refuses_values}
+use Rattle.ss_catalog.specs.declared.event.Event.TheVariants.{Value as Append}
+use Rattle.ss_model.specs.Newest.{refuses_values}
 use Rattle.ss_model.specs.Refusals.{refuses_reading}
 use Rattle.ss_model.specs.State.{state}
-use Rattle.ss_model.specs.declared.newest.Known.{Known}
-use Rattle.ss_model.specs.declared.newest.Newest.{Newest}
-use Rattle.ss_model.specs.declared.newest.Newest.TheVariants.{Nothing, Time, Value}
+use Rattle.ss_model.specs.declared.newest.Newest.TheVariants.{Value}
 
 -- what is told of a stream after the first events of a history, so many each time
 abbrev told_of : List Happened → List ℕ → List ℕ → List (Option Newest)

@@ -1,9 +1,7 @@
 -- Rows of when what is told of the newest value of a stream is true: what each part of it says.
-use Rattle.std.specs.Prelude.{◌≡◌, ℕ, ◌≤◌, ℤ, ◌≤ℤ◌, pos, List, [], All, Contains, Option, Some, None}
-use Rattle.std.proofs.Common.{refl}
-use Rattle.ss_summary.specs.Points.{Point, New}
-use Rattle.ss_model.specs.NewestTruth.{HoldsNewest, IsNewest, LiesWithin, kept_point}
-use Rattle.ss_model.specs.declared.newest.Newest.TheVariants.{Nothing, Time, Value}
+use Rattle.ss_model.proofs.Common.{ℤ, ◌≤ℤ◌, All, Contains, Option, refl, Point, New, HoldsNewest, IsNewest, LiesWithin, kept_point, Nothing, Time}
+use Rattle.std.specs.Prelude.{◌≡◌, ℕ, ◌≤◌, pos, List, [], Some, None}
+use Rattle.ss_model.specs.declared.newest.Newest.TheVariants.{Value}
 
 -- the newest of some values is one of them, and none of them is later
 module _ {p : Point} {values : List Point} (newest : IsNewest p values) where

@@ -1,29 +1,19 @@
 -- Where values are from changes nothing but the filters of windows.
-use Rattle.std.specs.Prelude.{◌≡◌, ℕ, zero, suc, ◌+◌, ◌-◌, ◌<◌, true, ℤ, ◌+ℤ◌, List, [], ◌∷◌, ◌++◌, map, take, drop, length}
-use Rattle.std.specs.Int.{int_min, int_max}
-use Rattle.std.proofs.Common.{get_or, refl, ap, ap₂, sym, ◌∙◌, subst, inl, inr, arith}
-use Rattle.std.proofs.lemmas.Bool.{cases_Bool}
-use Rattle.std.proofs.lemmas.List.{take-map, drop-map, length-map, map-append}
+use Rattle.ss_model.proofs.Common.{ℤ, ◌+ℤ◌, int_min, int_max, get_or, refl, ap, ap₂, sym, ◌∙◌, subst, inl, inr, arith, cases_Bool, length-map, map-append}
+use Rattle.ss_model.proofs.Common.{Event, Create, Value, Open, Close, Drop, Figures, unfiltered, Point, Origin, Old, greatest, least, summary_of, time_at_end}
+use Rattle.ss_model.proofs.Common.{boundaries, Given, Happened, creates, given_after, given_to, is_for, values_of, landmarks_of, nothing_given, has_open}
+use Rattle.ss_model.proofs.Common.{later, latest_of, Created, Stream, standing, standing_after, stream_after, Rule, rule_of, newest_time, stretches, taken}
+use Rattle.ss_model.proofs.Common.{time_at, windows, Window, SameOutline, SameOutlines, IsHistory, refuses}
+use Rattle.std.specs.Prelude.{◌≡◌, ℕ, zero, suc, ◌+◌, ◌-◌, ◌<◌, true, List, [], ◌∷◌, ◌++◌, map, take, drop, length}
+use Rattle.std.proofs.lemmas.List.{take-map, drop-map}
 use Rattle.std.proofs.lemmas.List.Folds.{fold-map}
-use Rattle.ss_catalog.specs.declared.event.Event.{Event}
-use Rattle.ss_catalog.specs.declared.event.Event.TheVariants.{Create, Value, Open, Close, Drop}
-use Rattle.ss_summary.specs.Figures.{Figures, unfiltered}
 use Rattle.ss_summary.specs.Filters.{filter_with, full, union}
-use Rattle.ss_summary.specs.Points.{Point, Origin, Old}
-use Rattle.ss_summary.specs.Summaries.{greatest, least, summary_of, time_at_end, total}
-use Rattle.ss_model.specs.Boundaries.{boundaries}
-use Rattle.ss_model.specs.History.{Given, Happened, creates, given_after, given_to, is_for, values_of, landmarks_of, nothing_given}
-use Rattle.ss_model.specs.Marks.{has_open, later, latest_of}
+use Rattle.ss_summary.specs.Summaries.{total}
 use Rattle.ss_model.specs.Origins.{as_old, unfiltered_stream, unfiltered_window}
-use Rattle.ss_model.specs.State.{Created, Stream, standing, standing_after, state, stream_after}
-use Rattle.ss_target.specs.Rule.{Rule, rule_of}
-use Rattle.ss_model.specs.Windows.{newest_time, stretches, taken, time_at, windows}
-use Rattle.ss_model.specs.declared.types.Window.{Window}
+use Rattle.ss_model.specs.State.{state}
 use Rattle.ss_model.proofs.EventLemmas.{after_last-push_yes, given_to-event, given_to-other}
 use Rattle.ss_model.proofs.HistoryLemmas.{by_pushes, GoesOn-push, IsHistory-nil, IsHistory_push}
 use Rattle.ss_model.proofs.OutlineLemmas.{refuses-outlines}
-use Rattle.ss_model.specs.Outline.{SameOutline, SameOutlines}
-use Rattle.ss_model.specs.Refusals.{IsHistory, refuses}
 use Rattle.ss_model.proofs.Rises.{Rises, Rises-low, Rises-boundaries}
 use Rattle.ss_model.proofs.Stretches.{length-back, taken-cons}
 

@@ -1,20 +1,10 @@
 -- What is read of streams for a refusal is the same where their outlines are.
-use Rattle.std.proofs.Common.{◌≡◌, ℕ, Bool, false, not, ◌&&◌, ◌||◌, List, [], ◌∷◌, length, refl, sym, ap, ◌∙◌, arith, inl, inr, Option, Some}
-use Rattle.std.specs.Prelude.{◌==◌, is_some, nat_le}
-use Rattle.std.specs.List.{list_any}
-use Rattle.std.specs.Option.{option_map_or}
-use Rattle.std.proofs.lemmas.Bool.{cases_Bool}
-use Rattle.std.proofs.lemmas.List.Sums.{sum_by-cons}
-use Rattle.ss_catalog.specs.Names.{same_name}
-use Rattle.ss_catalog.specs.declared.TheConstants.{LAST_STREAM}
-use Rattle.ss_catalog.specs.declared.event.Event.{Event}
-use Rattle.ss_catalog.specs.declared.event.Event.TheVariants.{Create, Value, Open, Close, Drop}
-use Rattle.ss_landmarks.specs.Landmark.{all_values}
-use Rattle.ss_windowing.specs.declared.decay.TheConstants.{MOST_VALUES}
-use Rattle.ss_model.specs.Marks.{has_open}
-use Rattle.ss_model.specs.Outline.{SameOutline, SameOutlines}
-use Rattle.ss_model.specs.Refusals.{is_before, is_early, has_most_values, is_opening, is_past, of_named, refuses}
-use Rattle.ss_model.specs.State.{Stream, last_time, live, records_of, stream_named}
+use Rattle.ss_model.proofs.Common.{◌≡◌, ℕ, Bool, false, not, ◌&&◌, List, [], ◌∷◌, length, refl, sym, ap, ◌∙◌, arith, inl, inr, Some, ◌==◌, is_some, nat_le}
+use Rattle.ss_model.proofs.Common.{list_any, option_map_or, cases_Bool, sum_by-cons, same_name, LAST_STREAM, Event, Create, Value, Open, Close, Drop}
+use Rattle.ss_model.proofs.Common.{all_values, MOST_VALUES, has_open, SameOutline, SameOutlines, is_before, is_early, has_most_values, is_opening, is_past}
+use Rattle.ss_model.proofs.Common.{of_named, Stream, last_time, live, records_of, stream_named}
+use Rattle.std.proofs.Common.{◌||◌, Option}
+use Rattle.ss_model.specs.Refusals.{refuses}
 
 length-outlines : (streams others : List Stream) → SameOutlines streams others → length streams ≡ length others
 length-outlines [] [] same = refl

@@ -1,11 +1,6 @@
 -- The windows of a list of values are of these values, piece by piece.
-use Rattle.std.proofs.Common.{◌≡◌, ℕ, suc, ◌+◌, ◌-◌, List, [], ◌∷◌, ◌++◌, length, take, drop, refl, ap, sym, ◌∙◌, arith}
-use Rattle.std.proofs.lemmas.List.{take-append-drop, append-nil}
-use Rattle.ss_summary.specs.Summaries.{summary_of}
-use Rattle.ss_summary.specs.Points.{Point}
-use Rattle.ss_model.specs.Boundaries.{boundaries}
-use Rattle.ss_target.specs.Rule.{Rule}
-use Rattle.ss_model.specs.Windows.{stretches, time_at, windows}
+use Rattle.ss_model.proofs.Common.{◌≡◌, ℕ, suc, ◌+◌, ◌-◌, List, [], ◌∷◌, ◌++◌, length, take, drop, refl, ap, sym, ◌∙◌, arith, take-append-drop, append-nil}
+use Rattle.ss_model.proofs.Common.{summary_of, Point, boundaries, Rule, stretches, time_at, windows}
 use Rattle.ss_model.proofs.Rises.{Rises, Rises-low, Rises-boundaries}
 use Rattle.ss_model.proofs.Stretches.{length-back}
 use Rattle.ss_model.proofs.IntervalLemmas.{AreExactlyOf, AreOf, AreOf-exactly}

@@ -1,30 +1,19 @@
 -- Whether a value is there: the answer holds the truth, for windows that are of some values with their filters.
-use Rattle.std.specs.Prelude.{◌≡◌, ◌⊎◌, ℕ, ◌≤◌, Bool, true, false, ◌&&◌, ◌||◌, if◌then◌else◌, int_le, ℤ, ◌≤ℤ◌, IsTrue, Contains}
+use Rattle.ss_model.proofs.Common.{◌⊎◌, ◌||◌, if◌then◌else◌, ℤ, ◌≤ℤ◌, IsTrue, Contains, int_min, int_max, filter, list_any, ap, arith, inl, inr, refl, sym}
+use Rattle.ss_model.proofs.Common.{◌∙◌, subst, and_from, and_parts, cases_Bool, le-leb, ints, clamps, Figures, unfiltered, has, Point, summary_of, least}
+use Rattle.ss_model.proofs.Common.{greatest, chosen, lies_in, asked, values_alone, asked-MayLieThere, HoldsPresence, is_split, is_whole, presence_of}
+use Rattle.ss_model.proofs.Common.{split_figures, true_presence, RiseAtFree, Absent, Present, Maybe, Window}
+use Rattle.std.specs.Prelude.{◌≡◌, ℕ, ◌≤◌, Bool, true, false, ◌&&◌, int_le}
 use Rattle.std.specs.Prelude.{List, [], ◌∷◌, ◌++◌, get_or, length}
-use Rattle.std.specs.Int.{int_min, int_max}
-use Rattle.std.specs.List.{filter, list_any}
 use Rattle.std.specs.Ordering.{int_eq}
-use Rattle.std.proofs.Common.{ap, arith, inl, inr, refl, sym, ◌∙◌, subst}
-use Rattle.std.proofs.lemmas.Bool.{and_from, and_parts, cases_Bool, le-leb, or_cases, or_left, or_right}
+use Rattle.std.proofs.lemmas.Bool.{or_cases, or_left, or_right}
 use Rattle.std.proofs.lemmas.Bool.Decides.{Decides-int_eq}
 use Rattle.std.proofs.Math.Bool.{or-true}
-use Rattle.std.proofs.lemmas.Int.{ints, clamps}
 use Rattle.std.proofs.lemmas.List.{get_or_default}
 use Rattle.std.proofs.lemmas.List.Folds.{Any-from_list_any, list_any-append, list_any_at}
-use Rattle.ss_summary.specs.Figures.{Figures, unfiltered}
-use Rattle.ss_summary.specs.Filters.{has}
-use Rattle.ss_summary.specs.Points.{Point}
-use Rattle.ss_summary.specs.Summaries.{summary_of, least, greatest}
 use Rattle.ss_summary.proofs.FilterLemmas.{has-value}
-use Rattle.ss_bounds.specs.Extremes.{chosen}
-use Rattle.ss_bounds.specs.Times.{lies_in}
-use Rattle.ss_bounds.specs.Truth.{asked, values_alone}
-use Rattle.ss_bounds.proofs.TruthLemmas.{asked-MayLieThere}
-use Rattle.ss_model.specs.Answers.{HoldsPresence}
-use Rattle.ss_model.specs.Interval.{is_extreme, is_split, is_whole, may_have, may_reach, presence_of, split_figures}
-use Rattle.ss_model.specs.Truth.{is_one_of, true_presence, RiseAtFree}
-use Rattle.ss_model.specs.declared.outcome.Presence.TheVariants.{Absent, Present, Maybe}
-use Rattle.ss_model.specs.declared.types.Window.{Window}
+use Rattle.ss_model.specs.Interval.{is_extreme, may_have, may_reach}
+use Rattle.ss_model.specs.Truth.{is_one_of}
 use Rattle.ss_model.proofs.AskedLemmas.{Asked, whole, apart, split, asked-of, asked-append, greatest-alone, least-alone}
 use Rattle.ss_model.proofs.IntervalLemmas.{AreExactlyOf, over-windows}
 

@@ -1,23 +1,14 @@
 -- Worked rows of whether a value is there, each computed from a history.
-use Rattle.std.specs.Prelude.{◌≡◌, ℕ, Bool, true, false, ℤ, pos, negsuc, List, [], ◌∷◌, map, Option, Some, None, codes}
-use Rattle.std.proofs.Common.{refl, sym, subst}
+use Rattle.ss_model.proofs.Common.{ℤ, Option, codes, refl, sym, subst, Create, Value, Open, Close, exp, power, Kind, Query, New, Old, Origin, HoldsPresence}
+use Rattle.ss_model.proofs.Common.{HoldsTruth, IsExactOutcome, IsOfKind, Happened, added, true_presence, Outcome, Has, Absent, Present, Maybe}
+use Rattle.std.specs.Prelude.{◌≡◌, ℕ, Bool, true, false, pos, negsuc, List, [], ◌∷◌, map, Some, None}
 use Rattle.ss_windowing.specs.Windowing.{window_index}
 use Rattle.ss_power.specs.Power.{power_length}
-use Rattle.ss_catalog.specs.declared.event.Event.TheVariants.{Create, Value, Open, Close}
-use Rattle.ss_catalog.specs.Params.{exp, power}
-use Rattle.ss_catalog.specs.declared.query.Kind.{Kind}
 use Rattle.ss_catalog.specs.declared.query.Kind.TheVariants as kinds
-use Rattle.ss_catalog.specs.declared.query.Query.{Query}
 use Rattle.ss_summary.specs.Filters.{bit_of, filter_of, full, has, union}
-use Rattle.ss_summary.specs.Points.{New, Old, Origin}
-use Rattle.ss_model.specs.Answers.{HoldsPresence, HoldsTruth, IsExactOutcome, IsOfKind, outcome_of}
-use Rattle.ss_model.specs.History.{Happened, added}
+use Rattle.ss_model.specs.Answers.{outcome_of}
 use Rattle.ss_model.specs.State.{state}
-use Rattle.ss_model.specs.Truth.{true_presence}
-use Rattle.ss_model.specs.declared.outcome.Outcome.{Outcome}
-use Rattle.ss_model.specs.declared.outcome.Outcome.TheVariants.{Has}
 use Rattle.ss_model.specs.declared.outcome.Presence.{Presence}
-use Rattle.ss_model.specs.declared.outcome.Presence.TheVariants.{Absent, Present, Maybe}
 
 a : List ℕ
 a = codes "a"

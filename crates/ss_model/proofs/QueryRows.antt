@@ -1,20 +1,11 @@
 -- Worked rows of queries, each computed from the whole list of values.
-use Rattle.std.specs.Prelude.{◌≡◌, ℕ, Bool, true, ℤ, pos, negsuc, List, [], ◌∷◌, map, Some}
-use Rattle.std.proofs.Common.{refl}
-use Rattle.ss_windowing.specs.Exp.{exp_length}
+use Rattle.ss_model.proofs.Common.{ℤ, refl, exp_length, Sure, is_free, Landmark, Point, New, interval_of_count, interval_of_sum, interval_of_least}
+use Rattle.ss_model.proofs.Common.{interval_of_greatest, split_windows, marked_values, true_count, true_sum, without_step, windows, Window}
+use Rattle.std.specs.Prelude.{◌≡◌, ℕ, Bool, true, pos, negsuc, List, [], ◌∷◌, map, Some}
 use Rattle.ss_windowing.specs.Windowing.{window_index}
 use Rattle.ss_bounds.specs.declared.extreme.Extreme.{Extreme}
-use Rattle.ss_bounds.specs.declared.extreme.Extreme.TheVariants.{Nothing, Sure, Maybe}
+use Rattle.ss_bounds.specs.declared.extreme.Extreme.TheVariants.{Nothing, Maybe}
 use Rattle.ss_bounds.specs.Split.{sum_interval}
-use Rattle.ss_landmarks.specs.Free.{is_free}
-use Rattle.ss_landmarks.specs.Landmark.{Landmark}
-use Rattle.ss_summary.specs.Points.{Point, New}
-use Rattle.ss_model.specs.Interval.{interval_of_count, interval_of_sum, interval_of_least, interval_of_greatest, split_windows}
-use Rattle.ss_model.specs.Marks.{marked_values}
-use Rattle.ss_model.specs.Truth.{true_count, true_sum}
-use Rattle.ss_target.specs.Rule.{without_step}
-use Rattle.ss_model.specs.Windows.{windows}
-use Rattle.ss_model.specs.declared.types.Window.{Window}
 
 -- all times are free, and no landmark stands
 abbrev free : ℕ → Bool

@@ -1,27 +1,14 @@
 -- What is read off the state of a history.
-use Rattle.std.proofs.Common.{◌≡◌, ◌≢◌, ℕ, ◌+◌, ◌-◌, ◌*◌, ◌<◌, ◌≤◌, false, true, List, [], ◌∷◌, length, map, get_or, refl, ap, sym, subst, ◌∙◌, arith, None}
-use Rattle.std.proofs.Common.{Some, inl, inr}
-use Rattle.std.specs.Prelude.{All, Option}
+use Rattle.ss_model.proofs.Common.{◌≡◌, ◌≢◌, ℕ, ◌+◌, ◌-◌, ◌*◌, ◌<◌, ◌≤◌, false, true, List, [], ◌∷◌, length, map, get_or, refl, ap, sym, subst, ◌∙◌, arith}
+use Rattle.ss_model.proofs.Common.{None, Some, inl, inr, All, Option, cases_Bool, cond_both, find-append, event_name, same_name, Event, Create, Value, Open}
+use Rattle.ss_model.proofs.Common.{Close, Drop, has_target, lengths_of, Point, Origin, cover, steps_met, IsWithinTarget, values_of, Happened, has_open}
+use Rattle.ss_model.proofs.Common.{with_closed, with_marked, with_opened, IsHistory, IsStream, rule_of, Created, Stream, standing, stream_after, stream_named}
+use Rattle.ss_model.proofs.Common.{values_in, change_named, with_taken, with_plain_value, windows}
 use Rattle.std.specs.Option.{option_or}
-use Rattle.std.proofs.lemmas.Bool.{cases_Bool, cond_both}
 use Rattle.std.proofs.lemmas.List.Elements.{All-map, All-get_or}
-use Rattle.std.proofs.lemmas.List.Folds.{find-append}
-use Rattle.ss_catalog.specs.Events.{event_name}
-use Rattle.ss_catalog.specs.Names.{same_name}
-use Rattle.ss_catalog.specs.declared.event.Event.{Event}
-use Rattle.ss_catalog.specs.declared.event.Event.TheVariants.{Create, Value, Open, Close, Drop}
-use Rattle.ss_target.specs.Lengths.{has_target, lengths_of}
 use Rattle.ss_target.proofs.LengthLemmas.{lengths_of-positive, lengths_of-never_fall}
-use Rattle.ss_summary.specs.Points.{Point, Origin}
-use Rattle.ss_model.specs.Decay.{cover, steps_met, IsWithinTarget}
-use Rattle.ss_model.specs.History.{values_of, Happened}
-use Rattle.ss_model.specs.Marks.{has_open, with_closed, with_marked, with_opened}
-use Rattle.ss_model.specs.Refusals.{IsHistory}
-use Rattle.ss_model.specs.Standing.{IsStream}
-use Rattle.ss_target.specs.Rule.{rule_of}
-use Rattle.ss_model.specs.State.{Created, Stream, state, standing, stream_after, stream_named, values_in}
-use Rattle.ss_model.specs.Steps.{change_named, stepped_from, with_taken, with_plain_value}
-use Rattle.ss_model.specs.Windows.{windows}
+use Rattle.ss_model.specs.State.{state}
+use Rattle.ss_model.specs.Steps.{stepped_from}
 use Rattle.ss_model.proofs.DecayLemmas.{length-windows, length-windows_met, IsWithinTarget-windows}
 use Rattle.ss_model.proofs.DropLemmas.{stream_named-without}
 use Rattle.ss_model.proofs.HistoryLemmas.{IsState-state}

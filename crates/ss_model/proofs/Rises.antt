@@ -1,8 +1,8 @@
 -- Boundaries rise strictly, strictly between 0 and how many values have been taken, whatever the rule answers. They are the same for
 -- times that lie in the same steps.
-use Rattle.std.proofs.Common.{◌≡◌, ℕ, zero, suc, ◌+◌, ◌<◌, ◌≤◌, Bool, true, false, cond, List, [], ◌∷◌, ◌++◌, refl, ap, ◌∙◌, add-one, arith}
-use Rattle.ss_model.specs.Boundaries.{next_boundary, staying, boundaries}
-use Rattle.ss_target.specs.Rule.{Rule, may_be_one, step_of}
+use Rattle.ss_model.proofs.Common.{◌≡◌, ℕ, zero, suc, ◌+◌, ◌<◌, ◌≤◌, Bool, true, false, cond, List, [], ◌∷◌, ◌++◌, refl, ap, ◌∙◌, add-one, arith, staying}
+use Rattle.ss_model.proofs.Common.{boundaries, Rule, may_be_one, step_of}
+use Rattle.ss_model.specs.Boundaries.{next_boundary}
 
 -- the list rises strictly, above `before` and below `end`
 abbrev pub Rises : ℕ → List ℕ → ℕ → Type 0

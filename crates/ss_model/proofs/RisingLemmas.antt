@@ -1,28 +1,14 @@
 -- The values of a stream of a history that lie outside landmarks stand at rising times, and no landmark covers any of them.
-use Rattle.std.proofs.Common.{◌≡◌, ℕ, ◌+◌, ◌<◌, ◌≤◌, ℤ, Bool, true, false, not, ◌&&◌, List, [], ◌∷◌, ◌++◌, map, refl, ap, sym, ◌∙◌, subst, arith}
-use Rattle.std.proofs.Common.{Option, Some, None, is_some, length, inl, inr}
-use Rattle.std.specs.Prelude.{All, ◌==◌}
-use Rattle.std.specs.Option.{option_map_or}
-use Rattle.std.proofs.lemmas.Bool.{cases_Bool}
-use Rattle.std.proofs.lemmas.Bool.Decides.{nat_tests}
-use Rattle.std.proofs.lemmas.List.Elements.{All-head, All-tail}
-use Rattle.ss_catalog.specs.Events.{event_name}
-use Rattle.ss_catalog.specs.Names.{same_name}
-use Rattle.ss_catalog.specs.declared.event.Event.{Event}
-use Rattle.ss_catalog.specs.declared.event.Event.TheVariants.{Create, Value, Open, Close, Drop}
-use Rattle.ss_landmarks.specs.Free.{is_free}
-use Rattle.ss_landmarks.specs.Landmark.{Landmark, open_landmark}
-use Rattle.ss_landmarks.specs.Order.{AreLandmarks}
+use Rattle.ss_model.proofs.Common.{◌≡◌, ℕ, ◌+◌, ◌<◌, ◌≤◌, Bool, true, false, not, ◌&&◌, List, [], ◌∷◌, ◌++◌, map, refl, ap, sym, ◌∙◌, subst, arith, Some}
+use Rattle.ss_model.proofs.Common.{None, length, inl, inr, All, ◌==◌, option_map_or, cases_Bool, nat_tests, All-head, All-tail, event_name, same_name, Event}
+use Rattle.ss_model.proofs.Common.{Create, Value, Open, Close, Drop, is_free, Landmark, open_landmark, AreLandmarks, Point, Origin, Given, given_after}
+use Rattle.ss_model.proofs.Common.{given_to, is_for, landmarks_of, values_of, Happened, has_open, later, latest_of, with_closed, with_marked, with_opened}
+use Rattle.ss_model.proofs.Common.{IsHistory, is_before, is_early, is_opening, is_past, refuses, IsStream, rule_of, Created, Stream, standing, stream_after}
+use Rattle.ss_model.proofs.Common.{stream_named, last_time, RiseAtFree, time_of_last}
+use Rattle.std.proofs.Common.{ℤ}
+use Rattle.std.proofs.Common.{Option, is_some}
 use Rattle.ss_summary.specs.Summaries as summaries
-use Rattle.ss_summary.specs.Points.{Point, Origin}
-use Rattle.ss_model.specs.History.{Given, given_after, given_to, is_for, landmarks_of, values_of, Happened}
-use Rattle.ss_model.specs.Marks.{has_open, later, latest_of, with_closed, with_marked, with_opened}
-use Rattle.ss_model.specs.Refusals.{IsHistory, is_before, is_early, is_opening, is_past, refuses}
-use Rattle.ss_model.specs.Standing.{IsStream}
-use Rattle.ss_target.specs.Rule.{rule_of}
-use Rattle.ss_model.specs.State.{Created, Stream, state, standing, stream_after, stream_named, last_time}
-use Rattle.ss_model.specs.Truth.{RiseAtFree}
-use Rattle.ss_model.specs.Windows.{time_of_last}
+use Rattle.ss_model.specs.State.{state}
 use Rattle.ss_model.proofs.EventLemmas.{given_to-created, given_to-event, given_to-other}
 use Rattle.ss_model.proofs.HistoryLemmas.{by_pushes, GoesOn-push, IsState-state}
 use Rattle.ss_model.proofs.MarkLemmas.{ends-latest, free-later, is_free-closed, is_free-marked, is_free-opened, none-latest}

@@ -1,17 +1,13 @@
 -- The answers to the rows of a series.
-use Rattle.std.proofs.Common.{◌≡◌, ℕ, ◌<◌, Bool, true, false, List, [], ◌∷◌, Option, Some, None, IsSome, arith, refl}
+use Rattle.ss_model.proofs.Common.{◌≡◌, ℕ, ◌<◌, Bool, true, false, List, [], ◌∷◌, Some, None, IsSome, arith, refl, nat_lt, option_map, row_query, Unknown}
+use Rattle.ss_model.proofs.Common.{Range, Series, Happened, answer_of, IsHistory, first_that_applies, stands, AnswersRow, refuses_series, Stream, state}
+use Rattle.ss_model.proofs.Common.{stream_named, Outcome}
+use Rattle.std.proofs.Common.{Option}
 use Rattle.std.proofs.lemmas.Bool.{le-ltb}
-use Rattle.std.specs.Prelude.{not, nat_lt, option_map}
+use Rattle.std.specs.Prelude.{not}
 use Rattle.ss_catalog.proofs.SeriesLemmas.{row-within}
-use Rattle.ss_catalog.specs.Series.{row_count, row_query, whole_query}
-use Rattle.ss_catalog.specs.declared.refusal.Refusal.TheVariants.{Unknown, Range}
-use Rattle.ss_catalog.specs.declared.series.Series.{Series}
-use Rattle.ss_model.specs.History.{Happened}
-use Rattle.ss_model.specs.Answers.{answer_of, outcome_of, refuses_query}
-use Rattle.ss_model.specs.Refusals.{IsHistory, first_that_applies, stands}
-use Rattle.ss_model.specs.Series.{AnswersRow, refuses_series}
-use Rattle.ss_model.specs.State.{Stream, state, stream_named}
-use Rattle.ss_model.specs.declared.outcome.Outcome.{Outcome}
+use Rattle.ss_catalog.specs.Series.{row_count, whole_query}
+use Rattle.ss_model.specs.Answers.{outcome_of, refuses_query}
 use Rattle.ss_model.proofs.AnswerLemmas.{answer-exact, answer-holds, answer-known}
 
 -- a row doesn't end before it begins

@@ -1,20 +1,12 @@
 -- Worked rows, each computed.
-use Rattle.std.proofs.Common.{◌≡◌, ℕ, ◌+◌, ◌^◌, List, [], ◌∷◌, map, refl, ℤ, pos, negsuc, lit≤, arith}
-use Rattle.ss_windowing.specs.declared.decay.TheConstants.{MOST_VALUES}
-use Rattle.ss_windowing.specs.Exp.{exp_length}
+use Rattle.ss_model.proofs.Common.{◌≡◌, ℕ, ◌+◌, ◌^◌, List, [], ◌∷◌, map, refl, pos, negsuc, lit≤, arith, MOST_VALUES, exp_length, full, Point, New}
+use Rattle.ss_model.proofs.Common.{boundaries, without_step, stretches, windows, closed, JoinsDue, cover, IsReadWithinTarget, IsWithinTarget, placed_of}
+use Rattle.ss_model.proofs.Common.{Window}
+use Rattle.std.proofs.Common.{ℤ}
 use Rattle.ss_windowing.specs.Windowing.{window_index}
 use Rattle.ss_power.specs.Power.{power_length}
-use Rattle.ss_summary.specs.Filters.{bit_of, filter_of, full, union}
-use Rattle.ss_summary.specs.Points.{Point, New}
+use Rattle.ss_summary.specs.Filters.{bit_of, filter_of, union}
 use Rattle.ss_summary.specs.declared.filter.Filter.{Filter}
-use Rattle.ss_model.specs.Boundaries.{boundaries}
-use Rattle.ss_target.specs.Rule.{without_step}
-use Rattle.ss_model.specs.Windows.{stretches, windows}
-use Rattle.ss_model.specs.Closed.{closed}
-use Rattle.ss_model.specs.Joins.{JoinsDue}
-use Rattle.ss_model.specs.Decay.{cover, IsReadWithinTarget, IsWithinTarget}
-use Rattle.ss_model.specs.Shown.{placed_of}
-use Rattle.ss_model.specs.declared.types.Window.{Window}
 use Rattle.ss_summary.specs.declared.summary.TheConstants.{GREATEST_COUNT}
 
 -- a stream takes as many values as one summary may be of

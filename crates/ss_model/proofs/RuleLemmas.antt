@@ -1,21 +1,11 @@
 -- Neighbours that may be one: what of their ends follows, and how that stays when they are joined.
-use Rattle.std.proofs.Common.{◌≡◌, ℕ, zero, suc, ◌+◌, ◌-◌, ◌/◌, ◌≤◌, true, List, [], ◌∷◌, refl, sym, ap, ◌∙◌, arith}
-use Rattle.std.proofs.Common.{add_assoc}
-use Rattle.std.specs.Prelude.{All, None}
-use Rattle.std.proofs.Math.Nat.{div-mul-le_self, div-zero}
-use Rattle.std.proofs.lemmas.Bool.{and_parts, cond_both, eqb-true}
-use Rattle.std.proofs.lemmas.List.Elements.{All-cons, All-head, All-tail}
+use Rattle.ss_model.proofs.Common.{◌≡◌, ℕ, zero, suc, ◌+◌, ◌-◌, ◌/◌, ◌≤◌, true, List, [], ◌∷◌, refl, sym, ap, ◌∙◌, arith, add_assoc, All, div-mul-le_self}
+use Rattle.ss_model.proofs.Common.{and_parts, cond_both, eqb-true, All-cons, All-head, All-tail, step_number, Params, fits, window_index}
+use Rattle.ss_model.proofs.Common.{window_index-monotone, last_position, joined_window, may_join, closed_onto, closed, IsInStep, lengths_of, Rule, rule_of}
+use Rattle.ss_model.proofs.Common.{step_of, without_step, StandFrom, Window}
+use Rattle.std.specs.Prelude.{None}
+use Rattle.std.proofs.Math.Nat.{div-zero}
 use Rattle.std.proofs.lemmas.Nat.{le-div}
-use Rattle.ss_catalog.specs.Params.{step_number}
-use Rattle.ss_catalog.specs.declared.params.Params.{Params}
-use Rattle.ss_windowing.specs.Windowing.{fits, window_index}
-use Rattle.ss_windowing.proofs.WindowingLemmas.{window_index-monotone}
-use Rattle.ss_model.specs.Closed.{last_position, joined_window, may_join, closed_onto, closed}
-use Rattle.ss_model.specs.Decay.{IsInStep}
-use Rattle.ss_target.specs.Lengths.{lengths_of}
-use Rattle.ss_target.specs.Rule.{Rule, rule_of, step_of, without_step}
-use Rattle.ss_model.specs.Tiling.{StandFrom}
-use Rattle.ss_model.specs.declared.types.Window.{Window}
 
 -- a later time lies in no earlier step
 pub step_of-monotone : (step t u : ℕ) → t ≤ u → step_of step t ≤ step_of step u

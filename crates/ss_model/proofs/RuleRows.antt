@@ -1,17 +1,10 @@
 -- Worked rows of merge rules with a step, each computed.
-use Rattle.std.proofs.Common.{◌≡◌, ◌+◌, ◌-◌, ◌*◌, ℕ, Bool, true, false, List, [], ◌∷◌, ◌++◌, length, map, refl, pos, negsuc}
+use Rattle.ss_model.proofs.Common.{◌≡◌, ◌+◌, ◌-◌, ◌*◌, ℕ, Bool, true, false, List, [], ◌∷◌, ◌++◌, length, map, refl, pos, negsuc, full, Point, New}
+use Rattle.ss_model.proofs.Common.{summary_of, exp_length, boundaries, closed, last_position, cover, ends_of, steps_met, Rule, in_step, without_step, time_at}
+use Rattle.ss_model.proofs.Common.{windows, Window}
 use Rattle.ss_power.specs.Power.{power_length}
-use Rattle.ss_summary.specs.Filters.{bit_of, filter_of, full, union}
-use Rattle.ss_summary.specs.Points.{Point, New}
-use Rattle.ss_summary.specs.Summaries.{summary_of}
-use Rattle.ss_windowing.specs.Exp.{exp_length}
+use Rattle.ss_summary.specs.Filters.{bit_of, filter_of, union}
 use Rattle.ss_windowing.specs.Windowing.{window_index}
-use Rattle.ss_model.specs.Boundaries.{boundaries}
-use Rattle.ss_model.specs.Closed.{closed, last_position}
-use Rattle.ss_model.specs.Decay.{cover, ends_of, steps_met}
-use Rattle.ss_target.specs.Rule.{Rule, in_step, without_step}
-use Rattle.ss_model.specs.Windows.{time_at, windows}
-use Rattle.ss_model.specs.declared.types.Window.{Window}
 
 -- without a step all times lie in one
 in_no_step : (t u : ℕ) → in_step 0 t u ≡ true

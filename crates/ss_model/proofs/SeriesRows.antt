@@ -1,22 +1,15 @@
 -- Worked rows of series, each computed from a history.
-use Rattle.std.proofs.Common.{◌≡◌, ℕ, List, [], ◌∷◌, map, Some, None, refl}
-use Rattle.std.specs.Prelude.{codes, pos, negsuc}
+use Rattle.ss_model.proofs.Common.{◌≡◌, ℕ, List, [], ◌∷◌, map, Some, None, refl, codes, row_query, rows_of, Create, Value, exp, Unknown, Range, Series}
+use Rattle.ss_model.proofs.Common.{HoldsTruth, IsExactOutcome, split_by, marked_of, values_of, Happened, added, AnswersRow, refuses_series, Outcome, Has, Sum}
+use Rattle.ss_model.proofs.Common.{Absent, Maybe}
+use Rattle.std.specs.Prelude.{pos, negsuc}
 use Rattle.ss_bounds.specs.Split.{sum_interval}
-use Rattle.ss_catalog.specs.Series.{numbers_from, row_query, rows_of}
-use Rattle.ss_catalog.specs.declared.event.Event.TheVariants.{Create, Value}
-use Rattle.ss_catalog.specs.Params.{exp}
+use Rattle.ss_catalog.specs.Series.{numbers_from}
 use Rattle.ss_catalog.specs.declared.query.Kind.TheVariants as kinds
-use Rattle.ss_catalog.specs.declared.refusal.Refusal.TheVariants.{Unknown, Range}
-use Rattle.ss_catalog.specs.declared.series.Series.{Series}
 use Rattle.ss_summary.specs.Filters.{bit_of, filter_of, has, union}
 use Rattle.ss_windowing.specs.Windowing.{window_index}
-use Rattle.ss_model.specs.Answers.{HoldsTruth, IsExactOutcome, outcome_of, refuses_query, split_by}
-use Rattle.ss_model.specs.History.{marked_of, values_of, Happened, added}
-use Rattle.ss_model.specs.Series.{AnswersRow, refuses_series}
+use Rattle.ss_model.specs.Answers.{outcome_of, refuses_query}
 use Rattle.ss_model.specs.State.{state}
-use Rattle.ss_model.specs.declared.outcome.Outcome.{Outcome}
-use Rattle.ss_model.specs.declared.outcome.Outcome.TheVariants.{Has, Sum}
-use Rattle.ss_model.specs.declared.outcome.Presence.TheVariants.{Absent, Maybe}
 
 -- a stream and seven readings
 readings : List Happened

@@ -1,23 +1,13 @@
 -- The figures of windows that a range splits are those of windows that a range may split.
-use Rattle.std.proofs.Common.{◌≡◌, ℕ, ◌+◌, ◌-◌, ◌<◌, ◌≤◌, List, [], ◌∷◌, arith, inl, inr, true, IsTrue}
-use Rattle.std.specs.Prelude.{◌&&◌, ◌||◌, not, nat_le, nat_lt}
-use Rattle.std.specs.List.{list_all}
-use Rattle.std.proofs.lemmas.Bool.{and_parts, cases_Bool, cases_lt}
-use Rattle.std.proofs.lemmas.Bool.Decides.{nat_tests}
-use Rattle.ss_bounds.specs.Guess.{AreAllSplit}
+use Rattle.ss_model.proofs.Common.{◌≡◌, ℕ, ◌+◌, ◌-◌, ◌<◌, ◌≤◌, List, [], ◌∷◌, arith, inl, inr, true, ◌||◌, nat_le, nat_lt, list_all, and_parts, cases_Bool}
+use Rattle.ss_model.proofs.Common.{cases_lt, nat_tests, AreAllSplit, free, is_free, Landmark, free-add, is_split, split_figures, split_windows, lies_free}
+use Rattle.ss_model.proofs.Common.{IsStream, Stream, StandFrom, Window, IsPossible}
+use Rattle.std.proofs.Common.{IsTrue}
+use Rattle.std.specs.Prelude.{◌&&◌, not}
 use Rattle.ss_bounds.specs.Split.{IsSplit}
 use Rattle.ss_bounds.proofs.RangeLemmas.{IsSplit-split_of}
-use Rattle.ss_landmarks.specs.Free.{free, is_free}
-use Rattle.ss_landmarks.specs.Landmark.{Landmark}
-use Rattle.ss_landmarks.proofs.TimeLemmas.{free-add, free-le}
-use Rattle.ss_model.specs.Interval.{is_split, split_figures, split_windows}
-use Rattle.ss_model.specs.Marks.{lies_free}
-use Rattle.ss_model.specs.Standing.{IsStream}
-use Rattle.ss_model.specs.State.{Stream}
-use Rattle.ss_model.specs.Tiling.{StandFrom}
-use Rattle.ss_model.specs.declared.types.Window.{Window}
+use Rattle.ss_landmarks.proofs.TimeLemmas.{free-le}
 use Rattle.ss_model.proofs.MarkLemmas.{LiesFree-lies_free}
-use Rattle.ss_summary.specs.Figures.{IsPossible}
 
 -- where a window lies to the range
 pub record Lies (from to first last : ℕ) : Type 0 where

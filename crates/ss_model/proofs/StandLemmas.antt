@@ -1,36 +1,20 @@
 -- What every state meets, through one step.
-use Rattle.std.proofs.Common.{◌≡◌, ℕ, ◌+◌, ◌<◌, ◌≤◌, ℤ, Bool, false, not, List, [], ◌∷◌, ◌++◌, length, refl, ap, sym, ◌∙◌, arith, None, Some}
-use Rattle.std.proofs.Common.{subst, inl, inr}
-use Rattle.std.specs.Prelude.{All, Option, FitsSigned, nat_le, ◌==◌}
-use Rattle.std.specs.Int.{w64}
-use Rattle.std.specs.List.{IsDistinct, list_any}
-use Rattle.std.specs.Option.{option_map_or}
-use Rattle.std.proofs.lemmas.Bool.{cases_Bool, cond-false, cond-true, cond_both, eqb-false, not-false, or_parts}
-use Rattle.std.proofs.lemmas.Bool.Decides.{nat_tests}
-use Rattle.std.proofs.lemmas.List.{length_push, length-append, map-append}
-use Rattle.std.proofs.lemmas.List.Elements.{All-nil, All-head, All-tail, All-cons, All-append, All-push}
-use Rattle.std.proofs.lemmas.List.Sums.{sum_by-append, sum_by-cons, sum_by_push}
-use Rattle.ss_catalog.specs.declared.TheConstants.{MOST_STREAMS, LAST_STREAM, LAST_TIME}
-use Rattle.ss_catalog.specs.declared.event.Event.{Event}
-use Rattle.ss_catalog.specs.declared.event.Event.TheVariants.{Create, Value, Open, Close, Drop}
-use Rattle.ss_catalog.specs.declared.params.Params.{Params}
-use Rattle.ss_summary.specs.Figures.{IsPossible}
-use Rattle.ss_summary.specs.Summaries.{summary_of}
+use Rattle.ss_model.proofs.Common.{◌≡◌, ℕ, ◌+◌, ◌<◌, ◌≤◌, Bool, false, not, List, [], ◌∷◌, ◌++◌, length, refl, ap, sym, ◌∙◌, arith, None, Some, subst, inl}
+use Rattle.ss_model.proofs.Common.{inr, All, Option, FitsSigned, nat_le, ◌==◌, w64, list_any, option_map_or, cases_Bool, cond-false, cond-true, cond_both}
+use Rattle.ss_model.proofs.Common.{eqb-false, not-false, nat_tests, length_push, length-append, map-append, All-nil, All-head, All-tail, All-cons, All-append}
+use Rattle.ss_model.proofs.Common.{All-push, sum_by-append, sum_by-cons, LAST_STREAM, LAST_TIME, Event, Create, Value, Open, Close, Drop, Params, IsPossible}
+use Rattle.ss_model.proofs.Common.{summary_of, MOST_VALUES, Point, Origin, closed, closed_onto, joined_window, may_join, IsInStep, CanBeSaid, has_open}
+use Rattle.ss_model.proofs.Common.{with_closed, with_marked, with_opened, has_all_records, is_before, is_early, has_most_values, is_past, of_named, refuses}
+use Rattle.ss_model.proofs.Common.{IsStream, IsState, Rule, rule_of, Stream, next_number, numbers_of, names_of, stream_named, values_in, last_time, live}
+use Rattle.ss_model.proofs.Common.{records_of, change_named, single_window, with_taken, with_plain_value, MOST_RECORDS, Window}
+use Rattle.std.proofs.Common.{ℤ}
+use Rattle.std.specs.List.{IsDistinct}
+use Rattle.std.proofs.lemmas.Bool.{or_parts}
+use Rattle.std.proofs.lemmas.List.Sums.{sum_by_push}
+use Rattle.ss_catalog.specs.declared.TheConstants.{MOST_STREAMS}
 use Rattle.ss_summary.specs.declared.summary.TheConstants.{LATEST_TIME}
 use Rattle.ss_summary.proofs.Values.{IsPossible-summary_of}
-use Rattle.ss_windowing.specs.declared.decay.TheConstants.{MOST_VALUES}
-use Rattle.ss_summary.specs.Points.{Point, Origin}
-use Rattle.ss_model.specs.Closed.{closed, closed_onto, joined_window, may_join}
-use Rattle.ss_model.specs.Decay.{IsInStep}
-use Rattle.ss_model.specs.History.{CanBeSaid}
-use Rattle.ss_model.specs.Marks.{has_open, with_closed, with_marked, with_opened}
-use Rattle.ss_model.specs.Refusals.{has_all_records, is_before, is_early, has_most_values, is_past, of_named, refuses}
-use Rattle.ss_model.specs.Standing.{IsStream, IsState}
-use Rattle.ss_target.specs.Rule.{Rule, rule_of}
-use Rattle.ss_model.specs.State.{Stream, next_number, numbers_of, names_of, stream_named, values_in, last_time, live, records_of}
-use Rattle.ss_model.specs.Steps.{change_named, single_window, stepped_from, with_taken, with_plain_value}
-use Rattle.ss_model.specs.declared.types.TheConstants.{MOST_RECORDS}
-use Rattle.ss_model.specs.declared.types.Window.{Window}
+use Rattle.ss_model.specs.Steps.{stepped_from}
 use Rattle.ss_model.proofs.DropLemmas.{IsState-without}
 use Rattle.ss_model.proofs.FoundLemmas.{IsFound, found, changed-found, stream_named-at, below_next, IsStrictlyIncreasing_push, IsDistinct_push, All-around}
 use Rattle.ss_model.proofs.StepLemmas.{CanCreate, CanAppend, CanOpenAt, CanCloseAt, CanCreate-refuses, CanAppend-refuses, CanOpenAt-refuses, CanCloseAt-refuses}

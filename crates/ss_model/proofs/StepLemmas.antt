@@ -1,27 +1,16 @@
 -- The state of a history with one more event.
-use Rattle.std.proofs.Common.{◌≡◌, ℕ, ℤ, Bool, not, true, false, List, [], ◌∷◌, ◌++◌, map, refl, ap, sym, ◌∙◌, arith, None, Some, inl, inr}
-use Rattle.std.specs.Prelude.{if◌then◌else◌, filter}
-use Rattle.std.proofs.lemmas.Bool.{cases_Bool, cond_both}
-use Rattle.std.proofs.lemmas.List.{map-append}
-use Rattle.std.proofs.lemmas.List.Sums.{fold-append}
-use Rattle.std.proofs.lemmas.Grind.{common_steps}
-use Rattle.ss_catalog.specs.Events.{event_name}
-use Rattle.ss_catalog.specs.Names.{same_name}
-use Rattle.ss_catalog.specs.declared.event.Event.{Event}
-use Rattle.ss_catalog.specs.declared.event.Event.TheVariants.{Create, Value, Open, Close, Drop}
-use Rattle.ss_catalog.specs.declared.params.Params.{Params}
-use Rattle.ss_catalog.specs.declared.refusal.Refusal.{Refusal}
+use Rattle.ss_model.proofs.Common.{◌≡◌, ℕ, Bool, not, true, false, List, [], ◌∷◌, ◌++◌, map, refl, ap, sym, ◌∙◌, arith, None, Some, inl, inr, if◌then◌else◌}
+use Rattle.ss_model.proofs.Common.{cases_Bool, cond_both, map-append, fold-append, common_steps, event_name, same_name, Event, Create, Value, Open, Close}
+use Rattle.ss_model.proofs.Common.{Drop, Params, Refusal, has_target, Point, Origin, Given, creates, given_after, given_to, Happened, has_open, with_closed}
+use Rattle.ss_model.proofs.Common.{with_opened, rule_of, Created, Stream, next_number, standing_after, standing, stream_after, last_time, stands}
+use Rattle.ss_model.proofs.Common.{has_all_streams, has_all_records, is_before, is_early, has_most_values, is_past, first_that_applies, of_named}
+use Rattle.ss_model.proofs.Common.{change_named, with_taken, with_plain_value, without_named, windows}
+use Rattle.std.proofs.Common.{ℤ}
+use Rattle.std.specs.Prelude.{filter}
 use Rattle.ss_catalog.specs.declared.refusal.Refusal.TheVariants as refusal
-use Rattle.ss_target.specs.Lengths.{has_target}
-use Rattle.ss_summary.specs.Points.{Point, Origin}
-use Rattle.ss_model.specs.History.{Given, creates, given_after, given_to, Happened}
-use Rattle.ss_model.specs.Marks.{has_open, with_closed, with_opened}
-use Rattle.ss_target.specs.Rule.{rule_of}
-use Rattle.ss_model.specs.State.{Created, Stream, next_number, standing_after, standing, stream_after, state, last_time}
-use Rattle.ss_model.specs.Refusals.{stands, has_all_streams, has_all_records, is_before, is_early, has_most_values, is_past, first_that_applies, of_named}
+use Rattle.ss_model.specs.State.{state}
 use Rattle.ss_model.specs.Refusals.{refuses}
-use Rattle.ss_model.specs.Steps.{change_named, with_taken, with_plain_value, without_named, stepped_from}
-use Rattle.ss_model.specs.Windows.{windows}
+use Rattle.ss_model.specs.Steps.{stepped_from}
 use Rattle.ss_model.proofs.EventLemmas.{given_to-created, given_to-event, given_to-other}
 use Rattle.ss_model.proofs.NameLemmas.{same_name-same, same_name-swap}
 use Rattle.ss_model.proofs.Incremental.{windows_push}

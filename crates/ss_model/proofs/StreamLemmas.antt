@@ -1,37 +1,17 @@
 -- A stream with one more event is a stream again.
-use Rattle.std.proofs.Common.{◌≡◌, ℕ, ◌+◌, ◌<◌, ◌≤◌, ℤ, true, false, not, ◌&&◌, List, [], ◌∷◌, ◌++◌, length, refl, ap, sym, subst, ◌∙◌, arith, Option}
-use Rattle.std.proofs.Common.{None, Some, MatchOption, inl, inr}
-use Rattle.std.specs.Prelude.{FitsSigned, ◌==◌, is_some, IsNone}
-use Rattle.std.specs.Int.{w64}
-use Rattle.std.specs.List.{list_all}
-use Rattle.std.specs.Option.{option_map_or}
-use Rattle.std.proofs.lemmas.Bool.{and_from, and_parts, cases_Bool, eq-eqb, eqb-true, not-false}
-use Rattle.std.proofs.lemmas.Bool.Decides.{nat_tests}
-use Rattle.std.proofs.lemmas.List.{length_push}
-use Rattle.std.proofs.lemmas.List.Elements.{All-nil, All-push}
-use Rattle.std.proofs.lemmas.List.Folds.{list_all-append}
-use Rattle.ss_catalog.specs.declared.TheConstants.{LAST_TIME}
-use Rattle.ss_landmarks.specs.Free.{is_free}
+use Rattle.ss_model.proofs.Common.{◌≡◌, ℕ, ◌+◌, ◌<◌, ◌≤◌, true, false, not, ◌&&◌, List, [], ◌∷◌, ◌++◌, length, refl, ap, sym, subst, ◌∙◌, arith, None, Some}
+use Rattle.ss_model.proofs.Common.{MatchOption, inl, inr, FitsSigned, ◌==◌, is_some, w64, list_all, option_map_or, and_from, and_parts, cases_Bool, eq-eqb}
+use Rattle.ss_model.proofs.Common.{eqb-true, not-false, nat_tests, length_push, All-nil, All-push, list_all-append, LAST_TIME, is_free, Landmark}
+use Rattle.ss_model.proofs.Common.{LandmarkValue, all_values, closed_at, open_landmark, opened_at, IsPossible, summary_of, MOST_VALUES, Point, closed}
+use Rattle.ss_model.proofs.Common.{IsInStep, JoinsDue, has_open, lies_free, with_closed, with_marked, with_opened, is_before, is_early, is_opening, is_past}
+use Rattle.ss_model.proofs.Common.{IsStream, rule_of, Stream, last_time, records_of, values_in, single_window, with_plain_value, newest_time, Window}
+use Rattle.std.proofs.Common.{ℤ, Option}
+use Rattle.std.specs.Prelude.{IsNone}
 use Rattle.ss_landmarks.specs.Landmark as landmark
-use Rattle.ss_landmarks.specs.Landmark.{Landmark, LandmarkValue, all_values, change_last, closed_at, open_landmark, opened_at}
+use Rattle.ss_landmarks.specs.Landmark.{change_last}
 use Rattle.ss_landmarks.specs.Order.{CanClose, CanOpen, CanTake, IsClosedBefore}
 use Rattle.ss_landmarks.proofs.OrderLemmas.{AreLandmarks-close, AreLandmarks-take, FollowFrom-open}
 use Rattle.ss_landmarks.proofs.TimeLemmas.{CanClose-after, CanOpen-after, CanTake-after, CanTake-first, all_values-close, all_values-open, all_values-take}
-use Rattle.ss_summary.specs.Figures.{IsPossible}
-use Rattle.ss_summary.specs.Summaries.{summary_of}
-use Rattle.ss_windowing.specs.declared.decay.TheConstants.{MOST_VALUES}
-use Rattle.ss_summary.specs.Points.{Point}
-use Rattle.ss_model.specs.Closed.{closed}
-use Rattle.ss_model.specs.Decay.{IsInStep}
-use Rattle.ss_model.specs.Joins.{JoinsDue}
-use Rattle.ss_model.specs.Marks.{has_open, lies_free, with_closed, with_marked, with_opened}
-use Rattle.ss_model.specs.Refusals.{is_before, is_early, is_opening, is_past}
-use Rattle.ss_model.specs.Standing.{IsStream}
-use Rattle.ss_target.specs.Rule.{rule_of}
-use Rattle.ss_model.specs.State.{Stream, last_time, records_of, values_in}
-use Rattle.ss_model.specs.Steps.{single_window, with_plain_value}
-use Rattle.ss_model.specs.Windows.{newest_time}
-use Rattle.ss_model.specs.declared.types.Window.{Window}
 use Rattle.ss_model.proofs.JoinLemmas.{AreWindows-JoinsDue, IsInStep-JoinsDue, JoinsDue-closed, lie_free-JoinsDue}
 use Rattle.ss_model.proofs.MarkLemmas.{cases_end, free-later, is_free-closed, is_free-marked, is_free-opened, lie_free-same, lie_free-same_all}
 use Rattle.ss_model.proofs.MarkLemmas.{lies_free-single}

@@ -1,14 +1,10 @@
 -- What the windows cut after each boundary hold.
-use Rattle.std.proofs.Common.{◌≡◌, ℕ, ◌+◌, ◌-◌, ◌<◌, ◌≤◌, List, [], ◌∷◌, ◌++◌, length, take, drop, Some, refl, ap, sym, ◌∙◌, arith, length-drop, length-take}
-use Rattle.std.proofs.lemmas.List.{take-append-le, drop-append-le, take-append-drop, take_at, drop_at}
-use Rattle.std.proofs.lemmas.List.Sums.{sum_by-cons}
-use Rattle.ss_summary.specs.Summaries.{summary_of}
+use Rattle.ss_model.proofs.Common.{◌≡◌, ℕ, ◌+◌, ◌-◌, ◌<◌, ◌≤◌, List, [], ◌∷◌, ◌++◌, length, take, drop, Some, refl, ap, sym, ◌∙◌, arith, drop-append-le}
+use Rattle.ss_model.proofs.Common.{take-append-drop, sum_by-cons, summary_of, Point, boundaries, Rule, stretches, windows, taken, newest_time, time_at}
+use Rattle.ss_model.proofs.Common.{time_of_last, Window}
+use Rattle.std.proofs.Common.{length-drop, length-take}
+use Rattle.std.proofs.lemmas.List.{take-append-le, take_at, drop_at}
 use Rattle.ss_summary.proofs.SummaryLemmas.{time_at_end-append}
-use Rattle.ss_summary.specs.Points.{Point}
-use Rattle.ss_model.specs.Boundaries.{boundaries}
-use Rattle.ss_target.specs.Rule.{Rule}
-use Rattle.ss_model.specs.Windows.{stretches, windows, taken, newest_time, time_at, time_of_last}
-use Rattle.ss_model.specs.declared.types.Window.{Window}
 use Rattle.ss_model.proofs.Rises.{Rises, Rises-low, Rises-boundaries}
 
 pub count-summary_of : (xs : List Point) → (summary_of xs).count ≡ length xs

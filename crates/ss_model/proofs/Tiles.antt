@@ -1,19 +1,10 @@
 -- Windows tile after an append and after a close, and what follows of two side by side.
-use Rattle.std.proofs.Common.{◌≡◌, ℕ, ◌+◌, ◌<◌, List, [], ◌∷◌, ◌++◌, length, Some, refl, arith, add_assoc, add-zero, ◌∙◌, sym, ap, subst, get_or}
-use Rattle.std.proofs.Common.{take, drop, append_assoc}
-use Rattle.std.proofs.lemmas.List.{take-append-drop, drop_more}
-use Rattle.std.proofs.lemmas.Bool.{cond_both}
-use Rattle.std.proofs.lemmas.List.Sums.{sum_by-append}
-use Rattle.ss_windowing.specs.declared.decay.TheConstants.{MOST_VALUES}
-use Rattle.ss_summary.specs.Figures.{IsPossible}
-use Rattle.ss_summary.specs.Summaries.{summary_of, joined}
-use Rattle.ss_summary.proofs.SummaryLemmas.{IsPossible-joined}
-use Rattle.ss_summary.specs.Points.{Point}
-use Rattle.ss_model.specs.Windows.{taken, newest_time}
-use Rattle.ss_model.specs.Closed.{last_position, joined_window, may_join, closed_onto, closed}
-use Rattle.ss_target.specs.Rule.{Rule}
-use Rattle.ss_model.specs.Tiling.{StandFrom, AreWindows, AreNeighbours}
-use Rattle.ss_model.specs.declared.types.Window.{Window}
+use Rattle.ss_model.proofs.Common.{◌≡◌, ℕ, ◌+◌, ◌<◌, List, [], ◌∷◌, ◌++◌, length, Some, refl, arith, add_assoc, ◌∙◌, sym, ap, subst, get_or, take, drop}
+use Rattle.ss_model.proofs.Common.{append_assoc, take-append-drop, cond_both, sum_by-append, MOST_VALUES, IsPossible, summary_of, joined, IsPossible-joined}
+use Rattle.ss_model.proofs.Common.{Point, taken, newest_time, last_position, joined_window, may_join, closed_onto, closed, Rule, StandFrom, AreWindows}
+use Rattle.ss_model.proofs.Common.{AreNeighbours, Window}
+use Rattle.std.proofs.Common.{add-zero}
+use Rattle.std.proofs.lemmas.List.{drop_more}
 use Rattle.ss_model.proofs.Stretches.{taken-cons}
 
 pub taken-append : (us ws : List Window) → taken (us ++ ws) ≡ taken us + taken ws

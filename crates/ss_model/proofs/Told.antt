@@ -1,12 +1,7 @@
 -- Which time each position has.
-use Rattle.std.proofs.Common.{◌≡◌, ℕ, ◌+◌, ◌-◌, ◌<◌, List, [], ◌∷◌, ◌++◌, length, map, get_or, ap, sym, ◌∙◌, subst}
-use Rattle.std.proofs.Common.{append_assoc, arith}
-use Rattle.std.proofs.lemmas.List.{get_or_append_left, length-map, length_push, map-append}
-use Rattle.std.proofs.Math.Seq.{get_or-append_seam}
-use Rattle.ss_summary.specs.Points.{Point}
-use Rattle.ss_summary.specs.Summaries.{summary_of, time_at_end}
-use Rattle.ss_target.specs.Rule.{step_of}
-use Rattle.ss_model.specs.Windows.{time_at}
+use Rattle.ss_model.proofs.Common.{◌≡◌, ℕ, ◌+◌, ◌-◌, ◌<◌, List, [], ◌∷◌, ◌++◌, length, map, get_or, ap, sym, ◌∙◌, subst, append_assoc, arith}
+use Rattle.ss_model.proofs.Common.{get_or_append_left, length-map, length_push, map-append, get_or-append_seam, Point, summary_of, time_at_end, step_of}
+use Rattle.ss_model.proofs.Common.{time_at}
 use Rattle.ss_model.proofs.Rises.{InSameSteps}
 
 -- the values after a position have these times

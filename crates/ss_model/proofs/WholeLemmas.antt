@@ -1,25 +1,13 @@
 -- A range of whole steps splits no window that lies in one step.
-use Rattle.std.proofs.Common.{◌≡◌, ℕ, suc, ◌+◌, ◌-◌, ◌*◌, ◌/◌, ◌%◌, ◌<◌, ◌≤◌, false, List, [], ◌∷◌, refl, ap, sym, ◌∙◌, subst, arith}
-use Rattle.std.proofs.Common.{None, Some, inl, inr, IfSome, mul-le-mul_right, add-mul, suc-mul, mul_assoc}
-use Rattle.std.specs.Prelude.{All, min, Option, ◌&&◌, ◌||◌, not, nat_le, nat_lt}
-use Rattle.std.specs.List.{filter}
-use Rattle.std.specs.Option.{option_map_or}
-use Rattle.std.proofs.Math.Nat.{add-mul-mod_self_right, div-mul-le_self, lt-div-mul-add, mod-eq-sub-div-mul}
-use Rattle.std.proofs.lemmas.Bool.{cases_lt, eqb-true}
-use Rattle.std.proofs.lemmas.Bool.Decides.{nat_tests}
-use Rattle.std.proofs.lemmas.List.Elements.{All-head, All-tail, All-nil, All-cons}
-use Rattle.ss_catalog.specs.Params.{step_number}
-use Rattle.ss_catalog.specs.Series.{row_query, row_start}
-use Rattle.ss_catalog.specs.declared.query.Query.{Query}
-use Rattle.ss_catalog.specs.declared.series.Series.{Series}
-use Rattle.ss_model.specs.Answers.{IsExactOutcome, outcome_of, split_by}
-use Rattle.ss_model.specs.Decay.{IsInStep}
-use Rattle.ss_model.specs.Interval.{is_split}
-use Rattle.ss_model.specs.Standing.{IsState, IsStream}
-use Rattle.ss_model.specs.State.{Stream, stream_named}
-use Rattle.ss_model.specs.WholeSteps.{AreWholeSteps, HasWholeRows, IsWithin}
-use Rattle.ss_model.specs.declared.outcome.Outcome.{Outcome}
-use Rattle.ss_model.specs.declared.types.Window.{Window}
+use Rattle.ss_model.proofs.Common.{◌≡◌, ℕ, suc, ◌+◌, ◌-◌, ◌*◌, ◌/◌, ◌<◌, ◌≤◌, false, List, [], ◌∷◌, refl, ap, sym, ◌∙◌, subst, arith, None, Some, inl, inr}
+use Rattle.ss_model.proofs.Common.{IfSome, All, Option, ◌||◌, nat_le, nat_lt, filter, option_map_or, div-mul-le_self, cases_lt, eqb-true, nat_tests, All-head}
+use Rattle.ss_model.proofs.Common.{All-tail, All-nil, All-cons, step_number, row_query, Query, Series, IsExactOutcome, outcome_of, split_by, IsInStep}
+use Rattle.ss_model.proofs.Common.{is_split, IsState, IsStream, Stream, stream_named, AreWholeSteps, HasWholeRows, IsWithin, Outcome, Window}
+use Rattle.std.proofs.Common.{◌%◌}
+use Rattle.std.proofs.Common.{mul-le-mul_right, add-mul, suc-mul, mul_assoc}
+use Rattle.std.specs.Prelude.{min, ◌&&◌, not}
+use Rattle.std.proofs.Math.Nat.{add-mul-mod_self_right, lt-div-mul-add, mod-eq-sub-div-mul}
+use Rattle.ss_catalog.specs.Series.{row_start}
 use Rattle.ss_model.proofs.AnswerLemmas.{answer-exact}
 use Rattle.ss_model.proofs.RisingLemmas.{All-named}
 use Rattle.ss_model.proofs.RuleLemmas.{step_of-quotient}

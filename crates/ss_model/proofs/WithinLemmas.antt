@@ -1,16 +1,9 @@
 -- A window that is read from the state of a history is within its target.
-use Rattle.std.proofs.Common.{◌≡◌, ℕ, zero, suc, ◌==◌, Bool, List, [], ◌∷◌, map, find, Option, None, Some, IfSome, slice_get, sym, subst, inl, inr}
-use Rattle.std.specs.Prelude.{All}
-use Rattle.std.proofs.lemmas.Bool.{cases_Bool}
-use Rattle.std.proofs.lemmas.List.Elements.{All-head, All-tail}
-use Rattle.ss_target.specs.Lengths.{lengths_of}
-use Rattle.ss_model.specs.History.{Happened}
-use Rattle.ss_model.specs.Decay.{IsWithinTarget, IsReadWithinTarget}
-use Rattle.ss_model.specs.Refusals.{IsHistory}
-use Rattle.ss_model.specs.Shown.{placed_of}
-use Rattle.ss_model.specs.State.{Stream, state, stream_numbered, values_in}
+use Rattle.ss_model.proofs.Common.{◌≡◌, ℕ, zero, suc, Bool, List, [], ◌∷◌, map, None, Some, IfSome, sym, subst, inl, inr, All, cases_Bool, All-head, All-tail}
+use Rattle.ss_model.proofs.Common.{lengths_of, Happened, IsWithinTarget, IsReadWithinTarget, IsHistory, placed_of, Stream, state, values_in, Window}
+use Rattle.std.proofs.Common.{◌==◌, find, Option, slice_get}
+use Rattle.ss_model.specs.State.{stream_numbered}
 use Rattle.ss_model.specs.declared.types.Placed.{Placed}
-use Rattle.ss_model.specs.declared.types.Window.{Window}
 use Rattle.ss_model.proofs.ReadLemmas.{within-state}
 
 -- what holds of each element holds of the one that is found

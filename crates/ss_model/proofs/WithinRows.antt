@@ -1,25 +1,16 @@
 -- Worked rows of streams whose windows cross no boundary of the clock, each computed from a history.
-use Rattle.std.proofs.Common.{◌≡◌, ℕ, ℤ, List, [], ◌∷◌, length, map, take, Some, None, refl, pos, negsuc, arith}
-use Rattle.std.specs.Prelude.{codes}
+use Rattle.ss_model.proofs.Common.{◌≡◌, ℕ, List, [], ◌∷◌, length, map, take, Some, None, refl, pos, negsuc, arith, codes, exp, power, row_query, rows_of}
+use Rattle.ss_model.proofs.Common.{Create, Value, Open, Close, Params, Query, Param, Exists, Series, last_position, Happened, added, Stream, AreWholeSteps}
+use Rattle.ss_model.proofs.Common.{HasWholeRows, IsWithin, Sum, Window}
+use Rattle.std.proofs.Common.{ℤ}
 use Rattle.ss_bounds.specs.Split.{sum_interval}
-use Rattle.ss_catalog.specs.Params.{exp, power}
-use Rattle.ss_catalog.specs.Series.{numbers_from, row_query, rows_of}
-use Rattle.ss_catalog.specs.declared.event.Event.TheVariants.{Create, Value, Open, Close}
-use Rattle.ss_catalog.specs.declared.params.Params.{Params}
+use Rattle.ss_catalog.specs.Series.{numbers_from}
 use Rattle.ss_catalog.specs.declared.query.Kind.TheVariants as kinds
-use Rattle.ss_catalog.specs.declared.query.Query.{Query}
-use Rattle.ss_catalog.specs.declared.refusal.Refusal.TheVariants.{Param, Exists}
-use Rattle.ss_catalog.specs.declared.series.Series.{Series}
 use Rattle.ss_power.specs.Power.{power_length}
 use Rattle.ss_windowing.specs.Windowing.{window_index}
 use Rattle.ss_model.specs.Answers.{outcome_of}
-use Rattle.ss_model.specs.Closed.{last_position}
-use Rattle.ss_model.specs.History.{Happened, added}
 use Rattle.ss_model.specs.Refusals.{refuses}
-use Rattle.ss_model.specs.State.{Stream, state}
-use Rattle.ss_model.specs.WholeSteps.{AreWholeSteps, HasWholeRows, IsWithin}
-use Rattle.ss_model.specs.declared.outcome.Outcome.TheVariants.{Sum}
-use Rattle.ss_model.specs.declared.types.Window.{Window}
+use Rattle.ss_model.specs.State.{state}
 
 a : List ℕ
 a = codes "a"

@@ -1,4 +1,4 @@
-use Rattle.std.proofs.Common.{arith}
+use Rattle.ss_journal.proofs.Common.{arith}
 use Rattle.ss_journal.proofs.BirthLemmas.{begun-failed, begun-short, begun-long}
 use Rattle.ss_journal.proofs.StepLemmas.{step-from, step-next, step-next_failed}
 use Rattle.ss_journal.proofs.birth.begin.Goals as goal

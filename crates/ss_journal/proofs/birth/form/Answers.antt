@@ -1,4 +1,4 @@
-use Rattle.std.proofs.Common.{arith}
+use Rattle.ss_journal.proofs.Common.{arith}
 use Rattle.ss_journal.proofs.BirthLemmas.{long-marks, marks-failed, wipes-failed, wipes-synced}
 use Rattle.ss_journal.proofs.StepLemmas.{after-step, step-next, step-next_failed, step-pair}
 use Rattle.ss_journal.proofs.birth.form.Goals as goal

@@ -1,6 +1,6 @@
 use Rattle.ss_journal.proofs.BirthLemmas.{Leads-joined, born-joined}
 use Rattle.ss_journal.proofs.StepLemmas.{after-step, durably-failed, reaches-joined, step-failed, step-next, step-next_failed, step-pair}
-use Rattle.ss_journal.specs.Birth.{IsFormed, Leads}
+use Rattle.ss_journal.proofs.Common.{IsFormed, Leads}
 use Rattle.ss_journal.proofs.birth.give_birth.Goals as goal
 
 pub returns-in_err-begin : goal.returns-in_err-begin

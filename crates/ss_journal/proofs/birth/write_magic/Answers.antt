@@ -1,8 +1,4 @@
-use Rattle.std.proofs.Common.{List, [], subst, sym, ℕ}
-use Rattle.std.proofs.lemmas.Bool.{cond-false}
-use Rattle.ss_journal.specs.Format.{has_magic, magic}
-use Rattle.ss_journal.specs.Steps.{Writes}
-use Rattle.ss_journal.specs.declared.kind.Kind.TheVariants.{Plain}
+use Rattle.ss_journal.proofs.Common.{List, [], subst, sym, ℕ, cond-false, has_magic, magic, Writes, Plain}
 use Rattle.ss_journal.proofs.StepLemmas.{step-next, writes-after_read}
 use Rattle.ss_journal.proofs.birth.write_magic.Goals as goal
 

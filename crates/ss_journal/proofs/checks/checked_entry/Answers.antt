@@ -1,6 +1,5 @@
-use Rattle.std.proofs.Common.{ap, sym, ◌∙◌, List, ℕ}
-use Rattle.std.proofs.lemmas.List.{drop-take}
-use Rattle.ss_journal.specs.Checks.{check_of, entry_form, masked_from}
+use Rattle.ss_journal.proofs.Common.{ap, sym, ◌∙◌, List, ℕ, drop-take, check_of, masked_from}
+use Rattle.ss_journal.specs.Checks.{entry_form}
 use Rattle.ss_journal.proofs.checks.checked_entry.Goals as goal
 
 pub returns : goal.returns

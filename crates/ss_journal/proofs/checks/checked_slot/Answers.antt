@@ -1,5 +1,4 @@
-use Rattle.std.proofs.Common.{ap, sym, ◌∙◌, List, ℕ}
-use Rattle.ss_journal.specs.Checks.{masked_from}
+use Rattle.ss_journal.proofs.Common.{ap, sym, ◌∙◌, List, ℕ, masked_from}
 use Rattle.ss_journal.proofs.CheckLemmas.{slot_form-free, slot_form-live}
 use Rattle.ss_journal.proofs.checks.checked_slot.Goals as goal
 

@@ -1,4 +1,4 @@
-use Rattle.std.proofs.Common.{refl}
+use Rattle.ss_journal.proofs.Common.{refl}
 use Rattle.ss_journal.specs.Checks.{entry_form}
 use Rattle.ss_journal.proofs.checks.entry_form.Goals as goal
 

@@ -1,4 +1,4 @@
-use Rattle.std.proofs.Common.{arith, sym}
+use Rattle.ss_journal.proofs.Common.{arith, sym}
 use Rattle.ss_journal.proofs.CheckLemmas.{masked_from-more, masked_from-none}
 use Rattle.ss_journal.proofs.checks.mask.Goals as goal
 

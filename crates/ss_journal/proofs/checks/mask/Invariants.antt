@@ -1,5 +1,4 @@
-use Rattle.std.proofs.Common.{◌≡◌, take}
-use Rattle.ss_journal.specs.Checks.{masked_from}
+use Rattle.ss_journal.proofs.Common.{◌≡◌, take, masked_from}
 use Rattle.ss_journal.proofs.checks.mask.Given as goal
 
 abbrev pub invariant-loop-k : goal.invariant-loop-k

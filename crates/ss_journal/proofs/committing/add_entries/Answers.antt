@@ -1,4 +1,4 @@
-use Rattle.std.proofs.Common.{arith}
+use Rattle.ss_journal.proofs.Common.{arith}
 use Rattle.ss_journal.proofs.EnterSteps.{open-enters, open-failed, within-open, within-open_gate}
 use Rattle.ss_journal.proofs.StepLemmas.{after-step, step-failed, step-next}
 use Rattle.ss_journal.proofs.committing.add_entries.Goals as goal

@@ -1,4 +1,5 @@
-use Rattle.std.proofs.Common.{◌==◌, rules, tests}
+use Rattle.ss_journal.proofs.Common.{◌==◌, rules}
+use Rattle.std.proofs.Common.{tests}
 use Rattle.std.proofs.lemmas.Iterator.{YieldsList-from_slice}
 use Rattle.std.proofs.lemmas.Iterator.Search.{all_from_yields_List}
 use Rattle.ss_journal.proofs.entry.are_zeros.Goals as goal

@@ -1,8 +1,4 @@
-use Rattle.std.proofs.Common.{[], arith, length, replicate, subst, take, ℕ, ◌++◌, ◌*◌, ◌-◌, ◌∙◌, ◌∷◌, ◌≡◌}
-use Rattle.std.proofs.lemmas.List.Elements.{All-more}
-use Rattle.std.specs.Prelude.{flat_map}
-use Rattle.ss_journal.specs.declared.put.Put.{Put}
-use Rattle.ss_journal.specs.Entries.{put_bytes}
+use Rattle.ss_journal.proofs.Common.{[], arith, length, replicate, subst, take, ℕ, ◌++◌, ◌*◌, ◌-◌, ◌∙◌, ◌∷◌, ◌≡◌, All-more, flat_map, Put, put_bytes}
 use Rattle.ss_journal.proofs.EntryLemmas.{entry-more, entry-all}
 use Rattle.ss_journal.proofs.entry.entry_of.Goals as goal
 

@@ -1,7 +1,4 @@
-use Rattle.std.proofs.Common.{◌≡◌, ◌-◌, ◌*◌, ◌∷◌, ◌++◌, length, take, replicate}
-use Rattle.std.specs.Prelude.{flat_map}
-use Rattle.ss_journal.specs.Entries.{put_bytes}
-use Rattle.ss_journal.specs.Puts.{FillSlots}
+use Rattle.ss_journal.proofs.Common.{◌≡◌, ◌-◌, ◌*◌, ◌∷◌, ◌++◌, length, take, replicate, flat_map, put_bytes, FillSlots}
 use Rattle.ss_journal.proofs.entry.entry_of.Given as goal
 
 abbrev pub invariant-loop-k : goal.invariant-loop-k

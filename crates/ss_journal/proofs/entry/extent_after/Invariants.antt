@@ -1,5 +1,4 @@
-use Rattle.std.proofs.Common.{◌≡◌, ◌+◌, ◌≤◌, drop}
-use Rattle.ss_journal.specs.Puts.{extent_after}
+use Rattle.ss_journal.proofs.Common.{◌≡◌, ◌+◌, ◌≤◌, drop, extent_after}
 use Rattle.ss_journal.proofs.entry.extent_after.Given as goal
 
 abbrev pub invariant-loop-put : goal.invariant-loop-put

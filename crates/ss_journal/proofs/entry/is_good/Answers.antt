@@ -1,5 +1,4 @@
-use Rattle.std.proofs.Common.{sym, arith}
-use Rattle.std.proofs.lemmas.Bool.Decides.{nat_tests}
+use Rattle.ss_journal.proofs.Common.{sym, arith, nat_tests}
 use Rattle.ss_journal.proofs.EntryLemmas.{is_good-few, is_good-none, is_good-many}
 use Rattle.ss_journal.proofs.entry.is_good.Goals as goal
 use Rattle.ss_journal.proofs.entry.is_good.Goals.{then-entry-lt1-via-then-entry-lt1, then-entry-lt1-via-else-entry-lt1+then-from-gt-MOST_PUTS, then-slots_rise}

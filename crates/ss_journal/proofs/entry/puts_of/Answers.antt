@@ -1,6 +1,5 @@
-use Rattle.std.proofs.Common.{◌≡◌, length, ap, ◌∙◌, arith}
-use Rattle.std.proofs.lemmas.List.FromFn.{length-map-range_with_len, map-range_with_len_more}
-use Rattle.ss_journal.specs.Entries.{put_at, puts_of}
+use Rattle.ss_journal.proofs.Common.{◌≡◌, length, ap, ◌∙◌, arith, length-map-range_with_len, map-range_with_len_more, put_at}
+use Rattle.ss_journal.specs.Entries.{puts_of}
 use Rattle.ss_journal.proofs.entry.puts_of.Goals as goal
 
 pub push-requires : goal.push-requires

@@ -1,6 +1,4 @@
-use Rattle.std.proofs.Common.{◌≡◌, map}
-use Rattle.std.specs.List.{range_with_len}
-use Rattle.ss_journal.specs.Entries.{put_at}
+use Rattle.ss_journal.proofs.Common.{◌≡◌, map, range_with_len, put_at}
 use Rattle.ss_journal.proofs.entry.puts_of.Given as goal
 
 abbrev pub invariant-loop-k : goal.invariant-loop-k

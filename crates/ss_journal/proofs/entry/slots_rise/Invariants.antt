@@ -1,5 +1,4 @@
-use Rattle.std.proofs.Common.{◌≡◌, drop}
-use Rattle.ss_journal.specs.Puts.{slots_rise_from}
+use Rattle.ss_journal.proofs.Common.{◌≡◌, drop, slots_rise_from}
 use Rattle.ss_journal.proofs.entry.slots_rise.Given as goal
 
 abbrev pub invariant-loop-put : goal.invariant-loop-put

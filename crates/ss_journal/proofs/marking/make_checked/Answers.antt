@@ -1,5 +1,4 @@
-use Rattle.std.proofs.Common.{ap, not, sym}
-use Rattle.std.proofs.lemmas.Bool.{both_ways}
+use Rattle.ss_journal.proofs.Common.{ap, not, sym, both_ways}
 use Rattle.ss_journal.proofs.MarkLemmas.{makes-failed, makes-marked, makes-read}
 use Rattle.ss_journal.proofs.StepLemmas.{step-from, step-next, step-next_failed}
 use Rattle.ss_journal.proofs.marking.make_checked.Goals.{else-is_unborn-via-then-is_unborn+else-has_no_kind, else-is_unborn-via-else-is_unborn}

@@ -1,5 +1,5 @@
-use Rattle.std.proofs.Common.{◌+◌, ◌-◌, ◌/◌, ◌<◌, ◌≡◌, ℕ, All, [], add-one, arith, subst, suc, sym, take}
-use Rattle.ss_journal.specs.declared.put.Put.{Put}
+use Rattle.ss_journal.proofs.Common.{◌+◌, ◌-◌, ◌<◌, ◌≡◌, ℕ, [], arith, subst, suc, sym, take, Put}
+use Rattle.std.proofs.Common.{◌/◌, All, add-one}
 use Rattle.ss_journal.proofs.NewestLemmas.{below-place, from-place}
 use Rattle.ss_journal.proofs.newest.count_below.Goals as goal
 

@@ -1,4 +1,5 @@
-use Rattle.std.proofs.Common.{◌-◌, ◌<◌, ◌≤◌, All, drop, length, take}
+use Rattle.ss_journal.proofs.Common.{◌-◌, ◌<◌, ◌≤◌, drop, length, take}
+use Rattle.std.proofs.Common.{All}
 use Rattle.ss_journal.proofs.newest.count_below.Given as goal
 
 abbrev pub invariant-loop-low : goal.invariant-loop-low

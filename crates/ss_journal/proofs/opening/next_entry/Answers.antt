@@ -1,9 +1,4 @@
-use Rattle.std.proofs.Common.{◌≡◌, ◌∙◌, List, ℕ, IsTrue, IsFalse, refl, sym, subst}
-use Rattle.std.proofs.lemmas.Bool.{eq-eqb, ne_eqb}
-use Rattle.ss_journal.specs.declared.put.Put.{Put}
-use Rattle.ss_journal.specs.Entries.{is_good, puts_of}
-use Rattle.ss_journal.specs.Gates.{is_open}
-use Rattle.ss_journal.specs.Puts.{IsTxn, slots_fit}
+use Rattle.ss_journal.proofs.Common.{◌≡◌, ◌∙◌, List, ℕ, IsTrue, IsFalse, refl, sym, subst, eq-eqb, ne_eqb, Put, is_good, puts_of, is_open, IsTxn, slots_fit}
 use Rattle.ss_journal.proofs.HeaderLemmas.{is_born-parts}
 use Rattle.ss_journal.proofs.EntryLemmas.{IsTxn-good}
 use Rattle.ss_journal.proofs.OpenLemmas.{NextAs-closed, form-entry, open-form}

@@ -1,14 +1,9 @@
-use Rattle.std.proofs.Common.{◌≡◌, ◌<◌, ◌≤◌, ◌^◌, List, ℕ, [], IsTrue, Option, Ok, length, sym, ◌∙◌, ap, subst, arith}
-use Rattle.std.proofs.lemmas.List.Elements.{All-same, All-nil}
+use Rattle.ss_journal.proofs.Common.{◌≡◌, ◌<◌, ◌≤◌, ◌^◌, List, ℕ, [], IsTrue, Ok, length, sym, ◌∙◌, ap, subst, arith, All-nil, ArrayVec, reads-none}
+use Rattle.ss_journal.proofs.Common.{step-none, Put, is_born, newest_after, FillSlots, IsTxn, extent_after, slots_fit, slots_rise_from}
+use Rattle.std.proofs.Common.{Option}
+use Rattle.std.proofs.lemmas.List.Elements.{All-same}
 use Rattle.std.proofs.lemmas.Result.{err_from_is_err_and}
-use Rattle.arrayvec.specs.ArrayVec.{ArrayVec}
-use Rattle.ss_outside.proofs.CrashLemmas.{reads-none}
-use Rattle.ss_outside.proofs.StepLemmas.{step-none}
-use Rattle.ss_journal.specs.declared.put.Put.{Put}
-use Rattle.ss_journal.specs.Format.{is_born}
 use Rattle.ss_journal.specs.Opening.{IfNext}
-use Rattle.ss_journal.specs.Newest.{newest_after}
-use Rattle.ss_journal.specs.Puts.{FillSlots, IsTxn, extent_after, slots_fit, slots_rise_from}
 use Rattle.ss_journal.proofs.OpenLemmas.{IsReadTo, IsReadTo-none, IsReadTo-next, IsReadTo-all, IsReadTo-shut, InUseAs-next, below-newest_after}
 use Rattle.ss_journal.proofs.NewestLemmas.{few-newest_after}
 use Rattle.ss_journal.proofs.PutLemmas.{AreSlots-rise, extent_after-most}

@@ -1,7 +1,5 @@
-use Rattle.std.proofs.Common.{◌≤◌, ◌<◌, ◌^◌, ◌*◌, length, All}
-use Rattle.ss_outside.specs.Step.{Step}
-use Rattle.ss_outside.specs.Verdict.{fine}
-use Rattle.ss_journal.specs.Steps.{Finds}
+use Rattle.ss_journal.proofs.Common.{◌≤◌, ◌<◌, ◌^◌, ◌*◌, length, Step, fine, Finds}
+use Rattle.std.proofs.Common.{All}
 use Rattle.ss_journal.proofs.OpenLemmas.{IsReadTo}
 use Rattle.ss_journal.proofs.opening.read_entries.Given as goal
 

@@ -1,4 +1,4 @@
-use Rattle.std.proofs.Common.{◌≡◌, ◌*◌, ◌+◌, ◌-◌, length, arith, rules}
+use Rattle.ss_journal.proofs.Common.{◌≡◌, ◌*◌, ◌+◌, ◌-◌, length, arith, rules}
 use Rattle.ss_journal.proofs.PageLemmas.{slot_in_page-other, slot_in_page-same}
 use Rattle.ss_journal.proofs.page.write_slot.Goals as goal
 

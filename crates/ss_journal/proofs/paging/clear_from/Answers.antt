@@ -1,4 +1,4 @@
-use Rattle.std.proofs.Common.{arith}
+use Rattle.ss_journal.proofs.Common.{arith}
 use Rattle.ss_journal.proofs.PageLemmas.{slot_in_page-cleared, slot_in_page-kept}
 use Rattle.ss_journal.proofs.paging.clear_from.Goals as goal
 

@@ -1,6 +1,4 @@
-use Rattle.std.proofs.Common.{◌*◌, ◌+◌, []}
-use Rattle.ss_journal.specs.Calls.{slot_in_page}
-use Rattle.ss_journal.specs.declared.put.Put.{Put}
+use Rattle.ss_journal.proofs.Common.{◌*◌, ◌+◌, [], slot_in_page, Put}
 use Rattle.ss_journal.proofs.PageLemmas.{laid_more}
 use Rattle.ss_journal.proofs.paging.lay_puts.Goals as goal
 

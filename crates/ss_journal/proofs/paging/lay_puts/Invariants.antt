@@ -1,6 +1,4 @@
-use Rattle.std.proofs.Common.{◌≡◌, ◌+◌, ◌*◌, ◌<◌, ℕ, take}
-use Rattle.ss_journal.specs.Calls.{slot_in_page}
-use Rattle.ss_journal.specs.Puts.{with_puts}
+use Rattle.ss_journal.proofs.Common.{◌≡◌, ◌+◌, ◌*◌, ◌<◌, ℕ, take, slot_in_page, with_puts}
 use Rattle.ss_journal.proofs.paging.lay_puts.Given as goal
 
 abbrev pub invariant-loop-put : goal.invariant-loop-put

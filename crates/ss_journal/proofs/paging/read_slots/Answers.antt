@@ -1,6 +1,4 @@
-use Rattle.std.proofs.Common.{ℕ, arith, subst}
-use Rattle.std.proofs.lemmas.Result.{on_ok_weaker}
-use Rattle.ss_outside.specs.Disk.{IsReadFrom}
+use Rattle.ss_journal.proofs.Common.{ℕ, arith, subst, on_ok_weaker, IsReadFrom}
 use Rattle.ss_journal.proofs.PageLemmas.{slot_in_page-read}
 use Rattle.ss_journal.proofs.StepLemmas.{step-from}
 use Rattle.ss_journal.proofs.paging.read_slots.Goals as goal

@@ -1,4 +1,4 @@
-use Rattle.std.proofs.Common.{ℕ, take, drop, ◌∙◌, ap, arith}
+use Rattle.ss_journal.proofs.Common.{ℕ, take, drop, ◌∙◌, ap, arith}
 use Rattle.ss_journal.proofs.HeaderLemmas.{read-piece}
 use Rattle.ss_journal.proofs.StepLemmas.{step-from}
 use Rattle.ss_journal.proofs.reading.read_slot.Goals as goal

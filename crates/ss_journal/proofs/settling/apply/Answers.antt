@@ -1,4 +1,4 @@
-use Rattle.std.proofs.Common.{arith}
+use Rattle.ss_journal.proofs.Common.{arith}
 use Rattle.ss_journal.proofs.InUseLemmas.{HasSlotsFor-in_use}
 use Rattle.ss_journal.proofs.SettleSteps.{slots-applied, slots-failed, within-first_gate}
 use Rattle.ss_journal.proofs.StepLemmas.{after-step, step-failed, step-next}

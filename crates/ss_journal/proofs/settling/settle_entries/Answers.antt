@@ -1,9 +1,5 @@
-use Rattle.std.proofs.Common.{arith, ◌≡◌, length, refl, sym, ◌∙◌}
-use Rattle.std.proofs.lemmas.Bool.{eqb-true}
+use Rattle.ss_journal.proofs.Common.{arith, ◌≡◌, length, refl, sym, ◌∙◌, eqb-true, reads-none, step-none, StaysShut}
 use Rattle.std.proofs.lemmas.List.{nil_from_length}
-use Rattle.ss_outside.proofs.CrashLemmas.{reads-none}
-use Rattle.ss_outside.proofs.StepLemmas.{step-none}
-use Rattle.ss_journal.specs.Steps.{StaysShut}
 use Rattle.ss_journal.proofs.InUseLemmas.{DoAs-none_few}
 use Rattle.ss_journal.proofs.RedoLemmas.{first_closed-none}
 use Rattle.ss_journal.proofs.StepLemmas.{reaches-read}

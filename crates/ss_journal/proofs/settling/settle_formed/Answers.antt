@@ -1,6 +1,4 @@
-use Rattle.std.proofs.Common.{arith, subst, sym}
-use Rattle.ss_outside.proofs.StepLemmas.{syncs-once}
-use Rattle.ss_journal.specs.Redo.{HasEntries}
+use Rattle.ss_journal.proofs.Common.{arith, subst, sym, syncs-once, HasEntries}
 use Rattle.ss_journal.proofs.SettleSteps.{clears-failed, clears-synced}
 use Rattle.ss_journal.proofs.StepLemmas.{after-step, step-failed, step-next}
 use Rattle.ss_journal.proofs.settling.settle_formed.Goals as goal

@@ -1,8 +1,4 @@
-use Rattle.std.proofs.Common.{[], List, ap, arith, get_or, length, ℕ, ◌++◌, ◌∙◌, ◌≡◌}
-use Rattle.std.proofs.lemmas.List.Elements.{All-more}
-use Rattle.std.proofs.lemmas.List.{length-append}
-use Rattle.ss_journal.specs.Checks.{slot_form}
-use Rattle.ss_journal.specs.declared.put.Put.{Put}
+use Rattle.ss_journal.proofs.Common.{[], List, ap, arith, get_or, length, ℕ, ◌++◌, ◌∙◌, ◌≡◌, All-more, length-append, slot_form, Put}
 use Rattle.ss_journal.proofs.CheckLemmas.{length-slot_form}
 use Rattle.ss_journal.proofs.RunLemmas.{run_bytes-more}
 use Rattle.ss_journal.proofs.writing.run_bytes.Goals as goal

@@ -1,6 +1,4 @@
-use Rattle.std.proofs.Common.{◌≡◌, ◌*◌, length, take}
-use Rattle.ss_journal.specs.Puts.{FillSlots}
-use Rattle.ss_journal.specs.Writes.{run_bytes}
+use Rattle.ss_journal.proofs.Common.{◌≡◌, ◌*◌, length, take, FillSlots, run_bytes}
 use Rattle.ss_journal.proofs.writing.run_bytes.Given as goal
 
 abbrev pub invariant-loop-put : goal.invariant-loop-put

@@ -1,5 +1,4 @@
-use Rattle.std.proofs.Common.{◌≡◌, ◌+◌, ◌≤◌, drop}
-use Rattle.ss_journal.specs.Writes.{run_length}
+use Rattle.ss_journal.proofs.Common.{◌≡◌, ◌+◌, ◌≤◌, drop, run_length}
 use Rattle.ss_journal.proofs.writing.run_length.Given as goal
 
 abbrev pub invariant-loop-put : goal.invariant-loop-put

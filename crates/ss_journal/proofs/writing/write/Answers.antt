@@ -1,4 +1,4 @@
-use Rattle.std.proofs.Common.{arith, length}
+use Rattle.ss_journal.proofs.Common.{arith, length}
 use Rattle.ss_outside.proofs.StepLemmas.{syncs-written}
 use Rattle.ss_journal.proofs.StepLemmas.{step-from}
 use Rattle.ss_journal.proofs.TearLemmas.{tears-write}

@@ -1,8 +1,5 @@
-use Rattle.std.proofs.Common.{List, [], ap, arith, drop, get_or, length, sym, take, ℕ, ◌-◌, ◌<◌, ◌≡◌, ◌≤◌}
-use Rattle.std.proofs.lemmas.List.{length-drop, length-take-le, take_all}
-use Rattle.ss_outside.proofs.StepLemmas.{step-none, syncs-once}
-use Rattle.ss_journal.specs.declared.put.Put.{Put}
-use Rattle.ss_journal.specs.Writes.{run_length}
+use Rattle.ss_journal.proofs.Common.{List, [], ap, arith, drop, get_or, length, sym, take, ℕ, ◌-◌, ◌<◌, ◌≡◌, ◌≤◌, length-drop, length-take-le, take_all}
+use Rattle.ss_journal.proofs.Common.{step-none, syncs-once, Put, run_length}
 use Rattle.ss_journal.proofs.RunLemmas.{run_length-le, run_length-some}
 use Rattle.ss_journal.proofs.WriteSteps.{WrittenTo-failed, WrittenTo-more, WrittenTo-none, WrittenTo-synced}
 use Rattle.ss_journal.proofs.StepLemmas.{step-next, step-next_failed}

@@ -1,7 +1,4 @@
-use Rattle.std.proofs.Common.{◌≤◌, ◌-◌, length}
-use Rattle.ss_outside.specs.Disk.{SyncsAtMost}
-use Rattle.ss_outside.specs.Step.{Step}
-use Rattle.ss_outside.specs.Verdict.{fine}
+use Rattle.ss_journal.proofs.Common.{◌≤◌, ◌-◌, length, SyncsAtMost, Step, fine}
 use Rattle.ss_journal.proofs.WriteSteps.{WrittenTo}
 use Rattle.ss_journal.proofs.writing.write_slots.Given as goal
 

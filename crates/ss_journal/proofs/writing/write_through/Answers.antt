@@ -1,5 +1,4 @@
-use Rattle.std.proofs.Common.{arith}
-use Rattle.ss_outside.proofs.StepLemmas.{syncs-once}
+use Rattle.ss_journal.proofs.Common.{arith, syncs-once}
 use Rattle.ss_journal.proofs.StepLemmas.{rewrites-failed, rewrites-synced, step-failed, step-next}
 use Rattle.ss_journal.proofs.TearLemmas.{on_err}
 use Rattle.ss_journal.proofs.writing.write_through.Goals as goal

@@ -1,5 +1,4 @@
-use Rattle.std.proofs.Common.{arith}
-use Rattle.ss_outside.proofs.StepLemmas.{step-none}
+use Rattle.ss_journal.proofs.Common.{arith, step-none}
 use Rattle.ss_journal.proofs.StepLemmas.{step-next, step-next_failed}
 use Rattle.ss_journal.proofs.WriteSteps.{BlankTo-failed, BlankTo-more, BlankTo-none}
 use Rattle.ss_journal.proofs.writing.write_zeros.Goals as goal

@@ -1,6 +1,4 @@
-use Rattle.std.proofs.Common.{◌≤◌, ◌-◌}
-use Rattle.ss_outside.specs.Step.{Step}
-use Rattle.ss_outside.specs.Verdict.{fine}
+use Rattle.ss_journal.proofs.Common.{◌≤◌, ◌-◌, Step, fine}
 use Rattle.ss_journal.proofs.WriteSteps.{BlankTo}
 use Rattle.ss_journal.proofs.writing.write_zeros.Given as goal
 

@@ -1,4 +1,4 @@
-use Rattle.std.proofs.Common.{refl}
+use Rattle.ss_model.proofs.Common.{refl}
 use Rattle.ss_model.specs.State.{state}
 use Rattle.ss_model.proofs.StepLemmas.{state-push}
 use Rattle.ss_model.proofs.history_laws.states_go_on_by_steps.Goals as goal

@@ -1,9 +1,4 @@
-use Rattle.std.proofs.Common.{◌≡◌, ap, length, refl}
-use Rattle.ss_target.specs.Rule.{rule_of}
-use Rattle.ss_model.specs.History.{landmarks_of, values_of}
-use Rattle.ss_model.specs.Marks.{later, latest_of}
-use Rattle.ss_model.specs.State.{values_in, last_time}
-use Rattle.ss_model.specs.Windows.{windows, time_of_last}
+use Rattle.ss_model.proofs.Common.{◌≡◌, ap, length, refl, rule_of, landmarks_of, values_of, later, latest_of, values_in, last_time, windows, time_of_last}
 use Rattle.ss_model.proofs.ReadLemmas.{All-state}
 use Rattle.ss_model.proofs.Stretches.{taken-windows, newest_time-windows}
 use Rattle.ss_model.proofs.history_laws.streams_are_of_their_values.Goals as goal

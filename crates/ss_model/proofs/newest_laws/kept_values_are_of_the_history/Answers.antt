@@ -1,11 +1,4 @@
-use Rattle.std.proofs.Common.{◌≡◌, ◌&&◌, map}
-use Rattle.std.specs.Prelude.{nat_le}
-use Rattle.std.specs.List.{filter}
-use Rattle.ss_landmarks.specs.Landmark.{all_values}
-use Rattle.ss_landmarks.specs.ValuesIn.{values_between}
-use Rattle.ss_summary.specs.Points.{Point}
-use Rattle.ss_model.specs.History.{landmarks_of, marked_of}
-use Rattle.ss_model.specs.NewestTruth.{kept_point}
+use Rattle.ss_model.proofs.Common.{◌≡◌, ◌&&◌, map, nat_le, filter, all_values, values_between, Point, landmarks_of, marked_of, kept_point}
 use Rattle.ss_model.proofs.NewestLemmas.{filter-kept}
 use Rattle.ss_model.proofs.ReadLemmas.{All-state}
 use Rattle.ss_model.proofs.newest_laws.kept_values_are_of_the_history.Goals as goal

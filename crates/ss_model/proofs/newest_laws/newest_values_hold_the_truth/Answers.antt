@@ -1,5 +1,4 @@
-use Rattle.ss_landmarks.specs.Order.{AreLandmarks}
-use Rattle.ss_model.specs.Newest.{newest_of}
+use Rattle.ss_model.proofs.Common.{AreLandmarks, newest_of}
 use Rattle.ss_model.proofs.HistoryLemmas.{IsState-state}
 use Rattle.ss_model.proofs.NewestLemmas.{HoldsOf, newest_in-holds, newest_of-holds}
 use Rattle.ss_model.proofs.ReadLemmas.{All-state}

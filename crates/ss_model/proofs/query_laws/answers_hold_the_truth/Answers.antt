@@ -1,4 +1,4 @@
-use Rattle.ss_model.specs.Windows.{windows}
+use Rattle.ss_model.proofs.Common.{windows}
 use Rattle.ss_model.proofs.IntervalLemmas.{count-lies, sum-lies, least-HoldsExtreme, greatest-HoldsExtreme}
 use Rattle.ss_model.proofs.PieceLemmas.{AreExactlyOf-windows, AreOf-windows}
 use Rattle.ss_model.proofs.PresenceLemmas.{presence-holds}

@@ -1,14 +1,6 @@
-use Rattle.std.proofs.Common.{◌≤◌}
-use Rattle.std.specs.Prelude.{◌≤ℤ◌}
-use Rattle.ss_bounds.specs.Truth.{HoldsExtreme}
-use Rattle.ss_landmarks.specs.Free.{is_free}
-use Rattle.ss_target.specs.Rule.{rule_of}
-use Rattle.ss_model.specs.Answers.{HoldsPresence}
-use Rattle.ss_model.specs.History.{landmarks_of, marked_of, values_of}
-use Rattle.ss_model.specs.Interval.{interval_of_count, interval_of_greatest, interval_of_least, interval_of_sum, presence_of}
-use Rattle.ss_model.specs.Marks.{marked_values}
-use Rattle.ss_model.specs.Truth.{true_count, true_greatest, true_least, true_presence, true_sum}
-use Rattle.ss_model.specs.Windows.{windows}
+use Rattle.ss_model.proofs.Common.{◌≤◌, ◌≤ℤ◌, HoldsExtreme, is_free, rule_of, HoldsPresence, landmarks_of, marked_of, values_of, interval_of_count}
+use Rattle.ss_model.proofs.Common.{interval_of_greatest, interval_of_least, interval_of_sum, presence_of, marked_values, true_count, true_greatest}
+use Rattle.ss_model.proofs.Common.{true_least, true_presence, true_sum, windows}
 use Rattle.ss_model.proofs.IntervalLemmas.{count-lies, sum-lies, least-HoldsExtreme, greatest-HoldsExtreme}
 use Rattle.ss_model.proofs.PieceLemmas.{AreExactlyOf-windows, AreOf-windows}
 use Rattle.ss_model.proofs.PresenceLemmas.{presence-holds}

@@ -1,6 +1,4 @@
-use Rattle.std.proofs.Common.{List, ap, arith, ℕ, ◌++◌, ◌+◌, ◌∙◌}
-use Rattle.ss_journal.specs.declared.put.Put.{Put}
-use Rattle.ss_journal.specs.Groups.{group_bytes, open_entry}
+use Rattle.ss_journal.proofs.Common.{List, ap, arith, ℕ, ◌++◌, ◌+◌, ◌∙◌, Put, group_bytes, open_entry}
 use Rattle.ss_journal.proofs.GroupLemmas.{group_bytes-more}
 use Rattle.ss_journal.proofs.group.Group.spell_entries.Goals as goal
 

@@ -1,5 +1,4 @@
-use Rattle.std.proofs.Common.{◌≡◌, ◌*◌, length}
-use Rattle.ss_journal.specs.Groups.{group_bytes}
+use Rattle.ss_journal.proofs.Common.{◌≡◌, ◌*◌, length, group_bytes}
 use Rattle.ss_journal.proofs.group.Group.spell_entries.Given as goal
 
 abbrev pub invariant-loop-k : goal.invariant-loop-k

@@ -1,5 +1,4 @@
-use Rattle.std.proofs.Common.{arith}
-use Rattle.std.proofs.lemmas.Result.{on_ok_weaker}
+use Rattle.ss_journal.proofs.Common.{arith, on_ok_weaker}
 use Rattle.ss_journal.proofs.SealSteps.{commits-no_room, commits-sealed}
 use Rattle.ss_journal.proofs.StepLemmas.{after-step, step-failed, step-next}
 use Rattle.ss_journal.proofs.journal.Journal.commit.Goals as goal

@@ -1,5 +1,4 @@
-use Rattle.std.proofs.Common.{ap, arith, subst, sym}
-use Rattle.ss_journal.specs.Kept.{IsSealed}
+use Rattle.ss_journal.proofs.Common.{ap, arith, subst, sym, IsSealed}
 use Rattle.ss_journal.proofs.SealSteps.{Seals-as, room-made, room-uncleared}
 use Rattle.ss_journal.proofs.StepLemmas.{step-failed, step-next, step-next_failed}
 use Rattle.ss_journal.proofs.journal.Journal.make_room.Goals as goal

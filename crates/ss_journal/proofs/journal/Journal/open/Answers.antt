@@ -1,6 +1,4 @@
-use Rattle.std.proofs.Common.{List, ℕ, subst, sym}
-use Rattle.ss_outside.proofs.CrashLemmas.{reads-joined}
-use Rattle.ss_journal.specs.Opening.{AreEntries}
+use Rattle.ss_journal.proofs.Common.{List, ℕ, subst, sym, reads-joined, AreEntries}
 use Rattle.ss_journal.proofs.KeptLemmas.{IsKept-born, IsKept-unborn}
 use Rattle.ss_journal.proofs.RedoLemmas.{redo-neither}
 use Rattle.ss_journal.proofs.StepLemmas.{step-from, step-next, step-refused}

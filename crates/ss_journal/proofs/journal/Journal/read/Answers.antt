@@ -1,11 +1,5 @@
-use Rattle.std.proofs.Common.{◌≡◌, inl, inr, sym, ◌∙◌, subst, rules}
-use denote.Enum.Bare.{same_true}
-use Rattle.ss_outside.proofs.CrashLemmas.{reads-none}
-use Rattle.ss_outside.proofs.StepLemmas.{step-none}
-use Rattle.ss_journal.specs.contracts.phase.Phase.{the_type}
-use Rattle.ss_journal.specs.declared.phase.Phase.TheVariants.{Unborn}
-use Rattle.ss_journal.specs.Kept.{IsKept, JournalState}
-use Rattle.ss_journal.specs.Redo.{file_map}
+use Rattle.ss_journal.proofs.Common.{◌≡◌, inl, inr, sym, ◌∙◌, subst, rules, same_true, reads-none, step-none, the_type, Unborn, IsKept, JournalState}
+use Rattle.ss_journal.proofs.Common.{file_map}
 use Rattle.ss_journal.proofs.KeptLemmas.{ReadsSlot-as, unused_bytes, unborn-shown, born-shown, born_bytes, not_first, slot_in-form, slot_lies, slot_bytes}
 use Rattle.ss_journal.proofs.ShownLemmas.{slot_at-shown}
 use Rattle.ss_journal.proofs.StepLemmas.{step-from}

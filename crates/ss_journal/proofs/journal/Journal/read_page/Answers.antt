@@ -1,14 +1,5 @@
-use Rattle.std.proofs.Common.{◌≡◌, ◌*◌, ◌+◌, ◌∙◌, ◌<◌, ◌^◌, inl, sym, subst, ap, arith, rules, List}
-use denote.Enum.Bare.{same_true}
-use Rattle.ss_outside.proofs.CrashLemmas.{reads-none}
-use Rattle.ss_outside.proofs.StepLemmas.{step-none}
-use Rattle.ss_journal.specs.contracts.phase.Phase.{the_type}
-use Rattle.ss_journal.specs.declared.phase.Phase.TheVariants.{Unborn}
-use Rattle.ss_journal.specs.declared.put.Put.{Put}
-use Rattle.ss_journal.specs.Calls.{slot_in_page}
-use Rattle.ss_journal.specs.Checks.{slot_form}
-use Rattle.ss_journal.specs.Kept.{IsKept, JournalState}
-use Rattle.ss_journal.specs.Puts.{with_puts}
+use Rattle.ss_journal.proofs.Common.{◌≡◌, ◌*◌, ◌+◌, ◌∙◌, ◌<◌, ◌^◌, inl, sym, subst, ap, arith, rules, List, same_true, reads-none, step-none, the_type}
+use Rattle.ss_journal.proofs.Common.{Unborn, Put, slot_in_page, slot_form, IsKept, JournalState, with_puts}
 use Rattle.ss_journal.proofs.CheckLemmas.{slot_form-zeros}
 use Rattle.ss_journal.proofs.KeptLemmas.{ReadsPage-as, born-shown, not_first, page_bytes, slot_in-form, unborn-shown, unused_bytes}
 use Rattle.ss_journal.proofs.PageLemmas.{slot_in_page-zeros}

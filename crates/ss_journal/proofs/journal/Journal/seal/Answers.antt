@@ -1,8 +1,5 @@
-use Rattle.std.proofs.Common.{List, ap, arith, length, refl, subst, sym, ◌∙◌, ◌≡◌}
-use Rattle.std.proofs.lemmas.Bool.{eqb-false}
-use Rattle.ss_journal.specs.Groups.{entry_count, group_bytes}
-use Rattle.ss_journal.specs.Kept.{IsKept, JournalState, closed_behind}
-use Rattle.ss_journal.specs.declared.put.Put.{Put}
+use Rattle.ss_journal.proofs.Common.{List, ap, arith, length, refl, subst, sym, ◌∙◌, ◌≡◌, eqb-false, entry_count, group_bytes, IsKept, JournalState}
+use Rattle.ss_journal.proofs.Common.{closed_behind, Put}
 use Rattle.ss_journal.proofs.SealSteps.{Seals-of, fits-staged, gate-staged, seals-entered}
 use Rattle.ss_journal.proofs.StepLemmas.{step-from}
 use Rattle.ss_journal.proofs.journal.Journal.seal.Goals as goal

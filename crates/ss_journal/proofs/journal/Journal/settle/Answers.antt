@@ -1,9 +1,4 @@
-use Rattle.std.proofs.Common.{Ok, sym, subst}
-use Rattle.ss_outside.specs.Step.{Step}
-use Rattle.ss_outside.specs.Verdict.{fine}
-use Rattle.ss_journal.specs.declared.phase.Phase.TheVariants.{Settled}
-use Rattle.ss_journal.specs.Calls.{Settles}
-use Rattle.ss_journal.specs.Kept.{IsKept, IsSealed, JournalState}
+use Rattle.ss_journal.proofs.Common.{Ok, sym, subst, Step, fine, Settled, Settles, IsKept, IsSealed, JournalState}
 use Rattle.ss_journal.proofs.KeptLemmas.{born_formed, settles-born, settles-formed, settles-unborn, unborn-shown}
 use Rattle.ss_journal.proofs.ShownLemmas.{IsShown-sealed}
 use Rattle.ss_journal.proofs.StepLemmas.{step-failed, step-from}

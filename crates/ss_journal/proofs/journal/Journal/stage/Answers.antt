@@ -1,10 +1,5 @@
-use Rattle.std.proofs.Common.{IsTrue, List, ap, arith, length, refl, subst, sym, ℕ, ◌+◌, ◌<◌, ◌∙◌}
-use Rattle.ss_journal.specs.declared.put.Put.{Put}
-use Rattle.ss_journal.specs.Groups.{entry_count}
-use Rattle.ss_journal.specs.Kept.{IsSettled, JournalState}
-use Rattle.ss_journal.specs.Newest.{newest_after}
-use Rattle.ss_journal.specs.Puts.{FillSlots, extent_after, slots_fit}
-use Rattle.ss_journal.specs.Writes.{AreSlots}
+use Rattle.ss_journal.proofs.Common.{IsTrue, List, ap, arith, length, refl, subst, sym, ℕ, ◌+◌, ◌<◌, ◌∙◌, Put, entry_count, IsSettled, JournalState}
+use Rattle.ss_journal.proofs.Common.{newest_after, FillSlots, extent_after, slots_fit, AreSlots}
 use Rattle.ss_journal.proofs.NewestLemmas.{few-newest_after}
 use Rattle.ss_journal.proofs.PutLemmas.{AreSlots-rise}
 use Rattle.ss_journal.proofs.StageLemmas.{IsBounded-staged, has-staged, stages}

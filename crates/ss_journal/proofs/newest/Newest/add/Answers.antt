@@ -1,9 +1,5 @@
-use Rattle.std.proofs.Common.{◌+◌, ◌∙◌, ◌≡◌, drop, get_or, List, [], ap, arith, length, subst, sym}
-use Rattle.std.proofs.lemmas.List.{at_drop_more, take_all}
-use Rattle.std.proofs.lemmas.List.Elements.{All-more}
-use Rattle.ss_journal.specs.Newest.{newest_after}
-use Rattle.ss_journal.specs.Puts.{FillSlots}
-use Rattle.ss_journal.specs.declared.put.Put.{Put}
+use Rattle.ss_journal.proofs.Common.{◌+◌, ◌∙◌, ◌≡◌, drop, get_or, List, [], ap, arith, length, subst, sym, take_all, All-more, newest_after, FillSlots, Put}
+use Rattle.std.proofs.lemmas.List.{at_drop_more}
 use Rattle.ss_journal.proofs.NewestLemmas.{few-with_newest}
 use Rattle.ss_journal.proofs.newest.Newest.add.Goals as goal
 

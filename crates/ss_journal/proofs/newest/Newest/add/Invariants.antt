@@ -1,6 +1,4 @@
-use Rattle.std.proofs.Common.{◌+◌, ◌≡◌, ◌≤◌, drop, length, take}
-use Rattle.ss_journal.specs.Newest.{newest_after}
-use Rattle.ss_journal.specs.Puts.{FillSlots}
+use Rattle.ss_journal.proofs.Common.{◌+◌, ◌≡◌, ◌≤◌, drop, length, take, newest_after, FillSlots}
 use Rattle.ss_journal.proofs.newest.Newest.add.Given as goal
 
 -- the newest of those to come, after those so far, are the newest of all

@@ -1,6 +1,4 @@
-use Rattle.std.proofs.Common.{◌<◌, ◌≡◌, ◌∙◌, IsTrue, List, [], ap, get_or, length, subst, sym, arith}
-use Rattle.ss_journal.specs.Puts.{slots_rise_from, with_puts}
-use Rattle.ss_journal.specs.declared.put.Put.{Put}
+use Rattle.ss_journal.proofs.Common.{◌<◌, ◌≡◌, ◌∙◌, IsTrue, List, [], ap, get_or, length, subst, sym, arith, slots_rise_from, with_puts, Put}
 use Rattle.ss_journal.proofs.NewestLemmas.{found-place, no-place}
 use Rattle.ss_journal.proofs.newest.Newest.find.Goals as goal
 use Rattle.ss_journal.proofs.newest.Newest.find.Goals.{else-place-puts-via-then-place-puts+else-puts-place, else-place-puts-via-else-place-puts}

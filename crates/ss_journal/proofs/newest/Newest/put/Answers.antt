@@ -1,9 +1,7 @@
-use Rattle.std.proofs.Common.{◌<◌, ◌≡◌, ◌≤◌, ◌∙◌, All, IsTrue, List, [], ap, arith, drop, get_or, length, set, subst, sym, take}
-use Rattle.std.proofs.lemmas.Bool.{cond-true}
+use Rattle.ss_journal.proofs.Common.{◌<◌, ◌≡◌, ◌≤◌, ◌∙◌, IsTrue, List, [], ap, arith, drop, get_or, length, subst, sym, take, cond-true, with_newest}
+use Rattle.ss_journal.proofs.Common.{slots_rise_from, Put}
+use Rattle.std.proofs.Common.{All, set}
 use Rattle.std.proofs.lemmas.List.{get_or_read}
-use Rattle.ss_journal.specs.Newest.{with_newest}
-use Rattle.ss_journal.specs.Puts.{slots_rise_from}
-use Rattle.ss_journal.specs.declared.put.Put.{Put}
 use Rattle.ss_journal.proofs.NewestLemmas.{rise-with_newest, with_newest-insert, with_newest-set}
 use Rattle.ss_journal.proofs.newest.Newest.put.Goals as goal
 use Rattle.ss_journal.proofs.newest.Newest.put.Goals.{else-place-len-via-then-place-len+else-index-put, else-place-len-via-else-place-len}

@@ -1,7 +1,5 @@
-use Rattle.std.proofs.Common.{ℕ, List, drop, take, nat_eq, ap, ◌∙◌, arith}
+use Rattle.ss_journal.proofs.Common.{ℕ, List, drop, take, nat_eq, ap, ◌∙◌, arith, length-drop, take_all, magic}
 use Rattle.std.specs.List.{starts_with}
-use Rattle.std.proofs.lemmas.List.{length-drop, take_all}
-use Rattle.ss_journal.specs.Format.{magic}
 use Rattle.ss_journal.proofs.HeaderLemmas.{has_magic_of-head}
 use Rattle.ss_journal.proofs.opening.Head.has_magic_of.Goals as goal
 

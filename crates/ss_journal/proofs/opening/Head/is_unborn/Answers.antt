@@ -1,5 +1,4 @@
-use Rattle.std.proofs.Common.{arith}
-use Rattle.std.proofs.lemmas.Bool.Decides.{nat_tests}
+use Rattle.ss_journal.proofs.Common.{arith, nat_tests}
 use Rattle.ss_journal.proofs.HeaderLemmas.{is_unborn-head}
 use Rattle.ss_journal.proofs.opening.Head.is_unborn.Goals as goal
 use Rattle.ss_journal.proofs.opening.Head.is_unborn.Goals.{then-self-le1, else-self-le1}

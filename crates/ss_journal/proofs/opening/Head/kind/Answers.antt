@@ -1,4 +1,4 @@
-use Rattle.std.proofs.Common.{sym}
+use Rattle.ss_journal.proofs.Common.{sym}
 use Rattle.ss_journal.proofs.HeaderLemmas.{kind_of-checked, kind_of-other}
 use Rattle.ss_journal.proofs.opening.Head.kind.Goals as goal
 

@@ -1,5 +1,4 @@
-use Rattle.std.proofs.Common.{◌∙◌, arith, false, refl, replicate}
-use Rattle.std.proofs.lemmas.List.{get_or-replicate}
+use Rattle.ss_journal.proofs.Common.{◌∙◌, arith, false, refl, replicate, get_or-replicate}
 use Rattle.ss_journal.proofs.PageLemmas.{slot_in_page-said, slot_said-unformed}
 use Rattle.ss_journal.proofs.page.Page.new.Goals as goal
 

@@ -1,5 +1,4 @@
-use Rattle.std.proofs.Common.{◌∙◌, arith, refl, sym, true}
-use Rattle.std.proofs.Math.ListN.{set}
+use Rattle.ss_journal.proofs.Common.{◌∙◌, arith, refl, sym, true, set}
 use Rattle.ss_journal.proofs.PageLemmas.{slot_in_page-said, slot_said-others, slot_said-written}
 use Rattle.ss_journal.proofs.page.Page.put.Goals as goal
 

@@ -1,5 +1,4 @@
-use Rattle.std.proofs.Common.{◌+◌, ◌*◌, ◌∙◌, ap, arith, sym}
-use Rattle.ss_journal.specs.Checks.{slot_form}
+use Rattle.ss_journal.proofs.Common.{◌+◌, ◌*◌, ◌∙◌, ap, arith, sym, slot_form}
 use Rattle.ss_journal.proofs.PageLemmas.{page_said-formed, slot_in_page-said, slot_said-formed, slot_said-unformed}
 use Rattle.ss_journal.proofs.page.Page.slot.Goals as goal
 
