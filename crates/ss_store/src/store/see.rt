@@ -55,7 +55,7 @@ fn see_indexed<D: Disk, L: Ledger>(
 }
 
 impl Store {
-    ghost use Rattle.std.specs.Prelude.{◌≡◌, ◌≢◌, ◌≤◌, ◌↔◌, true, false, Some, IsSome, IfOk, IfSome, OnOk, IfErr, Err, None};
+    ghost use Rattle.std.specs.Prelude.{◌≡◌, ◌≢◌, ◌↔◌, true, false, Some, IfOk, IfSome, OnOk, IfErr, Err, None};
     ghost use Rattle.std.specs.List.{Contains};
     ghost use Rattle.ss_outside.specs.Disk.{OfContent};
     ghost use Rattle.ss_outside.specs.Step.{Step};
@@ -65,9 +65,9 @@ impl Store {
     ghost use Rattle.ss_query.specs.Answered.{window_slots_of};
     ghost use Rattle.ss_query.specs.Asked.{HasCuts, IsFewMarked};
     ghost use Rattle.ss_store.specs.Applied.{Looks, Sees, StandsOn};
-    ghost use Rattle.ss_store.specs.Asked.{refuses_query_held};
+    ghost use Rattle.ss_store.specs.Asked.{AsksStream, refuses_query_held};
     ghost use Rattle.ss_store.specs.Errors.{verdict_of_ask};
-    ghost use Rattle.ss_store.specs.Kept.{StoreIsKept, part_named, part_numbered};
+    ghost use Rattle.ss_store.specs.Kept.{StoreIsKept, part_named};
 
     /// What is known for a query, by the windows of its stream that have times in the range: `ask` answers by it. It writes
     /// nothing, and takes no memory. A refusal is the first that applies, and makes no call of the disk.
@@ -103,9 +103,7 @@ impl Store {
     fn asked(&self, query: &Query) -> Result<StreamId, Refusal>
         ensures refused { IfErr result (λ r. refuses_query_held self.now.streams query.now ≡ Some r) }
         ensures accepted { OnOk result (refuses_query_held self.now.streams query.now ≡ None) }
-        ensures order { OnOk result (query.now.from ≤ query.now.to) }
-        ensures stands { IfOk result (λ id. IsSome (part_numbered id.0 self.now.streams)) }
-        ensures same { IfOk result (λ id. part_numbered id.0 self.now.streams ≡ part_named query.now.name self.now.streams) }
+        ensures asks { IfOk result (λ id. AsksStream self.now.streams query.now id.0) }
     {
         let Some(id) = self.find(&query.name) else {
             return Err(Refusal::Unknown);
@@ -125,9 +123,7 @@ impl Store {
         blank: Blank,
     ) -> Result<Seen, AskError>
         requires fresh { IsFresh L.name L.parts blank }
-        requires order { query.now.from ≤ query.now.to }
-        requires stands { IsSome (part_numbered id.0 self.old.streams) }
-        requires same { part_numbered id.0 self.old.streams ≡ part_named query.now.name self.old.streams }
+        requires asks { AsksStream self.old.streams query.now id.0 }
         requires runs { self.old.stopped ≡ false }
         requires one_disk { OfContent (D.seen disk.old) (StoreIsKept self.old) }
         ensures sees { Step (verdict_of_ask result) (D.seen disk.old) (D.seen disk.new) (Sees self.old.records query.now result) }

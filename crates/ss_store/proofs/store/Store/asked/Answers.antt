@@ -19,3 +19,6 @@ pub returns-clause-accepted : goal.returns-clause-accepted
 returns-clause-accepted c =
     let part = named-found (part_named c.args.query.now.name c.args.self.now.streams) c.in-Some.id (sym c.find.ensures.number ∙ c.in-Some.is) in
     refuses_query_held-known c.args.self.now.streams c.args.query.now part.0 false part.1 (grind (arith, nat_tests))
+
+pub returns-clause-asks : goal.returns-clause-asks
+returns-clause-asks c = record { order = omega arith; stands = c.in-Some.ensures.stands; same = c.in-Some.ensures.same }
