@@ -17,7 +17,7 @@ use Rattle.ss_recover.specs.Held.{records_held}
 use Rattle.ss_recover.specs.declared.parts.StreamParts.{StreamParts}
 use Rattle.ss_store.specs.Admitted.{IsNew}
 use Rattle.ss_store.specs.Applied.{Applies}
-use Rattle.ss_store.specs.Changing.{Makes}
+use Rattle.ss_store.specs.Calls.{StagesAtCost}
 use Rattle.ss_store.specs.Kept.{IsSound, StoreIsIn, StoreIsKept, StoreState, refuses_held}
 use Rattle.ss_store.specs.Slots.{LiveSlotsGo, StagesRecord}
 use Rattle.ss_store.specs.declared.error.ApplyError.TheVariants.{Disk}
@@ -69,10 +69,12 @@ module _ {store : StoreState} {catalog : List (List ℕ × StreamId)} {name : Li
       IsSound-created store catalog now part name params part.slot store.stopped is.sound is.runs is.fresh is.is_new (λ run. (settled, live))
 
   -- the event is applied
-  pub applies-created : (now : RecordsState) (after : DiskView) (done : Unit {0}) → now.journal.extent ≤ max store.records.journal.extent (part.slot + 1) →
+  pub applies-created : {used most : ℕ} (now : RecordsState) (after : DiskView) (done : Unit {0}) →
+      now.journal.extent ≤ max store.records.journal.extent (part.slot + 1) →
       Step fine before after
-      (Makes {T = Unit {0}} {E = Failed}
-      (StagesRecord {T = Unit {0}} {E = Failed} part.slot (records.Stream part.id.0 name params false) store.records now (Ok done)) now (Ok done)) →
+      (StagesAtCost {T = Unit {0}} {E = Failed}
+      (StagesRecord {T = Unit {0}} {E = Failed} part.slot (records.Stream part.id.0 name params false) store.records now (Ok done)) used most
+      store.records now (Ok done)) →
       Applies (Create name params) store (with_part now store.stopped) before after (Ok (record { n = 0; k = 0 }))
   applies-created now after done extent step =
       let low = is.is_new.low in
@@ -93,10 +95,11 @@ module _ {store : StoreState} {catalog : List (List ℕ × StreamId)} {name : Li
       refl (omega (arith, extent, low))
 
   -- the disk failed
-  pub applies-unwritten : (now : RecordsState) (after : DiskView) (e : Failed) →
+  pub applies-unwritten : {used most : ℕ} (now : RecordsState) (after : DiskView) (e : Failed) →
       Step failed before after
-      (Makes {T = Unit {0}} {E = Failed}
-      (StagesRecord {T = Unit {0}} {E = Failed} part.slot (records.Stream part.id.0 name params false) store.records now (Err e)) now (Err e)) →
+      (StagesAtCost {T = Unit {0}} {E = Failed}
+      (StagesRecord {T = Unit {0}} {E = Failed} part.slot (records.Stream part.id.0 name params false) store.records now (Err e)) used most
+      store.records now (Err e)) →
       Applies (Create name params) store (with_part now true) before after (Err Disk)
   applies-unwritten now after e step =
       Applies-failed (Create name params) store (with_part now true) is.none before after fault.Disk

@@ -39,7 +39,7 @@ use Rattle.ss_recover.proofs.WholeSlots.{HasWholeSlots-StandsFor}
 use Rattle.ss_store.specs.Applied.{Applies}
 use Rattle.ss_store.specs.Calls.{RecoversToEither, StepsState}
 use Rattle.ss_store.specs.Causes.{said_of_held}
-use Rattle.ss_store.specs.Changing.{Makes}
+use Rattle.ss_store.specs.Calls.{StagesAtCost}
 use Rattle.ss_store.specs.Dropping.{IsHeldBeside, RecoversWithOrWithout, StagesDrop, slots_in_turn}
 use Rattle.ss_store.specs.Kept.{IsSound, StoreIsKept, StoreState, entry_of, part_named, refuses_held}
 use Rattle.ss_store.specs.Recover.{Recovers}
@@ -319,9 +319,10 @@ module _ {store : StoreState} {catalog : List (List ℕ × StreamId)} {name : Li
       rw none refl
 
   -- the event is applied
-  pub applies-dropped : (now : RecordsState) (after : DiskView) (done : Unit {0}) → now.journal.extent ≡ store.records.journal.extent →
+  pub applies-dropped : {used most : ℕ} (now : RecordsState) (after : DiskView) (done : Unit {0}) → now.journal.extent ≡ store.records.journal.extent →
       Step fine before after
-      (Makes {T = Unit {0}} {E = Failed} (StagesDrop {T = Unit {0}} {E = Failed} part store.records now (Ok done)) now (Ok done)) →
+      (StagesAtCost {T = Unit {0}} {E = Failed} (StagesDrop {T = Unit {0}} {E = Failed} part store.records now (Ok done)) used most store.records now
+      (Ok done)) →
       Applies (Drop name) store (without_part now store.stopped) before after (Ok (record { n = 0; k = 0 }))
   applies-dropped now after done extent step =
       Applies-done (Drop name) store (without_part now store.stopped) none-dropping before after (record { n = 0; k = 0 })
@@ -333,8 +334,9 @@ module _ {store : StoreState} {catalog : List (List ℕ × StreamId)} {name : Li
       (λ none_left. refl) said-dropped (λ plain. let wrong : false ≡ true = plain in absurd (cc)) refl (omega (arith, extent))
 
   -- the disk failed
-  pub applies-undropped : (now : RecordsState) (after : DiskView) (e : Failed) →
-      Step failed before after (Makes {T = Unit {0}} {E = Failed} (StagesDrop {T = Unit {0}} {E = Failed} part store.records now (Err e)) now (Err e)) →
+  pub applies-undropped : {used most : ℕ} (now : RecordsState) (after : DiskView) (e : Failed) →
+      Step failed before after
+      (StagesAtCost {T = Unit {0}} {E = Failed} (StagesDrop {T = Unit {0}} {E = Failed} part store.records now (Err e)) used most store.records now (Err e)) →
       Applies (Drop name) store (without_part now true) before after (Err Disk)
   applies-undropped now after e step =
       Applies-failed (Drop name) store (without_part now true) none-dropping before after fault.Disk

@@ -31,6 +31,7 @@ pub mod LastEntries
 pub mod Surveys
 pub mod SyncRows
 pub mod Syncs
+pub mod Costs
 pub mod SurveyedStreams
 pub mod PlaceLemmas
 pub mod LiveCounts

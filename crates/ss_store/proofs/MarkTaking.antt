@@ -18,6 +18,7 @@ use Rattle.ss_recover.specs.Held.{entries_of, mark_slots, slots_held}
 use Rattle.ss_recover.specs.declared.parts.StreamParts.{StreamParts}
 use Rattle.ss_store.specs.Admitted.{IsMarker}
 use Rattle.ss_store.specs.Applied.{Applies, StandsOn, leaves_no_value, is_plain_value}
+use Rattle.ss_store.specs.Calls.{StagesAtCost}
 use Rattle.ss_store.specs.Changing.{CanTakeMark, HasRoomFor, HasSameWindows, HasTakenMark, KeepsWhole, TakesMark}
 use Rattle.ss_store.specs.Held.{IsOrdered, values_held}
 use Rattle.ss_store.specs.Kept.{IsSound, SameButSpare, StoreIsKept, StoreState, of_part, refuses_held, without_spare}
@@ -174,8 +175,10 @@ module _ {store : StoreState} {catalog : List (List ℕ × StreamId)} {name : Li
           ))
 
       -- the event is applied
-      pub applies-taken : (after : DiskView) (n k : ℕ) (done : Unit {0}) →
-          Step fine before after (TakesMark (record was { landmarks = marks }) now t mark store.records records (Ok done)) →
+      pub applies-taken : {used most : ℕ} (after : DiskView) (n k : ℕ) (done : Unit {0}) →
+          Step fine before after
+          (StagesAtCost {T = Unit {0}} {E = Failed} (TakesMark (record was { landmarks = marks }) now t mark store.records records (Ok done)) used most
+          store.records records (Ok done)) →
           n ≡ values_held (entries_of now) → k ≡ length now.line.entries →
           Applies (event_of name t mark) store (with_stream now records store.stopped) before after (Ok (record { n = n; k = k }))
       applies-taken after n k done step values windows =
@@ -188,7 +191,7 @@ module _ {store : StoreState} {catalog : List (List ℕ × StreamId)} {name : Li
           let others = others_of place store.streams kept.streams in
           let s = (marking store content kept name t mark place slot is.marker is.none said begun).stream in
           let held = held-marker store content kept name t mark place slot is.marker is.none said begun (record was { landmarks = marks }) now room in
-          let turns = takes.turns others s in (
+          let turns = takes.changes.turns others s in (
             StepsState-answers (event_of name t mark) store.records records before.told after.told done (Ok (record { n = n; k = k }))
                 (StepsState-marked store content kept name t mark place slot is.marker is.none said begun (record was { landmarks = marks }) now room
                 store.records records before.told after.told (Ok done) refl turns),
@@ -202,8 +205,10 @@ module _ {store : StoreState} {catalog : List (List ℕ × StreamId)} {name : Li
           refl (omega (arith, extent, low))
 
     -- the disk failed
-    pub applies-untaken : (after : DiskView) (e : Failed) →
-        Step failed before after (TakesMark (record was { landmarks = marks }) now t mark store.records records (Err e)) →
+    pub applies-untaken : {used most : ℕ} (after : DiskView) (e : Failed) →
+        Step failed before after
+        (StagesAtCost {T = Unit {0}} {E = Failed} (TakesMark (record was { landmarks = marks }) now t mark store.records records (Err e)) used most
+        store.records records (Err e)) →
         Applies (event_of name t mark) store (with_stream now records true) before after (Err Disk)
     applies-untaken after e step =
         Applies-failed (event_of name t mark) store (with_stream now records true) is.none before after fault.Disk
@@ -214,7 +219,7 @@ module _ {store : StoreState} {catalog : List (List ℕ × StreamId)} {name : Li
         let s = (marking store content kept name t mark place slot is.marker is.none said begun).stream in
         StepsState-failed (event_of name t mark) store.records records records before.told after.told (Err e) Disk
         (StepsState-marked store content kept name t mark place slot is.marker is.none said begun (record was { landmarks = marks }) now room store.records
-        records before.told after.told (Err e) refl (takes.turns others s))))
+        records before.told after.told (Err e) refl (takes.changes.turns others s))))
         (λ told. tt) tt refl
 
     -- and the streams are what they were but for the room

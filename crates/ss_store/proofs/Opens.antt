@@ -251,9 +251,8 @@ module _ (slots : List ℕ) (parts now : List StreamParts) (old read new : Told)
   within-read : {T E : Type 0} (result : Result T E) → KeepsWithin 0 result read new → KeepsWithin 0 result old new
   within-read result within = KeepsWithin-then result (KeepsWithin-reads {T = Unit {0}} {E = Unit {0}} (Ok tt) knows reads) within
 
-  pub OpensStore-unclosed : (why : ReadError) → SettlesAll slots parts now records (Err why) read new →
-      KeepsWithin {T = Unit {0}} 0 (Err why) read new → OpensStore (Err (open_of_fault why)) old new
-  OpensStore-unclosed why closes within =
+  pub OpensStore-unclosed : (why : ReadError) → SettlesAll slots parts now records (Err why) read new → OpensStore (Err (open_of_fault why)) old new
+  OpensStore-unclosed why closes =
       let failed : Result StoreState OpenError = Err (open_of_fault why) in
       let has = held_read slots parts now old read new knows is reads in
       let keeps : KeepsState old new failed =
@@ -265,14 +264,14 @@ module _ (slots : List ℕ) (parts now : List StreamParts) (old read new : Told)
         history = KeepsHistory-state old new failed keeps;
         unwritten = unwritten-fault why (OnlyReads old new);
         judged = judged-rebuilt;
-        within = KeepsWithin-failed failed refl (within-read (Err why) within);
+        within = KeepsWithin-failed failed refl (within-read (Err why) closes.within);
         extent = λ found is. tt;
       }
 
   pub OpensStore-closed : (store : StoreState) → SettlesAll slots parts now records (Ok tt) read new → store.streams ≡ now → store.records ≡ records →
       IsSealed store.records.journal → (first : RecordsState) → AreKept first read.content → IsSealed first.journal →
-      store.records.journal.extent ≤ first.journal.extent → KeepsWithin {T = Unit {0}} {E = ReadError} 0 (Ok tt) read new → OpensStore (Ok store) old new
-  OpensStore-closed store closes same same_records sealed first opened first_sealed less within =
+      store.records.journal.extent ≤ first.journal.extent → OpensStore (Ok store) old new
+  OpensStore-closed store closes same same_records sealed first opened first_sealed less =
       let has = held_read slots parts now old read new knows is reads in
       let agree = closes.agree is.streams is.state is.agree has in
       let turns = closes.turns is.streams is.state is.agree in
@@ -285,6 +284,6 @@ module _ (slots : List ℕ) (parts now : List StreamParts) (old read new : Told)
         history = KeepsHistory-state old new (Ok store) keeps;
         unwritten = tt;
         judged = judged-rebuilt;
-        within = KeepsWithin-answers (Ok store) (within-read (Ok tt) within);
+        within = KeepsWithin-answers (Ok store) (within-read (Ok tt) closes.within);
         extent = λ found is. omega (arith, extent-opened first read.content found opened first_sealed (rw reads.same.content is), less);
       }

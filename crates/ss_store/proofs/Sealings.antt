@@ -1,14 +1,12 @@
 -- What was staged of a stream is sealed: the value and the joins come to the disk together.
-use Rattle.std.proofs.Common.{inl, inr, ℕ, ℤ, List, ◌++◌, Ok, Option, Result, subst, sym}
-use Rattle.std.specs.Prelude.{IsErr, IsTrue, OnOk}
+use Rattle.std.proofs.Common.{inr, ℕ, ℤ, List, ◌++◌, Ok, Option, Result, subst, sym}
+use Rattle.std.specs.Prelude.{IsErr, OnOk}
 use Rattle.ss_outside.specs.Crash.{KnowsNow}
-use Rattle.ss_outside.specs.Disk.{DiskView, Told}
-use Rattle.ss_outside.specs.Step.{Step}
+use Rattle.ss_outside.specs.Disk.{Told}
 use Rattle.ss_outside.specs.Verdict.{IsFirm, Verdict, fine}
 use Rattle.ss_outside.specs.declared.source.Failed.{Failed}
 use Rattle.ss_journal.specs.Kept.{IsSealed}
 use Rattle.ss_journal.proofs.ShownLemmas.{shown-sealed}
-use Rattle.ss_journal.proofs.StepLemmas.{step-next}
 use Rattle.ss_journal.proofs.TearLemmas.{on_err}
 use Rattle.ss_records.specs.Calls.{SealsRecords}
 use Rattle.ss_records.specs.Kept.{AreKept, RecordsState}
@@ -25,10 +23,12 @@ use Rattle.ss_recover.specs.declared.parts.StreamParts.{StreamParts}
 use Rattle.ss_query.specs.Held.{IsHeldIn}
 use Rattle.ss_query.specs.Reading.{verdict_of_read}
 use Rattle.ss_query.specs.declared.read_error.ReadError.{ReadError}
+use Rattle.ss_store.specs.Calls.{StagesAtCost}
 use Rattle.ss_store.specs.Changing.{PutsValue, StagesJoins, StagesStream, TurnsStream}
 use Rattle.ss_store.specs.Held.{IsHalfway, IsPartlyJoined, with_single, with_windows}
 use Rattle.ss_store.proofs.Additions.{closed-single}
 use Rattle.ss_store.proofs.ShownCalls.{HasRecords-of_map, IsOfMap, Turns-not_sealed, Turns-sealed, TurnsShown-then}
+use Rattle.ss_store.proofs.Within.{KeepsWithin-not_sealed, KeepsWithin-sealed}
 
 -- each of these is a property of maps
 pub IsHeldIn-of_map : (others : List (ℕ × Option Record)) (part : StreamParts) (s : Stream) → IsOfMap (IsHeldIn others part s)
@@ -62,31 +62,33 @@ module _ (part : StreamParts) (during after : List (ℕ × Option Record) → St
       stages.firm others s (subst (λ (content : List ℕ). IsHeldIn others part s content) (sym (shown-sealed was.journal old.content at_rest)) held)
 
   -- it was not sealed, since the call failed
-  pub TurnsStream-not_sealed : (v : Verdict) (between is : RecordsState) (result : Result (Unit {0}) ReadError) (mid : Told)
-      (later : List (ℕ × Option Record) → Stream → List ℕ → Type 0) → IsErr result → StagesStream v part during after was between result old mid →
-      TurnsStream v part during later is result old mid
+  pub TurnsStream-not_sealed : {most : ℕ} (v : Verdict) (between is : RecordsState) (result : Result (Unit {0}) ReadError) (mid : Told)
+      (later : List (ℕ × Option Record) → Stream → List ℕ → Type 0) → IsErr result →
+      StagesAtCost (StagesStream v part during after was between result) 0 most was between result old mid → TurnsStream v part during later is result old mid
   TurnsStream-not_sealed v between is result mid later failed stages = record {
     turns = λ others s.
         Turns-not_sealed was (IsHeldIn others part s) (during others s) (during others s) old at_rest (of_before others s) (λ image left. left)
-        (maps others s) between is (after others s) mid mid result result (later others s) failed (stages.turns others s);
-    firm = firm_shown v between result mid stages;
+        (maps others s) between is (after others s) mid mid result result (later others s) failed (stages.changes.turns others s);
+    firm = firm_shown v between result mid stages.changes;
     kept = on_err result (AreKept is mid.content) failed;
+    within = KeepsWithin-not_sealed at_rest result failed stages.within;
   }
 
   -- the seal, whatever it answers
-  pub TurnsStream-sealed : (v : Verdict) (between is : RecordsState) (result : Result (Unit {0}) Failed) (mid new : Told) →
+  pub TurnsStream-sealed : {most : ℕ} (v : Verdict) (between is : RecordsState) (result : Result (Unit {0}) Failed) (mid new : Told) →
       ((others : List (ℕ × Option Record)) (s : Stream) → IsOfMap (after others s)) →
       ((others : List (ℕ × Option Record)) (s : Stream) (image : List ℕ) → after others s image → during others s image) → IsFirm v → KnowsNow mid →
       OnOk result (IsSealed is.journal) →
-      StagesStream {T = Unit {0}} {E = ReadError} fine part during after was between (Ok tt) old mid → SealsRecords between is result mid new →
-      TurnsStream v part during after is result old new
+      StagesAtCost {T = Unit {0}} {E = ReadError} (StagesStream {T = Unit {0}} {E = ReadError} fine part during after was between (Ok tt)) 0 most was between
+      (Ok tt) old mid → SealsRecords between is result mid new → TurnsStream v part during after is result old new
   TurnsStream-sealed v between is result mid new reached of_reached firm knows sealed stages seals = record {
     turns = λ others s.
         Turns-sealed was (IsHeldIn others part s) (during others s) (during others s) old at_rest (of_before others s) (λ image left. left)
-        (maps others s) between is (after others s) mid new tt result (reached others s) (of_reached others s) knows sealed (stages.turns others s)
+        (maps others s) between is (after others s) mid new tt result (reached others s) (of_reached others s) knows sealed (stages.changes.turns others s)
         seals.keeps_shown;
     firm = λ others s held. firm;
     kept = seals.kept;
+    within = KeepsWithin-sealed at_rest is result knows sealed stages.within seals.keeps_shown;
   }
 
 -- A value was put, and then windows were joined until none is due.
@@ -103,16 +105,4 @@ StagesStream-valued {part} {between_part} {now} {t} {v} {was} {between} {is} {ol
       (IsHeldIn others between_part single) (IsPartlyJoined others single) (IsHeldIn others now (closed_stream single)) (IsHalfway others part s t v)
       old mid new tt result knows (first.turns others s) (second.turns others single) (λ image left. left) (λ image left. inr left));
   firm = λ others s held. second.firm others (with_single s t v) ((first.turns others s).content held);
-  kept = second.kept;
 }
-
--- the same of the steps of a disk
-pub step-valued : {part between_part now : StreamParts} {t : ℕ} {v : ℤ} {was between is : RecordsState} {old mid new : DiskView}
-    (result : Result (Unit {0}) ReadError) → (IsTrue mid.tells → KnowsNow mid.told) →
-    Step fine old mid (PutsValue part between_part t v was between (Ok tt)) →
-    Step (verdict_of_read result) mid new (StagesJoins between_part now between is result) →
-    Step (verdict_of_read result) old new
-    (StagesStream (verdict_of_read result) part (λ others s. IsHalfway others part s t v)
-    (λ others s. IsHeldIn others now (with_plain_value s (t, v, New))) was is result)
-step-valued {t} {v} result knows first second =
-    step-next first second (λ told then put joins. StagesStream-valued {t = t} {v = v} result (knows then) put joins)

@@ -16,13 +16,14 @@ use Rattle.ss_recover.specs.Held.{entries_of, slots_held}
 use Rattle.ss_recover.specs.declared.parts.StreamParts.{StreamParts}
 use Rattle.ss_store.specs.Admitted.{IsTaker}
 use Rattle.ss_store.specs.Applied.{Applies, StandsOn}
-use Rattle.ss_store.specs.Changing.{ChangedIsHeld, HoldsUntil, KeepsWhole, NoneAreDue, TakesValue}
+use Rattle.ss_store.specs.Calls.{StagesAtCost}
+use Rattle.ss_store.specs.Changing.{ChangedIsHeld, NoneAreDue, TakesValue}
 use Rattle.ss_store.specs.Errors.{apply_of_fault}
 use Rattle.ss_query.specs.Reading.{verdict_of_read}
 use Rattle.ss_store.specs.Held.{IsOrdered, IsSameStream, values_held}
-use Rattle.ss_store.specs.Indexed.{CanAppend, IndexState, IsReservedFor}
+use Rattle.ss_store.specs.Indexed.{CanAppend, IndexState, IsReservedFor, StandsAfter}
 use Rattle.ss_model.specs.Refusals.{is_past}
-use Rattle.ss_store.specs.Kept.{IsSound, SameButSpare, StoreIsKept, StoreState, is_of_landmark, refuses_held}
+use Rattle.ss_store.specs.Kept.{IsSound, SameButSpare, StoreIsKept, StoreState, refuses_held}
 use Rattle.ss_store.specs.Slots.{AreSomeLive}
 use Rattle.ss_query.specs.declared.read_error.ReadError.{ReadError}
 use Rattle.ss_store.proofs.Among.{IsNoEarlier-past}
@@ -32,8 +33,6 @@ use Rattle.ss_store.proofs.Appended.{said_of_set, ordered-IsSpared, whole-append
 use Rattle.ss_store.proofs.Applying.{Applies-done, Applies-failed, held_by_named}
 use Rattle.ss_store.proofs.Decays.{KeepsToTarget-taken}
 use Rattle.ss_store.proofs.LiveCounts.{few-slots, length-slots_held}
-use Rattle.ss_store.proofs.Refusals.{of_part-named}
-use Rattle.ss_model.specs.Marks.{has_open}
 use Rattle.ss_store.proofs.Stepping.{StepsState-answers, StepsState-failed}
 
 -- What is known before the call: the store is sound and runs, a stream of it may take the value, and its line was given room.
@@ -137,27 +136,30 @@ module _ {store : StoreState} {catalog : List (List ℕ × StreamId)} {name : Li
         IsSound-set store catalog is.sound place is.taker.part now is.taker.at (same.id ∙ ap (λ (p : StreamParts). p.id) room.same) same_name records true
         (λ run. let wrong : true ≡ false = run in cc)
 
-    module _ (whole : KeepsWhole (record was { line = line }) now store.records records (slot + 1))
-        (holds : HoldsUntil now (values_held (entries_of (record was { line = line })) + 1) (Some t)) where
+    module _ {index : IndexState} (stands : StandsAfter (record was { line = line }) now index store.records records (slot + 1)
+        (values_held (entries_of (record was { line = line })) + 1) (Some t)) where
       pub sound-taken : IsSound (with_stream now records store.stopped) catalog
       sound-taken =
           IsSound-set store catalog is.sound place is.taker.part now is.taker.at (same.id ∙ ap (λ (p : StreamParts). p.id) room.same) same_name records
           store.stopped
           (λ run. (
-            whole.settled,
+            stands.whole.settled,
             whole-appended store place is.taker.part (record was { line = line }) now records is.taker.at room (is.sound.whole is.runs) same
-                (IsNoEarlier-past was.last_time now.last_time t holds.last_time later-taker) whole.ordered whole.live,
+                (IsNoEarlier-past was.last_time now.last_time t stands.holds.last_time later-taker) stands.whole.ordered stands.whole.live,
           ))
 
       -- the event is applied
-      pub applies-taken : (after : DiskView) (n k : ℕ) (done : Unit {0}) →
-          Step fine before after (TakesValue (record was { line = line }) now t v store.records records (Ok done)) → NoneAreDue now →
+      pub applies-taken : {used most : ℕ} (after : DiskView) (n k : ℕ) (done : Unit {0}) →
+          Step fine before after
+          (StagesAtCost {T = Unit {0}} {E = ReadError} (TakesValue (record was { line = line }) now t v store.records records (Ok done)) used most
+          store.records records (Ok done)) →
+          NoneAreDue now →
           n ≡ values_held (entries_of now) → k ≡ length now.line.entries →
           Applies (Value name t v) store (with_stream now records store.stopped) before after (Ok (record { n = n; k = k }))
       applies-taken after n k done step none_due values windows =
-          let extent = whole.extent in
+          let extent = stands.whole.extent in
           let low = is.taker.low in
-          let some : 0 < n = omega (arith, values, holds.values) in
+          let some : 0 < n = omega (arith, values, stands.holds.values) in
           Applies-done (Value name t v) store (with_stream now records store.stopped) is.none before after (record { n = n; k = k })
           (step-from step (λ told takes.
           let kept = (is.one_disk told).shown in
@@ -165,7 +167,7 @@ module _ {store : StoreState} {catalog : List (List ℕ × StreamId)} {name : Li
           let others_now = others store content kept name t v place slot is.taker is.none is.said in
           let s = (pair store content kept name t v place slot is.taker is.none is.said).stream in
           let held = held-taker store content kept name t v place slot is.taker is.none is.said (record was { line = line }) now room in
-          let turns = takes.turns others_now s in (
+          let turns = takes.changes.turns others_now s in (
             StepsState-answers (Value name t v) store.records records before.told after.told done (Ok (record { n = n; k = k }))
                 (StepsState-appended store content kept name t v place slot is.taker is.none is.said (record was { line = line }) now room
                 store.records records before.told after.told (Ok done) refl turns),
@@ -174,12 +176,15 @@ module _ {store : StoreState} {catalog : List (List ℕ × StreamId)} {name : Li
           )))
           (λ made. let wrong : false ≡ true = made in absurd (cc))
           (said_of_set name store.streams place is.taker.part now n k is.sound.numbers is.taker.named is.taker.at same_name values windows)
-          (λ plain. KeepsToTarget-taken store catalog name t place slot now n k is.sound is.taker same_name values windows whole.ordered.tiles none_due some)
+          (λ plain.
+          KeepsToTarget-taken store catalog name t place slot now n k is.sound is.taker same_name values windows stands.whole.ordered.tiles none_due some)
           refl (omega (arith, extent, low))
 
     -- the call failed
-    pub applies-untaken : (after : DiskView) (why : ReadError) →
-        Step (verdict_of_read {T = Unit {0}} (Err why)) before after (TakesValue (record was { line = line }) now t v store.records records (Err why)) →
+    pub applies-untaken : {used most : ℕ} (after : DiskView) (why : ReadError) →
+        Step (verdict_of_read {T = Unit {0}} (Err why)) before after
+        (StagesAtCost {T = Unit {0}} {E = ReadError} (TakesValue (record was { line = line }) now t v store.records records (Err why)) used most
+        store.records records (Err why)) →
         ChangedIsHeld (verdict_of_read {T = Unit {0}} (Err why)) now →
         Applies (Value name t v) store (with_stream now records true) before after (Err (apply_of_fault why))
     applies-untaken after why step held =
@@ -191,13 +196,14 @@ module _ {store : StoreState} {catalog : List (List ℕ × StreamId)} {name : Li
         let s = (pair store content kept name t v place slot is.taker is.none is.said).stream in
         StepsState-failed (Value name t v) store.records records records before.told after.told (Err why) (apply_of_fault why)
         (StepsState-appended store content kept name t v place slot is.taker is.none is.said (record was { line = line }) now room store.records records
-        before.told after.told (Err why) refl (takes.turns others_now s))))
+        before.told after.told (Err why) refl (takes.changes.turns others_now s))))
         (λ told.
         let kept = (is.one_disk told).shown in
         let content = shown_by store.records before.told.content in
         let others_now = others store content kept name t v place slot is.taker is.none is.said in
         let s = (pair store content kept name t v place slot is.taker is.none is.said).stream in
-        (step.told told).firm others_now s (held-taker store content kept name t v place slot is.taker is.none is.said (record was { line = line }) now room))
+        (step.told told).changes.firm others_now s
+        (held-taker store content kept name t v place slot is.taker is.none is.said (record was { line = line }) now room))
         (held_by_named name (slice_set store.streams place now) now why
         (part_named-set name store.streams place is.taker.part now is.sound.numbers is.taker.named is.taker.at same_name) held)
         refl

@@ -5,7 +5,7 @@ use Rattle.ss_outside.specs.Crash.{LeavesOnly}
 use Rattle.ss_outside.specs.Disk.{Told, NothingPending, SyncsAtMost}
 use Rattle.ss_journal.specs.Redo.{SlotMap, StandsFor}
 use Rattle.ss_journal.specs.declared.format.TheConstants.{ENTRIES}
-use Rattle.ss_records.specs.Kept.{RecordsState, shown_by}
+use Rattle.ss_records.specs.Kept.{AreKept, RecordsState, shown_by}
 use Rattle.ss_model.specs.History.{Happened, added}
 use Rattle.ss_model.specs.State.{Stream}
 use Rattle.ss_model.specs.Steps.{stepped}
@@ -94,6 +94,15 @@ pub record SyncsToStage {T E : Type 0} (most : ℕ) (was is : RecordsState) (res
   pub syncs : SyncsAtMost (4 * rooms) old new
   pub used : ENTRIES * rooms ≤ was.journal.in_use + most
   pub left : OnOk result (ENTRIES * rooms + is.journal.in_use ≤ was.journal.in_use + most)
+
+-- A call that stages makes this of what a disk holds, by records that are others then, at a cost: it uses no more slots than so many,
+-- and makes room for so many transactions at most.
+pub record StagesAtCost {T E : Type 0} (change : Told → Told → Type 0) (used most : ℕ) (was is : RecordsState) (result : Result T E)
+    (old new : Told) : Type 0 where
+  pub changes : change old new
+  pub kept : OnOk result (AreKept is new.content)
+  pub within : StaysWithin used was is result old new
+  pub syncs : SyncsToStage most was is result old new
 
 -- A call that seals what it stages makes two syncs besides.
 pub record SyncsToApply (most : ℕ) (was : RecordsState) (old new : Told) : Type 0 where

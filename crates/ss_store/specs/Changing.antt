@@ -25,7 +25,7 @@ use Rattle.ss_model.specs.Steps.{with_plain_value}
 use Rattle.ss_model.specs.declared.types.Window.{Window}
 use Rattle.ss_recover.specs.Held.{AllAgree, EndByLast, entries_of, mark_slots, slots_held, span_held, span_of, times_held, times_of, window_record}
 use Rattle.ss_recover.specs.declared.parts.StreamParts.{StreamParts}
-use Rattle.ss_store.specs.Calls.{Turns, TurnsShown}
+use Rattle.ss_store.specs.Calls.{KeepsWithin, Turns, TurnsShown}
 use Rattle.ss_query.specs.Reading.{IsRead, verdict_of_read}
 use Rattle.ss_store.specs.Held.{IsHalfway, IsOrdered, IsPartlyJoined, values_held, with_single}
 use Rattle.ss_query.specs.Held.{IsHeldIn}
@@ -39,18 +39,20 @@ use Rattle.ss_store.specs.declared.marking.Mark.{Mark}
 use Rattle.ss_query.specs.declared.read_error.ReadError.{ReadError}
 use Rattle.ss_query.specs.Answered.{window_slots_of}
 
--- A change is made of what a disk holds, by records that are these then.
+-- A change is made of what a disk holds, by records that are these then, and no more slots are used than before, also in a crash.
 pub record Makes {T E : Type 0} (change : Told → Told → Type 0) (records : RecordsState) (result : Result T E) (old new : Told) : Type 0 where
   pub changes : change old new
   pub kept : OnOk result (AreKept records new.content)
+  pub within : KeepsWithin 0 result old new
 
 -- What a call makes of a stream that is held, whichever it is and whatever lies beside it: what it leaves in a crash, and what
--- at Ok. Where the stream was held, no record has changed.
+-- at Ok. Where the stream was held, no record has changed, and no more slots are used than before.
 pub record TurnsStream {T E : Type 0} (v : Verdict) (part : StreamParts) (during after : List (ℕ × Option Record) → Stream → List ℕ → Type 0)
     (records : RecordsState) (result : Result T E) (old new : Told) : Type 0 where
   pub turns : (others : List (ℕ × Option Record)) (s : Stream) → Turns (IsHeldIn others part s) (during others s) (after others s) old new result
   pub firm : (others : List (ℕ × Option Record)) (s : Stream) → IsHeldIn others part s old.content → IsFirm v
   pub kept : OnOk result (AreKept records new.content)
+  pub within : KeepsWithin 0 result old new
 
 -- The same of what records show, which are others then: a crash leaves what the content stands for, or this.
 pub record StagesStream {T E : Type 0} (v : Verdict) (part : StreamParts) (during after : List (ℕ × Option Record) → Stream → List ℕ → Type 0)
@@ -58,7 +60,6 @@ pub record StagesStream {T E : Type 0} (v : Verdict) (part : StreamParts) (durin
   pub turns : (others : List (ℕ × Option Record)) (s : Stream) →
       TurnsShown was is (IsHeldIn others part s) (during others s) (after others s) old new result
   pub firm : (others : List (ℕ × Option Record)) (s : Stream) → IsHeldIn others part s (shown_by was old.content) → IsFirm v
-  pub kept : OnOk result (AreKept is new.content)
 
 -- windows that are due were joined, and this is staged
 abbrev pub JoinsWindows : StreamParts → StreamParts → RecordsState → RecordsState → Result (Unit {0}) ReadError → Told → Told → Type 0
@@ -172,10 +173,11 @@ pub record HasTakenMark (part now : StreamParts) (t : ℕ) (mark : Mark) : Type 
   pub last : EndByLast now
 
 -- All streams are closed, by records that are these then, and a crash leaves what closes to the same. Where they were held, no
--- record has changed.
+-- record has changed. No more slots are used than before.
 pub record ClosesAll (parts now : List StreamParts) (records : RecordsState) (result : Result (Unit {0}) ReadError) (old new : Told) : Type 0 where
   pub turns : (all : List Stream) → IsState all → AllAgree parts all →
       Turns (HasRebuilt parts all) (Recovers (closed_state all)) (HasRebuilt now (closed_state all)) old new result
   pub agree : (all : List Stream) → IsState all → AllAgree parts all → HasRebuilt parts all old.content → OnOk result (AllAgree now (closed_state all))
   pub firm : (all : List Stream) → IsState all → AllAgree parts all → HasRebuilt parts all old.content → IsFirm (verdict_of_read result)
   pub kept : OnOk result (AreKept records new.content)
+  pub within : KeepsWithin 0 result old new

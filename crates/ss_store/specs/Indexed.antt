@@ -1,5 +1,6 @@
 -- The index of a stream: when its windows are joined, and where they stand by their times, over every disk.
-use Rattle.std.specs.Prelude.{◌≡◌, ℕ, ◌+◌, ◌<◌, ◌≤◌, true, false, List, [], ◌∷◌, ◌++◌, length, map}
+use Rattle.std.specs.Prelude.{◌≡◌, ℕ, ◌+◌, ◌<◌, ◌≤◌, true, false, List, [], ◌∷◌, ◌++◌, length, map, Option}
+use Rattle.ss_records.specs.Kept.{RecordsState}
 use Rattle.ss_line.specs.Line.{LineState}
 use Rattle.ss_line.specs.declared.entry.At.{At}
 use Rattle.ss_line.specs.declared.entry.Entry.{Entry}
@@ -13,7 +14,7 @@ use Rattle.ss_model.specs.Marks.{has_open}
 use Rattle.ss_model.specs.Refusals.{is_past}
 use Rattle.ss_recover.specs.Held.{entries_of}
 use Rattle.ss_recover.specs.declared.parts.StreamParts.{StreamParts}
-use Rattle.ss_store.specs.Changing.{NoneAreDue}
+use Rattle.ss_store.specs.Changing.{HoldsUntil, KeepsWhole, NoneAreDue}
 use Rattle.ss_store.specs.Held.{IsOrdered, values_held}
 
 -- the index of a stream: its schedule, and of each window the time of its first value, with its place
@@ -43,6 +44,13 @@ IsKeyedFor part index = IsKeyedAt (values_held (entries_of part)) part index
 -- and none of them is due
 abbrev pub IsScheduled : StreamParts → IndexState → Type 0
 IsScheduled part index = IsKeyedFor part index × NoneAreDue part
+
+-- What a stream is after a call of it, beside records that are others then: whole, with so many values up to a last time, and this index
+-- is that of its windows.
+pub record StandsAfter (part now : StreamParts) (index : IndexState) (was is : RecordsState) (used n : ℕ) (last : Option ℕ) : Type 0 where
+  pub whole : KeepsWhole part now was is used
+  pub holds : HoldsUntil now n last
+  pub keyed : IsKeyedFor now index
 
 -- a schedule has room for each place of a line, also for those to spare
 abbrev pub HasPlaces : LineState → ScheduleState → Type 0

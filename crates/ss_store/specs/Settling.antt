@@ -10,12 +10,12 @@ use Rattle.ss_query.specs.Reading.{verdict_of_read}
 use Rattle.ss_query.specs.declared.read_error.ReadError.{ReadError}
 use Rattle.ss_recover.specs.Held.{AllAgree}
 use Rattle.ss_recover.specs.declared.parts.StreamParts.{StreamParts}
-use Rattle.ss_store.specs.Calls.{Turns}
+use Rattle.ss_store.specs.Calls.{KeepsWithin, Turns}
 use Rattle.ss_store.specs.Rebuilt.{HasRebuilt, HasRebuiltBeside}
 use Rattle.ss_store.specs.Recover.{Recovers}
 
 -- The records of dropped streams in these slots are cleared and all streams are closed, by records that are these then, and a crash
--- leaves what closes to the same. Where the streams were held, no record has changed.
+-- leaves what closes to the same. Where the streams were held, no record has changed. No more slots are used than before.
 pub record SettlesAll (slots : List ℕ) (parts now : List StreamParts) (records : RecordsState) (result : Result (Unit {0}) ReadError)
     (old new : Told) : Type 0 where
   pub turns : (all : List Stream) → IsState all → AllAgree parts all →
@@ -24,3 +24,4 @@ pub record SettlesAll (slots : List ℕ) (parts now : List StreamParts) (records
       OnOk result (AllAgree now (closed_state all))
   pub firm : (all : List Stream) → IsState all → AllAgree parts all → HasRebuiltBeside slots parts all old.content → IsFirm (verdict_of_read result)
   pub kept : OnOk result (AreKept records new.content)
+  pub within : KeepsWithin 0 result old new

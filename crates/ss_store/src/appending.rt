@@ -7,11 +7,11 @@ ghost use Rattle.ss_journal.specs.Kept.{IsSettled};
 ghost use Rattle.ss_records.specs.Kept.{AreKept};
 ghost use Rattle.ss_records.specs.Live.{lowest_free};
 ghost use Rattle.ss_recover.specs.Held.{entries_of, slots_held};
-ghost use Rattle.ss_store.specs.Calls.{StaysWithin, SyncsToStage};
-ghost use Rattle.ss_store.specs.Changing.{ChangedIsHeld, HoldsUntil, KeepsWhole, PutsValue, TakesValue};
+ghost use Rattle.ss_store.specs.Calls.{StagesAtCost};
+ghost use Rattle.ss_store.specs.Changing.{ChangedIsHeld, NoneAreDue, PutsValue, TakesValue};
 ghost use Rattle.ss_query.specs.Reading.{verdict_of_read};
 ghost use Rattle.ss_store.specs.Held.{IsSameStream, values_held};
-ghost use Rattle.ss_store.specs.Indexed.{CanAppend, IsKeyedFor, IsScheduled};
+ghost use Rattle.ss_store.specs.Indexed.{CanAppend, StandsAfter};
 ghost use Rattle.ss_store.specs.Slots.{AreSomeLive};
 
 use crate::closing::{stage_joins, values_held};
@@ -45,14 +45,11 @@ fn put_value<D: Disk, L: Ledger>(
     requires time { t ≤ LATEST_TIME }
     requires one_disk { OfContent (D.seen disk.old) (AreKept records.old) }
     ensures puts { Step (verdict_of_read result) (D.seen disk.old) (D.seen disk.new)
-        (PutsValue part.old part.new t v records.old records.new result) }
+        (StagesAtCost (PutsValue part.old part.new t v records.old records.new result) (slot + 1) 1 records.old records.new result) }
     ensures firm { IsFirm (verdict_of_read result) }
     ensures same { IsSameStream part.old part.new }
-    ensures whole { OnOk result (KeepsWhole part.old part.new records.old records.new (slot + 1)) }
-    ensures within { Step (verdict_of_read result) (D.seen disk.old) (D.seen disk.new) (StaysWithin (slot + 1) records.old records.new result) }
-    ensures syncs { Step (verdict_of_read result) (D.seen disk.old) (D.seen disk.new) (SyncsToStage 1 records.old records.new result) }
-    ensures holds { OnOk result (HoldsUntil part.new (values_held (entries_of part.old) + 1) (Some t)) }
-    ensures keyed { OnOk result (IsKeyedFor part.new index.new) }
+    ensures stands { OnOk result (StandsAfter part.old part.new index.new records.old records.new (slot + 1)
+        (values_held (entries_of part.old) + 1) (Some t)) }
     ensures err { OnErr result (part.new ≡ part.old) }
     ensures one_more { OnOk result (length part.new.line.entries ≡ length part.old.line.entries + 1) }
     ensures looks { OnOk result (steps.new ≤ steps.old + 6) }
@@ -94,17 +91,15 @@ pub fn append_value<D: Disk, L: Ledger>(
     requires time { t ≤ LATEST_TIME }
     requires live { AreSomeLive (slots_held part.old) records.old.live }
     requires one_disk { OfContent (D.seen disk.old) (AreKept records.old) }
-    // Where the entries run out in the middle, a crash leaves the value with windows joined that are due, all or some.
+    // Where the entries run out in the middle, a crash leaves the value with windows joined that are due, all or some. The value
+    // and each of its joins use an entry at most.
     ensures takes { Step (verdict_of_read result) (D.seen disk.old) (D.seen disk.new)
-        (TakesValue part.old part.new t v records.old records.new result) }
+        (StagesAtCost (TakesValue part.old part.new t v records.old records.new result) (slot + 1) (length part.old.line.entries + 3)
+        records.old records.new result) }
     ensures same { IsSameStream part.old part.new }
-    ensures whole { OnOk result (KeepsWhole part.old part.new records.old records.new (slot + 1)) }
-    ensures within { Step (verdict_of_read result) (D.seen disk.old) (D.seen disk.new) (StaysWithin (slot + 1) records.old records.new result) }
-    // The value and each of its joins use an entry at most.
-    ensures syncs { Step (verdict_of_read result) (D.seen disk.old) (D.seen disk.new)
-        (SyncsToStage (length part.old.line.entries + 3) records.old records.new result) }
-    ensures holds { OnOk result (HoldsUntil part.new (values_held (entries_of part.old) + 1) (Some t)) }
-    ensures scheduled { OnOk result (IsScheduled part.new index.new) }
+    ensures stands { OnOk result (StandsAfter part.old part.new index.new records.old records.new (slot + 1)
+        (values_held (entries_of part.old) + 1) (Some t)) }
+    ensures none_due { OnOk result (NoneAreDue part.new) }
     ensures changed { ChangedIsHeld (verdict_of_read result) part.new }
     // With so many joins it looks at the line at most 7 times and 11 times for each of them, however many windows stand in it.
     ensures looks { OnOk result ((joins : ℕ) → length part.new.line.entries + joins ≡ length part.old.line.entries + 1

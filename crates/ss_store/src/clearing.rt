@@ -5,7 +5,7 @@ ghost use Rattle.ss_outside.specs.Step.{Step};
 ghost use Rattle.ss_outside.specs.Verdict.{verdict};
 ghost use Rattle.ss_journal.specs.Kept.{IsSettled};
 ghost use Rattle.ss_records.specs.Kept.{AreAtRest, AreKept};
-ghost use Rattle.ss_store.specs.Calls.{KeepsWithin, StaysWithin, SyncsToStage};
+ghost use Rattle.ss_store.specs.Calls.{StagesAtCost};
 ghost use Rattle.ss_store.specs.Changing.{Makes};
 ghost use Rattle.ss_store.specs.Clearing.{ClearsSlots, StagesClearing};
 ghost use Rattle.ss_store.specs.Slots.{AreSomeLive, LiveSlotsGo};
@@ -24,12 +24,10 @@ pub fn stage_clearing<D: Disk>(
     requires live { AreSomeLive doomed.now records.old.live }
     requires one_disk { OfContent (D.seen disk.old) (AreKept records.old) }
     ensures clears { Step (verdict result) (D.seen disk.old) (D.seen disk.new)
-        (Makes (StagesClearing doomed.now records.old records.new result) records.new result) }
+        (StagesAtCost (StagesClearing doomed.now records.old records.new result) 0 (length doomed.now) records.old records.new result) }
     ensures settled { OnOk result (IsSettled records.new.journal) }
     ensures live { OnOk result (LiveSlotsGo doomed.now [] records.old.live records.new.live) }
     ensures extent { OnOk result (records.new.journal.extent ≡ records.old.journal.extent) }
-    ensures within { Step (verdict result) (D.seen disk.old) (D.seen disk.new) (StaysWithin 0 records.old records.new result) }
-    ensures syncs { Step (verdict result) (D.seen disk.old) (D.seen disk.new) (SyncsToStage (length doomed.now) records.old records.new result) }
 {
     for slot in doomed {
         stage_zeros(records, disk, *slot)?;
@@ -47,7 +45,6 @@ pub fn clear_all<D: Disk>(records: &mut Records, disk: &mut D, doomed: &[u32]) -
     ensures at_rest { OnOk result (AreAtRest records.new) }
     ensures live { OnOk result (LiveSlotsGo doomed.now [] records.old.live records.new.live) }
     ensures extent { OnOk result (records.new.journal.extent ≡ records.old.journal.extent) }
-    ensures within { Step (verdict result) (D.seen disk.old) (D.seen disk.new) (KeepsWithin 0 result) }
 {
     stage_clearing(records, disk, doomed)?;
     records.seal(disk)

@@ -7,12 +7,12 @@ ghost use Rattle.ss_journal.specs.Kept.{IsRunning, IsSettled};
 ghost use Rattle.ss_records.specs.Kept.{AreAtRest, AreKept};
 ghost use Rattle.ss_summary.specs.Figures.{IsPossible};
 ghost use Rattle.ss_recover.specs.Held.{entries_of, slots_held};
-ghost use Rattle.ss_store.specs.Calls.{KeepsWithin, StaysWithin, SyncsToStage};
-ghost use Rattle.ss_store.specs.Changing.{StandBeside, ChangedIsHeld, ClosesStream, HoldsUntil, JoinsWindows, KeepsAtRest, KeepsWhole, ReadsJoined};
+ghost use Rattle.ss_store.specs.Calls.{StagesAtCost};
+ghost use Rattle.ss_store.specs.Changing.{StandBeside, ChangedIsHeld, ClosesStream, HoldsUntil, JoinsWindows, KeepsAtRest, NoneAreDue, ReadsJoined};
 ghost use Rattle.ss_store.specs.Changing.{StagesJoins};
 ghost use Rattle.ss_query.specs.Reading.{verdict_of_read};
 ghost use Rattle.ss_store.specs.Held.{IsOrdered, IsSameStream, values_held};
-ghost use Rattle.ss_store.specs.Indexed.{IsDuePair, IsKeyedFor, IsScheduled};
+ghost use Rattle.ss_store.specs.Indexed.{IsDuePair, IsKeyedFor, IsScheduled, StandsAfter};
 ghost use Rattle.ss_store.specs.Slots.{AreSomeLive};
 
 use crate::index::Index;
@@ -83,14 +83,11 @@ fn join<D: Disk, L: Ledger>(
     requires live { AreSomeLive (slots_held part.old) records.old.live }
     requires one_disk { OfContent (D.seen disk.old) (AreKept records.old) }
     ensures joins { Step (verdict_of_read result) (D.seen disk.old) (D.seen disk.new)
-        (JoinsWindows part.old part.new records.old records.new result) }
+        (StagesAtCost (JoinsWindows part.old part.new records.old records.new result) 0 1 records.old records.new result) }
     ensures same { IsSameStream part.old part.new }
-    ensures whole { OnOk result (KeepsWhole part.old part.new records.old records.new 0) }
-    ensures within { Step (verdict_of_read result) (D.seen disk.old) (D.seen disk.new) (StaysWithin 0 records.old records.new result) }
-    ensures syncs { Step (verdict_of_read result) (D.seen disk.old) (D.seen disk.new) (SyncsToStage 1 records.old records.new result) }
-    ensures holds { OnOk result (HoldsUntil part.new (values_held (entries_of part.old)) part.old.last_time) }
+    ensures stands { OnOk result (StandsAfter part.old part.new index.new records.old records.new 0
+        (values_held (entries_of part.old)) part.old.last_time) }
     ensures fewer { OnOk result (length part.new.line.entries + 1 ≡ length part.old.line.entries) }
-    ensures keyed { OnOk result (IsKeyedFor part.new index.new) }
     ensures err { OnErr result (part.new ≡ part.old) }
     ensures changed { ChangedIsHeld (verdict_of_read result) part.old }
     ensures looks { OnOk result (steps.new ≤ steps.old + 9) }
@@ -123,14 +120,12 @@ pub fn stage_joins<D: Disk, L: Ledger>(
     requires live { AreSomeLive (slots_held part.old) records.old.live }
     requires one_disk { OfContent (D.seen disk.old) (AreKept records.old) }
     ensures closes { Step (verdict_of_read result) (D.seen disk.old) (D.seen disk.new)
-        (StagesJoins part.old part.new records.old records.new result) }
+        (StagesAtCost (StagesJoins part.old part.new records.old records.new result) 0 (length part.old.line.entries + 1)
+        records.old records.new result) }
     ensures same { IsSameStream part.old part.new }
-    ensures whole { OnOk result (KeepsWhole part.old part.new records.old records.new 0) }
-    ensures within { Step (verdict_of_read result) (D.seen disk.old) (D.seen disk.new) (StaysWithin 0 records.old records.new result) }
-    ensures syncs { Step (verdict_of_read result) (D.seen disk.old) (D.seen disk.new)
-        (SyncsToStage (length part.old.line.entries + 1) records.old records.new result) }
-    ensures holds { OnOk result (HoldsUntil part.new (values_held (entries_of part.old)) part.old.last_time) }
-    ensures scheduled { OnOk result (IsScheduled part.new index.new) }
+    ensures stands { OnOk result (StandsAfter part.old part.new index.new records.old records.new 0
+        (values_held (entries_of part.old)) part.old.last_time) }
+    ensures none_due { OnOk result (NoneAreDue part.new) }
     ensures changed { ChangedIsHeld (verdict_of_read result) part.new }
     // It looks at the line 11 times for each join, and once besides.
     ensures looks { OnOk result (steps.new + 11 * length part.new.line.entries ≤ steps.old + 11 * length part.old.line.entries + 1) }
@@ -159,7 +154,6 @@ pub fn close_windows<D: Disk, L: Ledger>(
         (ClosesStream part.old part.new records.new result) }
     ensures same { IsSameStream part.old part.new }
     ensures whole { OnOk result (KeepsAtRest part.old part.new records.old records.new 0) }
-    ensures within { Step (verdict_of_read result) (D.seen disk.old) (D.seen disk.new) (KeepsWithin 0 result) }
     ensures holds { OnOk result (HoldsUntil part.new (values_held (entries_of part.old)) part.old.last_time) }
     ensures scheduled { OnOk result (IsScheduled part.new index.new) }
     ensures changed { ChangedIsHeld (verdict_of_read result) part.new }

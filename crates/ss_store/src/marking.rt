@@ -12,7 +12,7 @@ ghost use Rattle.ss_landmarks.specs.Landmark.{all_values};
 ghost use Rattle.ss_landmarks.specs.Landmarks.{AreKnown};
 ghost use Rattle.ss_model.specs.Marks.{later};
 ghost use Rattle.ss_recover.specs.Held.{mark_slots, slots_held};
-ghost use Rattle.ss_store.specs.Calls.{StaysWithin, SyncsToStage};
+ghost use Rattle.ss_store.specs.Calls.{StagesAtCost};
 ghost use Rattle.ss_store.specs.Changing.{CanTakeMark, HasSameWindows, HasRoomFor, HasTakenMark, KeepsWhole, TakesMark};
 ghost use Rattle.ss_store.specs.Marking.{CanMark, FitsMark, landmarks_after, mark_record, slots_after, slots_used, start_open, value_slots_after, values_open};
 ghost use Rattle.ss_store.specs.Slots.{AreSomeLive};
@@ -142,13 +142,11 @@ pub fn put_mark<D: Disk>(
     requires live { AreSomeLive (slots_held part.old) records.old.live }
     requires one_disk { OfContent (D.seen disk.old) (AreKept records.old) }
     ensures takes { Step (verdict result) (D.seen disk.old) (D.seen disk.new)
-        (TakesMark part.old part.new t mark records.old records.new result) }
+        (StagesAtCost (TakesMark part.old part.new t mark records.old records.new result) (slots_used mark slot) 1 records.old records.new result) }
     ensures fits { FitsMark mark }
     ensures same { HasSameWindows part.old part.new }
     ensures taken { OnOk result (HasTakenMark part.old part.new t mark) }
     ensures whole { OnOk result (KeepsWhole part.old part.new records.old records.new (slots_used mark slot)) }
-    ensures within { Step (verdict result) (D.seen disk.old) (D.seen disk.new) (StaysWithin (slots_used mark slot) records.old records.new result) }
-    ensures syncs { Step (verdict result) (D.seen disk.old) (D.seen disk.new) (SyncsToStage 1 records.old records.new result) }
     ensures err { OnErr result (part.new ≡ part.old) }
 {
     let written = record_of(part, t, mark);

@@ -3,15 +3,13 @@ ghost use Rattle.std.specs.Prelude.{◌≡◌, ◌≤◌, map, length, IfOk, OnO
 ghost use Rattle.std.specs.List.{AllZip, IsDistinct};
 ghost use Rattle.ss_outside.specs.Disk.{OfContent};
 ghost use Rattle.ss_outside.specs.Step.{Step};
-ghost use Rattle.ss_outside.specs.Verdict.{IfChanged, IsFirm};
+ghost use Rattle.ss_outside.specs.Verdict.{IsFirm};
 ghost use Rattle.ss_catalog.specs.Names.{same_name};
 ghost use Rattle.ss_catalog.specs.declared.TheConstants.{MOST_STREAMS};
 ghost use Rattle.ss_journal.specs.Kept.{IsRunning, IsSealed};
-ghost use Rattle.ss_journal.specs.declared.format.TheConstants.{MOST_SLOTS};
 ghost use Rattle.ss_records.specs.Kept.{AreAtRest, AreKept};
 ghost use Rattle.ss_recover.specs.Held.{AreWhole, AreWholeBeside};
 ghost use Rattle.ss_recover.specs.declared.parts.StreamParts.{StreamParts};
-ghost use Rattle.ss_store.specs.Calls.{KeepsWithin};
 ghost use Rattle.ss_store.specs.Changing.{ClosesAll, SomeChangedIsHeld};
 ghost use Rattle.ss_store.specs.Errors.{verdict_of_opening};
 ghost use Rattle.ss_query.specs.Reading.{verdict_of_read};
@@ -79,7 +77,6 @@ pub fn close_all<D: Disk, L: Ledger>(
     ensures closes { Step (verdict_of_read result) (D.seen disk.old) (D.seen disk.new)
         (ClosesAll streams.old streams.new records.new result) }
     ensures extent { OnOk result (records.new.journal.extent ≤ records.old.journal.extent) }
-    ensures within { Step (verdict_of_read result) (D.seen disk.old) (D.seen disk.new) (KeepsWithin 0 result) }
     ensures entries { map entry_of streams.new ≡ map entry_of streams.old }
     ensures whole { OnOk result (AreWhole streams.new records.new.live) }
     ensures at_rest { OnOk result (AreAtRest records.new) }
@@ -115,7 +112,6 @@ pub fn settle_all<D: Disk, L: Ledger>(
     ensures settles { Step (verdict_of_read result) (D.seen disk.old) (D.seen disk.new)
         (SettlesAll doomed.now streams.old streams.new records.new result) }
     ensures extent { OnOk result (records.new.journal.extent ≤ records.old.journal.extent) }
-    ensures within { Step (verdict_of_read result) (D.seen disk.old) (D.seen disk.new) (KeepsWithin 0 result) }
     ensures entries { map entry_of streams.new ≡ map entry_of streams.old }
     ensures whole { OnOk result (AreWhole streams.new records.new.live) }
     ensures at_rest { OnOk result (AreAtRest records.new) }

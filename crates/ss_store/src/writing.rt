@@ -9,8 +9,7 @@ ghost use Rattle.ss_records.specs.Kept.{AreKept};
 ghost use Rattle.ss_records.specs.Live.{lowest_free};
 ghost use Rattle.ss_codec.specs.Record.{is_valid};
 ghost use Rattle.ss_codec.specs.declared.record.Record.TheVariants.{Free};
-ghost use Rattle.ss_store.specs.Calls.{StaysWithin, SyncsToStage};
-ghost use Rattle.ss_store.specs.Changing.{Makes};
+ghost use Rattle.ss_store.specs.Calls.{StagesAtCost};
 ghost use Rattle.ss_store.specs.Slots.{AreSomeLive, LiveSlotsGo, StagesRecord, StagesReplaced, StagesTwo, pair_put, record_put, zeros_put};
 ghost use Rattle.ss_store.specs.Clearing.{StagesChange};
 
@@ -45,12 +44,10 @@ pub fn stage_record<D: Disk>(
     requires free { lowest_free records.old.live ≡ Some slot }
     requires one_disk { OfContent (D.seen disk.old) (AreKept records.old) }
     ensures stages { Step (verdict result) (D.seen disk.old) (D.seen disk.new)
-        (Makes (StagesRecord slot written.now records.old records.new result) records.new result) }
+        (StagesAtCost (StagesRecord slot written.now records.old records.new result) (slot + 1) 1 records.old records.new result) }
     ensures settled { OnOk result (IsSettled records.new.journal) }
     ensures live { OnOk result (LiveSlotsGo [] (slot ∷ []) records.old.live records.new.live) }
     ensures extent { OnOk result (records.new.journal.extent ≤ max records.old.journal.extent (slot + 1)) }
-    ensures within { Step (verdict result) (D.seen disk.old) (D.seen disk.new) (StaysWithin (slot + 1) records.old records.new result) }
-    ensures syncs { Step (verdict result) (D.seen disk.old) (D.seen disk.new) (SyncsToStage 1 records.old records.new result) }
     ensures err { OnErr result (records.new.live ≡ records.old.live) }
 {
     prove!(records.lowest_free() == Some(slot));
@@ -72,14 +69,12 @@ pub fn stage_replaced<D: Disk>(
     requires live { AreSomeLive (slot ∷ []) records.old.live }
     requires one_disk { OfContent (D.seen disk.old) (AreKept records.old) }
     ensures stages { Step (verdict result) (D.seen disk.old) (D.seen disk.new)
-        (Makes (StagesReplaced slot written.now records.old records.new result) records.new result) }
+        (StagesAtCost (StagesReplaced slot written.now records.old records.new result) 0 1 records.old records.new result) }
     ensures changes { Step (verdict result) (D.seen disk.old) (D.seen disk.new)
         (StagesChange (record_put slot written.now ∷ []) records.old records.new result) }
     ensures settled { OnOk result (IsSettled records.new.journal) }
     ensures live { records.new.live ≡ records.old.live }
     ensures extent { OnOk result (records.new.journal.extent ≡ records.old.journal.extent) }
-    ensures within { Step (verdict result) (D.seen disk.old) (D.seen disk.new) (StaysWithin 0 records.old records.new result) }
-    ensures syncs { Step (verdict result) (D.seen disk.old) (D.seen disk.new) (SyncsToStage 1 records.old records.new result) }
 {
     // The records are sound: each slot that is live lies below the extent.
     prove!(records.live() <= MOST_SLOTS);
@@ -106,12 +101,10 @@ pub fn stage_zeros<D: Disk>(records: &mut Records, disk: &mut D, slot: u32) -> R
     requires live { AreSomeLive (slot ∷ []) records.old.live }
     requires one_disk { OfContent (D.seen disk.old) (AreKept records.old) }
     ensures changes { Step (verdict result) (D.seen disk.old) (D.seen disk.new)
-        (Makes (StagesChange (zeros_put slot ∷ []) records.old records.new result) records.new result) }
+        (StagesAtCost (StagesChange (zeros_put slot ∷ []) records.old records.new result) 0 1 records.old records.new result) }
     ensures settled { OnOk result (IsSettled records.new.journal) }
     ensures live { OnOk result (LiveSlotsGo (slot ∷ []) [] records.old.live records.new.live) }
     ensures extent { OnOk result (records.new.journal.extent ≡ records.old.journal.extent) }
-    ensures within { Step (verdict result) (D.seen disk.old) (D.seen disk.new) (StaysWithin 0 records.old records.new result) }
-    ensures syncs { Step (verdict result) (D.seen disk.old) (D.seen disk.new) (SyncsToStage 1 records.old records.new result) }
     ensures err { OnErr result (records.new.live ≡ records.old.live) }
 {
     // The records are sound: each slot that is live lies below the extent.
@@ -162,12 +155,10 @@ pub fn stage_two<D: Disk>(
     requires live { AreSomeLive (kept ∷ freed ∷ []) records.old.live }
     requires one_disk { OfContent (D.seen disk.old) (AreKept records.old) }
     ensures stages { Step (verdict result) (D.seen disk.old) (D.seen disk.new)
-        (Makes (StagesTwo kept freed written.now records.old records.new result) records.new result) }
+        (StagesAtCost (StagesTwo kept freed written.now records.old records.new result) 0 1 records.old records.new result) }
     ensures settled { OnOk result (IsSettled records.new.journal) }
     ensures live { OnOk result (LiveSlotsGo (kept ∷ freed ∷ []) (kept ∷ []) records.old.live records.new.live) }
     ensures extent { OnOk result (records.new.journal.extent ≡ records.old.journal.extent) }
-    ensures within { Step (verdict result) (D.seen disk.old) (D.seen disk.new) (StaysWithin 0 records.old records.new result) }
-    ensures syncs { Step (verdict result) (D.seen disk.old) (D.seen disk.new) (SyncsToStage 1 records.old records.new result) }
     ensures err { OnErr result (records.new.live ≡ records.old.live) }
 {
     // The records are sound: each slot that is live lies below the extent.

@@ -1,13 +1,12 @@
 // Staging the drop of a stream.
-ghost use Rattle.std.specs.Prelude.{◌≡◌, [], ◌+◌, ◌∷◌, ◌++◌, length, map, true, IfOk, IsTrue, OnOk};
+ghost use Rattle.std.specs.Prelude.{◌≡◌, [], ◌+◌, ◌++◌, length, map, true, IfOk, IsTrue, OnOk};
 ghost use Rattle.ss_outside.specs.Disk.{OfContent};
 ghost use Rattle.ss_outside.specs.Step.{Step};
 ghost use Rattle.ss_outside.specs.Verdict.{verdict};
 ghost use Rattle.ss_journal.specs.Kept.{IsSettled};
 ghost use Rattle.ss_records.specs.Kept.{AreKept};
 ghost use Rattle.ss_codec.specs.Record.{is_valid};
-ghost use Rattle.ss_store.specs.Calls.{StaysWithin, SyncsToStage};
-ghost use Rattle.ss_store.specs.Changing.{Makes};
+ghost use Rattle.ss_store.specs.Calls.{StagesAtCost, StaysWithin, SyncsToStage};
 ghost use Rattle.ss_store.specs.Dropping.{StagesDrop, dropped_record, slots_in_turn};
 ghost use Rattle.ss_store.specs.Slots.{AreSomeLive, LiveSlotsGo};
 
@@ -103,12 +102,10 @@ fn stage_doomed<D: Disk>(
     requires live { AreSomeLive slots.now records.old.live }
     requires one_disk { OfContent (D.seen disk.old) (AreKept records.old) }
     ensures drops { Step (verdict result) (D.seen disk.old) (D.seen disk.new)
-        (Makes (StagesDrop part.now records.old records.new result) records.new result) }
+        (StagesAtCost (StagesDrop part.now records.old records.new result) 0 (length slots.now + 1) records.old records.new result) }
     ensures settled { OnOk result (IsSettled records.new.journal) }
     ensures live { OnOk result (LiveSlotsGo slots.now [] records.old.live records.new.live) }
     ensures extent { OnOk result (records.new.journal.extent ≡ records.old.journal.extent) }
-    ensures within { Step (verdict result) (D.seen disk.old) (D.seen disk.new) (StaysWithin 0 records.old records.new result) }
-    ensures syncs { Step (verdict result) (D.seen disk.old) (D.seen disk.new) (SyncsToStage (length slots.now + 1) records.old records.new result) }
 {
     stage_replaced(records, disk, part.slot, &record_of(part))?;
     stage_clearing(records, disk, slots)

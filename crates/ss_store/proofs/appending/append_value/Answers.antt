@@ -1,6 +1,6 @@
-use Rattle.std.proofs.Common.{◌≡◌, ℕ, ◌+◌, ◌*◌, ◌≤◌, Result, Ok, Err, OnOk, length, inl, refl, arith, w64}
+use Rattle.std.proofs.Common.{◌≡◌, ℕ, ◌+◌, ◌*◌, ◌≤◌, Result, Ok, Err, OnOk, length, refl, arith, w64}
 use Rattle.std.proofs.lemmas.Int.{to_z-of_z}
-use Rattle.std.proofs.lemmas.Result.{err_from_is_err_and}
+use Rattle.std.proofs.lemmas.Result.{err_from_is_err_and, on_ok_weaker}
 use Rattle.ss_outside.proofs.StepLemmas.{step-as}
 use Rattle.ss_journal.proofs.StepLemmas.{after-step, step-next}
 use Rattle.ss_summary.specs.Points.{New}
@@ -10,12 +10,11 @@ use Rattle.ss_query.specs.Held.{IsHeldIn}
 use Rattle.ss_query.specs.declared.read_error.ReadError.{ReadError}
 use Rattle.ss_store.specs.Held.{IsHalfway, with_single}
 use Rattle.ss_store.proofs.Closings.{IsSameStream-more}
+use Rattle.ss_store.proofs.Costs.{StagesAtCost-failed, StagesAtCost-then}
 use Rattle.ss_store.proofs.LiveSlots.{AreSomeLive-go}
-use Rattle.ss_store.proofs.Sealings.{step-valued}
+use Rattle.ss_store.proofs.Sealings.{StagesStream-valued}
 use Rattle.ss_store.proofs.ShownCalls.{TurnsShown-failed}
-use Rattle.ss_store.proofs.Wholes.{HoldsUntil-then, KeepsWhole-then}
-use Rattle.ss_store.proofs.Syncs.{SyncsToStage-failed, SyncsToStage-then}
-use Rattle.ss_store.proofs.Within.{StaysWithin-failed, StaysWithin-then}
+use Rattle.ss_store.proofs.Wholes.{StandsAfter-then}
 use Rattle.ss_store.proofs.appending.append_value.Goals as goal
 
 pub returns-in_err-put_value-clause-takes : goal.returns-in_err-put_value-clause-takes
@@ -25,19 +24,19 @@ returns-in_err-put_value-clause-takes g c =
     let v = c.args.v in
     let p = err_from_is_err_and c.from_residual.result c.from_residual.ensures.1 in
     rw (p.1, p.2)
-    (step-as (rw (to_z-of_z w64 v c.ranges.v) at c.in_err-put_value.ensures.puts) (λ put. record {
+    (step-as (rw (to_z-of_z w64 v c.ranges.v) at c.in_err-put_value.ensures.puts) (λ put.
+    StagesAtCost-failed _ refl (omega arith) (omega arith) put (λ single. record {
       turns = λ others s.
           TurnsShown-failed c.args.records.now c.put_value.new.records c.put_value.new.records (IsHeldIn others part s) (IsHalfway others part s t v)
           (IsHeldIn others c.put_value.new.part (with_single s t v)) (IsHeldIn others c.put_value.new.part (with_plain_value s (t, v, New))) _ _ _ _ refl
-          (put.turns others s);
-      firm = put.firm;
-      kept = tt;
-    }))
+          (single.turns others s);
+      firm = single.firm;
+    })))
 
 pub stage_joins-requires-clause-live : goal.stage_joins-requires-clause-live
 stage_joins-requires-clause-live g c =
     AreSomeLive-go (slots_held c.args.part.now) (slots_held c.put_value.new.part) c.args.records.now.live c.put_value.new.records.live c.requires.live
-    c.in_ok-put_value.ensures.whole.live
+    c.in_ok-put_value.ensures.stands.whole.live
 
 pub stage_joins-requires-clause-one_disk : goal.stage_joins-requires-clause-one_disk
 stage_joins-requires-clause-one_disk g c = after-step c.in_ok-put_value.ensures.puts (λ told has. has.kept)
@@ -46,8 +45,10 @@ pub returns-clause-takes : goal.returns-clause-takes
 returns-clause-takes g c =
     let t = c.args.t in
     let v = c.args.v in
-    step-valued {t = t} {v = v} c.stage_joins.result (g.met.D.Disk.knows_now c.put_value.new.disk)
-    (rw (to_z-of_z w64 v c.ranges.v) at c.in_ok-put_value.ensures.puts) c.stage_joins.ensures.closes
+    step-next (rw (to_z-of_z w64 v c.ranges.v) at c.in_ok-put_value.ensures.puts) c.stage_joins.ensures.closes (λ told then put joins.
+    let knows = g.met.D.Disk.knows_now c.put_value.new.disk then in
+    StagesAtCost-then {first = c.args.slot + 1} {second = 0} _ knows (omega arith) (omega arith) (omega (arith, c.in_ok-put_value.ensures.one_more)) put joins
+    (StagesStream-valued {t = t} {v = v} c.stage_joins.result knows))
 
 pub returns-clause-same : goal.returns-clause-same
 returns-clause-same g c =
@@ -65,22 +66,5 @@ returns-clause-looks g c =
     (length c.put_value.new.part.line.entries) (length c.stage_joins.new.part.line.entries) c.in_ok-put_value.ensures.one_more
     c.in_ok-put_value.ensures.looks c.stage_joins.ensures.looks
 
-pub returns-in_err-put_value-clause-within : goal.returns-in_err-put_value-clause-within
-returns-in_err-put_value-clause-within g c =
-    let p = err_from_is_err_and c.from_residual.result c.from_residual.ensures.1 in
-    rw (p.1, p.2) (step-as c.in_err-put_value.ensures.within (λ put. StaysWithin-failed _ refl (omega arith) put))
-
-pub returns-clause-within : goal.returns-clause-within
-returns-clause-within g c =
-    step-next c.in_ok-put_value.ensures.within c.stage_joins.ensures.within (λ told then first second.
-    StaysWithin-then {first = c.args.slot + 1} {second = 0} _ (g.met.D.Disk.knows_now c.put_value.new.disk then) (omega arith) (omega arith) first second)
-
-pub returns-in_err-put_value-clause-syncs : goal.returns-in_err-put_value-clause-syncs
-returns-in_err-put_value-clause-syncs g c =
-    let p = err_from_is_err_and c.from_residual.result c.from_residual.ensures.1 in
-    rw (p.1, p.2) (step-as c.in_err-put_value.ensures.syncs (λ put. SyncsToStage-failed _ refl (omega arith) put))
-
-pub returns-clause-syncs : goal.returns-clause-syncs
-returns-clause-syncs g c =
-    step-next c.in_ok-put_value.ensures.syncs c.stage_joins.ensures.syncs (λ told then first second.
-    SyncsToStage-then _ (omega (arith, c.in_ok-put_value.ensures.one_more)) first second)
+pub returns-clause-stands : goal.returns-clause-stands
+returns-clause-stands g c = on_ok_weaker c.stage_joins.result (StandsAfter-then c.in_ok-put_value.ensures.stands) c.stage_joins.ensures.stands

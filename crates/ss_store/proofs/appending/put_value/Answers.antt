@@ -24,8 +24,7 @@ use Rattle.ss_store.proofs.Additions.{IsAdded, IsOrdered-added, LiveSlotsGo-adde
 use Rattle.ss_store.proofs.KeyedWindows.{FollowUpTo-take, FollowUpTo-tiles, NoPairFits-entries, take-all}
 use Rattle.ss_store.proofs.Rising.{IsTimed-added}
 use Rattle.ss_store.proofs.ShownCalls.{TurnsShown-answers, TurnsShown-failed}
-use Rattle.ss_store.proofs.Syncs.{SyncsToStage-answers, SyncsToStage-failed}
-use Rattle.ss_store.proofs.Within.{StaysWithin-answers, StaysWithin-failed}
+use Rattle.ss_store.proofs.Costs.{StagesAtCost-answers, StagesAtCost-failed}
 use Rattle.ss_store.proofs.appending.put_value.Goals as goal
 
 pub stage_record-requires-clause-valid : goal.stage_record-requires-clause-valid
@@ -62,16 +61,15 @@ returns-in_err-stage_record-clause-puts g c =
     c.one.ensures ∙ ap (λ v. summary_of ((c.args.t, v, New) ∷ [])) (to_z-of_z {w = w64} {z = c.args.v} c.ranges.v) in
     let p = err_from_is_err_and c.from_residual.result c.from_residual.ensures.1 in
     rw (p.1, p.2)
-    (step-as c.in_err-stage_record.ensures.stages (λ made. record {
+    (step-as c.in_err-stage_record.ensures.stages (λ made. StagesAtCost-failed _ refl (omega arith) (omega arith) made (λ added. record {
       turns = λ others s.
           TurnsShown-failed c.args.records.now c.stage_record.new.records c.stage_record.new.records (IsHeldIn others part s)
           (IsHalfway others part s c.args.t c.args.v) (IsHeldIn others new (with_single s c.args.t c.args.v)) _ _ _ _ _ refl
           (TurnsShown-added part new c.args.slot c.args.t (added_part-added part c.args.slot c.args.t) c.args.v c.one.result single
           (assumption c.one.type_inv) can.room can.plain can.later others s c.args.records.now c.stage_record.new.records _ _ _
-          (rw (c.values_held-position.ensures.value, c.number_of.ensures) at made.changes));
+          (rw (c.values_held-position.ensures.value, c.number_of.ensures) at added));
       firm = λ others s held. tt;
-      kept = tt;
-    }))
+    })))
 
 added : (part : StreamParts) (line : LineState) (at : At) (before slot t : ℕ) →
     line.entries ≡ part.line.entries ++ (at, single_entry (before + 1) t slot) ∷ [] → before ≡ values_held (entries_of part) →
@@ -95,7 +93,7 @@ returns-clause-puts g c =
     let new = record part { last_time = Some c.args.t; line = c.push-at.new.self } in
     let single : c.one.result ≡ summary_of ((c.args.t, c.args.v, New) ∷ []) =
     c.one.ensures ∙ ap (λ v. summary_of ((c.args.t, v, New) ∷ [])) (to_z-of_z {w = w64} {z = c.args.v} c.ranges.v) in
-    step-as c.in_ok-stage_record.ensures.stages (λ made. record {
+    step-as c.in_ok-stage_record.ensures.stages (λ made. StagesAtCost-answers _ (omega arith) (omega arith) made (λ put. record {
       turns = λ others s.
           TurnsShown-answers c.args.records.now c.stage_record.new.records (IsHeldIn others part s) (IsHalfway others part s c.args.t c.args.v)
           (IsHeldIn others new (with_single s c.args.t c.args.v))
@@ -104,36 +102,9 @@ returns-clause-puts g c =
           (added part c.push-at.new.self c.push-at.result c.values_held-position.result c.args.slot c.args.t c.push-at.ensures.pushed
           c.values_held-position.ensures.value) c.args.v c.one.result single (assumption c.one.type_inv)
           can.room can.plain can.later others s c.args.records.now c.stage_record.new.records _ _ _
-          (rw (c.values_held-position.ensures.value, c.number_of.ensures) at made.changes));
+          (rw (c.values_held-position.ensures.value, c.number_of.ensures) at put));
       firm = λ others s held. tt;
-      kept = made.kept;
-    })
-
-pub returns-clause-holds : goal.returns-clause-holds
-returns-clause-holds g c =
-    let part = c.args.part.now in
-    record {
-      values = values_held-added part (record part { last_time = Some c.args.t; line = c.push-at.new.self }) c.args.slot c.args.t
-          (added part c.push-at.new.self c.push-at.result c.values_held-position.result c.args.slot c.args.t c.push-at.ensures.pushed
-          c.values_held-position.ensures.value);
-      last_time = refl;
-    }
-
-pub returns-clause-whole : goal.returns-clause-whole
-returns-clause-whole g c =
-    let part = c.args.part.now in
-    let new = record part { last_time = Some c.args.t; line = c.push-at.new.self } in
-    let done = c.in_ok-stage_record.ensures in
-    record {
-      ordered = IsOrdered-added part new c.args.slot c.args.t
-          (added part c.push-at.new.self c.push-at.result c.values_held-position.result c.args.slot c.args.t c.push-at.ensures.pushed
-          c.values_held-position.ensures.value) c.requires.can.ordered c.requires.can.room c.requires.can.later;
-      live = LiveSlotsGo-added part new c.args.slot c.args.t
-          (added part c.push-at.new.self c.push-at.result c.values_held-position.result c.args.slot c.args.t c.push-at.ensures.pushed
-          c.values_held-position.ensures.value) c.args.records.now.live c.stage_record.new.records.live done.live;
-      settled = done.settled;
-      extent = done.extent;
-    }
+    }))
 
 pub add_window-requires-clause-room : goal.add_window-requires-clause-room
 add_window-requires-clause-room g c = omega (arith, c.push-at.ensures.below, c.requires.can.reserved.places)
@@ -168,25 +139,38 @@ add_window-requires-clause-follow g c =
     (TileFrom-added part new c.args.slot c.args.t is c.requires.can.ordered.tiles c.requires.can.room)
     (omega (arith, all, c.values_held-position.ensures.value)))
 
-pub returns-clause-keyed : goal.returns-clause-keyed
-returns-clause-keyed g c =
+pub returns-clause-stands : goal.returns-clause-stands
+returns-clause-stands g c =
     let part = c.args.part.now in
-    let new = c.push-at.new.self in
+    let line = c.push-at.new.self in
+    let new = record part { last_time = Some c.args.t; line = line } in
     let entry : Entry = single_entry (c.values_held-position.result + 1) c.args.t c.args.slot in
-    let index : index_of new.entries c.push-at.result ≡ length part.line.entries =
+    let is = added part line c.push-at.result c.values_held-position.result c.args.slot c.args.t c.push-at.ensures.pushed
+    c.values_held-position.ensures.value in
+    let all = values_held-added part new c.args.slot c.args.t is in
+    let index : index_of line.entries c.push-at.result ≡ length part.line.entries =
     ap (λ es. index_of es c.push-at.result) c.push-at.ensures.pushed
     ∙ index-once part.line.entries c.push-at.result entry [] (fresh-none part.line.entries c.push-at.result c.push-at.ensures.fresh) in
-    let all = (returns-clause-holds g c).values in
-    let long : length new.entries ≡ length part.line.entries + 1 =
+    let long : length line.entries ≡ length part.line.entries + 1 =
     ap (λ es. length es) c.push-at.ensures.pushed ∙ length-append part.line.entries ((c.push-at.result, entry) ∷ []) in
-    let whole : take (index_of new.entries c.push-at.result + 1) new.entries ≡ new.entries =
-    take-all new.entries (index_of new.entries c.push-at.result + 1) (omega (arith, long, index)) in
+    let whole : take (index_of line.entries c.push-at.result + 1) line.entries ≡ line.entries =
+    take-all line.entries (index_of line.entries c.push-at.result + 1) (omega (arith, long, index)) in
+    let done = c.in_ok-stage_record.ensures in
     record {
-      target = c.add_window.ensures.target ∙ c.requires.can.reserved.target;
-      keyed = subst (λ n. IsKeyed n new.entries c.add_window.new.self.schedule) (omega (arith, all, c.values_held-position.ensures.value))
-          (subst (λ es. IsKeyed (c.values_held-position.result + 1) es c.add_window.new.self.schedule) whole c.add_window.ensures.keyed);
-      timed = IsTimed-added part.line.entries new.entries c.add_window.new.self.times c.push-at.result entry c.args.t c.push-at.ensures.pushed refl
-          (c.add_window.ensures.placed (map begun_at part.line.entries) (record { 0 = 0 }) c.requires.can.reserved.noted);
+      whole = record {
+        ordered = IsOrdered-added part new c.args.slot c.args.t is c.requires.can.ordered c.requires.can.room c.requires.can.later;
+        live = LiveSlotsGo-added part new c.args.slot c.args.t is c.args.records.now.live c.stage_record.new.records.live done.live;
+        settled = done.settled;
+        extent = done.extent;
+      };
+      holds = record { values = all; last_time = refl };
+      keyed = record {
+        target = c.add_window.ensures.target ∙ c.requires.can.reserved.target;
+        keyed = subst (λ n. IsKeyed n line.entries c.add_window.new.self.schedule) (omega (arith, all, c.values_held-position.ensures.value))
+            (subst (λ es. IsKeyed (c.values_held-position.result + 1) es c.add_window.new.self.schedule) whole c.add_window.ensures.keyed);
+        timed = IsTimed-added part.line.entries line.entries c.add_window.new.self.times c.push-at.result entry c.args.t c.push-at.ensures.pushed refl
+            (c.add_window.ensures.placed (map begun_at part.line.entries) (record { 0 = 0 }) c.requires.can.reserved.noted);
+      };
     }
 
 pub returns-clause-one_more : goal.returns-clause-one_more
@@ -197,19 +181,3 @@ returns-clause-one_more g c =
 
 pub returns-clause-looks : goal.returns-clause-looks
 returns-clause-looks g c = omega (arith, c.values_held-position.ensures.looks, c.push-at.ensures.look, c.add_window.ensures.looks)
-
-pub returns-in_err-stage_record-clause-within : goal.returns-in_err-stage_record-clause-within
-returns-in_err-stage_record-clause-within g c =
-    let p = err_from_is_err_and c.from_residual.result c.from_residual.ensures.1 in
-    rw (p.1, p.2) (step-as c.in_err-stage_record.ensures.within (λ made. StaysWithin-failed _ refl (omega arith) made))
-
-pub returns-clause-within : goal.returns-clause-within
-returns-clause-within g c = step-as c.in_ok-stage_record.ensures.within (λ made. StaysWithin-answers _ (omega arith) made)
-
-pub returns-in_err-stage_record-clause-syncs : goal.returns-in_err-stage_record-clause-syncs
-returns-in_err-stage_record-clause-syncs g c =
-    let p = err_from_is_err_and c.from_residual.result c.from_residual.ensures.1 in
-    rw (p.1, p.2) (step-as c.in_err-stage_record.ensures.syncs (λ made. SyncsToStage-failed _ refl (omega arith) made))
-
-pub returns-clause-syncs : goal.returns-clause-syncs
-returns-clause-syncs g c = step-as c.in_ok-stage_record.ensures.syncs (λ made. SyncsToStage-answers _ (omega arith) made)

@@ -13,6 +13,7 @@ returns-in_err-stage_clearing-clause-clears g c =
     (step-as c.in_err-stage_clearing.ensures.clears (λ staged. record {
       changes = ClearsSlots-not_sealed c.args.doomed.now c.args.records.now _ c.requires.at_rest.1 c.stage_clearing.new.records _ _ _ refl staged.changes;
       kept = tt;
+      within = KeepsWithin-not_sealed c.requires.at_rest.1 _ refl staged.within;
     }))
 
 pub seal-requires-clause-one_disk : goal.seal-requires-clause-one_disk
@@ -20,23 +21,15 @@ seal-requires-clause-one_disk g c = after-step c.in_ok-stage_clearing.ensures.cl
 
 pub returns-clause-clears : goal.returns-clause-clears
 returns-clause-clears g c =
-    step-next c.in_ok-stage_clearing.ensures.clears c.seal.ensures.seals (λ told then staged seals. record {
-      changes = ClearsSlots-sealed c.args.doomed.now c.args.records.now _ c.requires.at_rest.1 c.stage_clearing.new.records c.seal.new.self _ _ _ _
-          (g.met.D.Disk.knows_now c.stage_clearing.new.disk then) (on_ok_weaker c.seal.result (λ sealed. sealed.sealed) c.seal.ensures.sealed) staged.changes
-          seals.keeps_shown;
+    let sealed = on_ok_weaker c.seal.result (λ sealed. sealed.sealed) c.seal.ensures.sealed in
+    step-next c.in_ok-stage_clearing.ensures.clears c.seal.ensures.seals (λ told then staged seals.
+    let knows = g.met.D.Disk.knows_now c.stage_clearing.new.disk then in
+    record {
+      changes = ClearsSlots-sealed c.args.doomed.now c.args.records.now _ c.requires.at_rest.1 c.stage_clearing.new.records c.seal.new.self _ _ _ _ knows sealed
+          staged.changes seals.keeps_shown;
       kept = seals.kept;
+      within = KeepsWithin-sealed c.requires.at_rest.1 c.seal.new.self _ knows sealed staged.within seals.keeps_shown;
     })
 
 pub returns-clause-extent : goal.returns-clause-extent
 returns-clause-extent g c = on_ok_weaker c.seal.result (λ sealed. sealed.extent ∙ c.in_ok-stage_clearing.ensures.extent) c.seal.ensures.sealed
-
-pub returns-in_err-stage_clearing-clause-within : goal.returns-in_err-stage_clearing-clause-within
-returns-in_err-stage_clearing-clause-within g c =
-    let p = err_from_is_err_and c.from_residual.result c.from_residual.ensures.1 in
-    rw (p.1, p.2) (step-as c.in_err-stage_clearing.ensures.within (λ staged. KeepsWithin-not_sealed c.requires.at_rest.1 _ refl staged))
-
-pub returns-clause-within : goal.returns-clause-within
-returns-clause-within g c =
-    step-next c.in_ok-stage_clearing.ensures.within c.seal.ensures.seals (λ told then staged seals.
-    KeepsWithin-sealed c.requires.at_rest.1 c.seal.new.self _ (g.met.D.Disk.knows_now c.stage_clearing.new.disk then)
-    (on_ok_weaker c.seal.result (λ sealed. sealed.sealed) c.seal.ensures.sealed) staged seals.keeps_shown)

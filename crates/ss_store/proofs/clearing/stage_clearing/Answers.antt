@@ -6,18 +6,14 @@ use Rattle.ss_outside.proofs.StepLemmas.{step-as, step-none}
 use Rattle.ss_journal.proofs.StepLemmas.{after-step, step-next}
 use Rattle.ss_store.specs.Slots.{LiveSlotsGo}
 use Rattle.ss_store.proofs.Clearings.{AreSomeLive-next, LiveSlotsGo-more, StagesClearing-all, StagesClearing-failed, StagesFirst-more, StagesFirst-none}
-use Rattle.ss_store.proofs.Syncs.{SyncsToStage-answers, SyncsToStage-failed, SyncsToStage-none, SyncsToStage-then}
-use Rattle.ss_store.proofs.Within.{StaysWithin-failed, StaysWithin-none, StaysWithin-then}
+use Rattle.ss_store.proofs.Costs.{StagesAtCost-answers, StagesAtCost-none, StagesAtCost-then}
 use Rattle.ss_store.proofs.clearing.stage_clearing.Goals as goal
 
 pub loop-slot-init : goal.loop-slot-init
 loop-slot-init g c = record {
-  step = step-none (g.D.Disk.seen c.args.disk.now) _ (λ told. record {
-    changes = StagesFirst-none c.args.doomed.now c.args.records.now _ (g.met.D.Disk.knows_now c.args.disk.now told);
-    kept = c.requires.one_disk told;
-  });
-  within = step-none (g.D.Disk.seen c.args.disk.now) _ (λ told. StaysWithin-none (Ok tt) (g.met.D.Disk.knows_now c.args.disk.now told) refl);
-  syncs = step-none (g.D.Disk.seen c.args.disk.now) _ (λ told. SyncsToStage-none (Ok tt) refl);
+  step = step-none (g.D.Disk.seen c.args.disk.now) _ (λ told.
+      let knows = g.met.D.Disk.knows_now c.args.disk.now told in
+      StagesAtCost-none (Ok tt) knows refl (c.requires.one_disk told) (StagesFirst-none c.args.doomed.now c.args.records.now _ knows));
   settled = c.requires.settled;
   live = λ others is. is;
   extent = refl;
@@ -37,15 +33,12 @@ loop-slot-preserved g c =
     let before = c.loop-slot.invariant in
     let after = c.in_ok-stage_zeros.ensures in
     record {
-      step = step-next before.step after.changes (λ told then first second. record {
-        changes = rw add-one
-            (StagesFirst-more c.loop-slot.slot-index slots c.args.records.now c.loop-slot.records c.stage_zeros.new.records _ _ _ tt (Ok tt)
-            c.loop-slot-test.true (g.met.D.Disk.knows_now c.loop-slot.disk then) first.changes second.changes);
-        kept = second.kept;
-      });
-      within = step-next before.within after.within (λ told then first second.
-          StaysWithin-then {first = 0} {second = 0} (Ok tt) (g.met.D.Disk.knows_now c.loop-slot.disk then) (omega arith) (omega arith) first second);
-      syncs = step-next before.syncs after.syncs (λ told then first second. SyncsToStage-then {second = 1} (Ok tt) (omega arith) first second);
+      step = step-next before.step after.changes (λ told then first second.
+          let knows = g.met.D.Disk.knows_now c.loop-slot.disk then in
+          StagesAtCost-then {first = 0} {second = 0} {less = 1} (Ok tt) knows (omega arith) (omega arith) (omega arith) first second (λ one two.
+          rw add-one
+          (StagesFirst-more c.loop-slot.slot-index slots c.args.records.now c.loop-slot.records c.stage_zeros.new.records _ _ _ tt (Ok tt)
+          c.loop-slot-test.true knows one two)));
       settled = after.settled;
       live = rw add-one
           (LiveSlotsGo-more c.loop-slot.slot-index slots c.args.records.now.live c.loop-slot.records.live c.stage_zeros.new.records.live
@@ -58,42 +51,20 @@ returns-in_err-stage_zeros-clause-clears g c =
     let slots = c.args.doomed.now in
     let p = err_from_is_err_and c.from_residual.result c.from_residual.ensures.1 in
     rw (p.1, p.2)
-    (step-next c.loop-slot.invariant.step c.in_err-stage_zeros.ensures.changes (λ told then first second. record {
-      changes = StagesClearing-failed (suc c.loop-slot.slot-index) slots c.args.records.now c.stage_zeros.new.records c.stage_zeros.new.records _ _ _ _ refl
-          (StagesFirst-more c.loop-slot.slot-index slots c.args.records.now c.loop-slot.records c.stage_zeros.new.records _ _ _ tt _
-          c.loop-slot-test.true (g.met.D.Disk.knows_now c.loop-slot.disk then) first.changes second.changes);
-      kept = tt;
-    }))
+    (step-next c.loop-slot.invariant.step c.in_err-stage_zeros.ensures.changes (λ told then first second.
+    let knows = g.met.D.Disk.knows_now c.loop-slot.disk then in
+    StagesAtCost-then {first = 0} {second = 0} {less = 1} _ knows (omega arith) (omega arith) (omega (arith, c.loop-slot-test.true)) first second (λ one two.
+    StagesClearing-failed (suc c.loop-slot.slot-index) slots c.args.records.now c.stage_zeros.new.records c.stage_zeros.new.records _ _ _ _ refl
+    (StagesFirst-more c.loop-slot.slot-index slots c.args.records.now c.loop-slot.records c.stage_zeros.new.records _ _ _ tt _
+    c.loop-slot-test.true knows one two))))
 
 pub returns-clause-clears : goal.returns-clause-clears
 returns-clause-clears g c =
-    step-as c.loop-slot.invariant.step (λ made. record {
-      changes = StagesClearing-all _ c.args.doomed.now c.args.records.now c.loop-slot.records _ _ _ (omega arith) made.changes;
-      kept = made.kept;
-    })
+    step-as c.loop-slot.invariant.step (λ made.
+    StagesAtCost-answers _ (omega arith) (omega arith) made
+    (StagesClearing-all _ c.args.doomed.now c.args.records.now c.loop-slot.records _ _ _ (omega arith)))
 
 pub returns-clause-live : goal.returns-clause-live
 returns-clause-live g c =
     subst (λ (l : List ℕ). LiveSlotsGo l [] c.args.records.now.live c.loop-slot.records.live)
     (take_all c.loop-slot.slot-index c.args.doomed.now (omega arith)) c.loop-slot.invariant.live
-
-pub returns-in_err-stage_zeros-clause-within : goal.returns-in_err-stage_zeros-clause-within
-returns-in_err-stage_zeros-clause-within g c =
-    let p = err_from_is_err_and c.from_residual.result c.from_residual.ensures.1 in
-    rw (p.1, p.2)
-    (step-next c.loop-slot.invariant.within c.in_err-stage_zeros.ensures.within (λ told then first second.
-    StaysWithin-then {first = 0} {second = 0} _ (g.met.D.Disk.knows_now c.loop-slot.disk then) (omega arith) (omega arith) first
-    (StaysWithin-failed _ refl (omega arith) second)))
-
-pub returns-clause-within : goal.returns-clause-within
-returns-clause-within g c = c.loop-slot.invariant.within
-
-pub returns-in_err-stage_zeros-clause-syncs : goal.returns-in_err-stage_zeros-clause-syncs
-returns-in_err-stage_zeros-clause-syncs g c =
-    let p = err_from_is_err_and c.from_residual.result c.from_residual.ensures.1 in
-    rw (p.1, p.2)
-    (step-next c.loop-slot.invariant.syncs c.in_err-stage_zeros.ensures.syncs (λ told then first second.
-    SyncsToStage-then {second = 1} _ (omega (arith, c.loop-slot-test.true)) first (SyncsToStage-failed _ refl (omega arith) second)))
-
-pub returns-clause-syncs : goal.returns-clause-syncs
-returns-clause-syncs g c = step-as c.loop-slot.invariant.syncs (λ staged. SyncsToStage-answers _ (omega arith) staged)

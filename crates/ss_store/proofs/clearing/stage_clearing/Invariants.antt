@@ -3,8 +3,7 @@ use Rattle.ss_outside.specs.Step.{Step}
 use Rattle.ss_outside.specs.Verdict.{fine}
 use Rattle.ss_outside.specs.declared.source.Failed.{Failed}
 use Rattle.ss_journal.specs.Kept.{IsSettled}
-use Rattle.ss_store.specs.Calls.{StaysWithin, SyncsToStage}
-use Rattle.ss_store.specs.Changing.{Makes}
+use Rattle.ss_store.specs.Calls.{StagesAtCost}
 use Rattle.ss_store.specs.Slots.{LiveSlotsGo}
 use Rattle.ss_store.proofs.Clearings.{StagesFirst}
 use Rattle.ss_store.proofs.clearing.stage_clearing.Given as goal
@@ -12,10 +11,8 @@ use Rattle.ss_store.proofs.clearing.stage_clearing.Given as goal
 abbrev pub invariant-loop-slot : goal.invariant-loop-slot
 invariant-loop-slot g l = record {
   step : Step fine (g.D.Disk.seen l.fn.disk) (g.D.Disk.seen l.disk)
-      (Makes {T = Unit {0}} {E = Failed} (StagesFirst {T = Unit {0}} {E = Failed} l.slot-index l.doomed l.fn.records l.records (Ok tt)) l.records (Ok tt));
-  within : Step fine (g.D.Disk.seen l.fn.disk) (g.D.Disk.seen l.disk) (StaysWithin {T = Unit {0}} {E = Failed} 0 l.fn.records l.records (Ok tt));
-  syncs : Step fine (g.D.Disk.seen l.fn.disk) (g.D.Disk.seen l.disk)
-      (SyncsToStage {T = Unit {0}} {E = Failed} l.slot-index l.fn.records l.records (Ok tt));
+      (StagesAtCost {T = Unit {0}} {E = Failed} (StagesFirst {T = Unit {0}} {E = Failed} l.slot-index l.doomed l.fn.records l.records (Ok tt)) 0
+      l.slot-index l.fn.records l.records (Ok tt));
   settled : IsSettled l.records.journal;
   live : LiveSlotsGo (take l.slot-index l.doomed) [] l.fn.records.live l.records.live;
   extent : l.records.journal.extent ≡ l.fn.records.journal.extent;

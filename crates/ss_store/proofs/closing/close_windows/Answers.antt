@@ -10,7 +10,7 @@ use Rattle.ss_store.proofs.Calls.{Turns-answers, Turns-failed}
 use Rattle.ss_store.proofs.Joinings.{IsPartlyJoined-none}
 use Rattle.ss_store.proofs.Sealings.{IsHeldIn-of_map, IsPartlyJoined-closed, IsPartlyJoined-of_map, TurnsStream-not_sealed, TurnsStream-sealed}
 use Rattle.ss_store.proofs.Wholes.{KeepsAtRest-sealed}
-use Rattle.ss_store.proofs.Within.{KeepsWithin-answers, KeepsWithin-failed, KeepsWithin-not_sealed, KeepsWithin-sealed}
+use Rattle.ss_store.proofs.Within.{KeepsWithin-answers, KeepsWithin-failed}
 use Rattle.ss_store.proofs.closing.close_windows.Goals as goal
 
 pub returns-in_err-stage_joins-clause-closes : goal.returns-in_err-stage_joins-clause-closes
@@ -18,10 +18,10 @@ returns-in_err-stage_joins-clause-closes g c =
     let part = c.args.part.now in
     let p = err_from_is_err_and c.from_residual.result c.from_residual.ensures.1 in
     rw (p.1, p.2)
-    (step-as c.in_err-stage_joins.ensures.closes (λ staged.
+    (step-as c.in_err-stage_joins.ensures.closes (λ joins.
     TurnsStream-not_sealed part IsPartlyJoined (λ others s. IsHeldIn others c.stage_joins.new.part (closed_stream s)) c.args.records.now _
     c.requires.at_rest.1 IsPartlyJoined-of_map (λ others s. IsPartlyJoined-none others part s) _ c.stage_joins.new.records c.stage_joins.new.records _ _
-    (λ others s. IsHeldIn others c.stage_joins.new.part (closed_stream s)) refl staged))
+    (λ others s. IsHeldIn others c.stage_joins.new.part (closed_stream s)) refl joins))
 
 pub seal-requires-clause-one_disk : goal.seal-requires-clause-one_disk
 seal-requires-clause-one_disk g c = after-step c.in_ok-stage_joins.ensures.closes (λ told has. has.kept)
@@ -42,6 +42,7 @@ returns-in_err-seal-clause-closes g c =
           Turns-failed (IsHeldIn others part s) (IsPartlyJoined others s) (IsHeldIn others now (closed_stream s)) _ _ _ _ _ refl (all.turns others s);
       firm = all.firm;
       kept = tt;
+      within = KeepsWithin-failed _ refl all.within;
     }))
 
 pub returns-clause-closes : goal.returns-clause-closes
@@ -59,27 +60,14 @@ returns-clause-closes g c =
           (all.turns others s);
       firm = all.firm;
       kept = all.kept;
+      within = KeepsWithin-answers _ all.within;
     })
 
 pub returns-clause-whole : goal.returns-clause-whole
-returns-clause-whole g c = KeepsAtRest-sealed c.in_ok-stage_joins.ensures.whole c.seal.ensures.live c.in_ok-seal.ensures.sealed
+returns-clause-whole g c = KeepsAtRest-sealed c.in_ok-stage_joins.ensures.stands.whole c.seal.ensures.live c.in_ok-seal.ensures.sealed
 
-pub returns-in_err-stage_joins-clause-within : goal.returns-in_err-stage_joins-clause-within
-returns-in_err-stage_joins-clause-within g c =
-    let p = err_from_is_err_and c.from_residual.result c.from_residual.ensures.1 in
-    rw (p.1, p.2) (step-as c.in_err-stage_joins.ensures.within (λ staged. KeepsWithin-not_sealed c.requires.at_rest.1 _ refl staged))
+pub returns-clause-holds : goal.returns-clause-holds
+returns-clause-holds g c = c.in_ok-stage_joins.ensures.stands.holds
 
-pub returns-in_err-seal-clause-within : goal.returns-in_err-seal-clause-within
-returns-in_err-seal-clause-within g c =
-    let p = err_from_is_err_and c.from_residual-in_err-seal.result c.from_residual-in_err-seal.ensures.1 in
-    rw (p.1, p.2)
-    (step-next c.in_ok-stage_joins.ensures.within c.in_err-seal.ensures.seals (λ told then staged seals.
-    KeepsWithin-failed _ refl
-    (KeepsWithin-sealed c.requires.at_rest.1 c.seal.new.self _ (g.met.D.Disk.knows_now c.stage_joins.new.disk then) tt staged seals.keeps_shown)))
-
-pub returns-clause-within : goal.returns-clause-within
-returns-clause-within g c =
-    step-next c.in_ok-stage_joins.ensures.within c.in_ok-seal.ensures.seals (λ told then staged seals.
-    KeepsWithin-answers _
-    (KeepsWithin-sealed c.requires.at_rest.1 c.seal.new.self _ (g.met.D.Disk.knows_now c.stage_joins.new.disk then) c.in_ok-seal.ensures.sealed.sealed staged
-    seals.keeps_shown))
+pub returns-clause-scheduled : goal.returns-clause-scheduled
+returns-clause-scheduled g c = (c.in_ok-stage_joins.ensures.stands.keyed, c.in_ok-stage_joins.ensures.none_due)

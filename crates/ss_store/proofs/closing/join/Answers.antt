@@ -1,4 +1,4 @@
-use Rattle.std.proofs.Common.{◌≡◌, ◌∙◌, ℕ, List, [], ◌∷◌, ◌++◌, map, refl, sym, ap, subst, arith, Err, MatchOption, Ok}
+use Rattle.std.proofs.Common.{◌≡◌, ◌∙◌, ℕ, List, [], ◌∷◌, ◌++◌, map, refl, sym, ap, subst, arith, Err, MatchOption}
 use Rattle.ss_line.specs.declared.entry.At.{At}
 use Rattle.ss_line.specs.declared.entry.Entry.{Entry}
 use Rattle.std.proofs.lemmas.Result.{err_from_is_err_and}
@@ -23,9 +23,7 @@ use Rattle.ss_store.specs.Indexed.{IsTimed, begun_at}
 use Rattle.ss_store.proofs.Rising.{IsTimed-joined, IsTimed-seam, TimesRise-any, TimesRise-seam, rise-joined}
 use Rattle.ss_store.proofs.ShownCalls.{TurnsShown-answers, TurnsShown-failed}
 use Rattle.ss_store.proofs.Spans.{TileFrom-joined, values_held-joined}
-use Rattle.ss_query.specs.declared.read_error.ReadError.{ReadError}
-use Rattle.ss_store.proofs.Syncs.{SyncsToStage-answers, SyncsToStage-failed, SyncsToStage-reads, SyncsToStage-then}
-use Rattle.ss_store.proofs.Within.{StaysWithin-answers, StaysWithin-failed, StaysWithin-reads, StaysWithin-then}
+use Rattle.ss_store.proofs.Costs.{StagesAtCost-after_read, StagesAtCost-answers, StagesAtCost-failed, StagesAtCost-reads}
 use Rattle.ss_store.proofs.closing.join.Goals as goal
 
 pub get-window-requires : goal.get-window-requires
@@ -74,15 +72,15 @@ returns-in_err-read_joined-clause-joins g c =
     let failure = c.in_err-read_joined.field-0.0 in
     let p = err_from_is_err_and c.from_residual.result c.from_residual.ensures.1 in
     rw (p.1, p.2)
-    (step-from c.in_err-read_joined.ensures.joined (λ told read. record {
-      turns = λ others s.
-          TurnsShown-not_read others part s _ c.args.records.now c.read_joined.new.records _ _ _ refl (g.met.D.Disk.knows_now c.args.disk.now told) read.reads;
+    (step-from c.in_err-read_joined.ensures.joined (λ told read.
+    let knows = g.met.D.Disk.knows_now c.args.disk.now told in
+    StagesAtCost-reads _ knows read.reads tt tt (record {
+      turns = λ others s. TurnsShown-not_read others part s _ c.args.records.now c.read_joined.new.records _ _ _ refl knows read.reads;
       firm = λ others s held.
           let j = JoinsHeld-pair others part new s w v same pair.joined held.agrees held.stream in
           IsFirm-read (Unit {0}) (joined j.one.summary j.two.summary) failure
           (read-held others part new s w v same pair.joined _ (λ is. IsRead is (Err failure)) read.joined held);
-      kept = tt;
-    }))
+    })))
 
 pub stage_two-requires-clause-valid : goal.stage_two-requires-clause-valid
 stage_two-requires-clause-valid g c =
@@ -115,16 +113,18 @@ returns-in_err-stage_two-clause-joins g c =
     c.requires.due.ordered.tiles c.get-window.ensures.entry c.get-next.ensures.entry in
     let p = err_from_is_err_and c.from_residual-in_err-stage_two.result c.from_residual-in_err-stage_two.ensures.1 in
     rw (p.1, p.2)
-    (step-next c.in_ok-read_joined.ensures.joined c.in_err-stage_two.ensures.stages (λ told told_read read staged. record {
+    (step-next c.in_ok-read_joined.ensures.joined c.in_err-stage_two.ensures.stages (λ told told_read read staged.
+    let knows = g.met.D.Disk.knows_now c.args.disk.now told in
+    let knows_read = g.met.D.Disk.knows_now c.read_joined.new.disk told_read in
+    StagesAtCost-failed _ refl (omega arith) (omega arith) (StagesAtCost-after_read _ knows knows_read read.reads
+    c.in_ok-read_joined.ensures.journal staged) (λ both. record {
       turns = λ others s.
           TurnsShown-failed c.args.records.now c.stage_two.new.records c.stage_two.new.records (IsHeldIn others part s) (IsPartlyJoined others s)
           (IsJoinedIn others new s) _ _ _ _ _ refl
           (TurnsShown-join others part new s w v same pair.joined c.args.records.now c.read_joined.new.records c.stage_two.new.records _ _ _
-          c.in_ok-read_joined.field-0 _ (g.met.D.Disk.knows_now c.args.disk.now told) (g.met.D.Disk.knows_now c.read_joined.new.disk told_read) read.reads
-          c.in_ok-read_joined.ensures.journal read.joined staged.changes);
+          c.in_ok-read_joined.field-0 _ knows knows_read read.reads c.in_ok-read_joined.ensures.journal read.joined both);
       firm = λ others s held. tt;
-      kept = tt;
-    }))
+    })))
 
 pub returns-in_err-read_joined-clause-changed : goal.returns-in_err-read_joined-clause-changed
 returns-in_err-read_joined-clause-changed g c =
@@ -152,52 +152,23 @@ pub returns-clause-joins : goal.returns-clause-joins
 returns-clause-joins g c =
     let part = c.args.part.now in
     let new = record part { line = c.merged.new.line } in
-    step-next c.in_ok-read_joined.ensures.joined c.in_ok-stage_two.ensures.stages (λ told told_read read staged. record {
+    step-next c.in_ok-read_joined.ensures.joined c.in_ok-stage_two.ensures.stages (λ told told_read read staged.
+    let knows = g.met.D.Disk.knows_now c.args.disk.now told in
+    let knows_read = g.met.D.Disk.knows_now c.read_joined.new.disk told_read in
+    StagesAtCost-answers _ (omega arith) (omega arith) (StagesAtCost-after_read _ knows knows_read read.reads
+    c.in_ok-read_joined.ensures.journal staged) (λ both. record {
       turns = λ others s.
           TurnsShown-answers c.args.records.now c.stage_two.new.records (IsHeldIn others part s) (IsPartlyJoined others s) (IsJoinedIn others new s) _ _
           c.in_ok-stage_two.field-0 _
           (TurnsShown-join others part new s c.get-window.result c.get-next.result
           (record { id = refl; name = refl; target = refl; slot = refl; last_time = refl; landmarks = refl }) (line g c) c.args.records.now
-          c.read_joined.new.records c.stage_two.new.records _ _ _ c.in_ok-read_joined.field-0 _ (g.met.D.Disk.knows_now c.args.disk.now told)
-          (g.met.D.Disk.knows_now c.read_joined.new.disk told_read) read.reads c.in_ok-read_joined.ensures.journal read.joined staged.changes);
+          c.read_joined.new.records c.stage_two.new.records _ _ _ c.in_ok-read_joined.field-0 _ knows knows_read read.reads
+          c.in_ok-read_joined.ensures.journal read.joined both);
       firm = λ others s held. tt;
-      kept = staged.kept;
-    })
-
-pub returns-clause-holds : goal.returns-clause-holds
-returns-clause-holds g c =
-    let pair = line g c in
-    record {
-      values = ap (λ es. values_held es) pair.is ∙ values_held-joined pair.front c.get-window.result c.get-next.result pair.rest
-          ∙ ap (λ es. values_held es) (sym pair.was);
-      last_time = refl;
-    }
+    }))
 
 pub returns-clause-fewer : goal.returns-clause-fewer
 returns-clause-fewer g c = c.merged.ensures.fewer
-
-pub returns-clause-whole : goal.returns-clause-whole
-returns-clause-whole g c =
-    let part = c.args.part.now in
-    let new = record part { line = c.merged.new.line } in
-    let w = c.get-window.result in
-    let v = c.get-next.result in
-    let pair = line g c in
-    let slots = AreSlots-joined (rule_of (params_of part.target)) (values_held (entries_of part)) part new w v refl refl pair in
-    let done = c.in_ok-stage_two.ensures in
-    record {
-      ordered = record {
-        tiles = subst (λ es. TileFrom 1 es) (sym pair.is)
-            (TileFrom-joined 1 pair.front w v pair.rest (subst (λ es. TileFrom 1 es) pair.was c.requires.due.ordered.tiles));
-        times = subst (λ (es : List Entry). MatchOption part.last_time (es ≡ []) (λ last. TimesRise 0 last es)) (sym pair.is)
-            (rise-joined part.last_time pair.front w v pair.rest
-            (subst (λ (es : List Entry). MatchOption part.last_time (es ≡ []) (λ last. TimesRise 0 last es)) pair.was c.requires.due.ordered.times));
-      };
-      live = LiveSlotsGo-two part new w v c.args.records.now.live c.stage_two.new.records.live slots
-          (subst (λ live. LiveSlotsGo (w.slot ∷ v.slot ∷ []) (w.slot ∷ []) live c.stage_two.new.records.live) c.read_joined.ensures.live done.live);
-      settled = done.settled;
-      extent = rw (done.extent, c.in_ok-read_joined.ensures.journal) (omega arith);
-    }
 
 -- the times that are left
 timed_joined : (g : _) (c : goal.After-merged g) → IsTimed c.merged.new.line.entries c.merged.new.self.times
@@ -214,13 +185,39 @@ timed_joined g c =
     (c.merged.ensures.times front (map begun_at it.rest) c.args.pair.right
     (was ∙ ap (λ (e : Entry). front ++ (e.t_first, c.args.pair.right) ∷ map begun_at it.rest) next))
 
-pub returns-clause-keyed : goal.returns-clause-keyed
-returns-clause-keyed g c = record {
-  target = c.merged.ensures.target ∙ c.requires.due.keyed.target;
-  keyed = subst (λ n. IsKeyed n c.merged.new.line.entries c.merged.new.self.schedule) (c.values_held-n.ensures.value ∙ sym (returns-clause-holds g c).values)
-      c.merged.ensures.keyed;
-  timed = timed_joined g c;
-}
+pub returns-clause-stands : goal.returns-clause-stands
+returns-clause-stands g c =
+    let part = c.args.part.now in
+    let new = record part { line = c.merged.new.line } in
+    let w = c.get-window.result in
+    let v = c.get-next.result in
+    let pair = line g c in
+    let slots = AreSlots-joined (rule_of (params_of part.target)) (values_held (entries_of part)) part new w v refl refl pair in
+    let done = c.in_ok-stage_two.ensures in
+    let all : values_held (entries_of new) ≡ values_held (entries_of part) =
+    ap (λ es. values_held es) pair.is ∙ values_held-joined pair.front w v pair.rest ∙ ap (λ es. values_held es) (sym pair.was) in
+    record {
+      whole = record {
+        ordered = record {
+          tiles = subst (λ es. TileFrom 1 es) (sym pair.is)
+              (TileFrom-joined 1 pair.front w v pair.rest (subst (λ es. TileFrom 1 es) pair.was c.requires.due.ordered.tiles));
+          times = subst (λ (es : List Entry). MatchOption part.last_time (es ≡ []) (λ last. TimesRise 0 last es)) (sym pair.is)
+              (rise-joined part.last_time pair.front w v pair.rest
+              (subst (λ (es : List Entry). MatchOption part.last_time (es ≡ []) (λ last. TimesRise 0 last es)) pair.was c.requires.due.ordered.times));
+        };
+        live = LiveSlotsGo-two part new w v c.args.records.now.live c.stage_two.new.records.live slots
+            (subst (λ live. LiveSlotsGo (w.slot ∷ v.slot ∷ []) (w.slot ∷ []) live c.stage_two.new.records.live) c.read_joined.ensures.live done.live);
+        settled = done.settled;
+        extent = rw (done.extent, c.in_ok-read_joined.ensures.journal) (omega arith);
+      };
+      holds = record { values = all; last_time = refl };
+      keyed = record {
+        target = c.merged.ensures.target ∙ c.requires.due.keyed.target;
+        keyed = subst (λ n. IsKeyed n c.merged.new.line.entries c.merged.new.self.schedule) (c.values_held-n.ensures.value ∙ sym all)
+            c.merged.ensures.keyed;
+        timed = timed_joined g c;
+      };
+    }
 
 pub merged-requires-clause-neighbours : goal.merged-requires-clause-neighbours
 merged-requires-clause-neighbours g c = c.requires.due.stands
@@ -235,49 +232,3 @@ merged-requires-clause-keyed g c =
 pub returns-clause-looks : goal.returns-clause-looks
 returns-clause-looks g c =
     omega (arith, c.get-window.ensures.look, c.get-next.ensures.look, c.values_held-n.ensures.looks, c.merged.ensures.looks)
-
-pub returns-in_err-read_joined-clause-within : goal.returns-in_err-read_joined-clause-within
-returns-in_err-read_joined-clause-within g c =
-    let p = err_from_is_err_and c.from_residual.result c.from_residual.ensures.1 in
-    rw (p.1, p.2)
-    (step-from c.in_err-read_joined.ensures.joined (λ told read.
-    StaysWithin-reads _ (g.met.D.Disk.knows_now c.args.disk.now told) read.reads tt))
-
-pub returns-in_err-stage_two-clause-within : goal.returns-in_err-stage_two-clause-within
-returns-in_err-stage_two-clause-within g c =
-    let p = err_from_is_err_and c.from_residual-in_err-stage_two.result c.from_residual-in_err-stage_two.ensures.1 in
-    rw (p.1, p.2)
-    (step-next c.in_ok-read_joined.ensures.joined c.in_err-stage_two.ensures.within (λ told told_read read staged.
-    StaysWithin-then {first = 0} {second = 0} {used = 0} _ (g.met.D.Disk.knows_now c.read_joined.new.disk told_read) (omega arith) (omega arith)
-    (StaysWithin-reads {T = Unit {0}} {E = ReadError} (Ok tt) (g.met.D.Disk.knows_now c.args.disk.now told) read.reads
-    c.in_ok-read_joined.ensures.journal)
-    (StaysWithin-failed _ refl (omega arith) staged)))
-
-pub returns-clause-within : goal.returns-clause-within
-returns-clause-within g c =
-    step-next c.in_ok-read_joined.ensures.joined c.in_ok-stage_two.ensures.within (λ told told_read read staged.
-    StaysWithin-then {first = 0} {second = 0} {used = 0} _ (g.met.D.Disk.knows_now c.read_joined.new.disk told_read) (omega arith) (omega arith)
-    (StaysWithin-reads {T = Unit {0}} {E = ReadError} (Ok tt) (g.met.D.Disk.knows_now c.args.disk.now told) read.reads
-    c.in_ok-read_joined.ensures.journal)
-    (StaysWithin-answers _ (omega arith) staged))
-
-pub returns-in_err-read_joined-clause-syncs : goal.returns-in_err-read_joined-clause-syncs
-returns-in_err-read_joined-clause-syncs g c =
-    let p = err_from_is_err_and c.from_residual.result c.from_residual.ensures.1 in
-    rw (p.1, p.2) (step-from c.in_err-read_joined.ensures.joined (λ told read. SyncsToStage-reads _ read.reads tt))
-
-pub returns-in_err-stage_two-clause-syncs : goal.returns-in_err-stage_two-clause-syncs
-returns-in_err-stage_two-clause-syncs g c =
-    let p = err_from_is_err_and c.from_residual-in_err-stage_two.result c.from_residual-in_err-stage_two.ensures.1 in
-    rw (p.1, p.2)
-    (step-next c.in_ok-read_joined.ensures.joined c.in_err-stage_two.ensures.syncs (λ told told_read read staged.
-    SyncsToStage-then {first = 0} {second = 1} _ (omega arith)
-    (SyncsToStage-reads {T = Unit {0}} {E = ReadError} (Ok tt) read.reads c.in_ok-read_joined.ensures.journal)
-    (SyncsToStage-failed _ refl (omega arith) staged)))
-
-pub returns-clause-syncs : goal.returns-clause-syncs
-returns-clause-syncs g c =
-    step-next c.in_ok-read_joined.ensures.joined c.in_ok-stage_two.ensures.syncs (λ told told_read read staged.
-    SyncsToStage-then {first = 0} {second = 1} _ (omega arith)
-    (SyncsToStage-reads {T = Unit {0}} {E = ReadError} (Ok tt) read.reads c.in_ok-read_joined.ensures.journal)
-    (SyncsToStage-answers _ (omega arith) staged))

@@ -13,47 +13,43 @@ use Rattle.ss_store.proofs.KeyedWindows.{NoEntriesAreDue-pairs}
 use Rattle.ss_store.proofs.Closings.{IsSameStream-more, TurnsShown-closes}
 use Rattle.ss_store.proofs.LiveSlots.{AreSomeLive-go}
 use Rattle.ss_store.proofs.ShownCalls.{TurnsShown-failed}
-use Rattle.ss_store.proofs.Wholes.{HoldsUntil-then, JoinsWindows-more, JoinsWindows-none, KeepsWhole-none, KeepsWhole-then}
-use Rattle.ss_store.proofs.Syncs.{SyncsToStage-answers, SyncsToStage-failed, SyncsToStage-none, SyncsToStage-then}
-use Rattle.ss_store.proofs.Within.{StaysWithin-failed, StaysWithin-none, StaysWithin-then}
+use Rattle.ss_store.proofs.Wholes.{JoinsWindows-more, JoinsWindows-none, StandsAfter-none, StandsAfter-then}
+use Rattle.ss_store.proofs.Costs.{StagesAtCost-answers, StagesAtCost-none, StagesAtCost-then}
 use Rattle.ss_store.proofs.closing.stage_joins.Goals as goal
 
 pub loop-pair-init : goal.loop-pair-init
 loop-pair-init g c = (
   record {
     step = step-none (g.D.Disk.seen c.args.disk.now) _ (λ told.
-        JoinsWindows-none c.args.part.now c.args.records.now _ (g.met.D.Disk.knows_now c.args.disk.now told) (c.requires.one_disk told));
-    within = step-none (g.D.Disk.seen c.args.disk.now) _ (λ told. StaysWithin-none (Ok tt) (g.met.D.Disk.knows_now c.args.disk.now told) refl);
-    syncs = step-none (g.D.Disk.seen c.args.disk.now) _ (λ told. SyncsToStage-none (Ok tt) refl);
+        let knows = g.met.D.Disk.knows_now c.args.disk.now told in
+        StagesAtCost-none (Ok tt) knows refl (c.requires.one_disk told) (JoinsWindows-none c.args.part.now c.args.records.now _ knows));
     fewer = omega arith;
     same = record { id = refl; name = refl; target = refl; slot = refl; landmarks = refl };
-    whole = KeepsWhole-none c.args.part.now c.args.records.now c.requires.ordered c.requires.settled;
-    holds = record { values = refl; last_time = refl };
+    stands = StandsAfter-none c.args.part.now c.args.index.now c.args.records.now c.requires.ordered c.requires.settled c.requires.keyed;
   },
-  c.requires.keyed,
   omega (arith, c.values_held-n.ensures.looks),
 )
 
 pub due-requires : goal.due-requires
 due-requires g c =
     subst (λ n. IsKeyed n c.loop-pair.part.line.entries c.loop-pair.index.schedule)
-    (c.loop-pair.invariant.0.holds.values ∙ sym c.values_held-n.ensures.value) c.loop-pair.invariant.1.keyed
+    (c.loop-pair.invariant.0.stands.holds.values ∙ sym c.values_held-n.ensures.value) c.loop-pair.invariant.0.stands.keyed.keyed
 
 pub join-requires-clause-due : goal.join-requires-clause-due
 join-requires-clause-due g c = record {
-  ordered = c.loop-pair.invariant.0.whole.ordered;
-  keyed = c.loop-pair.invariant.1;
+  ordered = c.loop-pair.invariant.0.stands.whole.ordered;
+  keyed = c.loop-pair.invariant.0.stands.keyed;
   stands = c.in-Some.ensures.pair;
-  due = rw (c.loop-pair.invariant.0.holds.values, ← c.values_held-n.ensures.value, ← c.loop-pair.invariant.1.target) c.in-Some.ensures.due;
+  due = rw (c.loop-pair.invariant.0.stands.holds.values, ← c.values_held-n.ensures.value, ← c.loop-pair.invariant.0.stands.keyed.target) c.in-Some.ensures.due;
 }
 
 pub join-requires-clause-settled : goal.join-requires-clause-settled
-join-requires-clause-settled g c = c.loop-pair.invariant.0.whole.settled
+join-requires-clause-settled g c = c.loop-pair.invariant.0.stands.whole.settled
 
 pub join-requires-clause-live : goal.join-requires-clause-live
 join-requires-clause-live g c =
     AreSomeLive-go (slots_held c.args.part.now) (slots_held c.loop-pair.part) c.args.records.now.live c.loop-pair.records.live c.requires.live
-    c.loop-pair.invariant.0.whole.live
+    c.loop-pair.invariant.0.stands.whole.live
 
 pub join-requires-clause-one_disk : goal.join-requires-clause-one_disk
 join-requires-clause-one_disk g c = after-step c.loop-pair.invariant.0.step (λ told has. has.kept)
@@ -67,18 +63,14 @@ loop-pair-preserved g c =
     let after = c.in_ok-join.ensures in (
       record {
         step = step-next before.step after.joins (λ told then first second.
-            JoinsWindows-more _ (g.met.D.Disk.knows_now c.loop-pair.disk then) first second);
-        within = step-next before.within after.within (λ told then first second.
-            StaysWithin-then {first = 0} {second = 0} (Ok tt) (g.met.D.Disk.knows_now c.loop-pair.disk then) (omega arith) (omega arith) first second);
-        syncs = step-next before.syncs after.syncs (λ told then first second.
-            SyncsToStage-then (Ok tt) (omega (arith, before.fewer, after.fewer)) first second);
+            let knows = g.met.D.Disk.knows_now c.loop-pair.disk then in
+            StagesAtCost-then {first = 0} {second = 0} (Ok tt) knows (omega arith) (omega arith) (omega (arith, before.fewer, after.fewer)) first second
+            (JoinsWindows-more (Ok tt) knows));
         fewer = omega (arith, before.fewer, after.fewer);
         same = IsSameStream-more c.args.part.now c.loop-pair.part c.join.new.part before.same c.join.ensures.same;
-        whole = KeepsWhole-then before.whole after.whole;
-        holds = HoldsUntil-then before.holds after.holds;
+        stands = StandsAfter-then before.stands after.stands;
       },
-      after.keyed,
-      omega (arith, c.loop-pair.invariant.2, c.in-Some.ensures.looks, after.fewer, after.looks),
+      omega (arith, c.loop-pair.invariant.1, c.in-Some.ensures.looks, after.fewer, after.looks),
     )
 
 pub returns-in_err-join-clause-closes : goal.returns-in_err-join-clause-closes
@@ -87,14 +79,15 @@ returns-in_err-join-clause-closes g c =
     let p = err_from_is_err_and c.from_residual.result c.from_residual.ensures.1 in
     rw (p.1, p.2)
     (step-next c.loop-pair.invariant.0.step c.in_err-join.ensures.joins (λ told then first second.
-    let all = JoinsWindows-more _ (g.met.D.Disk.knows_now c.loop-pair.disk then) first second in
+    let knows = g.met.D.Disk.knows_now c.loop-pair.disk then in
+    StagesAtCost-then {first = 0} {second = 0} _ knows (omega arith) (omega arith) (omega arith) first second (λ before joins.
+    let all = JoinsWindows-more _ knows before joins in
     record {
       turns = λ others s.
           TurnsShown-failed c.args.records.now c.join.new.records c.join.new.records (IsHeldIn others part s) (IsPartlyJoined others s)
           (IsJoinedIn others c.join.new.part s) _ _ _ _ _ refl (all.turns others s);
       firm = all.firm;
-      kept = tt;
-    }))
+    })))
 
 pub returns-in_err-join-clause-same : goal.returns-in_err-join-clause-same
 returns-in_err-join-clause-same g c =
@@ -110,54 +103,27 @@ none_due : (g : _) (c : goal.In_default g) →
     NoEntriesAreDue (rule_of (params_of c.loop-pair.part.target)) c.values_held-n.result (entries_of c.loop-pair.part)
 none_due g c =
     NoEntriesAreDue-pairs (rule_of (params_of c.loop-pair.part.target)) c.values_held-n.result c.loop-pair.part.line.entries
-    (rw (← c.loop-pair.invariant.1.target) c.in_default.ensures.none)
+    (rw (← c.loop-pair.invariant.0.stands.keyed.target) c.in_default.ensures.none)
 
 pub returns-clause-closes : goal.returns-clause-closes
 returns-clause-closes g c =
-    step-as c.loop-pair.invariant.0.step (λ has. record {
+    step-as c.loop-pair.invariant.0.step (λ joined. StagesAtCost-answers _ (omega arith) (omega arith) joined (λ joins. record {
       turns = λ others s.
           TurnsShown-closes c.args.records.now c.loop-pair.records others c.args.part.now c.loop-pair.part s c.values_held-n.result _ _
-          (c.values_held-n.ensures.value ∙ sym c.loop-pair.invariant.0.holds.values) (none_due g c) has.turns;
+          (c.values_held-n.ensures.value ∙ sym c.loop-pair.invariant.0.stands.holds.values) (none_due g c) joins.turns;
       firm = λ others s held. tt;
-      kept = has.kept;
-    })
+    }))
 
 pub returns-clause-same : goal.returns-clause-same
 returns-clause-same g c = c.loop-pair.invariant.0.same
 
-pub returns-clause-whole : goal.returns-clause-whole
-returns-clause-whole g c = c.loop-pair.invariant.0.whole
+pub returns-clause-stands : goal.returns-clause-stands
+returns-clause-stands g c = c.loop-pair.invariant.0.stands
 
-pub returns-clause-holds : goal.returns-clause-holds
-returns-clause-holds g c = c.loop-pair.invariant.0.holds
-
-pub returns-clause-scheduled : goal.returns-clause-scheduled
-returns-clause-scheduled g c = (
-  c.loop-pair.invariant.1,
-  subst (λ n. NoEntriesAreDue (rule_of (params_of c.loop-pair.part.target)) n (entries_of c.loop-pair.part))
-      (c.values_held-n.ensures.value ∙ sym c.loop-pair.invariant.0.holds.values) (none_due g c),
-)
+pub returns-clause-none_due : goal.returns-clause-none_due
+returns-clause-none_due g c =
+    subst (λ n. NoEntriesAreDue (rule_of (params_of c.loop-pair.part.target)) n (entries_of c.loop-pair.part))
+    (c.values_held-n.ensures.value ∙ sym c.loop-pair.invariant.0.stands.holds.values) (none_due g c)
 
 pub returns-clause-looks : goal.returns-clause-looks
-returns-clause-looks g c = omega (arith, c.loop-pair.invariant.2, c.in_default.ensures.looks)
-
-pub returns-in_err-join-clause-within : goal.returns-in_err-join-clause-within
-returns-in_err-join-clause-within g c =
-    let p = err_from_is_err_and c.from_residual.result c.from_residual.ensures.1 in
-    rw (p.1, p.2)
-    (step-next c.loop-pair.invariant.0.within c.in_err-join.ensures.within (λ told then first second.
-    StaysWithin-then {first = 0} {second = 0} _ (g.met.D.Disk.knows_now c.loop-pair.disk then) (omega arith) (omega arith) first
-    (StaysWithin-failed _ refl (omega arith) second)))
-
-pub returns-clause-within : goal.returns-clause-within
-returns-clause-within g c = c.loop-pair.invariant.0.within
-
-pub returns-in_err-join-clause-syncs : goal.returns-in_err-join-clause-syncs
-returns-in_err-join-clause-syncs g c =
-    let p = err_from_is_err_and c.from_residual.result c.from_residual.ensures.1 in
-    rw (p.1, p.2)
-    (step-next c.loop-pair.invariant.0.syncs c.in_err-join.ensures.syncs (λ told then first second.
-    SyncsToStage-then {second = 1} _ (omega arith) first (SyncsToStage-failed _ refl (omega arith) second)))
-
-pub returns-clause-syncs : goal.returns-clause-syncs
-returns-clause-syncs g c = step-as c.loop-pair.invariant.0.syncs (λ staged. SyncsToStage-answers _ (omega arith) staged)
+returns-clause-looks g c = omega (arith, c.loop-pair.invariant.1, c.in_default.ensures.looks)

@@ -16,8 +16,7 @@ use Rattle.ss_store.proofs.MarkedCalls.{AreSomeLive-last, FitsMark-valid, IsAddi
 use Rattle.ss_store.proofs.MarkedCalls.{LiveSlotsGo-mark_closed, Turns-added, Turns-closed, marked_part, slots_used-adding}
 use Rattle.ss_store.proofs.OpenMarks.{AllEndBy-after}
 use Rattle.ss_store.proofs.Rising.{no-earlier, rise-later}
-use Rattle.ss_store.proofs.Syncs.{SyncsToStage-answers, SyncsToStage-failed}
-use Rattle.ss_store.proofs.Within.{StaysWithin-answers, StaysWithin-failed}
+use Rattle.ss_store.proofs.Costs.{StagesAtCost-answers, StagesAtCost-failed}
 use Rattle.ss_store.proofs.marking.put_mark.Goals as goal
 use Rattle.ss_store.proofs.marking.put_mark.Goals.{in-Open+in_ok-stage_record-in-Open, in-Close+in_ok-stage_replaced-in-Close}
 
@@ -32,16 +31,16 @@ returns-in_err-stage_record-in-Open-clause-takes g c =
     let valid = rw written.value at written.valid in
     let new = marked_part part slot t mark in
     let marked = IsMarked-marked_part part slot t mark written.known can.can valid c.requires.time can.room can.value_room in
+    let used = slots_used-adding mark slot (IsAdding-is mark c.in-Open.is) in
     let p = err_from_is_err_and c.from_residual.result c.from_residual.ensures.1 in
     rw (p.1, p.2)
-    (step-as c.in_err-stage_record-in-Open.ensures.stages (λ made. record {
+    (step-as c.in_err-stage_record-in-Open.ensures.stages (λ made. StagesAtCost-failed _ refl (omega (arith, used)) (omega arith) made (λ added. record {
       turns = λ others s.
           TurnsShown-failed _ _ _ (IsHeldIn others part s) (IsHeldIn others part s) (IsHeldIn others new (with_mark s t mark)) _ _ _ _ _ refl
           (Turns-added part new slot t mark marked can.can can.accepted c.requires.time valid others s _ _ _ _ _ (IsAdding-is mark c.in-Open.is)
-          (rw written.value at made.changes));
+          (rw written.value at added));
       firm = λ others s held. tt;
-      kept = tt;
-    }))
+    })))
 
 pub stage_replaced-requires-clause-live : goal.stage_replaced-requires-clause-live
 stage_replaced-requires-clause-live g c =
@@ -63,14 +62,13 @@ returns-in_err-stage_replaced-in-Close-clause-takes g c =
     let last = IsLastSlot-is part slot t c.args.records.now.live mark c.in-Close.is written.known can.can can.in_slot in
     let p = err_from_is_err_and c.from_residual-in_err-stage_replaced-in-Close.result c.from_residual-in_err-stage_replaced-in-Close.ensures.1 in
     rw (p.1, p.2)
-    (step-as c.in_err-stage_replaced-in-Close.ensures.stages (λ made. record {
+    (step-as c.in_err-stage_replaced-in-Close.ensures.stages (λ made. StagesAtCost-failed _ refl (omega arith) (omega arith) made (λ closed. record {
       turns = λ others s.
           TurnsShown-failed _ _ _ (IsHeldIn others part s) (IsHeldIn others part s) (IsHeldIn others new (with_mark s t mark)) _ _ _ _ _ refl
           (Turns-closed part new slot t mark c.in-Close.is marked can.can can.accepted c.requires.time valid written.known last others s _ _ _ _ _
-          (rw written.value at made.changes));
+          (rw written.value at closed));
       firm = λ others s held. tt;
-      kept = tt;
-    }))
+    })))
 
 -- the stream as it is held then
 marked : (g : _) (c : goal.After-part-1 g) →
@@ -154,26 +152,25 @@ returns-clause-takes g c =
     let old : DiskView = g.D.Disk.seen c.args.disk.now in
     elim c.match-mark.branch [
       | in-Open+in_ok-stage_record-in-Open w ↦
+          (let used = slots_used-adding mark slot (IsAdding-is mark w.in-Open.is) in
           rw (w.records-is, w.disk-is)
-          (step-as w.in_ok-stage_record-in-Open.ensures.stages (λ made. record {
+          (step-as w.in_ok-stage_record-in-Open.ensures.stages (λ made. StagesAtCost-answers _ (omega (arith, used)) (omega arith) made (λ added. record {
             turns = λ others s.
                 TurnsShown-answers _ _ (IsHeldIn others part s) (IsHeldIn others part s) (IsHeldIn others new (with_mark s t mark)) _ _ tt _
                 (Turns-added part new slot t mark (marked g c) can.can can.accepted c.requires.time valid others s _ _ _ _ _ (IsAdding-is mark w.in-Open.is)
-                (rw written.value at made.changes));
+                (rw written.value at added));
             firm = λ others s held. tt;
-            kept = made.kept;
-          }))
+          }))))
       | in-Close+in_ok-stage_replaced-in-Close w ↦
           (let last = IsLastSlot-is part slot t c.args.records.now.live mark w.in-Close.is written.known can.can can.in_slot in
           rw (w.records-is, w.disk-is)
-          (step-as w.in_ok-stage_replaced-in-Close.ensures.stages (λ made. record {
+          (step-as w.in_ok-stage_replaced-in-Close.ensures.stages (λ made. StagesAtCost-answers _ (omega arith) (omega arith) made (λ closed. record {
             turns = λ others s.
                 TurnsShown-answers _ _ (IsHeldIn others part s) (IsHeldIn others part s) (IsHeldIn others new (with_mark s t mark)) _ _ tt _
                 (Turns-closed part new slot t mark w.in-Close.is (marked g c) can.can can.accepted c.requires.time valid written.known last others s _ _ _ _ _
-                (rw written.value at made.changes));
+                (rw written.value at closed));
             firm = λ others s held. tt;
-            kept = made.kept;
-          })))
+          }))))
     ]
 
 pub returns-in_err-stage_record-in-Open-clause-fits : goal.returns-in_err-stage_record-in-Open-clause-fits
@@ -187,49 +184,3 @@ returns-in_err-stage_replaced-in-Close-clause-fits g c =
 pub returns-clause-fits : goal.returns-clause-fits
 returns-clause-fits g c =
     FitsMark-valid c.args.part.now c.args.t c.args.mark (rw c.record_of-written.ensures.value at c.record_of-written.ensures.valid)
-
-pub returns-in_err-stage_record-in-Open-clause-within : goal.returns-in_err-stage_record-in-Open-clause-within
-returns-in_err-stage_record-in-Open-clause-within g c =
-    let used = slots_used-adding c.args.mark c.args.slot (IsAdding-is c.args.mark c.in-Open.is) in
-    let p = err_from_is_err_and c.from_residual.result c.from_residual.ensures.1 in
-    rw (p.1, p.2) (step-as c.in_err-stage_record-in-Open.ensures.within (λ made. StaysWithin-failed _ refl (omega (arith, used)) made))
-
-pub returns-in_err-stage_replaced-in-Close-clause-within : goal.returns-in_err-stage_replaced-in-Close-clause-within
-returns-in_err-stage_replaced-in-Close-clause-within g c =
-    let p = err_from_is_err_and c.from_residual-in_err-stage_replaced-in-Close.result c.from_residual-in_err-stage_replaced-in-Close.ensures.1 in
-    rw (p.1, p.2) (step-as c.in_err-stage_replaced-in-Close.ensures.within (λ made. StaysWithin-failed _ refl (omega arith) made))
-
-pub returns-clause-within : goal.returns-clause-within
-returns-clause-within g c =
-    let mark = c.args.mark in
-    let slot = c.args.slot in
-    elim c.match-mark.branch [
-      | in-Open+in_ok-stage_record-in-Open w ↦
-          (let used = slots_used-adding mark slot (IsAdding-is mark w.in-Open.is) in
-          rw (w.records-is, w.disk-is)
-          (step-as w.in_ok-stage_record-in-Open.ensures.within (λ made. StaysWithin-answers _ (omega (arith, used)) made)))
-      | in-Close+in_ok-stage_replaced-in-Close w ↦
-          rw (w.records-is, w.disk-is)
-          (step-as w.in_ok-stage_replaced-in-Close.ensures.within (λ made. StaysWithin-answers _ (omega arith) made))
-    ]
-
-pub returns-in_err-stage_record-in-Open-clause-syncs : goal.returns-in_err-stage_record-in-Open-clause-syncs
-returns-in_err-stage_record-in-Open-clause-syncs g c =
-    let p = err_from_is_err_and c.from_residual.result c.from_residual.ensures.1 in
-    rw (p.1, p.2) (step-as c.in_err-stage_record-in-Open.ensures.syncs (λ made. SyncsToStage-failed _ refl (omega arith) made))
-
-pub returns-in_err-stage_replaced-in-Close-clause-syncs : goal.returns-in_err-stage_replaced-in-Close-clause-syncs
-returns-in_err-stage_replaced-in-Close-clause-syncs g c =
-    let p = err_from_is_err_and c.from_residual-in_err-stage_replaced-in-Close.result c.from_residual-in_err-stage_replaced-in-Close.ensures.1 in
-    rw (p.1, p.2) (step-as c.in_err-stage_replaced-in-Close.ensures.syncs (λ made. SyncsToStage-failed _ refl (omega arith) made))
-
-pub returns-clause-syncs : goal.returns-clause-syncs
-returns-clause-syncs g c =
-    elim c.match-mark.branch [
-      | in-Open+in_ok-stage_record-in-Open w ↦
-          rw (w.records-is, w.disk-is)
-          (step-as w.in_ok-stage_record-in-Open.ensures.syncs (λ made. SyncsToStage-answers _ (omega arith) made))
-      | in-Close+in_ok-stage_replaced-in-Close w ↦
-          rw (w.records-is, w.disk-is)
-          (step-as w.in_ok-stage_replaced-in-Close.ensures.syncs (λ made. SyncsToStage-answers _ (omega arith) made))
-    ]

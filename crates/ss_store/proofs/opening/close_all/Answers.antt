@@ -19,12 +19,13 @@ use Rattle.ss_store.proofs.opening.close_all.Goals as goal
 
 pub loop-place-init : goal.loop-place-init
 loop-place-init g c = record {
-  step = step-none (g.D.Disk.seen c.args.disk.now) _ (λ told. record {
-    changes = ClosesFirst-none c.args.streams.now _ (g.met.D.Disk.knows_now c.args.disk.now told);
-    kept = c.requires.one_disk told;
-  });
-  within = step-none (g.D.Disk.seen c.args.disk.now) _ (λ told.
-      KeepsWithin-reads (Ok tt) (g.met.D.Disk.knows_now c.args.disk.now told) (reads-none (g.D.Disk.seen c.args.disk.now).told));
+  step = step-none (g.D.Disk.seen c.args.disk.now) _ (λ told.
+      let knows = g.met.D.Disk.knows_now c.args.disk.now told in
+      record {
+        changes = ClosesFirst-none c.args.streams.now _ knows;
+        kept = c.requires.one_disk told;
+        within = KeepsWithin-reads (Ok tt) knows (reads-none (g.D.Disk.seen c.args.disk.now).told);
+      });
   at_rest = c.requires.at_rest;
   extent = omega arith;
   whole = c.requires.whole;
@@ -64,6 +65,7 @@ returns-in_err-close_windows-clause-closes g c =
       agree = λ all state agree has. tt;
       firm = λ all state agree has. firm-ClosesFirst was now part place _ _ _ at inside first.changes second.firm all state agree has;
       kept = tt;
+      within = KeepsWithin-then _ first.within (KeepsWithin-failed _ refl second.within);
     }))
 
 pub returns-in_err-close_windows-clause-entries : goal.returns-in_err-close_windows-clause-entries
@@ -100,8 +102,8 @@ loop-place-preserved g c =
       step = step-then before.step after.closes (λ first second. record {
         changes = rw add-one (ClosesFirst-more was now part new place _ _ _ (Ok tt) at c.loop-place-test.true first.changes second.turns);
         kept = second.kept;
+        within = KeepsWithin-then (Ok tt) first.within second.within;
       });
-      within = step-then before.within after.within (λ first second. KeepsWithin-then (Ok tt) first second);
       at_rest = (after.whole.whole.settled, after.whole.sealed);
       extent = omega (arith, before.extent, after.whole.whole.extent);
       whole = AreWhole-set now c.loop-place.records.live c.close_windows.new.records.live place part new before.whole at same
@@ -122,6 +124,7 @@ returns-clause-closes g c =
           ((Turns-all was now c.loop-place.place _ _ made.changes end all state agree).content (record { agree = agree; records = has })).agree;
       firm = λ all state agree has. tt;
       kept = made.kept;
+      within = made.within;
     })
 
 pub returns-clause-scheduled : goal.returns-clause-scheduled
@@ -143,13 +146,3 @@ close_windows-requires-clause-keyed g c =
 pub bounds-indexes-place : goal.bounds-indexes-place
 bounds-indexes-place g c =
     let long = AreClosedTo-long c.loop-place.place c.loop-place.streams c.loop-place.indexes c.loop-place.invariant.closed in omega (arith, long)
-
-pub returns-in_err-close_windows-clause-within : goal.returns-in_err-close_windows-clause-within
-returns-in_err-close_windows-clause-within g c =
-    let p = err_from_is_err_and c.from_residual.result c.from_residual.ensures.1 in
-    rw (p.1, p.2)
-    (step-then c.loop-place.invariant.within c.in_err-close_windows.ensures.within (λ first second.
-    KeepsWithin-then _ first (KeepsWithin-failed _ refl second)))
-
-pub returns-clause-within : goal.returns-clause-within
-returns-clause-within g c = c.loop-place.invariant.within

@@ -3,7 +3,6 @@ use Rattle.ss_outside.specs.Step.{Step}
 use Rattle.ss_outside.specs.Verdict.{fine}
 use Rattle.ss_records.specs.Kept.{AreAtRest}
 use Rattle.ss_recover.specs.Held.{AreWhole}
-use Rattle.ss_store.specs.Calls.{KeepsWithin}
 use Rattle.ss_store.specs.Changing.{Makes}
 use Rattle.ss_store.specs.Kept.{entry_of}
 use Rattle.ss_query.specs.declared.read_error.ReadError.{ReadError}
@@ -15,7 +14,6 @@ abbrev pub invariant-loop-place : goal.invariant-loop-place
 invariant-loop-place g l = record {
   step : Step fine (g.D.Disk.seen l.fn.disk) (g.D.Disk.seen l.disk)
       (Makes {T = Unit {0}} {E = ReadError} (ClosesFirst l.fn.streams l.streams l.place) l.records (Ok tt));
-  within : Step fine (g.D.Disk.seen l.fn.disk) (g.D.Disk.seen l.disk) (KeepsWithin {T = Unit {0}} {E = ReadError} 0 (Ok tt));
   at_rest : AreAtRest l.records;
   extent : l.records.journal.extent ≤ l.fn.records.journal.extent;
   whole : AreWhole l.streams l.records.live;

@@ -23,6 +23,7 @@ returns-in_err-settle-clause-settles g c =
       agree = λ all state agree has. tt;
       firm = λ all state agree has. tt;
       kept = tt;
+      within = KeepsWithin-failed _ refl (KeepsWithin-map _ settled.keeps_map);
     }))
 
 pub clear_all-requires-clause-live : goal.clear_all-requires-clause-live
@@ -46,6 +47,7 @@ returns-in_err-clear_all-clause-settles g c =
       agree = λ all state agree has. tt;
       firm = λ all state agree has. tt;
       kept = tt;
+      within = KeepsWithin-then _ (KeepsWithin-map _ first.keeps_map) (KeepsWithin-failed _ refl second.within);
     }))
 
 pub close_all-requires-clause-whole : goal.close_all-requires-clause-whole
@@ -72,6 +74,7 @@ returns-clause-settles g c =
           third.firm all state agree
           ((Turns-settled slots was all {F = Failed} {E = Failed} _ _ _ tt (Ok tt) cleared.1.keeps_map cleared.2.changes).content has);
       kept = third.kept;
+      within = KeepsWithin-then _ (KeepsWithin-map _ cleared.1.keeps_map) (KeepsWithin-then _ cleared.2.within third.within);
     })
 
 pub returns-clause-extent : goal.returns-clause-extent
@@ -80,21 +83,3 @@ returns-clause-extent g c =
     let cleared = c.in_ok-clear_all.ensures.extent in
     on_ok_weaker c.close_all.result (λ (closed : c.close_all.new.records.journal.extent ≤ c.clear_all.new.records.journal.extent).
     omega (arith, settled, cleared, closed)) c.close_all.ensures.extent
-
-pub returns-in_err-settle-clause-within : goal.returns-in_err-settle-clause-within
-returns-in_err-settle-clause-within g c =
-    let p = err_from_is_err_and c.from_residual.result c.from_residual.ensures.1 in
-    rw (p.1, p.2)
-    (step-as c.in_err-settle.ensures.settles (λ settled. KeepsWithin-failed _ refl (KeepsWithin-map _ settled.keeps_map)))
-
-pub returns-in_err-clear_all-clause-within : goal.returns-in_err-clear_all-clause-within
-returns-in_err-clear_all-clause-within g c =
-    let p = err_from_is_err_and c.from_residual-in_err-clear_all.result c.from_residual-in_err-clear_all.ensures.1 in
-    rw (p.1, p.2)
-    (step-then c.in_ok-settle.ensures.settles c.in_err-clear_all.ensures.within (λ first second.
-    KeepsWithin-then _ (KeepsWithin-map _ first.keeps_map) (KeepsWithin-failed _ refl second)))
-
-pub returns-clause-within : goal.returns-clause-within
-returns-clause-within g c =
-    step-then (step-pair c.in_ok-settle.ensures.settles c.in_ok-clear_all.ensures.within) c.close_all.ensures.within (λ cleared third.
-    KeepsWithin-then _ (KeepsWithin-map _ cleared.1.keeps_map) (KeepsWithin-then _ cleared.2 third))

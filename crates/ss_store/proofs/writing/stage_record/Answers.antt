@@ -7,23 +7,22 @@ use Rattle.ss_records.specs.Live.{live_after}
 use Rattle.ss_query.specs.Slots.{HasRecords}
 use Rattle.ss_store.specs.Slots.{LiveSlotsGo, record_put}
 use Rattle.ss_store.proofs.Changes.{LiveSlotsGo-added, extent_after-next, moves-added}
+use Rattle.ss_store.proofs.Costs.{StagesAtCost-no_room, StagesAtCost-staged}
 use Rattle.ss_store.proofs.LiveSlots.{lowest_free-is_free}
 use Rattle.ss_store.proofs.ShownCalls.{TurnsShown-failed, TurnsShown-keeps, TurnsShown-staged}
-use Rattle.ss_store.proofs.Syncs.{SyncsToStage-no_room, SyncsToStage-staged}
-use Rattle.ss_store.proofs.Within.{StaysWithin-failed, StaysWithin-kept, StaysWithin-staged}
 use Rattle.ss_store.proofs.writing.stage_record.Goals as goal
 
 pub returns-in_err-make_room-clause-stages : goal.returns-in_err-make_room-clause-stages
 returns-in_err-make_room-clause-stages g c =
     let p = err_from_is_err_and c.from_residual.result c.from_residual.ensures.1 in
     rw (p.1, p.2)
-    (step-from c.in_err-make_room.ensures.makes_room (λ told made. record {
-      changes = λ others.
-          TurnsShown-failed c.args.records.now c.make_room.new.self c.make_room.new.self (HasRecords others) (HasRecords others) (HasRecords others)
-          (HasRecords ((c.args.slot, Some c.args.written.now) ∷ others)) _ _ _ _ refl
-          (TurnsShown-keeps c.args.records.now c.make_room.new.self others _ _ _ (c.requires.one_disk told) made.keeps_shown);
-      kept = tt;
-    }))
+    (step-from c.in_err-make_room.ensures.makes_room (λ told made.
+    StagesAtCost-no_room c.make_room.new.self _ refl (c.requires.one_disk told) made.keeps_shown (c.in_err-make_room.ensures.syncs.told told)
+    (λ free. ap (λ d. (g.D.Disk.seen d).told.syncs) (c.make_room.ensures.idle free).0)
+    (λ others.
+    TurnsShown-failed c.args.records.now c.make_room.new.self c.make_room.new.self (HasRecords others) (HasRecords others) (HasRecords others)
+    (HasRecords ((c.args.slot, Some c.args.written.now) ∷ others)) _ _ _ _ refl
+    (TurnsShown-keeps c.args.records.now c.make_room.new.self others _ _ _ (c.requires.one_disk told) made.keeps_shown))))
 
 pub returns-clause-stages : goal.returns-clause-stages
 returns-clause-stages g c =
@@ -35,17 +34,20 @@ returns-clause-stages g c =
     let within = rw lowest at c.lowest_free.ensures.fits running in
     let inside : slot ≤ between.journal.extent = omega (arith, within, c.in_ok-make_room.ensures.made.extent) in
     let free = (lowest_free-is_free c.args.records.now.live slot c.requires.free).1 in
+    let made_extent = c.in_ok-make_room.ensures.made.extent in
+    let staged = c.stage.ensures.staged.extent ∙ ap (λ l. extent_after l between.journal.extent) c.put_of.ensures in
+    let next = extent_after-next (record_put slot c.args.written.now) between.journal.extent in
     step-from c.in_ok-make_room.ensures.makes_room (λ told made.
     let stages = c.stage.ensures.stages _ in
-    record {
-      changes = λ others.
-          TurnsShown-staged c.args.records.now between others _ _ c.stage.new.self ((slot, Some c.args.written.now) ∷ others)
-          (record_put slot c.args.written.now ∷ []) c.in_ok-make_room.field-0 _ made.kept (rw c.put_of.ensures at stages)
-          (moves-added slot c.args.written.now c.requires.valid c.requires.some between _ others made.kept below.0 inside
-          (rw c.make_room.ensures.live free))
-          (TurnsShown-keeps c.args.records.now between others _ _ _ (c.requires.one_disk told) made.keeps_shown);
-      kept = stages.kept made.kept;
-    })
+    StagesAtCost-staged c.make_room.new.self _ (c.requires.one_disk told) (stages.kept made.kept) (omega (arith, staged, next, made_extent)) made.keeps_shown
+    (c.in_ok-make_room.ensures.syncs.told told) (λ free. ap (λ d. (g.D.Disk.seen d).told.syncs) (c.make_room.ensures.idle free).0)
+    c.in_ok-make_room.ensures.made.in_use c.stage.ensures.staged.in_use
+    (λ others.
+    TurnsShown-staged c.args.records.now between others _ _ c.stage.new.self ((slot, Some c.args.written.now) ∷ others)
+    (record_put slot c.args.written.now ∷ []) c.in_ok-make_room.field-0 _ made.kept (rw c.put_of.ensures at stages)
+    (moves-added slot c.args.written.now c.requires.valid c.requires.some between _ others made.kept below.0 inside
+    (rw c.make_room.ensures.live free))
+    (TurnsShown-keeps c.args.records.now between others _ _ _ (c.requires.one_disk told) made.keeps_shown)))
 
 pub returns-clause-live : goal.returns-clause-live
 returns-clause-live g c =
@@ -56,33 +58,3 @@ returns-clause-live g c =
     c.stage.ensures.live ∙ ap₂ live_after c.put_of.ensures c.make_room.ensures.live in
     subst (λ (now : List Bool). LiveSlotsGo [] (slot ∷ []) live now) (sym is)
     (LiveSlotsGo-added slot c.args.written.now c.requires.valid c.requires.some live free.0 free.1)
-
-pub returns-in_err-make_room-clause-within : goal.returns-in_err-make_room-clause-within
-returns-in_err-make_room-clause-within g c =
-    let p = err_from_is_err_and c.from_residual.result c.from_residual.ensures.1 in
-    rw (p.1, p.2)
-    (step-from c.in_err-make_room.ensures.makes_room (λ told made.
-    StaysWithin-failed {used = 0} _ refl (omega arith) (StaysWithin-kept {is = c.make_room.new.self} _ (c.requires.one_disk told) made.keeps_shown)))
-
-pub returns-clause-within : goal.returns-clause-within
-returns-clause-within g c =
-    let slot = c.args.slot in
-    let made_extent = c.in_ok-make_room.ensures.made.extent in
-    let between = c.make_room.new.self.journal.extent in
-    let staged = c.stage.ensures.staged.extent ∙ ap (λ l. extent_after l between) c.put_of.ensures in
-    let next = extent_after-next (record_put slot c.args.written.now) between in
-    step-from c.in_ok-make_room.ensures.makes_room (λ told made.
-    StaysWithin-staged c.make_room.new.self _ (c.requires.one_disk told) ((c.stage.ensures.stages _).kept made.kept) (omega (arith, staged, next, made_extent)) made.keeps_shown)
-
-pub returns-in_err-make_room-clause-syncs : goal.returns-in_err-make_room-clause-syncs
-returns-in_err-make_room-clause-syncs g c =
-    let p = err_from_is_err_and c.from_residual.result c.from_residual.ensures.1 in
-    rw (p.1, p.2)
-    (step-from c.in_err-make_room.ensures.syncs (λ told room.
-    SyncsToStage-no_room {is = c.make_room.new.self} _ refl room (λ free. ap (λ d. (g.D.Disk.seen d).told.syncs) (c.make_room.ensures.idle free).0)))
-
-pub returns-clause-syncs : goal.returns-clause-syncs
-returns-clause-syncs g c =
-    step-from c.in_ok-make_room.ensures.syncs (λ told room.
-    SyncsToStage-staged c.make_room.new.self _ room (λ free. ap (λ d. (g.D.Disk.seen d).told.syncs) (c.make_room.ensures.idle free).0)
-    c.in_ok-make_room.ensures.made.in_use c.stage.ensures.staged.in_use)

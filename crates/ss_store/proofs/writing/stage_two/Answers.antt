@@ -10,9 +10,8 @@ use Rattle.ss_query.specs.Slots.{HasRecords}
 use Rattle.ss_store.specs.Slots.{LiveSlotsGo, pair_put}
 use Rattle.ss_store.proofs.ShownCalls.{TurnsShown-failed, TurnsShown-keeps, TurnsShown-staged}
 use Rattle.ss_store.proofs.Changes.{IsTxn-pair, LiveSlotsGo-paired, moves-paired, extent_after-pair, slots_fit-pair}
+use Rattle.ss_store.proofs.Costs.{StagesAtCost-no_room, StagesAtCost-staged}
 use Rattle.ss_store.proofs.LiveSlots.{AreTwoLive-some}
-use Rattle.ss_store.proofs.Syncs.{SyncsToStage-no_room, SyncsToStage-staged}
-use Rattle.ss_store.proofs.Within.{StaysWithin-failed, StaysWithin-kept, StaysWithin-staged}
 use Rattle.ss_store.proofs.writing.stage_two.Goals as goal
 
 pub pair_of-requires-clause-apart : goal.pair_of-requires-clause-apart
@@ -45,33 +44,40 @@ stage-requires-clause-fit g c =
     (subst (λ (l : List Put). IsTrue (slots_fit l extent)) (sym c.pair_of.ensures)
     (slots_fit-pair c.args.kept c.args.freed c.args.written.now extent (below c.args.kept two.kept_live) (below c.args.freed two.freed_live)))
 
+pub returns-clause-extent : goal.returns-clause-extent
+returns-clause-extent g c =
+    let extent = c.args.records.now.journal.extent in
+    let two = AreTwoLive-some c.args.records.now.live c.args.kept c.args.freed c.requires.live in
+    let below = c.live.ensures.sound.below (λ stopped. absurd (cc)) in
+    c.stage.ensures.staged.extent ∙ ap₂ extent_after c.pair_of.ensures c.in_ok-make_room.ensures.made.extent
+    ∙ extent_after-pair c.args.kept c.args.freed c.args.written.now extent (below c.args.kept two.kept_live) (below c.args.freed two.freed_live)
+
 pub returns-in_err-make_room-clause-stages : goal.returns-in_err-make_room-clause-stages
 returns-in_err-make_room-clause-stages g c =
     let p = err_from_is_err_and c.from_residual.result c.from_residual.ensures.1 in
     rw (p.1, p.2)
-    (step-from c.in_err-make_room.ensures.makes_room (λ told made. record {
-      changes = λ first gone others.
-          let before : List (ℕ × Option Record) = (c.args.kept, first) ∷ (c.args.freed, gone) ∷ others in
-          TurnsShown-failed c.args.records.now c.make_room.new.self c.make_room.new.self (HasRecords before) (HasRecords before) (HasRecords before)
-          (HasRecords ((c.args.kept, Some c.args.written.now) ∷ others)) _ _ _ _ refl
-          (TurnsShown-keeps c.args.records.now c.make_room.new.self before _ _ _ (c.requires.one_disk told) made.keeps_shown);
-      kept = tt;
-    }))
+    (step-from c.in_err-make_room.ensures.makes_room (λ told made.
+    StagesAtCost-no_room c.make_room.new.self _ refl (c.requires.one_disk told) made.keeps_shown (c.in_err-make_room.ensures.syncs.told told)
+    (λ free. ap (λ d. (g.D.Disk.seen d).told.syncs) (c.make_room.ensures.idle free).0)
+    (λ first gone others.
+    let before : List (ℕ × Option Record) = (c.args.kept, first) ∷ (c.args.freed, gone) ∷ others in
+    TurnsShown-failed c.args.records.now c.make_room.new.self c.make_room.new.self (HasRecords before) (HasRecords before) (HasRecords before)
+    (HasRecords ((c.args.kept, Some c.args.written.now) ∷ others)) _ _ _ _ refl
+    (TurnsShown-keeps c.args.records.now c.make_room.new.self before _ _ _ (c.requires.one_disk told) made.keeps_shown))))
 
 pub returns-clause-stages : goal.returns-clause-stages
 returns-clause-stages g c =
     step-from c.in_ok-make_room.ensures.makes_room (λ told made.
     let stages = c.stage.ensures.stages _ in
-    record {
-      changes = λ first gone others.
-          let before : List (ℕ × Option Record) = (c.args.kept, first) ∷ (c.args.freed, gone) ∷ others in
-          TurnsShown-staged c.args.records.now c.make_room.new.self before _ _ c.stage.new.self ((c.args.kept, Some c.args.written.now) ∷ others)
-          (pair_put c.args.kept c.args.freed c.args.written.now) c.in_ok-make_room.field-0 _ made.kept (rw c.pair_of.ensures at stages)
-          (λ found is moved.
-          moves-paired c.args.kept c.args.freed c.args.written.now c.requires.valid c.requires.some found first gone others moved)
-          (TurnsShown-keeps c.args.records.now c.make_room.new.self before _ _ _ (c.requires.one_disk told) made.keeps_shown);
-      kept = stages.kept made.kept;
-    })
+    StagesAtCost-staged c.make_room.new.self _ (c.requires.one_disk told) (stages.kept made.kept) (omega (arith, returns-clause-extent g c)) made.keeps_shown
+    (c.in_ok-make_room.ensures.syncs.told told) (λ free. ap (λ d. (g.D.Disk.seen d).told.syncs) (c.make_room.ensures.idle free).0)
+    c.in_ok-make_room.ensures.made.in_use c.stage.ensures.staged.in_use
+    (λ first gone others.
+    let before : List (ℕ × Option Record) = (c.args.kept, first) ∷ (c.args.freed, gone) ∷ others in
+    TurnsShown-staged c.args.records.now c.make_room.new.self before _ _ c.stage.new.self ((c.args.kept, Some c.args.written.now) ∷ others)
+    (pair_put c.args.kept c.args.freed c.args.written.now) c.in_ok-make_room.field-0 _ made.kept (rw c.pair_of.ensures at stages)
+    (λ found is moved. moves-paired c.args.kept c.args.freed c.args.written.now c.requires.valid c.requires.some found first gone others moved)
+    (TurnsShown-keeps c.args.records.now c.make_room.new.self before _ _ _ (c.requires.one_disk told) made.keeps_shown)))
 
 pub returns-clause-live : goal.returns-clause-live
 returns-clause-live g c =
@@ -83,36 +89,3 @@ returns-clause-live g c =
     c.stage.ensures.live ∙ ap₂ live_after c.pair_of.ensures c.make_room.ensures.live in
     subst (λ (now : List Bool). LiveSlotsGo (kept ∷ freed ∷ []) (kept ∷ []) live now) (sym is)
     (LiveSlotsGo-paired kept freed c.args.written.now c.requires.valid c.requires.some live two)
-
-pub returns-clause-extent : goal.returns-clause-extent
-returns-clause-extent g c =
-    let extent = c.args.records.now.journal.extent in
-    let two = AreTwoLive-some c.args.records.now.live c.args.kept c.args.freed c.requires.live in
-    let below = c.live.ensures.sound.below (λ stopped. absurd (cc)) in
-    c.stage.ensures.staged.extent ∙ ap₂ extent_after c.pair_of.ensures c.in_ok-make_room.ensures.made.extent
-    ∙ extent_after-pair c.args.kept c.args.freed c.args.written.now extent (below c.args.kept two.kept_live) (below c.args.freed two.freed_live)
-
-pub returns-in_err-make_room-clause-within : goal.returns-in_err-make_room-clause-within
-returns-in_err-make_room-clause-within g c =
-    let p = err_from_is_err_and c.from_residual.result c.from_residual.ensures.1 in
-    rw (p.1, p.2)
-    (step-from c.in_err-make_room.ensures.makes_room (λ told made.
-    StaysWithin-failed {used = 0} _ refl (omega arith) (StaysWithin-kept {is = c.make_room.new.self} _ (c.requires.one_disk told) made.keeps_shown)))
-
-pub returns-clause-within : goal.returns-clause-within
-returns-clause-within g c =
-    step-from c.in_ok-make_room.ensures.makes_room (λ told made.
-    StaysWithin-staged c.make_room.new.self _ (c.requires.one_disk told) ((c.stage.ensures.stages _).kept made.kept) (omega (arith, returns-clause-extent g c)) made.keeps_shown)
-
-pub returns-in_err-make_room-clause-syncs : goal.returns-in_err-make_room-clause-syncs
-returns-in_err-make_room-clause-syncs g c =
-    let p = err_from_is_err_and c.from_residual.result c.from_residual.ensures.1 in
-    rw (p.1, p.2)
-    (step-from c.in_err-make_room.ensures.syncs (λ told room.
-    SyncsToStage-no_room {is = c.make_room.new.self} _ refl room (λ free. ap (λ d. (g.D.Disk.seen d).told.syncs) (c.make_room.ensures.idle free).0)))
-
-pub returns-clause-syncs : goal.returns-clause-syncs
-returns-clause-syncs g c =
-    step-from c.in_ok-make_room.ensures.syncs (λ told room.
-    SyncsToStage-staged c.make_room.new.self _ room (λ free. ap (λ d. (g.D.Disk.seen d).told.syncs) (c.make_room.ensures.idle free).0)
-    c.in_ok-make_room.ensures.made.in_use c.stage.ensures.staged.in_use)

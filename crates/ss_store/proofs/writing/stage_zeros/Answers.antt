@@ -8,10 +8,9 @@ use Rattle.ss_records.specs.Live.{live_after}
 use Rattle.ss_journal.proofs.StepLemmas.{step-from}
 use Rattle.ss_store.specs.Slots.{LiveSlotsGo, zeros_put}
 use Rattle.ss_store.proofs.Changes.{IsTxn-one, LiveSlotsGo-zeros, extent_after-one, slots_fit-one}
+use Rattle.ss_store.proofs.Costs.{StagesAtCost-no_room, StagesAtCost-staged}
 use Rattle.ss_store.proofs.LiveSlots.{IsOneLive-permutation}
 use Rattle.ss_store.proofs.ShownCalls.{StandsFor-of_map, TurnsShown-changed, TurnsShown-failed, TurnsShown-kept}
-use Rattle.ss_store.proofs.Syncs.{SyncsToStage-no_room, SyncsToStage-staged}
-use Rattle.ss_store.proofs.Within.{StaysWithin-failed, StaysWithin-kept, StaysWithin-staged}
 use Rattle.ss_store.proofs.writing.stage_zeros.Goals as goal
 
 pub stage-requires-clause-txn : goal.stage-requires-clause-txn
@@ -29,37 +28,6 @@ stage-requires-clause-fit g c =
     (subst (λ (l : List Put). IsTrue (slots_fit l extent)) (sym c.zeros_of.ensures)
     (slots_fit-one (zeros_put c.args.slot) extent (below c.args.slot one.is)))
 
-pub returns-in_err-make_room-clause-changes : goal.returns-in_err-make_room-clause-changes
-returns-in_err-make_room-clause-changes g c =
-    let p = err_from_is_err_and c.from_residual.result c.from_residual.ensures.1 in
-    rw (p.1, p.2)
-    (step-from c.in_err-make_room.ensures.makes_room (λ told made. record {
-      changes = λ found.
-          let is = λ (image : List ℕ). StandsFor image found in
-          TurnsShown-failed c.args.records.now c.make_room.new.self c.make_room.new.self is is is
-          (λ image. StandsFor image (changed found (zeros_put c.args.slot ∷ []))) _ _ _ _ refl
-          (TurnsShown-kept c.args.records.now c.make_room.new.self is _ _ _ (StandsFor-of_map found) (c.requires.one_disk told) made.keeps_shown);
-      kept = tt;
-    }))
-
-pub returns-clause-changes : goal.returns-clause-changes
-returns-clause-changes g c =
-    step-from c.in_ok-make_room.ensures.makes_room (λ told made.
-    let stages = c.stage.ensures.stages _ in
-    record {
-      changes = λ found.
-          TurnsShown-changed c.args.records.now c.make_room.new.self c.stage.new.self found _ _ (zeros_put c.args.slot ∷ [])
-          c.in_ok-make_room.field-0 _ (c.requires.one_disk told) made.kept (rw c.zeros_of.ensures at stages) made.keeps_shown;
-      kept = stages.kept made.kept;
-    })
-
-pub returns-clause-live : goal.returns-clause-live
-returns-clause-live g c =
-    let live = c.args.records.now.live in
-    let is : c.stage.new.self.live ≡ live_after (zeros_put c.args.slot ∷ []) live =
-    c.stage.ensures.live ∙ ap₂ live_after c.zeros_of.ensures c.make_room.ensures.live in
-    subst (λ (now : List Bool). LiveSlotsGo (c.args.slot ∷ []) [] live now) (sym is) (LiveSlotsGo-zeros live c.args.slot)
-
 pub returns-clause-extent : goal.returns-clause-extent
 returns-clause-extent g c =
     let extent = c.args.records.now.journal.extent in
@@ -68,27 +36,33 @@ returns-clause-extent g c =
     c.stage.ensures.staged.extent ∙ ap₂ extent_after c.zeros_of.ensures c.in_ok-make_room.ensures.made.extent
     ∙ extent_after-one (zeros_put c.args.slot) extent (below c.args.slot one.is)
 
-pub returns-in_err-make_room-clause-within : goal.returns-in_err-make_room-clause-within
-returns-in_err-make_room-clause-within g c =
+pub returns-in_err-make_room-clause-changes : goal.returns-in_err-make_room-clause-changes
+returns-in_err-make_room-clause-changes g c =
     let p = err_from_is_err_and c.from_residual.result c.from_residual.ensures.1 in
     rw (p.1, p.2)
     (step-from c.in_err-make_room.ensures.makes_room (λ told made.
-    StaysWithin-failed {used = 0} _ refl (omega arith) (StaysWithin-kept {is = c.make_room.new.self} _ (c.requires.one_disk told) made.keeps_shown)))
+    StagesAtCost-no_room c.make_room.new.self _ refl (c.requires.one_disk told) made.keeps_shown (c.in_err-make_room.ensures.syncs.told told)
+    (λ free. ap (λ d. (g.D.Disk.seen d).told.syncs) (c.make_room.ensures.idle free).0)
+    (λ found.
+    let is = λ (image : List ℕ). StandsFor image found in
+    TurnsShown-failed c.args.records.now c.make_room.new.self c.make_room.new.self is is is
+    (λ image. StandsFor image (changed found (zeros_put c.args.slot ∷ []))) _ _ _ _ refl
+    (TurnsShown-kept c.args.records.now c.make_room.new.self is _ _ _ (StandsFor-of_map found) (c.requires.one_disk told) made.keeps_shown))))
 
-pub returns-clause-within : goal.returns-clause-within
-returns-clause-within g c =
+pub returns-clause-changes : goal.returns-clause-changes
+returns-clause-changes g c =
     step-from c.in_ok-make_room.ensures.makes_room (λ told made.
-    StaysWithin-staged c.make_room.new.self _ (c.requires.one_disk told) ((c.stage.ensures.stages _).kept made.kept) (omega (arith, returns-clause-extent g c)) made.keeps_shown)
+    let stages = c.stage.ensures.stages _ in
+    StagesAtCost-staged c.make_room.new.self _ (c.requires.one_disk told) (stages.kept made.kept) (omega (arith, returns-clause-extent g c)) made.keeps_shown
+    (c.in_ok-make_room.ensures.syncs.told told) (λ free. ap (λ d. (g.D.Disk.seen d).told.syncs) (c.make_room.ensures.idle free).0)
+    c.in_ok-make_room.ensures.made.in_use c.stage.ensures.staged.in_use
+    (λ found.
+    TurnsShown-changed c.args.records.now c.make_room.new.self c.stage.new.self found _ _ (zeros_put c.args.slot ∷ [])
+    c.in_ok-make_room.field-0 _ (c.requires.one_disk told) made.kept (rw c.zeros_of.ensures at stages) made.keeps_shown))
 
-pub returns-in_err-make_room-clause-syncs : goal.returns-in_err-make_room-clause-syncs
-returns-in_err-make_room-clause-syncs g c =
-    let p = err_from_is_err_and c.from_residual.result c.from_residual.ensures.1 in
-    rw (p.1, p.2)
-    (step-from c.in_err-make_room.ensures.syncs (λ told room.
-    SyncsToStage-no_room {is = c.make_room.new.self} _ refl room (λ free. ap (λ d. (g.D.Disk.seen d).told.syncs) (c.make_room.ensures.idle free).0)))
-
-pub returns-clause-syncs : goal.returns-clause-syncs
-returns-clause-syncs g c =
-    step-from c.in_ok-make_room.ensures.syncs (λ told room.
-    SyncsToStage-staged c.make_room.new.self _ room (λ free. ap (λ d. (g.D.Disk.seen d).told.syncs) (c.make_room.ensures.idle free).0)
-    c.in_ok-make_room.ensures.made.in_use c.stage.ensures.staged.in_use)
+pub returns-clause-live : goal.returns-clause-live
+returns-clause-live g c =
+    let live = c.args.records.now.live in
+    let is : c.stage.new.self.live ≡ live_after (zeros_put c.args.slot ∷ []) live =
+    c.stage.ensures.live ∙ ap₂ live_after c.zeros_of.ensures c.make_room.ensures.live in
+    subst (λ (now : List Bool). LiveSlotsGo (c.args.slot ∷ []) [] live now) (sym is) (LiveSlotsGo-zeros live c.args.slot)

@@ -85,8 +85,7 @@ returns-in_err-settle_all-clause-opens g c =
     rw (p.1, p.2)
     (step-handed (verdict-fault (Unit {0}) (Unit {0}) why) c.in_ok-records.ensures.reads c.in_err-settle_all.ensures.settles (λ told read closes.
     OpensStore-unclosed c.deref-3.result.now parts c.settle_all.new.streams _ _ _ (g.met.D.Disk.knows_now c.args.disk.now told)
-    (rw (c.deref_mut.ensures.value, c.deref-3.ensures.value) read.rebuilt) read.reads c.settle_all.new.records why closes
-    (c.in_err-settle_all.ensures.within.told (c.in_ok-records.ensures.reads.tells ∙ told))))
+    (rw (c.deref_mut.ensures.value, c.deref-3.ensures.value) read.rebuilt) read.reads c.settle_all.new.records why closes))
 
 pub settle_all-requires-clause-one_disk : goal.settle_all-requires-clause-one_disk
 settle_all-requires-clause-one_disk g c = after-step c.in_ok-records.ensures.reads (λ told has. has.kept)
@@ -101,8 +100,7 @@ returns-clause-opens g c =
     OpensStore-closed c.deref-3.result.now parts now _ _ _ (g.met.D.Disk.knows_now c.args.disk.now told)
     (rw (c.deref_mut.ensures.value, c.deref-3.ensures.value) read.rebuilt) read.reads
     c.settle_all.new.records store closes same refl c.in_ok-settle_all.ensures.at_rest.1
-    c.in_ok-records.records read.kept c.in_ok-records.ensures.sealed c.in_ok-settle_all.ensures.extent
-    (c.in_ok-settle_all.ensures.within.told told_read))
+    c.in_ok-records.records read.kept c.in_ok-records.ensures.sealed c.in_ok-settle_all.ensures.extent)
 
 pub returns-in_err-indexes-clause-opens : goal.returns-in_err-indexes-clause-opens
 returns-in_err-indexes-clause-opens g c =

@@ -109,12 +109,12 @@ returns-in-Err-grow-clause-within g c told = StaysWithin-none _ (g.met.D.Disk.kn
 pub returns-in-Ok-stage_record-clause-within : goal.returns-in-Ok-stage_record-clause-within
 returns-in-Ok-stage_record-clause-within g c told =
     let low : c.in-Ok.new.2 + 1 ≤ records_in c.args.self.now + 1 = omega (arith, c.in-Ok.ensures.new.low) in
-    rw (← c.self.view_is) (StaysWithin-answers _ (rw (← c.self.view_is) at low) (c.in-Ok-stage_record.ensures.within.told told))
+    rw (← c.self.view_is) (StaysWithin-answers _ (rw (← c.self.view_is) at low) (c.in-Ok-stage_record.ensures.stages.told told).within)
 
 pub returns-in-Err-stage_record-clause-within : goal.returns-in-Err-stage_record-clause-within
 returns-in-Err-stage_record-clause-within g c told =
     let low : c.in-Ok.new.2 + 1 ≤ records_in c.args.self.now + 1 = omega (arith, c.in-Ok.ensures.new.low) in
-    rw (← c.self.view_is) (StaysWithin-failed _ refl (rw (← c.self.view_is) at low) (c.in-Err-stage_record.ensures.within.told told))
+    rw (← c.self.view_is) (StaysWithin-failed _ refl (rw (← c.self.view_is) at low) (c.in-Err-stage_record.ensures.stages.told told).within)
 
 pub returns-in-Err-clause-syncs : goal.returns-in-Err-clause-syncs
 returns-in-Err-clause-syncs g c told = SyncsToStage-none _ tt
@@ -124,8 +124,8 @@ returns-in-Err-grow-clause-syncs g c told = SyncsToStage-none _ tt
 
 pub returns-in-Ok-stage_record-clause-syncs : goal.returns-in-Ok-stage_record-clause-syncs
 returns-in-Ok-stage_record-clause-syncs g c told =
-    rw (← c.self.view_is) (SyncsToStage-answers _ (omega arith) (c.in-Ok-stage_record.ensures.syncs.told told))
+    rw (← c.self.view_is) (SyncsToStage-answers _ (omega arith) (c.in-Ok-stage_record.ensures.stages.told told).syncs)
 
 pub returns-in-Err-stage_record-clause-syncs : goal.returns-in-Err-stage_record-clause-syncs
 returns-in-Err-stage_record-clause-syncs g c told =
-    rw (← c.self.view_is) (SyncsToStage-failed _ refl (omega arith) (c.in-Err-stage_record.ensures.syncs.told told))
+    rw (← c.self.view_is) (SyncsToStage-failed _ refl (omega arith) (c.in-Err-stage_record.ensures.stages.told told).syncs)

@@ -110,12 +110,12 @@ returns-in-Err-clause-within g c told = StaysWithin-none _ (g.met.D.Disk.knows_n
 pub returns-in-Ok-stage_doomed-clause-within : goal.returns-in-Ok-stage_doomed-clause-within
 returns-in-Ok-stage_doomed-clause-within g c told =
     let low : 0 ≤ records_in c.args.self.now + 1 = omega arith in
-    rw (← c.self.view_is) (StaysWithin-answers _ (rw (← c.self.view_is) at low) (c.in-Ok-stage_doomed.ensures.within.told told))
+    rw (← c.self.view_is) (StaysWithin-answers _ (rw (← c.self.view_is) at low) (c.in-Ok-stage_doomed.ensures.drops.told told).within)
 
 pub returns-clause-within : goal.returns-clause-within
 returns-clause-within g c told =
     let low : 0 ≤ records_in c.args.self.now + 1 = omega arith in
-    rw (← c.self.view_is) (StaysWithin-failed _ refl (rw (← c.self.view_is) at low) (c.in-Err-stage_doomed.ensures.within.told told))
+    rw (← c.self.view_is) (StaysWithin-failed _ refl (rw (← c.self.view_is) at low) (c.in-Err-stage_doomed.ensures.drops.told told).within)
 
 pub returns-in_default-clause-syncs : goal.returns-in_default-clause-syncs
 returns-in_default-clause-syncs g c told = SyncsToStage-none _ tt
@@ -130,7 +130,7 @@ returns-in-Ok-stage_doomed-clause-syncs g c told =
     let few = few-slots c.self.inside.streams.items c.in-Some.place c.remove-part.result its.stands.at in
     rw (← c.self.view_is)
     (SyncsToStage-answers _ (omega (arith, few, ap length its.slots, length-slots_in_turn c.remove-part.result))
-    (c.in-Ok-stage_doomed.ensures.syncs.told told))
+    (c.in-Ok-stage_doomed.ensures.drops.told told).syncs)
 
 pub returns-clause-syncs : goal.returns-clause-syncs
 returns-clause-syncs g c told =
@@ -139,4 +139,4 @@ returns-clause-syncs g c told =
     let few = few-slots c.self.inside.streams.items c.in-Some.place c.remove-part.result its.stands.at in
     rw (← c.self.view_is)
     (SyncsToStage-failed _ refl (omega (arith, few, ap length its.slots, length-slots_in_turn c.remove-part.result))
-    (c.in-Err-stage_doomed.ensures.syncs.told told))
+    (c.in-Err-stage_doomed.ensures.drops.told told).syncs)

@@ -114,12 +114,12 @@ returns-in-Err-reserve-clause-within g c told = StaysWithin-none _ (g.met.D.Disk
 pub returns-in-Ok-put_mark-clause-within : goal.returns-in-Ok-put_mark-clause-within
 returns-in-Ok-put_mark-clause-within g c told =
     let low : slots_used c.args.what c.in-Ok.marker.1 ≤ records_in c.args.self.now + 1 = c.in-Ok.ensures.marker.low in
-    rw (← c.self.view_is) (StaysWithin-answers _ (rw (← c.self.view_is) at low) (c.in-Ok-put_mark.ensures.within.told told))
+    rw (← c.self.view_is) (StaysWithin-answers _ (rw (← c.self.view_is) at low) (c.in-Ok-put_mark.ensures.takes.told told).within)
 
 pub returns-in-Err-put_mark-clause-within : goal.returns-in-Err-put_mark-clause-within
 returns-in-Err-put_mark-clause-within g c told =
     let low : slots_used c.args.what c.in-Ok.marker.1 ≤ records_in c.args.self.now + 1 = c.in-Ok.ensures.marker.low in
-    rw (← c.self.view_is) (StaysWithin-failed _ refl (rw (← c.self.view_is) at low) (c.in-Err-put_mark.ensures.within.told told))
+    rw (← c.self.view_is) (StaysWithin-failed _ refl (rw (← c.self.view_is) at low) (c.in-Err-put_mark.ensures.takes.told told).within)
 
 pub returns-in-Err-clause-syncs : goal.returns-in-Err-clause-syncs
 returns-in-Err-clause-syncs g c told = SyncsToStage-none _ tt
@@ -129,8 +129,8 @@ returns-in-Err-reserve-clause-syncs g c told = SyncsToStage-none _ tt
 
 pub returns-in-Ok-put_mark-clause-syncs : goal.returns-in-Ok-put_mark-clause-syncs
 returns-in-Ok-put_mark-clause-syncs g c told =
-    rw (← c.self.view_is) (SyncsToStage-answers _ (omega arith) (c.in-Ok-put_mark.ensures.syncs.told told))
+    rw (← c.self.view_is) (SyncsToStage-answers _ (omega arith) (c.in-Ok-put_mark.ensures.takes.told told).syncs)
 
 pub returns-in-Err-put_mark-clause-syncs : goal.returns-in-Err-put_mark-clause-syncs
 returns-in-Err-put_mark-clause-syncs g c told =
-    rw (← c.self.view_is) (SyncsToStage-failed _ refl (omega arith) (c.in-Err-put_mark.ensures.syncs.told told))
+    rw (← c.self.view_is) (SyncsToStage-failed _ refl (omega arith) (c.in-Err-put_mark.ensures.takes.told told).syncs)

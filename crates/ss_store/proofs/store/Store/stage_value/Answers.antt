@@ -76,9 +76,9 @@ invariant_of-self-in-Ok-append_value g c =
     (c.in-Ok.ensures.accepted c.args.v) (c.requires.in_time, c.ranges.v)
     c.index_mut-stream.ensures.value c.reserve_window.ensures.entries c.reserve_window.ensures.grows in
     let done = c.in-Ok-append_value.ensures in (
-      sound-taken is c.append_value.new.part c.append_value.new.records c.append_value.ensures.same done.whole done.holds,
+      sound-taken is c.append_value.new.part c.append_value.new.records c.append_value.ensures.same done.stands,
       λ run. AllZip-set IsScheduled c.self.inside.streams.items c.self.inside.indexes.items c.in-Ok.taker.0 c.append_value.new.part
-          c.append_value.new.index (c.self.invariant.1 run) done.scheduled,
+          c.append_value.new.index (c.self.invariant.1 run) (done.stands.keyed, done.none_due),
     )
 
 pub invariant_of-self-in-Err-append_value : goal.invariant_of-self-in-Err-append_value
@@ -97,8 +97,8 @@ returns-in-Ok-append_value-clause-applies g c =
     c.index_mut-stream.ensures.value c.reserve_window.ensures.entries c.reserve_window.ensures.grows in
     let done = c.in-Ok-append_value.ensures in
     rw (← c.self.view_is)
-    (applies-taken is c.append_value.new.part c.append_value.new.records c.append_value.ensures.same done.whole done.holds _ _ _ _
-    (rw (to_z-of_z w64 c.args.v c.ranges.v) at done.takes) done.scheduled.1 c.values_held.ensures.value c.len.ensures.value)
+    (applies-taken is c.append_value.new.part c.append_value.new.records c.append_value.ensures.same done.stands _ _ _ _
+    (rw (to_z-of_z w64 c.args.v c.ranges.v) at done.takes) done.none_due c.values_held.ensures.value c.len.ensures.value)
 
 pub returns-clause-applies : goal.returns-clause-applies
 returns-clause-applies g c =
@@ -142,12 +142,12 @@ returns-in-Err-reserve_window-clause-within g c told = StaysWithin-none _ (g.met
 pub returns-in-Ok-append_value-clause-within : goal.returns-in-Ok-append_value-clause-within
 returns-in-Ok-append_value-clause-within g c told =
     let low : c.in-Ok.taker.1 + 1 ≤ records_in c.args.self.now + 1 = omega (arith, c.in-Ok.ensures.taker.low) in
-    rw (← c.self.view_is) (StaysWithin-answers _ (rw (← c.self.view_is) at low) (c.in-Ok-append_value.ensures.within.told told))
+    rw (← c.self.view_is) (StaysWithin-answers _ (rw (← c.self.view_is) at low) (c.in-Ok-append_value.ensures.takes.told told).within)
 
 pub returns-clause-within : goal.returns-clause-within
 returns-clause-within g c told =
     let low : c.in-Ok.taker.1 + 1 ≤ records_in c.args.self.now + 1 = omega (arith, c.in-Ok.ensures.taker.low) in
-    rw (← c.self.view_is) (StaysWithin-failed _ refl (rw (← c.self.view_is) at low) (c.in-Err-append_value.ensures.within.told told))
+    rw (← c.self.view_is) (StaysWithin-failed _ refl (rw (← c.self.view_is) at low) (c.in-Err-append_value.ensures.takes.told told).within)
 
 pub returns-in-Err-clause-syncs : goal.returns-in-Err-clause-syncs
 returns-in-Err-clause-syncs g c told = SyncsToStage-none _ tt
@@ -163,7 +163,7 @@ returns-in-Ok-append_value-clause-syncs g c told =
     c.index_mut-stream.ensures.value c.reserve_window.ensures.entries c.reserve_window.ensures.grows in
     let few = few-records is in
     rw (← c.self.view_is)
-    (SyncsToStage-answers _ (omega (arith, few, ap length c.reserve_window.ensures.entries)) (c.in-Ok-append_value.ensures.syncs.told told))
+    (SyncsToStage-answers _ (omega (arith, few, ap length c.reserve_window.ensures.entries)) (c.in-Ok-append_value.ensures.takes.told told).syncs)
 
 pub returns-clause-syncs : goal.returns-clause-syncs
 returns-clause-syncs g c told =
@@ -173,4 +173,4 @@ returns-clause-syncs g c told =
     c.index_mut-stream.ensures.value c.reserve_window.ensures.entries c.reserve_window.ensures.grows in
     let few = few-records is in
     rw (← c.self.view_is)
-    (SyncsToStage-failed _ refl (omega (arith, few, ap length c.reserve_window.ensures.entries)) (c.in-Err-append_value.ensures.syncs.told told))
+    (SyncsToStage-failed _ refl (omega (arith, few, ap length c.reserve_window.ensures.entries)) (c.in-Err-append_value.ensures.takes.told told).syncs)

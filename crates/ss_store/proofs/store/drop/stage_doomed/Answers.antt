@@ -4,8 +4,7 @@ use Rattle.ss_codec.specs.Record.{is_valid}
 use Rattle.ss_journal.proofs.StepLemmas.{after-step, step-from, step-next}
 use Rattle.ss_store.specs.Slots.{AreSomeLive}
 use Rattle.ss_store.proofs.Dropping.{TurnsShown-dropped, TurnsShown-undropped, own-live}
-use Rattle.ss_store.proofs.Syncs.{SyncsToStage-failed, SyncsToStage-then}
-use Rattle.ss_store.proofs.Within.{StaysWithin-failed, StaysWithin-then}
+use Rattle.ss_store.proofs.Costs.{StagesAtCost-failed, StagesAtCost-then}
 use Rattle.ss_store.proofs.store.drop.stage_doomed.Goals as goal
 
 pub stage_replaced-requires-clause-some : goal.stage_replaced-requires-clause-some
@@ -27,44 +26,21 @@ returns-in_err-stage_replaced-clause-drops g c =
     let p = err_from_is_err_and c.from_residual.result c.from_residual.ensures.1 in
     let valid : is_valid c.record_of.result ≡ true = c.record_of.ensures.valid in
     rw (p.1, p.2)
-    (step-from c.in_err-stage_replaced.ensures.changes (λ told changes. record {
-      changes = λ others s streams.
-          TurnsShown-undropped c.args.part.now others s streams (rw c.record_of.ensures.value at valid) c.args.records.now c.stage_replaced.new.records
-          c.stage_replaced.new.records _ (g.D.Disk.seen c.stage_replaced.new.disk).told _ _ _ refl (rw c.record_of.ensures.value at changes);
-      kept = tt;
-    }))
+    (step-from c.in_err-stage_replaced.ensures.changes (λ told changes.
+    StagesAtCost-failed _ refl (omega arith) (omega arith) (c.in_err-stage_replaced.ensures.stages.told told) (λ replaced others s streams.
+    TurnsShown-undropped c.args.part.now others s streams (rw c.record_of.ensures.value at valid) c.args.records.now c.stage_replaced.new.records
+    c.stage_replaced.new.records _ (g.D.Disk.seen c.stage_replaced.new.disk).told _ _ _ refl (rw c.record_of.ensures.value at changes))))
 
 pub returns-clause-drops : goal.returns-clause-drops
 returns-clause-drops g c =
     let valid : is_valid c.record_of.result ≡ true = c.record_of.ensures.valid in
-    step-next c.in_ok-stage_replaced.ensures.changes c.stage_clearing.ensures.clears (λ told then changes cleared. record {
-      changes = λ others s streams.
-          TurnsShown-dropped c.args.part.now others s streams (rw c.record_of.ensures.value at valid) c.args.records.now c.stage_replaced.new.records
-          c.stage_clearing.new.records _ _ _ c.in_ok-stage_replaced.field-0 c.stage_clearing.result
-          (g.met.D.Disk.knows_now c.stage_replaced.new.disk then) (rw c.record_of.ensures.value at changes)
-          (rw c.requires.slots at cleared.changes);
-      kept = cleared.kept;
-    })
+    step-next c.in_ok-stage_replaced.ensures.changes c.stage_clearing.ensures.clears (λ told then changes cleared.
+    let knows = g.met.D.Disk.knows_now c.stage_replaced.new.disk then in
+    StagesAtCost-then {first = 0} {second = 0} {few = 1} _ knows (omega arith) (omega arith) (omega arith)
+    (c.in_ok-stage_replaced.ensures.stages.told told) cleared (λ replaced clears others s streams.
+    TurnsShown-dropped c.args.part.now others s streams (rw c.record_of.ensures.value at valid) c.args.records.now c.stage_replaced.new.records
+    c.stage_clearing.new.records _ _ _ c.in_ok-stage_replaced.field-0 c.stage_clearing.result knows (rw c.record_of.ensures.value at changes)
+    (rw c.requires.slots at clears)))
 
 pub returns-clause-live : goal.returns-clause-live
 returns-clause-live g c = rw (← c.stage_replaced.ensures.live) c.stage_clearing.ensures.live
-
-pub returns-in_err-stage_replaced-clause-within : goal.returns-in_err-stage_replaced-clause-within
-returns-in_err-stage_replaced-clause-within g c =
-    let p = err_from_is_err_and c.from_residual.result c.from_residual.ensures.1 in
-    rw (p.1, p.2) (step-from c.in_err-stage_replaced.ensures.within (λ told made. StaysWithin-failed _ refl (omega arith) made))
-
-pub returns-clause-within : goal.returns-clause-within
-returns-clause-within g c =
-    step-next c.in_ok-stage_replaced.ensures.within c.stage_clearing.ensures.within (λ told then first second.
-    StaysWithin-then {first = 0} {second = 0} _ (g.met.D.Disk.knows_now c.stage_replaced.new.disk then) (omega arith) (omega arith) first second)
-
-pub returns-in_err-stage_replaced-clause-syncs : goal.returns-in_err-stage_replaced-clause-syncs
-returns-in_err-stage_replaced-clause-syncs g c =
-    let p = err_from_is_err_and c.from_residual.result c.from_residual.ensures.1 in
-    rw (p.1, p.2) (step-from c.in_err-stage_replaced.ensures.syncs (λ told made. SyncsToStage-failed _ refl (omega arith) made))
-
-pub returns-clause-syncs : goal.returns-clause-syncs
-returns-clause-syncs g c =
-    step-next c.in_ok-stage_replaced.ensures.syncs c.stage_clearing.ensures.syncs (λ told then first second.
-    SyncsToStage-then _ (omega arith) first second)
