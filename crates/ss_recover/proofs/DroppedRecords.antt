@@ -11,7 +11,7 @@ use Rattle.ss_recover.proofs.InOrder.{all-in_order}
 use Rattle.ss_recover.proofs.Lists.{all-each, all_append, all_behind, all_both, all_front, all_weaker, filter_map-kept, kept}
 use Rattle.ss_recover.proofs.OwnSteps.{own_step-fewer}
 use Rattle.ss_recover.proofs.SoundNumbers.{all-false, AreSound, HaveSameValues, is_numbered, is_sound-kept, none_bad-AreSound, one-dropped, one-sound}
-use Rattle.ss_recover.proofs.SoundNumbers.{stands_at, stream_carried-same}
+use Rattle.ss_recover.proofs.SoundNumbers.{standing-any, stream_carried-same}
 use Rattle.ss_recover.proofs.SoundStreams.{digit, none-passes, stands_alone}
 use Rattle.ss_codec.specs.declared.record.Record.TheVariants as records
 
@@ -115,7 +115,7 @@ module _ (xs ys : List Record) (r : Record) (id : ℕ) (is : IsOther id r) (gone
       (λ g. sym (dropped n) ∙ g) (choice gone_us n (cases_Bool (id == n))) in
       let none = one-dropped id rs (one-sound rs id parts.0) (dropped id ∙ gone_us) in
       let apart : AllByRecursion (λ (c : Created). (c.number == id) ≡ false) (streams_standing rs) =
-      all-false (is_numbered id) (streams_standing rs) (standing-any rs ∙ none) in
+      all-false (is_numbered id) (streams_standing rs) (standing-any id rs ∙ none) in
       let ordered = in_order (λ (c : Created). c.number) (streams_standing rs) in
       let same : AllByRecursion (λ (c : Created). HaveSameValues c.number rs us) ordered =
       all_weaker (λ (c : Created). (c.number == id) ≡ false) (λ (c : Created). HaveSameValues c.number rs us)
@@ -130,15 +130,6 @@ module _ (xs ys : List Record) (r : Record) (id : ℕ) (is : IsOther id r) (gone
       choice : is_dropped id us ≡ true → (n : ℕ) → ((id == n) ≡ true) ⊎ ((id == n) ≡ false) → (is_dropped n us ≡ true) ⊎ HaveSameValues n rs us
       choice gone n (inl here) = inl (subst (λ m. is_dropped m us ≡ true) (eqb-true id n here) gone)
       choice gone n (inr other) = inr (same-other n other)
-
-      standing-any : (qs : List Record) → list_any (is_numbered id) (streams_standing qs) ≡ list_any (stands_at id) qs
-      standing-any [] = refl
-      standing-any (q ∷ qs) = go (stands_by q) (standing-any qs)
-        where
-          go : (o : Option Created) → list_any (is_numbered id) (streams_standing qs) ≡ list_any (stands_at id) qs →
-              list_any (is_numbered id) (cons_option o (streams_standing qs)) ≡ (option_map_or (is_numbered id) o false || list_any (stands_at id) qs)
-          go None rest = rest
-          go (Some c) rest = ap (λ b. is_numbered id c || b) rest
 
 -- ---- a stream's own goes, and no other is of its number
 

@@ -1,12 +1,13 @@
 -- Records of a stream that is dropped: the others are carried as they were.
-use Rattle.ss_recover.proofs.Words.{[], ◌++◌, ◌==◌, ◌||◌, ◌∙◌, ◌∷◌, ◌≡◌, ◌≤◌, AllByRecursion, ap, ap₂, arith, Bool, cases_Bool, cond-false, cond-true, count_by}
-use Rattle.ss_recover.proofs.Words.{Created, created_by, eq-eqb, false, filter, filter_map, in_order, inl, inr, is_drop_of, keep_own_step, leb, List, list_any}
-use Rattle.ss_recover.proofs.Words.{list_any-append, map, not, or_cases, or_left, or_right, Record, refl, Stream, stream_carried, stream_number}
-use Rattle.ss_recover.proofs.Words.{streams_carried, streams_created, streams_standing, subst, sum_by-cons, sym, true, without_numbered, ℕ}
+use Rattle.ss_recover.proofs.Words.{[], ◌++◌, ◌+◌, ◌==◌, ◌||◌, ◌∙◌, ◌∷◌, ◌≡◌, AllByRecursion, ap, ap₂, arith, Bool, cases_Bool, count_by, Created, created_by}
+use Rattle.ss_recover.proofs.Words.{eq-eqb, false, filter, filter-append, filter_map, filter_map-append, in_order, inl, inr, is_drop_of, keep_own_step, leb}
+use Rattle.ss_recover.proofs.Words.{List, list_any, list_any-append, map, not, or_cases, or_left, or_right, Record, refl, stands_by, Stream, stream_carried}
+use Rattle.ss_recover.proofs.Words.{stream_number, streams_carried, streams_created, streams_standing, subst, sum_by-append, sum_by-cons, sym, true}
+use Rattle.ss_recover.proofs.Words.{without_numbered, ℕ}
 use Rattle.ss_recover.specs.Conditions.{is_sound}
-use Rattle.ss_recover.proofs.Lists.{all-each, all_weaker, filter_map-kept, kept}
-use Rattle.ss_recover.proofs.SoundNumbers.{AreSound, HaveSameValues, is_numbered, is_sound-kept, none_bad-AreSound, numbered-cons, one-sound}
-use Rattle.ss_recover.proofs.SoundNumbers.{stream_carried-same}
+use Rattle.ss_recover.proofs.Lists.{all-each, all_weaker, filter-all, filter_map-kept, kept}
+use Rattle.ss_recover.proofs.SoundNumbers.{all-false, AreSound, HaveSameValues, is_numbered, is_sound-kept, none-stands, none_bad-AreSound, one-sound}
+use Rattle.ss_recover.proofs.SoundNumbers.{standing-any, stream_carried-same}
 use Rattle.ss_recover.proofs.SoundStreams.{digit, stands_alone}
 use Rattle.ss_recover.proofs.Unordered.{filter_map-in_order, kept-is}
 use Rattle.ss_recover.proofs.DroppedRecords.{CarryThem, HaveSameValues-changed, list_any-without, made-changed, numbers-without}
@@ -28,19 +29,10 @@ is_unlike n c = not (c.number == n)
 -- where no stream is of a number, all that stand are of others
 standing-unlike : (n : ℕ) (rs : List Record) → count_by (is_numbered n) (streams_created rs) ≡ 0 →
     filter (is_unlike n) (streams_standing rs) ≡ streams_standing rs
-standing-unlike n [] none = refl
-standing-unlike n (records.Stream id name params true ∷ rs) none =
-    let c : Created = record { number = id; name = name; params = params } in
-    standing-unlike n rs (omega (arith, none, sum_by-cons (λ (d : Created). digit (is_numbered n d)) c (streams_created rs)))
-standing-unlike n (records.Stream id name params false ∷ rs) none =
-    let c : Created = record { number = id; name = name; params = params } in
-    let sum = sum_by-cons (λ (d : Created). digit (is_numbered n d)) c (streams_created rs) in
-    let rest = standing-unlike n rs (omega (arith, none, sum)) in
-    elim (cases_Bool (id == n)) [
-      | inl same ↦ (let one : digit (id == n) ≡ 1 = cond-true (id == n) 1 0 same in absurd (omega (arith, none, sum, one)))
-      | inr other ↦ rw other (ap (λ cs. c ∷ cs) rest)
-    ]
-standing-unlike n (_ ∷ rs) none = standing-unlike n rs none
+standing-unlike n rs none =
+    filter-all (is_unlike n) (streams_standing rs)
+    (all_weaker (λ (c : Created). is_numbered n c ≡ false) (λ c. is_unlike n c ≡ true) (λ c other. ap not other) (streams_standing rs)
+    (all-false (is_numbered n) (streams_standing rs) (standing-any n rs ∙ none-stands n rs none)))
 
 module _ (ys : List Record) (s : Created) where
   abbrev stood : Record
@@ -52,37 +44,22 @@ module _ (ys : List Record) (s : Created) where
   abbrev count : List Record → ℕ
   count qs = count_by (is_numbered s.number) (streams_created qs)
 
-  own-one : digit (is_numbered s.number s) ≡ 1
-  own-one = cond-true (s.number == s.number) 1 0 (eq-eqb s.number s.number refl)
-
-  at-least : (xs : List Record) → 1 ≤ count (xs ++ stood ∷ ys)
-  at-least [] = omega (arith, own-one, sum_by-cons (λ (d : Created). digit (is_numbered s.number d)) s (streams_created ys))
-  at-least (x ∷ xs) = omega (arith, numbered-cons s.number (created_by x) (streams_created (xs ++ stood ∷ ys)), at-least xs)
-
   -- the streams that stand without the one that is dropped
   standing-dropped : (xs : List Record) → count (xs ++ stood ∷ ys) ≡ 1 →
       streams_standing (xs ++ fell ∷ ys) ≡ filter (is_unlike s.number) (streams_standing (xs ++ stood ∷ ys))
-  standing-dropped [] one =
-      let same : (s.number == s.number) ≡ true = eq-eqb s.number s.number refl in
-      rw same (sym (standing-unlike s.number ys
-      (omega (arith, one, own-one, sum_by-cons (λ (d : Created). digit (is_numbered s.number d)) s (streams_created ys)))))
-  standing-dropped (records.Stream id name params dropped ∷ xs) one =
-      let c : Created = record { number = id; name = name; params = params } in
-      let sum = sum_by-cons (λ (d : Created). digit (is_numbered s.number d)) c (streams_created (xs ++ stood ∷ ys)) in
-      elim (cases_Bool (id == s.number)) [
-        | inl same ↦ (let here : digit (id == s.number) ≡ 1 = cond-true (id == s.number) 1 0 same in absurd (omega (arith, one, sum, here, at-least xs)))
-        | inr other ↦
-            (let here : digit (id == s.number) ≡ 0 = cond-false (id == s.number) 1 0 other in
-            go dropped other (standing-dropped xs (omega (arith, one, sum, here))))
-      ]
-    where
-      go : (b : Bool) → (id == s.number) ≡ false → streams_standing (xs ++ fell ∷ ys)
-          ≡ filter (is_unlike s.number) (streams_standing (xs ++ stood ∷ ys)) →
-          streams_standing (records.Stream id name params b ∷ xs ++ fell ∷ ys)
-          ≡ filter (is_unlike s.number) (streams_standing (records.Stream id name params b ∷ xs ++ stood ∷ ys))
-      go true other rest = rest
-      go false other rest = rw other (ap (λ cs. record { number = id; name = name; params = params } ∷ cs) rest)
-  standing-dropped (_ ∷ xs) one = standing-dropped xs one
+  standing-dropped xs one =
+      let n = s.number in
+      let t : Created = record { number = s.number; name = s.name; params = s.params } in
+      let own : (n == n) ≡ true = eq-eqb n n refl in
+      let at : Created → ℕ = λ d. digit (is_numbered n d) in
+      let more : count (xs ++ stood ∷ ys) ≡ count xs + (1 + count ys) =
+      ap (count_by (is_numbered n)) (filter_map-append created_by xs (stood ∷ ys)) ∙ sum_by-append at (streams_created xs) (t ∷ streams_created ys)
+      ∙ ap (λ (k : ℕ). count xs + k) (sum_by-cons at t (streams_created ys) ∙ ap (λ b. digit b + count ys) own) in
+      let front = standing-unlike n xs (omega (arith, one, more)) in
+      let back : filter (is_unlike n) (t ∷ streams_standing ys) ≡ streams_standing ys = rw own (standing-unlike n ys (omega (arith, one, more))) in
+      filter_map-append stands_by xs (fell ∷ ys)
+      ∙ sym (ap (filter (is_unlike n)) (filter_map-append stands_by xs (stood ∷ ys))
+      ∙ filter-append (is_unlike n) (streams_standing xs) (t ∷ streams_standing ys) ∙ (λ i. front i ++ back i))
 
 -- what passes a test in order is in order
 kept-in_order : (p : Created → Bool) (cs : List Created) → in_order (λ c. c.number) (filter p cs) ≡ filter p (in_order (λ c. c.number) cs)

@@ -1,9 +1,9 @@
 -- Worked maps of a few slots, and what each carries or where it is damaged.
 use Rattle.ss_recover.proofs.Words.{[], ◌*◌, ◌+◌, ◌-◌, ◌^◌, ◌∙◌, ◌∷◌, ◌≡◌, ◌≤◌, AreKept, AreWhole, AreWholeBeside, bad_slot, bad_stream, BadSlot, BadStream}
 use Rattle.ss_recover.proofs.Words.{Bool, Carried, carries, Created, Disk, doomed_slots, Err, failed, false, Figures, filter, filter_of, fine, full, has_place}
-use Rattle.ss_recover.proofs.Words.{HasParts, is_live, IsPermutation, Landmark, length, List, map, MOST_STREAMS, MOST_VALUES, negsuc, no_memory, None, occupied}
-use Rattle.ss_recover.proofs.Words.{Ok, Option, OutOfMemory, Parts, pos, range_with_len, Rebuilds, RecordsState, RecoverError, refl, refused, replicate, Result}
-use Rattle.ss_recover.proofs.Words.{slice_index_or, slice_set, SlotMap, Some, StandsFor, Stream, StreamParts, tile, true, verdict_of_rebuild, Window, zeros, ℕ}
+use Rattle.ss_recover.proofs.Words.{HasParts, is_live, IsPermutation, Landmark, length, List, map, negsuc, no_memory, None, occupied, Ok, Option, OutOfMemory}
+use Rattle.ss_recover.proofs.Words.{Parts, pos, range_with_len, Rebuilds, RecordsState, RecoverError, refl, refused, replicate, Result, slice_index_or}
+use Rattle.ss_recover.proofs.Words.{slice_set, SlotMap, Some, StandsFor, Stream, StreamParts, tile, true, verdict_of_rebuild, Window, zeros, ℕ}
 use Rattle.ss_summary.specs.Points.{New}
 use Rattle.ss_summary.specs.Summaries.{summary_of}
 use Rattle.ss_catalog.specs.Params.{exp as Exp}
@@ -339,13 +339,6 @@ tile-most = refl
 
 tile-more : tile (window 1 (fives (2 ^ 40) 0 (2 ^ 40)) ∷ window (2 ^ 40 + 1) (fives 1 (2 ^ 41) (2 ^ 41)) ∷ []) ≡ false
 tile-more = refl
-
--- the rules' numbers
-MOST_STREAMS-is : MOST_STREAMS ≡ 4096
-MOST_STREAMS-is = refl
-
-MOST_VALUES-is : MOST_VALUES ≡ 2 ^ 40
-MOST_VALUES-is = refl
 
 -- what each answer of rebuilding is
 verdicts-rebuild : map (λ error. verdict_of_rebuild {T = ℕ} (Err error)) (BadSlot 7 ∷ BadStream 7 ∷ Disk ∷ OutOfMemory ∷ [])

@@ -20,59 +20,70 @@ own number name dropped = records.Stream number name (Exp 2 1 1) dropped
 abbrev window : ℕ → ℕ → Record
 window number first = records.Window number first (record { count = 2; sum = pos 10; min = pos 5; max = pos 5; t_first = 10; t_last = 20; filter = full })
 
--- a dropped stream is a run with any records that aren't a stream's own, and one that stands with those alone that may come
-dropped-alone : is_run [] (own 0 a true ∷ []) ≡ true
-dropped-alone = refl
+-- the stream's own record within a step, and a window of two values 5 from the first position on, at these times
+abbrev own_within : ℕ → List ℕ → ℕ → Bool → Record
+own_within number name step dropped = records.Stream number name (record (Exp 2 1 1) { within = Some step }) dropped
 
-dropped-any : is_run [] (own 0 a true ∷ window 0 7 ∷ window 0 3 ∷ []) ≡ true
-dropped-any = refl
+abbrev window_at : ℕ → ℕ → ℕ → Record
+window_at number t_first t_last =
+    records.Window number 1 (record { count = 2; sum = pos 10; min = pos 5; max = pos 5; t_first = t_first; t_last = t_last; filter = full })
 
-standing-any : is_run [] (own 0 a false ∷ window 0 7 ∷ window 0 3 ∷ []) ≡ false
-standing-any = refl
-
-standing-some : is_run [] (own 0 a false ∷ window 0 1 ∷ []) ≡ true
+-- records after the streams with these names, and whether they are a run
+is_run-rows :
+    map (λ (row : List (List ℕ) × List Record). is_run row.0 row.1) (
+    -- a dropped stream is a run with any records that aren't a stream's own, and one that stands with those alone that may come
+    ([], own 0 a true ∷ [])
+    ∷ ([], own 0 a true ∷ window 0 7 ∷ window 0 3 ∷ [])
+    ∷ ([], own 0 a false ∷ window 0 7 ∷ window 0 3 ∷ [])
+    ∷ ([], own 0 a false ∷ window 0 1 ∷ [])
+    -- neither has two records of its own, and each has a name that is new
+    ∷ ([], own 0 a true ∷ own 0 a true ∷ [])
+    ∷ ([], own 0 a true ∷ window 0 1 ∷ own 0 a false ∷ [])
+    ∷ (a ∷ [], own 1 a true ∷ [])
+    ∷ (a ∷ [], own 1 b true ∷ [])
+    -- 0 and 59 lie in one minute, 59 and 60 don't, and of a dropped stream nothing is asked
+    ∷ ([], own_within 0 a 60 false ∷ window_at 0 0 59 ∷ [])
+    ∷ ([], own_within 0 a 60 false ∷ window_at 0 59 60 ∷ [])
+    ∷ ([], own_within 0 a 61 false ∷ window_at 0 59 60 ∷ [])
+    ∷ ([], own_within 0 a 60 true ∷ window_at 0 59 60 ∷ [])
+    ∷ []
+    )
+    ≡ true ∷ true ∷ false ∷ true ∷ false ∷ false ∷ false ∷ true ∷ true ∷ false ∷ true ∷ true ∷ []
 unfolding Marks.lies_free
-standing-some = refl
-
--- neither has two records of its own, and each has a name that is new
-dropped-twice : is_run [] (own 0 a true ∷ own 0 a true ∷ []) ≡ false
-dropped-twice = refl
-
-dropped-stands : is_run [] (own 0 a true ∷ window 0 1 ∷ own 0 a false ∷ []) ≡ false
-dropped-stands = refl
-
-dropped-named : is_run (a ∷ []) (own 1 a true ∷ []) ≡ false
-dropped-named = refl
-
-dropped-other : is_run (a ∷ []) (own 1 b true ∷ []) ≡ true
-dropped-other = refl
+is_run-rows = refl
 
 -- of a dropped number no more is asked than that it has one record of its own, with a place and a name that is new
 abbrev some : Bool → List ℕ → List Record
 some dropped name = own 0 a dropped ∷ window 0 7 ∷ own 1 name false ∷ window 1 1 ∷ []
 
-sound-dropped : is_sound_in_order (some true b) 0 ≡ true
-sound-dropped = refl
+-- each stream has a step of its own, whatever the order of the records
+abbrev beside : List Record
+beside = own_within 0 a 60 false ∷ window_at 0 0 59 ∷ own_within 1 b 61 false ∷ window_at 1 59 60 ∷ []
 
-sound-standing : is_sound_in_order (some false b) 0 ≡ false
-sound-standing = refl
+abbrev crossed : Bool → List Record
+crossed dropped = window_at 1 59 60 ∷ own_within 0 a 61 false ∷ own_within 1 b 60 dropped ∷ window_at 0 0 59 ∷ []
 
-sound-beside : is_sound_in_order (some true b) 1 ≡ true
+-- records in order, a number, and whether it is sound
+is_sound_in_order-rows :
+    map (λ (row : List Record × ℕ). is_sound_in_order row.0 row.1) (
+    -- a dropped one, one that stands, and the one beside them
+    (some true b, 0) ∷ (some false b, 0) ∷ (some true b, 1)
+    -- the name of a dropped one counts for those of greater numbers, and its number has no two records of its own
+    ∷ (some true a, 1) ∷ (some true a, 0) ∷ (own 0 a true ∷ own 0 b true ∷ [], 0) ∷ (window 0 1 ∷ [], 0)
+    ∷ (beside, 0) ∷ (beside, 1) ∷ (crossed false, 0) ∷ (crossed false, 1)
+    ∷ []
+    )
+    ≡ true ∷ false ∷ true ∷ false ∷ true ∷ false ∷ false ∷ true ∷ true ∷ true ∷ false ∷ []
 unfolding Marks.lies_free
-sound-beside = refl
+is_sound_in_order-rows = refl
 
--- its name counts for those of greater numbers, and its number has no two records of its own
-sound-named : is_sound_in_order (some true a) 1 ≡ false
-sound-named = refl
-
-sound-first_named : is_sound_in_order (some true a) 0 ≡ true
-sound-first_named = refl
-
-sound-twice : is_sound_in_order (own 0 a true ∷ own 0 b true ∷ []) 0 ≡ false
-sound-twice = refl
-
-sound-without : is_sound_in_order (window 0 1 ∷ []) 0 ≡ false
-sound-without = refl
+is_sound-rows :
+    map (λ (row : List Record × ℕ). is_sound row.0 row.1) (
+    (beside, 0) ∷ (beside, 1) ∷ (crossed false, 0) ∷ (crossed false, 1) ∷ (crossed true, 0) ∷ (crossed true, 1) ∷ []
+    )
+    ≡ true ∷ true ∷ true ∷ false ∷ true ∷ true ∷ []
+unfolding is_sound Marks.lies_free
+is_sound-rows = refl
 
 -- the slots of the records of dropped streams, the streams' own and the others
 abbrev found : List Found
@@ -89,56 +100,3 @@ doomed-others = refl
 
 doomed-own : slots_found (doomed_found true found) ≡ 8 ∷ []
 doomed-own = refl
-
--- ---- a step of the clock
-
--- the stream's own record within a step, and a window of two values 5 from the first position on, at these times
-abbrev own_within : ℕ → List ℕ → ℕ → Bool → Record
-own_within number name step dropped = records.Stream number name (record (Exp 2 1 1) { within = Some step }) dropped
-
-abbrev window_at : ℕ → ℕ → ℕ → Record
-window_at number t_first t_last =
-    records.Window number 1 (record { count = 2; sum = pos 10; min = pos 5; max = pos 5; t_first = t_first; t_last = t_last; filter = full })
-
--- 0 and 59 lie in one minute, 59 and 60 don't, and of a dropped stream nothing is asked
-within-one : is_run [] (own_within 0 a 60 false ∷ window_at 0 0 59 ∷ []) ≡ true
-unfolding Marks.lies_free
-within-one = refl
-
-within-two : is_run [] (own_within 0 a 60 false ∷ window_at 0 59 60 ∷ []) ≡ false
-unfolding Marks.lies_free
-within-two = refl
-
-within-longer : is_run [] (own_within 0 a 61 false ∷ window_at 0 59 60 ∷ []) ≡ true
-unfolding Marks.lies_free
-within-longer = refl
-
-within-dropped : is_run [] (own_within 0 a 60 true ∷ window_at 0 59 60 ∷ []) ≡ true
-within-dropped = refl
-
--- each stream has a step of its own, whatever the order of the records
-abbrev beside : List Record
-beside = own_within 0 a 60 false ∷ window_at 0 0 59 ∷ own_within 1 b 61 false ∷ window_at 1 59 60 ∷ []
-
-abbrev crossed : Bool → List Record
-crossed dropped = window_at 1 59 60 ∷ own_within 0 a 61 false ∷ own_within 1 b 60 dropped ∷ window_at 0 0 59 ∷ []
-
-sound-beside_steps : map (is_sound beside) (0 ∷ 1 ∷ []) ≡ true ∷ true ∷ []
-unfolding is_sound Marks.lies_free
-sound-beside_steps = refl
-
-sound-beside_steps_in_order : map (is_sound_in_order beside) (0 ∷ 1 ∷ []) ≡ true ∷ true ∷ []
-unfolding Marks.lies_free
-sound-beside_steps_in_order = refl
-
-sound-crossed : map (is_sound (crossed false)) (0 ∷ 1 ∷ []) ≡ true ∷ false ∷ []
-unfolding is_sound Marks.lies_free
-sound-crossed = refl
-
-sound-crossed_dropped : map (is_sound (crossed true)) (0 ∷ 1 ∷ []) ≡ true ∷ true ∷ []
-unfolding is_sound Marks.lies_free
-sound-crossed_dropped = refl
-
-sound-crossed_in_order : map (is_sound_in_order (crossed false)) (0 ∷ 1 ∷ []) ≡ true ∷ false ∷ []
-unfolding Marks.lies_free
-sound-crossed_in_order = refl

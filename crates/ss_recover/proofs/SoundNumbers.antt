@@ -4,8 +4,8 @@ use Rattle.ss_recover.proofs.Words.{carries, cases_Bool, cond, cond-true, cons_o
 use Rattle.ss_recover.proofs.Words.{filter, filter_map, has_sound_values, in_order, inl, inr, is_drop_of, is_dropped, is_mark_of, judged, keep_own_step}
 use Rattle.ss_recover.proofs.Words.{landmarks_made, lies_free, List, list_all, list_any, lowest_bad_stream, lowest_in, marks_carried, None, not, Option}
 use Rattle.ss_recover.proofs.Words.{option_map_or, or_cases, or_left, or_parts, or_right, place_of, Record, refl, Some, stands_by, stands_sound, Stream}
-use Rattle.ss_recover.proofs.Words.{stream_carried, stream_number, streams_created, sum_by-cons, sym, tile, times_rise, true, true≢false, Window, window_of}
-use Rattle.ss_recover.proofs.Words.{windows_carried, ℕ}
+use Rattle.ss_recover.proofs.Words.{stream_carried, stream_number, streams_created, streams_standing, sum_by-cons, sym, tile, times_rise, true, true≢false}
+use Rattle.ss_recover.proofs.Words.{Window, window_of, windows_carried, ℕ}
 use Rattle.ss_recover.specs.Conditions.{is_sound}
 use Rattle.ss_recover.proofs.SoundStreams.{digit, stands_alone}
 use Rattle.ss_codec.specs.declared.record.Record.TheVariants as records
@@ -163,6 +163,20 @@ some-counted {X} p (x ∷ xs) any =
     elim (or_cases (p x) (list_any p xs) any) [
       | inl here ↦ (let one : digit (p x) ≡ 1 = cond-true (p x) 1 0 here in omega (arith, sum, one))
       | inr there ↦ omega (arith, sum, some-counted p xs there)
+    ]
+
+-- where none is, none says that it stands
+pub none-stands : (n : ℕ) (rs : List Record) → count_by (is_numbered n) (streams_created rs) ≡ 0 → list_any (stands_at n) rs ≡ false
+none-stands n rs none =
+    false_from_ne_true (list_any (stands_at n) rs) (λ stands. absurd (omega (arith, none, counted n rs, some-counted (stands_at n) rs stands)))
+
+pub standing-any : (n : ℕ) (rs : List Record) → list_any (is_numbered n) (streams_standing rs) ≡ list_any (stands_at n) rs
+standing-any n [] = refl
+standing-any n (r ∷ rs) =
+    elim (stands_by r) as (λ o. list_any (is_numbered n) (cons_option o (streams_standing rs))
+    ≡ (option_map_or (is_numbered n) o false || list_any (stands_at n) rs)) [
+      | None ↦ standing-any n rs
+      | Some c ↦ ap (λ b. is_numbered n c || b) (standing-any n rs)
     ]
 
 -- where one is, and the stream was dropped, none says that it stands
