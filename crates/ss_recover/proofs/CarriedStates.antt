@@ -69,15 +69,13 @@ IsState-carried rs sound fine most =
     let same_used : (n : ℕ) → is_sound rs n ≡ is_sound us n = is_sound-made rs us (λ Y f free. sym (made-used f free rs)) in
     let same : (n : ℕ) → is_sound rs n ≡ is_sound_in_order qs n = λ n. same_used n ∙ is_sound-in_order us n in
     let each = numbers-used (λ n. is_sound rs n ≡ true) rs sound in
-    let all = all-in_order key_of (λ r. is_sound_in_order qs (stream_of r) ≡ true) us
-    (all_weaker (λ r. is_sound rs (stream_of r) ≡ true) (λ r. is_sound_in_order qs (stream_of r) ≡ true) (λ r is. sym (same (stream_of r)) ∙ is) us each) in
+    let all = all-in_order key_of (λ r. is_sound_in_order qs (stream_of r) ≡ true) us (all_weaker _ _ (λ r is. sym (same (stream_of r)) ∙ is) us each) in
     let found = walk (length qs) [] qs [] (omega arith) AreStanding-none (nothing-before qs) (all-in_order key_of IsUsable us (usable-used rs fine))
     (Rises-in_order key_of us) all in
     let ss = found.0 in
     let test : Record → Bool = stands_in qs in
     let walked : AreWalked (filter test qs) ss = found.1.walked in
-    let few : length (filter test qs) ≤ MOST_RECORDS =
-    omega (
+    let few : length (filter test qs) ≤ MOST_RECORDS = omega (
       arith,
       most,
       length_permutation us qs moved,
@@ -88,27 +86,23 @@ IsState-carried rs sound fine most =
     ) in
     let state = IsState-walked (filter test qs) ss walked few in
     let beside = filter (λ r. not (test r)) qs in
-    let gone_us = each-IsGone us
-    (all_weaker (λ r. is_sound rs (stream_of r) ≡ true) (λ r. is_sound us (stream_of r) ≡ true) (λ r is. sym (same_used (stream_of r)) ∙ is) us each) in
+    let gone_us = each-IsGone us (all_weaker _ _ (λ r is. sym (same_used (stream_of r)) ∙ is) us each) in
     let gone = all-in_order key_of (IsGone us) us gone_us in
     let fails : (r : Record) → not (test r) ≡ true → is_dropped (stream_of r) us ≡ true =
     λ r is. list_any-IsPermutation (is_drop_of (stream_of r)) us qs moved ∙ not-false (is_dropped (stream_of r) qs) (not-true (test r) is) in
-    let dropped : AllByRecursion (λ r. is_dropped (stream_of r) us ≡ true) beside =
-    all_weaker (λ r. not (test r) ≡ true) (λ r. is_dropped (stream_of r) us ≡ true) fails beside (all-passing (λ r. not (test r)) qs) in
+    let dropped : AllByRecursion (λ r. is_dropped (stream_of r) us ≡ true) beside = all_weaker _ _ fails beside (all-passing (λ r. not (test r)) qs) in
     let none : AllByRecursion (λ r. stands_by r ≡ None) beside =
-    all_both (IsGone us) (λ r. is_dropped (stream_of r) us ≡ true) (λ r. stands_by r ≡ None) (λ r silent is. silent is) beside
-    (all-kept (IsGone us) (λ r. not (test r)) qs gone) dropped in
+    all_both _ _ _ (λ r silent is. silent is) beside (all-kept _ (λ r. not (test r)) qs gone) dropped in
     let stays : (r : Record) → test r ≡ true → is_dropped (stream_of r) us ≡ false =
     λ r is. list_any-IsPermutation (is_drop_of (stream_of r)) us qs moved ∙ not-true (is_dropped (stream_of r) qs) is in
     let kept_all : AllByRecursion (λ r. is_dropped (stream_of r) us ≡ false) (all_walked ss) =
-    subst (AllByRecursion (λ r. is_dropped (stream_of r) us ≡ false)) walked.order
-    (all_weaker (λ r. test r ≡ true) (λ r. is_dropped (stream_of r) us ≡ false) stays (filter test qs) (all-passing test qs)) in
+    subst (AllByRecursion (λ r. is_dropped (stream_of r) us ≡ false)) walked.order (all_weaker _ _ stays (filter test qs) (all-passing test qs)) in
     let made : (Y : Type 0) (f : Record → Option Y) → f Free ≡ None → filter_map f beside ≡ [] →
     IsPermutation (filter_map f (all_walked ss)) (filter_map f rs) =
     λ Y f free nothing.
     subst (λ l. IsPermutation (filter_map f (all_walked ss)) l) (made-used f free rs)
     (subst (λ l. IsPermutation l (filter_map f us)) (sym (made-rest f test qs nothing) ∙ ap (filter_map f) walked.order)
-    (IsPermutation-sym (filter_map f us) (filter_map f qs) (IsPermutation-filter_map f us qs moved))) in
+    (IsPermutation-sym _ _ (IsPermutation-filter_map f us qs moved))) in
     subst IsState (sym (streams_are ss rs state (HaveThose-made beside ss rs state made none
     (apart-dropped us beside ss dropped (each-all_walked (λ n. is_dropped n us ≡ false) ss kept_all))))) state
 

@@ -24,7 +24,7 @@ IsGone us r = is_dropped (stream_of r) us ≡ true → stands_by r ≡ None
 
 pub each-IsGone : (us : List Record) → AllByRecursion (IsSoundOf us) us → AllByRecursion (IsGone us) us
 each-IsGone us sound =
-    all_both (IsSoundOf us) (λ r. (p : Record → Bool) → list_any p us ≡ false → p r ≡ false) (IsGone us) go us sound (each-false us)
+    all_both _ _ _ go us sound (each-false us)
   where
     go : (r : Record) → IsSoundOf us r → ((p : Record → Bool) → list_any p us ≡ false → p r ≡ false) → IsGone us r
     go records.Free fine none gone = refl
@@ -40,15 +40,15 @@ pub standing-kept : (us : List Record) (ss : List Stream) → AllByRecursion (Is
 standing-kept us [] each = tt
 standing-kept us (s ∷ ss) each = (
   false_from_ne_true (is_dropped s.number us) (λ gone. let none = each.0 gone in absurd (cc)),
-  standing-kept us ss (all_behind (IsGone us) (walked s) (all_walked ss) each),
+  standing-kept us ss (all_behind _ (walked s) (all_walked ss) each),
 )
 
 -- records of dropped streams are none of those
 pub apart-dropped : (us ds : List Record) (ss : List Stream) → AllByRecursion (λ r. is_dropped (stream_of r) us ≡ true) ds →
     AllByRecursion (λ s. is_dropped s.number us ≡ false) ss → AllByRecursion (λ s. AllByRecursion (IsNoneOf s.number) ds) ss
 apart-dropped us ds ss dropped kept =
-    all_weaker (λ s. is_dropped s.number us ≡ false) (λ s. AllByRecursion (IsNoneOf s.number) ds) (λ s stands.
-    all_weaker (λ r. is_dropped (stream_of r) us ≡ true) (IsNoneOf s.number)
+    all_weaker _ _ (λ s stands.
+    all_weaker _ _
     (λ r gone. IsNoneOf-apart s.number r (ne_eqb (stream_of r) s.number (λ same. absurd (true≢false (sym gone ∙ ap (λ n. is_dropped n us) same ∙ stands)))))
     ds dropped) ss kept
 
@@ -60,10 +60,10 @@ own_or_not own r = cond own (is_own r) (not (is_own r))
 
 -- a doomed record is a stream's own or not, and of a dropped stream
 pub own-doomed : (us : List Record) (r : Record) → is_doomed true us r ≡ true → is_own r ≡ true
-own-doomed us r doomed = (and_parts (is_own r) (option_map_or (λ n. is_dropped n us) (stream_number r) false) doomed).0
+own-doomed us r doomed = (and_parts _ _ doomed).0
 
 pub dropped-doomed : (own : Bool) (us : List Record) (r : Record) → is_doomed own us r ≡ true → is_dropped (stream_of r) us ≡ true
-dropped-doomed own us r doomed = go r (and_parts (own_or_not own r) (option_map_or (λ n. is_dropped n us) (stream_number r) false) doomed).1
+dropped-doomed own us r doomed = go r (and_parts _ _ doomed).1
   where
     go : (r : Record) → option_map_or (λ n. is_dropped n us) (stream_number r) false ≡ true → is_dropped (stream_of r) us ≡ true
     go records.Free gone = absurd (true≢false (sym gone))

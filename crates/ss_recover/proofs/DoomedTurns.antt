@@ -27,8 +27,8 @@ none-of n (records.Stream id name params dropped ∷ rs) own none =
     let c : Created = record { number = id; name = name; params = params } in
     let sum = numbered-cons n (Some c) (streams_created rs) in
     elim (cases_Bool (id == n)) [
-      | inl same ↦ (let one : digit (id == n) ≡ 1 = cond-true (id == n) 1 0 same in absurd (omega (arith, sum, one, none)))
-      | inr other ↦ or_from (id == n) (list_any (is_of n) rs) other (none-of n rs own.1 (omega (arith, sum, none)))
+      | inl same ↦ (let one : digit (id == n) ≡ 1 = cond-true _ _ _ same in absurd (omega (arith, sum, one, none)))
+      | inr other ↦ or_from _ _ other (none-of n rs own.1 (omega (arith, sum, none)))
     ]
 none-of n (_ ∷ rs) own none = absurd (true≢false (sym own.0))
 
@@ -67,13 +67,12 @@ heads-go [] others last few = tt
 heads-go (f ∷ fs) others last few = (
   goes f.holds last.0.own last.0.gone last.0.apart few.0,
   heads-go fs others last.1
-      (all_weaker (λ (g : Found). count (stream_of g.holds) (f.holds ∷ without_slots fs) ≤ 1)
-      (λ (g : Found). count (stream_of g.holds) (without_slots fs) ≤ 1) (λ g le. count-less (stream_of g.holds) f.holds (without_slots fs) le) fs few.1),
+      (all_weaker _ _ (λ g le. count-less (stream_of g.holds) f.holds (without_slots fs) le) fs few.1),
 )
   where
     owns : AllByRecursion (λ r. is_own r ≡ true) (without_slots fs)
-    owns = map-all (λ r. is_own r ≡ true) (λ (g : Found). g.holds) fs
-        (all_weaker (GoesLast (records_beside others)) (λ (g : Found). is_own g.holds ≡ true) (λ g is. is.own) fs last.1)
+    owns = map-all _ (λ (g : Found). g.holds) fs
+        (all_weaker _ _ (λ g is. is.own) fs last.1)
 
     goes : (r : Record) → is_own r ≡ true → stands_by r ≡ None → IsNoneAmong (records_beside others) r → count (stream_of r) (r ∷ without_slots fs) ≤ 1 →
         may_go r (records_beside (map in_slot fs ++ others)) ≡ true
@@ -81,11 +80,11 @@ heads-go (f ∷ fs) others last few = (
     goes (records.Stream id name params false) own gone apart few = absurd (cc)
     goes (records.Stream id name params true) own gone apart few =
         let c : Created = record { number = id; name = name; params = params } in
-        let one : digit (id == id) ≡ 1 = cond-true (id == id) 1 0 (eq-eqb id id refl) in
+        let one : digit (id == id) ≡ 1 = cond-true _ _ _ (eq-eqb id id refl) in
         let none : count id (without_slots fs) ≡ 0 = omega (arith, one, few, numbered-cons id (Some c) (streams_created (without_slots fs))) in
         not_from_false (list_any (is_of id) (records_beside (map in_slot fs ++ others)))
         (ap (list_any (is_of id)) (beside-parts fs others) ∙ list_any-append (is_of id) (without_slots fs) (records_beside others)
-        ∙ or_from (list_any (is_of id) (without_slots fs)) (list_any (is_of id) (records_beside others)) (none-of id (without_slots fs) owns none) apart)
+        ∙ or_from _ _ (none-of id (without_slots fs) owns none) apart)
     goes _ own gone apart few = absurd (true≢false (sym own))
 
 -- those of windows, landmarks and values go before them
@@ -99,10 +98,9 @@ others-go us (f ∷ fs) heads others doomed kept last =
     gone : (n : ℕ) → is_dropped n us ≡ true → is_dropped n (records_beside (map in_slot (fs ++ heads) ++ others)) ≡ true
     gone n is =
         let test = is_drop_of n in
-        ap (list_any test) (beside-parts (fs ++ heads) others) ∙ list_any-append test (without_slots (fs ++ heads)) (records_beside others)
-        ∙ or_left (list_any test (without_slots (fs ++ heads))) (list_any test (records_beside others))
+        ap (list_any test) (beside-parts (fs ++ heads) others) ∙ list_any-append test (without_slots (fs ++ heads)) (records_beside others) ∙ or_left _ _
         (ap (list_any test) (map-append (λ (g : Found). g.holds) fs heads) ∙ list_any-append test (without_slots fs) (without_slots heads)
-        ∙ or_right (list_any test (without_slots fs)) (list_any test (without_slots heads)) (kept n is))
+        ∙ or_right _ _ (kept n is))
 
     goes : (r : Record) → is_doomed false us r ≡ true → may_go r (records_beside (map in_slot (fs ++ heads) ++ others)) ≡ true
     goes records.Free doomed = absurd (true≢false (sym doomed))
@@ -113,12 +111,12 @@ others-go us (f ∷ fs) heads others doomed kept last =
 any-kept : {X : Type 0} (p q : X → Bool) → ((x : X) → p x ≡ true → q x ≡ true) → (xs : List X) → list_any p xs ≡ true → list_any p (filter q xs) ≡ true
 any-kept p q both [] any = any
 any-kept p q both (x ∷ xs) any =
-    elim (or_cases (p x) (list_any p xs) any) [
-      | inl here ↦ rw (both x here) (or_left (p x) (list_any p (filter q xs)) here)
+    elim (or_cases _ _ any) [
+      | inl here ↦ rw (both x here) (or_left _ _ here)
       | inr there ↦
           (let rest = any-kept p q both xs there in
           elim (cases_Bool (q x)) [
-            | inl passes ↦ rw passes (or_right (p x) (list_any p (filter q xs)) rest)
+            | inl passes ↦ rw passes (or_right _ _ rest)
             | inr fails ↦ rw fails rest
           ])
     ]
@@ -127,7 +125,7 @@ any-kept p q both (x ∷ xs) any =
 drops-doomed : (us : List Record) (n : ℕ) → is_dropped n us ≡ true → (r : Record) → is_drop_of n r ≡ true → is_doomed true us r ≡ true
 drops-doomed us n gone records.Free is = absurd (true≢false (sym is))
 drops-doomed us n gone (records.Stream id name params dropped) is =
-    let parts = and_parts dropped (id == n) is in
+    let parts = and_parts _ _ is in
     subst (λ m. is_dropped m us ≡ true) (sym (eqb-true id n parts.1)) gone
 drops-doomed us n gone _ is = absurd (true≢false (sym is))
 
@@ -144,13 +142,10 @@ doomed-go all others sound gone apart =
     (all-from_map (IsSoundOf us) (λ (f : Found). f.holds) all sound) in
     let gone_heads = all-kept (λ (f : Found). IsGone us f.holds) (λ (f : Found). is_doomed true us f.holds) all
     (all-from_map (IsGone us) (λ (f : Found). f.holds) all gone) in
-    let last : AllByRecursion (GoesLast (records_beside others)) heads =
-    all_both (λ (f : Found). is_doomed true us f.holds ≡ true) (λ (f : Found). IsGone us f.holds) (GoesLast (records_beside others)) (λ f is silent.
+    let last : AllByRecursion (GoesLast (records_beside others)) heads = all_both _ _ _ (λ f is silent.
     let dropped = dropped-doomed true us f.holds is in
     record { own = own-doomed us f.holds is; gone = silent dropped; apart = apart (stream_of f.holds) dropped }) heads doomed gone_heads in
-    let few : AllByRecursion (λ (f : Found). count (stream_of f.holds) (without_slots heads) ≤ 1) heads =
-    all_both (λ (f : Found). is_doomed true us f.holds ≡ true) (λ (f : Found). IsSoundOf us f.holds)
-    (λ (f : Found). count (stream_of f.holds) (without_slots heads) ≤ 1) (λ f is fine.
+    let few : AllByRecursion (λ (f : Found). count (stream_of f.holds) (without_slots heads) ≤ 1) heads = all_both _ _ _ (λ f is fine.
     let one = one-sound us (stream_of f.holds) fine in
     let kept = count-kept (stream_of f.holds) (is_doomed true us) us in
     let same : count (stream_of f.holds) (without_slots heads) ≡ count (stream_of f.holds) (filter (is_doomed true us) us) =
@@ -176,14 +171,13 @@ Rise-map key (x ∷ xs) rise = (all-from_map (λ k. key x < k) key xs rise.0, Ri
 
 map-Rise : {X : Type 0} (key : X → ℕ) (xs : List X) → Rise key xs → Rise (λ (s : ℕ). s) (map key xs)
 map-Rise key [] rise = tt
-map-Rise key (x ∷ xs) rise = (map-all (λ k. key x < k) key xs rise.0, map-Rise key xs rise.1)
+map-Rise key (x ∷ xs) rise = (map-all _ key xs rise.0, map-Rise key xs rise.1)
 
 -- the slots of what is found rise
 pub Rise-found : (all : List Found) (found : SlotMap) → map in_slot all ≡ occupied found → Rise (λ (f : Found). f.slot) all
 Rise-found all found is =
     let live = filter (λ slot. not (are_zeros (found.bytes slot))) (range_with_len 0 found.extent) in
-    let same : slots_found all ≡ live =
-    sym (first-in_slot all) ∙ ap (map (λ (e : ℕ × Option Record). e.0)) is
+    let same : slots_found all ≡ live = sym (first-in_slot all) ∙ ap (map (λ (e : ℕ × Option Record). e.0)) is
     ∙ map-map (λ (e : ℕ × Option Record). e.0) (λ slot. (slot, decoded (found.bytes slot))) live ∙ map-id live in
     Rise-map (λ (f : Found). f.slot) all (subst (Rise (λ (s : ℕ). s)) (sym same)
     (Rise-filter (λ (s : ℕ). s) (λ slot. not (are_zeros (found.bytes slot))) (range_with_len 0 found.extent) (Rise-range 0 found.extent)))
@@ -194,8 +188,8 @@ pub slots-in_order : (own : Bool) (slots : List ℕ) (all sorted : List Found) �
 slots-in_order own slots all sorted are moved rise =
     let here = doomed_found own all in
     let there = doomed_found own sorted in
-    Rises-IsPermutation (λ (s : ℕ). s) slots (slots_found here) are.rising (IsPermutation-trans (slots_found here) (slots_found there) slots
-    (IsPermutation-map (λ (f : Found). f.slot) here there (doomed_found-moved own all sorted moved)) (IsPermutation-sym slots (slots_found there) are.are))
+    Rises-IsPermutation (λ (s : ℕ). s) slots (slots_found here) are.rising (IsPermutation-trans _ _ _
+    (IsPermutation-map (λ (f : Found). f.slot) here there (doomed_found-moved own all sorted moved)) (IsPermutation-sym _ _ are.are))
     (map-Rise (λ (f : Found). f.slot) here (Rise-filter (λ (f : Found). f.slot) (λ (f : Found). is_doomed own (without_slots all) f.holds) all rise))
 
 -- and are those that a map has

@@ -75,17 +75,13 @@ module _ (found : SlotMap) (put : Put) (r q : Record) (below : put.slot < found.
   spelled-before = spells-at found.bytes put.slot found.extent r below was
 
   leaves : (slots : List ℕ) → AllByRecursion (λ slot. nat_eq slot put.slot ≡ false) slots → spells (with_put put found.bytes) slots ≡ spells found.bytes slots
-  leaves slots others =
-      spells-same (with_put put found.bytes) found.bytes slots
-      (all_weaker (λ slot. nat_eq slot put.slot ≡ false) (λ slot. with_put put found.bytes slot ≡ found.bytes slot)
-      (λ slot other. cond-false (nat_eq slot put.slot) put.bytes (found.bytes slot) other) slots others)
+  leaves slots others = spells-same (with_put put found.bytes) found.bytes slots (all_weaker _ _ (λ slot other. cond-false _ _ _ other) slots others)
 
   spelled-after : spelled (changed found (put ∷ [])) ≡ xs ++ Some q ∷ ys
   unfolding spelled
   spelled-after =
       let same : nat_eq put.slot put.slot ≡ true = grind (arith, nat_tests) in
-      let here : decoded (with_put put found.bytes put.slot) ≡ Some q =
-      ap decoded (cond-true (nat_eq put.slot put.slot) put.bytes (found.bytes put.slot) same) ∙ is in
+      let here : decoded (with_put put found.bytes put.slot) ≡ Some q = ap decoded (cond-true _ _ _ same) ∙ is in
       ap (λ n. spells (with_put put found.bytes) (range_with_len 0 n)) (extent-stays put found below)
       ∙ spells-at (with_put put found.bytes) put.slot found.extent q below here
       ∙ ap₂ (λ (a b : List (Option Record)). a ++ Some q ∷ b) (leaves (front put.slot) (range-below put.slot 0 put.slot (omega arith)))
@@ -98,8 +94,7 @@ module _ (found : SlotMap) (put : Put) (r q : Record) (below : put.slot < found.
   unfolding carried
   carried-put F streams step carries_them =
       let first : records_in (spelled found) ≡ records_in xs ++ r ∷ records_in ys = ap records_in spelled-before ∙ records_in-at xs ys r in
-      let second : records_in (spelled (changed found (put ∷ []))) ≡ records_in xs ++ q ∷ records_in ys =
-      ap records_in spelled-after ∙ records_in-at xs ys q in
+      let second : records_in (spelled (changed found (put ∷ []))) ≡ records_in xs ++ q ∷ records_in ys = ap records_in spelled-after ∙ records_in-at xs ys q in
       let parts = carries-judged (lowest_bad_slot (spelled found)) (lowest_bad_stream (records_in (spelled found)))
       (streams_carried (records_in (spelled found))) streams carries_them in
       let them = step (subst (λ l. AreSound l (filter_map stream_number l)) first (AreSound-none_bad (records_in (spelled found)) parts.1)) in
@@ -135,7 +130,7 @@ module _ (found : SlotMap) (p : ℕ) (r : Record) (others : List (ℕ × Option 
       (IsPermutation-filter_map (λ (e : ℕ × Option Record). e.1) others (first ++ second) among.others)
       ∙ ap (list_any test) (filter_map-append (λ (e : ℕ × Option Record). e.1) first second)
       ∙ list_any-append test (records_beside first) (records_beside second) ∙ ap₂ (λ (a b : Bool). a || b)
-      (any-filled test free found.bytes (front p) (all_front (ZerosAreFree found.bytes) (front p) (p ∷ back p found.extent) free_all))
+      (any-filled test free found.bytes (front p) (all_front _ (front p) (p ∷ back p found.extent) free_all))
       (any-filled test free found.bytes (back p found.extent) free_back.1) ∙ sym (list_any-append test below_it above_it)
 
 decoded-cleared : (put : Put) → put.bytes ≡ zeros → decoded put.bytes ≡ Some records.Free

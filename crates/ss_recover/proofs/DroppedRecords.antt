@@ -29,8 +29,8 @@ list_any-without p xs ys q fails = list_any-append p xs (q ∷ ys) ∙ ap (λ b.
 
 list_any-fewer : {X : Type 0} (p : X → Bool) (xs ys : List X) (q : X) → list_any p (xs ++ q ∷ ys) ≡ false → list_any p (xs ++ ys) ≡ false
 list_any-fewer p xs ys q none =
-    let both = or_parts (list_any p xs) (p q || list_any p ys) (sym (list_any-append p xs (q ∷ ys)) ∙ none) in
-    let rest = or_parts (p q) (list_any p ys) both.1 in
+    let both = or_parts _ _ (sym (list_any-append p xs (q ∷ ys)) ∙ none) in
+    let rest = or_parts _ _ both.1 in
     list_any-append p xs ys ∙ or_from (list_any p xs) (list_any p ys) both.0 rest.1
 
 -- A record is no window and no landmark of a number, and no value of one.
@@ -118,12 +118,11 @@ module _ (xs ys : List Record) (r : Record) (id : ℕ) (is : IsOther id r) (gone
       all-false (is_numbered id) (streams_standing rs) (standing-any id rs ∙ none) in
       let ordered = in_order (λ (c : Created). c.number) (streams_standing rs) in
       let same : AllByRecursion (λ (c : Created). HaveSameValues c.number rs us) ordered =
-      all_weaker (λ (c : Created). (c.number == id) ≡ false) (λ (c : Created). HaveSameValues c.number rs us)
-      (λ c other. same-other c.number (eq-swap id c.number other)) ordered
+      all_weaker _ _ (λ c other. same-other c.number (eq-swap id c.number other)) ordered
       (all-in_order (λ (c : Created). c.number) (λ c. (c.number == id) ≡ false) (streams_standing rs) apart) in
       record {
         sound = none_bad-AreSound us
-            (all_weaker (λ n. is_sound rs n ≡ true) (λ n. is_sound us n ≡ true) each (filter_map stream_number us) parts.1);
+            (all_weaker _ _ each (filter_map stream_number us) parts.1);
         same = ap (λ cs. map (stream_carried us) (in_order (λ (c : Created). c.number) cs)) (sym standing) ∙ streams-same rs us ordered same;
       }
     where
@@ -137,8 +136,8 @@ module _ (xs ys : List Record) (r : Record) (id : ℕ) (is : IsOther id r) (gone
 alone-fewer : (n : ℕ) (cs ds : List Created) (c : Created) → (c.number == n) ≡ false → stands_alone n (cs ++ c ∷ ds) ≡ true →
     stands_alone n (cs ++ ds) ≡ true
 alone-fewer n cs ds c other alone =
-    let parts = and_parts (has_one_record n (cs ++ c ∷ ds) && has_place n (cs ++ c ∷ ds)) (has_new_name n (cs ++ c ∷ ds)) alone in
-    let first = and_parts (has_one_record n (cs ++ c ∷ ds)) (has_place n (cs ++ c ∷ ds)) parts.0 in
+    let parts = and_parts _ _ alone in
+    let first = and_parts _ _ parts.0 in
     and_from _ _ (and_from _ _ (one first.0) (place first.1)) (new parts.1)
   where
     one : has_one_record n (cs ++ c ∷ ds) ≡ true → has_one_record n (cs ++ ds) ≡ true
@@ -162,11 +161,10 @@ alone-fewer n cs ds c other alone =
         let taken : Created → Bool = λ d. d.number == n && is_named_before all d in
         let taken_now : Created → Bool = λ d. d.number == n && is_named_before (cs ++ ds) d in
         let none = list_any-fewer taken cs ds c (not-true (list_any taken all) is) in
-        ap not (none-passes taken_now (cs ++ ds) (all_weaker (λ d. taken d ≡ false) (λ d. taken_now d ≡ false) (λ d fails. still d fails) (cs ++ ds)
-        (all-false taken (cs ++ ds) none)))
+        ap not (none-passes taken_now (cs ++ ds) (all_weaker _ _ (λ d fails. still d fails) (cs ++ ds) (all-false taken (cs ++ ds) none)))
       where
         still : (d : Created) → (d.number == n && is_named_before (cs ++ c ∷ ds) d) ≡ false → (d.number == n && is_named_before (cs ++ ds) d) ≡ false
-        still d fails = elim (and_cases (d.number == n) (is_named_before (cs ++ c ∷ ds) d) fails) [
+        still d fails = elim (and_cases _ _ fails) [
           | inl apart ↦ and_left (d.number == n) (is_named_before (cs ++ ds) d) apart
           | inr free ↦ and_right (d.number == n) (is_named_before (cs ++ ds) d) (list_any-fewer _ cs ds c free)
         ]
@@ -193,7 +191,7 @@ module _ (xs ys : List Record) (id : ℕ) (name : List ℕ) (params : Params) (n
     where
       go : (qs : List Record) → list_any (is_of id) qs ≡ false → AllByRecursion (λ n. (n == id) ≡ false) (filter_map stream_number qs)
       go [] fails = tt
-      go (q ∷ qs) fails = let parts = or_parts (is_of id q) (list_any (is_of id) qs) fails in each (stream_number q) parts.0 (go qs parts.1)
+      go (q ∷ qs) fails = let parts = or_parts _ _ fails in each (stream_number q) parts.0 (go qs parts.1)
         where
           each : (o : Option ℕ) → option_map_or (λ n. n == id) o false ≡ false → AllByRecursion (λ n. (n == id) ≡ false) (filter_map stream_number qs) →
               AllByRecursion (λ n. (n == id) ≡ false) (cons_option o (filter_map stream_number qs))
@@ -208,8 +206,7 @@ module _ (xs ys : List Record) (id : ℕ) (name : List ℕ) (params : Params) (n
       let fewer : streams_created freed ≡ streams_created xs ++ streams_created ys = filter_map-append created_by xs (records.Free ∷ ys) in
       let dropped : (n : ℕ) → (id == n) ≡ false → is_dropped n held ≡ is_dropped n freed =
       λ n other. list_any-changed (is_drop_of n) xs ys own records.Free other in
-      let each : (n : ℕ) → (n == id) ≡ false → is_sound held n ≡ true → is_sound freed n ≡ true =
-      λ n apart.
+      let each : (n : ℕ) → (n == id) ≡ false → is_sound held n ≡ true → is_sound freed n ≡ true = λ n apart.
       let other = eq-swap id n apart in
       is_sound-kept held freed n
       (λ a. ap (stands_alone n) fewer ∙ alone-fewer n (streams_created xs) (streams_created ys) head other (sym (ap (stands_alone n) created) ∙ a)) (λ ws k.
@@ -219,7 +216,7 @@ module _ (xs ys : List Record) (id : ℕ) (name : List ℕ) (params : Params) (n
       let ordered = in_order (λ (c : Created). c.number) (streams_standing held) in
       record {
         sound = none_bad-AreSound freed
-            (all_both (λ n. (n == id) ≡ false) (λ n. is_sound held n ≡ true) (λ n. is_sound freed n ≡ true) each (filter_map stream_number freed)
+            (all_both _ _ _ each (filter_map stream_number freed)
             others parts.1);
         same =
             ap (λ cs. map (stream_carried freed) (in_order (λ (c : Created). c.number) cs)) (sym standing)

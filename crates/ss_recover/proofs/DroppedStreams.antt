@@ -17,7 +17,7 @@ use Rattle.ss_codec.specs.declared.record.Record.TheVariants as records
 list_any-also : {X : Type 0} (p : X → Bool) (xs ys : List X) (r q : X) → p r ≡ false → list_any p (xs ++ r ∷ ys) ≡ true → list_any p (xs ++ q ∷ ys) ≡ true
 list_any-also p xs ys r q fails any =
     let either = sym (list_any-append p xs ys) ∙ (sym (list_any-without p xs ys r fails) ∙ any) in
-    list_any-append p xs (q ∷ ys) ∙ (elim (or_cases (list_any p xs) (list_any p ys) either) [
+    list_any-append p xs (q ∷ ys) ∙ (elim (or_cases _ _ either) [
       | inl front ↦ or_left (list_any p xs) (p q || list_any p ys) front
       | inr back ↦ or_right (list_any p xs) (p q || list_any p ys) (or_right (p q) (list_any p ys) back)
     ])
@@ -30,8 +30,7 @@ is_unlike n c = not (c.number == n)
 standing-unlike : (n : ℕ) (rs : List Record) → count_by (is_numbered n) (streams_created rs) ≡ 0 →
     filter (is_unlike n) (streams_standing rs) ≡ streams_standing rs
 standing-unlike n rs none =
-    filter-all (is_unlike n) (streams_standing rs)
-    (all_weaker (λ (c : Created). is_numbered n c ≡ false) (λ c. is_unlike n c ≡ true) (λ c other. ap not other) (streams_standing rs)
+    filter-all (is_unlike n) (streams_standing rs) (all_weaker _ _ (λ c other. ap not other) (streams_standing rs)
     (all-false (is_numbered n) (streams_standing rs) (standing-any n rs ∙ none-stands n rs none)))
 
 module _ (ys : List Record) (s : Created) where
@@ -57,8 +56,7 @@ module _ (ys : List Record) (s : Created) where
       ∙ ap (λ (k : ℕ). count xs + k) (sum_by-cons at t (streams_created ys) ∙ ap (λ b. digit b + count ys) own) in
       let front = standing-unlike n xs (omega (arith, one, more)) in
       let back : filter (is_unlike n) (t ∷ streams_standing ys) ≡ streams_standing ys = rw own (standing-unlike n ys (omega (arith, one, more))) in
-      filter_map-append stands_by xs (fell ∷ ys)
-      ∙ sym (ap (filter (is_unlike n)) (filter_map-append stands_by xs (stood ∷ ys))
+      filter_map-append stands_by xs (fell ∷ ys) ∙ sym (ap (filter (is_unlike n)) (filter_map-append stands_by xs (stood ∷ ys))
       ∙ filter-append (is_unlike n) (streams_standing xs) (t ∷ streams_standing ys) ∙ (λ i. front i ++ back i))
 
 -- what passes a test in order is in order
@@ -99,8 +97,7 @@ module _ (xs ys : List Record) (s : Created) where
       let ordered = in_order (λ (c : Created). c.number) (streams_standing before) in
       record {
         sound = none_bad-AreSound after
-            (subst (AllByRecursion (λ n. is_sound after n ≡ true)) numbers
-            (all_weaker (λ n. is_sound before n ≡ true) (λ n. is_sound after n ≡ true) each (filter_map stream_number before) sound));
+            (subst (AllByRecursion (λ n. is_sound after n ≡ true)) numbers (all_weaker _ _ each (filter_map stream_number before) sound));
         same =
             ap (λ cs. map (stream_carried after) (in_order (λ (c : Created). c.number) cs)) (standing-dropped ys s xs (one-sound before s.number parts.0))
             ∙ ap (map (stream_carried after)) (kept-in_order (is_unlike s.number) (streams_standing before))

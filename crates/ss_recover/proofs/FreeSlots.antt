@@ -1,5 +1,5 @@
 -- Slots of zeros are free: they give nothing to what is made of the records of a map.
-use Rattle.ss_recover.proofs.Words.{[], ◌<◌, ◌||◌, ◌∙◌, ◌∷◌, ◌≡◌, AllByRecursion, ap, are_zeros, arith, Bool, cases_Bool, cond-false, cons_option}
+use Rattle.ss_recover.proofs.Words.{[], ◌||◌, ◌∙◌, ◌∷◌, ◌≡◌, AllByRecursion, ap, are_zeros, arith, Bool, cases_Bool, cond-false, cons_option}
 use Rattle.ss_recover.proofs.Words.{decoded-spelling, false, filter_map, Free, HasWholeSlots, inl, inr, is_none, is_valid-free, length, List, list_any, map}
 use Rattle.ss_recover.proofs.Words.{None, Option, range_with_len, Record, records_beside, records_in, refl, replicate, replicate-are_zeros, SlotMap, Some}
 use Rattle.ss_recover.proofs.Words.{spelling-free, sym, true, ℕ}
@@ -17,8 +17,7 @@ decoded-free bytes whole zeros =
 
 pub zeros_are_free : (found : SlotMap) → HasWholeSlots found → AllByRecursion (ZerosAreFree found.bytes) (range_with_len 0 found.extent)
 zeros_are_free found whole =
-    all_weaker (λ slot. slot < found.extent) (ZerosAreFree found.bytes)
-    (λ slot below zeros. let few = whole.few in decoded-free (found.bytes slot) (whole.whole slot (omega arith)) zeros)
+    all_weaker _ _ (λ slot below zeros. let few = whole.few in decoded-free (found.bytes slot) (whole.whole slot (omega arith)) zeros)
     (range_with_len 0 found.extent) (range-within 0 found.extent found.extent (omega arith))
 
 -- free slots give nothing to what is made of records

@@ -4,7 +4,7 @@ use Rattle.ss_recover.proofs.Words.{AreBelow, AreFoundBelow, AreGathered, AreLiv
 use Rattle.ss_recover.proofs.Words.{cond-false, cond-true, count_by-le-length, Disk, eq-eqb, Err, false, false_from_ne_true, filter, filter-append, Found, Free}
 use Rattle.ss_recover.proofs.Words.{Gathered, get_or, get_or-map-range_with_len, in_slot, inl, inr, is_live, is_live-below, is_live-set, is_none, IsKept}
 use Rattle.ss_recover.proofs.Words.{IsLowestBad, IsSealed, IsUsable, JournalState, length, length-filter, length-map, length-map-range_with_len}
-use Rattle.ss_recover.proofs.Words.{length-range_with_len, length-set, List, lowest_bad_slot, lt-ltb, map, map-append, nat_eq, ne_eqb, None, not, Option}
+use Rattle.ss_recover.proofs.Words.{length-range_with_len, length-set, List, lowest_bad_slot, lt-ltb, map, map-append, ne_eqb, None, not, Option}
 use Rattle.ss_recover.proofs.Words.{OutOfMemory, position_or_len, position_or_len_is, range_with_len, Record, RecoverError, refl, replicate, SameMap-refl, set}
 use Rattle.ss_recover.proofs.Words.{shown, SlotMap, Some, spelling-free, Spells-decoded, SpellsNone, StandsFor, StandsFor-from, StandsFor-same, subst, suc, sym}
 use Rattle.ss_recover.proofs.Words.{true, true≢false, verdict_of_rebuild, zero, ℕ}
@@ -65,7 +65,7 @@ length-gathered slot read are =
 pub AreGathered-free : (slot : ℕ) (read : Gathered) → AreGathered slot read → AreGathered (slot + 1) read
 AreGathered-free slot read are = record {
   usable = are.usable;
-  slots = are.slots ∙ sym (cond-false (is_live read.live slot) _ _ (not_live slot read.live are.bounded))
+  slots = are.slots ∙ sym (cond-false _ _ _ (not_live slot read.live are.bounded))
       ∙ slots-more read.live (filter (is_live read.live) (range_with_len 0 slot)) slot refl;
   bounded = record { slots = are.bounded.slots; below = λ k is. let lt = are.bounded.below k is in omega (arith, lt) };
 }
@@ -89,20 +89,18 @@ AreFoundBelow-free slot read found gathered whole zeros before = record {
 -- a slot that is live now, and those before it
 module _ (live : List Bool) (slot : ℕ) (lt : slot < length live) where
   is_live-now : is_live (set live slot true) slot ≡ true
-  is_live-now = is_live-set live slot slot true lt ∙ cond-true (nat_eq slot slot) _ _ (eq-eqb slot slot refl)
+  is_live-now = is_live-set live slot slot true lt ∙ cond-true _ _ _ (eq-eqb slot slot refl)
 
   is_live-other : (k : ℕ) → k ≢ slot → is_live (set live slot true) k ≡ is_live live k
-  is_live-other k other = is_live-set live slot k true lt ∙ cond-false (nat_eq k slot) _ _ (ne_eqb k slot other)
+  is_live-other k other = is_live-set live slot k true lt ∙ cond-false _ _ _ (ne_eqb k slot other)
 
   is_live-before : (k : ℕ) → k < slot → is_live (set live slot true) k ≡ is_live live k
   is_live-before k less = is_live-other k (λ same. omega (arith, less, same))
 
   slots-now : filter (is_live (set live slot true)) (range_with_len 0 (slot + 1)) ≡ filter (is_live live) (range_with_len 0 slot) ++ slot ∷ []
   slots-now =
-      sym (slots-more (set live slot true) (filter (is_live (set live slot true)) (range_with_len 0 slot)) slot refl)
-      ∙ cond-true (is_live (set live slot true) slot) _ _ is_live-now
-      ∙ ap (λ (l : List ℕ). l ++ slot ∷ []) (filter-same (is_live (set live slot true)) (is_live live) (range_with_len 0 slot)
-      (all_weaker (λ k. k < slot) (λ k. is_live (set live slot true) k ≡ is_live live k) is_live-before
+      sym (slots-more (set live slot true) (filter (is_live (set live slot true)) (range_with_len 0 slot)) slot refl) ∙ cond-true _ _ _ is_live-now
+      ∙ ap (λ (l : List ℕ). l ++ slot ∷ []) (filter-same (is_live (set live slot true)) (is_live live) (range_with_len 0 slot) (all_weaker _ _ is_live-before
       (range_with_len 0 slot) (range-within 0 slot slot (omega arith))))
 
 -- a live slot is read
@@ -200,8 +198,7 @@ slots-gathered slot read are = are.slots ∙ elim (cases_lt (length read.live) s
     none : (live : List Bool) (n a k : ℕ) → n ≤ a → ((k : ℕ) → is_live live k ≡ true → k < n) → filter (is_live live) (range_with_len a k) ≡ []
     none live n a zero le below = refl
     none live n a (suc k) le below =
-        cond-false (is_live live a) _ _ (false_from_ne_true (is_live live a) (λ is. absurd (omega (arith, below a is, le))))
-        ∙ none live n (a + 1) k (omega arith) below
+        cond-false _ _ _ (false_from_ne_true (is_live live a) (λ is. absurd (omega (arith, below a is, le)))) ∙ none live n (a + 1) k (omega arith) below
 
     slots-all : (live : List Bool) (n m : ℕ) → n ≤ m → ((k : ℕ) → is_live live k ≡ true → k < n) →
         filter (is_live live) (range_with_len 0 n) ≡ filter (is_live live) (range_with_len 0 m)

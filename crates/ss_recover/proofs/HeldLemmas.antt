@@ -1,22 +1,22 @@
 -- What is held is what the map carries.
-use Rattle.ss_recover.proofs.Words.{[], ◌<◌, ◌==◌, ◌∙◌, ◌∷◌, ◌≡◌, ◌≤◌, All, All-from_recursion, All-permutation, AllByRecursion, and_from, ap, ap₂, are_marks}
-use Rattle.ss_recover.proofs.Words.{AreHeld, arith, carries, Created, created_by, false, filter, filter_map, Free, HasWholeSlots, is_dropped, is_mark_of}
-use Rattle.ss_recover.proofs.Words.{is_none, IsDistinct, IsInStep, IsPermutation, IsState, IsStream, IsStrictlyIncreasing, judged, keep_own_step, keep_step}
+use Rattle.ss_recover.proofs.Words.{[], ◌<◌, ◌∙◌, ◌∷◌, ◌≡◌, ◌≤◌, All, All-from_recursion, All-permutation, AllByRecursion, and_from, ap, ap₂, are_marks}
+use Rattle.ss_recover.proofs.Words.{AreHeld, arith, carries, Created, created_by, filter, filter_map, Free, HasWholeSlots, is_mark_of}
+use Rattle.ss_recover.proofs.Words.{is_none, IsDistinct, IsInStep, IsPermutation, IsState, IsStream, IsStrictlyIncreasing, judged, keep_own_step}
 use Rattle.ss_recover.proofs.Words.{landmarks_made, length, length-map, lies_free, List, list_all, live, lowest_bad_slot, lowest_bad_stream, map, marks_carried}
 use Rattle.ss_recover.proofs.Words.{MOST_RECORDS, MOST_STREAMS, ne_eqb, None, not, Option, or_left, or_right, Record, records_in, records_of}
-use Rattle.ss_recover.proofs.Words.{recursion_from_All, refl, rule_of, same_name, SlotMap, stands_by, stands_sound, step_number, Stream, stream_carried}
+use Rattle.ss_recover.proofs.Words.{recursion_from_All, refl, rule_of, same_name, SlotMap, stands_by, Stream, stream_carried}
 use Rattle.ss_recover.proofs.Words.{stream_number, StreamParts, streams_carried, streams_created, streams_standing, subst, sum_by-cons, sym, tile, times_rise}
 use Rattle.ss_recover.proofs.Words.{true, Window, window_of, windows_carried, ℕ}
 use Rattle.ss_recover.specs.Carried.{spelled}
 use Rattle.ss_recover.specs.Conditions.{is_sound}
 use Rattle.ss_recover.specs.Parts.{carried}
 use Rattle.ss_recover.proofs.DroppedRecords.{IsNoneOf}
-use Rattle.ss_recover.proofs.HeldRecords.{all-number_of, all_walked, created, created-all_walked, every_slot_spells, HasOwn, HasOwn-each, made-none}
+use Rattle.ss_recover.proofs.HeldRecords.{all-number_of, all_walked, created, created-all_walked, every_slot_spells, HasOwn-each, made-none}
 use Rattle.ss_recover.proofs.HeldRecords.{made_of_records, standing-all_walked}
 use Rattle.ss_recover.proofs.InOrder.{in_order-IsPermutation, Rise, Rise-increasing}
 use Rattle.ss_recover.proofs.Lists.{all-from_map, all_both, all_weaker, filter-none, filter_map-kept, kept, map-map, position-none}
 use Rattle.ss_recover.proofs.Marks.{are_marks-marks_of, in_order-marks_of, landmarks_made-marks_of, length-marks_of, marks_of}
-use Rattle.ss_recover.proofs.OwnSteps.{keep_step-IsInStep, keeps, own_step-apart, own_step-moved}
+use Rattle.ss_recover.proofs.OwnSteps.{keep_step-IsInStep, own_step-apart, own_step-moved}
 use Rattle.ss_recover.proofs.SoundNumbers.{is_sound-from, none_bad-AreSound}
 use Rattle.ss_recover.proofs.SoundStreams.{Rise-AreWindows, stands_alone, stands_alone-each, stands_alone-moved, tile-AreWindows, times_rise-AreWindows}
 
@@ -42,16 +42,12 @@ pub own_step-each : (streams : List Stream) → Rise (λ (c : Created). c.number
     AllByRecursion (λ (s : Stream). keep_own_step s.number (map created streams) s.windows ≡ true) streams
 own_step-each [] rise each = tt
 own_step-each (s ∷ ss) rise each =
-    let apart = own_step-apart s.number s.windows (map created ss)
-    (all_weaker (λ (c : Created). s.number < c.number) (λ c. c.number ≡ s.number → ⊥) (λ c lt same. absurd (omega (arith, lt, same))) (map created ss)
+    let apart = own_step-apart s.number s.windows (map created ss) (all_weaker _ _ (λ c lt same. absurd (omega (arith, lt, same))) (map created ss)
     rise.0) in (
-      and_from (keeps s.number s.windows (created s)) (keep_own_step s.number (map created ss) s.windows)
-          (or_right (not (s.number == s.number)) (keep_step (step_number s.params.within) s.windows) (keep_step-IsInStep s.params s.windows each.0)) apart,
-      all_both (λ (t : Stream). s.number < t.number) (λ t. keep_own_step t.number (map created ss) t.windows ≡ true)
-          (λ t. keep_own_step t.number (created s ∷ map created ss) t.windows ≡ true) (λ t lt rest.
-          and_from (keeps t.number t.windows (created s)) (keep_own_step t.number (map created ss) t.windows)
-          (or_left (not (s.number == t.number)) (keep_step (step_number s.params.within) t.windows)
-          (ap not (ne_eqb s.number t.number (λ same. absurd (omega (arith, lt, same)))))) rest)
+      and_from _ _
+          (or_right _ _ (keep_step-IsInStep s.params s.windows each.0)) apart,
+      all_both _ _ _ (λ t lt rest.
+          and_from _ _ (or_left _ _ (ap not (ne_eqb s.number t.number (λ same. absurd (omega (arith, lt, same)))))) rest)
           ss (all-from_map (λ (c : Created). s.number < c.number) created ss rise.0) (own_step-each ss rise.1 each.1),
     )
 
@@ -74,8 +70,7 @@ module _ (streams : List Stream) (records : List Record) (state : IsState stream
   -- the windows of each stream
   windows_are : AllByRecursion (λ s. windows_carried s.number records ≡ s.windows) streams
   windows_are =
-      all_both (λ s. IsPermutation s.windows (filter_map (window_of s.number) records)) IsStream (λ s. windows_carried s.number records ≡ s.windows)
-      (λ s moved is.
+      all_both _ _ _ (λ s moved is.
       in_order-IsPermutation (λ (w : Window). w.first) (filter_map (window_of s.number) records) s.windows moved (Rise-AreWindows s.windows is.windows))
       streams those.windows each_is
 
@@ -85,8 +80,7 @@ module _ (streams : List Stream) (records : List Record) (state : IsState stream
   -- the landmarks of each stream
   marks_are : AllByRecursion MarksAre streams
   marks_are =
-      all_both (λ s. IsPermutation (marks_of s.number 1 s.landmarks) (filter (is_mark_of s.number) records)) (λ s. records_of s ≤ MOST_RECORDS) MarksAre
-      (λ s moved room.
+      all_both _ _ _ (λ s moved room.
       in_order-marks_of s.number 1 s.landmarks (filter (is_mark_of s.number) records) moved (omega (arith, length-marks_of s.number 1 s.landmarks, room)))
       streams those.marks (each-records_of streams MOST_RECORDS state.room)
 
@@ -94,8 +88,7 @@ module _ (streams : List Stream) (records : List Record) (state : IsState stream
   carries_each =
       let Windows : Stream → Type 0 = λ s. windows_carried s.number records ≡ s.windows in
       let Both : Stream → Type 0 = λ s. Windows s × MarksAre s in
-      all_both Both IsStream (Carries records)
-      (λ s both is. (both.0, ap landmarks_made both.1 ∙ landmarks_made-marks_of s.number s.landmarks is.landmarks)) streams
+      all_both _ _ _ (λ s both is. (both.0, ap landmarks_made both.1 ∙ landmarks_made-marks_of s.number s.landmarks is.landmarks)) streams
       (all_both Windows MarksAre Both (λ s windows marks. (windows, marks)) streams windows_are marks_are) each_is
 
   pub streams_are : streams_carried records ≡ streams
@@ -116,17 +109,16 @@ HaveThose-made beside streams records state made none apart =
       standing =
           subst (λ l. IsPermutation l (streams_standing records)) (standing-all_walked streams) (made Created stands_by refl (made-none stands_by beside none));
       windows =
-          all_both (HasOwn streams) Apart (λ s. IsPermutation s.windows (filter_map (window_of s.number) records)) (λ s has other.
+          all_both _ _ _ (λ s has other.
           subst (λ l. IsPermutation l (filter_map (window_of s.number) records)) has.windows
-          (made Window (window_of s.number) refl (made-none (window_of s.number) beside
-          (all_weaker (IsNoneOf s.number) (λ r. window_of s.number r ≡ None) (λ r is. is.window) beside other)))) streams own apart;
+          (made Window (window_of s.number) refl (made-none (window_of s.number) beside (all_weaker _ _ (λ r is. is.window) beside other)))) streams own apart;
       marks =
-          all_both (HasOwn streams) Apart (λ s. IsPermutation (marks_of s.number 1 s.landmarks) (filter (is_mark_of s.number) records)) (λ s has other.
+          all_both _ _ _ (λ s has other.
           subst (λ l. IsPermutation l (filter (is_mark_of s.number) records)) has.marks
           (subst (λ l. IsPermutation l (filter (is_mark_of s.number) records)) (filter_map-kept (is_mark_of s.number) (all_walked streams))
           (subst (λ l. IsPermutation (filter_map (kept (is_mark_of s.number)) (all_walked streams)) l) (filter_map-kept (is_mark_of s.number) records)
           (made Record (kept (is_mark_of s.number)) refl (filter_map-kept (is_mark_of s.number) beside ∙ filter-none (is_mark_of s.number) beside
-          (all_weaker (IsNoneOf s.number) (λ r. is_mark_of s.number r ≡ false) (λ r is. is.mark) beside other)))))) streams own apart;
+          (all_weaker _ _ (λ r is. is.mark) beside other)))))) streams own apart;
     }
 
 -- where no record is of a dropped stream
@@ -149,15 +141,13 @@ module _ (streams : List Stream) (records : List Record) (state : IsState stream
   alone : AllByRecursion (λ (s : Stream). stands_alone s.number (streams_created records) ≡ true) streams
   alone =
       let names = subst (IsDistinct same_name) (sym (map-map (λ (s : Created). s.name) created streams)) state.names in
-      all-from_map (λ s. stands_alone s.number (streams_created records) ≡ true) created streams
-      (all_weaker (λ s. stands_alone s.number (map created streams) ≡ true) (λ s. stands_alone s.number (streams_created records) ≡ true)
+      all-from_map (λ s. stands_alone s.number (streams_created records) ≡ true) created streams (all_weaker _ _
       (λ s is. sym (stands_alone-moved s.number (map created streams) (streams_created records) moved) ∙ is) (map created streams)
       (stands_alone-each (map created streams) (rise_created streams records state those_made) names few))
 
   keep_each : AllByRecursion (λ (s : Stream). keep_own_step s.number (map created streams) s.windows ≡ true) streams
   keep_each =
-      own_step-each streams (rise_created streams records state those_made)
-      (all_weaker IsStream (λ (s : Stream). All (IsInStep (rule_of s.params).step) s.windows) (λ s is. is.steps) streams
+      own_step-each streams (rise_created streams records state those_made) (all_weaker _ _ (λ s is. is.steps) streams
       (each_is streams records state those_made))
 
   sound : AllByRecursion (λ s. is_sound records s.number ≡ true) streams
@@ -167,7 +157,7 @@ module _ (streams : List Stream) (records : List Record) (state : IsState stream
       let Both : Stream → Type 0 = λ s. Carries records s × Own s in
       let Kept : Stream → Type 0 = λ s. IsStream s × (keep_own_step s.number (map created streams) s.windows ≡ true) in
       let All : Stream → Type 0 = λ s. Both s × Kept s in
-      all_both Alone All (λ s. is_sound records s.number ≡ true) (λ s one all.
+      all_both _ _ _ (λ s one all.
       let windows = all.0.0.0 in
       let landmarks = all.0.0.1 in
       let d : tile (windows_carried s.number records) ≡ true = ap tile windows ∙ tile-AreWindows s.windows all.1.0.windows in
@@ -178,13 +168,10 @@ module _ (streams : List Stream) (records : List Record) (state : IsState stream
       let h : keep_own_step s.number (streams_created records) (windows_carried s.number records) ≡ true =
       ap (keep_own_step s.number (streams_created records)) windows
       ∙ sym (own_step-moved s.number s.windows (map created streams) (streams_created records) moved) ∙ all.1.1 in
-      is_sound-from records s.number one (or_right (is_dropped s.number records) (stands_sound records s.number)
-      (and_from _ _ (and_from _ _ (and_from _ _ (and_from _ _ d e) f) g) h)))
+      is_sound-from records s.number one (or_right _ _ (and_from _ _ (and_from _ _ (and_from _ _ (and_from _ _ d e) f) g) h)))
       streams alone (all_both Both Kept All (λ s both is. (both, is)) streams
-      (all_both (Carries records) Own Both (λ s carries marks. (carries, marks)) streams (carries_each streams records state those_made)
-      (marks_are streams records state those_made))
-      (all_both IsStream (λ s. keep_own_step s.number (map created streams) s.windows ≡ true) Kept (λ s is keep. (is, keep)) streams
-      (each_is streams records state those_made) keep_each))
+      (all_both _ _ _ (λ s carries marks. (carries, marks)) streams (carries_each streams records state those_made)
+      (marks_are streams records state those_made)) (all_both _ _ _ (λ s is keep. (is, keep)) streams (each_is streams records state those_made) keep_each))
 
   pub none_bad : lowest_bad_stream records ≡ None
   none_bad =

@@ -72,7 +72,7 @@ standing-all_walked ss = made-same stands_by created_by (all_walked ss) (go ss) 
   where
     go : (ss : List Stream) → AllByRecursion (λ r. stands_by r ≡ created_by r) (all_walked ss)
     go [] = tt
-    go (s ∷ ss) = all_append (λ r. stands_by r ≡ created_by r) (walked s) (all_walked ss) (stands-walked s) (go ss)
+    go (s ∷ ss) = all_append _ (walked s) (all_walked ss) (stands-walked s) (go ss)
 
 pub own-windows : (number : ℕ) (ws : List Window) → filter_map (window_of number) (map (window_record number) ws) ≡ ws
 own-windows number [] = refl
@@ -105,12 +105,12 @@ all-own P s own = each-walked (λ r. P (stream_of r)) s own (λ n values start f
 
 pub all-all_walked : (P : ℕ → Type 0) (ss : List Stream) → AllByRecursion (λ s. P s.number) ss → AllByRecursion (λ r. P (stream_of r)) (all_walked ss)
 all-all_walked P [] all = tt
-all-all_walked P (s ∷ ss) all = all_append (λ r. P (stream_of r)) (walked s) (all_walked ss) (all-own P s all.0) (all-all_walked P ss all.1)
+all-all_walked P (s ∷ ss) all = all_append _ (walked s) (all_walked ss) (all-own P s all.0) (all-all_walked P ss all.1)
 
 -- what holds of the numbers of their records holds of streams
 pub each-all_walked : (P : ℕ → Type 0) (ss : List Stream) → AllByRecursion (λ r. P (stream_of r)) (all_walked ss) → AllByRecursion (λ s. P s.number) ss
 each-all_walked P [] all = tt
-each-all_walked P (s ∷ ss) all = (all.0, each-all_walked P ss (all_behind (λ r. P (stream_of r)) (walked s) (all_walked ss) all))
+each-all_walked P (s ∷ ss) all = (all.0, each-all_walked P ss (all_behind _ (walked s) (all_walked ss) all))
 
 -- those of lower and of greater numbers are of other streams
 own-each : (xs ys : List Stream) → Rise (λ s. s.number) (xs ++ ys) → AllByRecursion (HasOwn (xs ++ ys)) ys
@@ -258,8 +258,7 @@ list_any-Some (r ∷ rs) = list_any-Some rs
 module _ (parts : List StreamParts) (streams : List Stream) (found : SlotMap) (whole : HasWholeSlots found) (held : AreHeld parts streams found) where
   moved : IsPermutation (map Some (all_walked streams)) (map (λ e. e.1) (occupied found))
   moved =
-      IsPermutation-trans (map Some (all_walked streams)) (map Some (records_of_streams streams)) (map (λ e. e.1) (occupied found))
-      (IsPermutation-map Some (all_walked streams) (records_of_streams streams) (IsPermutation-all_walked streams))
+      IsPermutation-trans _ _ _ (IsPermutation-map Some (all_walked streams) (records_of_streams streams) (IsPermutation-all_walked streams))
       (subst (λ l. IsPermutation l (map (λ (e : ℕ × Option Record). e.1) (occupied found))) (second-held parts streams held.each)
       (IsPermutation-map (λ (e : ℕ × Option Record). e.1) (flat_map records_held (zip parts streams)) (occupied found) held.records))
 

@@ -32,7 +32,7 @@ module _ {X : Type 0} (key : X → ℕ) where
   Rises-put_in_order x (y ∷ ys) none =
       cond_both (nat_le (key x) (key y)) (x ∷ y ∷ ys) (y ∷ put_in_order key x ys) (Rises key) (λ test.
       let le = le-nat_le (key x) (key y) test in
-      ((le, all_weaker (λ z. key y ≤ key z) (λ z. key x ≤ key z) (λ z more. omega arith) ys none.0), none)) (λ test.
+      ((le, all_weaker _ _ (λ z more. omega arith) ys none.0), none)) (λ test.
       let over = lt-nat_le (key x) (key y) test in
       (all-put_in_order (λ z. key y ≤ key z) x ys (omega arith) none.0, Rises-put_in_order x ys none.1))
 
@@ -40,8 +40,7 @@ module _ {X : Type 0} (key : X → ℕ) where
   IsPermutation-put_in_order x [] = IsPermutation-refl (x ∷ [])
   IsPermutation-put_in_order x (y ∷ ys) =
       cond_both (nat_le (key x) (key y)) (x ∷ y ∷ ys) (y ∷ put_in_order key x ys) (IsPermutation (x ∷ y ∷ ys)) (λ le. IsPermutation-refl (x ∷ y ∷ ys)) (λ over.
-      IsPermutation-trans (x ∷ y ∷ ys) (y ∷ x ∷ ys) (y ∷ put_in_order key x ys) (IsPermutation-turn x y ys)
-      (IsPermutation-cons y (x ∷ ys) (put_in_order key x ys) (IsPermutation-put_in_order x ys)))
+      IsPermutation-trans _ _ _ (IsPermutation-turn x y ys) (IsPermutation-cons y (x ∷ ys) (put_in_order key x ys) (IsPermutation-put_in_order x ys)))
 
   pub all-in_order : (P : X → Type 0) (xs : List X) → AllByRecursion P xs → AllByRecursion P (in_order key xs)
   all-in_order P [] all = tt
@@ -54,8 +53,7 @@ module _ {X : Type 0} (key : X → ℕ) where
   pub IsPermutation-in_order : (xs : List X) → IsPermutation xs (in_order key xs)
   IsPermutation-in_order [] = IsPermutation-refl []
   IsPermutation-in_order (x ∷ xs) =
-      IsPermutation-trans (x ∷ xs) (x ∷ in_order key xs) (put_in_order key x (in_order key xs))
-      (IsPermutation-cons x xs (in_order key xs) (IsPermutation-in_order xs)) (IsPermutation-put_in_order x (in_order key xs))
+      IsPermutation-trans _ _ _ (IsPermutation-cons x xs (in_order key xs) (IsPermutation-in_order xs)) (IsPermutation-put_in_order x (in_order key xs))
 
   -- 1 at each element whose key is below a number
   abbrev below : ℕ → X → ℕ
@@ -83,17 +81,13 @@ module _ {X : Type 0} (key : X → ℕ) where
   same-in_order [] (y ∷ ys) none rise sums are = absurd (omega (arith, sums (λ x. 1), sum_by-cons (λ (x : X). 1) y ys))
   same-in_order (z ∷ zs) [] none rise sums are = absurd (omega (arith, sums (λ x. 1), sum_by-cons (λ (x : X). 1) z zs))
   same-in_order (z ∷ zs) (y ∷ ys) none rise sums are =
-      let above_y : AllByRecursion (λ x. key y ≤ key x) (y ∷ ys) =
-      (omega arith, all_weaker (λ x. key y < key x) (λ x. key y ≤ key x) (λ x lt. omega arith) ys rise.0) in
+      let above_y : AllByRecursion (λ x. key y ≤ key x) (y ∷ ys) = (omega arith, all_weaker _ _ (λ x lt. omega arith) ys rise.0) in
       let above_z : AllByRecursion (λ x. key z ≤ key x) (z ∷ zs) = (omega arith, none.0) in
-      let none_below_y : below (key y) z ≡ 0 =
-      omega (arith, sums (below (key y)), sum_by-cons (below (key y)) z zs, sum_by-below (key y) (y ∷ ys) above_y) in
-      let none_below_z : below (key z) y ≡ 0 =
-      omega (arith, sums (below (key z)), sum_by-cons (below (key z)) y ys, sum_by-below (key z) (z ∷ zs) above_z) in
+      let none_below_y : below (key y) z ≡ 0 = omega (arith, sums (below (key y)), sum_by-cons (below (key y)) z zs, sum_by-below (key y) (y ∷ ys) above_y) in
+      let none_below_z : below (key z) y ≡ 0 = omega (arith, sums (below (key z)), sum_by-cons (below (key z)) y ys, sum_by-below (key z) (z ∷ zs) above_z) in
       let same_key : key z ≡ key y = omega (arith, ge-below (key y) z none_below_y, ge-below (key z) y none_below_z) in
       let same : z ≡ y = are.0.0 same_key in
-      let rest : (f : X → ℕ) → sum_by f zs ≡ sum_by f ys =
-      λ f. (let one = ap f same in omega (arith, one, sums f, sum_by-cons f z zs, sum_by-cons f y ys)) in
+      let rest : (f : X → ℕ) → sum_by f zs ≡ sum_by f ys = λ f. (let one = ap f same in omega (arith, one, sums f, sum_by-cons f z zs, sum_by-cons f y ys)) in
       let those = all_weaker (AreThose (y ∷ ys)) (AreThose ys) (λ x each. each.1) zs are.1 in
       let tail = same-in_order zs ys none.1 rise.1 rest those in
       λ i. same i ∷ tail i
@@ -102,8 +96,7 @@ module _ {X : Type 0} (key : X → ℕ) where
   AreThose-Rise : (ys : List X) → Rise ys → AllByRecursion (AreThose ys) ys
   AreThose-Rise [] rise = tt
   AreThose-Rise (y ∷ ys) rise =
-      let head : AreThose (y ∷ ys) y =
-      (λ same. refl, all_weaker (λ x. key y < key x) (λ x. key y ≡ key x → y ≡ x) (λ x lt same. absurd (omega arith)) ys rise.0) in
+      let head : AreThose (y ∷ ys) y = (λ same. refl, all_weaker _ _ (λ x lt same. absurd (omega arith)) ys rise.0) in
       (head, go ys rise.0 (AreThose-Rise ys rise.1))
     where
       go : (xs : List X) → AllByRecursion (λ x. key y < key x) xs → AllByRecursion (AreThose ys) xs → AllByRecursion (AreThose (y ∷ ys)) xs
@@ -119,13 +112,13 @@ module _ {X : Type 0} (key : X → ℕ) where
   -- in any order, they are put in that order
   pub in_order-IsPermutation : (xs ys : List X) → IsPermutation ys xs → Rise ys → in_order key xs ≡ ys
   in_order-IsPermutation xs ys moved rise =
-      Rises-IsPermutation (in_order key xs) ys (Rises-in_order xs) (IsPermutation-trans ys xs (in_order key xs) moved (IsPermutation-in_order xs)) rise
+      Rises-IsPermutation (in_order key xs) ys (Rises-in_order xs) (IsPermutation-trans _ _ _ moved (IsPermutation-in_order xs)) rise
 
   -- those that pass a test
   pub Rise-filter : (test : X → Bool) (xs : List X) → Rise xs → Rise (filter test xs)
   Rise-filter test [] rise = tt
   Rise-filter test (x ∷ xs) rise =
-      cond_both (test x) (x ∷ filter test xs) (filter test xs) Rise (λ passes. (all-kept (λ y. key x < key y) test xs rise.0, Rise-filter test xs rise.1))
+      cond_both (test x) (x ∷ filter test xs) (filter test xs) Rise (λ passes. (all-kept _ test xs rise.0, Rise-filter test xs rise.1))
       (λ fails. Rise-filter test xs rise.1)
 
   -- what comes before and after an element
@@ -134,7 +127,7 @@ module _ {X : Type 0} (key : X → ℕ) where
   Rise-split [] y ys rise = (tt, rise.0)
   Rise-split (x ∷ xs) y ys rise =
       let rest = Rise-split xs y ys rise.1 in
-      (((all_behind (λ z. key x < key z) xs (y ∷ ys) rise.0).0, rest.0), rest.1)
+      (((all_behind _ xs (y ∷ ys) rise.0).0, rest.0), rest.1)
 
   -- keys that rise from each to the next
   Rise-pairs : (xs : List X) → AllPairs (λ m n. m < n) (map key xs) → Rise xs
@@ -143,7 +136,7 @@ module _ {X : Type 0} (key : X → ℕ) where
   Rise-pairs (x ∷ y ∷ ys) pairs =
       let rest = Rise-pairs (y ∷ ys) (λ i j d lt inside. pairs (suc i) (suc j) d (omega arith) (omega arith)) in
       let first : key x < key y = pairs 0 1 0 (omega arith) (omega arith) in
-      ((first, all_weaker (λ z. key y < key z) (λ z. key x < key z) (λ z lt. omega arith) ys rest.0), rest)
+      ((first, all_weaker _ _ (λ z lt. omega arith) ys rest.0), rest)
 
   pub Rise-increasing : (xs : List X) → IsStrictlyIncreasing (map key xs) → Rise xs
   Rise-increasing xs rising = Rise-pairs xs (AllPairs-from_increasing (map key xs) rising)

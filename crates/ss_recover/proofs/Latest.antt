@@ -25,8 +25,7 @@ EndsBy-latest_in : (l : Landmark) (last : ℕ) → latest_in l ≤ last → Ends
 EndsBy-latest_in l last le = All-head (EndsBy last) l [] (AllEndBy-later (l ∷ []) (latest_in l) last le (ends-latest None (l ∷ []) (latest_in l) refl))
 
 times-by : (t : ℕ) (l : Landmark) → EndsBy t l → AllByRecursion (λ u. u ≤ t) (times_of l)
-times-by t l ends =
-    map-all (λ u. u ≤ t) (λ (value : LandmarkValue). value.t) l.values (recursion_from_All (λ (value : LandmarkValue). value.t ≤ t) l.values ends.2)
+times-by t l ends = map-all _ (λ (value : LandmarkValue). value.t) l.values (recursion_from_All (λ (value : LandmarkValue). value.t ≤ t) l.values ends.2)
 
 latest_in-EndsBy : (l : Landmark) (t : ℕ) → EndsBy t l → latest_in l ≤ t
 latest_in-EndsBy l t ends =

@@ -1,6 +1,6 @@
 -- Lemmas on lists of anything, and on numbers in a row.
 use Rattle.ss_recover.proofs.Words.{[], ◌++◌, ◌+◌, ◌<◌, ◌∙◌, ◌∷◌, ◌≡◌, ◌≤◌, AllByRecursion, and_from, and_parts, ap, ap₂, arith, Bool, cases_Bool, cond}
-use Rattle.ss_recover.proofs.Words.{cond-false, cond_both, false, filter, filter_map, inl, inr, le-ltb, length, List, list_all, list_any, map, nat_eq, nat_lt}
+use Rattle.ss_recover.proofs.Words.{cond-false, cond_both, false, filter, filter_map, inl, inr, le-ltb, length, List, list_all, list_any, map, nat_eq}
 use Rattle.ss_recover.proofs.Words.{nat_tests, None, Option, or_parts, position, position_or_len, range_with_len, refl, Some, suc, sym, true, zero, ℕ}
 
 -- what holds of each element
@@ -39,11 +39,11 @@ all-from_map P f (x ∷ xs) all = (all.0, all-from_map P f xs all.1)
 
 pub list_all-each : {X : Type 0} (p : X → Bool) (xs : List X) → AllByRecursion (λ x. p x ≡ true) xs → list_all p xs ≡ true
 list_all-each p [] all = refl
-list_all-each p (x ∷ xs) all = and_from (p x) (list_all p xs) all.0 (list_all-each p xs all.1)
+list_all-each p (x ∷ xs) all = and_from _ _ all.0 (list_all-each p xs all.1)
 
 pub each-list_all : {X : Type 0} (p : X → Bool) (xs : List X) → list_all p xs ≡ true → AllByRecursion (λ x. p x ≡ true) xs
 each-list_all p [] all = tt
-each-list_all p (x ∷ xs) all = let parts = and_parts (p x) (list_all p xs) all in (parts.0, each-list_all p xs parts.1)
+each-list_all p (x ∷ xs) all = let parts = and_parts _ _ all in (parts.0, each-list_all p xs parts.1)
 
 -- what passes a test, where all pass it or none does
 pub filter-all : {X : Type 0} (p : X → Bool) (xs : List X) → AllByRecursion (λ x. p x ≡ true) xs → filter p xs ≡ xs
@@ -118,7 +118,7 @@ position_or_len-none p (x ∷ xs) none =
 pub position-none : {X : Type 0} (p : X → Bool) (xs : List X) → list_any p xs ≡ false → position p xs ≡ None
 position-none p xs none =
     let all = position_or_len-none p xs none in
-    cond-false (nat_lt (position_or_len p xs) (length xs)) (Some (position_or_len p xs)) None (le-ltb (position_or_len p xs) (length xs) (omega arith))
+    cond-false _ _ _ (le-ltb (position_or_len p xs) (length xs) (omega arith))
 
 -- numbers in a row, in two parts
 pub range_with_len-append : (a n m k b : ℕ) → k ≡ n + m → b ≡ a + n → range_with_len a k ≡ range_with_len a n ++ range_with_len b m

@@ -1,8 +1,8 @@
 -- What is held of landmarks shows what their records make, one record after another.
-use Rattle.ss_recover.proofs.Words.{[], ◌&&◌, ◌++◌, ◌+◌, ◌<◌, ◌==◌, ◌∙◌, ◌∷◌, ◌≡◌, ◌≤◌, AddsToLandmark, and-true, and_assoc, and_parts, and_right, ap}
+use Rattle.ss_recover.proofs.Words.{[], ◌&&◌, ◌++◌, ◌+◌, ◌<◌, ◌∙◌, ◌∷◌, ◌≡◌, ◌≤◌, AddsToLandmark, and-true, and_assoc, and_parts, and_right, ap}
 use Rattle.ss_recover.proofs.Words.{append-nil, are_marks, AreKnown, AreLandmarks, AreMade, arith, Bool, can_add, can_open, CanOpen, CanTake, change_last}
 use Rattle.ss_recover.proofs.Words.{cond-false, cond-true, eq-eqb, eqb-true, false, filter-append, finish_of, fold, fold-append, Found, has_all_values}
-use Rattle.ss_recover.proofs.Words.{has_said_last, HasClosed, HasNoMarks, HasValidTimes, IfSome, is_landmark, is_mark_of, is_next_landmark, is_next_value}
+use Rattle.ss_recover.proofs.Words.{has_said_last, HasClosed, HasNoMarks, HasValidTimes, IfSome, is_landmark, is_mark_of, is_next_value}
 use Rattle.ss_recover.proofs.Words.{is_up_to, is_value, IsReady, Landmark, landmarks_in, LandmarkValue, Last, latest_of, LATEST_TIME, leb-true, length}
 use Rattle.ss_recover.proofs.Words.{length-append, List, list_all, list_all-append, map-append, Marked, marked_by, marked_on, marked_with, marks_in}
 use Rattle.ss_recover.proofs.Words.{MatchOption, MayClose, MOST_LANDMARK_SLOTS, nat_le, nat_lt, nat_tests, None, nothing_marked, opened_at, OpensLandmark}
@@ -70,8 +70,7 @@ module _ (s : Marks) (n : ℕ) (m : Marked) (own : List Found) (shows : ShowsMar
   -- a landmark's record
   pub not-began : (id number said start : ℕ) (finish : Option ℕ) → can_open (length ls) s.last number start ≡ false →
       marked_with m (records.Landmark id number said start finish) ≡ None
-  not-began id number said start finish can =
-      cond-false (is_next_landmark m number start) _ None (sym (open-shown ls s.latest m s.last number start shows.last) ∙ can)
+  not-began id number said start finish can = cond-false _ _ _ (sym (open-shown ls s.latest m s.last number start shows.last) ∙ can)
 
   pub began : (closed opened : Marks) (slot number said start : ℕ) (finish : Option ℕ) → can_open (length ls) s.last number start ≡ true → AreLandmarks ls →
       HasClosed (finish_of s.last) s closed → OpensLandmark closed opened slot start → HasValidTimes said start finish →
@@ -84,7 +83,7 @@ module _ (s : Marks) (n : ℕ) (m : Marked) (own : List Found) (shows : ShowsMar
       let l : Landmark = record { start = start; finish = finish; values = [] } in
       let next : Marked = record { before = landmarks_in m; last = Some l; said = said } in
       let test = sym (open-shown ls s.latest m s.last number start shows.last) ∙ can in
-      let with_r : marked_with m x.holds ≡ Some next = cond-true (is_next_landmark m number start) (Some next) None test in
+      let with_r : marked_with m x.holds ≡ Some next = cond-true _ _ _ test in
       let new : ShowsMarks (with_last opened (Some last)) n next (own ++ x ∷ []) = record {
         last = record {
           landmark = l;
@@ -115,13 +114,12 @@ module _ (s : Marks) (n : ℕ) (m : Marked) (own : List Found) (shows : ShowsMar
   -- a value's record
   pub not-added : (id number index t : ℕ) (v : ℤ) (c : Last) → s.last ≡ Some c → can_add (length ls) c number index t ≡ false →
       marked_with m (records.Value id number index t v) ≡ None
-  not-added id number index t v c is can =
-      cond-false (is_next_value m number index t) _ None (sym (add-shown ls s.latest m c number index t (last-shown c is)) ∙ can)
+  not-added id number index t v c is can = cond-false _ _ _ (sym (add-shown ls s.latest m c number index t (last-shown c is)) ∙ can)
 
   pub none-added : (id number index t : ℕ) (v : ℤ) → s.last ≡ None → marked_with m (records.Value id number index t v) ≡ None
   none-added id number index t v none =
       let nothing = subst (λ last. ShowsLast last ls s.latest m) none shows.last in
-      cond-false (is_next_value m number index t) _ None (ap (λ k. is_next_value k number index t) nothing.0 ∙ and_right (number == 0) false refl)
+      cond-false _ _ _ (ap (λ k. is_next_value k number index t) nothing.0 ∙ and_right _ _ refl)
 
   pub added : (c : Last) (new : Marks) (slot number index t : ℕ) (v : ℤ) → s.last ≡ Some c → can_add (length ls) c number index t ≡ true →
       AddsToLandmark s new slot t v →
@@ -134,15 +132,15 @@ module _ (s : Marks) (n : ℕ) (m : Marked) (own : List Found) (shows : ShowsMar
       let value : LandmarkValue = record { t = t; v = v } in
       let was = last-shown c is in
       let l = was.landmark in
-      let tests = (and_parts (number == length ls) (index == c.values + 1 && nat_le c.from t && is_up_to t c.finish) can).1 in
-      let both = and_parts (index == c.values + 1 && nat_le c.from t) (is_up_to t c.finish) tests in
-      let first = and_parts (index == c.values + 1) (nat_le c.from t) both.0 in
+      let tests = (and_parts _ _ can).1 in
+      let both = and_parts _ _ tests in
+      let first = and_parts _ _ both.0 in
       let turn = eqb-true index (c.values + 1) first.0 in
       let late = leb-true c.from t first.1 in
       let early = was.early in
       let next : Marked = record { before = m.before; last = option_and_then (λ k. Some (with_value value k)) m.last; said = m.said } in
       let test = sym (add-shown ls s.latest m c number index t was) ∙ can in
-      let with_r : marked_with m x.holds ≡ Some next = cond-true (is_next_value m number index t) (Some next) None test in
+      let with_r : marked_with m x.holds ≡ Some next = cond-true _ _ _ test in
       let result : ShowsMarks (with_last new (Some last)) n next (own ++ x ∷ []) = record {
         last = record {
           landmark = with_value value l;
@@ -209,8 +207,7 @@ module _ (s : Marks) (n : ℕ) (m : Marked) (own : List Found) (shows : ShowsMar
       with_first : (r : Record) → is_mark_of n r ≡ true → marked_with m r ≡ None → are_marks (marks_in n (without_slots own ++ r ∷ without_slots rest)) ≡ false
       with_first r mark none =
           ap (λ o. option_map_or has_all_values o false) (ap marked_by (filter-append (is_mark_of n) (without_slots own) (r ∷ without_slots rest)
-          ∙ ap (λ l. marks_in n (without_slots own) ++ l)
-          (cond-true (is_mark_of n r) (r ∷ marks_in n (without_slots rest)) (marks_in n (without_slots rest)) mark))
+          ∙ ap (λ l. marks_in n (without_slots own) ++ l) (cond-true _ _ _ mark))
           ∙ fold-append marked_on (Some nothing_marked) (marks_in n (without_slots own)) (r ∷ marks_in n (without_slots rest))
           ∙ ap (λ o. fold marked_on (marked_on o r) (marks_in n (without_slots rest))) shows.by
           ∙ ap (λ o. fold marked_on o (marks_in n (without_slots rest))) none ∙ marked_on-none (marks_in n (without_slots rest)))

@@ -84,9 +84,8 @@ marks_of-append number n k (x ∷ xs) l next =
 -- they are the records of the landmarks and those of all values, in another order
 over : (xs ms ys zs : List Record) → IsPermutation ms (ys ++ zs) → IsPermutation (xs ++ ms) (ys ++ (xs ++ zs))
 over xs ms ys zs moved =
-    let turned : IsPermutation ((xs ++ ys) ++ zs) ((ys ++ xs) ++ zs) =
-    IsPermutation-append_left zs (xs ++ ys) (ys ++ xs) (IsPermutation-append_comm xs ys) in
-    IsPermutation-trans (xs ++ ms) (xs ++ (ys ++ zs)) (ys ++ (xs ++ zs)) (IsPermutation-append_right xs ms (ys ++ zs) moved)
+    let turned : IsPermutation ((xs ++ ys) ++ zs) ((ys ++ xs) ++ zs) = IsPermutation-append_left zs (xs ++ ys) (ys ++ xs) (IsPermutation-append_comm xs ys) in
+    IsPermutation-trans _ _ _ (IsPermutation-append_right xs ms (ys ++ zs) moved)
     (subst (λ l. IsPermutation l (ys ++ (xs ++ zs))) (append_assoc xs ys zs) (subst (λ l. IsPermutation ((xs ++ ys) ++ zs) l) (append_assoc ys xs zs) turned))
 
 pub IsPermutation-marks_of : (number n : ℕ) (ls : List Landmark) →
@@ -122,8 +121,7 @@ IsPermutation-walked s =
     let marks = marks_of s.number 1 s.landmarks in
     let windows = map (window_record s.number) s.windows in
     let held = landmark_records s.number 1 s.landmarks ++ all_value_records s.number 1 s.landmarks in
-    IsPermutation-cons (stream_record s) (marks ++ windows) (windows ++ held)
-    (IsPermutation-trans (marks ++ windows) (windows ++ marks) (windows ++ held) (IsPermutation-append_comm marks windows)
+    IsPermutation-cons (stream_record s) (marks ++ windows) (windows ++ held) (IsPermutation-trans _ _ _ (IsPermutation-append_comm marks windows)
     (IsPermutation-append_right windows marks held (IsPermutation-marks_of s.number 1 s.landmarks)))
 
 -- records that may come after those of some landmarks, and the landmarks then, with all their values
@@ -159,13 +157,11 @@ module _ (number said n : ℕ) (before : List Landmark) (here : n ≡ length bef
       let d = list_all-each (λ (v : LandmarkValue). nat_lt v.t value.t) l.values each in
       let e = is_up_to-IfSome value.t l.finish by in
       let test : is_next_value (last_is l) n index value.t ≡ true = and_from _ _ a (and_from _ _ (and_from _ _ (and_from _ _ b c) d) e) in
-      cond-true (is_next_value (last_is l) n index value.t) (Some (last_is (with_value value l))) None test
+      cond-true _ _ _ test
 
   below_next : (value : LandmarkValue) (from : ℕ) (vs : List LandmarkValue) → from ≤ value.t → AllByRecursion (λ v. v.t < from) vs →
       AllByRecursion (λ v. v.t < value.t + 1) (vs ++ value ∷ [])
-  below_next value from vs low below =
-      all_push (λ (v : LandmarkValue). v.t < value.t + 1) vs value
-      (all_weaker (λ (v : LandmarkValue). v.t < from) (λ v. v.t < value.t + 1) (λ v lt. omega (arith, lt, low)) vs below) (omega arith)
+  below_next value from vs low below = all_push _ vs value (all_weaker _ _ (λ v lt. omega (arith, lt, low)) vs below) (omega arith)
 
   first_by : (finish : Option ℕ) (value : LandmarkValue) (vs : List LandmarkValue) → IfSome finish (λ f. AllByRecursion (λ v. v.t ≤ f) (value ∷ vs)) →
       IfSome finish (λ f. value.t ≤ f) × IfSome finish (λ f. AllByRecursion (λ v. v.t ≤ f) vs)
@@ -207,7 +203,7 @@ next-whole m t =
     elim m.last as (λ o. option_map_or (has_said m.said) o true ≡ true → option_map_or (is_closed_before t) o true ≡ true →
     option_map_or (λ l. has_said m.said l && is_closed_before t l) o true ≡ true) [
       | None ↦ λ whole over. refl
-      | Some l ↦ λ whole over. and_from (has_said m.said l) (is_closed_before t l) whole over
+      | Some l ↦ λ whole over. and_from _ _ whole over
     ]
 
 -- a landmark comes with its values
@@ -229,7 +225,7 @@ take_landmark number n m l next whole over is =
     let a = eq-eqb n (length (landmarks_in m) + 1) next in
     let test : is_next_landmark m n l.start ≡ true = and_from _ _ a (next-whole m l.start whole (over l.start (omega arith))) in
     let first : marked_on (Some m) (landmark_record number n l) ≡ Some (record { before = landmarks_in m; last = Some bare; said = values_said l }) =
-    cond-true (is_next_landmark m n l.start) (Some (record { before = landmarks_in m; last = Some bare; said = values_said l })) None test in
+    cond-true _ _ _ test in
     ap (λ o. fold marked_on o (value_records number n 1 l.values)) first
     ∙ take_values number (values_said l) n (landmarks_in m) next l.values bare l.start 1 refl (omega arith) tt is.values (ends_by l is)
 
@@ -246,8 +242,7 @@ AreMarks-from number n from (l ∷ ls) m next whole over follow =
     let m' = followed_by m l in
     let own = landmark_record number n l ∷ value_records number n 1 l.values in
     let rest = marks_of number (n + 1) ls in
-    let taken : fold marked_on (Some m) (own ++ rest) ≡ fold marked_on (Some m') rest =
-    fold-append marked_on (Some m) own rest
+    let taken : fold marked_on (Some m) (own ++ rest) ≡ fold marked_on (Some m') rest = fold-append marked_on (Some m) own rest
     ∙ ap (λ o. fold marked_on o rest) (take_landmark number n m l next whole (λ t later. over t (omega (arith, low, later))) follow.1) in
     let said : has_all_values m' ≡ true = has_said-said l in
     elim (cases-finish l.finish) [
@@ -295,7 +290,7 @@ all-marks-from : (number n low : ℕ) (ls : List Landmark) → low ≤ n * 2 ^ 3
 all-marks-from number n low [] le = tt
 all-marks-from number n low (l ∷ ls) le = (
   omega (arith, le),
-  all_append (λ r. low ≤ place_of r) (value_records number n 1 l.values) (marks_of number (n + 1) ls)
+  all_append _ (value_records number n 1 l.values) (marks_of number (n + 1) ls)
       (all-values-from number n 1 low l.values (omega (arith, le))) (all-marks-from number (n + 1) low ls (omega (arith, le))),
 )
 
@@ -303,10 +298,10 @@ Rise-values : (number n index : ℕ) (values : List LandmarkValue) (rest : List 
     AllByRecursion (λ r. (n + 1) * 2 ^ 32 ≤ place_of r) rest → Rise place_of rest → Rise place_of (value_records number n index values ++ rest)
 Rise-values number n index [] rest few above rise = rise
 Rise-values number n index (value ∷ values) rest few above rise = (
-  all_append (λ r. n * 2 ^ 32 + index < place_of r) (value_records number n (index + 1) values) rest
-      (all_weaker (λ r. n * 2 ^ 32 + (index + 1) ≤ place_of r) (λ r. n * 2 ^ 32 + index < place_of r) (λ r le. omega (arith, le))
+  all_append _ (value_records number n (index + 1) values) rest
+      (all_weaker _ _ (λ r le. omega (arith, le))
       (value_records number n (index + 1) values) (all-values-from number n (index + 1) (n * 2 ^ 32 + (index + 1)) values (omega arith)))
-      (all_weaker (λ r. (n + 1) * 2 ^ 32 ≤ place_of r) (λ r. n * 2 ^ 32 + index < place_of r) (λ r le. omega (arith, le, few)) rest above),
+      (all_weaker _ _ (λ r le. omega (arith, le, few)) rest above),
   Rise-values number n (index + 1) values rest (omega (arith, few)) above rise,
 )
 
@@ -318,10 +313,9 @@ Rise-marks_of number n (l ∷ ls) few =
     let long = length-append values rest in
     let own = length-value_records number n 1 l.values in
     let above = all-marks-from number (n + 1) ((n + 1) * 2 ^ 32) ls (omega arith) in (
-      all_append (λ r. n * 2 ^ 32 < place_of r) values rest
-          (all_weaker (λ r. n * 2 ^ 32 + 1 ≤ place_of r) (λ r. n * 2 ^ 32 < place_of r) (λ r le. omega (arith, le)) values
-          (all-values-from number n 1 (n * 2 ^ 32 + 1) l.values (omega arith)))
-          (all_weaker (λ r. (n + 1) * 2 ^ 32 ≤ place_of r) (λ r. n * 2 ^ 32 < place_of r) (λ r le. omega (arith, le)) rest above),
+      all_append _ values rest
+          (all_weaker _ _ (λ r le. omega (arith, le)) values (all-values-from number n 1 (n * 2 ^ 32 + 1) l.values (omega arith)))
+          (all_weaker _ _ (λ r le. omega (arith, le)) rest above),
       Rise-values number n 1 l.values rest (omega (arith, few, long, own)) above (Rise-marks_of number (n + 1) ls (omega (arith, few, long))),
     )
 

@@ -3,9 +3,9 @@ use Rattle.ss_recover.proofs.Words.{[], ⊤, ◌&&◌, ◌++◌, ◌+◌, ◌<�
 use Rattle.ss_recover.proofs.Words.{ap, append-nil, append_assoc, are_marks, AreLandmarks, arith, Bool, cond, eqb-true, false, FitsSigned, fold, fold-append}
 use Rattle.ss_recover.proofs.Words.{FollowFrom, has_all_values, has_said, HasValidTimes, IfSome, is_closed_before, is_mark_of, is_next_landmark, is_next_value}
 use Rattle.ss_recover.proofs.Words.{is_none, is_up_to, IsLandmark, IsUsable, Landmark, landmarks_in, landmarks_made, LandmarkValue, LATEST_TIME, leb-true}
-use Rattle.ss_recover.proofs.Words.{length, length-append, List, list_all, ltb-true, Marked, marked_by, marked_on, marked_with, MatchOption, nat_le, nat_lt}
-use Rattle.ss_recover.proofs.Words.{None, nothing_marked, Option, option_map_or, option_to_list, Record, refl, RiseFrom_push, Some, subst, sym, true}
-use Rattle.ss_recover.proofs.Words.{value_records, values_said, w64, with_value, ℕ, ℤ}
+use Rattle.ss_recover.proofs.Words.{length, length-append, List, ltb-true, Marked, marked_by, marked_on, marked_with, MatchOption, nat_lt, None, nothing_marked}
+use Rattle.ss_recover.proofs.Words.{Option, option_map_or, option_to_list, Record, refl, RiseFrom_push, Some, subst, sym, true, value_records, values_said, w64}
+use Rattle.ss_recover.proofs.Words.{with_value, ℕ, ℤ}
 use Rattle.ss_recover.proofs.Lists.{all_weaker, each-list_all}
 use Rattle.ss_recover.proofs.Marks.{marks_of, marks_of-append, value_records-append}
 use Rattle.ss_codec.specs.declared.record.Record.TheVariants as records
@@ -52,7 +52,7 @@ whole-records number said before (Some l) rightly whole =
 whole-next : (said t : ℕ) (last : Option Landmark) → option_map_or (λ l. has_said said l && is_closed_before t l) last true ≡ true →
     option_map_or (has_said said) last true ≡ true
 whole-next said t None is = refl
-whole-next said t (Some l) is = (and_parts (has_said said l) (is_closed_before t l) is).0
+whole-next said t (Some l) is = (and_parts _ _ is).0
 
 -- landmarks with one more, and with the last one changed
 abbrev no_landmarks : List Landmark
@@ -104,8 +104,7 @@ AreLandmarks-next : (said : ℕ) (before : List Landmark) (last : Option Landmar
 AreLandmarks-next said before None new follow rightly next is =
     let none : before ++ [] ≡ [] = append-nil before ∙ rightly in
     subst (λ ls. AreLandmarks (ls ++ new ∷ [])) (sym none) (omega arith, is, last-follows new.finish)
-AreLandmarks-next said before (Some l) new follow rightly next is =
-    FollowFrom-next 0 before l new follow (and_parts (has_said said l) (is_closed_before new.start l) next).1 is
+AreLandmarks-next said before (Some l) new follow rightly next is = FollowFrom-next 0 before l new follow (and_parts _ _ next).1 is
 
 -- what a usable record of a landmark says of it
 IsLandmark-bare : (said start : ℕ) (finish : Option ℕ) →
@@ -146,7 +145,7 @@ Stands-landmark : (number id n said start : ℕ) (finish : Option ℕ) (m m' : M
 Stands-landmark number id n said start finish m m' rs same usable stands is =
     let new : Landmark = record { start = start; finish = finish; values = [] } in
     let parts = Some-from_cond (is_next_landmark m n start) (record { before = landmarks_in m; last = Some new; said = said }) m' is in
-    let tests = and_parts (n == length (landmarks_in m) + 1) (option_map_or (λ l. has_said m.said l && is_closed_before start l) m.last true) parts.0 in
+    let tests = and_parts _ _ parts.0 in
     let counted = eqb-true n (length (landmarks_in m) + 1) tests.0 in
     let place : n ≡ 1 + length (landmarks_in m) = omega (arith, counted) in
     let so_far = stands.records ∙ whole-records number m.said m.before m.last stands.rightly (whole-next m.said start m.last tests.1) in
@@ -170,13 +169,10 @@ Stands-value number id n index t said v before (Some l) m' rs same early fits st
     let m : Marked = record { before = before; last = Some l; said = said } in
     let new : Marked = record { before = before; last = Some (with_value value l); said = said } in
     let parts = Some-from_cond (is_next_value m n index t) new m' is in
-    let a = index == length l.values + 1 in
-    let b = nat_le l.start t in
-    let c = list_all (λ (x : LandmarkValue). nat_lt x.t t) l.values in
-    let tests = and_parts (n == length (landmarks_in m)) (a && b && c && is_up_to t l.finish) parts.0 in
-    let inner = and_parts (a && b && c) (is_up_to t l.finish) tests.1 in
-    let both = and_parts (a && b) c inner.0 in
-    let first = and_parts a b both.0 in
+    let tests = and_parts _ _ parts.0 in
+    let inner = and_parts _ _ tests.1 in
+    let both = and_parts _ _ inner.0 in
+    let first = and_parts _ _ both.0 in
     let counted = eqb-true n (length (landmarks_in m)) tests.0 in
     let k = 1 + length before in
     let place : n ≡ k = omega (arith, counted, length-append before (l ∷ [])) in

@@ -39,9 +39,7 @@ filled-same first second (slot ∷ slots) same =
 -- a put leaves the slots beside its own
 filled-with_put : (put : Put) (bytes : ℕ → List ℕ) (slots : List ℕ) → AllByRecursion (λ slot. nat_eq slot put.slot ≡ false) slots →
     filled (with_put put bytes) slots ≡ filled bytes slots
-filled-with_put put bytes slots beside =
-    filled-same (with_put put bytes) bytes slots (all_weaker (λ slot. nat_eq slot put.slot ≡ false) (λ slot. with_put put bytes slot ≡ bytes slot)
-    (λ slot other. cond-false (nat_eq slot put.slot) put.bytes (bytes slot) other) slots beside)
+filled-with_put put bytes slots beside = filled-same (with_put put bytes) bytes slots (all_weaker _ _ (λ slot other. cond-false _ _ _ other) slots beside)
 
 -- the slots below one, and those above it below another
 abbrev pub front : ℕ → List ℕ
@@ -85,7 +83,7 @@ beside-with_put put bytes n =
 with_put-same : (put : Put) (bytes : ℕ → List ℕ) → with_put put bytes put.slot ≡ put.bytes
 with_put-same put bytes =
     let same : nat_eq put.slot put.slot ≡ true = grind (arith, nat_tests) in
-    cond-true (nat_eq put.slot put.slot) put.bytes (bytes put.slot) same
+    cond-true _ _ _ same
 
 -- after a put of bytes that aren't zeros, and after one of zeros
 pub filled-put_live : (put : Put) (bytes : ℕ → List ℕ) (n : ℕ) → put.slot < n → are_zeros put.bytes ≡ false →
@@ -95,8 +93,7 @@ filled-put_live put bytes n below live =
     let same = with_put-same put bytes in
     let here : are_zeros (with_put put bytes p) ≡ false = ap are_zeros same ∙ live in
     let new = with_put put bytes in
-    let whole : filled new (range_with_len 0 n) ≡ filled new (front p) ++ (p, decoded (new p)) ∷ filled new (back p n) =
-    filled-at_live new p n below here in
+    let whole : filled new (range_with_len 0 n) ≡ filled new (front p) ++ (p, decoded (new p)) ∷ filled new (back p n) = filled-at_live new p n below here in
     let back : IsPermutation ((p, decoded (new p)) ∷ beside new p n) (filled new (range_with_len 0 n)) =
     subst (λ l. IsPermutation ((p, decoded (new p)) ∷ beside new p n) l) (sym whole)
     (IsPermutation-sym _ _ (IsPermutation-middle (filled new (front p)) (p, decoded (new p)) (filled new (range_with_len (p + 1) (n - (p + 1)))))) in
@@ -130,7 +127,7 @@ is_beside p e = not (nat_eq e.0 p)
 none-at : (p : ℕ) (es : List (ℕ × Option Record)) → AllByRecursion (λ e. nat_eq e.0 p ≡ false) es → sum_by (is_at p) es ≡ 0
 none-at p [] all = refl
 none-at p (e ∷ es) all =
-    let here : is_at p e ≡ 0 = cond-false (nat_eq e.0 p) 1 0 all.0 in
+    let here : is_at p e ≡ 0 = cond-false _ _ _ all.0 in
     omega (arith, sum_by-cons (is_at p) e es, here, none-at p es all.1)
 
 all-beside : (p : ℕ) (es : List (ℕ × Option Record)) → sum_by (is_at p) es ≡ 0 → AllByRecursion (λ e. nat_eq e.0 p ≡ false) es
@@ -176,16 +173,15 @@ IsAmong-filled bytes p n was rest moved =
     let after = filled-beside bytes p (back p n) (range-above p (p + 1) (n - (p + 1)) (omega arith)) in
     let moved_here : IsPermutation ((p, was) ∷ rest) (xs ++ x ∷ ys) = subst (λ l. IsPermutation ((p, was) ∷ rest) l) whole moved in
     let eq : nat_eq p p ≡ true = grind (arith, nat_tests) in
-    let one : is_at p x ≡ 1 = cond-true (nat_eq p p) 1 0 eq in
-    let also : is_at p (p, was) ≡ 1 = cond-true (nat_eq p p) 1 0 eq in
+    let one : is_at p x ≡ 1 = cond-true _ _ _ eq in
+    let also : is_at p (p, was) ≡ 1 = cond-true _ _ _ eq in
     let count : sum_by (is_at p) (xs ++ x ∷ ys) ≡ 1 =
     omega (arith, sum_by-append (is_at p) xs (x ∷ ys), sum_by-cons (is_at p) x ys, none-at p xs before, none-at p ys after, one) in
     let none : sum_by (is_at p) rest ≡ 0 =
     omega (arith, count, sum_by-IsPermutation (is_at p) ((p, was) ∷ rest) (xs ++ x ∷ ys) moved_here, sum_by-cons (is_at p) (p, was) rest, also) in
     let left : filter (is_beside p) ((p, was) ∷ rest) ≡ rest = rw eq (filter-beside p rest (all-beside p rest none)) in
     let right_end : filter (is_beside p) (x ∷ ys) ≡ ys = rw eq (filter-beside p ys after) in
-    let right : filter (is_beside p) (xs ++ x ∷ ys) ≡ xs ++ ys =
-    filter-append (is_beside p) xs (x ∷ ys) ∙ ap₂ ◌++◌ (filter-beside p xs before) right_end in
+    let right : filter (is_beside p) (xs ++ x ∷ ys) ≡ xs ++ ys = filter-append (is_beside p) xs (x ∷ ys) ∙ ap₂ ◌++◌ (filter-beside p xs before) right_end in
     let kept = IsPermutation-filter (is_beside p) ((p, was) ∷ rest) (xs ++ x ∷ ys) moved_here in
     record {
       below = here.0.0;

@@ -87,12 +87,12 @@ less-ltb a b =
     elim (cases_order a b) [
       | inl same ↦
           let fails = le-ltb a b (omega arith) in
-          ap is_lt (cond-false (ltb a b) _ _ fails ∙ cond-true (eqb a b) _ _ (eq-eqb a b same)) ∙ sym fails
+          ap is_lt (cond-false _ _ _ fails ∙ cond-true _ _ _ (eq-eqb a b same)) ∙ sym fails
       | inr other ↦ elim other [
-        | inl less ↦ let passes = lt-ltb a b less in ap is_lt (cond-true (ltb a b) _ _ passes) ∙ sym passes
+        | inl less ↦ let passes = lt-ltb a b less in ap is_lt (cond-true _ _ _ passes) ∙ sym passes
         | inr more ↦
             let fails = le-ltb a b (omega (arith, more)) in
-            ap is_lt (cond-false (ltb a b) _ _ fails ∙ cond-false (eqb a b) _ _ (ne_eqb a b (λ e. absurd (omega (arith, e, more))))) ∙ sym fails
+            ap is_lt (cond-false _ _ _ fails ∙ cond-false _ _ _ (ne_eqb a b (λ e. absurd (omega (arith, e, more))))) ∙ sym fails
       ]
     ]
 

@@ -26,16 +26,14 @@ own_step-moved n ws = list_all-moved (keeps n ws)
 
 -- where no stream has the number
 pub own_step-apart : (n : ℕ) (ws : List Window) (cs : List Created) → AllByRecursion (λ c. c.number ≡ n → ⊥) cs → keep_own_step n cs ws ≡ true
-own_step-apart n ws cs apart =
-    list_all-each (keeps n ws) cs (all_weaker (λ c. c.number ≡ n → ⊥) (λ c. keeps n ws c ≡ true)
-    (λ c other. or_left (not (c.number == n)) (keep_step (step_number c.params.within) ws) (ap not (ne_eqb c.number n other))) cs apart)
+own_step-apart n ws cs apart = list_all-each (keeps n ws) cs (all_weaker _ _ (λ c other. or_left _ _ (ap not (ne_eqb c.number n other))) cs apart)
 
 -- streams of lower numbers, those of a number, and those of greater ones
 pub own_step-parts : (n : ℕ) (ws : List Window) (cs here later : List Created) → AllByRecursion (λ c. c.number < n) cs →
     AllByRecursion (λ c. n < c.number) later → keep_own_step n (cs ++ (here ++ later)) ws ≡ keep_own_step n here ws
 own_step-parts n ws cs here later below above =
-    let front = own_step-apart n ws cs (all_weaker (λ c. c.number < n) (λ c. c.number ≡ n → ⊥) (λ c lt same. absurd (omega (arith, lt, same))) cs below) in
-    let back = own_step-apart n ws later (all_weaker (λ c. n < c.number) (λ c. c.number ≡ n → ⊥) (λ c lt same. absurd (omega (arith, lt, same))) later above) in
+    let front = own_step-apart n ws cs (all_weaker _ _ (λ c lt same. absurd (omega (arith, lt, same))) cs below) in
+    let back = own_step-apart n ws later (all_weaker _ _ (λ c lt same. absurd (omega (arith, lt, same))) later above) in
     list_all-append (keeps n ws) cs (here ++ later)
     ∙ ap₂ ◌&&◌ front (list_all-append (keeps n ws) here later ∙ ap (λ b. keep_own_step n here ws && b) back ∙ and-true (keep_own_step n here ws))
 
@@ -48,10 +46,10 @@ own_step-one n ws c same =
 -- without one of them
 pub own_step-fewer : (n : ℕ) (ws : List Window) (c : Created) (cs ds : List Created) → keep_own_step n (cs ++ c ∷ ds) ws ≡ true →
     keep_own_step n (cs ++ ds) ws ≡ true
-own_step-fewer n ws c [] ds all = (and_parts (keeps n ws c) (keep_own_step n ds ws) all).1
+own_step-fewer n ws c [] ds all = (and_parts _ _ all).1
 own_step-fewer n ws c (d ∷ cs) ds all =
-    let parts = and_parts (keeps n ws d) (keep_own_step n (cs ++ c ∷ ds) ws) all in
-    and_from (keeps n ws d) (keep_own_step n (cs ++ ds) ws) parts.0 (own_step-fewer n ws c cs ds parts.1)
+    let parts = and_parts _ _ all in
+    and_from _ _ parts.0 (own_step-fewer n ws c cs ds parts.1)
 
 -- windows of a stream that keep to its step, as a test and of each
 pub IsInStep-keep_step : (params : Params) (ws : List Window) → keep_step (step_number params.within) ws ≡ true → All (IsInStep (rule_of params).step) ws

@@ -32,12 +32,12 @@ are_zeros-zeros bytes is = ap are_zeros is
 extent-next : (put : Put) (found : SlotMap) → put.slot ≡ found.extent → (changed found (put ∷ [])).extent ≡ found.extent + 1
 extent-next put found next =
     let same : nat_eq put.slot found.extent ≡ true = grind (arith, nat_tests) in
-    cond-true (nat_eq put.slot found.extent) (found.extent + 1) found.extent same
+    cond-true _ _ _ same
 
 pub extent-stays : (put : Put) (found : SlotMap) → put.slot < found.extent → (changed found (put ∷ [])).extent ≡ found.extent
 extent-stays put found below =
     let other : nat_eq put.slot found.extent ≡ false = grind (arith, nat_tests) in
-    cond-false (nat_eq put.slot found.extent) (found.extent + 1) found.extent other
+    cond-false _ _ _ other
 
 occupied-changed : (put : Put) (found : SlotMap) (n : ℕ) → (changed found (put ∷ [])).extent ≡ n →
     occupied (changed found (put ∷ [])) ≡ filled (with_put put found.bytes) (range_with_len 0 n)

@@ -38,7 +38,7 @@ made-found found all whole are Y f free =
 -- every slot spells a record
 no-none : (os : ℕ → Option Record) (a n : ℕ) → ((k : ℕ) → a ≤ k → k < a + n → os k ≢ None) → list_any is_none (map os (range_with_len a n)) ≡ false
 no-none os a zero some = refl
-no-none os a (suc n) some = or_from (is_none (os a)) _ (go (os a) (some a (omega arith) (omega arith)))
+no-none os a (suc n) some = or_from _ _ (go (os a) (some a (omega arith) (omega arith)))
     (no-none os (a + 1) n (λ k ge lt. some k (omega arith) (omega arith)))
   where
     go : (o : Option Record) → o ≢ None → is_none o ≡ false
@@ -82,7 +82,8 @@ rebuilds found all sorted (Ok parts) whole are usable order moved walks =
       doomed = map in_slot items;
       carried =
           carried-streams found streams (no-bad-slot found are.spelled_all)
-          (lowest-made (records_in (spelled found)) (without_slots all) (made-found found all whole are) ∙ none_bad-AreSound (without_slots all) (sound_numbers parts streams all sorted built order moved))
+          (lowest-made (records_in (spelled found)) (without_slots all) (made-found found all whole are)
+          ∙ none_bad-AreSound (without_slots all) (sound_numbers parts streams all sorted built order moved))
           (streams_are streams rs built.state (have_those parts streams all sorted built order moved rs (made-found found all whole are)));
       held = record {
         each = built.each;
@@ -181,15 +182,13 @@ whole-from_walk live all sorted (Ok parts) slots moved walks =
     let first : ℕ × Option Record → ℕ = λ e. e.0 in
     let items = doomed_found false sorted ++ doomed_found true sorted in
     let own = flat_map slots_held ps in
-    let slots_doomed : IsPermutation parts.doomed.items (slots_found items) =
-    subst (λ l. IsPermutation l (slots_found items)) (sym built.doomed)
+    let slots_doomed : IsPermutation parts.doomed.items (slots_found items) = subst (λ l. IsPermutation l (slots_found items)) (sym built.doomed)
     (subst (IsPermutation (built.others ++ built.heads)) (sym (map-append (λ (f : Found). f.slot) (doomed_found false sorted) (doomed_found true sorted)))
     (IsPermutation-append built.others (slots_found (doomed_found false sorted)) built.heads (slots_found (doomed_found true sorted))
     built.of_others.are built.of_heads.are)) in
     let both : map first (map in_slot items ++ flat_map records_held (zip ps ss)) ≡ slots_found items ++ own =
     map-append first (map in_slot items) (flat_map records_held (zip ps ss)) ∙ ap₂ ◌++◌ (first-in_slot items) (slots-agree ps ss built.each) in
-    let held : IsPermutation (parts.doomed.items ++ own) (slots_found sorted) =
-    IsPermutation-trans (parts.doomed.items ++ own) (slots_found items ++ own) (slots_found sorted)
+    let held : IsPermutation (parts.doomed.items ++ own) (slots_found sorted) = IsPermutation-trans _ _ _
     (IsPermutation-append_left own parts.doomed.items (slots_found items) slots_doomed) (subst (λ l. IsPermutation l (slots_found sorted)) both
     (subst (IsPermutation (map first (map in_slot items ++ flat_map records_held (zip ps ss)))) (first-in_slot sorted)
     (IsPermutation-map first (map in_slot items ++ flat_map records_held (zip ps ss)) (map in_slot sorted) built.records))) in
@@ -212,8 +211,7 @@ whole-from_walk live all sorted (Ok parts) slots moved walks =
           (each-agree (λ part. AreKnown part.landmarks × EndByLast part) (λ part s is stream. (is.known, EndByLast-Agrees part s is)) ps ss built.each
           streams);
       slots =
-          IsPermutation-trans (parts.doomed.items ++ own) (slots_found sorted) (filter (is_live live) (range_with_len 0 (length live))) held
-          (subst (IsPermutation (map (λ (f : Found). f.slot) sorted)) slots
+          IsPermutation-trans _ _ _ held (subst (IsPermutation (map (λ (f : Found). f.slot) sorted)) slots
           (IsPermutation-map (λ (f : Found). f.slot) sorted all (IsPermutation-sym all sorted moved)));
     }
 

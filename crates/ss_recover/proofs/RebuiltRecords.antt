@@ -63,17 +63,15 @@ module _ (parts : Parts) (streams : List Stream) (all sorted : List Found) (buil
   pub all-held : IsPermutation (map in_slot doomed ++ held) (map in_slot all)
   all-held =
       let there = doomed_found false sorted ++ doomed_found true sorted in
-      IsPermutation-trans (map in_slot doomed ++ held) (map in_slot there ++ held) (map in_slot all)
-      (IsPermutation-append_left held (map in_slot doomed) (map in_slot there) (IsPermutation-map in_slot doomed there doomed-moved))
-      (IsPermutation-trans (map in_slot there ++ held) (map in_slot sorted) (map in_slot all) built.records
-      (IsPermutation-map in_slot sorted all (IsPermutation-sym all sorted moved)))
+      IsPermutation-trans _ _ _ (IsPermutation-append_left held (map in_slot doomed) (map in_slot there) (IsPermutation-map in_slot doomed there doomed-moved))
+      (IsPermutation-trans _ _ _ built.records (IsPermutation-map in_slot sorted all (IsPermutation-sym all sorted moved)))
 
   records-held : records_beside held ≡ records_of_streams streams
   records-held = beside-seconds held ∙ ap records_in (second-held parts.streams.items streams built.each) ∙ records_in-Some (records_of_streams streams)
 
   all-walked_too : IsPermutation (without_slots doomed ++ all_walked streams) us
   all-walked_too =
-      IsPermutation-trans (without_slots doomed ++ all_walked streams) (without_slots doomed ++ records_of_streams streams) us
+      IsPermutation-trans _ _ _
       (IsPermutation-append_right (without_slots doomed) (all_walked streams) (records_of_streams streams) (IsPermutation-all_walked streams))
       (subst (IsPermutation (without_slots doomed ++ records_of_streams streams)) (beside-found all)
       (subst (λ l. IsPermutation l (records_beside (map in_slot all)))
@@ -84,26 +82,23 @@ module _ (parts : Parts) (streams : List Stream) (all sorted : List Found) (buil
   kept_each : AllByRecursion (λ s. is_dropped s.number us ≡ false) streams
   kept_each =
       let both = without_slots doomed ++ all_walked streams in
-      standing-kept us streams (all_behind (IsGone us) (without_slots doomed) (all_walked streams)
+      standing-kept us streams (all_behind _ (without_slots doomed) (all_walked streams)
       (recursion_from_All (IsGone us) both (All-permutation (IsGone us) us both (IsPermutation-sym both us all-walked_too)
       (All-from_recursion (IsGone us) us gone))))
 
   dropped_each : AllByRecursion (λ r. is_dropped (stream_of r) us ≡ true) (without_slots doomed)
   dropped_each =
-      map-all (λ r. is_dropped (stream_of r) us ≡ true) (λ (f : Found). f.holds) doomed
-      (all_append (λ (f : Found). is_dropped (stream_of f.holds) us ≡ true) (doomed_found false all) (doomed_found true all) (one false) (one true))
+      map-all _ (λ (f : Found). f.holds) doomed (all_append _ (doomed_found false all) (doomed_found true all) (one false) (one true))
     where
       one : (own : Bool) → AllByRecursion (λ (f : Found). is_dropped (stream_of f.holds) us ≡ true) (doomed_found own all)
-      one own =
-          all_weaker (λ (f : Found). is_doomed own us f.holds ≡ true) (λ (f : Found). is_dropped (stream_of f.holds) us ≡ true)
-          (λ f is. dropped-doomed own us f.holds is) (doomed_found own all) (all-passing (λ (f : Found). is_doomed own us f.holds) all)
+      one own = all_weaker _ _ (λ f is. dropped-doomed own us f.holds is) (doomed_found own all) (all-passing (λ (f : Found). is_doomed own us f.holds) all)
 
   -- none of the records that are held is of a dropped stream
   none_held : (n : ℕ) → is_dropped n us ≡ true → list_any (is_of n) (records_beside held) ≡ false
   none_held n is =
       ap (list_any (is_of n)) records-held
       ∙ sym (list_any-IsPermutation (is_of n) (all_walked streams) (records_of_streams streams) (IsPermutation-all_walked streams))
-      ∙ none-passes (is_of n) (all_walked streams) (all_weaker (λ r. is_dropped (stream_of r) us ≡ false) (λ r. is_of n r ≡ false)
+      ∙ none-passes (is_of n) (all_walked streams) (all_weaker _ _
       (λ r stands. is_of-apart n r (ne_eqb (stream_of r) n (λ same. absurd (true≢false (sym is ∙ sym (ap (λ k. is_dropped k us) same) ∙ stands)))))
       (all_walked streams) (all-all_walked (λ k. is_dropped k us ≡ false) streams kept_each))
 
@@ -127,5 +122,4 @@ module _ (parts : Parts) (streams : List Stream) (all sorted : List Found) (buil
           let both = without_slots doomed ++ all_walked streams in
           let all_gone = recursion_from_All (IsGone us) both (All-permutation (IsGone us) us both (IsPermutation-sym both us all-walked_too)
           (All-from_recursion (IsGone us) us gone)) in
-          all_both (IsGone us) (λ r. is_dropped (stream_of r) us ≡ true) (λ r. stands_by r ≡ None) (λ r silent is. silent is) (without_slots doomed)
-          (all_front (IsGone us) (without_slots doomed) (all_walked streams) all_gone) dropped_each
+          all_both _ _ _ (λ r silent is. silent is) (without_slots doomed) (all_front _ (without_slots doomed) (all_walked streams) all_gone) dropped_each

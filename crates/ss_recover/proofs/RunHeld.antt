@@ -97,12 +97,10 @@ parts-found (f ∷ fs) usable none =
         IsPermutation-cons (record { slot = slot; holds = records.Window id first summary }) (ws ++ (ls ++ vs)) fs (rest none)
     go slot (records.Landmark id n said start finish) usable none rest =
         let x : Found = record { slot = slot; holds = records.Landmark id n said start finish } in
-        IsPermutation-trans (ws ++ x ∷ (ls ++ vs)) (x ∷ (ws ++ (ls ++ vs))) (x ∷ fs) (IsPermutation-middle ws x (ls ++ vs))
-        (IsPermutation-cons x (ws ++ (ls ++ vs)) fs (rest none))
+        IsPermutation-trans _ _ _ (IsPermutation-middle ws x (ls ++ vs)) (IsPermutation-cons x (ws ++ (ls ++ vs)) fs (rest none))
     go slot (records.Value id n index t v) usable none rest =
         let x : Found = record { slot = slot; holds = records.Value id n index t v } in
-        subst (λ l. IsPermutation l (x ∷ fs)) (append_assoc ws ls (x ∷ vs))
-        (IsPermutation-trans ((ws ++ ls) ++ x ∷ vs) (x ∷ ((ws ++ ls) ++ vs)) (x ∷ fs) (IsPermutation-middle (ws ++ ls) x vs)
+        subst (λ l. IsPermutation l (x ∷ fs)) (append_assoc ws ls (x ∷ vs)) (IsPermutation-trans _ _ _ (IsPermutation-middle (ws ++ ls) x vs)
         (IsPermutation-cons x ((ws ++ ls) ++ vs) fs (subst (λ l. IsPermutation l fs) (sym (append_assoc ws ls vs)) (rest none))))
 
 no-windows : (n k : ℕ) (ls : List Landmark) → filter is_window (marks_of n k ls) ≡ []
@@ -143,7 +141,7 @@ module _ (front : List Record) (streams : List Stream) (done : AreWalked front s
   usable-rest = (subst (AllByRecursion (λ (f : Found). IsUsable f.holds)) held.split usable).1
 
   pub own-rest : AllByRecursion (λ r. stream_of r ≡ held.head.number) rs
-  own-rest = all_weaker (λ r. stream_of r ≡ n) (λ r. stream_of r ≡ held.head.number) (λ r is. is ∙ sym same) rs
+  own-rest = all_weaker _ _ (λ r is. is ∙ sym same) rs
       (subst (AllByRecursion (λ r. stream_of r ≡ n)) split own).1
 
   pub rises-all : Rises place_of (head ∷ rs)

@@ -1,11 +1,11 @@
 -- What is held of the last landmark shows what its records say, while its values come.
 use Rattle.ss_recover.proofs.Words.{[], ◌&&◌, ◌++◌, ◌+◌, ◌<◌, ◌==◌, ◌||◌, ◌∙◌, ◌∷◌, ◌≡◌, ◌≤◌, All, All-from_recursion, and_assoc, and_parts, ap, AreLandmarks}
-use Rattle.ss_recover.proofs.Words.{arith, can_add, can_open, CanClose-after, CanOpen, CanOpen-after, CanTake, cases-finish, change_last, closed_at}
-use Rattle.ss_recover.proofs.Words.{closes_before, cond-false, cond-true, ends-latest, false, finish_of, FollowFrom, has_all_values, has_said, has_said_last}
-use Rattle.ss_recover.proofs.Words.{IfSome, inl, inr, is_closed_before, is_next_landmark, is_next_value, is_none, is_up_to, IsLast, IsNone, IsSome, Landmark}
-use Rattle.ss_recover.proofs.Words.{landmarks_in, LandmarkValue, Last, latest_at_end, latest_of, LATEST_TIME, leb-true, length, length-append, List, list_all}
-use Rattle.ss_recover.proofs.Words.{ltb-true, Marked, MatchOption, MayClose, nat_le, nat_lt, None, open_landmark, Option, option_map_or, option_to_list, refl}
-use Rattle.ss_recover.proofs.Words.{ShowsLast, Some, still_open, subst, sym, true, with_closing, ℕ}
+use Rattle.ss_recover.proofs.Words.{arith, can_add, can_open, CanClose-after, CanOpen, CanOpen-after, CanTake, cases-finish, change_last, closed_at, cond-false}
+use Rattle.ss_recover.proofs.Words.{cond-true, ends-latest, false, finish_of, FollowFrom, has_all_values, has_said, has_said_last, IfSome, inl, inr}
+use Rattle.ss_recover.proofs.Words.{is_closed_before, is_next_landmark, is_next_value, is_none, is_up_to, IsLast, IsNone, IsSome, Landmark, landmarks_in}
+use Rattle.ss_recover.proofs.Words.{LandmarkValue, Last, latest_at_end, latest_of, LATEST_TIME, leb-true, length, length-append, List, list_all, ltb-true}
+use Rattle.ss_recover.proofs.Words.{Marked, MatchOption, MayClose, nat_le, nat_lt, None, open_landmark, Option, option_map_or, option_to_list, refl, ShowsLast}
+use Rattle.ss_recover.proofs.Words.{Some, still_open, subst, sym, true, with_closing, ℕ}
 use Rattle.ss_landmarks.proofs.OpenLemmas.{open_landmark-close}
 use Rattle.ss_recover.proofs.Latest.{latest_of-closed}
 use Rattle.ss_recover.proofs.Lists.{all_weaker, each-list_all}
@@ -14,7 +14,7 @@ use Rattle.ss_recover.proofs.Lists.{all_weaker, each-list_all}
 
 -- where landmarks are in order, the open one is the last
 open-last : (from : ℕ) (front : List Landmark) (x : Landmark) → FollowFrom from (front ++ x ∷ []) → x.finish ≡ None → open_landmark (front ++ x ∷ []) ≡ Some x
-open-last from [] x follow is = cond-true (is_none x.finish) (Some x) None (ap is_none is)
+open-last from [] x follow is = cond-true _ _ _ (ap is_none is)
 open-last from (y ∷ ys) x follow is =
     elim (cases-finish y.finish) [
       | inl begun ↦
@@ -22,7 +22,7 @@ open-last from (y ∷ ys) x follow is =
           absurd (omega (arith, ap (λ (l : List Landmark). length l) last, length-append ys (x ∷ []))))
       | inr some ↦
           (let later = subst (λ (f : Option ℕ). MatchOption f (ys ++ x ∷ [] ≡ []) (λ t. FollowFrom (t + 1) (ys ++ x ∷ []))) some.1 follow.2 in
-          cond-false (is_none y.finish) (Some y) (open_landmark (ys ++ x ∷ [])) (ap is_none some.1) ∙ open-last (some.0 + 1) ys x later is)
+          cond-false _ _ _ (ap is_none some.1) ∙ open-last (some.0 + 1) ys x later is)
     ]
 
 pub change_last-front : (change : Landmark → Landmark) (front : List Landmark) (x : Landmark) → change_last change (front ++ x ∷ []) ≡ front ++ change x ∷ []
@@ -119,16 +119,15 @@ module _ (ls : List Landmark) (latest : Option ℕ) (m : Marked) where
       let none : us ≡ [] = closed ∙ shows.1 in
       subst (λ vs. CanOpen vs start × IfSome (latest_of vs) (λ time. time < start)) (sym none) ((λ k d below. absurd (omega (arith, below))), tt)
   CanOpen-shown (Some c) us number start shows is order can closed =
-      let tests = and_parts (number == length ls + 1) _ can in
-      let before = and_parts (is_none c.finish || c.values == c.said) (closes_before start c) tests.1 in
+      let tests = and_parts _ _ can in
+      let before = and_parts _ _ tests.1 in
       elim (cases-finish c.finish) [
         | inl begun ↦ absurd (let wrong : false ≡ true = sym (ap (λ o. option_map_or (λ finish. nat_lt finish start) o false) begun) ∙ before.1 in cc)
         | inr some ↦
             let f = some.0 in
             let lt = ltb-true f start (sym (ap (λ o. option_map_or (λ finish. nat_lt finish start) o false) some.1) ∙ before.1) in
             let is_closed : us ≡ change_last (closed_at f) ls = closed ∙ ap (λ o. with_closing o ls) some.1 in
-            let last : latest_of us ≡ Some f =
-            ap latest_of closed ∙ sym (latest-shown (Some c) shows is) ∙ ap (λ o. latest_at_end o latest) some.1 in (
+            let last : latest_of us ≡ Some f = ap latest_of closed ∙ sym (latest-shown (Some c) shows is) ∙ ap (λ o. latest_at_end o latest) some.1 in (
               CanOpen-after us f start (ends-latest None us f last)
                   (subst (λ vs. IsNone (open_landmark vs)) (sym is_closed) (open_landmark-close 0 ls f order)) lt,
               subst (λ (o : Option ℕ). IfSome o (λ time. time < start)) (sym last) lt,
@@ -138,11 +137,10 @@ module _ (ls : List Landmark) (latest : Option ℕ) (m : Marked) where
   pub CanTake-shown : (c : Last) (number index t : ℕ) → IsLast c ls latest m → AreLandmarks ls → can_add (length ls) c number index t ≡ true → CanTake ls t
   CanTake-shown c number index t shows order can =
       let l = shows.landmark in
-      let tests = and_parts (index == c.values + 1 && nat_le c.from t) (is_up_to t c.finish) (and_parts (number == length ls) _ can).1 in
-      let times = and_parts (nat_le l.start t) _ (shows.from t ∙ (and_parts (index == c.values + 1) (nat_le c.from t) tests.0).1) in
+      let tests = and_parts _ _ (and_parts _ _ can).1 in
+      let times = and_parts _ _ (shows.from t ∙ (and_parts _ _ tests.0).1) in
       subst (λ (o : Option Landmark). MatchOption o ⊥ (λ x. (x.start ≤ t) × All (λ value. value.t < t) x.values)) (sym (open-held c ls latest m shows order)) (
         leb-true l.start t times.0,
         All-from_recursion (λ (value : LandmarkValue). value.t < t) l.values
-            (all_weaker (λ (value : LandmarkValue). nat_lt value.t t ≡ true) (λ value. value.t < t) (λ value lt. ltb-true value.t t lt) l.values
-            (each-list_all (λ (value : LandmarkValue). nat_lt value.t t) l.values times.1)),
+            (all_weaker _ _ (λ value lt. ltb-true value.t t lt) l.values (each-list_all (λ (value : LandmarkValue). nat_lt value.t t) l.values times.1)),
       )

@@ -23,7 +23,7 @@ module _ {X : Type 0} (h : X → Record) where
   pub streams-rise : (xs : List X) → Rises (λ x. key_of (h x)) xs → AllByRecursion (λ x. IsUsable (h x)) xs → Rises (λ x. stream_of (h x)) xs
   streams-rise [] rises usable = tt
   streams-rise (x ∷ xs) rises usable = (
-    all_both (λ y. key_of (h x) ≤ key_of (h y)) (λ y. IsUsable (h y)) (λ y. stream_of (h x) ≤ stream_of (h y))
+    all_both _ _ _
         (λ y le small. key-le (stream_of (h x)) (stream_of (h y)) (place_of (h x)) (place_of (h y)) (place-below (h x) usable.0) (place-below (h y) small) le)
         xs rises.0 usable.1,
     streams-rise xs rises.1 usable.1,
@@ -32,15 +32,14 @@ module _ {X : Type 0} (h : X → Record) where
   pub places-rise : (n : ℕ) (xs : List X) → Rises (λ x. key_of (h x)) xs → AllByRecursion (λ x. stream_of (h x) ≡ n) xs → Rises place_of (map h xs)
   places-rise n [] rises own = tt
   places-rise n (x ∷ xs) rises own = (
-    map-all (λ r. place_of (h x) ≤ place_of r) h xs
-        (all_both (λ y. key_of (h x) ≤ key_of (h y)) (λ y. stream_of (h y) ≡ n) (λ y. place_of (h x) ≤ place_of (h y))
-        (λ y le is. key-place (stream_of (h x)) (stream_of (h y)) (place_of (h x)) (place_of (h y)) le (is ∙ sym own.0)) xs rises.0 own.1),
+    map-all _ h xs
+        (all_both _ _ _ (λ y le is. key-place (stream_of (h x)) (stream_of (h y)) (place_of (h x)) (place_of (h y)) le (is ∙ sym own.0)) xs rises.0 own.1),
     places-rise n xs rises.1 own.1,
   )
 
 pub Rises-parts : {X : Type 0} (key : X → ℕ) (xs ys : List X) → Rises key (xs ++ ys) → Rises key xs × Rises key ys
 Rises-parts key [] ys rises = (tt, rises)
-Rises-parts key (x ∷ xs) ys rises = let rest = Rises-parts key xs ys rises.1 in ((all_front (λ y. key x ≤ key y) xs ys rises.0, rest.0), rest.1)
+Rises-parts key (x ∷ xs) ys rises = let rest = Rises-parts key xs ys rises.1 in ((all_front _ xs ys rises.0, rest.0), rest.1)
 
 -- as `partition_point` has it
 module _ {X : Type 0} where
@@ -79,8 +78,7 @@ own-front (y ∷ ys) (suc len) x some is rises front back =
       ap (λ f. f ∷ take len ys) (sym is),
       (
         refl,
-        all_both (λ (f : Found). stream_of f.holds ≤ stream_of x.holds) (λ f. stream_of y.holds ≤ stream_of f.holds)
-            (λ f. stream_of f.holds ≡ stream_of x.holds) (λ f most low. omega (arith, most, low, same)) (take len ys) front.1 least,
+        all_both _ _ _ (λ f most low. omega (arith, most, low, same)) (take len ys) front.1 least,
       ),
     )
 
@@ -89,7 +87,7 @@ pub sliced-rises : (all sliced : List Found) (at : ℕ) → sliced ≡ drop at a
 sliced-rises all sliced at same order usable =
     let parted : all ≡ take at all ++ sliced = sym (take-append-drop at all) ∙ ap (λ l. take at all ++ l) (sym same) in
     streams-rise (λ (f : Found). f.holds) sliced (Rises-parts found_key (take at all) sliced (subst (Rises found_key) parted order)).1
-    (all_behind (λ (f : Found). IsUsable f.holds) (take at all) sliced
+    (all_behind _ (take at all) sliced
     (subst (AllByRecursion (λ (f : Found). IsUsable f.holds)) parted (recursion_from_All (λ (f : Found). IsUsable f.holds) all usable)))
 
 -- the next run, as the code finds it
@@ -115,7 +113,6 @@ IsNextRun-from all sliced at len n x within same few is order usable of front ba
       usable = All-take (λ (f : Found). IsUsable f.holds) len sliced
           (subst (All (λ (f : Found). IsUsable f.holds)) (sym same) (All-drop (λ (f : Found). IsUsable f.holds) at all usable));
       own = subst (All (λ (f : Found). stream_of f.holds ≡ n)) (sym own.1)
-          (All-from_recursion (λ (f : Found). stream_of f.holds ≡ n) (x ∷ own.0)
-          (all_weaker (λ (f : Found). stream_of f.holds ≡ stream_of x.holds) (λ f. stream_of f.holds ≡ n) (λ f e. e ∙ sym of) (x ∷ own.0) own.2));
+          (All-from_recursion (λ (f : Found). stream_of f.holds ≡ n) (x ∷ own.0) (all_weaker _ _ (λ f e. e ∙ sym of) (x ∷ own.0) own.2));
       above = back;
     }

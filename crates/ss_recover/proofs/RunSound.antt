@@ -3,9 +3,9 @@ use Rattle.ss_recover.proofs.Words.{[], ◌&&◌, ◌++◌, ◌+◌, ◌<◌, �
 use Rattle.ss_recover.proofs.Words.{are_marks, arith, Bool, cases_Bool, Created, created_by, eq-eqb, false, filter-append, filter_map, filter_map-append}
 use Rattle.ss_recover.proofs.Words.{has_new_name, has_one_record, has_place, has_sound_values_in_order, has_sound_values_within, inl, inr, is_drop_of}
 use Rattle.ss_recover.proofs.Words.{is_dropped, is_mark_of, is_own, is_run, is_sound_in_order, IsUsable, keep_own_step, keep_step, landmarks_made, length}
-use Rattle.ss_recover.proofs.Words.{length-map, lies_free, List, list_all, list_any, list_any-append, map, marks_in, may_stand, MOST_STREAMS, nat_lt, ne_eqb}
-use Rattle.ss_recover.proofs.Words.{not, not-true, or-false, or_from, place_of, Record, refl, Rises, same_name, step_number, stream_of, streams_created, sym}
-use Rattle.ss_recover.proofs.Words.{tile, times_rise, true, Window, window_of, window_record, windows_in, ℕ}
+use Rattle.ss_recover.proofs.Words.{length-map, lies_free, List, list_all, list_any, list_any-append, map, marks_in, MOST_STREAMS, nat_lt, ne_eqb, not}
+use Rattle.ss_recover.proofs.Words.{not-true, or-false, or_from, place_of, Record, refl, Rises, same_name, step_number, stream_of, streams_created, sym, tile}
+use Rattle.ss_recover.proofs.Words.{times_rise, true, Window, window_of, window_record, windows_in, ℕ}
 use Rattle.ss_recover.proofs.Lists.{all_weaker}
 use Rattle.ss_recover.proofs.OwnSteps.{own_step-one, own_step-parts}
 use Rattle.ss_recover.proofs.SoundStreams.{count-at, count-below, new-name}
@@ -44,8 +44,7 @@ marks-apart n (_ ∷ rs) apart = marks-apart n rs apart.1
 -- what says that its stream was dropped is of its number
 pub drops-apart : (n : ℕ) (rs : List Record) → AllByRecursion (λ r. stream_of r ≡ n → ⊥) rs → is_dropped n rs ≡ false
 drops-apart n [] apart = refl
-drops-apart n (records.Stream id name params dropped ∷ rs) apart =
-    or_from (dropped && (id == n)) (is_dropped n rs) (and_right dropped (id == n) (ne_eqb id n apart.0)) (drops-apart n rs apart.1)
+drops-apart n (records.Stream id name params dropped ∷ rs) apart = or_from _ _ (and_right _ _ (ne_eqb id n apart.0)) (drops-apart n rs apart.1)
 drops-apart n (_ ∷ rs) apart = drops-apart n rs apart.1
 
 -- where no stream is created, no record is a stream's own, and none says that one was dropped
@@ -110,10 +109,10 @@ module _ (front run back : List Record) (n : ℕ) (lower : AllByRecursion (λ r.
   created-parts = filter_map-append created_by front (run ++ back) ∙ ap (λ l. cs ++ l) (filter_map-append created_by run back)
 
   front-apart : AllByRecursion (λ r. stream_of r ≡ n → ⊥) front
-  front-apart = all_weaker (λ r. stream_of r < n) (λ r. stream_of r ≡ n → ⊥) (λ r lt same. absurd (omega (arith, lt, same))) front lower
+  front-apart = all_weaker _ _ (λ r lt same. absurd (omega (arith, lt, same))) front lower
 
   back-apart : AllByRecursion (λ r. stream_of r ≡ n → ⊥) back
-  back-apart = all_weaker (λ r. n < stream_of r) (λ r. stream_of r ≡ n → ⊥) (λ r lt same. absurd (omega (arith, lt, same))) back above
+  back-apart = all_weaker _ _ (λ r lt same. absurd (omega (arith, lt, same))) back above
 
   pub windows-own : windows n all ≡ windows n run
   windows-own =
@@ -169,7 +168,7 @@ is_run-sound front [] back n lower own above usable rises some = absurd (omega (
 is_run-sound front (records.Free ∷ rest) back n lower own above usable rises some = absurd usable.0
 is_run-sound front (records.Window id first summary ∷ rest) back n lower own above usable rises some =
     let r = records.Window id first summary in
-    let none = none-created rest (all_weaker (λ q. place_of r ≤ place_of q) (λ q. 1 ≤ place_of q) (λ q le. omega (arith, le)) rest rises.0) in
+    let none = none-created rest (all_weaker _ _ (λ q le. omega (arith, le)) rest rises.0) in
     sound-never front (r ∷ rest) back n lower own above (λ one. absurd (omega (arith, one, ap (λ (l : List Created). length l) none)))
 is_run-sound front (records.Stream id name params dropped ∷ rest) back n lower own above usable rises some =
     let r = records.Stream id name params dropped in
@@ -195,13 +194,12 @@ is_run-sound front (records.Stream id name params dropped ∷ rest) back n lower
           ∙ ap (λ b. may && (not (list_any is_own rest) && (dropped || (has_sound_values_in_order rest n && b)))) keep
           ∙ ap (λ k. may && (not (list_any is_own rest) && (dropped || has_sound_values_within (step_number params.within) rest k))) (sym own.0)
       | u ∷ us ↦ λ is.
-          sound-never front (r ∷ rest) back n lower own above (λ one. absurd (omega (arith, one, ap (λ (l : List Created). length l) is)))
-          ∙ sym (and_right may (not (list_any is_own rest) && (dropped || has_sound_values_within (step_number params.within) rest id))
+          sound-never front (r ∷ rest) back n lower own above (λ one. absurd (omega (arith, one, ap (λ (l : List Created). length l) is))) ∙ sym (and_right _ _
           (ap (λ b. not b && (dropped || has_sound_values_within (step_number params.within) rest id)) (own-created rest u us is)))
     ] refl
 is_run-sound front (x ∷ rest) back n lower own above usable rises some =
     let low = usable.0.0 in
-    let none = none-created rest (all_weaker (λ q. place_of x ≤ place_of q) (λ q. 1 ≤ place_of q) (λ q le. omega (arith, le, low)) rest rises.0) in
+    let none = none-created rest (all_weaker _ _ (λ q le. omega (arith, le, low)) rest rises.0) in
     sound-never front (x ∷ rest) back n lower own above (λ one. absurd (omega (arith, one, ap (λ (l : List Created). length l) none)))
 
 -- what the records of a run meet after a stream's own
@@ -216,17 +214,11 @@ pub record MeetsRun (rest : List Record) (head : Created) : Type 0 where
 pub run-meets : (names : List (List ℕ)) (rest : List Record) (head : Created) →
     is_run names (records.Stream head.number head.name head.params false ∷ rest) ≡ true → MeetsRun rest head
 run-meets names rest head run =
-    let ws = windows head.number rest in
-    let ms = marks head.number rest in
-    let free = list_all (lies_free (landmarks_made ms)) ws in
-    let keep = keep_step (step_number head.params.within) ws in
-    let sound = tile ws && times_rise ws && are_marks ms && free && keep in
-    let may = and_parts (may_stand names head.name) (not (list_any is_own rest) && (false || sound)) run in
-    let both = and_parts (not (list_any is_own rest)) (false || sound) may.1 in
-    let within = and_parts (tile ws && times_rise ws && are_marks ms && free) keep both.1 in
-    let values = and_parts (tile ws && times_rise ws && are_marks ms) free within.0 in
-    let first = and_parts (tile ws && times_rise ws) (are_marks ms) values.0 in
-    let windows_meet = and_parts (tile ws) (times_rise ws) first.0 in
+    let both = and_parts _ _ (and_parts _ _ run).1 in
+    let within = and_parts _ _ both.1 in
+    let values = and_parts _ _ within.0 in
+    let first = and_parts _ _ values.0 in
+    let windows_meet = and_parts _ _ first.0 in
     record {
       alone = own-alone rest (not-true (list_any is_own rest) both.0);
       tiles = windows_meet.0;

@@ -3,7 +3,7 @@ use Rattle.ss_recover.proofs.Words.{[], ◌&&◌, ◌++◌, ◌<◌, ◌||◌, �
 use Rattle.ss_recover.proofs.Words.{append_assoc, ap₂, arith, Bool, cond, Created, created_by, false, filter, filter-append, filter_map, filter_map-append}
 use Rattle.ss_recover.proofs.Words.{has_sound_values_within, if◌then◌else◌, is_doomed, is_drop_of, is_dropped, is_own, is_run, IsPermutation}
 use Rattle.ss_recover.proofs.Words.{IsPermutation-cons, IsPermutation-middle, IsPermutation-refl, IsPermutation-trans, IsUsable, length, length-append, List}
-use Rattle.ss_recover.proofs.Words.{list_any, list_any-append, lt-ltb, ltb-true, map, map-append, may_stand, MOST_STREAMS, nat_lt, not, not-true, or-false}
+use Rattle.ss_recover.proofs.Words.{list_any, list_any-append, lt-ltb, ltb-true, map, map-append, may_stand, MOST_STREAMS, not, not-true, or-false}
 use Rattle.ss_recover.proofs.Words.{or_from, or_parts, Params, Record, refl, same_name, step_number, stream_of, streams_created, subst, sym, true, ℕ}
 use Rattle.ss_recover.proofs.Lists.{all_both, all_weaker, filter-all, filter-none, filter-same}
 use Rattle.ss_recover.proofs.RunSound.{drops-apart}
@@ -26,8 +26,7 @@ AreFewer-nil names = record { long = omega arith; apart = λ name none. refl }
 module _ (fewer names : List (List ℕ)) (few : AreFewer fewer names) where
   none-before : (name other : List ℕ) → list_any (same_name other) (names ++ name ∷ []) ≡ false →
       (list_any (same_name other) names ≡ false) × (list_any (same_name other) (name ∷ []) ≡ false)
-  none-before name other none =
-      or_parts (list_any (same_name other) names) (list_any (same_name other) (name ∷ [])) (sym (list_any-append (same_name other) names (name ∷ [])) ∙ none)
+  none-before name other none = or_parts _ _ (sym (list_any-append (same_name other) names (name ∷ [])) ∙ none)
 
   -- one name more among the others, and among both
   pub AreFewer-more : (name : List ℕ) → AreFewer fewer (names ++ name ∷ [])
@@ -41,16 +40,15 @@ module _ (fewer names : List (List ℕ)) (few : AreFewer fewer names) where
     long = let long = few.long in omega (arith, long, length-append names (name ∷ []), length-append fewer (name ∷ []));
     apart = λ other none.
         let parts = none-before name other none in
-        list_any-append (same_name other) fewer (name ∷ [])
-        ∙ or_from (list_any (same_name other) fewer) (list_any (same_name other) (name ∷ [])) (few.apart other parts.0) parts.1;
+        list_any-append (same_name other) fewer (name ∷ []) ∙ or_from _ _ (few.apart other parts.0) parts.1;
   }
 
   may-fewer : (name : List ℕ) → may_stand names name ≡ true → may_stand fewer name ≡ true
   may-fewer name may =
-      let parts = and_parts (nat_lt (length names) MOST_STREAMS) (not (list_any (same_name name) names)) may in
+      let parts = and_parts _ _ may in
       let least = ltb-true (length names) MOST_STREAMS parts.0 in
       let long = few.long in
-      and_from (nat_lt (length fewer) MOST_STREAMS) (not (list_any (same_name name) fewer)) (lt-ltb (length fewer) MOST_STREAMS (omega (arith, least, long)))
+      and_from _ _ (lt-ltb (length fewer) MOST_STREAMS (omega (arith, least, long)))
       (ap not (few.apart name (not-true (list_any (same_name name) names) parts.1)))
 
   -- what is a run beside more names is one beside fewer
@@ -58,8 +56,8 @@ module _ (fewer names : List (List ℕ)) (few : AreFewer fewer names) where
   is_run-fewer [] run = cc
   is_run-fewer (records.Stream id name params dropped ∷ rest) run =
       let asked : Bool = not (list_any is_own rest) && (dropped || has_sound_values_within (step_number params.within) rest id) in
-      let parts = and_parts (may_stand names name) asked run in
-      and_from (may_stand fewer name) asked (may-fewer name parts.0) parts.1
+      let parts = and_parts _ _ run in
+      and_from _ _ (may-fewer name parts.0) parts.1
   is_run-fewer (_ ∷ rest) run = cc
 
 -- a stream's own record and others that create none
@@ -92,7 +90,7 @@ doomed-is own us _ usable = refl
 -- none of some records is a stream's own
 pub none-own : {X : Type 0} (h : X → Record) (xs : List X) → list_any is_own (map h xs) ≡ false → AllByRecursion (λ x. is_own (h x) ≡ false) xs
 none-own h [] none = tt
-none-own h (x ∷ xs) none = let parts = or_parts (is_own (h x)) (list_any is_own (map h xs)) none in (parts.0, none-own h xs parts.1)
+none-own h (x ∷ xs) none = let parts = or_parts _ _ none in (parts.0, none-own h xs parts.1)
 
 -- Records of lower numbers, and those of a number behind them.
 module _ {X : Type 0} (h : X → Record) (fs rs : List Record) (n : ℕ) (lower : AllByRecursion (λ r. stream_of r < n) fs)
@@ -100,26 +98,23 @@ module _ {X : Type 0} (h : X → Record) (fs rs : List Record) (n : ℕ) (lower 
   dropped-front : (k : ℕ) → k < n → is_dropped k (fs ++ rs) ≡ is_dropped k fs
   dropped-front k less =
       list_any-append (is_drop_of k) fs rs ∙ ap (λ b. is_dropped k fs || b) (drops-apart k rs
-      (all_weaker (λ r. stream_of r ≡ n) (λ r. stream_of r ≡ k → ⊥) (λ r is same. absurd (omega (arith, is, same, less))) rs own)) ∙ or-false (is_dropped k fs)
+      (all_weaker _ _ (λ r is same. absurd (omega (arith, is, same, less))) rs own)) ∙ or-false (is_dropped k fs)
 
   dropped-run : is_dropped n (fs ++ rs) ≡ is_dropped n rs
   dropped-run =
       list_any-append (is_drop_of n) fs rs ∙ ap (λ b. b || is_dropped n rs) (drops-apart n fs
-      (all_weaker (λ r. stream_of r < n) (λ r. stream_of r ≡ n → ⊥) (λ r less same. absurd (omega (arith, less, same))) fs lower))
+      (all_weaker _ _ (λ r less same. absurd (omega (arith, less, same))) fs lower))
 
   -- what stands or doesn't before the run stays so
   standing-front : (xs : List X) → AllByRecursion (λ x. stream_of (h x) < n) xs →
       filter (λ x. stands_in (fs ++ rs) (h x)) xs ≡ filter (λ x. stands_in fs (h x)) xs
   standing-front xs less =
-      filter-same (λ x. stands_in (fs ++ rs) (h x)) (λ x. stands_in fs (h x)) xs
-      (all_weaker (λ x. stream_of (h x) < n) (λ x. stands_in (fs ++ rs) (h x) ≡ stands_in fs (h x))
-      (λ x lt. ap not (dropped-front (stream_of (h x)) lt)) xs less)
+      filter-same (λ x. stands_in (fs ++ rs) (h x)) (λ x. stands_in fs (h x)) xs (all_weaker _ _ (λ x lt. ap not (dropped-front (stream_of (h x)) lt)) xs less)
 
   doomed-front : (kind : Bool) (xs : List X) → AllByRecursion (λ x. stream_of (h x) < n) xs →
       filter (λ x. is_doomed kind (fs ++ rs) (h x)) xs ≡ filter (λ x. is_doomed kind fs (h x)) xs
   doomed-front kind xs less =
-      filter-same (λ x. is_doomed kind (fs ++ rs) (h x)) (λ x. is_doomed kind fs (h x)) xs
-      (all_weaker (λ x. stream_of (h x) < n) (λ x. is_doomed kind (fs ++ rs) (h x) ≡ is_doomed kind fs (h x))
+      filter-same (λ x. is_doomed kind (fs ++ rs) (h x)) (λ x. is_doomed kind fs (h x)) xs (all_weaker _ _
       (λ x lt. doomed-same kind (fs ++ rs) fs (h x) (dropped-front (stream_of (h x)) lt)) xs less)
 
   dropped-at : (x : X) (d : Bool) → is_dropped n rs ≡ d → stream_of (h x) ≡ n → is_dropped (stream_of (h x)) (fs ++ rs) ≡ d
@@ -128,12 +123,8 @@ module _ {X : Type 0} (h : X → Record) (fs rs : List Record) (n : ℕ) (lower 
   -- the run stands whole, or not at all
   standing-run : (d : Bool) → is_dropped n rs ≡ d → (xs : List X) → AllByRecursion (λ x. stream_of (h x) ≡ n) xs →
       filter (λ x. stands_in (fs ++ rs) (h x)) xs ≡ cond d [] xs
-  standing-run true is xs same =
-      filter-none (λ x. stands_in (fs ++ rs) (h x)) xs
-      (all_weaker (λ x. stream_of (h x) ≡ n) (λ x. stands_in (fs ++ rs) (h x) ≡ false) (λ x at. ap not (dropped-at x true is at)) xs same)
-  standing-run false is xs same =
-      filter-all (λ x. stands_in (fs ++ rs) (h x)) xs
-      (all_weaker (λ x. stream_of (h x) ≡ n) (λ x. stands_in (fs ++ rs) (h x) ≡ true) (λ x at. ap not (dropped-at x false is at)) xs same)
+  standing-run true is xs same = filter-none (λ x. stands_in (fs ++ rs) (h x)) xs (all_weaker _ _ (λ x at. ap not (dropped-at x true is at)) xs same)
+  standing-run false is xs same = filter-all (λ x. stands_in (fs ++ rs) (h x)) xs (all_weaker _ _ (λ x at. ap not (dropped-at x false is at)) xs same)
 
   pub standing-more : (xs ys : List X) → AllByRecursion (λ x. stream_of (h x) < n) xs → AllByRecursion (λ x. stream_of (h x) ≡ n) ys → (d : Bool) →
       is_dropped n rs ≡ d →
@@ -150,7 +141,7 @@ module _ {X : Type 0} (h : X → Record) (fs rs : List Record) (n : ℕ) (lower 
       filter (λ x. is_doomed kind (fs ++ rs) (h x)) (xs ++ ys) ≡ filter (λ x. is_doomed kind fs (h x)) xs
   doomed-stay kind xs ys less same usable is =
       filter-append (λ x. is_doomed kind (fs ++ rs) (h x)) xs ys ∙ ap₂ ◌++◌ (doomed-front kind xs less) (filter-none (λ x. is_doomed kind (fs ++ rs) (h x)) ys
-      (all_both (λ x. stream_of (h x) ≡ n) (λ x. IsUsable (h x)) (λ x. is_doomed kind (fs ++ rs) (h x) ≡ false)
+      (all_both _ _ _
       (λ x at fine. doomed-at kind false is x at fine ∙ and-false (is_kind kind (h x))) ys same usable)) ∙ append-nil (filter (λ x. is_doomed kind fs (h x)) xs)
 
   pub doomed-more : (kind : Bool) (xs : List X) (y : X) (ys : List X) → AllByRecursion (λ x. stream_of (h x) < n) xs →
@@ -161,7 +152,7 @@ module _ {X : Type 0} (h : X → Record) (fs rs : List Record) (n : ℕ) (lower 
       filter-append (λ x. is_doomed kind (fs ++ rs) (h x)) xs (y ∷ ys) ∙ ap₂ ◌++◌ (doomed-front kind xs less) (go kind)
     where
       each : (k : Bool) → AllByRecursion (λ x. is_doomed k (fs ++ rs) (h x) ≡ is_kind k (h x)) (y ∷ ys)
-      each k = all_both (λ x. stream_of (h x) ≡ n) (λ x. IsUsable (h x)) (λ x. is_doomed k (fs ++ rs) (h x) ≡ is_kind k (h x))
+      each k = all_both _ _ _
           (λ x at fine. doomed-at k true is x at fine ∙ and-true (is_kind k (h x))) (y ∷ ys) same usable
 
       go : (k : Bool) → filter (λ x. is_doomed k (fs ++ rs) (h x)) (y ∷ ys) ≡ cond k (y ∷ []) ys
@@ -170,8 +161,7 @@ module _ {X : Type 0} (h : X → Record) (fs rs : List Record) (n : ℕ) (lower 
           ∙ rw first (ap (λ l. y ∷ l) (filter-none (λ x. is_own (h x)) ys none))
       go false =
           filter-same (λ x. is_doomed false (fs ++ rs) (h x)) (λ x. not (is_own (h x))) (y ∷ ys) (each false)
-          ∙ rw first (filter-all (λ x. not (is_own (h x))) ys
-          (all_weaker (λ x. is_own (h x) ≡ false) (λ x. not (is_own (h x)) ≡ true) (λ x other. ap not other) ys none))
+          ∙ rw first (filter-all (λ x. not (is_own (h x))) ys (all_weaker _ _ (λ x other. ap not other) ys none))
 
 -- those that pass one test, of these those that pass another and the rest, and those that fail the first
 pub in-three : {X : Type 0} (first second : X → Bool) (xs : List X) →
@@ -191,13 +181,8 @@ in-three {X} first second (x ∷ xs) = go (in-three first second xs) (first x) (
     go : IsPermutation ((ps ++ qs) ++ rs) xs → (a b : Bool) →
         IsPermutation ((cond (not b && a) (x ∷ ps) ps ++ cond (b && a) (x ∷ qs) qs) ++ cond (not a) (x ∷ rs) rs) (x ∷ xs)
     go rest true false = IsPermutation-cons x ((ps ++ qs) ++ rs) xs rest
-    go rest false false =
-        IsPermutation-trans ((ps ++ qs) ++ x ∷ rs) (x ∷ ((ps ++ qs) ++ rs)) (x ∷ xs) (IsPermutation-middle (ps ++ qs) x rs)
-        (IsPermutation-cons x ((ps ++ qs) ++ rs) xs rest)
-    go rest false true =
-        IsPermutation-trans ((ps ++ qs) ++ x ∷ rs) (x ∷ ((ps ++ qs) ++ rs)) (x ∷ xs) (IsPermutation-middle (ps ++ qs) x rs)
-        (IsPermutation-cons x ((ps ++ qs) ++ rs) xs rest)
+    go rest false false = IsPermutation-trans _ _ _ (IsPermutation-middle (ps ++ qs) x rs) (IsPermutation-cons x ((ps ++ qs) ++ rs) xs rest)
+    go rest false true = IsPermutation-trans _ _ _ (IsPermutation-middle (ps ++ qs) x rs) (IsPermutation-cons x ((ps ++ qs) ++ rs) xs rest)
     go rest true true =
-        subst (λ l. IsPermutation l (x ∷ xs)) (sym (append_assoc ps (x ∷ qs) rs))
-        (IsPermutation-trans (ps ++ x ∷ (qs ++ rs)) (x ∷ (ps ++ (qs ++ rs))) (x ∷ xs) (IsPermutation-middle ps x (qs ++ rs))
+        subst (λ l. IsPermutation l (x ∷ xs)) (sym (append_assoc ps (x ∷ qs) rs)) (IsPermutation-trans _ _ _ (IsPermutation-middle ps x (qs ++ rs))
         (IsPermutation-cons x (ps ++ (qs ++ rs)) xs (subst (λ l. IsPermutation l xs) (append_assoc ps qs rs) rest)))

@@ -1,11 +1,10 @@
 -- Streams that records in order are of, one run after another.
-use Rattle.ss_recover.proofs.Words.{[], ◌&&◌, ◌++◌, ◌<◌, ◌==◌, ◌||◌, ◌∙◌, ◌∷◌, ◌≡◌, ◌≤◌, All-from_recursion, AllByRecursion, and_parts, ap, append-nil}
-use Rattle.ss_recover.proofs.Words.{append_assoc, arith, cases_eq, Created, eq-eqb, false, filter, filter_map, flat_map-append, has_sound_values_within, inl}
-use Rattle.ss_recover.proofs.Words.{inr, is_dropped, is_mark_of, is_own, is_run, is_sound_in_order, IsDistinct, IsDistinct-cons, IsDistinct-from_apart}
-use Rattle.ss_recover.proofs.Words.{IsDistinct-head, IsDistinct-tail, IsState, IsStream, IsUsable, key_of, landmarks_made, length, length-append, length-map}
-use Rattle.ss_recover.proofs.Words.{List, list_any, live, ltb-true, map, map-append, map-id, may_stand, MOST_RECORDS, MOST_STREAMS, names_of, nat_lt, not}
-use Rattle.ss_recover.proofs.Words.{not-true, or_left, or_parts, Params, place_of, Record, refl, Rises, same_name, same_name-swap, step_number, Stream}
-use Rattle.ss_recover.proofs.Words.{stream_of, subst, suc, sum_by-cons, sym, true, Window, window_of, window_record, zero, ℕ}
+use Rattle.ss_recover.proofs.Words.{[], ◌++◌, ◌<◌, ◌∙◌, ◌∷◌, ◌≡◌, ◌≤◌, All-from_recursion, AllByRecursion, and_parts, ap, append-nil, append_assoc, arith}
+use Rattle.ss_recover.proofs.Words.{cases_eq, Created, eq-eqb, false, filter, filter_map, flat_map-append, inl, inr, is_mark_of, is_own, is_run}
+use Rattle.ss_recover.proofs.Words.{is_sound_in_order, IsDistinct, IsDistinct-cons, IsDistinct-from_apart, IsDistinct-head, IsDistinct-tail, IsState, IsStream}
+use Rattle.ss_recover.proofs.Words.{IsUsable, key_of, landmarks_made, length, length-append, length-map, List, list_any, live, ltb-true, map, map-append}
+use Rattle.ss_recover.proofs.Words.{map-id, MOST_RECORDS, MOST_STREAMS, names_of, not-true, or_left, or_parts, Params, place_of, Record, refl, Rises, same_name}
+use Rattle.ss_recover.proofs.Words.{same_name-swap, Stream, stream_of, subst, suc, sum_by-cons, sym, true, Window, window_of, window_record, zero, ℕ}
 use Rattle.ss_recover.proofs.HeldRecords.{all_walked, each-all_walked, walked}
 use Rattle.ss_recover.proofs.InOrder.{increasing-Rise, Rise}
 use Rattle.ss_recover.proofs.Lists.{all-kept, all-passing, all_append, all_behind, all_front, all_push, all_weaker}
@@ -40,7 +39,7 @@ AreWalked-none = record {
 
 pub Rise-push : {X : Type 0} (key : X → ℕ) (xs : List X) (x : X) → Rise key xs → AllByRecursion (λ y. key y < key x) xs → Rise key (xs ++ x ∷ [])
 Rise-push key [] x rise below = (tt, tt)
-Rise-push key (y ∷ ys) x rise below = (all_push (λ z. key y < key z) ys x rise.0 below.0, Rise-push key ys x rise.1 below.1)
+Rise-push key (y ∷ ys) x rise below = (all_push _ ys x rise.0 below.0, Rise-push key ys x rise.1 below.1)
 
 -- how many records streams have
 length-records : (ss : List Stream) → length (all_walked ss) ≡ live ss
@@ -68,9 +67,8 @@ IsState-walked rs streams are few = record {
 distinct-push : (xs : List (List ℕ)) (y : List ℕ) → IsDistinct same_name xs → list_any (same_name y) xs ≡ false → IsDistinct same_name (xs ++ y ∷ [])
 distinct-push [] y distinct new = IsDistinct-cons same_name y [] tt distinct
 distinct-push (x ∷ xs) y distinct new =
-    let parts = or_parts (same_name y x) (list_any (same_name y) xs) new in
-    IsDistinct-cons same_name x (xs ++ y ∷ [])
-    (all_push (λ z. same_name x z ≡ false) xs y (IsDistinct-head same_name x xs distinct) (same_name-swap x y ∙ parts.0))
+    let parts = or_parts _ _ new in
+    IsDistinct-cons same_name x (xs ++ y ∷ []) (all_push _ xs y (IsDistinct-head same_name x xs distinct) (same_name-swap x y ∙ parts.0))
     (distinct-push xs y (IsDistinct-tail same_name x xs distinct) parts.1)
 
 -- each record of a list is of a lower number than each of another one
@@ -85,10 +83,8 @@ nothing-before (r ∷ rs) = (tt, nothing-before rs)
 pub AreBefore-run : (front run back : List Record) (n : ℕ) → AllByRecursion (λ r. stream_of r < n) front → AllByRecursion (λ r. stream_of r ≡ n) run →
     AllByRecursion (λ r. n < stream_of r) back → AreBefore (front ++ run) back
 AreBefore-run front run back n lower own above =
-    all_weaker (λ q. n < stream_of q) (λ q. AllByRecursion (λ r. stream_of r < stream_of q) (front ++ run))
-    (λ q more. all_append (λ r. stream_of r < stream_of q) front run
-    (all_weaker (λ r. stream_of r < n) (λ r. stream_of r < stream_of q) (λ r lt. omega (arith, lt, more)) front lower)
-    (all_weaker (λ r. stream_of r ≡ n) (λ r. stream_of r < stream_of q) (λ r is. omega (arith, is, more)) run own)) back above
+    all_weaker _ _ (λ q more. all_append _ front run (all_weaker _ _ (λ r lt. omega (arith, lt, more)) front lower)
+    (all_weaker _ _ (λ r is. omega (arith, is, more)) run own)) back above
 
 -- A run after the records of streams.
 module _ (front : List Record) (streams : List Stream) (done : AreWalked front streams) (head : Created) (rest : List Record)
@@ -120,7 +116,7 @@ module _ (front : List Record) (streams : List Stream) (done : AreWalked front s
     target = usable.0.0;
     number = usable.0.1;
     windows = AreWindows-tile ws meets.tiles meets.rising
-        (all-window_of head.number rest (all_weaker IsUsable (λ r. (r ≡ records.Free → ⊥) → IsUsable r) (λ r is _. is) rest usable.1));
+        (all-window_of head.number rest (all_weaker _ _ (λ r is _. is) rest usable.1));
     steps = IsInStep-keep_step head.params ws meets.keeping;
     landmarks = marks-are.landmarks;
     free = meets.free;
@@ -132,9 +128,8 @@ module _ (front : List Record) (streams : List Stream) (done : AreWalked front s
 
   pub AreWalked-run : AreWalked (front ++ first ∷ rest) (streams ++ stream_made ∷ [])
   AreWalked-run =
-      let values = has_sound_values_within (step_number head.params.within) rest head.number in
-      let both = and_parts (may_stand (names_of streams) head.name) (not (list_any is_own rest) && (false || values)) run in
-      let may = and_parts (nat_lt (length (names_of streams)) MOST_STREAMS) (not (list_any (same_name head.name) (names_of streams))) both.0 in
+      let both = and_parts _ _ run in
+      let may = and_parts _ _ both.0 in
       let below = each-all_walked (λ k. k < head.number) streams (subst (AllByRecursion (λ r. stream_of r < head.number)) done.order lower) in
       let least = ltb-true (length (names_of streams)) MOST_STREAMS may.0 in
       record {
@@ -171,7 +166,7 @@ cut n (r ∷ rs) low rises =
             back = r ∷ rs;
             split = refl;
             same = tt;
-            above = (lt, all_weaker (λ q. stream_of r ≤ stream_of q) (λ q. n < stream_of q) (λ q le. omega (arith, lt, le)) rs rises.0);
+            above = (lt, all_weaker _ _ (λ q le. omega (arith, lt, le)) rs rises.0);
           })
     ]
 
@@ -214,13 +209,10 @@ module _ (front : List Record) (streams : List Stream) (done : AreStanding front
       AreStanding (front ++ records.Stream id name params true ∷ own) streams
   step-dropped run =
       let r = records.Stream id name params true in
-      let none = not-true (list_any is_own own) (and_parts (not (list_any is_own own)) (true || has_sound_values_within (step_number params.within) own id)
-      (and_parts (may_stand (names_created front) name)
-      (not (list_any is_own own) && (true || has_sound_values_within (step_number params.within) own id)) run).1).0 in
+      let none = not-true (list_any is_own own) (and_parts _ _ (and_parts _ _ run).1).0 in
       let alone = own-alone own none in
       let more : filter (stands_in (front ++ r ∷ own)) (front ++ r ∷ own) ≡ filter (stands_in front) front ++ [] =
-      standing-more (λ q. q) front (r ∷ own) id lower (refl, same) front (r ∷ own) lower (refl, same) true
-      (or_left (id == id) (is_dropped id own) (eq-eqb id id refl)) in
+      standing-more (λ q. q) front (r ∷ own) id lower (refl, same) front (r ∷ own) lower (refl, same) true (or_left _ _ (eq-eqb id id refl)) in
       record {
         walked = subst (λ l. AreWalked l streams) (sym (more ∙ append-nil (filter (stands_in front) front))) done.walked;
         fewer = subst (AreFewer (names_of streams)) (sym (names-more front own id name params true alone))
@@ -253,8 +245,7 @@ walk (suc most) front (r ∷ more) streams few done before usable order sound =
     let orders = Rises-parts key_of run c.back (subst (Rises key_of) whole order) in
     let own : AllByRecursion (λ q. stream_of q ≡ n) run = (refl, c.same) in
     let rises : Rises place_of run = subst (Rises place_of) (map-id run) (places-rise (λ (q : Record). q) n run orders.0 own) in
-    let is : is_run (names_created front) run ≡ true =
-    sym (is_run-sound front run c.back n before.0 own c.above usable_run rises (omega arith))
+    let is : is_run (names_created front) run ≡ true = sym (is_run-sound front run c.back n before.0 own c.above usable_run rises (omega arith))
     ∙ ap (λ l. is_sound_in_order (front ++ l) n) (sym whole) ∙ sound.0 in
     let next = step front streams done r c.own before.0 c.same usable_run rises is in
     let long = ap (λ (l : List Record). length l) c.split in

@@ -14,8 +14,7 @@ stands-none names name k none is =
     sym (and-true (nat_lt k MOST_STREAMS)) ∙ (λ i. nat_lt (long i) MOST_STREAMS && not (sym new i))
 
 pub stands-some : (names : List (List ℕ × StreamId)) (name : List ℕ) (id : StreamId) → id_of name names ≡ Some id → false ≡ may_stand (names_in names) name
-stands-some names name id is =
-    sym (and_right (nat_lt (length (names_in names)) MOST_STREAMS) _ (ap not (sym (is_some-lookup (same_name name) names) ∙ ap is_some is)))
+stands-some names name id is = sym (and_right _ _ (ap not (sym (is_some-lookup (same_name name) names) ∙ ap is_some is)))
 
 -- the record at an index, among the others
 pub at-index : (all : List Found) (i : ℕ) (x : Found) → i < length all → x ≡ get_or all i x → all ≡ take i all ++ x ∷ drop (suc i) all

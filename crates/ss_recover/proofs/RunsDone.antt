@@ -4,10 +4,10 @@ use Rattle.ss_recover.proofs.Words.{append_assoc, ap₂, AreBuilt, arith, BadSlo
 use Rattle.ss_recover.proofs.Words.{drop-append_seam, drop-drop, EndsWalk, eq-eqb, Err, false, filter, flat_map, Found, found_key, HasNothing, HasTakenDropped}
 use Rattle.ss_recover.proofs.Words.{HasTakenStanding, IfErr, IfOk, if◌then◌else◌, in_slot, inl, inr, is_doomed, is_dropped, is_own, is_run, is_sound_in_order}
 use Rattle.ss_recover.proofs.Words.{IsLowestUnsound, IsNextRun, IsPermutation, IsPermutation-append_right, IsPermutation-map, IsPermutation-trans, IsUsable}
-use Rattle.ss_recover.proofs.Words.{length, length-filter, length-map, List, list_any, list_any-append, map, map-append, may_stand, MOST_RECORDS, names_in}
-use Rattle.ss_recover.proofs.Words.{names_of, not, not-true, Ok, or_left, or_right, OutOfMemory, Parts, place_of, Record, records_held, RecoverError}
-use Rattle.ss_recover.proofs.Words.{recursion_from_All, refl, Result, Rises, slots_found, Stream, stream_of, StreamParts, subst, sym, take, take-add}
-use Rattle.ss_recover.proofs.Words.{take-append-drop, take-append_seam, TakesAs, true, Walk, WalksAs, without_slots, zip, ℕ}
+use Rattle.ss_recover.proofs.Words.{length, length-filter, length-map, List, list_any, list_any-append, map, map-append, MOST_RECORDS, names_in, names_of, not}
+use Rattle.ss_recover.proofs.Words.{not-true, Ok, or_left, or_right, OutOfMemory, Parts, place_of, Record, records_held, RecoverError, recursion_from_All, refl}
+use Rattle.ss_recover.proofs.Words.{Result, Rises, slots_found, Stream, stream_of, StreamParts, subst, sym, take, take-add, take-append-drop, take-append_seam}
+use Rattle.ss_recover.proofs.Words.{TakesAs, true, Walk, WalksAs, without_slots, zip, ℕ}
 use Rattle.ss_recover.proofs.Lists.{all-from_map, all-kept, all_append, all_behind, all_weaker, map-all}
 use Rattle.ss_recover.proofs.RunHeld.{AreHeldSoFar, AreHeldSoFar-none, done-push, done_stream, names-all, stays}
 use Rattle.ss_recover.proofs.RunOrder.{places-rise, Rises-parts}
@@ -63,11 +63,8 @@ module _ (old : Walk) (front : List Found) (done : AreDone old front) (n : ℕ) 
   -- the records before it come before it and all after it
   before-all : (rest : List Record) → AllByRecursion (λ r. n < stream_of r) rest → AreBefore fs (rs ++ rest)
   before-all rest above =
-      all_append (λ q. AllByRecursion (λ r. stream_of r < stream_of q) fs) rs rest
-      (all_weaker (λ q. stream_of q ≡ n) (λ q. AllByRecursion (λ r. stream_of r < stream_of q) fs)
-      (λ q is. all_weaker (λ r. stream_of r < n) (λ r. stream_of r < stream_of q) (λ r lt. omega (arith, lt, is)) fs lower) rs own)
-      (all_weaker (λ q. n < stream_of q) (λ q. AllByRecursion (λ r. stream_of r < stream_of q) fs)
-      (λ q more. all_weaker (λ r. stream_of r < n) (λ r. stream_of r < stream_of q) (λ r lt. omega (arith, lt, more)) fs lower) rest above)
+      all_append _ rs rest (all_weaker _ _ (λ q is. all_weaker _ _ (λ r lt. omega (arith, lt, is)) fs lower) rs own) (all_weaker _ _
+      (λ q more. all_weaker _ _ (λ r lt. omega (arith, lt, more)) fs lower) rest above)
 
   sound-more : is_run (names_in old.names) rs ≡ true → (rest : List Record) → AreBefore (without_slots (front ++ here)) rest →
       AllByRecursion (λ r. is_sound_in_order (without_slots (front ++ here) ++ rest) (stream_of r) ≡ true) (without_slots (front ++ here))
@@ -75,13 +72,11 @@ module _ (old : Walk) (front : List Found) (done : AreDone old front) (n : ℕ) 
       let whole : without_slots (front ++ here) ≡ fs ++ rs = map-append (λ (f : Found). f.holds) front here in
       let both : AreBefore (fs ++ rs) rest = subst (λ us. AreBefore us rest) whole before in
       let above = all_weaker (λ q. AllByRecursion (λ r. stream_of r < stream_of q) (fs ++ rs)) (λ q. n < stream_of q)
-      (λ q all. below-first rs own (omega (arith, some, length-map here (λ (f : Found). f.holds))) q
-      (all_behind (λ r. stream_of r < stream_of q) fs rs all)) rest both in
+      (λ q all. below-first rs own (omega (arith, some, length-map here (λ (f : Found). f.holds))) q (all_behind _ fs rs all)) rest both in
       let same : (fs ++ rs) ++ rest ≡ fs ++ (rs ++ rest) = append_assoc fs rs rest in
       subst (λ us. AllByRecursion (λ r. is_sound_in_order (us ++ rest) (stream_of r) ≡ true) us) (sym whole)
       (subst (λ us. AllByRecursion (λ r. is_sound_in_order us (stream_of r) ≡ true) (fs ++ rs)) (sym same)
-      (all_append (λ r. is_sound_in_order (fs ++ (rs ++ rest)) (stream_of r) ≡ true) fs rs (done.sound (rs ++ rest) (before-all rest above))
-      (all_weaker (λ r. stream_of r ≡ n) (λ r. is_sound_in_order (fs ++ (rs ++ rest)) (stream_of r) ≡ true)
+      (all_append _ fs rs (done.sound (rs ++ rest) (before-all rest above)) (all_weaker _ _
       (λ r is. ap (is_sound_in_order (fs ++ (rs ++ rest))) is ∙ is-sound rest above ∙ sound) rs own)))
     where
       below-first : (us : List Record) → AllByRecursion (λ r. stream_of r ≡ n) us → 1 ≤ length us → (q : Record) →
@@ -108,9 +103,7 @@ module _ (old : Walk) (front : List Found) (done : AreDone old front) (n : ℕ) 
   kept = standing_found front
 
   below : AllByRecursion (λ r. stream_of r < n) (without_slots kept)
-  below =
-      map-all (λ r. stream_of r < n) (λ (f : Found). f.holds) kept
-      (all-kept (λ (f : Found). stream_of f.holds < n) (λ (f : Found). stands_in fs f.holds) front lower-found)
+  below = map-all _ (λ (f : Found). f.holds) kept (all-kept _ (λ (f : Found). stands_in fs f.holds) front lower-found)
 
   done-standing : (new : Walk) → HasTakenStanding old new here → AreDone new (front ++ here)
   done-standing new took =
@@ -146,13 +139,10 @@ module _ (old : Walk) (front : List Found) (done : AreDone old front) (n : ℕ) 
       let x : Found = record { slot = took.slot; holds = records.Stream took.head.number took.head.name took.head.params true } in
       let asked = subst (λ l. is_run (names_in old.names) (without_slots l) ≡ true) took.split took.runs in
       let none : list_any is_own (without_slots took.rest) ≡ false =
-      not-true (list_any is_own (without_slots took.rest)) (and_parts (not (list_any is_own (without_slots took.rest))) true
-      (and_parts (may_stand (names_in old.names) took.head.name) (not (list_any is_own (without_slots took.rest)) && true) asked).1).0 in
+      not-true (list_any is_own (without_slots took.rest)) (and_parts _ _ (and_parts _ _ asked).1).0 in
       let alone = own-alone (without_slots took.rest) none in
       let at = (subst (AllByRecursion (λ (f : Found). stream_of f.holds ≡ n)) took.split own-found).0 in
-      let dropped : is_dropped n rs ≡ true =
-      ap (λ l. is_dropped n (without_slots l)) took.split
-      ∙ or_left (took.head.number == n) (is_dropped n (without_slots took.rest)) (eq-eqb took.head.number n at) in
+      let dropped : is_dropped n rs ≡ true = ap (λ l. is_dropped n (without_slots l)) took.split ∙ or_left _ _ (eq-eqb took.head.number n at) in
       let more : (kind : Bool) → doomed_found kind (front ++ here) ≡ doomed_found kind front ++ cond kind (x ∷ []) took.rest =
       λ kind. ap (λ us. filter (λ (f : Found). is_doomed kind us f.holds) (front ++ here)) whole
       ∙ ap (λ l. filter (λ (f : Found). is_doomed kind (fs ++ rs) f.holds) (front ++ l)) took.split
@@ -188,24 +178,17 @@ module _ (old : Walk) (front : List Found) (done : AreDone old front) (n : ℕ) 
       IsLowestUnsound n (fs ++ (rs ++ back))
   lowest back above fails = record {
     has =
-        list_any-append (λ r. stream_of r == n) fs (rs ++ back) ∙ or_right (list_any (λ r. stream_of r == n) fs) (list_any (λ r. stream_of r == n) (rs ++ back))
+        list_any-append (λ r. stream_of r == n) fs (rs ++ back) ∙ or_right _ _
         (has-first rs own (omega (arith, some, length-map here (λ (f : Found). f.holds))));
     unsound = is-sound back above ∙ fails;
     lower =
-        all_append (λ r. stream_of r < n → is_sound_in_order (fs ++ (rs ++ back)) (stream_of r) ≡ true) fs (rs ++ back)
-        (all_weaker (λ r. is_sound_in_order (fs ++ (rs ++ back)) (stream_of r) ≡ true)
-        (λ r. stream_of r < n → is_sound_in_order (fs ++ (rs ++ back)) (stream_of r) ≡ true) (λ r is lt. is) fs
-        (done.sound (rs ++ back) (before-all back above)))
-        (all_append (λ r. stream_of r < n → is_sound_in_order (fs ++ (rs ++ back)) (stream_of r) ≡ true) rs back
-        (all_weaker (λ r. stream_of r ≡ n) (λ r. stream_of r < n → is_sound_in_order (fs ++ (rs ++ back)) (stream_of r) ≡ true)
-        (λ r is lt. absurd (omega (arith, is, lt))) rs own)
-        (all_weaker (λ r. n < stream_of r) (λ r. stream_of r < n → is_sound_in_order (fs ++ (rs ++ back)) (stream_of r) ≡ true)
-        (λ r more lt. absurd (omega (arith, more, lt))) back above));
+        all_append _ fs (rs ++ back) (all_weaker _ _ (λ r is lt. is) fs (done.sound (rs ++ back) (before-all back above))) (all_append _ rs back (all_weaker _ _
+        (λ r is lt. absurd (omega (arith, is, lt))) rs own) (all_weaker _ _ (λ r more lt. absurd (omega (arith, more, lt))) back above));
   }
     where
       has-first : (us : List Record) → AllByRecursion (λ r. stream_of r ≡ n) us → 1 ≤ length us → list_any (λ r. stream_of r == n) (us ++ back) ≡ true
       has-first [] is many = absurd (omega (arith, many))
-      has-first (u ∷ us) is many = or_left (stream_of u == n) (list_any (λ r. stream_of r == n) (us ++ back)) (eq-eqb (stream_of u) n is.0)
+      has-first (u ∷ us) is many = or_left _ _ (eq-eqb (stream_of u) n is.0)
 
 -- ---- a walk as far as a place
 
@@ -227,7 +210,7 @@ module _ (all : List Found) (at n : ℕ) (run : List Found) (walk : Walk) (to : 
   own-run = recursion_from_All (λ (f : Found). stream_of f.holds ≡ n) run next.own
 
   run-own : AllByRecursion (λ r. stream_of r ≡ n) (without_slots run)
-  run-own = map-all (λ r. stream_of r ≡ n) (λ (f : Found). f.holds) run own-run
+  run-own = map-all _ (λ (f : Found). f.holds) run own-run
 
   run-rises : Rises place_of (without_slots run)
   run-rises =
@@ -241,7 +224,7 @@ module _ (all : List Found) (at n : ℕ) (run : List Found) (walk : Walk) (to : 
       (subst (λ fs. AreBefore (without_slots (take at all)) (without_slots fs)) (next.split ∙ ap (λ l. l ++ next.back) next.is) to.below).0
 
   above : AllByRecursion (λ r. n < stream_of r) (without_slots next.back)
-  above = map-all (λ r. n < stream_of r) (λ (f : Found). f.holds) next.back next.above
+  above = map-all _ (λ (f : Found). f.holds) next.back next.above
 
   pub IsDoneTo-more : (new : Walk) → HasTakenStanding walk new run ⊎ HasTakenDropped walk new run → IsDoneTo all (at + length run) new
   IsDoneTo-more new took =
@@ -297,8 +280,7 @@ AreBuilt-done walk parts all done ends usable few =
       each = subst (λ ps. AllAgree ps done.streams) (sym ends.streams) done.held.each;
       records =
           subst (λ (ps : List StreamParts). IsPermutation (map in_slot doomed ++ flat_map records_held (zip ps done.streams)) (map in_slot all))
-          (sym ends.streams) (IsPermutation-trans (map in_slot doomed ++ held) (map in_slot doomed ++ map in_slot kept) (map in_slot all)
-          (IsPermutation-append_right (map in_slot doomed) held (map in_slot kept) done.held.records)
+          (sym ends.streams) (IsPermutation-trans _ _ _ (IsPermutation-append_right (map in_slot doomed) held (map in_slot kept) done.held.records)
           (subst (λ l. IsPermutation l (map in_slot all)) (map-append in_slot doomed kept) (IsPermutation-map in_slot (doomed ++ kept) all split)));
       state =
           IsState-walked (without_slots kept) done.streams done.held.walked (omega (

@@ -72,12 +72,12 @@ stream_carried-same rs us c same =
 pub is_sound-from : (rs : List Record) (n : ℕ) → stands_alone n (streams_created rs) ≡ true →
     (is_dropped n rs || stands_sound rs n) ≡ true → is_sound rs n ≡ true
 unfolding is_sound
-is_sound-from rs n alone values = and_from (stands_alone n (streams_created rs)) (is_dropped n rs || stands_sound rs n) alone values
+is_sound-from rs n alone values = and_from _ _ alone values
 
 pub is_sound-parts : (rs : List Record) (n : ℕ) → is_sound rs n ≡ true →
     (stands_alone n (streams_created rs) ≡ true) × ((is_dropped n rs || stands_sound rs n) ≡ true)
 unfolding is_sound
-is_sound-parts rs n sound = and_parts (stands_alone n (streams_created rs)) (is_dropped n rs || stands_sound rs n) sound
+is_sound-parts rs n sound = and_parts _ _ sound
 
 -- records of which the same is made have the same numbers that are sound
 module _ (rs us : List Record) (same : (Y : Type 0) (f : Record → Option Y) → f records.Free ≡ None → filter_map f rs ≡ filter_map f us) where
@@ -108,16 +108,16 @@ is_sound-kept rs us n alone keeps gone same sound =
   where
     kept : HaveSameValues n rs us → stands_sound rs n ≡ true → stands_sound us n ≡ true
     kept same fine =
-        let both = and_parts (has_sound_values rs n) (keep_own_step n (streams_created rs) (windows_carried n rs)) fine in
-        and_from (has_sound_values us n) (keep_own_step n (streams_created us) (windows_carried n us)) (sym (sound_values-same n rs us same) ∙ both.0)
+        let both = and_parts _ _ fine in
+        and_from _ _ (sym (sound_values-same n rs us same) ∙ both.0)
         (keeps (windows_carried n us) (ap (keep_own_step n (streams_created rs)) (sym (windows-same n rs us same)) ∙ both.1))
 
     go : (is_dropped n us ≡ true) ⊎ HaveSameValues n rs us → (is_dropped n rs || stands_sound rs n) ≡ true →
         (is_dropped n us || stands_sound us n) ≡ true
-    go (inl is) values = or_left (is_dropped n us) (stands_sound us n) is
-    go (inr same) values = elim (or_cases (is_dropped n rs) (stands_sound rs n) values) [
-      | inl is ↦ or_left (is_dropped n us) (stands_sound us n) (gone is)
-      | inr fine ↦ or_right (is_dropped n us) (stands_sound us n) (kept same fine)
+    go (inl is) values = or_left _ _ is
+    go (inr same) values = elim (or_cases _ _ values) [
+      | inl is ↦ or_left _ _ (gone is)
+      | inr fine ↦ or_right _ _ (kept same fine)
     ]
 
 -- ---- one record of a number, which says whether its stream was dropped
@@ -160,7 +160,7 @@ some-counted : {X : Type 0} (p : X → Bool) (xs : List X) → list_any p xs ≡
 some-counted p [] any = absurd (true≢false (sym any))
 some-counted {X} p (x ∷ xs) any =
     let sum = sum_by-cons (λ (y : X). digit (p y)) x xs in
-    elim (or_cases (p x) (list_any p xs) any) [
+    elim (or_cases _ _ any) [
       | inl here ↦ (let one : digit (p x) ≡ 1 = cond-true (p x) 1 0 here in omega (arith, sum, one))
       | inr there ↦ omega (arith, sum, some-counted p xs there)
     ]
@@ -197,11 +197,11 @@ one-sound rs n sound =
 pub each-false : {X : Type 0} (xs : List X) → AllByRecursion (λ x. (p : X → Bool) → list_any p xs ≡ false → p x ≡ false) xs
 each-false [] = tt
 each-false {X} (x ∷ xs) = (
-  (λ p none. (or_parts (p x) (list_any p xs) none).0),
-  all_weaker (λ y. (p : X → Bool) → list_any p xs ≡ false → p y ≡ false) (λ y. (p : X → Bool) → list_any p (x ∷ xs) ≡ false → p y ≡ false)
-      (λ y rest p none. rest p (or_parts (p x) (list_any p xs) none).1) xs (each-false xs),
+  (λ p none. (or_parts _ _ none).0),
+  all_weaker _ _
+      (λ y rest p none. rest p (or_parts _ _ none).1) xs (each-false xs),
 )
 
 pub all-false : {X : Type 0} (p : X → Bool) (xs : List X) → list_any p xs ≡ false → AllByRecursion (λ x. p x ≡ false) xs
 all-false p [] none = tt
-all-false p (x ∷ xs) none = let parts = or_parts (p x) (list_any p xs) none in (parts.0, all-false p xs parts.1)
+all-false p (x ∷ xs) none = let parts = or_parts _ _ none in (parts.0, all-false p xs parts.1)

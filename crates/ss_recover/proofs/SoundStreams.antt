@@ -29,7 +29,7 @@ count-all p (c ∷ cs) all = omega (arith, sum_by-cons (λ (x : Created). digit 
 
 pub none-passes : {X : Type 0} (p : X → Bool) (cs : List X) → AllByRecursion (λ c. p c ≡ false) cs → list_any p cs ≡ false
 none-passes p [] all = refl
-none-passes p (c ∷ cs) all = or_from (p c) (list_any p cs) all.0 (none-passes p cs all.1)
+none-passes p (c ∷ cs) all = or_from _ _ all.0 (none-passes p cs all.1)
 
 -- a stream of a number whose name one before it has, and one before it that has its name
 abbrev named : ℕ → List Created → Created → Bool
@@ -55,10 +55,10 @@ module _ (cs here later : List Created) (n : ℕ) (cs-below : AllByRecursion (λ
         arith,
         count-parts (is_at n),
         count-none (is_at n) cs
-            (all_weaker (λ c. c.number < n) (λ c. is_at n c ≡ false) (λ c lt. ne_eqb c.number n (λ e. absurd (omega (arith, e, lt)))) cs cs-below),
-        count-all (is_at n) here (all_weaker (λ c. c.number ≡ n) (λ c. is_at n c ≡ true) (λ c is. eq-eqb c.number n is) here here-own),
+            (all_weaker _ _ (λ c lt. ne_eqb c.number n (λ e. absurd (omega (arith, e, lt)))) cs cs-below),
+        count-all (is_at n) here (all_weaker _ _ (λ c is. eq-eqb c.number n is) here here-own),
         count-none (is_at n) later
-            (all_weaker (λ c. n < c.number) (λ c. is_at n c ≡ false) (λ c lt. ne_eqb c.number n (λ e. absurd (omega (arith, e, lt)))) later later-above),
+            (all_weaker _ _ (λ c lt. ne_eqb c.number n (λ e. absurd (omega (arith, e, lt)))) later later-above),
       )
 
   pub count-below : count_by (is_below n) (cs ++ (here ++ later)) ≡ length cs
@@ -66,24 +66,22 @@ module _ (cs here later : List Created) (n : ℕ) (cs-below : AllByRecursion (λ
       omega (
         arith,
         count-parts (is_below n),
-        count-all (is_below n) cs (all_weaker (λ c. c.number < n) (λ c. is_below n c ≡ true) (λ c lt. lt-ltb c.number n lt) cs cs-below),
-        count-none (is_below n) here (all_weaker (λ c. c.number ≡ n) (λ c. is_below n c ≡ false) (λ c is. le-ltb c.number n (omega (arith, is))) here here-own),
+        count-all (is_below n) cs (all_weaker _ _ (λ c lt. lt-ltb c.number n lt) cs cs-below),
+        count-none (is_below n) here (all_weaker _ _ (λ c is. le-ltb c.number n (omega (arith, is))) here here-own),
         count-none (is_below n) later
-            (all_weaker (λ c. n < c.number) (λ c. is_below n c ≡ false) (λ c lt. le-ltb c.number n (omega (arith, lt))) later later-above),
+            (all_weaker _ _ (λ c lt. le-ltb c.number n (omega (arith, lt))) later later-above),
       )
 
   -- a name is new where no stream before has it
   pub new-name : (c : Created) → c.number ≡ n → has_new_name n (cs ++ (c ∷ later)) ≡ not (list_any (same_name c.name) (map (λ (o : Created). o.name) cs))
   new-name c is =
       let us = cs ++ (c ∷ later) in
-      let first = none-passes (named n us) cs (all_weaker (λ o. o.number < n) (λ o. named n us o ≡ false)
-      (λ o lt. and_left _ _ (ne_eqb o.number n (λ e. absurd (omega (arith, e, lt))))) cs cs-below) in
-      let last = none-passes (named n us) later (all_weaker (λ o. n < o.number) (λ o. named n us o ≡ false)
+      let first = none-passes (named n us) cs (all_weaker _ _ (λ o lt. and_left _ _ (ne_eqb o.number n (λ e. absurd (omega (arith, e, lt))))) cs cs-below) in
+      let last = none-passes (named n us) later (all_weaker _ _
       (λ o lt. and_left _ _ (ne_eqb o.number n (λ e. absurd (omega (arith, e, lt))))) later later-above) in
-      let rest : list_any (before c) (c ∷ later) ≡ false =
-      none-passes (before c) (c ∷ later) (
+      let rest : list_any (before c) (c ∷ later) ≡ false = none-passes (before c) (c ∷ later) (
         and_left _ _ (le-ltb c.number c.number (omega arith)),
-        all_weaker (λ o. n < o.number) (λ o. before c o ≡ false) (λ o lt. and_left _ _ (le-ltb o.number c.number (omega (arith, lt, is)))) later later-above,
+        all_weaker _ _ (λ o lt. and_left _ _ (le-ltb o.number c.number (omega (arith, lt, is)))) later later-above,
       ) in
       ap not (list_any-append (named n us) cs (c ∷ later)
       ∙ (λ i. first i || (named n us c || last i)) ∙ or-false (named n us c) ∙ ap (λ b. b && is_named_before us c) (eq-eqb c.number n is)
@@ -110,8 +108,7 @@ new-split (x ∷ xs) y ys distinct =
     let names = map (λ (c : Created). c.name) (xs ++ y ∷ ys) in
     let others = all-from_map (λ name. same_name x.name name ≡ false) (λ (c : Created). c.name) (xs ++ y ∷ ys)
     (IsDistinct-head same_name x.name names distinct) in
-    or_from _ _ (same_name-swap y.name x.name ∙ (all_behind (λ (c : Created). same_name x.name c.name ≡ false) xs (y ∷ ys) others).0)
-    (new-split xs y ys (IsDistinct-tail same_name x.name names distinct))
+    or_from _ _ (same_name-swap y.name x.name ∙ (all_behind _ xs (y ∷ ys) others).0) (new-split xs y ys (IsDistinct-tail same_name x.name names distinct))
 
 alone-each : (xs ys : List Created) → Rise (λ c. c.number) (xs ++ ys) → IsDistinct same_name (map (λ c. c.name) (xs ++ ys)) →
     length (xs ++ ys) ≤ MOST_STREAMS → AllByRecursion (λ c. stands_alone c.number (xs ++ ys) ≡ true) ys
@@ -152,13 +149,13 @@ tile_from-StandFrom first time [] stand = refl
 tile_from-StandFrom first time (w ∷ ws) stand =
     let start = stand.0 in
     let here : (w.first == first) ≡ true = grind (arith, nat_tests) in
-    and_from (w.first == first) (tile_from (first + w.summary.count) ws) here (tile_from-StandFrom (first + w.summary.count) (w.summary.t_last + 1) ws stand.3)
+    and_from _ _ here (tile_from-StandFrom (first + w.summary.count) (w.summary.t_last + 1) ws stand.3)
 
 pub tile-AreWindows : (ws : List Window) → AreWindows ws → tile ws ≡ true
 tile-AreWindows ws are =
     let few = are.few in
     let last : nat_le (taken ws) MOST_VALUES ≡ true = grind (arith, nat_tests) in
-    and_from (tile_from 1 ws) (nat_le (taken ws) MOST_VALUES) (tile_from-StandFrom 1 0 ws are.stand) last
+    and_from _ _ (tile_from-StandFrom 1 0 ws are.stand) last
 
 times_rise-StandFrom : (first time : ℕ) (ws : List Window) → StandFrom first time ws → times_rise ws ≡ true
 times_rise-StandFrom first time [] stand = refl
@@ -167,8 +164,7 @@ times_rise-StandFrom first time (w ∷ v ∷ ws) stand =
     let rest : StandFrom (first + w.summary.count) (w.summary.t_last + 1) (v ∷ ws) = stand.3 in
     let later = rest.2 in
     let here : nat_lt w.summary.t_last v.summary.t_first ≡ true = grind (arith, nat_tests) in
-    and_from (nat_lt w.summary.t_last v.summary.t_first) (times_rise (v ∷ ws)) here
-    (times_rise-StandFrom (first + w.summary.count) (w.summary.t_last + 1) (v ∷ ws) rest)
+    and_from _ _ here (times_rise-StandFrom (first + w.summary.count) (w.summary.t_last + 1) (v ∷ ws) rest)
 
 pub times_rise-AreWindows : (ws : List Window) → AreWindows ws → times_rise ws ≡ true
 times_rise-AreWindows ws are = times_rise-StandFrom 1 0 ws are.stand
@@ -182,11 +178,11 @@ StandFrom-tile : (first time : ℕ) (ws : List Window) → tile_from first ws �
     AllByRecursion (λ w. IsPossible w.summary) ws → BeginsFrom time ws → StandFrom first time ws
 StandFrom-tile first time [] tiles rising possible late = tt
 StandFrom-tile first time (w ∷ []) tiles rising possible late =
-    let parts = and_parts (w.first == first) _ tiles in
+    let parts = and_parts _ _ tiles in
     (eqb-true w.first first parts.0, possible.0, late, tt)
 StandFrom-tile first time (w ∷ v ∷ ws) tiles rising possible late =
-    let parts = and_parts (w.first == first) (tile_from (first + w.summary.count) (v ∷ ws)) tiles in
-    let times = and_parts (nat_lt w.summary.t_last v.summary.t_first) (times_rise (v ∷ ws)) rising in
+    let parts = and_parts _ _ tiles in
+    let times = and_parts _ _ rising in
     let next : w.summary.t_last < v.summary.t_first = ltb-true w.summary.t_last v.summary.t_first times.0 in (
       eqb-true w.first first parts.0,
       possible.0,
@@ -200,7 +196,7 @@ BeginsFrom-zero (w ∷ ws) = omega arith
 
 pub AreWindows-tile : (ws : List Window) → tile ws ≡ true → times_rise ws ≡ true → AllByRecursion (λ w. IsPossible w.summary) ws → AreWindows ws
 AreWindows-tile ws tiles rising possible =
-    let parts = and_parts (tile_from 1 ws) (nat_le (taken ws) MOST_VALUES) tiles in
+    let parts = and_parts _ _ tiles in
     record { stand = StandFrom-tile 1 0 ws parts.0 rising possible (BeginsFrom-zero ws); few = leb-true (taken ws) MOST_VALUES parts.1 }
 
 -- and their first positions rise
@@ -209,7 +205,7 @@ first-after first time [] stand = tt
 first-after first time (w ∷ ws) stand =
     let start = stand.0 in (
       omega arith,
-      all_weaker (λ v. first + w.summary.count ≤ v.first) (λ v. first ≤ v.first) (λ v le. omega arith) ws
+      all_weaker _ _ (λ v le. omega arith) ws
           (first-after (first + w.summary.count) (w.summary.t_last + 1) ws stand.3),
     )
 
@@ -220,7 +216,7 @@ Rise-StandFrom first time (w ∷ ws) stand =
     let possible = stand.1 in
     let some = possible.count_low in
     let rest = stand.3 in (
-      all_weaker (λ v. first + w.summary.count ≤ v.first) (λ v. w.first < v.first) (λ v le. omega arith) ws
+      all_weaker _ _ (λ v le. omega arith) ws
           (first-after (first + w.summary.count) (w.summary.t_last + 1) ws rest),
       Rise-StandFrom (first + w.summary.count) (w.summary.t_last + 1) ws rest,
     )

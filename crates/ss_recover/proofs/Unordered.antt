@@ -68,10 +68,10 @@ window-key n records.Free z is = cc
 window-key n (records.Window id first summary) z is =
     elim (cases_Bool (id == n)) [
       | inl same ↦
-          let some : Some (record { first = first; summary = summary }) ≡ Some z = sym (cond-true (id == n) _ _ same) ∙ is in
+          let some : Some (record { first = first; summary = summary }) ≡ Some z = sym (cond-true _ _ _ same) ∙ is in
           let w : record { first = first; summary = summary } ≡ z = cc in
           ap₂ (λ (a b : ℕ). a * 2 ^ 65 + (2 ^ 64 + b)) (eqb-true id n same) (ap (λ (v : Window). v.first) w)
-      | inr other ↦ let none : None ≡ Some z = sym (cond-false (id == n) _ _ other) ∙ is in cc
+      | inr other ↦ let none : None ≡ Some z = sym (cond-false _ _ _ other) ∙ is in cc
     ]
 window-key n _ z is = cc
 
@@ -98,8 +98,8 @@ windows-in_order n rs = sym (filter_map-in_order key_of (λ (w : Window). w.firs
 -- an element that is kept passes the test, and is what is made of it
 pub kept-is : {X : Type 0} (p : X → Bool) (r z : X) → kept p r ≡ Some z → (p r ≡ true) × (r ≡ z)
 kept-is p r z is = elim (cases_Bool (p r)) [
-  | inl passes ↦ let some : Some r ≡ Some z = sym (cond-true (p r) _ _ passes) ∙ is in (passes, cc)
-  | inr fails ↦ let none : None ≡ Some z = sym (cond-false (p r) _ _ fails) ∙ is in cc
+  | inl passes ↦ let some : Some r ≡ Some z = sym (cond-true _ _ _ passes) ∙ is in (passes, cc)
+  | inr fails ↦ let none : None ≡ Some z = sym (cond-false _ _ _ fails) ∙ is in cc
 ]
 
 mark-order : (n : ℕ) (x y z w : Record) → kept (is_mark_of n) x ≡ Some z → kept (is_mark_of n) y ≡ Some w →
@@ -137,14 +137,14 @@ fold-least n a [] le all (inr has) = absurd (true≢false (sym has))
 fold-least n a (x ∷ xs) le all (inl is) = let first = all.0 in fold-least n (min a x) xs (omega arith) all.1 (inl (omega (arith, is)))
 fold-least n a (x ∷ xs) le all (inr has) =
     let first = all.0 in
-    elim (or_cases (x == n) (list_any (λ y. y == n) xs) has) [
+    elim (or_cases _ _ has) [
       | inl here ↦ let is = eqb-true x n here in fold-least n (min a x) xs (omega arith) all.1 (inl (omega (arith, is)))
       | inr there ↦ fold-least n (min a x) xs (omega arith) all.1 (inr there)
     ]
 
 least-is : (n : ℕ) (xs : List ℕ) → AllByRecursion (λ x. n ≤ x) xs → list_any (λ x. x == n) xs ≡ true → lowest_in xs ≡ Some n
 least-is n [] all has = absurd (true≢false (sym has))
-least-is n (x ∷ xs) all has = ap Some (fold-least n x xs all.0 all.1 (go (or_cases (x == n) (list_any (λ y. y == n) xs) has)))
+least-is n (x ∷ xs) all has = ap Some (fold-least n x xs all.0 all.1 (go (or_cases _ _ has)))
   where
     go : ((x == n) ≡ true) ⊎ (list_any (λ y. y == n) xs ≡ true) → (x ≡ n) ⊎ (list_any (λ y. y == n) xs ≡ true)
     go (inl here) = inl (eqb-true x n here)
@@ -159,9 +159,8 @@ module _ (sound : ℕ → Bool) (n : ℕ) where
   bad ms = filter (λ m. not (sound m)) ms
 
   bad-has : sound n ≡ false → (m : ℕ) (ms : List ℕ) → (m ≡ n) ⊎ (list_any (λ k. k == n) (bad ms) ≡ true) → list_any (λ k. k == n) (bad (m ∷ ms)) ≡ true
-  bad-has fails m ms (inl is) = ap (list_any (λ k. k == n)) (cond-true (not (sound m)) _ _ (ap not (ap sound is ∙ fails))) ∙ or_left (m == n) _ (eq-eqb m n is)
-  bad-has fails m ms (inr rest) =
-      cond_both (not (sound m)) (m ∷ bad ms) (bad ms) (λ l. list_any (λ k. k == n) l ≡ true) (λ _. or_right (m == n) _ rest) (λ _. rest)
+  bad-has fails m ms (inl is) = ap (list_any (λ k. k == n)) (cond-true _ _ _ (ap not (ap sound is ∙ fails))) ∙ or_left _ _ (eq-eqb m n is)
+  bad-has fails m ms (inr rest) = cond_both (not (sound m)) (m ∷ bad ms) (bad ms) (λ l. list_any (λ k. k == n) l ≡ true) (λ _. or_right _ _ rest) (λ _. rest)
 
   bad-least : (m : ℕ) (ms : List ℕ) → (m < n → sound m ≡ true) → AllByRecursion (λ k. n ≤ k) (bad ms) → AllByRecursion (λ k. n ≤ k) (bad (m ∷ ms))
   bad-least m ms fine all =
@@ -174,7 +173,7 @@ module _ (sound : ℕ → Bool) (n : ℕ) where
       list_any (λ k. k == n) (bad (filter_map stream_number us)) ≡ true
   numbers-has fails [] usable has = absurd (true≢false (sym has))
   numbers-has fails (r ∷ us) usable has =
-      rw (number-usable r usable.0) (elim (or_cases (stream_of r == n) (list_any (λ q. stream_of q == n) us) has) [
+      rw (number-usable r usable.0) (elim (or_cases _ _ has) [
         | inl here ↦ bad-has fails (stream_of r) (filter_map stream_number us) (inl (eqb-true (stream_of r) n here))
         | inr there ↦ bad-has fails (stream_of r) (filter_map stream_number us) (inr (numbers-has fails us usable.1 there))
       ])
@@ -193,8 +192,7 @@ lowest-bad rs n usable lowest =
     let lower : AllByRecursion (λ r. stream_of r < n → is_sound rs (stream_of r) ≡ true) rs =
     recursion_from_All (λ r. stream_of r < n → is_sound rs (stream_of r) ≡ true) rs
     (All-permutation (λ r. stream_of r < n → is_sound rs (stream_of r) ≡ true) qs rs (IsPermutation-sym rs qs moved)
-    (All-from_recursion (λ r. stream_of r < n → is_sound rs (stream_of r) ≡ true) qs
-    (all_weaker (λ r. stream_of r < n → is_sound_in_order qs (stream_of r) ≡ true) (λ r. stream_of r < n → is_sound rs (stream_of r) ≡ true)
+    (All-from_recursion (λ r. stream_of r < n → is_sound rs (stream_of r) ≡ true) qs (all_weaker _ _
     (λ r fine lt. is_sound-in_order rs (stream_of r) ∙ fine lt) qs lowest.lower))) in
     least-is n (filter (λ m. not (is_sound rs m)) (filter_map stream_number rs)) (numbers-least (is_sound rs) n rs usable lower)
     (numbers-has (is_sound rs) n (is_sound-in_order rs n ∙ lowest.unsound) rs usable (list_any-IsPermutation (λ r. stream_of r == n) rs qs moved ∙ lowest.has))

@@ -4,7 +4,6 @@ use Rattle.ss_recover.proofs.Words.{cond-false, cond-true, cond_both, drop, file
 use Rattle.ss_recover.proofs.Words.{length-replicate, length-take, List, lt-ltb, map, MOST_SLOTS, not_a_store, occupied, Put, puts_in_use, range_with_len, redo}
 use Rattle.ss_recover.proofs.Words.{redo-born, redo-neither, redo-unborn, refl, SameMap, slot_within, SlotMap, stands, StandsFor, StandsFor-parts, subst, sym}
 use Rattle.ss_recover.proofs.Words.{with_put, with_puts, zeros, ℕ}
-use Rattle.ss_journal.specs.Checks.{slot_in}
 use Rattle.ss_journal.specs.Format.{is_born, is_unborn, kind_of, slot_at, slot_place, slots_in}
 use Rattle.ss_journal.proofs.CheckLemmas.{length-slot_form}
 use Rattle.ss_journal.proofs.PutLemmas.{extent_after-bound}
@@ -24,9 +23,9 @@ length-slot_at image slot below =
 
 length-file_map : (image : List ℕ) (slot : ℕ) → length ((file_map image).bytes slot) ≡ 128
 length-file_map image slot = elim (cases_lt slot (slots_in (length image))) [
-  | inl below ↦ ap length (cond-true _ (slot_in image slot) zeros (lt-ltb slot (slots_in (length image)) below))
+  | inl below ↦ ap length (cond-true _ _ _ (lt-ltb slot (slots_in (length image)) below))
       ∙ length-slot_form (kind_of image) slot (slot_at image slot) ∙ length-slot_at image slot below
-  | inr past ↦ ap length (cond-false _ (slot_in image slot) zeros (le-ltb slot (slots_in (length image)) past)) ∙ length-zeros
+  | inr past ↦ ap length (cond-false _ _ _ (le-ltb slot (slots_in (length image)) past)) ∙ length-zeros
 ]
 
 length-with_put : (put : Put) (bytes : ℕ → List ℕ) → length put.bytes ≡ 128 → ((slot : ℕ) → length (bytes slot) ≡ 128) → (slot : ℕ) →
@@ -79,8 +78,7 @@ HasWholeSlots-StandsFor image found is =
 same-slots : (first second : SlotMap) → first.extent ≤ MOST_SLOTS → SameMap first second →
     AllByRecursion (λ slot. first.bytes slot ≡ second.bytes slot) (range_with_len 0 first.extent)
 same-slots first second few same =
-    all_weaker (λ slot. slot < first.extent) (λ slot. first.bytes slot ≡ second.bytes slot) (λ slot below. same.bytes slot (omega arith))
-    (range_with_len 0 first.extent) (range-within 0 first.extent first.extent (omega arith))
+    all_weaker _ _ (λ slot below. same.bytes slot (omega arith)) (range_with_len 0 first.extent) (range-within 0 first.extent first.extent (omega arith))
 
 pub occupied-same : (first second : SlotMap) → first.extent ≤ MOST_SLOTS → SameMap first second → occupied first ≡ occupied second
 occupied-same first second few same =

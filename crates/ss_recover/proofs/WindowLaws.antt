@@ -2,7 +2,7 @@
 use Rattle.ss_recover.proofs.Words.{[], ◌&&◌, ◌++◌, ◌+◌, ◌<◌, ◌==◌, ◌∙◌, ◌∷◌, ◌≡◌, ◌≤◌, add-one, All, and_from, and_left, ap, append-nil, AreWindowsOf, arith}
 use Rattle.ss_recover.proofs.Words.{Bool, cond, cond-true, cons_option, count_by-le-length, drop, drop-cons, Entry, eq-eqb, false, filter-append}
 use Rattle.ss_recover.proofs.Words.{filter_map-append, Found, found_by, get_or, Grows, is_after, is_window, IsInside, le-leb, length, length-filter, length-map}
-use Rattle.ss_recover.proofs.Words.{List, map, map-append, MOST_RECORDS, MOST_VALUES, nat_le, nat_lt, ne_eqb, newest_time, None, Option, Record, refl}
+use Rattle.ss_recover.proofs.Words.{List, map, map-append, MOST_RECORDS, MOST_VALUES, nat_lt, ne_eqb, newest_time, None, Option, Record, refl}
 use Rattle.ss_recover.proofs.Words.{slots_found, Some, span_held, span_of, stream_of, subst, sum_by-append, sym, take, take_more, taken, tile, tile_from}
 use Rattle.ss_recover.proofs.Words.{times_held, times_of, times_rise, true, Window, window_of, windows_in, without_slots, ℕ}
 use Rattle.ss_line.specs.declared.entry.At.{At}
@@ -94,7 +94,7 @@ module _ (n : ℕ) (all : List Found) (i : ℕ) (x : Found) (within : i < length
 
   pub tile-fails : (next : ℕ) → TileTo n all i next → (w : Window) → window_of n x.holds ≡ Some w → (w.first ≡ next → ⊥) → tile (windows_at n all) ≡ false
   tile-fails next to w some apart =
-      and_left (tile_from 1 (windows_at n all)) (nat_le (taken (windows_at n all)) MOST_VALUES) (to.left ∙ ap (tile_from next) (left-window w some)
+      and_left _ _ (to.left ∙ ap (tile_from next) (left-window w some)
       ∙ ap (λ b. b && tile_from (next + w.summary.count) (windows_at n (drop (i + 1) all))) (ne_eqb w.first next apart))
 
 -- at the end
@@ -102,7 +102,7 @@ pub tile-holds : (n : ℕ) (all : List Found) (i next : ℕ) → TileTo n all i 
 tile-holds n all i next to none whole =
     let few = to.few in
     let so_far = to.so_far in
-    and_from (tile_from 1 (windows_at n all)) (nat_le (taken (windows_at n all)) MOST_VALUES) (to.left ∙ ap (λ l. tile_from next (windows_at n l)) none)
+    and_from _ _ (to.left ∙ ap (λ l. tile_from next (windows_at n l)) none)
     (le-leb (taken (windows_at n all)) MOST_VALUES (omega (arith, few, so_far, ap (λ l. taken (windows_at n l)) whole)))
 
 -- ---- where they are held
@@ -116,7 +116,7 @@ no-window : (n : ℕ) (r : Record) → stream_of r ≡ n → window_of n r ≡ N
 no-window n records.Free own is = refl
 no-window n (records.Window id first summary) own is = absurd (
     let w : Window = record { first = first; summary = summary } in
-    let wrong : Some w ≡ None = sym (cond-true (id == n) (Some w) None (eq-eqb id n own)) ∙ is in cc)
+    let wrong : Some w ≡ None = sym (cond-true _ _ _ (eq-eqb id n own)) ∙ is in cc)
 no-window n _ own is = refl
 
 pub found-more : (p : Record → Bool) (all : List Found) (x : Found) (b : Bool) → p x.holds ≡ b →
@@ -142,8 +142,7 @@ module _ (n : ℕ) (all : List Found) (x : Found) (windows : Windows) (are : Are
       let second : At × Entry → Entry = λ e. e.1 in
       let more : map second new.line.entries ≡ map second windows.line.entries ++ grows.entry ∷ [] =
       ap (map second) grows.entries ∙ map-append second windows.line.entries ((grows.at, grows.entry) ∷ []) in
-      let one : windows_at n (all ++ x ∷ []) ≡ windows_at n all ++ w ∷ [] =
-      windows-more n all x ∙ ap (λ o. windows_at n all ++ cons_option o []) some in
+      let one : windows_at n (all ++ x ∷ []) ≡ windows_at n all ++ w ∷ [] = windows-more n all x ∙ ap (λ o. windows_at n all ++ cons_option o []) some in
       record {
         positions =
             ap (map span_held) more ∙ map-append span_held (map second windows.line.entries) (grows.entry ∷ [])

@@ -14,8 +14,7 @@ pub returns-clause-gathers : goal.returns-clause-gathers
 returns-clause-gathers g c =
     step-from c.loop-slot.invariant.step (λ told before. record {
       found = λ found stands.
-          let size : c.loop-slot.slot ≡ found.extent =
-          omega (
+          let size : c.loop-slot.slot ≡ found.extent = omega (
             arith,
             c.loop-slot-test.false,
             c.loop-slot.invariant.within,

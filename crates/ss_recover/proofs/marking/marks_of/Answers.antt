@@ -40,8 +40,7 @@ loop-one-preserved c =
     let i = c.loop-one.one-index in
     let x = c.one-item.result in
     let own = each-at (λ f. stream_of f.holds ≡ c.args.id) all i x c.requires.own c.loop-one-test.true c.one-item.is in
-    let step =
-    subst (λ b. StepsAs (Ok b) (marked_with so_far.0 x.holds) (λ next. ShowsMarks c.take.new.self (stream_of x.holds) next (take i all ++ x ∷ [])))
+    let step = subst (λ b. StepsAs (Ok b) (marked_with so_far.0 x.holds) (λ next. ShowsMarks c.take.new.self (stream_of x.holds) next (take i all ++ x ∷ [])))
     c.if-not-branch.false (c.in_ok-take.ensures so_far.0 (take i all) (subst (λ n. ShowsMarks c.loop-one.marks n so_far.0 (take i all)) (sym own) so_far.1)) in
     let next = marked-next (λ next. ShowsMarks c.take.new.self (stream_of x.holds) next (take i all ++ x ∷ [])) (marked_with so_far.0 x.holds) step in (
       next.0,

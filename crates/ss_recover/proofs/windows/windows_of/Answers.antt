@@ -15,8 +15,7 @@ loop-one-preserved g c =
     let i = c.loop-one.one-index in
     let x = c.one-item.result in
     let lt = c.loop-one-test.true in
-    let taken : take (i + 1) all ≡ take i all ++ x ∷ [] =
-    take_more all i x lt ∙ ap (λ (y : Found). take i all ++ y ∷ []) (sym c.one-item.is) in
+    let taken : take (i + 1) all ≡ take i all ++ x ∷ [] = take_more all i x lt ∙ ap (λ (y : Found). take i all ++ y ∷ []) (sym c.one-item.is) in
     elim c.match-window_of.branch [
       | in-Some+in_ok-put-in-Some w ↦
           subst (AreWindowsOf c.args.id (take (i + 1) all)) (sym w.windows-is) (subst (λ (l : List Found). AreWindowsOf c.args.id l w.put.new.self) (sym taken)
