@@ -1,9 +1,9 @@
 -- What a map carries is a state.
-use Rattle.ss_recover.proofs.Words.{[], ◌∙◌, ◌∷◌, ◌≡◌, ◌≤◌, AllByRecursion, ap, arith, Bool, carries, cases_Bool, cons_option, count_by-le-length, false}
-use Rattle.ss_recover.proofs.Words.{filter, filter_map, Free, in_order, inl, inr, is_drop_of, is_dropped, is_sound_in_order, IsPermutation, IsPermutation-sym}
-use Rattle.ss_recover.proofs.Words.{IsState, IsUsable, key_of, length, length-filter, length_permutation, List, list_any-IsPermutation, lowest_bad_slot}
-use Rattle.ss_recover.proofs.Words.{lowest_bad_stream, MOST_RECORDS, MOST_SLOTS, None, not, not-false, not-true, Option, Record, records_in, refl, SlotMap}
-use Rattle.ss_recover.proofs.Words.{Some, stands_by, stream_number, stream_of, streams_carried, subst, sym, true, ℕ}
+use Rattle.ss_recover.proofs.Common.{[], ◌∙◌, ◌∷◌, ◌≡◌, ◌≤◌, AllByRecursion, ap, arith, Bool, carries, cases_Bool, cons_option, count_by-le-length, false}
+use Rattle.ss_recover.proofs.Common.{filter, filter_map, Free, in_order, inl, inr, is_drop_of, is_dropped, is_sound_in_order, IsPermutation, IsPermutation-sym}
+use Rattle.ss_recover.proofs.Common.{IsState, IsUsable, key_of, length, length-filter, length_permutation, List, list_any-IsPermutation, lowest_bad_slot}
+use Rattle.ss_recover.proofs.Common.{lowest_bad_stream, MOST_RECORDS, MOST_SLOTS, None, not, not-false, not-true, Option, Record, records_in, refl, SlotMap}
+use Rattle.ss_recover.proofs.Common.{Some, stands_by, stream_number, stream_of, streams_carried, subst, sym, true, ℕ}
 use Rattle.ss_codec.specs.declared.record.Record.TheVariants.{Stream}
 use Rattle.ss_recover.specs.Carried.{spelled}
 use Rattle.ss_recover.specs.Conditions.{is_sound}

@@ -1,8 +1,8 @@
 -- The records of dropped streams among those that were found: they are of no stream that stands, and may go in turn.
-use Rattle.ss_recover.proofs.Words.{[], ◌==◌, ◌∙◌, ◌∷◌, ◌≡◌, AllByRecursion, and_parts, ap, Bool, cond, doomed_among, doomed_found, eq-eqb, false}
-use Rattle.ss_recover.proofs.Words.{false_from_ne_true, filter, Found, in_slot, is_doomed, is_drop_of, is_dropped, is_own, IsPermutation, IsPermutation-map}
-use Rattle.ss_recover.proofs.Words.{List, list_any, list_any-IsPermutation, map, ne_eqb, None, not, Option, option_map_or, Record, records_beside, refl}
-use Rattle.ss_recover.proofs.Words.{slots_found, stands_by, Stream, stream_number, stream_of, subst, sym, true, true≢false, without_slots, ℕ}
+use Rattle.ss_recover.proofs.Common.{[], ◌==◌, ◌∙◌, ◌∷◌, ◌≡◌, AllByRecursion, and_parts, ap, Bool, cond, doomed_among, doomed_found, eq-eqb, false}
+use Rattle.ss_recover.proofs.Common.{false_from_ne_true, filter, Found, in_slot, is_doomed, is_drop_of, is_dropped, is_own, IsPermutation, IsPermutation-map}
+use Rattle.ss_recover.proofs.Common.{List, list_any, list_any-IsPermutation, map, ne_eqb, None, not, Option, option_map_or, Record, records_beside, refl}
+use Rattle.ss_recover.proofs.Common.{slots_found, stands_by, Stream, stream_number, stream_of, subst, sym, true, true≢false, without_slots, ℕ}
 use Rattle.ss_recover.proofs.RunStanding.{doomed-same}
 use Rattle.ss_recover.specs.Conditions.{is_sound}
 use Rattle.ss_recover.proofs.DroppedRecords.{IsNoneOf, IsNoneOf-apart}

@@ -1,11 +1,11 @@
 -- The records of dropped streams, in the order in which they are cleared: each may go in turn, and their slots rise.
-use Rattle.ss_recover.proofs.Words.{[], ◌++◌, ◌+◌, ◌<◌, ◌==◌, ◌∙◌, ◌∷◌, ◌≡◌, ◌≤◌, AllByRecursion, and_parts, ap, ap₂, are_zeros, AreSlotsOf, arith, Bool}
-use Rattle.ss_recover.proofs.Words.{cases_Bool, cond-true, count_by, Created, created_by, doomed_among, doomed_found, doomed_slots, eq-eqb, eqb-true, false}
-use Rattle.ss_recover.proofs.Words.{filter, filter_map-append, Found, GoInTurn, in_slot, inl, inr, is_doomed, is_drop_of, is_dropped, is_of, is_own}
-use Rattle.ss_recover.proofs.Words.{IsPermutation, IsPermutation-map, IsPermutation-sym, IsPermutation-trans, List, list_any, list_any-append, map, map-append}
-use Rattle.ss_recover.proofs.Words.{map-id, may_go, None, not, not_from_false, occupied, Option, or_cases, or_from, or_left, or_right, range_with_len, Record}
-use Rattle.ss_recover.proofs.Words.{records_beside, refl, SlotMap, slots_found, Some, stands_by, stream_of, streams_created, subst, suc, sym, true, true≢false}
-use Rattle.ss_recover.proofs.Words.{without_slots, zero, ℕ}
+use Rattle.ss_recover.proofs.Common.{[], ◌++◌, ◌+◌, ◌<◌, ◌==◌, ◌∙◌, ◌∷◌, ◌≡◌, ◌≤◌, AllByRecursion, and_parts, ap, ap₂, are_zeros, AreSlotsOf, arith, Bool}
+use Rattle.ss_recover.proofs.Common.{cases_Bool, cond-true, count_by, Created, created_by, doomed_among, doomed_found, doomed_slots, eq-eqb, eqb-true, false}
+use Rattle.ss_recover.proofs.Common.{filter, filter_map-append, Found, GoInTurn, in_slot, inl, inr, is_doomed, is_drop_of, is_dropped, is_of, is_own}
+use Rattle.ss_recover.proofs.Common.{IsPermutation, IsPermutation-map, IsPermutation-sym, IsPermutation-trans, List, list_any, list_any-append, map, map-append}
+use Rattle.ss_recover.proofs.Common.{map-id, may_go, None, not, not_from_false, occupied, Option, or_cases, or_from, or_left, or_right, range_with_len, Record}
+use Rattle.ss_recover.proofs.Common.{records_beside, refl, SlotMap, slots_found, Some, stands_by, stream_of, streams_created, subst, suc, sym, true, true≢false}
+use Rattle.ss_recover.proofs.Common.{without_slots, zero, ℕ}
 use Rattle.ss_codec.specs.Decoded.{decoded}
 use Rattle.ss_recover.proofs.DoomedLemmas.{beside-found, doomed_among-found, doomed_found-moved, dropped-doomed, first-in_slot, IsGone, IsSoundOf, own-doomed}
 use Rattle.ss_recover.proofs.DoomedLemmas.{without_slots-doomed}

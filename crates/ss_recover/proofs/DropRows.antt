@@ -1,6 +1,6 @@
 -- Which records of dropped streams may go, beside which others.
-use Rattle.ss_recover.proofs.Words.{[], ◌∷◌, ◌≡◌, Bool, false, Figures, full, GoInTurn, has_place, List, map, may_go, None, pos, Record, refl, replicate, Some}
-use Rattle.ss_recover.proofs.Words.{Stream, streams_created, sym, true, true≢false, without_numbered, ℕ}
+use Rattle.ss_recover.proofs.Common.{[], ◌∷◌, ◌≡◌, Bool, false, Figures, full, GoInTurn, has_place, List, map, may_go, None, pos, Record, refl, replicate, Some}
+use Rattle.ss_recover.proofs.Common.{Stream, streams_created, sym, true, true≢false, without_numbered, ℕ}
 use Rattle.ss_catalog.specs.Params.{exp as Exp}
 use Rattle.ss_codec.specs.declared.record.Record.TheVariants as records
 

@@ -1,11 +1,11 @@
 -- Maps without a record of a dropped stream, and those of a stream that is dropped.
-use Rattle.ss_recover.proofs.Words.{[], ◌++◌, ◌+◌, ◌-◌, ◌<◌, ◌||◌, ◌∙◌, ◌∷◌, ◌≡◌, All-from_recursion, All-permutation, AllByRecursion, ap, ap₂, are_zeros}
-use Rattle.ss_recover.proofs.Words.{arith, Bool, carries, cases_Bool, changed, cond, cond-false, cond-true, Created, decoded-spelling, decoded-Spells, false}
-use Rattle.ss_recover.proofs.Words.{filter_map, filter_map-append, HasWholeSlots, inl, inr, is_none, is_valid-free, IsPermutation, IsPermutation-sym, IsRecord}
-use Rattle.ss_recover.proofs.Words.{IsTrue, judged, length, length-append, List, list_any, list_any-append, list_any-IsPermutation, lowest_bad_slot}
-use Rattle.ss_recover.proofs.Words.{lowest_bad_stream, map, map-append, may_go, nat_eq, nat_lt, nat_tests, None, not, occupied, Option, position_or_len, Put}
-use Rattle.ss_recover.proofs.Words.{range_with_len, Record, records_beside, records_in, recursion_from_All, refl, SlotMap, Some, spelling-free, Stream}
-use Rattle.ss_recover.proofs.Words.{stream_number, streams_carried, subst, sym, true, with_put, without_numbered, zeros, ℕ}
+use Rattle.ss_recover.proofs.Common.{[], ◌++◌, ◌+◌, ◌-◌, ◌<◌, ◌||◌, ◌∙◌, ◌∷◌, ◌≡◌, All-from_recursion, All-permutation, AllByRecursion, ap, ap₂, are_zeros}
+use Rattle.ss_recover.proofs.Common.{arith, Bool, carries, cases_Bool, changed, cond, cond-false, cond-true, Created, decoded-spelling, decoded-Spells, false}
+use Rattle.ss_recover.proofs.Common.{filter_map, filter_map-append, HasWholeSlots, inl, inr, is_none, is_valid-free, IsPermutation, IsPermutation-sym, IsRecord}
+use Rattle.ss_recover.proofs.Common.{IsTrue, judged, length, length-append, List, list_any, list_any-append, list_any-IsPermutation, lowest_bad_slot}
+use Rattle.ss_recover.proofs.Common.{lowest_bad_stream, map, map-append, may_go, nat_eq, nat_lt, nat_tests, None, not, occupied, Option, position_or_len, Put}
+use Rattle.ss_recover.proofs.Common.{range_with_len, Record, records_beside, records_in, recursion_from_All, refl, SlotMap, Some, spelling-free, Stream}
+use Rattle.ss_recover.proofs.Common.{stream_number, streams_carried, subst, sym, true, with_put, without_numbered, zeros, ℕ}
 use Rattle.ss_codec.specs.Decoded.{decoded}
 use Rattle.ss_recover.specs.Carried.{spelled}
 use Rattle.ss_recover.specs.Parts.{carried}

@@ -1,11 +1,11 @@
 -- Records without one of a dropped stream.
-use Rattle.ss_recover.proofs.Words.{[], ◌&&◌, ◌++◌, ◌==◌, ◌||◌, ◌∙◌, ◌∷◌, ◌≡◌, ◌⊎◌, AllByRecursion, and_cases, and_from, and_left, and_parts, and_right, ap}
-use Rattle.ss_recover.proofs.Words.{ap₂, arith, Bool, cases_Bool, cond-false, cons_option, count_by, Created, created_by, eq-eqb, eqb-true, false, filter_map}
-use Rattle.ss_recover.proofs.Words.{filter_map-append, has_new_name, has_one_record, has_place, in_order, inl, inr, is_drop_of, is_dropped, is_mark_of}
-use Rattle.ss_recover.proofs.Words.{is_named_before, is_of, keep_own_step, List, list_any, list_any-append, lowest_bad_stream, lt-ltb, ltb-true, map, may_go}
-use Rattle.ss_recover.proofs.Words.{MOST_STREAMS, nat_lt, None, not, not-true, Option, option_map_or, or_from, or_parts, Params, Record, refl, Some, stands_by}
-use Rattle.ss_recover.proofs.Words.{Stream, stream_carried, stream_number, stream_of, streams_carried, streams_created, streams_standing, subst, sum_by-append}
-use Rattle.ss_recover.proofs.Words.{sum_by-cons, sym, true, true≢false, window_of, ℕ}
+use Rattle.ss_recover.proofs.Common.{[], ◌&&◌, ◌++◌, ◌==◌, ◌||◌, ◌∙◌, ◌∷◌, ◌≡◌, ◌⊎◌, AllByRecursion, and_cases, and_from, and_left, and_parts, and_right, ap}
+use Rattle.ss_recover.proofs.Common.{ap₂, arith, Bool, cases_Bool, cond-false, cons_option, count_by, Created, created_by, eq-eqb, eqb-true, false, filter_map}
+use Rattle.ss_recover.proofs.Common.{filter_map-append, has_new_name, has_one_record, has_place, in_order, inl, inr, is_drop_of, is_dropped, is_mark_of}
+use Rattle.ss_recover.proofs.Common.{is_named_before, is_of, keep_own_step, List, list_any, list_any-append, lowest_bad_stream, lt-ltb, ltb-true, map, may_go}
+use Rattle.ss_recover.proofs.Common.{MOST_STREAMS, nat_lt, None, not, not-true, Option, option_map_or, or_from, or_parts, Params, Record, refl, Some, stands_by}
+use Rattle.ss_recover.proofs.Common.{Stream, stream_carried, stream_number, stream_of, streams_carried, streams_created, streams_standing, subst, sum_by-append}
+use Rattle.ss_recover.proofs.Common.{sum_by-cons, sym, true, true≢false, window_of, ℕ}
 use Rattle.ss_recover.specs.Conditions.{is_sound}
 use Rattle.ss_recover.proofs.InOrder.{all-in_order}
 use Rattle.ss_recover.proofs.Lists.{all-each, all_append, all_behind, all_both, all_front, all_weaker, filter_map-kept, kept}

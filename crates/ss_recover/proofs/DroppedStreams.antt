@@ -1,9 +1,9 @@
 -- Records of a stream that is dropped: the others are carried as they were.
-use Rattle.ss_recover.proofs.Words.{[], ◌++◌, ◌+◌, ◌==◌, ◌||◌, ◌∙◌, ◌∷◌, ◌≡◌, AllByRecursion, ap, ap₂, arith, Bool, cases_Bool, count_by, Created, created_by}
-use Rattle.ss_recover.proofs.Words.{eq-eqb, false, filter, filter-append, filter_map, filter_map-append, in_order, inl, inr, is_drop_of, keep_own_step, leb}
-use Rattle.ss_recover.proofs.Words.{List, list_any, list_any-append, map, not, or_cases, or_left, or_right, Record, refl, stands_by, Stream, stream_carried}
-use Rattle.ss_recover.proofs.Words.{stream_number, streams_carried, streams_created, streams_standing, subst, sum_by-append, sum_by-cons, sym, true}
-use Rattle.ss_recover.proofs.Words.{without_numbered, ℕ}
+use Rattle.ss_recover.proofs.Common.{[], ◌++◌, ◌+◌, ◌==◌, ◌||◌, ◌∙◌, ◌∷◌, ◌≡◌, AllByRecursion, ap, ap₂, arith, Bool, cases_Bool, count_by, Created, created_by}
+use Rattle.ss_recover.proofs.Common.{eq-eqb, false, filter, filter-append, filter_map, filter_map-append, in_order, inl, inr, is_drop_of, keep_own_step, leb}
+use Rattle.ss_recover.proofs.Common.{List, list_any, list_any-append, map, not, or_cases, or_left, or_right, Record, refl, stands_by, Stream, stream_carried}
+use Rattle.ss_recover.proofs.Common.{stream_number, streams_carried, streams_created, streams_standing, subst, sum_by-append, sum_by-cons, sym, true}
+use Rattle.ss_recover.proofs.Common.{without_numbered, ℕ}
 use Rattle.ss_recover.specs.Conditions.{is_sound}
 use Rattle.ss_recover.proofs.Lists.{all-each, all_weaker, filter-all, filter_map-kept, kept}
 use Rattle.ss_recover.proofs.SoundNumbers.{all-false, AreSound, HaveSameValues, is_numbered, is_sound-kept, none-stands, none_bad-AreSound, one-sound}

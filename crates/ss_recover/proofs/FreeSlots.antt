@@ -1,8 +1,8 @@
 -- Slots of zeros are free: they give nothing to what is made of the records of a map.
-use Rattle.ss_recover.proofs.Words.{[], ◌||◌, ◌∙◌, ◌∷◌, ◌≡◌, AllByRecursion, ap, are_zeros, arith, Bool, cases_Bool, cond-false, cons_option}
-use Rattle.ss_recover.proofs.Words.{decoded-spelling, false, filter_map, Free, HasWholeSlots, inl, inr, is_none, is_valid-free, length, List, list_any, map}
-use Rattle.ss_recover.proofs.Words.{None, Option, range_with_len, Record, records_beside, records_in, refl, replicate, replicate-are_zeros, SlotMap, Some}
-use Rattle.ss_recover.proofs.Words.{spelling-free, sym, true, ℕ}
+use Rattle.ss_recover.proofs.Common.{[], ◌||◌, ◌∙◌, ◌∷◌, ◌≡◌, AllByRecursion, ap, are_zeros, arith, Bool, cases_Bool, cond-false, cons_option}
+use Rattle.ss_recover.proofs.Common.{decoded-spelling, false, filter_map, Free, HasWholeSlots, inl, inr, is_none, is_valid-free, length, List, list_any, map}
+use Rattle.ss_recover.proofs.Common.{None, Option, range_with_len, Record, records_beside, records_in, refl, replicate, replicate-are_zeros, SlotMap, Some}
+use Rattle.ss_recover.proofs.Common.{spelling-free, sym, true, ℕ}
 use Rattle.ss_codec.specs.Decoded.{decoded}
 use Rattle.ss_recover.proofs.Lists.{all_weaker, any-made, kept, range-within}
 use Rattle.ss_recover.proofs.Occupied.{filled, filled-live, filled-zeros}

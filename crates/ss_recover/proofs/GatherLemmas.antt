@@ -1,13 +1,13 @@
 -- The slots that were read, and one more.
-use Rattle.ss_recover.proofs.Words.{[], ◌%◌, ◌*◌, ◌++◌, ◌+◌, ◌-◌, ◌/◌, ◌<◌, ◌^◌, ◌∙◌, ◌∷◌, ◌≡◌, ◌≢◌, ◌≤◌, All, All-push, ap, append-nil, ap₂, are_zeros}
-use Rattle.ss_recover.proofs.Words.{AreBelow, AreFoundBelow, AreGathered, AreLiveBelow, AreLiveOver, arith, BadSlot, BadStream, below, Bool, cases_lt, cond}
-use Rattle.ss_recover.proofs.Words.{cond-false, cond-true, count_by-le-length, Disk, eq-eqb, Err, false, false_from_ne_true, filter, filter-append, Found, Free}
-use Rattle.ss_recover.proofs.Words.{Gathered, get_or, get_or-map-range_with_len, in_slot, inl, inr, is_live, is_live-below, is_live-set, is_none, IsKept}
-use Rattle.ss_recover.proofs.Words.{IsLowestBad, IsSealed, IsUsable, JournalState, length, length-filter, length-map, length-map-range_with_len}
-use Rattle.ss_recover.proofs.Words.{length-range_with_len, length-set, List, lowest_bad_slot, lt-ltb, map, map-append, ne_eqb, None, not, Option}
-use Rattle.ss_recover.proofs.Words.{OutOfMemory, position_or_len, position_or_len_is, range_with_len, Record, RecoverError, refl, replicate, SameMap-refl, set}
-use Rattle.ss_recover.proofs.Words.{shown, SlotMap, Some, spelling-free, Spells-decoded, SpellsNone, StandsFor, StandsFor-from, StandsFor-same, subst, suc, sym}
-use Rattle.ss_recover.proofs.Words.{true, true≢false, verdict_of_rebuild, zero, ℕ}
+use Rattle.ss_recover.proofs.Common.{[], ◌%◌, ◌*◌, ◌++◌, ◌+◌, ◌-◌, ◌/◌, ◌<◌, ◌^◌, ◌∙◌, ◌∷◌, ◌≡◌, ◌≢◌, ◌≤◌, All, All-push, ap, append-nil, ap₂, are_zeros}
+use Rattle.ss_recover.proofs.Common.{AreBelow, AreFoundBelow, AreGathered, AreLiveBelow, AreLiveOver, arith, BadSlot, BadStream, below, Bool, cases_lt, cond}
+use Rattle.ss_recover.proofs.Common.{cond-false, cond-true, count_by-le-length, Disk, eq-eqb, Err, false, false_from_ne_true, filter, filter-append, Found, Free}
+use Rattle.ss_recover.proofs.Common.{Gathered, get_or, get_or-map-range_with_len, in_slot, inl, inr, is_live, is_live-below, is_live-set, is_none, IsKept}
+use Rattle.ss_recover.proofs.Common.{IsLowestBad, IsSealed, IsUsable, JournalState, length, length-filter, length-map, length-map-range_with_len}
+use Rattle.ss_recover.proofs.Common.{length-range_with_len, length-set, List, lowest_bad_slot, lt-ltb, map, map-append, ne_eqb, None, not, Option}
+use Rattle.ss_recover.proofs.Common.{OutOfMemory, position_or_len, position_or_len_is, range_with_len, Record, RecoverError, refl, replicate, SameMap-refl, set}
+use Rattle.ss_recover.proofs.Common.{shown, SlotMap, Some, spelling-free, Spells-decoded, SpellsNone, StandsFor, StandsFor-from, StandsFor-same, subst, suc, sym}
+use Rattle.ss_recover.proofs.Common.{true, true≢false, verdict_of_rebuild, zero, ℕ}
 use Rattle.ss_journal.proofs.ShownLemmas.{IsShown-sealed, shown-sealed}
 use Rattle.ss_codec.specs.Decoded.{decoded}
 use Rattle.ss_recover.specs.Carried.{spelled}

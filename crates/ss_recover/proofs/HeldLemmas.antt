@@ -1,12 +1,12 @@
 -- What is held is what the map carries.
-use Rattle.ss_recover.proofs.Words.{[], ◌<◌, ◌∙◌, ◌∷◌, ◌≡◌, ◌≤◌, All, All-from_recursion, All-permutation, AllByRecursion, and_from, ap, ap₂, are_marks}
-use Rattle.ss_recover.proofs.Words.{AreHeld, arith, carries, Created, created_by, filter, filter_map, Free, HasWholeSlots, is_mark_of}
-use Rattle.ss_recover.proofs.Words.{is_none, IsDistinct, IsInStep, IsPermutation, IsState, IsStream, IsStrictlyIncreasing, judged, keep_own_step}
-use Rattle.ss_recover.proofs.Words.{landmarks_made, length, length-map, lies_free, List, list_all, live, lowest_bad_slot, lowest_bad_stream, map, marks_carried}
-use Rattle.ss_recover.proofs.Words.{MOST_RECORDS, MOST_STREAMS, ne_eqb, None, not, Option, or_left, or_right, Record, records_in, records_of}
-use Rattle.ss_recover.proofs.Words.{recursion_from_All, refl, rule_of, same_name, SlotMap, stands_by, Stream, stream_carried}
-use Rattle.ss_recover.proofs.Words.{stream_number, StreamParts, streams_carried, streams_created, streams_standing, subst, sum_by-cons, sym, tile, times_rise}
-use Rattle.ss_recover.proofs.Words.{true, Window, window_of, windows_carried, ℕ}
+use Rattle.ss_recover.proofs.Common.{[], ◌<◌, ◌∙◌, ◌∷◌, ◌≡◌, ◌≤◌, All, All-from_recursion, All-permutation, AllByRecursion, and_from, ap, ap₂, are_marks}
+use Rattle.ss_recover.proofs.Common.{AreHeld, arith, carries, Created, created_by, filter, filter_map, Free, HasWholeSlots, is_mark_of}
+use Rattle.ss_recover.proofs.Common.{is_none, IsDistinct, IsInStep, IsPermutation, IsState, IsStream, IsStrictlyIncreasing, judged, keep_own_step}
+use Rattle.ss_recover.proofs.Common.{landmarks_made, length, length-map, lies_free, List, list_all, live, lowest_bad_slot, lowest_bad_stream, map, marks_carried}
+use Rattle.ss_recover.proofs.Common.{MOST_RECORDS, MOST_STREAMS, ne_eqb, None, not, Option, or_left, or_right, Record, records_in, records_of}
+use Rattle.ss_recover.proofs.Common.{recursion_from_All, refl, rule_of, same_name, SlotMap, stands_by, Stream, stream_carried}
+use Rattle.ss_recover.proofs.Common.{stream_number, StreamParts, streams_carried, streams_created, streams_standing, subst, sum_by-cons, sym, tile, times_rise}
+use Rattle.ss_recover.proofs.Common.{true, Window, window_of, windows_carried, ℕ}
 use Rattle.ss_recover.specs.Carried.{spelled}
 use Rattle.ss_recover.specs.Conditions.{is_sound}
 use Rattle.ss_recover.specs.Parts.{carried}

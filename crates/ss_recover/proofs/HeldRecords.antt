@@ -1,11 +1,11 @@
 -- The records of streams, as a walk takes them and as they are held, and those that the slots of a map spell.
-use Rattle.ss_recover.proofs.Words.{[], ◌++◌, ◌<◌, ◌∙◌, ◌∷◌, ◌≡◌, Agrees, all_value_records, all_values, AllAgree, AllByRecursion, ap, append-nil, append_assoc}
-use Rattle.ss_recover.proofs.Words.{ap₂, AreHeld, arith, cons_option, Created, created_by, entries_of, Entry, eq-eqb, false, filter, filter-append, filter_map}
-use Rattle.ss_recover.proofs.Words.{filter_map-append, flat_map, flat_map-append, Free, HasWholeSlots, is_mark_of, is_none, IsPermutation, IsPermutation-map}
-use Rattle.ss_recover.proofs.Words.{IsPermutation-refl, IsPermutation-trans, landmark_records, length, length-append, length-map, List, list_any}
-use Rattle.ss_recover.proofs.Words.{list_any-IsPermutation, map, map-append, mark_slots, marks_held, None, occupied, Option, range_with_len, Record}
-use Rattle.ss_recover.proofs.Words.{records_held, records_in, refl, seconds-zip, SlotMap, slots_held, Some, span_held, span_of, stands_by, Stream}
-use Rattle.ss_recover.proofs.Words.{stream_number, stream_of, stream_record, StreamParts, subst, sym, Window, window_of, window_record, window_slots, zip, ℕ, ℤ}
+use Rattle.ss_recover.proofs.Common.{[], ◌++◌, ◌<◌, ◌∙◌, ◌∷◌, ◌≡◌, Agrees, all_value_records, all_values, AllAgree, AllByRecursion, ap, append-nil, append_assoc}
+use Rattle.ss_recover.proofs.Common.{ap₂, AreHeld, arith, cons_option, Created, created_by, entries_of, Entry, eq-eqb, false, filter, filter-append, filter_map}
+use Rattle.ss_recover.proofs.Common.{filter_map-append, flat_map, flat_map-append, Free, HasWholeSlots, is_mark_of, is_none, IsPermutation, IsPermutation-map}
+use Rattle.ss_recover.proofs.Common.{IsPermutation-refl, IsPermutation-trans, landmark_records, length, length-append, length-map, List, list_any}
+use Rattle.ss_recover.proofs.Common.{list_any-IsPermutation, map, map-append, mark_slots, marks_held, None, occupied, Option, range_with_len, Record}
+use Rattle.ss_recover.proofs.Common.{records_held, records_in, refl, seconds-zip, SlotMap, slots_held, Some, span_held, span_of, stands_by, Stream}
+use Rattle.ss_recover.proofs.Common.{stream_number, stream_of, stream_record, StreamParts, subst, sym, Window, window_of, window_record, window_slots, zip, ℕ, ℤ}
 use Rattle.ss_recover.specs.Carried.{spelled}
 use Rattle.ss_recover.proofs.InOrder.{Rise, Rise-split}
 use Rattle.ss_recover.proofs.Lists.{all-each, all_append, all_behind, map-all, map-map}

@@ -1,7 +1,7 @@
 -- The times of a stream's entries rise up to its last time.
-use Rattle.ss_recover.proofs.Words.{[], ◌+◌, ◌∷◌, ◌≡◌, ◌≤◌, Agrees, ap, arith, entries_of, Entry, IsStream, later, latest_of, List, map, MatchOption, max}
-use Rattle.ss_recover.proofs.Words.{newest_time, None, Option, refl, RiseToLast, Some, StandFrom, Stream, StreamParts, subst, sym, times_held, times_of}
-use Rattle.ss_recover.proofs.Words.{TimesRise, Window, ℕ}
+use Rattle.ss_recover.proofs.Common.{[], ◌+◌, ◌∷◌, ◌≡◌, ◌≤◌, Agrees, ap, arith, entries_of, Entry, IsStream, later, latest_of, List, map, MatchOption, max}
+use Rattle.ss_recover.proofs.Common.{newest_time, None, Option, refl, RiseToLast, Some, StandFrom, Stream, StreamParts, subst, sym, times_held, times_of}
+use Rattle.ss_recover.proofs.Common.{TimesRise, Window, ℕ}
 
 -- up to the newest time
 rise-agree : (first time newest last : ℕ) (es : List Entry) (ws : List Window) → StandFrom first time ws → newest_time ws ≡ Some newest → newest ≤ last →

@@ -1,8 +1,8 @@
 -- A list in the order of its keys: where its elements are those of a list whose keys rise, it is that list.
-use Rattle.ss_recover.proofs.Words.{[], ◌++◌, ◌+◌, ◌<◌, ◌∷◌, ◌≡◌, ◌≤◌, All-from_recursion, All-permutation, AllByRecursion, AllPairs, ap, arith, Bool, cond}
-use Rattle.ss_recover.proofs.Words.{cond_both, false, filter, in_order, IsPermutation, IsPermutation-cons, IsPermutation-refl, IsPermutation-trans}
-use Rattle.ss_recover.proofs.Words.{IsStrictlyIncreasing, List, map, nat_le, nat_lt, nat_tests, put_in_order, recursion_from_All, refl, Rises, suc, sum_by}
-use Rattle.ss_recover.proofs.Words.{sum_by-cons, sum_by-IsPermutation, true, zero, ℕ}
+use Rattle.ss_recover.proofs.Common.{[], ◌++◌, ◌+◌, ◌<◌, ◌∷◌, ◌≡◌, ◌≤◌, All-from_recursion, All-permutation, AllByRecursion, AllPairs, ap, arith, Bool, cond}
+use Rattle.ss_recover.proofs.Common.{cond_both, false, filter, in_order, IsPermutation, IsPermutation-cons, IsPermutation-refl, IsPermutation-trans}
+use Rattle.ss_recover.proofs.Common.{IsStrictlyIncreasing, List, map, nat_le, nat_lt, nat_tests, put_in_order, recursion_from_All, refl, Rises, suc, sum_by}
+use Rattle.ss_recover.proofs.Common.{sum_by-cons, sum_by-IsPermutation, true, zero, ℕ}
 use Rattle.std.proofs.lemmas.List.Kept.{AllPairs-from_increasing}
 use Rattle.ss_recover.proofs.Lists.{all-kept, all_behind}
 use Rattle.ss_recover.proofs.Permutations.{IsPermutation-turn}

@@ -1,7 +1,7 @@
 -- The latest time of landmarks: none of them has a later one, and what it is when one opens, takes a value or closes.
-use Rattle.ss_recover.proofs.Words.{[], ◌++◌, ◌<◌, ◌∙◌, ◌∷◌, ◌≡◌, ◌≤◌, All-head, All-tail, AllByRecursion, AllEndBy, AllEndBy-later, ap, arith, change_last}
-use Rattle.ss_recover.proofs.Words.{closed_at, ends-latest, EndsBy, fold, fold-append, IfSome, Landmark, LandmarkValue, later, latest_in, latest_of, List, map}
-use Rattle.ss_recover.proofs.Words.{map-append, max, None, opened_at, Option, option_to_list, recursion_from_All, refl, Some, sym, with_value, ℕ}
+use Rattle.ss_recover.proofs.Common.{[], ◌++◌, ◌<◌, ◌∙◌, ◌∷◌, ◌≡◌, ◌≤◌, All-head, All-tail, AllByRecursion, AllEndBy, AllEndBy-later, ap, arith, change_last}
+use Rattle.ss_recover.proofs.Common.{closed_at, ends-latest, EndsBy, fold, fold-append, IfSome, Landmark, LandmarkValue, later, latest_in, latest_of, List, map}
+use Rattle.ss_recover.proofs.Common.{map-append, max, None, opened_at, Option, option_to_list, recursion_from_All, refl, Some, sym, with_value, ℕ}
 use Rattle.ss_recover.proofs.Lists.{map-all}
 
 -- the greatest of some times

@@ -1,7 +1,7 @@
 -- Lemmas on lists of anything, and on numbers in a row.
-use Rattle.ss_recover.proofs.Words.{[], ◌++◌, ◌+◌, ◌<◌, ◌∙◌, ◌∷◌, ◌≡◌, ◌≤◌, AllByRecursion, and_from, and_parts, ap, ap₂, arith, Bool, cases_Bool, cond}
-use Rattle.ss_recover.proofs.Words.{cond-false, cond_both, false, filter, filter_map, inl, inr, le-ltb, length, List, list_all, list_any, map, nat_eq}
-use Rattle.ss_recover.proofs.Words.{nat_tests, None, Option, or_parts, position, position_or_len, range_with_len, refl, Some, suc, sym, true, zero, ℕ}
+use Rattle.ss_recover.proofs.Common.{[], ◌++◌, ◌+◌, ◌<◌, ◌∙◌, ◌∷◌, ◌≡◌, ◌≤◌, AllByRecursion, and_from, and_parts, ap, ap₂, arith, Bool, cases_Bool, cond}
+use Rattle.ss_recover.proofs.Common.{cond-false, cond_both, false, filter, filter_map, inl, inr, le-ltb, length, List, list_all, list_any, map, nat_eq}
+use Rattle.ss_recover.proofs.Common.{nat_tests, None, Option, or_parts, position, position_or_len, range_with_len, refl, Some, suc, sym, true, zero, ℕ}
 
 -- what holds of each element
 pub all_weaker : {X : Type 0} (P Q : X → Type 0) → ((x : X) → P x → Q x) → (xs : List X) → AllByRecursion P xs → AllByRecursion Q xs

@@ -1,13 +1,13 @@
 -- What is held of landmarks shows what their records make, one record after another.
-use Rattle.ss_recover.proofs.Words.{[], ◌&&◌, ◌++◌, ◌+◌, ◌<◌, ◌∙◌, ◌∷◌, ◌≡◌, ◌≤◌, AddsToLandmark, and-true, and_assoc, and_parts, and_right, ap}
-use Rattle.ss_recover.proofs.Words.{append-nil, are_marks, AreKnown, AreLandmarks, AreMade, arith, Bool, can_add, can_open, CanOpen, CanTake, change_last}
-use Rattle.ss_recover.proofs.Words.{cond-false, cond-true, eq-eqb, eqb-true, false, filter-append, finish_of, fold, fold-append, Found, has_all_values}
-use Rattle.ss_recover.proofs.Words.{has_said_last, HasClosed, HasNoMarks, HasValidTimes, IfSome, is_landmark, is_mark_of, is_next_value}
-use Rattle.ss_recover.proofs.Words.{is_up_to, is_value, IsReady, Landmark, landmarks_in, LandmarkValue, Last, latest_of, LATEST_TIME, leb-true, length}
-use Rattle.ss_recover.proofs.Words.{length-append, List, list_all, list_all-append, map-append, Marked, marked_by, marked_on, marked_with, marks_in}
-use Rattle.ss_recover.proofs.Words.{MatchOption, MayClose, MOST_LANDMARK_SLOTS, nat_le, nat_lt, nat_tests, None, nothing_marked, opened_at, OpensLandmark}
-use Rattle.ss_recover.proofs.Words.{Option, option_and_then, option_map_or, Record, refl, ShowsLast, ShowsMarks, Some, still_open, stream_of, subst, sym, true}
-use Rattle.ss_recover.proofs.Words.{with_value, without_slots, ℕ, ℤ}
+use Rattle.ss_recover.proofs.Common.{[], ◌&&◌, ◌++◌, ◌+◌, ◌<◌, ◌∙◌, ◌∷◌, ◌≡◌, ◌≤◌, AddsToLandmark, and-true, and_assoc, and_parts, and_right, ap}
+use Rattle.ss_recover.proofs.Common.{append-nil, are_marks, AreKnown, AreLandmarks, AreMade, arith, Bool, can_add, can_open, CanOpen, CanTake, change_last}
+use Rattle.ss_recover.proofs.Common.{cond-false, cond-true, eq-eqb, eqb-true, false, filter-append, finish_of, fold, fold-append, Found, has_all_values}
+use Rattle.ss_recover.proofs.Common.{has_said_last, HasClosed, HasNoMarks, HasValidTimes, IfSome, is_landmark, is_mark_of, is_next_value}
+use Rattle.ss_recover.proofs.Common.{is_up_to, is_value, IsReady, Landmark, landmarks_in, LandmarkValue, Last, latest_of, LATEST_TIME, leb-true, length}
+use Rattle.ss_recover.proofs.Common.{length-append, List, list_all, list_all-append, map-append, Marked, marked_by, marked_on, marked_with, marks_in}
+use Rattle.ss_recover.proofs.Common.{MatchOption, MayClose, MOST_LANDMARK_SLOTS, nat_le, nat_lt, nat_tests, None, nothing_marked, opened_at, OpensLandmark}
+use Rattle.ss_recover.proofs.Common.{Option, option_and_then, option_map_or, Record, refl, ShowsLast, ShowsMarks, Some, still_open, stream_of, subst, sym, true}
+use Rattle.ss_recover.proofs.Common.{with_value, without_slots, ℕ, ℤ}
 use Rattle.ss_recover.specs.declared.marking.Marks.{Marks}
 use Rattle.ss_recover.proofs.Latest.{latest_of-opened, latest_of-value}
 use Rattle.ss_recover.proofs.MarksSoFar.{marked-more, marked_on-none}

@@ -1,13 +1,13 @@
 -- The records of landmarks in order, each landmark's before those of its values: the landmarks that they make, and the order of places.
-use Rattle.ss_recover.proofs.Words.{[], ◌&&◌, ◌*◌, ◌++◌, ◌+◌, ◌<◌, ◌==◌, ◌^◌, ◌||◌, ◌∙◌, ◌∷◌, ◌≡◌, ◌≤◌, All, all_value_records, all_values, AllByRecursion}
-use Rattle.ss_recover.proofs.Words.{and_from, ap, append-nil, append_assoc, are_marks, AreLandmarks, arith, cases-finish, cond-true, eq-eqb, false, filter}
-use Rattle.ss_recover.proofs.Words.{fold, fold-append, FollowFrom, has_all_values, has_said, IfSome, in_order, inl, inr, is_closed_before, is_mark_of}
-use Rattle.ss_recover.proofs.Words.{is_next_landmark, is_next_value, is_none, is_up_to, IsLandmark, IsPermutation, IsPermutation-append_comm}
-use Rattle.ss_recover.proofs.Words.{IsPermutation-append_left, IsPermutation-append_right, IsPermutation-cons, IsPermutation-refl, IsPermutation-trans}
-use Rattle.ss_recover.proofs.Words.{Landmark, landmark_record, landmark_records, landmarks_in, landmarks_made, LandmarkValue, later, LATEST_TIME, le-leb}
-use Rattle.ss_recover.proofs.Words.{length, length-append, List, lt-ltb, map, Marked, marked_on, MatchOption, nat_lt, None, nothing_marked, Option}
-use Rattle.ss_recover.proofs.Words.{option_map_or, place_of, Record, recursion_from_All, refl, RiseFrom, Some, Stream, stream_record, subst, sym, true}
-use Rattle.ss_recover.proofs.Words.{value_records, values_said, window_record, with_value, ℕ, ℤ}
+use Rattle.ss_recover.proofs.Common.{[], ◌&&◌, ◌*◌, ◌++◌, ◌+◌, ◌<◌, ◌==◌, ◌^◌, ◌||◌, ◌∙◌, ◌∷◌, ◌≡◌, ◌≤◌, All, all_value_records, all_values, AllByRecursion}
+use Rattle.ss_recover.proofs.Common.{and_from, ap, append-nil, append_assoc, are_marks, AreLandmarks, arith, cases-finish, cond-true, eq-eqb, false, filter}
+use Rattle.ss_recover.proofs.Common.{fold, fold-append, FollowFrom, has_all_values, has_said, IfSome, in_order, inl, inr, is_closed_before, is_mark_of}
+use Rattle.ss_recover.proofs.Common.{is_next_landmark, is_next_value, is_none, is_up_to, IsLandmark, IsPermutation, IsPermutation-append_comm}
+use Rattle.ss_recover.proofs.Common.{IsPermutation-append_left, IsPermutation-append_right, IsPermutation-cons, IsPermutation-refl, IsPermutation-trans}
+use Rattle.ss_recover.proofs.Common.{Landmark, landmark_record, landmark_records, landmarks_in, landmarks_made, LandmarkValue, later, LATEST_TIME, le-leb}
+use Rattle.ss_recover.proofs.Common.{length, length-append, List, lt-ltb, map, Marked, marked_on, MatchOption, nat_lt, None, nothing_marked, Option}
+use Rattle.ss_recover.proofs.Common.{option_map_or, place_of, Record, recursion_from_All, refl, RiseFrom, Some, Stream, stream_record, subst, sym, true}
+use Rattle.ss_recover.proofs.Common.{value_records, values_said, window_record, with_value, ℕ, ℤ}
 use Rattle.ss_recover.proofs.InOrder.{in_order-IsPermutation, Rise}
 use Rattle.ss_recover.proofs.Lists.{all_append, all_push, all_weaker, filter-all, list_all-each}
 use Rattle.ss_codec.specs.declared.record.Record.TheVariants as records

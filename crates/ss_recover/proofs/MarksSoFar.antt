@@ -1,11 +1,11 @@
 -- The records of landmarks so far, while they come one by one, and the landmarks that they make.
-use Rattle.ss_recover.proofs.Words.{[], ⊤, ◌&&◌, ◌++◌, ◌+◌, ◌<◌, ◌==◌, ◌||◌, ◌∙◌, ◌∷◌, ◌≡◌, ◌≤◌, All, All-from_recursion, All-push, AllByRecursion, and_parts}
-use Rattle.ss_recover.proofs.Words.{ap, append-nil, append_assoc, are_marks, AreLandmarks, arith, Bool, cond, eqb-true, false, FitsSigned, fold, fold-append}
-use Rattle.ss_recover.proofs.Words.{FollowFrom, has_all_values, has_said, HasValidTimes, IfSome, is_closed_before, is_mark_of, is_next_landmark, is_next_value}
-use Rattle.ss_recover.proofs.Words.{is_none, is_up_to, IsLandmark, IsUsable, Landmark, landmarks_in, landmarks_made, LandmarkValue, LATEST_TIME, leb-true}
-use Rattle.ss_recover.proofs.Words.{length, length-append, List, ltb-true, Marked, marked_by, marked_on, marked_with, MatchOption, nat_lt, None, nothing_marked}
-use Rattle.ss_recover.proofs.Words.{Option, option_map_or, option_to_list, Record, refl, RiseFrom_push, Some, subst, sym, true, value_records, values_said, w64}
-use Rattle.ss_recover.proofs.Words.{with_value, ℕ, ℤ}
+use Rattle.ss_recover.proofs.Common.{[], ⊤, ◌&&◌, ◌++◌, ◌+◌, ◌<◌, ◌==◌, ◌||◌, ◌∙◌, ◌∷◌, ◌≡◌, ◌≤◌, All, All-from_recursion, All-push, AllByRecursion, and_parts}
+use Rattle.ss_recover.proofs.Common.{ap, append-nil, append_assoc, are_marks, AreLandmarks, arith, Bool, cond, eqb-true, false, FitsSigned, fold, fold-append}
+use Rattle.ss_recover.proofs.Common.{FollowFrom, has_all_values, has_said, HasValidTimes, IfSome, is_closed_before, is_mark_of, is_next_landmark, is_next_value}
+use Rattle.ss_recover.proofs.Common.{is_none, is_up_to, IsLandmark, IsUsable, Landmark, landmarks_in, landmarks_made, LandmarkValue, LATEST_TIME, leb-true}
+use Rattle.ss_recover.proofs.Common.{length, length-append, List, ltb-true, Marked, marked_by, marked_on, marked_with, MatchOption, nat_lt, None, nothing_marked}
+use Rattle.ss_recover.proofs.Common.{Option, option_map_or, option_to_list, Record, refl, RiseFrom_push, Some, subst, sym, true, value_records, values_said, w64}
+use Rattle.ss_recover.proofs.Common.{with_value, ℕ, ℤ}
 use Rattle.ss_recover.proofs.Lists.{all_weaker, each-list_all}
 use Rattle.ss_recover.proofs.Marks.{marks_of, marks_of-append, value_records-append}
 use Rattle.ss_codec.specs.declared.record.Record.TheVariants as records

@@ -1,8 +1,8 @@
 -- The slots of a map that aren't zeros, where one of them changes.
-use Rattle.ss_recover.proofs.Words.{[], ◌++◌, ◌+◌, ◌-◌, ◌<◌, ◌∙◌, ◌∷◌, ◌≡◌, All-from_recursion, All-permutation, AllByRecursion, ap, append-nil, ap₂, are_zeros}
-use Rattle.ss_recover.proofs.Words.{arith, Bool, cases_Bool, cond, cond-false, cond-true, false, filter, filter-append, inl, inr, IsPermutation}
-use Rattle.ss_recover.proofs.Words.{IsPermutation-middle, IsPermutation-sym, List, map, map-append, nat_eq, nat_tests, not, Option, Put, range_with_len, Record}
-use Rattle.ss_recover.proofs.Words.{recursion_from_All, refl, subst, sum_by, sum_by-append, sum_by-cons, sum_by-IsPermutation, sym, true, with_put, ℕ}
+use Rattle.ss_recover.proofs.Common.{[], ◌++◌, ◌+◌, ◌-◌, ◌<◌, ◌∙◌, ◌∷◌, ◌≡◌, All-from_recursion, All-permutation, AllByRecursion, ap, append-nil, ap₂, are_zeros}
+use Rattle.ss_recover.proofs.Common.{arith, Bool, cases_Bool, cond, cond-false, cond-true, false, filter, filter-append, inl, inr, IsPermutation}
+use Rattle.ss_recover.proofs.Common.{IsPermutation-middle, IsPermutation-sym, List, map, map-append, nat_eq, nat_tests, not, Option, Put, range_with_len, Record}
+use Rattle.ss_recover.proofs.Common.{recursion_from_All, refl, subst, sum_by, sum_by-append, sum_by-cons, sum_by-IsPermutation, sym, true, with_put, ℕ}
 use Rattle.ss_codec.specs.Decoded.{decoded}
 use Rattle.ss_recover.proofs.Lists.{all_weaker, range-above, range-below, range-within, range_with_len-append}
 use Rattle.ss_recover.proofs.Permutations.{IsPermutation-filter}

@@ -1,8 +1,8 @@
 -- Lists in the order of a key: what the order keeps, and that it is the only one that keeps ties as they stand.
-use Rattle.ss_recover.proofs.Words.{[], ◌&&◌, ◌∙◌, ◌∷◌, ◌≡◌, ◌≤◌, AllByRecursion, ap, arith, Bool, cases_Bool, cases_eq, cases_order, cond, cond-false}
-use Rattle.ss_recover.proofs.Words.{cond-true, cond_both, eq-eqb, eqb, false, filter, in_order, inl, inr, IsNonDecreasingBy, IsNonDecreasingBy-from_sort}
-use Rattle.ss_recover.proofs.Words.{IsSortedByKey, IsStableByKey, le-ltb, leb, leb-false, List, lt-ltb, ltb, map, ne_eqb, not, put_in_order, recursion_from_All}
-use Rattle.ss_recover.proofs.Words.{refl, Rises, subst, suc, sym, ties, true, ℕ}
+use Rattle.ss_recover.proofs.Common.{[], ◌&&◌, ◌∙◌, ◌∷◌, ◌≡◌, ◌≤◌, AllByRecursion, ap, arith, Bool, cases_Bool, cases_eq, cases_order, cond, cond-false}
+use Rattle.ss_recover.proofs.Common.{cond-true, cond_both, eq-eqb, eqb, false, filter, in_order, inl, inr, IsNonDecreasingBy, IsNonDecreasingBy-from_sort}
+use Rattle.ss_recover.proofs.Common.{IsSortedByKey, IsStableByKey, le-ltb, leb, leb-false, List, lt-ltb, ltb, map, ne_eqb, not, put_in_order, recursion_from_All}
+use Rattle.ss_recover.proofs.Common.{refl, Rises, subst, suc, sym, ties, true, ℕ}
 use Rattle.std.specs.Ordering.{is_lt, nat_cmp}
 use Rattle.ss_recover.proofs.InOrder.{Rises-in_order}
 

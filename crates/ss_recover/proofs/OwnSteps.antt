@@ -1,7 +1,7 @@
 -- Windows that keep to the step of their stream's own record.
-use Rattle.ss_recover.proofs.Words.{[], ◌&&◌, ◌++◌, ◌<◌, ◌==◌, ◌||◌, ◌∙◌, ◌∷◌, ◌≡◌, All, All-from_recursion, AllByRecursion, and-true, and_from, and_parts, ap}
-use Rattle.ss_recover.proofs.Words.{ap₂, arith, Bool, Created, eq-eqb, false, in_step, IsInStep, IsPermutation, keep_own_step, keep_step, List, list_all}
-use Rattle.ss_recover.proofs.Words.{list_all-append, ne_eqb, not, or_left, Params, recursion_from_All, refl, rule_of, step_number, true, Window, ℕ}
+use Rattle.ss_recover.proofs.Common.{[], ◌&&◌, ◌++◌, ◌<◌, ◌==◌, ◌||◌, ◌∙◌, ◌∷◌, ◌≡◌, All, All-from_recursion, AllByRecursion, and-true, and_from, and_parts, ap}
+use Rattle.ss_recover.proofs.Common.{ap₂, arith, Bool, Created, eq-eqb, false, in_step, IsInStep, IsPermutation, keep_own_step, keep_step, List, list_all}
+use Rattle.ss_recover.proofs.Common.{list_all-append, ne_eqb, not, or_left, Params, recursion_from_All, refl, rule_of, step_number, true, Window, ℕ}
 use Rattle.ss_recover.proofs.Lists.{all_weaker, each-list_all, list_all-each}
 use Rattle.ss_recover.proofs.Permutations.{along_permutation}
 

@@ -1,7 +1,7 @@
 -- Lists of the same elements in another order, and what goes along with them.
-use Rattle.ss_recover.proofs.Words.{[], ◌<◌, ◌∷◌, ◌≡◌, arith, Bool, cons_option, filter, filter_map, get_or, IsPermutation, IsPermutation-append_comm}
-use Rattle.ss_recover.proofs.Words.{IsPermutation-append_left, IsPermutation-cons, IsPermutation-keeps, IsPermutation-refl, IsPermutation-trans, length, List}
-use Rattle.ss_recover.proofs.Words.{None, Option, set, Some, subst, suc, swap, zero, ℕ}
+use Rattle.ss_recover.proofs.Common.{[], ◌<◌, ◌∷◌, ◌≡◌, arith, Bool, cons_option, filter, filter_map, get_or, IsPermutation, IsPermutation-append_comm}
+use Rattle.ss_recover.proofs.Common.{IsPermutation-append_left, IsPermutation-cons, IsPermutation-keeps, IsPermutation-refl, IsPermutation-trans, length, List}
+use Rattle.ss_recover.proofs.Common.{None, Option, set, Some, subst, suc, swap, zero, ℕ}
 use Rattle.ss_recover.proofs.Lists.{filter_map-kept, kept}
 
 -- a relation holds along each permutation if it is reflexive and transitive, and goes under a head and over an exchange of

@@ -1,8 +1,8 @@
 -- What a put of a record, or of zeros, makes of the slots that are occupied.
-use Rattle.ss_recover.proofs.Words.{[], ◌+◌, ◌<◌, ◌∙◌, ◌∷◌, ◌≡◌, ◌≤◌, ap, are_zeros, arith, Bool, cases_lt, changed, cond, cond-false, cond-true}
-use Rattle.ss_recover.proofs.Words.{decoded-Spells, false, false_from_ne_true, Free, inl, inr, IsPermutation, IsPermutation-cons, IsPermutation-trans, IsRecord}
-use Rattle.ss_recover.proofs.Words.{length, List, nat_eq, nat_tests, None, occupied, Option, Put, range_with_len, Record, replicate, replicate-are_zeros}
-use Rattle.ss_recover.proofs.Words.{SlotMap, Some, subst, suc, sym, true, with_put, zero, zeros, ℕ}
+use Rattle.ss_recover.proofs.Common.{[], ◌+◌, ◌<◌, ◌∙◌, ◌∷◌, ◌≡◌, ◌≤◌, ap, are_zeros, arith, Bool, cases_lt, changed, cond, cond-false, cond-true}
+use Rattle.ss_recover.proofs.Common.{decoded-Spells, false, false_from_ne_true, Free, inl, inr, IsPermutation, IsPermutation-cons, IsPermutation-trans, IsRecord}
+use Rattle.ss_recover.proofs.Common.{length, List, nat_eq, nat_tests, None, occupied, Option, Put, range_with_len, Record, replicate, replicate-are_zeros}
+use Rattle.ss_recover.proofs.Common.{SlotMap, Some, subst, suc, sym, true, with_put, zero, zeros, ℕ}
 use Rattle.std.specs.Str.{bytes_eq}
 use Rattle.ss_codec.specs.Decoded.{decoded, record_in}
 use Rattle.ss_codec.specs.Record.{is_valid, spelling}

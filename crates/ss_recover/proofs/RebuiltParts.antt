@@ -1,15 +1,15 @@
 -- What rebuilding answers, from what was read and what the walk over it answers.
-use Rattle.ss_recover.proofs.Words.{[], ◌++◌, ◌+◌, ◌-◌, ◌<◌, ◌∙◌, ◌∷◌, ◌≡◌, ◌≢◌, ◌≤◌, Agrees, All, All-from_recursion, All-nil, AllAgree, AllByRecursion}
-use Rattle.ss_recover.proofs.Words.{AllEndBy, AllEndBy-later, ap, ap₂, AreFound, AreKnown, AreWholeBeside, arith, bad_slot, bad_stream, BadSlot, BadStream}
-use Rattle.ss_recover.proofs.Words.{Bool, carries, Disk, doomed_found, EndByLast, ends-latest, EndsBy, entries_of, Entry, Err, false, filter, filter_map, fine}
-use Rattle.ss_recover.proofs.Words.{firsts-zip, flat_map, Found, found_key, Free, GathersAs, HasWholeSlots, IfOk, in_order, in_slot, is_live, is_none}
-use Rattle.ss_recover.proofs.Words.{IsDistinct, IsLowestUnsound, IsPermutation, IsPermutation-append_left, IsPermutation-map, IsPermutation-sym}
-use Rattle.ss_recover.proofs.Words.{IsPermutation-trans, IsStream, IsStrictlyIncreasing, IsUsable, judged, key_of, Landmark, last_time, later, latest_of}
-use Rattle.ss_recover.proofs.Words.{length, length-map, List, list_any, lowest_bad_slot, lowest_bad_stream, map, map-append, MatchOption, max, MOST_VALUES}
-use Rattle.ss_recover.proofs.Words.{newest_time, no_memory, None, none-latest, Ok, Option, or_from, OutOfMemory, Parts, range_with_len, RebuildsAs, Record}
-use Rattle.ss_recover.proofs.Words.{records_held, records_in, RecoverError, recursion_from_All, refl, refused, Result, RiseToLast, same_name, SlotMap}
-use Rattle.ss_recover.proofs.Words.{slots_found, slots_held, Some, span_held, span_of, StandFrom, Stream, StreamParts, streams_carried, subst, suc, sum_by-cons}
-use Rattle.ss_recover.proofs.Words.{sym, taken, TileFrom, true, Verdict, verdict_of_rebuild, WalksAs, Window, without_slots, zero, zip, ℕ}
+use Rattle.ss_recover.proofs.Common.{[], ◌++◌, ◌+◌, ◌-◌, ◌<◌, ◌∙◌, ◌∷◌, ◌≡◌, ◌≢◌, ◌≤◌, Agrees, All, All-from_recursion, All-nil, AllAgree, AllByRecursion}
+use Rattle.ss_recover.proofs.Common.{AllEndBy, AllEndBy-later, ap, ap₂, AreFound, AreKnown, AreWholeBeside, arith, bad_slot, bad_stream, BadSlot, BadStream}
+use Rattle.ss_recover.proofs.Common.{Bool, carries, Disk, doomed_found, EndByLast, ends-latest, EndsBy, entries_of, Entry, Err, false, filter, filter_map, fine}
+use Rattle.ss_recover.proofs.Common.{firsts-zip, flat_map, Found, found_key, Free, GathersAs, HasWholeSlots, IfOk, in_order, in_slot, is_live, is_none}
+use Rattle.ss_recover.proofs.Common.{IsDistinct, IsLowestUnsound, IsPermutation, IsPermutation-append_left, IsPermutation-map, IsPermutation-sym}
+use Rattle.ss_recover.proofs.Common.{IsPermutation-trans, IsStream, IsStrictlyIncreasing, IsUsable, judged, key_of, Landmark, last_time, later, latest_of}
+use Rattle.ss_recover.proofs.Common.{length, length-map, List, list_any, lowest_bad_slot, lowest_bad_stream, map, map-append, MatchOption, max, MOST_VALUES}
+use Rattle.ss_recover.proofs.Common.{newest_time, no_memory, None, none-latest, Ok, Option, or_from, OutOfMemory, Parts, range_with_len, RebuildsAs, Record}
+use Rattle.ss_recover.proofs.Common.{records_held, records_in, RecoverError, recursion_from_All, refl, refused, Result, RiseToLast, same_name, SlotMap}
+use Rattle.ss_recover.proofs.Common.{slots_found, slots_held, Some, span_held, span_of, StandFrom, Stream, StreamParts, streams_carried, subst, suc, sum_by-cons}
+use Rattle.ss_recover.proofs.Common.{sym, taken, TileFrom, true, Verdict, verdict_of_rebuild, WalksAs, Window, without_slots, zero, zip, ℕ}
 use Rattle.ss_codec.specs.Decoded.{decoded}
 use Rattle.ss_recover.specs.Carried.{spelled}
 use Rattle.ss_recover.specs.Parts.{carried}

@@ -1,10 +1,10 @@
 -- The records that were found, as a walk answers them: those of dropped streams, and those of the streams that are held.
-use Rattle.ss_recover.proofs.Words.{[], ◌++◌, ◌==◌, ◌∙◌, ◌≡◌, All-from_recursion, All-permutation, AllByRecursion, ap, ap₂, AreBuilt, Bool, doomed_found, false}
-use Rattle.ss_recover.proofs.Words.{filter_map, filter_map-append, flat_map, Found, found_key, Free, GoInTurn, in_order, in_slot, is_doomed, is_dropped, is_of}
-use Rattle.ss_recover.proofs.Words.{is_sound_in_order, IsPermutation, IsPermutation-append_left, IsPermutation-append_right, IsPermutation-map}
-use Rattle.ss_recover.proofs.Words.{IsPermutation-sym, IsPermutation-trans, key_of, List, list_any, list_any-IsPermutation, map, ne_eqb, None, Option, Parts}
-use Rattle.ss_recover.proofs.Words.{Record, records_beside, records_held, records_in, recursion_from_All, refl, stands_by, Stream, stream_number, stream_of}
-use Rattle.ss_recover.proofs.Words.{subst, sym, true, true≢false, without_slots, zip, ℕ}
+use Rattle.ss_recover.proofs.Common.{[], ◌++◌, ◌==◌, ◌∙◌, ◌≡◌, All-from_recursion, All-permutation, AllByRecursion, ap, ap₂, AreBuilt, Bool, doomed_found, false}
+use Rattle.ss_recover.proofs.Common.{filter_map, filter_map-append, flat_map, Found, found_key, Free, GoInTurn, in_order, in_slot, is_doomed, is_dropped, is_of}
+use Rattle.ss_recover.proofs.Common.{is_sound_in_order, IsPermutation, IsPermutation-append_left, IsPermutation-append_right, IsPermutation-map}
+use Rattle.ss_recover.proofs.Common.{IsPermutation-sym, IsPermutation-trans, key_of, List, list_any, list_any-IsPermutation, map, ne_eqb, None, Option, Parts}
+use Rattle.ss_recover.proofs.Common.{Record, records_beside, records_held, records_in, recursion_from_All, refl, stands_by, Stream, stream_number, stream_of}
+use Rattle.ss_recover.proofs.Common.{subst, sym, true, true≢false, without_slots, zip, ℕ}
 use Rattle.ss_recover.specs.Conditions.{is_sound}
 use Rattle.ss_recover.proofs.DoomedLemmas.{apart-dropped, beside-found, doomed_found-moved, dropped-doomed, each-IsGone, IsGone, standing-kept}
 use Rattle.ss_recover.proofs.DoomedTurns.{doomed-go}

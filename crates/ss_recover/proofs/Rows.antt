@@ -1,9 +1,9 @@
 -- Worked maps of a few slots, and what each carries or where it is damaged.
-use Rattle.ss_recover.proofs.Words.{[], ◌*◌, ◌+◌, ◌-◌, ◌^◌, ◌∙◌, ◌∷◌, ◌≡◌, ◌≤◌, AreKept, AreWhole, AreWholeBeside, bad_slot, bad_stream, BadSlot, BadStream}
-use Rattle.ss_recover.proofs.Words.{Bool, Carried, carries, Created, Disk, doomed_slots, Err, failed, false, Figures, filter, filter_of, fine, full, has_place}
-use Rattle.ss_recover.proofs.Words.{HasParts, is_live, IsPermutation, Landmark, length, List, map, negsuc, no_memory, None, occupied, Ok, Option, OutOfMemory}
-use Rattle.ss_recover.proofs.Words.{Parts, pos, range_with_len, Rebuilds, RecordsState, RecoverError, refl, refused, replicate, Result, slice_index_or}
-use Rattle.ss_recover.proofs.Words.{slice_set, SlotMap, Some, StandsFor, Stream, StreamParts, tile, true, verdict_of_rebuild, Window, zeros, ℕ}
+use Rattle.ss_recover.proofs.Common.{[], ◌*◌, ◌+◌, ◌-◌, ◌^◌, ◌∙◌, ◌∷◌, ◌≡◌, ◌≤◌, AreKept, AreWhole, AreWholeBeside, bad_slot, bad_stream, BadSlot, BadStream}
+use Rattle.ss_recover.proofs.Common.{Bool, Carried, carries, Created, Disk, doomed_slots, Err, failed, false, Figures, filter, filter_of, fine, full, has_place}
+use Rattle.ss_recover.proofs.Common.{HasParts, is_live, IsPermutation, Landmark, length, List, map, negsuc, no_memory, None, occupied, Ok, Option, OutOfMemory}
+use Rattle.ss_recover.proofs.Common.{Parts, pos, range_with_len, Rebuilds, RecordsState, RecoverError, refl, refused, replicate, Result, slice_index_or}
+use Rattle.ss_recover.proofs.Common.{slice_set, SlotMap, Some, StandsFor, Stream, StreamParts, tile, true, verdict_of_rebuild, Window, zeros, ℕ}
 use Rattle.ss_summary.specs.Points.{New}
 use Rattle.ss_summary.specs.Summaries.{summary_of}
 use Rattle.ss_catalog.specs.Params.{exp as Exp}

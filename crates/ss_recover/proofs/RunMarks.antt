@@ -1,11 +1,11 @@
 -- What is held of the last landmark shows what its records say, while its values come.
-use Rattle.ss_recover.proofs.Words.{[], ◌&&◌, ◌++◌, ◌+◌, ◌<◌, ◌==◌, ◌||◌, ◌∙◌, ◌∷◌, ◌≡◌, ◌≤◌, All, All-from_recursion, and_assoc, and_parts, ap, AreLandmarks}
-use Rattle.ss_recover.proofs.Words.{arith, can_add, can_open, CanClose-after, CanOpen, CanOpen-after, CanTake, cases-finish, change_last, closed_at, cond-false}
-use Rattle.ss_recover.proofs.Words.{cond-true, ends-latest, false, finish_of, FollowFrom, has_all_values, has_said, has_said_last, IfSome, inl, inr}
-use Rattle.ss_recover.proofs.Words.{is_closed_before, is_next_landmark, is_next_value, is_none, is_up_to, IsLast, IsNone, IsSome, Landmark, landmarks_in}
-use Rattle.ss_recover.proofs.Words.{LandmarkValue, Last, latest_at_end, latest_of, LATEST_TIME, leb-true, length, length-append, List, list_all, ltb-true}
-use Rattle.ss_recover.proofs.Words.{Marked, MatchOption, MayClose, nat_le, nat_lt, None, open_landmark, Option, option_map_or, option_to_list, refl, ShowsLast}
-use Rattle.ss_recover.proofs.Words.{Some, still_open, subst, sym, true, with_closing, ℕ}
+use Rattle.ss_recover.proofs.Common.{[], ◌&&◌, ◌++◌, ◌+◌, ◌<◌, ◌==◌, ◌||◌, ◌∙◌, ◌∷◌, ◌≡◌, ◌≤◌, All, All-from_recursion, and_assoc, and_parts, ap, AreLandmarks}
+use Rattle.ss_recover.proofs.Common.{arith, can_add, can_open, CanClose-after, CanOpen, CanOpen-after, CanTake, cases-finish, change_last, closed_at, cond-false}
+use Rattle.ss_recover.proofs.Common.{cond-true, ends-latest, false, finish_of, FollowFrom, has_all_values, has_said, has_said_last, IfSome, inl, inr}
+use Rattle.ss_recover.proofs.Common.{is_closed_before, is_next_landmark, is_next_value, is_none, is_up_to, IsLast, IsNone, IsSome, Landmark, landmarks_in}
+use Rattle.ss_recover.proofs.Common.{LandmarkValue, Last, latest_at_end, latest_of, LATEST_TIME, leb-true, length, length-append, List, list_all, ltb-true}
+use Rattle.ss_recover.proofs.Common.{Marked, MatchOption, MayClose, nat_le, nat_lt, None, open_landmark, Option, option_map_or, option_to_list, refl, ShowsLast}
+use Rattle.ss_recover.proofs.Common.{Some, still_open, subst, sym, true, with_closing, ℕ}
 use Rattle.ss_landmarks.proofs.OpenLemmas.{open_landmark-close}
 use Rattle.ss_recover.proofs.Latest.{latest_of-closed}
 use Rattle.ss_recover.proofs.Lists.{all_weaker, each-list_all}

@@ -1,7 +1,7 @@
 -- Records in the order of their keys: those of one stream after another, and where those of one end.
-use Rattle.ss_recover.proofs.Words.{[], ◌*◌, ◌++◌, ◌+◌, ◌<◌, ◌^◌, ◌∙◌, ◌∷◌, ◌≡◌, ◌≤◌, All, All-drop, All-from_recursion, All-take, AllByRecursion, ap, arith}
-use Rattle.ss_recover.proofs.Words.{drop, Found, found_key, get_or, IsNextRun, IsNonDecreasingBy, IsUsable, key_of, length, length-drop, length-take, List, map}
-use Rattle.ss_recover.proofs.Words.{place_of, Record, recursion_from_All, refl, Rises, stream_of, subst, suc, sym, take, take-append-drop, zero, ℕ}
+use Rattle.ss_recover.proofs.Common.{[], ◌*◌, ◌++◌, ◌+◌, ◌<◌, ◌^◌, ◌∙◌, ◌∷◌, ◌≡◌, ◌≤◌, All, All-drop, All-from_recursion, All-take, AllByRecursion, ap, arith}
+use Rattle.ss_recover.proofs.Common.{drop, Found, found_key, get_or, IsNextRun, IsNonDecreasingBy, IsUsable, key_of, length, length-drop, length-take, List, map}
+use Rattle.ss_recover.proofs.Common.{place_of, Record, recursion_from_All, refl, Rises, stream_of, subst, suc, sym, take, take-append-drop, zero, ℕ}
 use Rattle.ss_recover.proofs.Lists.{all_behind, all_both, all_front, all_weaker, map-all}
 use Rattle.ss_codec.specs.declared.record.Record.TheVariants as records
 

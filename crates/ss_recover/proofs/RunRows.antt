@@ -1,6 +1,6 @@
 -- Worked rows: records in order of which some are of dropped streams, or of streams with a step, as a walk takes them.
-use Rattle.ss_recover.proofs.Words.{[], ◌∷◌, ◌≡◌, Bool, doomed_found, false, Found, full, is_run, is_sound_in_order, List, map, pos, Record, refl, slots_found}
-use Rattle.ss_recover.proofs.Words.{Some, true, ℕ}
+use Rattle.ss_recover.proofs.Common.{[], ◌∷◌, ◌≡◌, Bool, doomed_found, false, Found, full, is_run, is_sound_in_order, List, map, pos, Record, refl, slots_found}
+use Rattle.ss_recover.proofs.Common.{Some, true, ℕ}
 use Rattle.ss_catalog.specs.Params.{exp as Exp}
 use Rattle.ss_recover.specs.Conditions.{is_sound}
 use Rattle.ss_codec.specs.declared.record.Record.TheVariants as records

@@ -1,11 +1,11 @@
 -- The records of a number are sound, among those of others, where they are a run.
-use Rattle.ss_recover.proofs.Words.{[], ◌&&◌, ◌++◌, ◌+◌, ◌<◌, ◌==◌, ◌^◌, ◌||◌, ◌∙◌, ◌∷◌, ◌≡◌, ◌≤◌, AllByRecursion, and_parts, and_right, ap, append-nil, ap₂}
-use Rattle.ss_recover.proofs.Words.{are_marks, arith, Bool, cases_Bool, Created, created_by, eq-eqb, false, filter-append, filter_map, filter_map-append}
-use Rattle.ss_recover.proofs.Words.{has_new_name, has_one_record, has_place, has_sound_values_in_order, has_sound_values_within, inl, inr, is_drop_of}
-use Rattle.ss_recover.proofs.Words.{is_dropped, is_mark_of, is_own, is_run, is_sound_in_order, IsUsable, keep_own_step, keep_step, landmarks_made, length}
-use Rattle.ss_recover.proofs.Words.{length-map, lies_free, List, list_all, list_any, list_any-append, map, marks_in, MOST_STREAMS, nat_lt, ne_eqb, not}
-use Rattle.ss_recover.proofs.Words.{not-true, or-false, or_from, place_of, Record, refl, Rises, same_name, step_number, stream_of, streams_created, sym, tile}
-use Rattle.ss_recover.proofs.Words.{times_rise, true, Window, window_of, window_record, windows_in, ℕ}
+use Rattle.ss_recover.proofs.Common.{[], ◌&&◌, ◌++◌, ◌+◌, ◌<◌, ◌==◌, ◌^◌, ◌||◌, ◌∙◌, ◌∷◌, ◌≡◌, ◌≤◌, AllByRecursion, and_parts, and_right, ap, append-nil, ap₂}
+use Rattle.ss_recover.proofs.Common.{are_marks, arith, Bool, cases_Bool, Created, created_by, eq-eqb, false, filter-append, filter_map, filter_map-append}
+use Rattle.ss_recover.proofs.Common.{has_new_name, has_one_record, has_place, has_sound_values_in_order, has_sound_values_within, inl, inr, is_drop_of}
+use Rattle.ss_recover.proofs.Common.{is_dropped, is_mark_of, is_own, is_run, is_sound_in_order, IsUsable, keep_own_step, keep_step, landmarks_made, length}
+use Rattle.ss_recover.proofs.Common.{length-map, lies_free, List, list_all, list_any, list_any-append, map, marks_in, MOST_STREAMS, nat_lt, ne_eqb, not}
+use Rattle.ss_recover.proofs.Common.{not-true, or-false, or_from, place_of, Record, refl, Rises, same_name, step_number, stream_of, streams_created, sym, tile}
+use Rattle.ss_recover.proofs.Common.{times_rise, true, Window, window_of, window_record, windows_in, ℕ}
 use Rattle.ss_recover.proofs.Lists.{all_weaker}
 use Rattle.ss_recover.proofs.OwnSteps.{own_step-one, own_step-parts}
 use Rattle.ss_recover.proofs.SoundStreams.{count-at, count-below, new-name}

@@ -1,10 +1,10 @@
 -- Records of streams of which some were dropped: what is made of them by one run more, and the names that they have.
-use Rattle.ss_recover.proofs.Words.{[], ◌&&◌, ◌++◌, ◌<◌, ◌||◌, ◌∙◌, ◌∷◌, ◌≡◌, ◌≤◌, AllByRecursion, and-false, and-true, and_from, and_parts, ap, append-nil}
-use Rattle.ss_recover.proofs.Words.{append_assoc, ap₂, arith, Bool, cond, Created, created_by, false, filter, filter-append, filter_map, filter_map-append}
-use Rattle.ss_recover.proofs.Words.{has_sound_values_within, if◌then◌else◌, is_doomed, is_drop_of, is_dropped, is_own, is_run, IsPermutation}
-use Rattle.ss_recover.proofs.Words.{IsPermutation-cons, IsPermutation-middle, IsPermutation-refl, IsPermutation-trans, IsUsable, length, length-append, List}
-use Rattle.ss_recover.proofs.Words.{list_any, list_any-append, lt-ltb, ltb-true, map, map-append, may_stand, MOST_STREAMS, not, not-true, or-false}
-use Rattle.ss_recover.proofs.Words.{or_from, or_parts, Params, Record, refl, same_name, step_number, stream_of, streams_created, subst, sym, true, ℕ}
+use Rattle.ss_recover.proofs.Common.{[], ◌&&◌, ◌++◌, ◌<◌, ◌||◌, ◌∙◌, ◌∷◌, ◌≡◌, ◌≤◌, AllByRecursion, and-false, and-true, and_from, and_parts, ap, append-nil}
+use Rattle.ss_recover.proofs.Common.{append_assoc, ap₂, arith, Bool, cond, Created, created_by, false, filter, filter-append, filter_map, filter_map-append}
+use Rattle.ss_recover.proofs.Common.{has_sound_values_within, if◌then◌else◌, is_doomed, is_drop_of, is_dropped, is_own, is_run, IsPermutation}
+use Rattle.ss_recover.proofs.Common.{IsPermutation-cons, IsPermutation-middle, IsPermutation-refl, IsPermutation-trans, IsUsable, length, length-append, List}
+use Rattle.ss_recover.proofs.Common.{list_any, list_any-append, lt-ltb, ltb-true, map, map-append, may_stand, MOST_STREAMS, not, not-true, or-false}
+use Rattle.ss_recover.proofs.Common.{or_from, or_parts, Params, Record, refl, same_name, step_number, stream_of, streams_created, subst, sym, true, ℕ}
 use Rattle.ss_recover.proofs.Lists.{all_both, all_weaker, filter-all, filter-none, filter-same}
 use Rattle.ss_recover.proofs.RunSound.{drops-apart}
 use Rattle.ss_codec.specs.declared.record.Record.TheVariants as records

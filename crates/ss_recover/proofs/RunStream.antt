@@ -1,10 +1,10 @@
 -- Streams that records in order are of, one run after another.
-use Rattle.ss_recover.proofs.Words.{[], ◌++◌, ◌<◌, ◌∙◌, ◌∷◌, ◌≡◌, ◌≤◌, All-from_recursion, AllByRecursion, and_parts, ap, append-nil, append_assoc, arith}
-use Rattle.ss_recover.proofs.Words.{cases_eq, Created, eq-eqb, false, filter, filter_map, flat_map-append, inl, inr, is_mark_of, is_own, is_run}
-use Rattle.ss_recover.proofs.Words.{is_sound_in_order, IsDistinct, IsDistinct-cons, IsDistinct-from_apart, IsDistinct-head, IsDistinct-tail, IsState, IsStream}
-use Rattle.ss_recover.proofs.Words.{IsUsable, key_of, landmarks_made, length, length-append, length-map, List, list_any, live, ltb-true, map, map-append}
-use Rattle.ss_recover.proofs.Words.{map-id, MOST_RECORDS, MOST_STREAMS, names_of, not-true, or_left, or_parts, Params, place_of, Record, refl, Rises, same_name}
-use Rattle.ss_recover.proofs.Words.{same_name-swap, Stream, stream_of, subst, suc, sum_by-cons, sym, true, Window, window_of, window_record, zero, ℕ}
+use Rattle.ss_recover.proofs.Common.{[], ◌++◌, ◌<◌, ◌∙◌, ◌∷◌, ◌≡◌, ◌≤◌, All-from_recursion, AllByRecursion, and_parts, ap, append-nil, append_assoc, arith}
+use Rattle.ss_recover.proofs.Common.{cases_eq, Created, eq-eqb, false, filter, filter_map, flat_map-append, inl, inr, is_mark_of, is_own, is_run}
+use Rattle.ss_recover.proofs.Common.{is_sound_in_order, IsDistinct, IsDistinct-cons, IsDistinct-from_apart, IsDistinct-head, IsDistinct-tail, IsState, IsStream}
+use Rattle.ss_recover.proofs.Common.{IsUsable, key_of, landmarks_made, length, length-append, length-map, List, list_any, live, ltb-true, map, map-append}
+use Rattle.ss_recover.proofs.Common.{map-id, MOST_RECORDS, MOST_STREAMS, names_of, not-true, or_left, or_parts, Params, place_of, Record, refl, Rises, same_name}
+use Rattle.ss_recover.proofs.Common.{same_name-swap, Stream, stream_of, subst, suc, sum_by-cons, sym, true, Window, window_of, window_record, zero, ℕ}
 use Rattle.ss_recover.proofs.HeldRecords.{all_walked, each-all_walked, walked}
 use Rattle.ss_recover.proofs.InOrder.{increasing-Rise, Rise}
 use Rattle.ss_recover.proofs.Lists.{all-kept, all-passing, all_append, all_behind, all_front, all_push, all_weaker}

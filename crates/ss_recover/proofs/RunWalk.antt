@@ -1,7 +1,7 @@
 -- Names that streams have, and the record at an index among others.
-use Rattle.ss_recover.proofs.Words.{◌&&◌, ◌++◌, ◌<◌, ◌∙◌, ◌∷◌, ◌≡◌, and-true, and_right, ap, drop, drop-cons, false, Found, get_or, is_some, length, length-map}
-use Rattle.ss_recover.proofs.Words.{List, list_any, may_stand, MOST_STREAMS, names_in, nat_lt, None, not, same_name, Some, StreamId, suc, sym, take}
-use Rattle.ss_recover.proofs.Words.{take-append-drop, ℕ}
+use Rattle.ss_recover.proofs.Common.{◌&&◌, ◌++◌, ◌<◌, ◌∙◌, ◌∷◌, ◌≡◌, and-true, and_right, ap, drop, drop-cons, false, Found, get_or, is_some, length, length-map}
+use Rattle.ss_recover.proofs.Common.{List, list_any, may_stand, MOST_STREAMS, names_in, nat_lt, None, not, same_name, Some, StreamId, suc, sym, take}
+use Rattle.ss_recover.proofs.Common.{take-append-drop, ℕ}
 use Rattle.std.proofs.lemmas.Map.Made.{is_some-lookup}
 use Rattle.ss_catalog.specs.Catalog.{id_of}
 

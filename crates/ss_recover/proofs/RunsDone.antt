@@ -1,13 +1,13 @@
 -- Runs that are done, one after another, and what the next one makes of them.
-use Rattle.ss_recover.proofs.Words.{[], ◌&&◌, ◌++◌, ◌+◌, ◌<◌, ◌==◌, ◌∙◌, ◌∷◌, ◌≡◌, ◌≤◌, ◌⊎◌, All, AllAgree, AllByRecursion, and_parts, ap, append-nil}
-use Rattle.ss_recover.proofs.Words.{append_assoc, ap₂, AreBuilt, arith, BadSlot, BadStream, Bool, cond, count_by-le-length, Disk, doomed_found, drop}
-use Rattle.ss_recover.proofs.Words.{drop-append_seam, drop-drop, EndsWalk, eq-eqb, Err, false, filter, flat_map, Found, found_key, HasNothing, HasTakenDropped}
-use Rattle.ss_recover.proofs.Words.{HasTakenStanding, IfErr, IfOk, if◌then◌else◌, in_slot, inl, inr, is_doomed, is_dropped, is_own, is_run, is_sound_in_order}
-use Rattle.ss_recover.proofs.Words.{IsLowestUnsound, IsNextRun, IsPermutation, IsPermutation-append_right, IsPermutation-map, IsPermutation-trans, IsUsable}
-use Rattle.ss_recover.proofs.Words.{length, length-filter, length-map, List, list_any, list_any-append, map, map-append, MOST_RECORDS, names_in, names_of, not}
-use Rattle.ss_recover.proofs.Words.{not-true, Ok, or_left, or_right, OutOfMemory, Parts, place_of, Record, records_held, RecoverError, recursion_from_All, refl}
-use Rattle.ss_recover.proofs.Words.{Result, Rises, slots_found, Stream, stream_of, StreamParts, subst, sym, take, take-add, take-append-drop, take-append_seam}
-use Rattle.ss_recover.proofs.Words.{TakesAs, true, Walk, WalksAs, without_slots, zip, ℕ}
+use Rattle.ss_recover.proofs.Common.{[], ◌&&◌, ◌++◌, ◌+◌, ◌<◌, ◌==◌, ◌∙◌, ◌∷◌, ◌≡◌, ◌≤◌, ◌⊎◌, All, AllAgree, AllByRecursion, and_parts, ap, append-nil}
+use Rattle.ss_recover.proofs.Common.{append_assoc, ap₂, AreBuilt, arith, BadSlot, BadStream, Bool, cond, count_by-le-length, Disk, doomed_found, drop}
+use Rattle.ss_recover.proofs.Common.{drop-append_seam, drop-drop, EndsWalk, eq-eqb, Err, false, filter, flat_map, Found, found_key, HasNothing, HasTakenDropped}
+use Rattle.ss_recover.proofs.Common.{HasTakenStanding, IfErr, IfOk, if◌then◌else◌, in_slot, inl, inr, is_doomed, is_dropped, is_own, is_run, is_sound_in_order}
+use Rattle.ss_recover.proofs.Common.{IsLowestUnsound, IsNextRun, IsPermutation, IsPermutation-append_right, IsPermutation-map, IsPermutation-trans, IsUsable}
+use Rattle.ss_recover.proofs.Common.{length, length-filter, length-map, List, list_any, list_any-append, map, map-append, MOST_RECORDS, names_in, names_of, not}
+use Rattle.ss_recover.proofs.Common.{not-true, Ok, or_left, or_right, OutOfMemory, Parts, place_of, Record, records_held, RecoverError, recursion_from_All, refl}
+use Rattle.ss_recover.proofs.Common.{Result, Rises, slots_found, Stream, stream_of, StreamParts, subst, sym, take, take-add, take-append-drop, take-append_seam}
+use Rattle.ss_recover.proofs.Common.{TakesAs, true, Walk, WalksAs, without_slots, zip, ℕ}
 use Rattle.ss_recover.proofs.Lists.{all-from_map, all-kept, all_append, all_behind, all_weaker, map-all}
 use Rattle.ss_recover.proofs.RunHeld.{AreHeldSoFar, AreHeldSoFar-none, done-push, done_stream, names-all, stays}
 use Rattle.ss_recover.proofs.RunOrder.{places-rise, Rises-parts}

@@ -1,10 +1,10 @@
 -- The streams of a state meet the conditions that records have to meet.
-use Rattle.ss_recover.proofs.Words.{[], ◌&&◌, ◌++◌, ◌+◌, ◌<◌, ◌==◌, ◌||◌, ◌∙◌, ◌∷◌, ◌≡◌, ◌≤◌, AllByRecursion, and_from, and_left, and_parts, ap, append_assoc}
-use Rattle.ss_recover.proofs.Words.{ap₂, AreWindows, arith, Bool, cond, count_by, Created, eq-eqb, eqb-true, false, has_new_name, has_one_record, has_place}
-use Rattle.ss_recover.proofs.Words.{is_named_before, IsDistinct, IsDistinct-head, IsDistinct-tail, IsPermutation, IsPossible, le-ltb, leb-true, length}
-use Rattle.ss_recover.proofs.Words.{length-append, List, list_any, list_any-append, list_any-IsPermutation, lt-ltb, ltb-true, map, MOST_STREAMS, MOST_VALUES}
-use Rattle.ss_recover.proofs.Words.{nat_le, nat_lt, nat_tests, ne_eqb, not, or-false, or_from, refl, same_name, same_name-swap, StandFrom, subst, sum_by-append}
-use Rattle.ss_recover.proofs.Words.{sum_by-cons, sum_by-IsPermutation, sym, taken, tile, tile_from, times_rise, true, Window, ℕ}
+use Rattle.ss_recover.proofs.Common.{[], ◌&&◌, ◌++◌, ◌+◌, ◌<◌, ◌==◌, ◌||◌, ◌∙◌, ◌∷◌, ◌≡◌, ◌≤◌, AllByRecursion, and_from, and_left, and_parts, ap, append_assoc}
+use Rattle.ss_recover.proofs.Common.{ap₂, AreWindows, arith, Bool, cond, count_by, Created, eq-eqb, eqb-true, false, has_new_name, has_one_record, has_place}
+use Rattle.ss_recover.proofs.Common.{is_named_before, IsDistinct, IsDistinct-head, IsDistinct-tail, IsPermutation, IsPossible, le-ltb, leb-true, length}
+use Rattle.ss_recover.proofs.Common.{length-append, List, list_any, list_any-append, list_any-IsPermutation, lt-ltb, ltb-true, map, MOST_STREAMS, MOST_VALUES}
+use Rattle.ss_recover.proofs.Common.{nat_le, nat_lt, nat_tests, ne_eqb, not, or-false, or_from, refl, same_name, same_name-swap, StandFrom, subst, sum_by-append}
+use Rattle.ss_recover.proofs.Common.{sum_by-cons, sum_by-IsPermutation, sym, taken, tile, tile_from, times_rise, true, Window, ℕ}
 use Rattle.ss_recover.proofs.InOrder.{Rise, Rise-split}
 use Rattle.ss_recover.proofs.Lists.{all-from_map, all_behind, all_weaker}
 

@@ -1,6 +1,6 @@
 -- Worked maps of a stream whose windows keep to a step of the clock, and what each carries.
-use Rattle.ss_recover.proofs.Words.{[], ◌∷◌, ◌≡◌, bad_stream, Bool, Carried, carries, false, keep_step, List, map, None, Option, Params, refl, Some, true}
-use Rattle.ss_recover.proofs.Words.{Window, ℕ}
+use Rattle.ss_recover.proofs.Common.{[], ◌∷◌, ◌≡◌, bad_stream, Bool, Carried, carries, false, keep_step, List, map, None, Option, Params, refl, Some, true}
+use Rattle.ss_recover.proofs.Common.{Window, ℕ}
 use Rattle.ss_catalog.specs.declared.params.Family.TheVariants.{Exp}
 use Rattle.ss_codec.specs.Record.{is_valid, spelling}
 use Rattle.ss_codec.specs.Decoded.{decoded, finish_in, landmark_in, params_in, record_in, stream_in, value_in, window_in}

@@ -1,6 +1,6 @@
 -- Worked rows: the times of a stream's windows, as they are held.
-use Rattle.ss_recover.proofs.Words.{[], ◌∷◌, ◌≡◌, Agrees, All, AreWhole, arith, Bool, entries_of, Entry, Figures, List, map, MatchOption, None, refl}
-use Rattle.ss_recover.proofs.Words.{RiseToLast, Some, Stream, StreamParts, subst, times_held, times_of, TimesRise, ℕ}
+use Rattle.ss_recover.proofs.Common.{[], ◌∷◌, ◌≡◌, Agrees, All, AreWhole, arith, Bool, entries_of, Entry, Figures, List, map, MatchOption, None, refl}
+use Rattle.ss_recover.proofs.Common.{RiseToLast, Some, Stream, StreamParts, subst, times_held, times_of, TimesRise, ℕ}
 
 -- a window of the positions 3 and 4, with its values at these times
 abbrev entry : ℕ → ℕ → Entry

@@ -1,8 +1,8 @@
 -- What valid records have, and what is made of the records of a map: streams of different numbers need no more of them than there are.
-use Rattle.ss_recover.proofs.Words.{[], ◌<◌, ◌==◌, ◌^◌, ◌∷◌, ◌≡◌, ◌≤◌, AllByRecursion, arith, cases_Bool, cons_option, filter_map, Free, HasValidTimes, inl}
-use Rattle.ss_recover.proofs.Words.{inr, IsLandmark-is_valid, IsPossible, IsStream-is_valid, IsTrue, IsUsable, IsValue-is_valid, IsWindow-is_valid, LATEST_TIME}
-use Rattle.ss_recover.proofs.Words.{length, length-map-range_with_len, List, map, MatchOption, None, Option, range_with_len, Record, records_in, refl, SlotMap}
-use Rattle.ss_recover.proofs.Words.{Some, Spells-decoded, Value, window_of, ℕ}
+use Rattle.ss_recover.proofs.Common.{[], ◌<◌, ◌==◌, ◌^◌, ◌∷◌, ◌≡◌, ◌≤◌, AllByRecursion, arith, cases_Bool, cons_option, filter_map, Free, HasValidTimes, inl}
+use Rattle.ss_recover.proofs.Common.{inr, IsLandmark-is_valid, IsPossible, IsStream-is_valid, IsTrue, IsUsable, IsValue-is_valid, IsWindow-is_valid, LATEST_TIME}
+use Rattle.ss_recover.proofs.Common.{length, length-map-range_with_len, List, map, MatchOption, None, Option, range_with_len, Record, records_in, refl, SlotMap}
+use Rattle.ss_recover.proofs.Common.{Some, Spells-decoded, Value, window_of, ℕ}
 use Rattle.ss_codec.specs.declared.record.Record.TheVariants.{Landmark, Stream, Window}
 use Rattle.ss_recover.specs.Carried.{spelled}
 use Rattle.ss_codec.specs.Record.{is_valid}

@@ -1,9 +1,9 @@
 -- Maps of images: each slot has its 128 bytes, and maps that are the same carry the same.
-use Rattle.ss_recover.proofs.Words.{[], ◌<◌, ◌^◌, ◌∙◌, ◌∷◌, ◌≡◌, ◌≤◌, All-head, All-tail, AllByRecursion, ap, arith, blank_map, cases_Bool, cases_lt}
-use Rattle.ss_recover.proofs.Words.{cond-false, cond-true, cond_both, drop, file_map, FillSlots, HasWholeSlots, inl, inr, le-ltb, length, length-drop}
-use Rattle.ss_recover.proofs.Words.{length-replicate, length-take, List, lt-ltb, map, MOST_SLOTS, not_a_store, occupied, Put, puts_in_use, range_with_len, redo}
-use Rattle.ss_recover.proofs.Words.{redo-born, redo-neither, redo-unborn, refl, SameMap, slot_within, SlotMap, stands, StandsFor, StandsFor-parts, subst, sym}
-use Rattle.ss_recover.proofs.Words.{with_put, with_puts, zeros, ℕ}
+use Rattle.ss_recover.proofs.Common.{[], ◌<◌, ◌^◌, ◌∙◌, ◌∷◌, ◌≡◌, ◌≤◌, All-head, All-tail, AllByRecursion, ap, arith, blank_map, cases_Bool, cases_lt}
+use Rattle.ss_recover.proofs.Common.{cond-false, cond-true, cond_both, drop, file_map, FillSlots, HasWholeSlots, inl, inr, le-ltb, length, length-drop}
+use Rattle.ss_recover.proofs.Common.{length-replicate, length-take, List, lt-ltb, map, MOST_SLOTS, not_a_store, occupied, Put, puts_in_use, range_with_len, redo}
+use Rattle.ss_recover.proofs.Common.{redo-born, redo-neither, redo-unborn, refl, SameMap, slot_within, SlotMap, stands, StandsFor, StandsFor-parts, subst, sym}
+use Rattle.ss_recover.proofs.Common.{with_put, with_puts, zeros, ℕ}
 use Rattle.ss_journal.specs.Format.{is_born, is_unborn, kind_of, slot_at, slot_place, slots_in}
 use Rattle.ss_journal.proofs.CheckLemmas.{length-slot_form}
 use Rattle.ss_journal.proofs.PutLemmas.{extent_after-bound}

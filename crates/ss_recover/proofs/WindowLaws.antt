@@ -1,10 +1,10 @@
 -- The windows among records, one after another: what is asked of those that are left, and where they are held.
-use Rattle.ss_recover.proofs.Words.{[], ◌&&◌, ◌++◌, ◌+◌, ◌<◌, ◌==◌, ◌∙◌, ◌∷◌, ◌≡◌, ◌≤◌, add-one, All, and_from, and_left, ap, append-nil, AreWindowsOf, arith}
-use Rattle.ss_recover.proofs.Words.{Bool, cond, cond-true, cons_option, count_by-le-length, drop, drop-cons, Entry, eq-eqb, false, filter-append}
-use Rattle.ss_recover.proofs.Words.{filter_map-append, Found, found_by, get_or, Grows, is_after, is_window, IsInside, le-leb, length, length-filter, length-map}
-use Rattle.ss_recover.proofs.Words.{List, map, map-append, MOST_RECORDS, MOST_VALUES, nat_lt, ne_eqb, newest_time, None, Option, Record, refl}
-use Rattle.ss_recover.proofs.Words.{slots_found, Some, span_held, span_of, stream_of, subst, sum_by-append, sym, take, take_more, taken, tile, tile_from}
-use Rattle.ss_recover.proofs.Words.{times_held, times_of, times_rise, true, Window, window_of, windows_in, without_slots, ℕ}
+use Rattle.ss_recover.proofs.Common.{[], ◌&&◌, ◌++◌, ◌+◌, ◌<◌, ◌==◌, ◌∙◌, ◌∷◌, ◌≡◌, ◌≤◌, add-one, All, and_from, and_left, ap, append-nil, AreWindowsOf, arith}
+use Rattle.ss_recover.proofs.Common.{Bool, cond, cond-true, cons_option, count_by-le-length, drop, drop-cons, Entry, eq-eqb, false, filter-append}
+use Rattle.ss_recover.proofs.Common.{filter_map-append, Found, found_by, get_or, Grows, is_after, is_window, IsInside, le-leb, length, length-filter, length-map}
+use Rattle.ss_recover.proofs.Common.{List, map, map-append, MOST_RECORDS, MOST_VALUES, nat_lt, ne_eqb, newest_time, None, Option, Record, refl}
+use Rattle.ss_recover.proofs.Common.{slots_found, Some, span_held, span_of, stream_of, subst, sum_by-append, sym, take, take_more, taken, tile, tile_from}
+use Rattle.ss_recover.proofs.Common.{times_held, times_of, times_rise, true, Window, window_of, windows_in, without_slots, ℕ}
 use Rattle.ss_line.specs.declared.entry.At.{At}
 use Rattle.ss_line.specs.declared.line.TheConstants.{MOST_PLACES}
 use Rattle.ss_summary.specs.declared.summary.TheConstants.{GREATEST_COUNT}

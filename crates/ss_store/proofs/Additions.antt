@@ -1,49 +1,22 @@
 -- A value that is put after the windows of a stream, as a window of its own.
-use Rattle.std.proofs.Common.{◌≡◌, ◌∙◌, inl, ℕ, max, ◌+◌, ◌-◌, ◌<◌, ℤ, Bool, false, List, [], ◌∷◌, ◌++◌, map, refl, sym, ap, ap₂, subst}
-use Rattle.std.proofs.Common.{arith, IsPermutation, Option, None, Some, Result}
+use Rattle.ss_store.proofs.Common.{◌≡◌, ◌∙◌, inl, ℕ, ◌+◌, ◌-◌, ◌<◌, ℤ, Bool, false, List, [], ◌∷◌, ◌++◌, map, refl, sym, ap, ap₂, subst, arith, IsPermutation}
+use Rattle.ss_store.proofs.Common.{Option, None, Some, Result, nat_tests, map-append, IsPermutation-append_left, IsPermutation-sym, IsPermutation-to_front}
+use Rattle.ss_store.proofs.Common.{Told, MOST_VALUES, RecordsState, Record, AreKnown, LandmarksState, Entry, Figures, summary_of, params_of, New, closed}
+use Rattle.ss_store.proofs.Common.{closed_stream, has_open, later, latest_of, is_past, rule_of, IsStream, Stream, last_time, values_in, single_window}
+use Rattle.ss_store.proofs.Common.{with_plain_value, newest_time, taken, Window, IsStream-single, taken-append, Agrees, TileFrom, TimesRise, entries_of}
+use Rattle.ss_store.proofs.Common.{mark_slots, records_held, slots_held, span_held, span_of, stream_record, times_held, times_of, window_record, window_slots}
+use Rattle.ss_store.proofs.Common.{windows_held, StreamParts, TurnsShown, IsHalfway, IsOrdered, values_held, with_single, with_windows, IsHeldIn, LiveSlotsGo}
+use Rattle.ss_store.proofs.Common.{StagesRecord, HasRecords, HasRecords-permutation, zip-held, IsPermutation-same}
+use Rattle.std.proofs.Common.{max}
 use Rattle.std.specs.Prelude.{zip}
-use Rattle.std.proofs.lemmas.Bool.Decides.{nat_tests}
-use Rattle.std.proofs.lemmas.List.{map-append}
-use Rattle.std.proofs.lemmas.List.Sorted.{IsPermutation-append_left, IsPermutation-sym, IsPermutation-to_front}
-use Rattle.ss_outside.specs.Disk.{Told}
-use Rattle.ss_windowing.specs.declared.decay.TheConstants.{MOST_VALUES}
-use Rattle.ss_records.specs.Kept.{RecordsState}
-use Rattle.ss_codec.specs.declared.record.Record.{Record}
 use Rattle.ss_codec.specs.declared.record.Record.TheVariants as records
-use Rattle.ss_landmarks.specs.Landmarks.{AreKnown, LandmarksState}
-use Rattle.ss_line.specs.declared.entry.Entry.{Entry}
-use Rattle.ss_summary.specs.Figures.{Figures, IsPossible}
-use Rattle.ss_summary.specs.Summaries.{summary_of}
-use Rattle.ss_target.specs.Targets.{params_of}
-use Rattle.ss_summary.specs.Points.{New}
-use Rattle.ss_model.specs.Closed.{closed}
-use Rattle.ss_model.specs.ClosedState.{closed_stream}
-use Rattle.ss_model.specs.Marks.{has_open, later, latest_of}
-use Rattle.ss_model.specs.Refusals.{is_past}
-use Rattle.ss_target.specs.Rule.{rule_of}
-use Rattle.ss_model.specs.Standing.{IsStream}
-use Rattle.ss_model.specs.State.{Stream, last_time, values_in}
-use Rattle.ss_model.specs.Steps.{single_window, with_plain_value}
-use Rattle.ss_model.specs.Windows.{newest_time, taken}
-use Rattle.ss_model.specs.declared.types.Window.{Window}
+use Rattle.ss_summary.specs.Figures.{IsPossible}
 use Rattle.ss_model.proofs.Closes.{newest_time_push}
-use Rattle.ss_model.proofs.StreamLemmas.{IsStream-single}
-use Rattle.ss_model.proofs.Tiles.{taken-append}
-use Rattle.ss_recover.specs.Held.{Agrees, TileFrom, TimesRise, entries_of, mark_slots, records_held, slots_held, span_held, span_of, stream_record}
-use Rattle.ss_recover.specs.Held.{times_held, times_of, window_record, window_slots, windows_held}
-use Rattle.ss_recover.specs.declared.parts.StreamParts.{StreamParts}
-use Rattle.ss_store.specs.Calls.{TurnsShown}
-use Rattle.ss_store.specs.Held.{IsHalfway, IsOrdered, values_held, with_single, with_windows}
-use Rattle.ss_query.specs.Held.{IsHeldIn}
-use Rattle.ss_store.specs.Slots.{LiveSlotsGo, StagesRecord}
-use Rattle.ss_query.specs.Slots.{HasRecords}
 use Rattle.ss_store.proofs.LiveSlots.{LiveSlotsGo-beside, LiveSlotsGo-permutation}
 use Rattle.ss_store.proofs.Pairs.{records_held-apart, records_held-changed}
-use Rattle.ss_query.proofs.Records.{HasRecords-permutation, zip-held}
 use Rattle.ss_store.proofs.Rising.{rise-added}
 use Rattle.ss_store.proofs.ShownCalls.{TurnsShown-weaker}
 use Rattle.ss_store.proofs.Spans.{TileFrom-push, values_held-seam, values_held-windows}
-use Rattle.ss_recover.proofs.Permutations.{IsPermutation-same}
 
 -- a time that isn't past is the later one
 later-past : (o p : Option ℕ) (t : ℕ) → is_past (later o p) t ≡ false → later (Some t) p ≡ Some t

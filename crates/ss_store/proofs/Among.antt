@@ -1,35 +1,18 @@
 -- One stream among others: its records beside theirs, and what stands in its place afterwards.
-use Rattle.std.proofs.Common.{◌≡◌, ℕ, zero, suc, ◌<◌, ◌≤◌, Bool, false, List, [], ◌∷◌, ◌++◌, length, flat_map, remove, slice_get, slice_set, zip}
-use Rattle.std.proofs.Common.{refl, ap, sym, subst, ◌∙◌, arith, IsPermutation, Option, None, Some, MatchOption}
-use Rattle.std.specs.Prelude.{⊤}
-use Rattle.std.proofs.lemmas.Bool.Decides.{nat_tests}
-use Rattle.std.proofs.lemmas.List.{length-set, map-set, set-set}
-use Rattle.std.proofs.lemmas.List.Elements.{All-get_or, All-nil, All-set}
-use Rattle.std.proofs.lemmas.List.Sorted.{IsPermutation-sym, IsPermutation-trans}
-use Rattle.std.proofs.lemmas.Option.{get_or_from_slice_get, none-some, same_Some, slice_get_within}
-use Rattle.ss_codec.specs.declared.record.Record.{Record}
-use Rattle.ss_journal.specs.Redo.{SlotMap, StandsFor}
+use Rattle.ss_store.proofs.Common.{◌≡◌, ℕ, zero, suc, ◌<◌, ◌≤◌, Bool, false, List, [], ◌∷◌, ◌++◌, length, flat_map, remove, slice_set, zip, refl, ap, sym}
+use Rattle.ss_store.proofs.Common.{subst, ◌∙◌, arith, IsPermutation, Option, None, Some, MatchOption, ⊤, nat_tests, length-set, map-set, All-get_or, All-nil}
+use Rattle.ss_store.proofs.Common.{All-set, IsPermutation-sym, IsPermutation-trans, get_or_from_slice_get, none-some, same_Some, slice_get_within, Record}
+use Rattle.ss_store.proofs.Common.{SlotMap, StandsFor, Landmark, AreKnown, LandmarksState, AllEndBy, EndsBy, AllEndBy-later, closed_state, closed_stream}
+use Rattle.ss_store.proofs.Common.{is_past, rule_of, IsState, IsStream, Stream, values_in, IsStream-joined, AllAgree, AreWhole, Agrees, EndByLast, RiseToLast}
+use Rattle.ss_store.proofs.Common.{TileFrom, entries_of, records_held, slots_held, StreamParts, carried, carried-AreHeld, HasWholeSlots-StandsFor, IsOrdered}
+use Rattle.ss_store.proofs.Common.{IsPartlyJoined, IsSameStream, with_windows, IsHeldIn, Recovers, recovered_from, recovered_of, AreSomeLive, LiveSlotsGo}
+use Rattle.ss_store.proofs.Common.{live_slots, HasRecords}
+use Rattle.std.proofs.Common.{slice_get}
+use Rattle.std.proofs.lemmas.List.{set-set}
 use Rattle.ss_journal.proofs.RedoLemmas.{StandsFor-parts}
-use Rattle.ss_landmarks.specs.Landmark.{Landmark}
-use Rattle.ss_landmarks.specs.Landmarks.{AreKnown, LandmarksState}
-use Rattle.ss_landmarks.specs.Order.{AllEndBy, EndsBy}
-use Rattle.ss_landmarks.proofs.TimeLemmas.{AllEndBy-later}
-use Rattle.ss_model.specs.ClosedState.{closed_state, closed_stream}
-use Rattle.ss_model.specs.Refusals.{is_past}
-use Rattle.ss_target.specs.Rule.{rule_of}
-use Rattle.ss_model.specs.Standing.{IsState, IsStream}
-use Rattle.ss_model.specs.State.{Stream, values_in}
-use Rattle.ss_model.proofs.StreamLemmas.{IsStream-joined}
-use Rattle.ss_recover.specs.Held.{AllAgree, AreHeld, AreWhole, Agrees, EndByLast, RiseToLast, TileFrom, entries_of, records_held, slots_held}
-use Rattle.ss_recover.specs.declared.parts.StreamParts.{StreamParts}
-use Rattle.ss_recover.specs.Parts.{carried}
-use Rattle.ss_recover.proofs.HeldLemmas.{carried-AreHeld}
-use Rattle.ss_recover.proofs.WholeSlots.{HasWholeSlots-StandsFor, carried-same}
-use Rattle.ss_store.specs.Held.{IsOrdered, IsPartlyJoined, IsSameStream, with_windows}
-use Rattle.ss_query.specs.Held.{IsHeldIn}
-use Rattle.ss_store.specs.Recover.{Recovers, recover, recovered_from, recovered_of}
-use Rattle.ss_store.specs.Slots.{AreSomeLive, LiveSlotsGo, live_slots}
-use Rattle.ss_query.specs.Slots.{HasRecords}
+use Rattle.ss_recover.specs.Held.{AreHeld}
+use Rattle.ss_recover.proofs.WholeSlots.{carried-same}
+use Rattle.ss_store.specs.Recover.{recover}
 use Rattle.ss_store.proofs.OneOfMany.{IsPermutation-parted, map-set_same, remove-set, slice_get-set, slice_get-zip, zip-set}
 use Rattle.ss_store.proofs.ShorterStates.{IsState-shorter, closed_stream-joined, length-JoinsDue}
 

@@ -1,26 +1,11 @@
 -- What a query is answered, by what is known of its stream.
-use Rattle.std.proofs.Common.{◌≡◌, ◌∙◌, ℕ, Bool, List, true, false, refl, sym, ap, Option, Some, None, Result, Ok, Err}
-use Rattle.std.specs.Prelude.{◌↔◌, option_map}
-use Rattle.std.specs.List.{position_or_len}
-use Rattle.std.proofs.lemmas.List.Folds.{find_at}
-use Rattle.ss_outside.specs.Disk.{DiskView}
-use Rattle.ss_outside.specs.Step.{Step}
-use Rattle.ss_outside.specs.Verdict.{fine}
-use Rattle.ss_catalog.specs.Names.{same_name}
-use Rattle.ss_catalog.specs.declared.query.Query.{Query}
-use Rattle.ss_records.specs.Kept.{shown_by}
+use Rattle.ss_store.proofs.Common.{◌≡◌, ◌∙◌, ℕ, Bool, List, true, false, refl, sym, ap, Option, Some, None, Result, Ok, Err, ◌↔◌, option_map, position_or_len}
+use Rattle.ss_store.proofs.Common.{find_at, DiskView, Step, fine, same_name, Query, shown_by, IsState, IsStream, Stream, state, stream_named, Outcome}
+use Rattle.ss_store.proofs.Common.{seen_of, Seen, Answers, Sees, StandsOn, StoreState, Recovers, AskError}
 use Rattle.ss_model.specs.Answers.{answer_of, outcome_of}
-use Rattle.ss_model.specs.Standing.{IsState, IsStream}
-use Rattle.ss_model.specs.State.{Stream, state, stream_named}
-use Rattle.ss_model.specs.declared.outcome.Outcome.{Outcome}
 use Rattle.ss_model.proofs.AnswerLemmas.{answer-exact, answer-holds}
-use Rattle.ss_query.specs.Asked.{outcome_seen, seen_of}
-use Rattle.ss_query.specs.declared.asking.Seen.{Seen}
+use Rattle.ss_query.specs.Asked.{outcome_seen}
 use Rattle.ss_query.proofs.Outcomes.{outcome_seen-seen_of}
-use Rattle.ss_store.specs.Applied.{Answers, Sees, StandsOn}
-use Rattle.ss_store.specs.Kept.{StoreState}
-use Rattle.ss_store.specs.Recover.{Recovers}
-use Rattle.ss_store.specs.declared.error.AskError.{AskError}
 use Rattle.ss_store.specs.declared.error.AskError.TheVariants as ask
 use Rattle.ss_store.proofs.Among.{IsStream-at}
 use Rattle.ss_store.proofs.KeptStates.{AllAgree-recovered}

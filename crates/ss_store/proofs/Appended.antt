@@ -1,45 +1,17 @@
 -- A store one of whose streams takes an event: what is known before, and what the call of its stream makes of the store.
-use Rattle.std.proofs.Common.{◌≡◌, zero, suc, ◌≤◌, ℕ, ◌<◌, ℤ, Bool, true, false, List, [], ◌∷◌, ◌++◌, length, map, flat_map, zip, get_or, slice_get}
-use Rattle.std.proofs.Common.{slice_set, refl, ap, sym, ◌∙◌, subst, arith, None, Some, Option, inl, inr, Result}
-use Rattle.std.specs.List.{AllZip, find, position_or_len}
-use Rattle.std.specs.List.Sorted.{IsStrictlyIncreasing}
-use Rattle.std.proofs.lemmas.Bool.{cases_Bool}
-use Rattle.std.proofs.lemmas.List.Folds.{find_at, find-set}
-use Rattle.std.proofs.lemmas.Option.{get_or_from_slice_get, none-some, same_Some, slice_get_within}
-use Rattle.ss_outside.specs.Disk.{Told}
-use Rattle.ss_catalog.specs.Names.{same_name}
-use Rattle.ss_catalog.specs.declared.event.Event.{Event}
-use Rattle.ss_catalog.specs.declared.event.Event.TheVariants.{Value}
-use Rattle.ss_catalog.specs.declared.stream_id.StreamId.{StreamId}
-use Rattle.ss_codec.specs.declared.record.Record.{Record}
-use Rattle.ss_summary.specs.Points.{New}
-use Rattle.ss_model.specs.History.{CanBeSaid}
-use Rattle.ss_model.specs.Marks.{has_open}
-use Rattle.ss_model.specs.Refusals.{is_past}
-use Rattle.ss_model.specs.State.{Stream}
-use Rattle.ss_model.specs.Steps.{stepped, with_plain_value}
-use Rattle.ss_model.specs.declared.types.Ack.{Ack}
-use Rattle.ss_landmarks.specs.Landmarks.{AreKnown, LandmarksState}
-use Rattle.ss_line.specs.Line.{LineState}
-use Rattle.ss_model.specs.Standing.{IsState}
-use Rattle.ss_model.proofs.StandLemmas.{IsState-stepped}
-use Rattle.ss_target.specs.Targets.{params_of}
-use Rattle.ss_recover.specs.Held.{AllAgree, AreWhole, Agrees, EndByLast, RiseToLast, TileFrom, entries_of, records_held, slots_held, span_held, times_held}
-use Rattle.ss_recover.specs.declared.parts.StreamParts.{StreamParts}
-use Rattle.ss_journal.specs.Kept.{IsSettled}
-use Rattle.ss_records.specs.Kept.{AreKept, RecordsState, shown_by}
-use Rattle.ss_store.specs.Admitted.{IsMarker, IsTaker}
-use Rattle.ss_store.specs.Calls.{RecoversToEither, StepsState, TurnsShown}
-use Rattle.ss_store.specs.Causes.{said_of_held}
-use Rattle.ss_store.specs.Held.{IsHalfway, IsOrdered, IsPartlyJoined, IsSameStream, values_held, with_single}
-use Rattle.ss_query.specs.Held.{IsHeldIn}
-use Rattle.ss_store.specs.Kept.{IsSound, KeepsSpare, SameButSpare, StoreIsIn, StoreIsKept, StoreState, entry_of, numbers_held, part_named, refuses_held}
-use Rattle.ss_store.specs.Kept.{without_spare}
-use Rattle.ss_store.specs.Marking.{IsInOpen, event_of, with_mark}
-use Rattle.ss_store.specs.Recover.{Recovers}
-use Rattle.ss_store.specs.Slots.{AreSomeLive, LiveSlotsGo}
-use Rattle.ss_query.specs.Slots.{HasRecords}
-use Rattle.ss_store.specs.declared.marking.Mark.{Mark}
+use Rattle.ss_store.proofs.Common.{◌≡◌, zero, suc, ◌≤◌, ℕ, ◌<◌, ℤ, Bool, true, false, List, [], ◌∷◌, ◌++◌, length, map, flat_map, zip, get_or, slice_set}
+use Rattle.ss_store.proofs.Common.{refl, ap, sym, ◌∙◌, subst, arith, None, Some, Option, inl, inr, Result, AllZip, find, position_or_len}
+use Rattle.ss_store.proofs.Common.{IsStrictlyIncreasing, cases_Bool, find_at, get_or_from_slice_get, none-some, same_Some, slice_get_within, Told, same_name}
+use Rattle.ss_store.proofs.Common.{Event, Value, StreamId, Record, New, CanBeSaid, has_open, is_past, Stream, stepped, with_plain_value, Ack, AreKnown}
+use Rattle.ss_store.proofs.Common.{LandmarksState, LineState, IsState, IsState-stepped, params_of, AllAgree, AreWhole, Agrees, EndByLast, RiseToLast}
+use Rattle.ss_store.proofs.Common.{TileFrom, entries_of, records_held, slots_held, span_held, times_held, StreamParts, IsSettled, AreKept, RecordsState}
+use Rattle.ss_store.proofs.Common.{shown_by, IsMarker, IsTaker, RecoversToEither, StepsState, TurnsShown, said_of_held, IsHalfway, IsOrdered, IsPartlyJoined}
+use Rattle.ss_store.proofs.Common.{IsSameStream, values_held, with_single, IsHeldIn, IsSound, SameButSpare, StoreIsIn, StoreIsKept, StoreState, entry_of}
+use Rattle.ss_store.proofs.Common.{numbers_held, part_named, refuses_held, without_spare, IsInOpen, event_of, with_mark, Recovers, AreSomeLive, LiveSlotsGo}
+use Rattle.ss_store.proofs.Common.{HasRecords, Mark}
+use Rattle.std.proofs.Common.{slice_get}
+use Rattle.std.proofs.lemmas.List.Folds.{find-set}
+use Rattle.ss_store.specs.Kept.{KeepsSpare}
 use Rattle.ss_store.proofs.Among.{AreWhole-at, AreWhole-changed, EndByLast-later, HasRecords-set, IsHeldIn-at, IsNoEarlier, Marks-at, Recovers-held}
 use Rattle.ss_store.proofs.Among.{Recovers-partly, others_of}
 use Rattle.ss_store.proofs.HeldCounts.{values_held-Agrees}

@@ -1,31 +1,13 @@
 -- What an event does to a store: refused, out of memory, failed, done.
-use Rattle.std.proofs.Common.{◌≡◌, ◌∙◌, ℕ, ◌+◌, ◌≤◌, true, false, max, Err, List, None, Ok, Option, Result, Some, ap, flat_map, length, refl, sym}
-use Rattle.std.specs.Prelude.{Contains, IfSome, IsTrue}
-use Rattle.ss_outside.proofs.CrashLemmas.{reads-none}
-use Rattle.ss_outside.specs.Crash.{KnowsNow}
-use Rattle.ss_outside.specs.Disk.{DiskView, Told, WhereTold}
-use Rattle.ss_outside.specs.Step.{Step}
-use Rattle.ss_outside.specs.Verdict.{IfChanged, IsFirm, fine}
-use Rattle.ss_catalog.specs.Events.{event_name}
-use Rattle.ss_catalog.specs.declared.event.Event.{Event}
-use Rattle.ss_catalog.specs.declared.refusal.Refusal.{Refusal}
-use Rattle.ss_model.specs.Steps.{stepped}
-use Rattle.ss_model.specs.declared.types.Ack.{Ack}
-use Rattle.ss_recover.specs.Held.{slots_held}
-use Rattle.ss_recover.specs.declared.parts.StreamParts.{StreamParts}
-use Rattle.ss_store.specs.Applied.{Applies, IsFew, StandsOn, leaves_no_value, is_plain_value}
-use Rattle.ss_records.specs.Kept.{RecordsState}
-use Rattle.ss_store.specs.Calls.{RecoversToEither, StepsState}
-use Rattle.ss_store.specs.Causes.{said_of_held}
-use Rattle.ss_store.specs.Changing.{ChangedIsHeld}
-use Rattle.ss_query.specs.Answered.{window_slots_of}
-use Rattle.ss_store.specs.Errors.{apply_of_fault}
-use Rattle.ss_query.specs.Reading.{verdict_of_read}
-use Rattle.ss_store.specs.Kept.{SameButSpare, StoreIsKept, StoreState, part_named, refuses_held}
-use Rattle.ss_store.specs.Recover.{Recovers}
-use Rattle.ss_store.specs.declared.error.ApplyError.{ApplyError}
+use Rattle.ss_store.proofs.Common.{◌≡◌, ◌∙◌, ℕ, ◌+◌, ◌≤◌, true, false, Err, List, None, Ok, Option, Result, Some, ap, flat_map, length, refl, sym, Contains}
+use Rattle.ss_store.proofs.Common.{IfSome, reads-none, KnowsNow, DiskView, Told, Step, IfChanged, IsFirm, fine, event_name, Event, Refusal, stepped, Ack}
+use Rattle.ss_store.proofs.Common.{slots_held, StreamParts, Applies, IsFew, StandsOn, leaves_no_value, is_plain_value, RecordsState, RecoversToEither}
+use Rattle.ss_store.proofs.Common.{StepsState, said_of_held, ChangedIsHeld, window_slots_of, apply_of_fault, verdict_of_read, SameButSpare, StoreIsKept}
+use Rattle.ss_store.proofs.Common.{StoreState, part_named, refuses_held, Recovers, ApplyError, ReadError}
+use Rattle.std.proofs.Common.{max}
+use Rattle.std.specs.Prelude.{IsTrue}
+use Rattle.ss_outside.specs.Disk.{WhereTold}
 use Rattle.ss_store.specs.declared.error.ApplyError.TheVariants as apply
-use Rattle.ss_query.specs.declared.read_error.ReadError.{ReadError}
 use Rattle.ss_query.specs.declared.read_error.ReadError.TheVariants as fault
 use Rattle.ss_store.proofs.ShownCalls.{TurnsShown-failed, TurnsShown-reads}
 use Rattle.ss_store.proofs.Stepping.{IsRefusedBy}

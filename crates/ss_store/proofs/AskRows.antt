@@ -1,13 +1,11 @@
 -- What each answer of a look at a store is.
-use Rattle.std.proofs.Common.{◌≡◌, ◌<◌, ◌++◌, ℕ, List, All, [], ◌∷◌, drop, map, refl, Err, Ok, Option}
-use Rattle.ss_outside.specs.Verdict.{changed, failed, fine, refused, stopped}
+use Rattle.ss_store.proofs.Common.{◌≡◌, ◌<◌, ◌++◌, ℕ, List, [], ◌∷◌, drop, map, refl, Err, Ok, Option, failed, fine, place_at, At, Entry, BeginsNear}
+use Rattle.ss_store.proofs.Common.{ask_of_fault, verdict_of_ask}
+use Rattle.std.proofs.Common.{All}
+use Rattle.ss_outside.specs.Verdict.{changed, refused, stopped}
 use Rattle.ss_catalog.specs.declared.refusal.Refusal.TheVariants as refusal
-use Rattle.ss_line.specs.Line.{place_at}
-use Rattle.ss_line.specs.declared.entry.At.{At}
-use Rattle.ss_line.specs.declared.entry.Entry.{Entry}
-use Rattle.ss_query.specs.Answered.{BeginsNear, begun_in}
+use Rattle.ss_query.specs.Answered.{begun_in}
 use Rattle.ss_query.specs.declared.read_error.ReadError.TheVariants as read
-use Rattle.ss_store.specs.Errors.{ask_of_fault, verdict_of_ask}
 use Rattle.ss_store.specs.declared.error.AskError.TheVariants as ask
 
 verdicts-ask : map (λ e. verdict_of_ask {T = Unit {0}} (Err e)) (ask.Refused refusal.Range ∷ ask.Disk ∷ ask.Stopped ∷ ask.Changed 7 ∷ [])

@@ -1,29 +1,12 @@
 -- A query to a store: its stream among all, and the refusals of queries.
-use Rattle.std.proofs.Common.{◌≡◌, ◌∙◌, ℕ, Bool, List, [], ◌∷◌, refl, sym, subst, ap, Option, Some, None, Result, Ok, Err, IsTrue}
-use Rattle.std.specs.Prelude.{is_some, nat_lt, option_map}
-use Rattle.ss_outside.specs.Disk.{DiskView, OfContent, Told}
-use Rattle.ss_outside.specs.Step.{Step}
-use Rattle.ss_outside.specs.Verdict.{IsFirm, fine}
-use Rattle.ss_catalog.specs.declared.query.Query.{Query}
-use Rattle.ss_catalog.specs.declared.refusal.Refusal.TheVariants.{Range, Unknown}
-use Rattle.ss_catalog.specs.declared.stream_id.StreamId.{StreamId}
-use Rattle.ss_records.specs.Kept.{RecordsState, shown_by}
+use Rattle.ss_store.proofs.Common.{◌≡◌, ◌∙◌, ℕ, Bool, List, [], ◌∷◌, refl, sym, subst, ap, Option, Some, None, Result, Ok, Err, IsTrue, is_some, nat_lt}
+use Rattle.ss_store.proofs.Common.{option_map, DiskView, OfContent, Told, Step, IsFirm, fine, Query, Range, Unknown, StreamId, RecordsState, shown_by}
+use Rattle.ss_store.proofs.Common.{first_that_applies, Stream, stream_named, AllAgree, StreamParts, seen_of, IsHeldIn, verdict_of_read, Seen, ReadError, Sees}
+use Rattle.ss_store.proofs.Common.{SomeAgree, StoreIsIn, StoreIsKept, StoreState, part_named, Recovers}
 use Rattle.ss_model.specs.Answers.{refuses_query}
-use Rattle.ss_model.specs.Refusals.{first_that_applies}
-use Rattle.ss_model.specs.State.{Stream, stream_named}
-use Rattle.ss_recover.specs.Held.{AllAgree}
-use Rattle.ss_recover.specs.declared.parts.StreamParts.{StreamParts}
 use Rattle.ss_query.specs.Answered.{IsSeenAs, SeesStream}
-use Rattle.ss_query.specs.Asked.{seen_of}
-use Rattle.ss_query.specs.Held.{IsHeldIn}
-use Rattle.ss_query.specs.Reading.{verdict_of_read}
-use Rattle.ss_query.specs.declared.asking.Seen.{Seen}
-use Rattle.ss_query.specs.declared.read_error.ReadError.{ReadError}
 use Rattle.ss_query.specs.declared.read_error.ReadError.TheVariants as error
-use Rattle.ss_store.specs.Applied.{Sees}
 use Rattle.ss_store.specs.Asked.{refuses_query_held}
-use Rattle.ss_store.specs.Kept.{SomeAgree, StoreIsIn, StoreIsKept, StoreState, part_named}
-use Rattle.ss_store.specs.Recover.{Recovers}
 use Rattle.ss_store.proofs.Among.{IsHeldIn-at, others_of}
 use Rattle.ss_store.proofs.HeldCounts.{SomeAgree-named}
 use Rattle.ss_store.proofs.KeptStates.{Recovers-StoreIsIn, Recovers-same}

@@ -1,45 +1,19 @@
 -- What some definitions come to at one answer each, where nothing else would tell if they said less.
-use Rattle.std.proofs.Common.{◌≡◌, ◌⊎◌, ℕ, ◌+◌, ◌-◌, ◌*◌, ◌≤◌, Bool, true, false, List, [], ◌∷◌, ◌++◌, map, length, Err, None, Ok, Some, pos, refl}
-use Rattle.std.specs.Prelude.{Contains, IfSome, Option, flat_map, max, option_map}
-use Rattle.ss_outside.specs.Crash.{LeavesOnly, OnlyReads}
-use Rattle.ss_outside.specs.Disk.{DiskView, NothingPending, Told}
+use Rattle.ss_store.proofs.Common.{◌≡◌, ◌⊎◌, ℕ, ◌+◌, ◌-◌, ◌*◌, ◌≤◌, Bool, true, false, List, [], ◌∷◌, ◌++◌, map, length, Err, None, Ok, Some, pos, refl}
+use Rattle.ss_store.proofs.Common.{Contains, IfSome, max, option_map, LeavesOnly, OnlyReads, DiskView, NothingPending, Told, Verdict, event_name, Event, exp}
+use Rattle.ss_store.proofs.Common.{Query, Refusal, At, full, Happened, added, IsReadWithinTarget, cover, steps_met, Stream, stream_named, stream_numbered}
+use Rattle.ss_store.proofs.Common.{values_in, Outcome, Ack, Placed, window_slots_of, seen_of, Seen, RecordsState, shown_by, entries_of, slots_held}
+use Rattle.ss_store.proofs.Common.{StreamParts, lengths_of, rule_of, params_of, Answers, Applies, IsFew, Looks, SealsStore, Sees, ShowsWindow, is_plain_value}
+use Rattle.ss_store.proofs.Common.{leaves_no_value, StagesEvent, StandsForEither, verdict_of_apply, verdict_of_opening, ends_held, SameButSpare, StoreState}
+use Rattle.ss_store.proofs.Common.{is_of_landmark, part_named, ApplyError, Recovers, Stands, IsShort, StandsShort, survey_of}
+use Rattle.std.specs.Prelude.{Option, flat_map}
 use Rattle.ss_outside.specs.Verdict as verdicts
-use Rattle.ss_outside.specs.Verdict.{Verdict}
-use Rattle.ss_catalog.specs.Events.{event_name}
-use Rattle.ss_catalog.specs.declared.event.Event.{Event}
 use Rattle.ss_catalog.specs.declared.event.Event.TheVariants as events
-use Rattle.ss_catalog.specs.Params.{exp}
-use Rattle.ss_catalog.specs.declared.query.Query.{Query}
-use Rattle.ss_catalog.specs.declared.refusal.Refusal.{Refusal}
 use Rattle.ss_catalog.specs.declared.refusal.Refusal.TheVariants as refusal
-use Rattle.ss_line.specs.declared.entry.At.{At}
-use Rattle.ss_summary.specs.Filters.{full}
-use Rattle.ss_model.specs.History.{Happened, added}
 use Rattle.ss_model.specs.Answers.{IsExactOutcome, split_by}
-use Rattle.ss_model.specs.Decay.{IsReadWithinTarget, cover, steps_met}
 use Rattle.ss_model.specs.Refusals.{refuses}
-use Rattle.ss_model.specs.State.{Stream, state, stream_named, stream_numbered, values_in}
-use Rattle.ss_model.specs.declared.outcome.Outcome.{Outcome}
-use Rattle.ss_model.specs.declared.types.Ack.{Ack}
-use Rattle.ss_model.specs.declared.types.Placed.{Placed}
-use Rattle.ss_query.specs.Answered.{window_slots_of}
-use Rattle.ss_query.specs.Asked.{seen_of}
-use Rattle.ss_query.specs.declared.asking.Seen.{Seen}
-use Rattle.ss_records.specs.Kept.{RecordsState, shown_by}
-use Rattle.ss_recover.specs.Held.{entries_of, slots_held}
-use Rattle.ss_recover.specs.declared.parts.StreamParts.{StreamParts}
-use Rattle.ss_target.specs.Lengths.{lengths_of}
-use Rattle.ss_target.specs.Rule.{rule_of}
-use Rattle.ss_target.specs.Targets.{params_of}
-use Rattle.ss_store.specs.Applied.{Answers, Applies, IsFew, Looks, SealsStore, Sees, ShowsWindow, is_plain_value, leaves_no_value}
-use Rattle.ss_store.specs.Calls.{StagesEvent, StandsForEither}
-use Rattle.ss_store.specs.Errors.{stopped_after, verdict_of_apply, verdict_of_opening}
-use Rattle.ss_store.specs.Held.{ends_held}
-use Rattle.ss_store.specs.Kept.{SameButSpare, StoreState, is_of_landmark, part_named}
-use Rattle.ss_store.specs.declared.error.ApplyError.{ApplyError}
-use Rattle.ss_store.specs.Recover.{Recovers, Stands}
-use Rattle.ss_store.specs.Uses.{IsShort, StandsShort}
-use Rattle.ss_store.specs.Surveyed.{survey_of}
+use Rattle.ss_model.specs.State.{state}
+use Rattle.ss_store.specs.Errors.{stopped_after}
 use Rattle.ss_store.specs.declared.error.ApplyError.TheVariants as apply
 use Rattle.ss_store.specs.declared.error.OpenError.TheVariants as opening
 

@@ -1,13 +1,8 @@
 -- What calls in a row make of what a disk stands for, also in a crash. In each lemma the disks are plain values: a caller
 -- strips the premise that the disk tells.
-use Rattle.std.proofs.Common.{List, Ok, Result, subst, sym, ℕ}
-use Rattle.std.proofs.lemmas.Result.{on_ok_weaker}
-use Rattle.std.specs.Prelude.{IsErr}
-use Rattle.ss_outside.proofs.CrashLemmas.{joined, of_content, read_leaves, reads-none, nothing_pending-same, weaker}
-use Rattle.ss_outside.specs.Crash.{KnowsNow, OnlyReads}
-use Rattle.ss_outside.specs.Disk.{NothingPending, Told}
-use Rattle.ss_journal.proofs.TearLemmas.{on_err, on_ok}
-use Rattle.ss_store.specs.Calls.{Turns}
+use Rattle.ss_store.proofs.Common.{List, Ok, Result, subst, sym, ℕ, on_ok_weaker, IsErr, of_content, read_leaves, reads-none, nothing_pending-same, weaker}
+use Rattle.ss_store.proofs.Common.{KnowsNow, OnlyReads, NothingPending, Told, on_err, on_ok, Turns}
+use Rattle.ss_outside.proofs.CrashLemmas.{joined}
 
 -- Two calls in a row, of which the first answered Ok. A crash leaves what one in either of them leaves.
 pub Turns-then : {S F T E : Type 0} (P M Q N R L : List ℕ → Type 0) (old mid new : Told) (value : S) (result : Result T E) →

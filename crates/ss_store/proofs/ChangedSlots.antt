@@ -1,22 +1,8 @@
 -- A slot that has changed where a window of a stream was read is that of a window of the stream.
-use Rattle.std.proofs.Common.{◌≡◌, ◌∙◌, ℕ, List, get_or, sym, ap, Some, Err}
-use Rattle.std.specs.Prelude.{IfSome, option_map, slice_get}
+use Rattle.ss_store.proofs.Common.{◌≡◌, ◌∙◌, ℕ, List, get_or, sym, ap, Some, Err, IfSome, option_map, slice_get, find_at, get_or_from_slice_get}
+use Rattle.ss_store.proofs.Common.{slice_get-get_or, slice_get-map, slice_get_within, IfChanged, StandsIn, entry_at, index_of, is_at, At, Entry, Newest}
+use Rattle.ss_store.proofs.Common.{Placed, window_slots_of, slice_get-entry, entries_of, StreamParts, verdict_of_ask, part_named, part_numbered, AskError}
 use Rattle.std.specs.List.{Contains}
-use Rattle.std.proofs.lemmas.List.Folds.{find_at}
-use Rattle.std.proofs.lemmas.Option.{get_or_from_slice_get, slice_get-get_or, slice_get-map, slice_get_within}
-use Rattle.ss_outside.specs.Verdict.{IfChanged}
-use Rattle.ss_line.specs.Line.{StandsIn, entry_at, index_of, is_at}
-use Rattle.ss_line.specs.declared.entry.At.{At}
-use Rattle.ss_line.specs.declared.entry.Entry.{Entry}
-use Rattle.ss_model.specs.declared.newest.Newest.{Newest}
-use Rattle.ss_model.specs.declared.types.Placed.{Placed}
-use Rattle.ss_query.specs.Answered.{window_slots_of}
-use Rattle.ss_query.proofs.Places.{slice_get-entry}
-use Rattle.ss_recover.specs.Held.{entries_of}
-use Rattle.ss_recover.specs.declared.parts.StreamParts.{StreamParts}
-use Rattle.ss_store.specs.Errors.{verdict_of_ask}
-use Rattle.ss_store.specs.Kept.{part_named, part_numbered}
-use Rattle.ss_store.specs.declared.error.AskError.{AskError}
 use Rattle.ss_store.specs.declared.error.AskError.TheVariants as ask
 
 -- a place that stands has an entry

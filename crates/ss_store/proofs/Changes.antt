@@ -1,26 +1,13 @@
 -- What a transaction of puts makes of the records in the slots of an image, and of the slots that are live.
-use Rattle.std.proofs.Common.{Bool, IsPermutation, IsTrue, List, Option, Some, [], ap, arith, cond, false, inl, inr, length, not, refl, set}
-use Rattle.std.proofs.Common.{suc, subst, sym, true, zero, ◌+◌, ◌∷◌, ◌<◌, ◌≡◌, ◌≢◌, ◌≤◌, ◌∙◌, ℕ}
+use Rattle.ss_store.proofs.Common.{Bool, IsPermutation, IsTrue, List, Option, Some, [], ap, arith, cond, false, inl, inr, length, not, refl, set, suc, subst}
+use Rattle.ss_store.proofs.Common.{sym, true, zero, ◌+◌, ◌∷◌, ◌<◌, ◌≡◌, ◌≢◌, ◌≤◌, ◌∙◌, ℕ, cases_Bool, cases_eq, cond-false, cond-true, cond_both, not-false}
+use Rattle.ss_store.proofs.Common.{nat_tests, IsPermutation-cons, IsPermutation-trans, max, nat_eq, nat_le, nat_lt, IsTxn, extent_after, slots_fit, SlotMap}
+use Rattle.ss_store.proofs.Common.{StandsFor, changed, MOST_SLOTS, Put, StandsFor-from, StandsFor-same, SameMap-refl, AreKept, RecordsState, shown_by}
+use Rattle.ss_store.proofs.Common.{are_zeros, is_live, live_after, is_valid, Record, IsRecord, occupied, IsPermutation-turn, occupied-freed, LiveSlotsGo}
+use Rattle.ss_store.proofs.Common.{live_slots, pair_put, record_put, zeros_put}
 use borrow.Author.Tests.{ltb-true, ltb-false}
-use Rattle.std.proofs.lemmas.Bool.{cases_Bool, cases_eq, cond-false, cond-true, cond_both, not-false}
-use Rattle.std.proofs.lemmas.Bool.Decides.{nat_tests}
-use Rattle.std.proofs.lemmas.List.Sorted.{IsPermutation-cons, IsPermutation-trans}
-use Rattle.std.specs.Prelude.{max, nat_eq, nat_le, nat_lt}
-use Rattle.ss_journal.specs.Puts.{IsTxn, extent_after, slots_fit}
-use Rattle.ss_journal.specs.Redo.{SlotMap, StandsFor, changed}
-use Rattle.ss_journal.specs.declared.format.TheConstants.{MOST_SLOTS}
-use Rattle.ss_journal.specs.declared.put.Put.{Put}
-use Rattle.ss_journal.proofs.RedoLemmas.{StandsFor-from, StandsFor-same}
-use Rattle.ss_journal.proofs.MapLemmas.{SameMap-refl}
-use Rattle.ss_records.specs.Kept.{AreKept, RecordsState, shown_by}
-use Rattle.ss_records.specs.Live.{are_zeros, is_live, live_after}
-use Rattle.ss_codec.specs.Record.{is_valid}
-use Rattle.ss_codec.specs.declared.record.Record.{Record}
 use Rattle.ss_codec.specs.declared.record.Record.TheVariants.{Free}
-use Rattle.ss_recover.specs.Held.{IsRecord, occupied}
-use Rattle.ss_recover.proofs.Permutations.{IsPermutation-turn}
-use Rattle.ss_recover.proofs.PutLemmas.{live-IsRecord, occupied-free, occupied-freed, occupied-replaced}
-use Rattle.ss_store.specs.Slots.{LiveSlotsGo, live_slots, pair_put, record_put, zeros_put}
+use Rattle.ss_recover.proofs.PutLemmas.{live-IsRecord, occupied-free, occupied-replaced}
 use Rattle.ss_store.proofs.LiveSlots.{AreTwoLive, IsOneLive-permutation, LiveSlotsGo-freed, LiveSlotsGo-taken, live_slots-freed_first, live_slots-kept_first}
 
 -- a put of a record that isn't free

@@ -1,28 +1,11 @@
 -- What clearing and settling say, at one answer each and field by field, where nothing else would tell if they said less.
-use Rattle.std.proofs.Common.{◌≡◌, ◌⊎◌, ℕ, List, [], ◌∷◌, ◌++◌, Err, IsPermutation, Ok, Option}
+use Rattle.ss_store.proofs.Common.{◌≡◌, ◌⊎◌, ℕ, List, [], ◌∷◌, ◌++◌, Err, IsPermutation, Ok, Option, LeavesOnly, OnlyReads, NothingPending, Told, SlotMap}
+use Rattle.ss_store.proofs.Common.{StandsFor, changed, Put, AreKept, RecordsState, shown_by, Record, closed_state, IsState, Stream, GoInTurn, AllAgree}
+use Rattle.ss_store.proofs.Common.{occupied, records_held, carried, carries, Parts, StreamParts, StandsLike, OpensAs, ClearsSlots, HasDoomed, StagesChange}
+use Rattle.ss_store.proofs.Common.{StagesClearing, HasRebuilt, HasRebuiltBeside, IsRebuilt, Recovers, SettlesAll, OpenError}
 use Rattle.std.specs.Prelude.{flat_map, map, zip}
-use Rattle.ss_outside.specs.Crash.{LeavesOnly, OnlyReads}
-use Rattle.ss_outside.specs.Disk.{NothingPending, Told}
-use Rattle.ss_journal.specs.Redo.{SlotMap, StandsFor, changed}
-use Rattle.ss_journal.specs.declared.put.Put.{Put}
-use Rattle.ss_records.specs.Kept.{AreKept, RecordsState, shown_by}
-use Rattle.ss_codec.specs.declared.record.Record.{Record}
-use Rattle.ss_model.specs.ClosedState.{closed_state}
-use Rattle.ss_model.specs.Standing.{IsState}
-use Rattle.ss_model.specs.State.{Stream}
 use Rattle.ss_query.specs.declared.read_error.ReadError.TheVariants as fault
-use Rattle.ss_recover.specs.Doomed.{GoInTurn}
-use Rattle.ss_recover.specs.Held.{AllAgree, occupied, records_held}
-use Rattle.ss_recover.specs.Parts.{carried, carries}
-use Rattle.ss_recover.specs.declared.parts.Parts.{Parts}
-use Rattle.ss_recover.specs.declared.parts.StreamParts.{StreamParts}
-use Rattle.ss_store.specs.Calls.{StandsLike}
-use Rattle.ss_store.specs.Causes.{OpensAs}
-use Rattle.ss_store.specs.Clearing.{ClearsSlots, HasDoomed, StagesChange, StagesClearing}
-use Rattle.ss_store.specs.Rebuilt.{HasRebuilt, HasRebuiltBeside, IsRebuilt, ReadsAll}
-use Rattle.ss_store.specs.Recover.{Recovers}
-use Rattle.ss_store.specs.Settling.{SettlesAll}
-use Rattle.ss_store.specs.declared.error.OpenError.{OpenError}
+use Rattle.ss_store.specs.Rebuilt.{ReadsAll}
 
 -- the slots of records
 abbrev slots_of : List (ℕ × Option Record) → List ℕ

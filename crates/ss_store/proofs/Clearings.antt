@@ -1,27 +1,12 @@
 -- The records of dropped streams are cleared: what each that goes leaves, and what the seal makes of it.
-use Rattle.std.proofs.Common.{◌≡◌, ◌∙◌, ℕ, suc, ◌<◌, ◌≤◌, List, [], ◌∷◌, ◌++◌, length, get_or, map, take, drop, ap, arith, refl, subst, sym}
-use Rattle.std.proofs.Common.{append_assoc, Bool, IsPermutation, Ok, Option, None, Some, Result}
+use Rattle.ss_store.proofs.Common.{◌≡◌, ◌∙◌, ℕ, suc, ◌<◌, ◌≤◌, List, [], ◌∷◌, ◌++◌, length, get_or, map, take, drop, ap, arith, refl, subst, sym}
+use Rattle.ss_store.proofs.Common.{append_assoc, Bool, IsPermutation, Ok, Option, None, Some, Result, length-map, on_ok_weaker, IsErr, OnOk, reads-none}
+use Rattle.ss_store.proofs.Common.{weaker, KnowsNow, Told, KeepsShown, IsSealed, SlotMap, StandsFor, changed, RecordsState, Record, closed_state, Stream}
+use Rattle.ss_store.proofs.Common.{occupied-freed, HasWholeSlots-StandsFor, TurnsShown, ClearsSlots, HasDoomed, StagesChange, StagesClearing, Recovers}
+use Rattle.ss_store.proofs.Common.{recovered_of, AreSomeLive, LiveSlotsGo, live_slots, zeros_put}
 use Rattle.std.proofs.Math.Seq.{drop-cons, take-suc}
-use Rattle.std.proofs.lemmas.List.{drop_all, get_or-map, length-map, take-append-drop}
-use Rattle.std.proofs.lemmas.Result.{on_ok_weaker}
-use Rattle.std.specs.Prelude.{IsErr, OnOk}
-use Rattle.ss_outside.proofs.CrashLemmas.{reads-none, weaker}
-use Rattle.ss_outside.specs.Crash.{KnowsNow}
-use Rattle.ss_outside.specs.Disk.{Told}
-use Rattle.ss_journal.specs.Calls.{KeepsShown}
-use Rattle.ss_journal.specs.Kept.{IsSealed}
-use Rattle.ss_journal.specs.Redo.{SlotMap, StandsFor, changed}
-use Rattle.ss_records.specs.Kept.{RecordsState}
-use Rattle.ss_codec.specs.declared.record.Record.{Record}
-use Rattle.ss_model.specs.ClosedState.{closed_state}
-use Rattle.ss_model.specs.State.{Stream}
+use Rattle.std.proofs.lemmas.List.{drop_all, get_or-map, take-append-drop}
 use Rattle.ss_recover.proofs.DroppedMaps.{carried-goes}
-use Rattle.ss_recover.proofs.PutLemmas.{occupied-freed}
-use Rattle.ss_recover.proofs.WholeSlots.{HasWholeSlots-StandsFor}
-use Rattle.ss_store.specs.Calls.{TurnsShown}
-use Rattle.ss_store.specs.Clearing.{ClearsSlots, HasDoomed, StagesChange, StagesClearing}
-use Rattle.ss_store.specs.Recover.{Recovers, recovered_of}
-use Rattle.ss_store.specs.Slots.{AreSomeLive, LiveSlotsGo, live_slots, zeros_put}
 use Rattle.ss_store.proofs.Among.{recover-StandsFor}
 use Rattle.ss_store.proofs.KeptStates.{Recovers-of_map}
 use Rattle.ss_store.proofs.ShownCalls.{IsOfMap, StaysOr, StaysOr-weaker, Turns-not_sealed, Turns-sealed, TurnsShown-failed, TurnsShown-reads, TurnsShown-then}

@@ -1,34 +1,15 @@
 -- Streams that are closed one after another, as they lie in an image.
-use Rattle.std.proofs.Common.{◌≡◌, ℕ, zero, suc, ◌<◌, ◌≤◌, List, [], ◌∷◌, length, flat_map, slice_get, slice_set, zip, refl, ap, sym, subst, ◌∙◌}
-use Rattle.std.proofs.Common.{arith, inl, inr, Option, Some, Result, Ok}
-use Rattle.std.specs.Prelude.{All, Contains, Err}
-use Rattle.std.proofs.lemmas.Bool.{cases_lt}
-use Rattle.std.proofs.lemmas.List.Elements.{All-head, All-tail, Contains-append_left, Contains-append_right}
-use Rattle.std.proofs.lemmas.Option.{none-some}
-use Rattle.ss_outside.specs.Crash.{KnowsNow}
-use Rattle.ss_outside.specs.Disk.{Told}
-use Rattle.ss_codec.specs.declared.record.Record.{Record}
-use Rattle.ss_model.specs.Closed.{closed}
-use Rattle.ss_model.specs.ClosedState.{closed_state, closed_stream}
-use Rattle.ss_target.specs.Rule.{rule_of}
-use Rattle.ss_model.specs.Standing.{IsState, IsStream}
-use Rattle.ss_model.specs.State.{Stream, values_in}
-use Rattle.ss_model.proofs.JoinLemmas.{JoinsDue-closed}
+use Rattle.ss_store.proofs.Common.{◌≡◌, ℕ, zero, suc, ◌<◌, ◌≤◌, List, [], ◌∷◌, length, flat_map, slice_set, zip, refl, ap, sym, subst, ◌∙◌, arith, inl, inr}
+use Rattle.ss_store.proofs.Common.{Option, Some, Result, Ok, All, Contains, cases_lt, All-head, All-tail, Contains-append_right, none-some, KnowsNow, Told}
+use Rattle.ss_store.proofs.Common.{Record, closed, closed_state, closed_stream, rule_of, IsState, IsStream, Stream, values_in, JoinsDue-closed}
+use Rattle.ss_store.proofs.Common.{IsStream-joined, AllAgree, records_held, StreamParts, ReadError, Turns, IsFirm, Verdict, ChangedIsHeld, window_slots_of}
+use Rattle.ss_store.proofs.Common.{verdict_of_read, IsPartlyJoined, IsHeldIn, Recovers, HasRecords}
+use Rattle.std.proofs.Common.{slice_get}
+use Rattle.std.specs.Prelude.{Err}
+use Rattle.std.proofs.lemmas.List.Elements.{Contains-append_left}
 use Rattle.ss_model.proofs.StandLemmas.{length-closed_le}
-use Rattle.ss_model.proofs.StreamLemmas.{IsStream-joined}
-use Rattle.ss_recover.specs.Held.{AllAgree, records_held}
-use Rattle.ss_recover.specs.declared.parts.StreamParts.{StreamParts}
-use Rattle.ss_query.specs.declared.read_error.ReadError.{ReadError}
-use Rattle.ss_store.specs.Calls.{Turns}
-use Rattle.ss_outside.specs.Verdict.{IsFirm, Verdict}
-use Rattle.ss_store.specs.Changing.{SomeChangedIsHeld, ChangedIsHeld}
-use Rattle.ss_query.specs.Answered.{window_slots_of}
-use Rattle.ss_query.specs.Reading.{verdict_of_read}
+use Rattle.ss_store.specs.Changing.{SomeChangedIsHeld}
 use Rattle.ss_query.specs.declared.read_error.ReadError.TheVariants as fault
-use Rattle.ss_store.specs.Held.{IsPartlyJoined}
-use Rattle.ss_query.specs.Held.{IsHeldIn}
-use Rattle.ss_store.specs.Recover.{Recovers}
-use Rattle.ss_query.specs.Slots.{HasRecords}
 use Rattle.ss_store.proofs.Among.{HasRecords-set, IsHeldIn-at, IsStream-at, Recovers-held, Recovers-partly, length-AllAgree, others_of}
 use Rattle.ss_store.proofs.Calls.{Turns-joined, Turns-same, Turns-weaker}
 use Rattle.ss_store.proofs.OneOfMany.{set-same, slice_get-within}

@@ -1,26 +1,10 @@
 -- Joins of a stream one after another, until none is due.
-use Rattle.std.proofs.Common.{◌≡◌, ◌∙◌, ℕ, List, refl, subst, Option, Ok, Result}
-use Rattle.std.proofs.lemmas.Result.{on_ok_weaker}
-use Rattle.ss_outside.specs.Crash.{KnowsNow, LeavesOnly}
-use Rattle.ss_outside.specs.Disk.{Told}
-use Rattle.ss_outside.proofs.CrashLemmas.{joined as run_joined, now, reads-none, weaker}
-use Rattle.ss_records.specs.Kept.{RecordsState, shown_by}
-use Rattle.ss_codec.specs.declared.record.Record.{Record}
-use Rattle.ss_target.specs.Targets.{params_of}
-use Rattle.ss_model.specs.Closed.{closed}
-use Rattle.ss_model.specs.ClosedState.{closed_stream}
-use Rattle.ss_model.specs.Joins.{JoinsDue}
-use Rattle.ss_target.specs.Rule.{rule_of}
-use Rattle.ss_model.specs.Standing.{IsStream}
-use Rattle.ss_model.specs.State.{Stream, values_in}
-use Rattle.ss_model.specs.declared.types.Window.{Window}
-use Rattle.ss_model.proofs.JoinLemmas.{JoinsDue-append, closed-only_end, taken-JoinsDue}
-use Rattle.ss_recover.specs.Held.{entries_of}
-use Rattle.ss_recover.specs.declared.parts.StreamParts.{StreamParts}
-use Rattle.ss_store.specs.Calls.{TurnsShown}
-use Rattle.ss_store.specs.Held.{IsPartlyJoined, IsSameStream, values_held, with_windows}
-use Rattle.ss_query.specs.Held.{IsHeldIn}
-use Rattle.ss_store.specs.Joining.{IsJoinedIn, NoEntriesAreDue}
+use Rattle.ss_store.proofs.Common.{◌≡◌, ◌∙◌, ℕ, List, refl, subst, Option, Ok, Result, on_ok_weaker, KnowsNow, LeavesOnly, Told, now, reads-none, weaker}
+use Rattle.ss_store.proofs.Common.{RecordsState, shown_by, Record, params_of, closed, closed_stream, JoinsDue, rule_of, IsStream, Stream, values_in, Window}
+use Rattle.ss_store.proofs.Common.{taken-JoinsDue, entries_of, StreamParts, TurnsShown, IsPartlyJoined, IsSameStream, values_held, with_windows, IsHeldIn}
+use Rattle.ss_store.proofs.Common.{IsJoinedIn, NoEntriesAreDue}
+use Rattle.ss_outside.proofs.CrashLemmas.{joined as run_joined}
+use Rattle.ss_model.proofs.JoinLemmas.{JoinsDue-append, closed-only_end}
 use Rattle.ss_store.proofs.ShownCalls.{StaysOr, StaysOr-later, TurnsShown-reads, TurnsShown-weaker}
 use Rattle.ss_store.proofs.Joinings.{IsJoinedIn-none}
 use Rattle.ss_store.proofs.Spans.{NoneIsDue-entries, values_held-windows}

@@ -1,12 +1,6 @@
 -- What calls that stage make of a disk, one after another, and at which cost. In each lemma the disks are plain values.
-use Rattle.std.proofs.Common.{◌≡◌, ◌+◌, ◌<◌, ◌≤◌, ℕ, Ok, Result, arith}
-use Rattle.std.specs.Prelude.{IsErr, OnOk, max}
-use Rattle.ss_outside.specs.Crash.{KnowsNow, OnlyReads}
-use Rattle.ss_outside.specs.Disk.{Told}
-use Rattle.ss_journal.specs.Calls.{KeepsShown, SyncsForRoom, entries_after}
-use Rattle.ss_journal.proofs.TearLemmas.{on_err, on_ok}
-use Rattle.ss_records.specs.Kept.{AreKept, RecordsState}
-use Rattle.ss_store.specs.Calls.{StagesAtCost}
+use Rattle.ss_store.proofs.Common.{◌≡◌, ◌+◌, ◌<◌, ◌≤◌, ℕ, Ok, Result, arith, IsErr, OnOk, max, KnowsNow, OnlyReads, Told, KeepsShown, SyncsForRoom}
+use Rattle.ss_store.proofs.Common.{entries_after, on_err, on_ok, AreKept, RecordsState, StagesAtCost}
 use Rattle.ss_store.proofs.Syncs.{SyncsToStage-answers, SyncsToStage-failed, SyncsToStage-no_room, SyncsToStage-none, SyncsToStage-reads}
 use Rattle.ss_store.proofs.Syncs.{SyncsToStage-staged, SyncsToStage-then}
 use Rattle.ss_store.proofs.Within.{StaysWithin-answers, StaysWithin-failed, StaysWithin-kept, StaysWithin-none, StaysWithin-reads}

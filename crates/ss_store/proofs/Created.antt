@@ -1,53 +1,24 @@
 -- A stream that is created: what is held then, and the records.
-use Rattle.std.proofs.Common.{◌≡◌, ℕ, ◌<◌, Bool, true, false, List, [], ◌∷◌, ◌++◌, length, map, flat_map, zip, refl, ap, sym, ◌∙◌, subst, arith, None}
-use Rattle.std.proofs.Common.{Some, Option, inl, inr, Result, IsPermutation}
-use Rattle.std.specs.Prelude.{nat_le, ◌==◌}
-use Rattle.std.specs.List.{list_any}
-use Rattle.std.specs.List.Sorted.{IsStrictlyIncreasing}
-use Rattle.std.proofs.lemmas.Bool.{or_parts, cases_Bool}
-use Rattle.std.proofs.lemmas.Bool.Decides.{nat_tests}
+use Rattle.ss_store.proofs.Common.{◌≡◌, ℕ, ◌<◌, Bool, true, false, List, [], ◌∷◌, ◌++◌, length, map, flat_map, zip, refl, ap, sym, ◌∙◌, subst, arith, None}
+use Rattle.ss_store.proofs.Common.{Some, Option, inl, inr, Result, IsPermutation, nat_le, ◌==◌, list_any, IsStrictlyIncreasing, cases_Bool, nat_tests}
+use Rattle.ss_store.proofs.Common.{append-nil, length_push, length-map, map-append, All-push, IsPermutation-append_comm, IsPermutation-trans, Told, same_name}
+use Rattle.ss_store.proofs.Common.{MOST_STREAMS, LAST_STREAM, Create, Params, StreamId, Record, New, AreKnown, LandmarksState, params_of, closed_state}
+use Rattle.ss_store.proofs.Common.{closed_stream, refuses, IsState, Stream, next_number, numbers_of, stepped, Ack, same_name-Decides, same_name-same}
+use Rattle.ss_store.proofs.Common.{same_name-swap, IsState-stepped, AllAgree, AreWhole, Agrees, EndByLast, RiseToLast, TileFrom, entries_of, records_held}
+use Rattle.ss_store.proofs.Common.{slots_held, StreamParts, IsSettled, AreKept, RecordsState, shown_by, IsNew, StepsState, said_of_held, IsSound, StoreIsIn}
+use Rattle.ss_store.proofs.Common.{StoreIsKept, StoreState, entry_of, has_all_numbers, numbers_held, part_named, Recovers, LiveSlotsGo, StagesRecord}
+use Rattle.ss_store.proofs.Common.{live_slots, HasRecords, HasRecords-permutation}
+use Rattle.std.proofs.lemmas.Bool.{or_parts}
 use Rattle.std.proofs.lemmas.Grind.{flat_map-append}
-use Rattle.std.proofs.lemmas.List.{append-nil, length_push, length-map, map-append}
-use Rattle.std.proofs.lemmas.List.Elements.{All-push}
 use Rattle.std.specs.Cmp.{IsEquivalence}
 use Rattle.std.proofs.lemmas.List.Folds.{find-append}
 use Rattle.std.proofs.lemmas.Map.Keys.{IsDistinct-push}
-use Rattle.std.proofs.lemmas.List.Sorted.{IsPermutation-append_comm, IsPermutation-trans}
-use Rattle.ss_outside.specs.Disk.{Told}
-use Rattle.ss_catalog.specs.Names.{same_name}
-use Rattle.ss_catalog.specs.declared.TheConstants.{MOST_STREAMS, LAST_STREAM}
-use Rattle.ss_catalog.specs.declared.event.Event.TheVariants.{Create}
-use Rattle.ss_catalog.specs.declared.params.Params.{Params}
-use Rattle.ss_catalog.specs.declared.stream_id.StreamId.{StreamId}
-use Rattle.ss_codec.specs.declared.record.Record.{Record}
 use Rattle.ss_codec.specs.declared.record.Record.TheVariants as records
-use Rattle.ss_summary.specs.Points.{New}
-use Rattle.ss_landmarks.specs.Landmarks.{AreKnown, LandmarksState}
-use Rattle.ss_target.specs.Targets.{params_of}
-use Rattle.ss_model.specs.ClosedState.{closed_state, closed_stream}
-use Rattle.ss_model.specs.Refusals.{refuses}
-use Rattle.ss_model.specs.Standing.{IsState}
-use Rattle.ss_model.specs.State.{Stream, next_number, numbers_of}
-use Rattle.ss_model.specs.Steps.{stepped, stepped_from}
-use Rattle.ss_model.specs.declared.types.Ack.{Ack}
+use Rattle.ss_model.specs.Steps.{stepped_from}
 use Rattle.ss_model.proofs.FoundLemmas.{below_next, IsStrictlyIncreasing_push}
-use Rattle.ss_model.proofs.NameLemmas.{same_name-Decides, same_name-same, same_name-swap}
-use Rattle.ss_model.proofs.StandLemmas.{IsState-stepped}
-use Rattle.ss_recover.specs.Held.{AllAgree, AreWhole, Agrees, EndByLast, RiseToLast, TileFrom, entries_of, records_held, slots_held}
-use Rattle.ss_recover.specs.declared.parts.StreamParts.{StreamParts}
-use Rattle.ss_journal.specs.Kept.{IsSettled}
-use Rattle.ss_records.specs.Kept.{AreKept, RecordsState, shown_by}
-use Rattle.ss_store.specs.Admitted.{IsNew}
-use Rattle.ss_store.specs.Calls.{StepsState}
-use Rattle.ss_store.specs.Causes.{said_of_held}
-use Rattle.ss_store.specs.Kept.{IsSound, StoreIsIn, StoreIsKept, StoreState, entry_of, has_all_numbers, numbers_held, part_named}
-use Rattle.ss_store.specs.Recover.{Recovers}
-use Rattle.ss_store.specs.Slots.{LiveSlotsGo, StagesRecord, live_slots}
-use Rattle.ss_query.specs.Slots.{HasRecords}
 use Rattle.ss_store.proofs.Among.{Recovers-held, length-AllAgree}
 use Rattle.ss_store.proofs.KeptStates.{Recovers-StoreIsIn}
 use Rattle.ss_store.proofs.Named.{numbers-AllAgree}
-use Rattle.ss_query.proofs.Records.{HasRecords-permutation}
 use Rattle.ss_store.proofs.Stepping.{StepsState-turns}
 
 -- no landmarks, and no room for any

@@ -1,26 +1,10 @@
 -- A store in which a stream is created: what is known before the write, and what the store does then.
-use Rattle.std.proofs.Common.{◌≡◌, ◌∙◌, ◌∷◌, ◌++◌, ◌+◌, ◌≤◌, ℕ, Bool, true, false, List, [], flat_map, max, zip, ap, arith, refl, sym, subst}
-use Rattle.std.proofs.Common.{Err, None, Ok}
-use Rattle.ss_outside.specs.Disk.{DiskView, OfContent}
-use Rattle.ss_outside.specs.Step.{Step}
-use Rattle.ss_outside.specs.Verdict.{failed, fine}
-use Rattle.ss_outside.specs.declared.source.Failed.{Failed}
-use Rattle.ss_journal.proofs.StepLemmas.{step-from}
-use Rattle.ss_catalog.specs.declared.event.Event.TheVariants.{Create}
-use Rattle.ss_catalog.specs.declared.params.Params.{Params}
-use Rattle.ss_catalog.specs.declared.stream_id.StreamId.{StreamId}
+use Rattle.ss_store.proofs.Common.{◌≡◌, ◌∙◌, ◌∷◌, ◌++◌, ◌+◌, ◌≤◌, ℕ, Bool, true, false, List, [], flat_map, zip, ap, arith, refl, sym, subst, Err, None, Ok}
+use Rattle.ss_store.proofs.Common.{DiskView, OfContent, Step, failed, fine, Failed, step-from, Create, Params, StreamId, refuses, IsSettled, RecordsState}
+use Rattle.ss_store.proofs.Common.{shown_by, records_held, StreamParts, IsNew, Applies, StagesAtCost, IsSound, StoreIsIn, StoreIsKept, StoreState}
+use Rattle.ss_store.proofs.Common.{refuses_held, LiveSlotsGo, StagesRecord, Disk}
+use Rattle.std.proofs.Common.{max}
 use Rattle.ss_codec.specs.declared.record.Record.TheVariants as records
-use Rattle.ss_model.specs.Refusals.{refuses}
-use Rattle.ss_journal.specs.Kept.{IsSettled}
-use Rattle.ss_records.specs.Kept.{RecordsState, shown_by}
-use Rattle.ss_recover.specs.Held.{records_held}
-use Rattle.ss_recover.specs.declared.parts.StreamParts.{StreamParts}
-use Rattle.ss_store.specs.Admitted.{IsNew}
-use Rattle.ss_store.specs.Applied.{Applies}
-use Rattle.ss_store.specs.Calls.{StagesAtCost}
-use Rattle.ss_store.specs.Kept.{IsSound, StoreIsIn, StoreIsKept, StoreState, refuses_held}
-use Rattle.ss_store.specs.Slots.{LiveSlotsGo, StagesRecord}
-use Rattle.ss_store.specs.declared.error.ApplyError.TheVariants.{Disk}
 use Rattle.ss_query.specs.declared.read_error.ReadError.TheVariants as fault
 use Rattle.ss_store.proofs.Applying.{Applies-done, Applies-failed}
 use Rattle.ss_store.proofs.Created.{IsFreshPart, IsSound-created, StepsState-created, StoreIsKept-created, said_of_created}

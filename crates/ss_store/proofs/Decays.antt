@@ -1,17 +1,7 @@
 -- How many windows stand after an event, by what is replied to it.
-use Rattle.std.proofs.Common.{◌≡◌, ℕ, ◌+◌, ◌-◌, ◌*◌, ◌<◌, ◌≤◌, List, length, slice_set, sym, ◌∙◌, subst, Option}
-use Rattle.std.specs.Prelude.{IfSome}
-use Rattle.std.proofs.lemmas.List.{length-map}
-use Rattle.ss_catalog.specs.declared.stream_id.StreamId.{StreamId}
-use Rattle.ss_target.specs.Rule.{rule_of}
-use Rattle.ss_target.specs.Targets.{params_of}
-use Rattle.ss_model.specs.Decay.{cover, steps_met}
-use Rattle.ss_recover.specs.Held.{TileFrom, entries_of}
-use Rattle.ss_recover.specs.declared.parts.StreamParts.{StreamParts}
-use Rattle.ss_store.specs.Admitted.{IsTaker}
-use Rattle.ss_store.specs.Held.{ends_held, values_held}
-use Rattle.ss_store.specs.Joining.{NoEntriesAreDue}
-use Rattle.ss_store.specs.Kept.{IsSound, StoreState, part_named}
+use Rattle.ss_store.proofs.Common.{◌≡◌, ℕ, ◌+◌, ◌-◌, ◌*◌, ◌<◌, ◌≤◌, List, length, slice_set, sym, ◌∙◌, subst, Option, IfSome, length-map, StreamId, rule_of}
+use Rattle.ss_store.proofs.Common.{params_of, cover, steps_met, TileFrom, entries_of, StreamParts, IsTaker, ends_held, values_held, NoEntriesAreDue, IsSound}
+use Rattle.ss_store.proofs.Common.{StoreState, part_named}
 use Rattle.ss_store.proofs.Appended.{part_named-set}
 use Rattle.ss_store.proofs.FewWindows.{length-none_due}
 

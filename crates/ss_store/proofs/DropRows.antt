@@ -1,26 +1,12 @@
 -- What is said of a stream that is dropped, field by field and at one stream, where nothing else would tell if it said less.
-use Rattle.std.proofs.Common.{◌≡◌, ◌⊎◌, ℕ, true, false, List, [], ◌∷◌, ◌++◌, Err, IsPermutation, None, Ok, Option, Some, refl}
-use Rattle.std.specs.List.{list_any}
-use Rattle.ss_outside.specs.Crash.{LeavesOnly}
-use Rattle.ss_outside.specs.Disk.{NothingPending, Told}
-use Rattle.ss_journal.specs.Redo.{StandsFor}
+use Rattle.ss_store.proofs.Common.{◌≡◌, ◌⊎◌, ℕ, true, false, List, [], ◌∷◌, ◌++◌, Err, IsPermutation, None, Ok, Option, Some, refl, list_any, LeavesOnly}
+use Rattle.ss_store.proofs.Common.{NothingPending, Told, StandsFor, Record, closed_state, Stream, HasRecords, RecordsState, shown_by, is_of, records_beside}
+use Rattle.ss_store.proofs.Common.{without_numbered, Agrees, occupied, records_held, carried, carries, StreamParts, params_of, StandsLike, IsHeldBeside}
+use Rattle.ss_store.proofs.Common.{RecoversWithOrWithout, StagesDrop, dropped_record, slots_in_turn, Recovers}
 use Rattle.ss_catalog.specs.declared.event.Event.TheVariants as events
 use Rattle.ss_catalog.specs.declared.refusal.Refusal.TheVariants as refusal
-use Rattle.ss_codec.specs.declared.record.Record.{Record}
 use Rattle.ss_codec.specs.declared.record.Record.TheVariants as records
-use Rattle.ss_model.specs.ClosedState.{closed_state}
-use Rattle.ss_model.specs.State.{Stream}
-use Rattle.ss_query.specs.Slots.{HasRecords}
-use Rattle.ss_records.specs.Kept.{RecordsState, shown_by}
-use Rattle.ss_recover.specs.Doomed.{is_of, records_beside, without_numbered}
-use Rattle.ss_recover.specs.Held.{Agrees, occupied, records_held}
-use Rattle.ss_recover.specs.Parts.{carried, carries}
-use Rattle.ss_recover.specs.declared.parts.StreamParts.{StreamParts}
-use Rattle.ss_target.specs.Targets.{params_of}
-use Rattle.ss_store.specs.Calls.{StandsLike}
-use Rattle.ss_store.specs.Dropping.{IsHeldBeside, RecoversWithOrWithout, StagesDrop, dropped_record, slots_in_turn}
 use Rattle.ss_store.specs.Kept.{refuses_held}
-use Rattle.ss_store.specs.Recover.{Recovers}
 
 -- the slots of its landmarks come before those of their values, and its own comes last
 last-slot : (part : StreamParts) → part.line.entries ≡ [] → part.landmarks.slots ≡ 5 ∷ [] → part.landmarks.value_slots ≡ 3 ∷ 7 ∷ [] →

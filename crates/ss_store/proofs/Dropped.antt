@@ -1,53 +1,23 @@
 -- A store in which a stream is dropped: what is held then, and what the event does.
-use Rattle.std.proofs.Common.{◌≡◌, ◌∙◌, ℕ, zero, suc, ◌<◌, Bool, true, false, List, [], ◌∷◌, ◌++◌, length, map}
-use Rattle.std.proofs.Common.{flat_map, remove, slice_get, zip}
-use Rattle.std.proofs.Common.{refl, ap, sym, subst, arith, inl, inr, Err, Ok, None, Result, Some, IsPermutation, get_or}
-use Rattle.std.specs.Prelude.{◌==◌}
-use Rattle.std.specs.List.{AllByRecursion, IsDistinct, list_any}
-use Rattle.std.proofs.lemmas.Bool.{cases_eq, eq-eqb, ne_eqb}
-use Rattle.std.proofs.lemmas.List.{length-map}
+use Rattle.ss_store.proofs.Common.{◌≡◌, ◌∙◌, ℕ, zero, suc, ◌<◌, Bool, true, false, List, [], ◌∷◌, ◌++◌, length, map, flat_map, remove, zip, refl, ap, sym}
+use Rattle.ss_store.proofs.Common.{subst, arith, inl, inr, Err, Ok, None, Result, Some, IsPermutation, get_or, ◌==◌, AllByRecursion, IsDistinct, list_any}
+use Rattle.ss_store.proofs.Common.{cases_eq, eq-eqb, ne_eqb, length-map, IsPermutation-append_comm, IsPermutation-append_left, IsPermutation-trans}
+use Rattle.ss_store.proofs.Common.{get_or_from_slice_get, slice_get-map, slice_get_within, DiskView, OfContent, Told, Step, failed, fine, Failed, IsSettled}
+use Rattle.ss_store.proofs.Common.{step-from, same_name, Drop, StreamId, AreKnown, Entry, AreKept, RecordsState, shown_by, closed_state, closed_stream}
+use Rattle.ss_store.proofs.Common.{IsState, Stream, numbers_of, stepped, Ack, same_name-Decides, same_name-swap, HasRecords, is_of, records_beside}
+use Rattle.ss_store.proofs.Common.{without_numbered, AllAgree, AreWhole, EndByLast, RiseToLast, TileFrom, entries_of, mark_slots, occupied, records_held}
+use Rattle.ss_store.proofs.Common.{slots_held, StreamParts, all_weaker, HasWholeSlots-StandsFor, Applies, RecoversToEither, StepsState, said_of_held}
+use Rattle.ss_store.proofs.Common.{StagesAtCost, IsHeldBeside, RecoversWithOrWithout, StagesDrop, slots_in_turn, IsSound, StoreIsKept, StoreState, entry_of}
+use Rattle.ss_store.proofs.Common.{part_named, refuses_held, Recovers, AreSomeLive, LiveSlotsGo, live_slots, Disk, carried-AreHeld}
+use Rattle.std.proofs.Common.{slice_get}
 use Rattle.std.proofs.lemmas.List.Edits.{length-remove}
-use Rattle.std.proofs.lemmas.List.Sorted.{IsPermutation-append_comm, IsPermutation-append_left, IsPermutation-trans}
-use Rattle.std.proofs.lemmas.Option.{get_or_from_slice_get, slice_get-map, slice_get_within}
-use Rattle.ss_outside.specs.Disk.{DiskView, OfContent, Told}
-use Rattle.ss_outside.specs.Step.{Step}
-use Rattle.ss_outside.specs.Verdict.{failed, fine}
-use Rattle.ss_outside.specs.declared.source.Failed.{Failed}
-use Rattle.ss_journal.specs.Kept.{IsSettled}
-use Rattle.ss_journal.proofs.StepLemmas.{step-from}
 use Rattle.ss_catalog.specs.Catalog.{without_name}
-use Rattle.ss_catalog.specs.Names.{same_name}
-use Rattle.ss_catalog.specs.declared.event.Event.TheVariants.{Drop}
-use Rattle.ss_catalog.specs.declared.stream_id.StreamId.{StreamId}
-use Rattle.ss_landmarks.specs.Landmarks.{AreKnown}
-use Rattle.ss_line.specs.declared.entry.Entry.{Entry}
-use Rattle.ss_records.specs.Kept.{AreKept, RecordsState, shown_by}
-use Rattle.ss_model.specs.ClosedState.{closed_state, closed_stream}
-use Rattle.ss_model.specs.Standing.{IsState}
-use Rattle.ss_model.specs.State.{Stream, numbers_of}
-use Rattle.ss_model.specs.Steps.{stepped, without_named, stepped_from}
-use Rattle.ss_model.specs.declared.types.Ack.{Ack}
+use Rattle.ss_model.specs.Steps.{without_named, stepped_from}
 use Rattle.ss_model.proofs.DropLemmas.{IsState-without, without_named-place, without_number-place}
-use Rattle.ss_model.proofs.NameLemmas.{same_name-Decides, same_name-swap}
-use Rattle.ss_query.specs.Slots.{HasRecords}
 use Rattle.ss_query.specs.declared.read_error.ReadError.TheVariants as fault
-use Rattle.ss_recover.specs.Doomed.{is_of, records_beside, without_numbered}
-use Rattle.ss_recover.specs.Held.{AllAgree, AreWhole, EndByLast, RiseToLast, TileFrom, entries_of, mark_slots, occupied, records_held, slots_held}
-use Rattle.ss_recover.specs.declared.parts.StreamParts.{StreamParts}
-use Rattle.ss_recover.proofs.Lists.{all_weaker, map-all}
-use Rattle.ss_recover.proofs.WholeSlots.{HasWholeSlots-StandsFor}
-use Rattle.ss_store.specs.Applied.{Applies}
-use Rattle.ss_store.specs.Calls.{RecoversToEither, StepsState}
-use Rattle.ss_store.specs.Causes.{said_of_held}
-use Rattle.ss_store.specs.Calls.{StagesAtCost}
-use Rattle.ss_store.specs.Dropping.{IsHeldBeside, RecoversWithOrWithout, StagesDrop, slots_in_turn}
-use Rattle.ss_store.specs.Kept.{IsSound, StoreIsKept, StoreState, entry_of, part_named, refuses_held}
-use Rattle.ss_store.specs.Recover.{Recovers}
-use Rattle.ss_store.specs.Slots.{AreSomeLive, LiveSlotsGo, live_slots}
-use Rattle.ss_store.specs.declared.error.ApplyError.TheVariants.{Disk}
+use Rattle.ss_recover.proofs.Lists.{map-all}
 use Rattle.ss_store.proofs.Among.{Agrees-both, Recovers-held, length-AllAgree, others_of}
 use Rattle.ss_store.proofs.Applying.{Applies-done, Applies-failed}
-use Rattle.ss_recover.proofs.HeldLemmas.{carried-AreHeld}
 use Rattle.ss_store.proofs.DroppedRecords.{none-of-all}
 use Rattle.ss_store.proofs.KeptStates.{Recovers-StoreIsIn}
 use Rattle.ss_store.proofs.Named.{IsAtPlace, IsPair-at}

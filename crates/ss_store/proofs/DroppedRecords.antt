@@ -1,29 +1,17 @@
 -- The records of one stream beside others: they go in turn once it was dropped, its own last, and none of the others has its number.
-use Rattle.std.proofs.Common.{◌≡◌, ◌∙◌, ℕ, ◌+◌, Bool, true, false, List, [], ◌∷◌, ◌++◌, length, map, flat_map, zip, refl, ap, ap₂, sym}
-use Rattle.std.proofs.Common.{Option, Some}
-use Rattle.std.specs.Prelude.{◌==◌, ◌||◌}
-use Rattle.std.specs.List.{AllByRecursion, list_any}
-use Rattle.std.specs.Option.{option_map_or}
-use Rattle.std.proofs.lemmas.Bool.{eq-eqb}
-use Rattle.std.proofs.lemmas.List.{append_assoc, length-map, map-append}
+use Rattle.ss_store.proofs.Common.{◌≡◌, ◌∙◌, ℕ, ◌+◌, Bool, true, false, List, [], ◌∷◌, ◌++◌, length, map, flat_map, zip, refl, ap, ap₂, sym, Option, Some}
+use Rattle.ss_store.proofs.Common.{◌==◌, ◌||◌, AllByRecursion, list_any, option_map_or, eq-eqb, length-map, map-append, list_any-append, Record, Landmark}
+use Rattle.ss_store.proofs.Common.{LandmarkValue, all_values, Entry, Stream, Window, GoInTurn, is_of, records_beside, Agrees, all_value_records, entries_of}
+use Rattle.ss_store.proofs.Common.{in_slots, landmark_records, marks_held, records_held, span_held, span_of, value_records, window_record, StreamParts}
+use Rattle.ss_store.proofs.Common.{length-all_value_records, length-landmark_records, slots_in_turn}
+use Rattle.std.proofs.lemmas.List.{append_assoc}
 use Rattle.std.proofs.lemmas.List.Concat.{flat_map-cons}
 use Rattle.std.proofs.lemmas.List.Elements.{filter_map-append}
-use Rattle.std.proofs.lemmas.List.Folds.{list_any-append}
 use Rattle.std.proofs.lemmas.Slice.Zip.{firsts-zip}
-use Rattle.ss_codec.specs.declared.record.Record.{Record}
 use Rattle.ss_codec.specs.declared.record.Record.TheVariants as records
-use Rattle.ss_landmarks.specs.Landmark.{Landmark, LandmarkValue, all_values}
-use Rattle.ss_line.specs.declared.entry.Entry.{Entry}
-use Rattle.ss_model.specs.State.{Stream}
-use Rattle.ss_model.specs.declared.types.Window.{Window}
 use Rattle.ss_recover.specs.Carried.{is_drop_of, is_dropped}
-use Rattle.ss_recover.specs.Doomed.{GoInTurn, is_of, may_go, records_beside}
-use Rattle.ss_recover.specs.Held.{Agrees, all_value_records, entries_of, in_slots, landmark_records, marks_held, records_held, span_held, span_of}
-use Rattle.ss_recover.specs.Held.{value_records, window_record}
-use Rattle.ss_recover.specs.declared.parts.StreamParts.{StreamParts}
+use Rattle.ss_recover.specs.Doomed.{may_go}
 use Rattle.ss_recover.proofs.Lists.{all_append}
-use Rattle.ss_recover.proofs.Marks.{length-all_value_records, length-landmark_records}
-use Rattle.ss_store.specs.Dropping.{slots_in_turn}
 
 -- a record of the stream of a number, other than its own
 pub record IsBesideOwn (number : ℕ) (r : Record) : Type 0 where

@@ -1,32 +1,11 @@
 -- What a call does that stages the drop of a stream, transaction by transaction.
-use Rattle.std.proofs.Common.{◌≡◌, ◌∙◌, ℕ, Bool, true, List, [], ◌∷◌, ◌++◌, map, refl, ap, subst}
-use Rattle.std.proofs.Common.{inl, inr, IsPermutation, None, Ok, Option, Result, Some}
-use Rattle.std.specs.Prelude.{IsErr}
-use Rattle.std.proofs.lemmas.List.Sorted.{IsPermutation-append_comm, IsPermutation-append_left, IsPermutation-sym, IsPermutation-trans}
-use Rattle.std.proofs.lemmas.Result.{on_ok_weaker}
-use Rattle.ss_outside.proofs.CrashLemmas.{weaker}
-use Rattle.ss_outside.specs.Crash.{KnowsNow}
-use Rattle.ss_outside.specs.Disk.{Told}
-use Rattle.ss_journal.specs.Redo.{SlotMap, StandsFor, changed, zeros}
-use Rattle.ss_journal.specs.declared.put.Put.{Put}
-use Rattle.ss_records.specs.Kept.{RecordsState, shown_by}
-use Rattle.ss_codec.specs.Record.{is_valid}
-use Rattle.ss_codec.specs.declared.record.Record.{Record}
+use Rattle.ss_store.proofs.Common.{◌≡◌, ◌∙◌, ℕ, Bool, true, List, [], ◌∷◌, ◌++◌, map, refl, ap, subst, inl, inr, IsPermutation, None, Ok, Option, Result}
+use Rattle.ss_store.proofs.Common.{Some, IsErr, IsPermutation-append_comm, IsPermutation-append_left, IsPermutation-sym, IsPermutation-trans, on_ok_weaker}
+use Rattle.ss_store.proofs.Common.{weaker, KnowsNow, Told, SlotMap, StandsFor, changed, zeros, Put, RecordsState, shown_by, is_valid, Record, Entry}
+use Rattle.ss_store.proofs.Common.{closed_state, Stream, HasRecords, without_numbered, Agrees, IsRecord, entries_of, mark_slots, occupied, stream_record}
+use Rattle.ss_store.proofs.Common.{carried, carries, StreamParts, HasWholeSlots-StandsFor, TurnsShown, HasDoomed, StagesChange, StagesClearing, IsHeldBeside}
+use Rattle.ss_store.proofs.Common.{RecoversWithOrWithout, dropped_record, slots_in_turn, Recovers, recovered_of, AreSomeLive, live_slots, record_put}
 use Rattle.ss_codec.specs.declared.record.Record.TheVariants as records
-use Rattle.ss_line.specs.declared.entry.Entry.{Entry}
-use Rattle.ss_model.specs.ClosedState.{closed_state}
-use Rattle.ss_model.specs.State.{Stream}
-use Rattle.ss_query.specs.Slots.{HasRecords}
-use Rattle.ss_recover.specs.Doomed.{without_numbered}
-use Rattle.ss_recover.specs.Held.{Agrees, IsRecord, entries_of, mark_slots, occupied, stream_record}
-use Rattle.ss_recover.specs.Parts.{carried, carries}
-use Rattle.ss_recover.specs.declared.parts.StreamParts.{StreamParts}
-use Rattle.ss_recover.proofs.WholeSlots.{HasWholeSlots-StandsFor}
-use Rattle.ss_store.specs.Calls.{TurnsShown}
-use Rattle.ss_store.specs.Clearing.{HasDoomed, StagesChange, StagesClearing}
-use Rattle.ss_store.specs.Dropping.{IsHeldBeside, RecoversWithOrWithout, dropped_record, slots_in_turn}
-use Rattle.ss_store.specs.Recover.{Recovers, recovered_of}
-use Rattle.ss_store.specs.Slots.{AreSomeLive, live_slots, record_put}
 use Rattle.ss_store.proofs.Among.{recover-StandsFor}
 use Rattle.ss_recover.proofs.DroppedMaps.{carried-dropped}
 use Rattle.ss_store.proofs.Changes.{moves-replaced}

@@ -1,36 +1,26 @@
 -- How many events gave a stream what it has: as many as its history has of it after its last create.
-use Rattle.std.proofs.Common.{◌≡◌, ◌≢◌, ◌∙◌, ℕ, ℤ, ◌+◌, ◌<◌, true, false, List, [], ◌∷◌, ◌++◌, length, refl, ap, sym, arith, subst, None, Some, inl, inr, cond}
-use Rattle.std.specs.Prelude.{is_some, not, Option, MatchOption, All}
-use Rattle.std.specs.Option.{option_map_or}
-use Rattle.std.specs.List.{after_last, count_by}
-use Rattle.std.proofs.lemmas.Bool.{cases_Bool, not-false}
-use Rattle.std.proofs.lemmas.List.{append-nil, length_push}
-use Rattle.std.proofs.lemmas.List.Elements.{filter-append}
-use Rattle.std.proofs.lemmas.List.Sums.{sum_by-cons, sum_by_push}
-use Rattle.ss_catalog.specs.Events.{event_name}
-use Rattle.ss_catalog.specs.declared.event.Event.{Event}
-use Rattle.ss_catalog.specs.declared.event.Event.TheVariants.{Create, Value, Open, Close, Drop}
-use Rattle.ss_catalog.specs.declared.params.Params.{Params}
+use Rattle.ss_store.proofs.Common.{◌≡◌, ◌≢◌, ◌∙◌, ℕ, ℤ, ◌+◌, ◌<◌, true, false, List, [], ◌∷◌, ◌++◌, length, refl, ap, sym, arith, subst, None, Some, inl, inr}
+use Rattle.ss_store.proofs.Common.{cond, is_some, All, option_map_or, count_by, cases_Bool, not-false, append-nil, length_push, filter-append, sum_by-cons}
+use Rattle.ss_store.proofs.Common.{event_name, Event, Create, Value, Drop, Params, Landmark, LandmarkValue, all_values, change_last, closed_at, open_landmark}
+use Rattle.ss_store.proofs.Common.{opened_at, FollowFrom, cases-finish, all_values-close, all_values-open, all_values-take, Happened, events_of, landmarks_of}
+use Rattle.ss_store.proofs.Common.{has_open, with_closed, with_marked, with_opened, IsHistory, of_named, refuses, IsStream, Stream, stream_named}
+use Rattle.ss_store.proofs.Common.{IsState-state, same_name-Decides, same_name-same, All-state, CanAppend-refuses, state-push, is_closed, mark_events}
+use Rattle.std.specs.Prelude.{not, Option, MatchOption}
+use Rattle.std.specs.List.{after_last}
+use Rattle.std.proofs.lemmas.List.Sums.{sum_by_push}
+use Rattle.ss_catalog.specs.declared.event.Event.TheVariants.{Open, Close}
 use Rattle.ss_landmarks.specs.Landmark as landmark
-use Rattle.ss_landmarks.specs.Landmark.{Landmark, LandmarkValue, all_values, change_last, closed_at, open_landmark, opened_at}
-use Rattle.ss_landmarks.specs.Order.{FollowFrom}
-use Rattle.ss_landmarks.proofs.OrderLemmas.{cases-finish}
-use Rattle.ss_landmarks.proofs.TimeLemmas.{all_values-close, all_values-open, all_values-take}
 use Rattle.ss_summary.specs.Points.{Origin}
-use Rattle.ss_model.specs.History.{Given, Happened, creates, events_of, given_after, given_to, is_for, landmarks_of}
-use Rattle.ss_model.specs.Marks.{has_open, with_closed, with_marked, with_opened}
-use Rattle.ss_model.specs.Refusals.{IsHistory, of_named, refuses, stands}
-use Rattle.ss_model.specs.Standing.{IsStream}
-use Rattle.ss_model.specs.State.{Stream, state, stream_named}
+use Rattle.ss_model.specs.History.{Given, creates, given_after, given_to, is_for}
+use Rattle.ss_model.specs.Refusals.{stands}
+use Rattle.ss_model.specs.State.{state}
 use Rattle.ss_model.specs.Steps.{stepped_from}
 use Rattle.ss_model.proofs.DropLemmas.{stream_named-dropped}
 use Rattle.ss_model.proofs.EventLemmas.{after_last-push_no, after_last-push_yes, creates-no, given_to-created, given_to-event, given_to-other}
 use Rattle.ss_model.proofs.FoundLemmas.{All-around, found, stream_named-at}
-use Rattle.ss_model.proofs.HistoryLemmas.{GoesOn, GoesOn-push, IsState-state, by_pushes}
-use Rattle.ss_model.proofs.NameLemmas.{same_name-Decides, same_name-same}
-use Rattle.ss_model.proofs.ReadLemmas.{All-state, stream_named-stepped}
-use Rattle.ss_model.proofs.StepLemmas.{CanAppend-refuses, CanCloseAt-refuses, CanOpenAt-refuses, state-push}
-use Rattle.ss_store.specs.Events.{is_closed, mark_events}
+use Rattle.ss_model.proofs.HistoryLemmas.{GoesOn, GoesOn-push, by_pushes}
+use Rattle.ss_model.proofs.ReadLemmas.{stream_named-stepped}
+use Rattle.ss_model.proofs.StepLemmas.{CanCloseAt-refuses, CanOpenAt-refuses}
 
 -- ---- the events of a stream, with one more event
 

@@ -1,32 +1,15 @@
 -- How many events a stream has taken, by what is held of it.
-use Rattle.std.proofs.Common.{◌≡◌, ◌∙◌, ℕ, zero, suc, ◌+◌, ◌-◌, ◌*◌, ◌^◌, ◌≤◌, min, Bool, true, List, [], ◌∷◌, length, refl, ap, sym}
-use Rattle.std.proofs.Common.{arith, cond, inl, inr, subst, Some}
-use Rattle.std.specs.Prelude.{All, MatchOption, Option, is_some, slice_get, ◌==◌}
-use Rattle.std.specs.List.{count_by, find, position_or_len}
-use Rattle.std.proofs.lemmas.Bool.{cases_Bool}
-use Rattle.std.proofs.lemmas.List.Elements.{All-get_or}
-use Rattle.std.proofs.lemmas.List.Folds.{find_at}
-use Rattle.std.proofs.lemmas.List.Sums.{sum_by-cons}
-use Rattle.std.proofs.lemmas.Option.{get_or_from_slice_get, none-some, same_Some, slice_get_within}
-use Rattle.ss_catalog.specs.Names.{same_name}
-use Rattle.ss_landmarks.specs.Landmark.{Landmark, open_landmark}
+use Rattle.ss_store.proofs.Common.{◌≡◌, ◌∙◌, ℕ, zero, suc, ◌+◌, ◌-◌, ◌*◌, ◌≤◌, Bool, true, List, [], ◌∷◌, length, refl, ap, sym, arith, cond, inl, inr, subst}
+use Rattle.ss_store.proofs.Common.{Some, All, is_some, slice_get, ◌==◌, count_by, find, position_or_len, cases_Bool, All-get_or, find_at, sum_by-cons}
+use Rattle.ss_store.proofs.Common.{get_or_from_slice_get, none-some, same_Some, slice_get_within, same_name, Landmark, open_landmark, FollowFrom}
+use Rattle.ss_store.proofs.Common.{cases-finish, MOST_VALUES, Happened, events_of, landmarks_of, values_of, IsHistory, rule_of, Stream, state, values_in}
+use Rattle.ss_store.proofs.Common.{IsState-state, same_name-same, All-state, AllAgree, AreWhole, TileFrom, entries_of, StreamParts, events_held, is_closed}
+use Rattle.ss_store.proofs.Common.{mark_events, values_held, part_numbered}
+use Rattle.std.proofs.Common.{◌^◌, min}
+use Rattle.std.specs.Prelude.{MatchOption, Option}
 use Rattle.ss_landmarks.specs.declared.landmarks.TheConstants.{MOST_LANDMARK_SLOTS}
-use Rattle.ss_landmarks.specs.Order.{FollowFrom}
-use Rattle.ss_landmarks.proofs.OrderLemmas.{cases-finish}
-use Rattle.ss_windowing.specs.declared.decay.TheConstants.{MOST_VALUES}
-use Rattle.ss_model.specs.History.{Happened, events_of, landmarks_of, values_of}
-use Rattle.ss_model.specs.Refusals.{IsHistory, stands}
-use Rattle.ss_target.specs.Rule.{rule_of}
-use Rattle.ss_model.specs.State.{Stream, state, values_in}
-use Rattle.ss_model.proofs.HistoryLemmas.{IsState-state}
-use Rattle.ss_model.proofs.NameLemmas.{same_name-same}
-use Rattle.ss_model.proofs.ReadLemmas.{All-state}
+use Rattle.ss_model.specs.Refusals.{stands}
 use Rattle.ss_model.proofs.Stretches.{taken-windows}
-use Rattle.ss_recover.specs.Held.{AllAgree, AreWhole, TileFrom, entries_of}
-use Rattle.ss_recover.specs.declared.parts.StreamParts.{StreamParts}
-use Rattle.ss_store.specs.Events.{events_held, is_closed, mark_events}
-use Rattle.ss_store.specs.Held.{values_held}
-use Rattle.ss_store.specs.Kept.{part_numbered}
 use Rattle.ss_store.proofs.EventCounts.{counted-history}
 use Rattle.ss_store.proofs.HeldCounts.{values_held-Agrees}
 use Rattle.ss_store.proofs.KeyedWindows.{held-few}

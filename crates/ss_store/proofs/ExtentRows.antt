@@ -1,14 +1,9 @@
 -- How many slots are used, and how long a file is, where the laws leave no room.
-use Rattle.std.proofs.Common.{◌≡◌, ◌+◌, ◌<◌, ◌≤◌, ℕ, [], ◌∷◌, Ok, arith, false, length, refl}
-use Rattle.std.specs.Prelude.{replicate}
-use Rattle.ss_outside.specs.Disk.{Told}
-use Rattle.ss_journal.specs.Format.{is_born, is_unborn, slots_in}
-use Rattle.ss_journal.specs.Redo.{SlotMap, StandsFor, blank_map, redo, stands}
+use Rattle.ss_store.proofs.Common.{◌≡◌, ◌+◌, ◌<◌, ◌≤◌, ℕ, [], ◌∷◌, Ok, arith, false, length, refl, replicate, Told, slots_in, SlotMap, StandsFor, blank_map}
+use Rattle.ss_store.proofs.Common.{stands, OpensStore, AllGrowLittle, GrowsLittle, Plain, StoreState}
+use Rattle.ss_journal.specs.Format.{is_born, is_unborn}
+use Rattle.ss_journal.specs.Redo.{redo}
 use Rattle.ss_journal.specs.declared.phase.Phase.TheVariants.{Settled}
-use Rattle.ss_store.specs.Applied.{OpensStore}
-use Rattle.ss_store.specs.Extents.{AllGrowLittle, GrowsLittle}
-use Rattle.ss_journal.specs.declared.kind.Kind.TheVariants.{Plain}
-use Rattle.ss_store.specs.Kept.{StoreState}
 
 -- a store without a stream that uses so many slots
 abbrev using : ℕ → StoreState

@@ -1,28 +1,14 @@
 -- How many slots a file uses, and so how many bytes it has, over calls in a row.
-use Rattle.std.proofs.Common.{◌≡◌, ◌+◌, ◌*◌, ◌<◌, ◌≤◌, ℕ, List, [], ◌∷◌, Ok, ap, arith, length, refl, subst, sym}
-use Rattle.std.proofs.lemmas.Bool.{cond_both}
-use Rattle.std.specs.Prelude.{if◌then◌else◌, max, nat_eq}
-use Rattle.ss_outside.specs.Disk.{DiskView, Told}
+use Rattle.ss_store.proofs.Common.{◌≡◌, ◌+◌, ◌*◌, ◌<◌, ◌≤◌, ℕ, List, [], ◌∷◌, Ok, ap, arith, length, refl, subst, sym, cond_both, if◌then◌else◌, max, nat_eq}
+use Rattle.ss_store.proofs.Common.{DiskView, Told, Verdict, Event, HasSealed, entries, is_good, puts_of, is_born, is_unborn, slots_in, IsSealed, JournalState}
+use Rattle.ss_store.proofs.Common.{extent_after, SlotMap, StandsFor, bad_entry, blank_map, changed, not_a_store, stands, MOST_SLOTS, Put, Happened, live}
+use Rattle.ss_store.proofs.Common.{state, Ack, shown_by, Applies, Looks, OpensStore, AllGrowLittle, GrowsLittle, records_in, StoreIsKept, StoreState, Stands}
+use Rattle.ss_store.proofs.Common.{UsesAtMost}
 use Rattle.ss_outside.specs.Verdict as verdicts
-use Rattle.ss_outside.specs.Verdict.{OnFine, Verdict}
-use Rattle.ss_catalog.specs.declared.event.Event.{Event}
-use Rattle.ss_journal.specs.Calls.{HasSealed}
-use Rattle.ss_journal.specs.Entries.{entries, is_good, open_prefix, puts_of}
-use Rattle.ss_journal.specs.Format.{is_born, is_unborn, slots_in}
-use Rattle.ss_journal.specs.Kept.{IsSealed, JournalState}
-use Rattle.ss_journal.specs.Puts.{extent_after}
-use Rattle.ss_journal.specs.Redo.{Gives, SlotMap, StandsFor, bad_entry, blank_map, changed, file_map, not_a_store, redo, redo_entries, stands}
-use Rattle.ss_journal.specs.declared.format.TheConstants.{FIRST_SLOT, MOST_SLOTS, SLOT_SIZE}
-use Rattle.ss_journal.specs.declared.put.Put.{Put}
-use Rattle.ss_model.specs.History.{Happened}
-use Rattle.ss_model.specs.State.{live, state}
-use Rattle.ss_model.specs.declared.types.Ack.{Ack}
-use Rattle.ss_records.specs.Kept.{shown_by}
-use Rattle.ss_store.specs.Applied.{Applies, Looks, OpensStore}
-use Rattle.ss_store.specs.Extents.{AllGrowLittle, GrowsLittle, records_in}
-use Rattle.ss_store.specs.Kept.{StoreIsKept, StoreState}
-use Rattle.ss_store.specs.Recover.{Stands}
-use Rattle.ss_store.specs.Uses.{UsesAtMost}
+use Rattle.ss_outside.specs.Verdict.{OnFine}
+use Rattle.ss_journal.specs.Entries.{open_prefix}
+use Rattle.ss_journal.specs.Redo.{Gives, file_map, redo, redo_entries}
+use Rattle.ss_journal.specs.declared.format.TheConstants.{FIRST_SLOT, SLOT_SIZE}
 use Rattle.ss_store.proofs.KeptStates.{AllAgree-recovered}
 use Rattle.ss_store.proofs.LiveCounts.{length-slots}
 use Rattle.ss_store.proofs.Opens.{StandsFor-kept}

@@ -1,14 +1,13 @@
 -- How few windows stand where none is due, by the positions and the times of their entries.
-use Rattle.std.proofs.Common.{◌≡◌, ℕ, zero, suc, ◌+◌, ◌-◌, ◌*◌, ◌<◌, ◌≤◌, ◌==◌, inl, inr, false, cond, List, [], ◌∷◌, length, refl, arith}
-use Rattle.std.proofs.lemmas.Bool.{cases_Bool, cases_eq, cond_both, eq-eqb, eqb-false, ne_eqb}
-use Rattle.ss_windowing.specs.Windowing.{fits, window_index}
+use Rattle.ss_store.proofs.Common.{◌≡◌, ℕ, zero, suc, ◌+◌, ◌-◌, ◌*◌, ◌<◌, ◌≤◌, inl, inr, false, cond, List, [], ◌∷◌, length, refl, arith, cases_Bool}
+use Rattle.ss_store.proofs.Common.{cases_eq, cond_both, eq-eqb, ne_eqb, window_index, Entry, cover, steps_met, Rule, TileFrom, ends_held, values_held}
+use Rattle.ss_store.proofs.Common.{NoEntriesAreDue}
+use Rattle.std.proofs.Common.{◌==◌}
+use Rattle.std.proofs.lemmas.Bool.{eqb-false}
+use Rattle.ss_windowing.specs.Windowing.{fits}
 use Rattle.ss_windowing.proofs.WindowingLemmas.{window_index-monotone}
-use Rattle.ss_line.specs.declared.entry.Entry.{Entry}
-use Rattle.ss_model.specs.Decay.{cover, steps_after, steps_met}
-use Rattle.ss_target.specs.Rule.{Rule, in_step, step_of, without_step}
-use Rattle.ss_recover.specs.Held.{TileFrom}
-use Rattle.ss_store.specs.Held.{ends_held, values_held}
-use Rattle.ss_store.specs.Joining.{NoEntriesAreDue}
+use Rattle.ss_model.specs.Decay.{steps_after}
+use Rattle.ss_target.specs.Rule.{in_step, step_of, without_step}
 
 -- where two positions lie apart, the older has a greater index
 window_index-apart : (len : ℕ → ℕ) (l r n : ℕ) → l ≤ r → fits len l r n ≡ false → window_index len (n - r) < window_index len (n - l)

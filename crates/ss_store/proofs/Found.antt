@@ -1,11 +1,7 @@
 -- The stream at the place where it was found by its name.
-use Rattle.std.proofs.Common.{◌≡◌, ◌∙◌, ℕ, ◌<◌, List, get_or, length, refl, sym, ap, subst, None, Some}
+use Rattle.ss_store.proofs.Common.{◌≡◌, ◌∙◌, ℕ, ◌<◌, List, get_or, length, refl, sym, ap, subst, None, Some, same_Some, slice_get_read, StreamParts}
+use Rattle.ss_store.proofs.Common.{slots_in_turn, part_named, IsPlaceOf}
 use Rattle.std.specs.Prelude.{Option}
-use Rattle.std.proofs.lemmas.Option.{same_Some, slice_get_read}
-use Rattle.ss_recover.specs.declared.parts.StreamParts.{StreamParts}
-use Rattle.ss_store.specs.Dropping.{slots_in_turn}
-use Rattle.ss_store.specs.Kept.{part_named}
-use Rattle.ss_store.specs.Places.{IsPlaceOf}
 use Rattle.ss_store.proofs.Named.{IsAtPlace}
 
 -- none was found, so none is held

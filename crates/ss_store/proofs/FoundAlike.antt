@@ -1,22 +1,11 @@
 -- What a store holds, at a history for which its image stands: what is said of a stream, and the stream that is found.
-use Rattle.std.proofs.Common.{◌≡◌, ℕ, Bool, true, List, [], ◌∷◌, length, Option, Some, None, IfSome, refl, ap, sym, subst, inl, inr}
-use Rattle.std.specs.Prelude.{◌==◌, option_map}
-use Rattle.std.specs.List.{All, find}
-use Rattle.std.proofs.lemmas.Bool.{cases_Bool}
-use Rattle.std.proofs.lemmas.List.Elements.{All-head, All-tail}
-use Rattle.ss_catalog.specs.Names.{same_name}
-use Rattle.ss_catalog.specs.declared.event.Event.{Event}
-use Rattle.ss_catalog.specs.declared.stream_id.StreamId.{StreamId}
-use Rattle.ss_model.specs.History.{Happened}
-use Rattle.ss_model.specs.Refusals.{refuses}
-use Rattle.ss_model.specs.Standing.{IsStream}
-use Rattle.ss_model.specs.State.{Stream, state, stream_named, stream_numbered}
+use Rattle.ss_store.proofs.Common.{◌≡◌, ℕ, Bool, true, List, [], ◌∷◌, length, Option, Some, None, refl, ap, sym, subst, inl, inr, ◌==◌, option_map, find}
+use Rattle.ss_store.proofs.Common.{cases_Bool, All-head, All-tail, same_name, Event, StreamId, Happened, refuses, IsStream, Stream, state, stream_named}
+use Rattle.ss_store.proofs.Common.{stream_numbered, AllAgree, StreamParts, said_of_held, SomeAgree, StoreIsIn, StoreState, part_named, part_numbered}
+use Rattle.ss_store.proofs.Common.{refuses_held, Stands}
+use Rattle.std.proofs.Common.{IfSome}
+use Rattle.std.specs.List.{All}
 use Rattle.ss_model.specs.Steps.{ack_of, said_of}
-use Rattle.ss_recover.specs.Held.{AllAgree}
-use Rattle.ss_recover.specs.declared.parts.StreamParts.{StreamParts}
-use Rattle.ss_store.specs.Causes.{said_of_held}
-use Rattle.ss_store.specs.Kept.{SomeAgree, StoreIsIn, StoreState, part_named, part_numbered, refuses_held}
-use Rattle.ss_store.specs.Recover.{Stands}
 use Rattle.ss_store.proofs.Among.{length-AllAgree}
 use Rattle.ss_store.proofs.HeldCounts.{SomeAgree-named, SomeAgree-numbered, length-Agrees, values_held-Agrees}
 use Rattle.ss_store.proofs.KeptStates.{AllAgree-recovered}

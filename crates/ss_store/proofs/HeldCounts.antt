@@ -1,21 +1,8 @@
 -- Streams that are held are found, and counted, as the streams that they agree with.
-use Rattle.std.proofs.Common.{◌≡◌, ℕ, ◌+◌, ◌<◌, List, [], ◌∷◌, length, map, drop, get_or, refl, ap, sym, arith, inl, inr}
-use Rattle.std.specs.Prelude.{◌==◌}
-use Rattle.std.proofs.lemmas.Bool.{cases_Bool}
-use Rattle.std.proofs.lemmas.List.{length-map}
-use Rattle.std.proofs.lemmas.List.Sums.{sum_by-cons}
-use Rattle.ss_catalog.specs.Names.{same_name}
-use Rattle.ss_line.specs.declared.entry.Entry.{Entry}
-use Rattle.ss_model.specs.Closed.{last_position}
-use Rattle.ss_model.specs.Standing.{IsStream}
-use Rattle.ss_model.specs.State.{Stream, stream_named, stream_numbered, values_in}
+use Rattle.ss_store.proofs.Common.{◌≡◌, ℕ, ◌+◌, ◌<◌, List, [], ◌∷◌, length, map, drop, get_or, refl, ap, sym, arith, inl, inr, ◌==◌, cases_Bool, length-map}
+use Rattle.ss_store.proofs.Common.{sum_by-cons, same_name, Entry, last_position, IsStream, Stream, stream_named, stream_numbered, values_in, taken, Window}
+use Rattle.ss_store.proofs.Common.{Agrees, AllAgree, entries_of, span_held, span_of, StreamParts, values_held, SomeAgree, part_named, part_numbered}
 use Rattle.ss_model.specs.Tiling.{StandFrom}
-use Rattle.ss_model.specs.Windows.{taken}
-use Rattle.ss_model.specs.declared.types.Window.{Window}
-use Rattle.ss_recover.specs.Held.{Agrees, AllAgree, entries_of, span_held, span_of}
-use Rattle.ss_recover.specs.declared.parts.StreamParts.{StreamParts}
-use Rattle.ss_store.specs.Held.{values_held}
-use Rattle.ss_store.specs.Kept.{SomeAgree, part_named, part_numbered}
 
 -- the spans of the first, and of the rest
 first_span : (e : Entry) (es : List Entry) (w : Window) (ws : List Window) → map span_held (e ∷ es) ≡ map span_of (w ∷ ws) → e.last ≡ last_position w

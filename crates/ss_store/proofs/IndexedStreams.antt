@@ -1,11 +1,7 @@
 -- The streams of a store, each with its index.
-use Rattle.std.proofs.Common.{◌≡◌, ℕ, zero, suc, ◌<◌, ◌≤◌, List, [], ◌∷◌, ◌++◌, length, refl, sym, ap, subst, arith, get_or, Some}
-use Rattle.std.specs.Prelude.{slice_get, slice_set, ⊤}
-use Rattle.std.specs.List.{AllZip}
-use Rattle.std.proofs.lemmas.Option.{none-some, same_Some, slice_get_read}
-use Rattle.std.proofs.lemmas.Slice.Zip.{AllZip-long}
-use Rattle.ss_recover.specs.declared.parts.StreamParts.{StreamParts}
-use Rattle.ss_store.specs.Indexed.{IndexState, IsKeyedFor, IsScheduled}
+use Rattle.ss_store.proofs.Common.{◌≡◌, ℕ, zero, suc, ◌<◌, ◌≤◌, List, [], ◌∷◌, ◌++◌, length, refl, sym, ap, subst, arith, get_or, Some, slice_get, ⊤, AllZip}
+use Rattle.ss_store.proofs.Common.{none-some, same_Some, slice_get_read, AllZip-long, StreamParts, IndexState, IsKeyedFor, IsScheduled}
+use Rattle.std.specs.Prelude.{slice_set}
 use Rattle.ss_store.proofs.KeyedWindows.{IsScheduled-same}
 
 -- two lists whose items belong together, place by place: one place, one that changes, and one more

@@ -1,48 +1,17 @@
 -- A transaction that joins two neighbours, in which a crash may come.
-use Rattle.std.proofs.Common.{◌≡◌, ◌∙◌, ◌⊎◌, ⊎_elim, ℕ, ◌<◌, arith, ap, ap₂, map, Bool, List, [], ◌∷◌, ◌++◌, refl, sym, subst, Option, Some, None, Err, Ok}
-use Rattle.std.proofs.Common.{Result}
-use Rattle.std.specs.Prelude.{Contains, IsErr, IsTrue}
-use Rattle.std.proofs.lemmas.List.{map-append}
-use Rattle.std.proofs.lemmas.List.Elements.{Contains-append_right}
-use Rattle.std.proofs.lemmas.Result.{on_ok_weaker}
-use Rattle.std.proofs.lemmas.List.Sorted.{IsPermutation-sym}
-use Rattle.ss_outside.specs.Crash.{KnowsNow, OnlyReads}
-use Rattle.ss_outside.specs.Disk.{Told}
-use Rattle.ss_outside.proofs.CrashLemmas.{weaker}
-use Rattle.ss_journal.specs.Kept.{shown}
-use Rattle.ss_journal.proofs.TearLemmas.{on_err}
-use Rattle.ss_records.specs.Kept.{RecordsState, shown_by}
-use Rattle.ss_codec.specs.declared.record.Record.{Record}
+use Rattle.ss_store.proofs.Common.{◌≡◌, ◌∙◌, ◌⊎◌, ⊎_elim, ℕ, ◌<◌, arith, ap, ap₂, map, Bool, List, [], ◌∷◌, ◌++◌, refl, sym, subst, Option, Some, None, Err}
+use Rattle.ss_store.proofs.Common.{Ok, Result, Contains, IsErr, map-append, Contains-append_right, on_ok_weaker, IsPermutation-sym, KnowsNow, OnlyReads, Told}
+use Rattle.ss_store.proofs.Common.{weaker, shown, on_err, RecordsState, shown_by, Record, Landmark, At, Entry, Figures, joined, Rule, rule_of, params_of}
+use Rattle.ss_store.proofs.Common.{lies_free, Stream, Window, entries_of, records_held, slots_held, span_held, span_of, window_record, times_held, times_of}
+use Rattle.ss_store.proofs.Common.{StreamParts, TurnsShown, IsRead, verdict_of_read, IfChanged, IsFirm, ChangedIsHeld, window_slots_of, IsPartlyJoined}
+use Rattle.ss_store.proofs.Common.{values_held, with_windows, IsHeldIn, IsJoinedIn, AreSomeLive, LiveSlotsGo, HasRecords, ReadError, HasRecords-permutation}
+use Rattle.std.specs.Prelude.{IsTrue}
 use Rattle.ss_codec.specs.declared.record.Record.TheVariants as records
-use Rattle.ss_landmarks.specs.Landmark.{Landmark}
-use Rattle.ss_line.specs.declared.entry.At.{At}
-use Rattle.ss_line.specs.declared.entry.Entry.{Entry}
-use Rattle.ss_summary.specs.Figures.{Figures}
-use Rattle.ss_summary.specs.Summaries.{joined}
-use Rattle.ss_target.specs.Rule.{Rule, rule_of}
-use Rattle.ss_target.specs.Targets.{params_of}
-use Rattle.ss_model.specs.Marks.{lies_free}
-use Rattle.ss_model.specs.State.{Stream}
-use Rattle.ss_model.specs.declared.types.Window.{Window}
-use Rattle.ss_recover.specs.Held.{entries_of, records_held, slots_held, span_held, span_of, window_record}
-use Rattle.ss_recover.specs.Held.{times_held, times_of}
-use Rattle.ss_recover.specs.declared.parts.StreamParts.{StreamParts}
-use Rattle.ss_store.specs.Calls.{TurnsShown}
-use Rattle.ss_query.specs.Reading.{IsRead, verdict_of_read}
-use Rattle.ss_outside.specs.Verdict.{IfChanged, IsFirm}
-use Rattle.ss_store.specs.Changing.{ChangedIsHeld}
-use Rattle.ss_query.specs.Answered.{window_slots_of}
-use Rattle.ss_store.specs.Held.{IsPartlyJoined, values_held, with_windows}
-use Rattle.ss_query.specs.Held.{IsHeldIn}
-use Rattle.ss_store.specs.Joining.{IsJoinedIn}
-use Rattle.ss_store.specs.Slots.{AreSomeLive, LiveSlotsGo, StagesTwo}
-use Rattle.ss_query.specs.Slots.{HasRecords}
-use Rattle.ss_query.specs.declared.read_error.ReadError.{ReadError}
+use Rattle.ss_store.specs.Slots.{StagesTwo}
 use Rattle.ss_query.specs.declared.read_error.ReadError.TheVariants as fault
 use Rattle.ss_store.proofs.ShownCalls.{StaysOr, StaysOr-weaker, TurnsShown-failed, TurnsShown-reads, TurnsShown-then}
 use Rattle.ss_store.proofs.LiveSlots.{AreSomeLive-part, AreSomeLive-permutation, LiveSlotsGo-beside, LiveSlotsGo-permutation}
 use Rattle.ss_store.proofs.Pairs.{AreJoined, AreSlots, JoinsHeld, JoinsHeld-pair, SameButLine}
-use Rattle.ss_query.proofs.Records.{HasRecords-permutation}
 
 -- a stream of which nothing was joined
 pub IsPartlyJoined-none : (others : List (ℕ × Option Record)) (part : StreamParts) (s : Stream) (image : List ℕ) → IsHeldIn others part s image →

@@ -1,15 +1,9 @@
 -- What a store holds, and the state of an image that has its records. What an image recovers to is a property of its map.
-use Rattle.std.proofs.Common.{◌≡◌, ℕ, List, refl, sym, subst, ◌∙◌}
-use Rattle.ss_catalog.specs.declared.event.Event.{Event}
-use Rattle.ss_journal.specs.Redo.{Redone, SlotMap, StandsFor, redo, stands, not_a_store, bad_entry}
-use Rattle.ss_journal.proofs.MapLemmas.{SameMap-refl}
-use Rattle.ss_journal.proofs.RedoLemmas.{StandsFor-from}
-use Rattle.ss_model.specs.History.{Happened}
-use Rattle.ss_model.specs.Standing.{IsState}
-use Rattle.ss_model.specs.State.{Stream, state}
-use Rattle.ss_recover.specs.Held.{AllAgree}
-use Rattle.ss_store.specs.Kept.{StoreIsIn, StoreState}
-use Rattle.ss_store.specs.Recover.{Recovers, Stands, recover, recovered_from, recovers}
+use Rattle.ss_store.proofs.Common.{◌≡◌, ℕ, List, refl, sym, subst, ◌∙◌, Event, SlotMap, StandsFor, redo, stands, not_a_store, bad_entry, SameMap-refl}
+use Rattle.ss_store.proofs.Common.{StandsFor-from, Happened, IsState, Stream, state, AllAgree, StoreIsIn, StoreState, Recovers, Stands, recovered_from}
+use Rattle.ss_store.proofs.Common.{recovers}
+use Rattle.ss_journal.specs.Redo.{Redone}
+use Rattle.ss_store.specs.Recover.{recover}
 use Rattle.ss_store.proofs.Among.{Recovers-held, recover-StandsFor}
 use Rattle.ss_store.proofs.ShownCalls.{IsOfMap}
 

@@ -1,24 +1,12 @@
 -- What a index says of the windows of a stream, as a store holds them.
-use Rattle.std.proofs.Common.{◌≡◌, ◌∙◌, ℕ, zero, suc, ◌+◌, ◌<◌, ◌≤◌, List, [], ◌∷◌, ◌++◌, map, length, take, refl, sym, ap, subst, arith, All, get_or, None}
-use Rattle.std.proofs.lemmas.Bool.{eqb-true}
-use Rattle.std.proofs.lemmas.List.Elements.{All-get_or}
-use Rattle.std.proofs.lemmas.List.Sums.{passes_at_first}
-use Rattle.ss_windowing.specs.declared.decay.TheConstants.{MOST_VALUES}
-use Rattle.ss_line.specs.Line.{StandsIn, index_of, is_at, place_at}
-use Rattle.ss_line.specs.declared.entry.At.{At}
-use Rattle.ss_line.specs.declared.entry.Entry.{Entry}
-use Rattle.ss_target.specs.Rule.{Rule, rule_of}
-use Rattle.ss_target.specs.Targets.{params_of}
-use Rattle.ss_schedule.specs.Keyed.{TileUpTo, FollowUpTo, IsKeyed, ScheduleState}
-use Rattle.ss_schedule.specs.Pairs.{NoPairFits}
+use Rattle.ss_store.proofs.Common.{◌≡◌, ◌∙◌, ℕ, zero, suc, ◌+◌, ◌<◌, ◌≤◌, List, [], ◌∷◌, ◌++◌, map, length, take, refl, sym, ap, subst, arith, get_or, None}
+use Rattle.ss_store.proofs.Common.{eqb-true, All-get_or, passes_at_first, MOST_VALUES, StandsIn, index_of, is_at, place_at, At, Entry, Rule, rule_of}
+use Rattle.ss_store.proofs.Common.{params_of, IsKeyed, NoPairFits, TileFrom, entries_of, StreamParts, entries_in, NoneAreDue, values_held, AreDue}
+use Rattle.ss_store.proofs.Common.{NoEntriesAreDue, IndexState, IsReservedFor, IsScheduled, IsTimed, begun_at}
+use Rattle.std.proofs.Common.{All}
+use Rattle.ss_schedule.specs.Keyed.{TileUpTo, FollowUpTo, ScheduleState}
 use Rattle.ss_schedule.specs.declared.pair.Pair.{Pair}
-use Rattle.ss_recover.specs.Held.{TileFrom, entries_of}
-use Rattle.ss_recover.specs.declared.parts.StreamParts.{StreamParts}
-use Rattle.ss_query.proofs.Places.{entries_in}
-use Rattle.ss_store.specs.Changing.{NoneAreDue}
-use Rattle.ss_store.specs.Held.{values_held}
-use Rattle.ss_store.specs.Joining.{AreDue, NoEntriesAreDue}
-use Rattle.ss_store.specs.Indexed.{HasPlaces, IndexState, IsDuePair, IsReservedFor, IsScheduled, IsTimed, begun_at}
+use Rattle.ss_store.specs.Indexed.{HasPlaces, IsDuePair}
 use Rattle.ss_store.proofs.Spans.{last-held}
 
 -- no pair of a line may be one, by its places and without them

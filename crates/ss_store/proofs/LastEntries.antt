@@ -1,11 +1,7 @@
 -- The last entry of a line.
-use Rattle.std.proofs.Common.{◌≡◌, ◌∙◌, ◌≤◌, List, [], ◌∷◌, ◌++◌, length, sym, ap, count_by, Some}
-use Rattle.std.proofs.lemmas.List.{map-append}
-use Rattle.ss_line.specs.Line.{entry_at, is_at, place_at, place_before}
-use Rattle.ss_line.specs.declared.entry.At.{At}
-use Rattle.ss_line.specs.declared.entry.Entry.{Entry}
-use Rattle.ss_store.specs.Held.{values_held}
-use Rattle.ss_query.proofs.Places.{entries_in, read-once}
+use Rattle.ss_store.proofs.Common.{◌≡◌, ◌∙◌, ◌≤◌, List, [], ◌∷◌, ◌++◌, length, sym, ap, Some, map-append, entry_at, is_at, place_at, place_before, At, Entry}
+use Rattle.ss_store.proofs.Common.{values_held, entries_in, read-once}
+use Rattle.std.proofs.Common.{count_by}
 use Rattle.ss_store.proofs.Spans.{values_held-seam}
 
 last-place : (e : At × Entry) (es : List (At × Entry)) (at : At) → Some at ≡ place_at (e ∷ es) (length es) →

@@ -1,13 +1,8 @@
 -- The last place of a line, and the entry there.
-use Rattle.std.proofs.Common.{◌≡◌, ◌∙◌, ℕ, zero, suc, ◌+◌, ◌-◌, List, [], ◌∷◌, length, refl, sym, ap, arith, Option, Some, None}
-use Rattle.std.specs.Prelude.{option_map, slice_get}
-use Rattle.std.specs.List.{last_or}
-use Rattle.std.proofs.lemmas.Option.{none-some, same_Some, slice_get-map}
-use Rattle.ss_landmarks.proofs.PlaceLemmas.{last_or-slice_get}
-use Rattle.ss_line.specs.Line.{IsLine, LineState, entry_at, index_of, place_at, place_before}
-use Rattle.ss_line.specs.declared.entry.At.{At}
-use Rattle.ss_line.specs.declared.entry.Entry.{Entry}
-use Rattle.ss_query.proofs.Places.{index_of-next, slice_get-entry}
+use Rattle.ss_store.proofs.Common.{◌≡◌, ◌∙◌, ℕ, zero, suc, ◌+◌, ◌-◌, List, [], ◌∷◌, length, refl, sym, ap, arith, Option, Some, None, option_map, slice_get}
+use Rattle.ss_store.proofs.Common.{last_or, none-some, same_Some, slice_get-map, last_or-slice_get, LineState, entry_at, index_of, place_at, place_before, At}
+use Rattle.ss_store.proofs.Common.{Entry, index_of-next, slice_get-entry}
+use Rattle.ss_line.specs.Line.{IsLine}
 
 mapped-none : {X Y : Type 0} (f : X → Y) (o : Option X) → option_map f o ≡ None → o ≡ None
 mapped-none f None is = refl

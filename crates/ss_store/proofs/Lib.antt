@@ -1,3 +1,4 @@
+pub mod Common
 pub mod OneOfMany
 pub mod Removed
 pub mod DroppedRecords

@@ -1,25 +1,15 @@
 -- How many slots are live, and how many records the streams need.
-use Rattle.std.proofs.Common.{◌≡◌, ℕ, ◌+◌, ◌<◌, ◌≤◌, Bool, false, List, [], ◌∷◌, ◌++◌, length, map, flat_map, refl, ap, sym, ◌∙◌, arith, cond, None, Some}
-use Rattle.std.specs.Prelude.{nat_le, count_by, slice_get, Option, IfSome, IsNone, IsTrue, ◌↔◌}
-use Rattle.std.specs.List.{range_with_len}
-use Rattle.std.proofs.lemmas.Bool.Decides.{nat_tests}
-use Rattle.std.proofs.lemmas.List.{get_or_default, length-append, length-map, same_lists}
-use Rattle.std.proofs.lemmas.List.Concat.{length-flat_map}
+use Rattle.ss_store.proofs.Common.{◌≡◌, ℕ, ◌+◌, ◌<◌, ◌≤◌, Bool, false, List, [], ◌∷◌, ◌++◌, length, map, flat_map, refl, ap, sym, ◌∙◌, arith, cond, None}
+use Rattle.ss_store.proofs.Common.{Some, nat_le, slice_get, IfSome, IsNone, ◌↔◌, range_with_len, nat_tests, length-map, length-flat_map, length-flat_map-take}
+use Rattle.ss_store.proofs.Common.{sum_by-cons, get_or_from_slice_get, slice_get_within, MOST_SLOTS, all_values, is_live, Stream, live, records_of}
+use Rattle.ss_store.proofs.Common.{MOST_RECORDS, Agrees, AllAgree, AreWhole, AreWholeBeside, entries_of, mark_slots, slots_held, window_slots, StreamParts}
+use Rattle.ss_store.proofs.Common.{Entry, slots_in_turn, live_slots}
+use Rattle.std.specs.Prelude.{count_by, Option, IsTrue}
+use Rattle.std.proofs.lemmas.List.{get_or_default, length-append, same_lists}
 use Rattle.std.proofs.lemmas.List.FromFn.{get_or-map-range_with_len, length-map-range_with_len}
-use Rattle.std.proofs.lemmas.List.Folds.{length-flat_map-take}
 use Rattle.std.proofs.lemmas.List.Sorted.{length_permutation}
-use Rattle.std.proofs.lemmas.List.Sums.{length-filter, sum_by-cons}
-use Rattle.std.proofs.lemmas.Option.{get_or_from_slice_get, slice_get_within}
-use Rattle.ss_journal.specs.declared.format.TheConstants.{MOST_SLOTS}
-use Rattle.ss_landmarks.specs.Landmark.{all_values}
-use Rattle.ss_records.specs.Live.{is_live, live_count}
-use Rattle.ss_model.specs.State.{Stream, live, records_of}
-use Rattle.ss_model.specs.declared.types.TheConstants.{MOST_RECORDS}
-use Rattle.ss_recover.specs.Held.{Agrees, AllAgree, AreWhole, AreWholeBeside, entries_of, mark_slots, slots_held, window_slots}
-use Rattle.ss_recover.specs.declared.parts.StreamParts.{StreamParts}
-use Rattle.ss_line.specs.declared.entry.Entry.{Entry}
-use Rattle.ss_store.specs.Dropping.{slots_in_turn}
-use Rattle.ss_store.specs.Slots.{live_slots}
+use Rattle.std.proofs.lemmas.List.Sums.{length-filter}
+use Rattle.ss_records.specs.Live.{live_count}
 use Rattle.ss_store.proofs.HeldCounts.{length-Agrees}
 
 count_by-map : {X Y : Type 0} (p : Y → Bool) (f : X → Y) (xs : List X) → count_by (λ x. p (f x)) xs ≡ count_by p (map f xs)

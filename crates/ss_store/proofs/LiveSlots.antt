@@ -1,21 +1,19 @@
 -- The slots that are live, and where they go.
-use Rattle.std.proofs.Common.{Bool, IsPermutation, List, Some, [], append_assoc, ap, ap₂, arith, cond, false, filter, inl, inr, length, nat_eq, not}
-use Rattle.std.proofs.Common.{refl, set, suc, subst, sym, true, zero, ◌+◌, ◌++◌, ◌-◌, ◌∷◌, ◌<◌, ◌≡◌, ◌≢◌, ◌≤◌, ◌∙◌, ℕ}
-use Rattle.std.specs.Prelude.{sum_by}
-use Rattle.std.specs.List.{AllByRecursion, range_with_len}
-use Rattle.std.proofs.lemmas.Bool.{both_ways, cases_Bool, cases_eq, cond-false, cond-true, eq-eqb, ne_eqb, not-true}
-use Rattle.std.proofs.lemmas.Bool.Decides.{nat_tests}
+use Rattle.ss_store.proofs.Common.{Bool, IsPermutation, List, Some, [], append_assoc, ap, ap₂, arith, cond, false, filter, inl, inr, length, not, refl, set}
+use Rattle.ss_store.proofs.Common.{suc, subst, sym, true, zero, ◌+◌, ◌++◌, ◌-◌, ◌∷◌, ◌<◌, ◌≡◌, ◌≢◌, ◌≤◌, ◌∙◌, ℕ, sum_by, AllByRecursion, range_with_len}
+use Rattle.ss_store.proofs.Common.{both_ways, cases_Bool, cases_eq, cond-false, cond-true, eq-eqb, ne_eqb, nat_tests, length-set, filter-append}
+use Rattle.ss_store.proofs.Common.{recursion_from_All, All-permutation, IsPermutation-append_left, IsPermutation-cons, IsPermutation-middle}
+use Rattle.ss_store.proofs.Common.{IsPermutation-sym, IsPermutation-trans, sum_by-cons, is_live, all_weaker, IsPermutation-same, IsPermutation-turn}
+use Rattle.ss_store.proofs.Common.{AreSomeLive, LiveSlotsGo, live_slots}
+use Rattle.std.proofs.Common.{nat_eq}
+use Rattle.std.proofs.lemmas.Bool.{not-true}
 use Rattle.std.proofs.lemmas.List.Quantifiers.{position-Some}
-use Rattle.std.proofs.lemmas.List.{length-set}
-use Rattle.std.proofs.lemmas.List.Elements.{filter-append, filter_agree, filter_passes, recursion_from_All}
-use Rattle.std.proofs.lemmas.List.Sorted.{All-permutation, IsPermutation-append_left, IsPermutation-cons, IsPermutation-middle, IsPermutation-sym}
-use Rattle.std.proofs.lemmas.List.Sorted.{IsPermutation-trans, sum_by-IsPermutation}
-use Rattle.std.proofs.lemmas.List.Sums.{sum_by-cons}
-use Rattle.ss_records.specs.Live.{is_live, lowest_free}
+use Rattle.std.proofs.lemmas.List.Elements.{filter_agree, filter_passes}
+use Rattle.std.proofs.lemmas.List.Sorted.{sum_by-IsPermutation}
+use Rattle.ss_records.specs.Live.{lowest_free}
 use Rattle.ss_records.proofs.LiveLemmas.{is_live-below, is_live-set}
-use Rattle.ss_recover.proofs.Lists.{all_weaker, range-above, range-below, range_with_len-append}
-use Rattle.ss_recover.proofs.Permutations.{IsPermutation-filter, IsPermutation-same, IsPermutation-turn}
-use Rattle.ss_store.specs.Slots.{AreSomeLive, LiveSlotsGo, live_slots}
+use Rattle.ss_recover.proofs.Lists.{range-above, range-below, range_with_len-append}
+use Rattle.ss_recover.proofs.Permutations.{IsPermutation-filter}
 
 -- the order of slots says nothing
 pub AreSomeLive-permutation : (slots others : List ℕ) (live : List Bool) → IsPermutation slots others → AreSomeLive slots live → AreSomeLive others live

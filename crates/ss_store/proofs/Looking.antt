@@ -1,16 +1,8 @@
 -- A look at a store: the part that is read, and what a failure leaves.
-use Rattle.std.proofs.Common.{◌≡◌, ◌∙◌, ℕ, true, false, List, get_or, sym, ap, subst, Some, None, Err, IsTrue}
-use Rattle.std.specs.Prelude.{IsSome, Option, slice_get}
-use Rattle.ss_outside.specs.Disk.{DiskView}
-use Rattle.ss_outside.specs.Verdict.{IfChanged, IsFirm}
-use Rattle.ss_recover.specs.declared.parts.StreamParts.{StreamParts}
-use Rattle.ss_query.specs.Reading.{verdict_of_read}
-use Rattle.ss_query.specs.declared.read_error.ReadError.{ReadError}
+use Rattle.ss_store.proofs.Common.{◌≡◌, ◌∙◌, ℕ, true, false, List, get_or, sym, ap, subst, Some, None, Err, IsTrue, IsSome, slice_get, DiskView, IfChanged}
+use Rattle.ss_store.proofs.Common.{IsFirm, StreamParts, verdict_of_read, ReadError, Looks, ask_of_fault, verdict_of_ask, StoreState, part_numbered, AskError}
+use Rattle.std.specs.Prelude.{Option}
 use Rattle.ss_query.specs.declared.read_error.ReadError.TheVariants as error
-use Rattle.ss_store.specs.Applied.{Looks}
-use Rattle.ss_store.specs.Errors.{ask_of_fault, verdict_of_ask}
-use Rattle.ss_store.specs.Kept.{StoreState, part_numbered}
-use Rattle.ss_store.specs.declared.error.AskError.{AskError}
 use Rattle.ss_store.proofs.Appended.{part-read}
 
 -- what is read at the place of a stream that stands

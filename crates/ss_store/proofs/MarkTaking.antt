@@ -1,31 +1,11 @@
 -- A store in which the landmarks of a stream take a mark: what is known before the call, and what the store does then.
-use Rattle.std.proofs.Common.{◌≡◌, ◌∙◌, ℕ, ◌<◌, ◌≤◌, Bool, true, false, List, get_or, slice_set, length, map, ap, arith, refl, sym}
-use Rattle.std.proofs.Common.{subst, Err, None, Ok}
-use Rattle.ss_outside.specs.Disk.{DiskView, OfContent}
-use Rattle.ss_outside.specs.Step.{Step}
-use Rattle.ss_outside.specs.Verdict.{failed, fine}
-use Rattle.ss_outside.specs.declared.source.Failed.{Failed}
-use Rattle.ss_journal.proofs.StepLemmas.{step-from}
-use Rattle.ss_catalog.specs.declared.TheConstants.{LAST_TIME}
-use Rattle.ss_catalog.specs.declared.stream_id.StreamId.{StreamId}
-use Rattle.ss_catalog.specs.Events.{event_name}
-use Rattle.ss_journal.specs.declared.format.TheConstants.{MOST_SLOTS}
-use Rattle.ss_model.specs.History.{CanBeSaid}
-use Rattle.ss_landmarks.specs.Landmarks.{LandmarksState}
-use Rattle.ss_model.specs.Marks.{has_open}
-use Rattle.ss_records.specs.Kept.{RecordsState, shown_by}
-use Rattle.ss_recover.specs.Held.{entries_of, mark_slots, slots_held}
-use Rattle.ss_recover.specs.declared.parts.StreamParts.{StreamParts}
-use Rattle.ss_store.specs.Admitted.{IsMarker}
-use Rattle.ss_store.specs.Applied.{Applies, StandsOn, leaves_no_value, is_plain_value}
-use Rattle.ss_store.specs.Calls.{StagesAtCost}
-use Rattle.ss_store.specs.Changing.{CanTakeMark, HasRoomFor, HasSameWindows, HasTakenMark, KeepsWhole, TakesMark}
-use Rattle.ss_store.specs.Held.{IsOrdered, values_held}
-use Rattle.ss_store.specs.Kept.{IsSound, SameButSpare, StoreIsKept, StoreState, of_part, refuses_held, without_spare}
-use Rattle.ss_store.specs.Marking.{CanMark, FitsMark, IsInOpen, IsItsSlot, event_of, slots_used}
-use Rattle.ss_store.specs.Slots.{AreSomeLive}
-use Rattle.ss_store.specs.declared.error.ApplyError.TheVariants.{Disk}
-use Rattle.ss_store.specs.declared.marking.Mark.{Mark}
+use Rattle.ss_store.proofs.Common.{◌≡◌, ◌∙◌, ℕ, ◌<◌, ◌≤◌, Bool, true, false, List, get_or, slice_set, length, map, ap, arith, refl, sym, subst, Err, None, Ok}
+use Rattle.ss_store.proofs.Common.{DiskView, OfContent, Step, failed, fine, Failed, step-from, LAST_TIME, StreamId, event_name, MOST_SLOTS, CanBeSaid}
+use Rattle.ss_store.proofs.Common.{LandmarksState, has_open, RecordsState, shown_by, entries_of, mark_slots, slots_held, StreamParts, IsMarker, Applies}
+use Rattle.ss_store.proofs.Common.{StandsOn, leaves_no_value, is_plain_value, StagesAtCost, KeepsWhole, IsOrdered, values_held, IsSound, SameButSpare}
+use Rattle.ss_store.proofs.Common.{StoreIsKept, StoreState, of_part, refuses_held, without_spare, CanMark, FitsMark, IsInOpen, IsItsSlot, event_of}
+use Rattle.ss_store.proofs.Common.{slots_used, AreSomeLive, Disk, Mark}
+use Rattle.ss_store.specs.Changing.{CanTakeMark, HasRoomFor, HasSameWindows, HasTakenMark, TakesMark}
 use Rattle.ss_store.specs.declared.marking.Mark.TheVariants as marks
 use Rattle.ss_query.specs.declared.read_error.ReadError.TheVariants as fault
 use Rattle.ss_store.proofs.Among.{others_of}

@@ -1,37 +1,21 @@
 -- A stream whose landmarks take an event: what it is afterwards, and which records and slots it has.
-use Rattle.std.proofs.Common.{◌≡◌, ◌∙◌, ℕ, zero, suc, ℤ, ◌+◌, ◌≤◌, true, not, ◌&&◌, is_some, List, [], ◌∷◌, ◌++◌, length, map, max, zip, refl, ap, ap₂}
-use Rattle.std.proofs.Common.{sym, subst, arith, append-nil, append_assoc, length-append, IsPermutation, Option, None, Some, IsTrue}
-use Rattle.std.specs.Prelude.{⊤, slice_index}
-use Rattle.std.proofs.lemmas.List.Elements.{All-cons, All-head, All-nil, All-tail}
-use Rattle.std.proofs.lemmas.List.Sorted.{IsPermutation-append_left, IsPermutation-append_right, IsPermutation-middle, IsPermutation-sym}
-use Rattle.std.proofs.lemmas.List.Sorted.{IsPermutation-to_front, IsPermutation-trans}
-use Rattle.ss_catalog.specs.declared.TheConstants.{LAST_TIME}
-use Rattle.ss_catalog.specs.declared.stream_id.StreamId.{StreamId}
-use Rattle.ss_codec.specs.Record.{is_valid}
-use Rattle.ss_codec.specs.declared.record.Record.{Record}
+use Rattle.ss_store.proofs.Common.{◌≡◌, ◌∙◌, ℕ, zero, suc, ℤ, ◌+◌, ◌≤◌, true, not, ◌&&◌, List, [], ◌∷◌, ◌++◌, length, map, zip, refl, ap, ap₂, sym, subst}
+use Rattle.ss_store.proofs.Common.{arith, append_assoc, length-append, IsPermutation, Option, None, Some, IsTrue, ⊤, slice_index, All-cons, All-head, All-nil}
+use Rattle.ss_store.proofs.Common.{All-tail, IsPermutation-append_left, IsPermutation-append_right, IsPermutation-middle, IsPermutation-sym}
+use Rattle.ss_store.proofs.Common.{IsPermutation-to_front, IsPermutation-trans, LAST_TIME, StreamId, is_valid, Record, IsValue-is_valid, Landmark}
+use Rattle.ss_store.proofs.Common.{LandmarkValue, all_values, change_last, opened_at, with_value, AreKnown, AllEndBy, EndsBy, Entry, params_of, has_open}
+use Rattle.ss_store.proofs.Common.{later, latest_in, latest_of, with_marked, with_opened, is_before, is_early, is_opening, is_past, IsStream, Stream}
+use Rattle.ss_store.proofs.Common.{newest_time, Agrees, all_value_records, entries_of, in_slots, landmark_record, landmark_records, marks_held, span_held}
+use Rattle.ss_store.proofs.Common.{stream_record, times_held, value_records, window_record, window_slots, windows_held, StreamParts, latest_of-last}
+use Rattle.ss_store.proofs.Common.{length-all_value_records, length-landmark_records, IsPermutation-same, is_early_held, CanMark, landmarks_after}
+use Rattle.ss_store.proofs.Common.{mark_record, mark_refusal, slots_after, value_slots_after, values_open, with_mark, Mark, Open, Close}
+use Rattle.std.proofs.Common.{is_some, max}
+use Rattle.std.proofs.Common.{append-nil}
 use Rattle.ss_codec.specs.declared.record.Record.TheVariants as records
-use Rattle.ss_codec.proofs.RecordLemmas.{IsValue-is_valid}
-use Rattle.ss_landmarks.specs.Landmark.{Landmark, LandmarkValue, all_values, change_last, opened_at, with_value}
-use Rattle.ss_landmarks.specs.Landmarks.{AreKnown}
-use Rattle.ss_landmarks.specs.Order.{AllEndBy, EndsBy}
-use Rattle.ss_line.specs.declared.entry.Entry.{Entry}
-use Rattle.ss_target.specs.Targets.{params_of}
-use Rattle.ss_model.specs.Marks.{has_open, later, latest_in, latest_of, with_marked, with_opened}
-use Rattle.ss_model.specs.Refusals.{is_before, is_early, is_opening, is_past}
-use Rattle.ss_model.specs.Standing.{IsStream}
-use Rattle.ss_model.specs.State.{Stream}
-use Rattle.ss_model.specs.Windows.{newest_time}
 use Rattle.ss_model.proofs.StreamLemmas.{IsStream-closed, IsStream-marked, IsStream-opened, newest-past}
-use Rattle.ss_recover.specs.Held.{Agrees, all_value_records, entries_of, in_slots, landmark_record, landmark_records, marks_held, span_held}
-use Rattle.ss_recover.specs.Held.{stream_record, times_held, value_records, values_said, window_record, window_slots, windows_held}
-use Rattle.ss_recover.specs.declared.parts.StreamParts.{StreamParts}
-use Rattle.ss_recover.proofs.MarksSoFar.{latest_of-last}
-use Rattle.ss_recover.proofs.Marks.{all_value_records-append, landmark_records-append, length-all_value_records, length-landmark_records, value_records-append}
-use Rattle.ss_recover.proofs.Permutations.{IsPermutation-same}
-use Rattle.ss_store.specs.Kept.{is_early_held}
-use Rattle.ss_store.specs.Marking.{CanMark, landmarks_after, mark_record, mark_refusal, slots_after, value_slots_after, values_open, with_mark}
-use Rattle.ss_store.specs.declared.marking.Mark.{Mark}
-use Rattle.ss_store.specs.declared.marking.Mark.TheVariants.{Open, Value, Close}
+use Rattle.ss_recover.specs.Held.{values_said}
+use Rattle.ss_recover.proofs.Marks.{all_value_records-append, landmark_records-append, value_records-append}
+use Rattle.ss_store.specs.declared.marking.Mark.TheVariants.{Value}
 use Rattle.ss_store.proofs.OpenMarks.{AllEndBy-can, HasOpen, HasOpen-can, change-has, closes, count-has, later-last, latest_of-after, newest-open, one-passed}
 use Rattle.ss_store.proofs.OpenMarks.{open-has, takes, two-passed, values-has}
 

@@ -1,40 +1,22 @@
 -- A call that adds an event of landmarks: what it turns the disk into, and what is held after it.
-use Rattle.std.proofs.Common.{◌≡◌, ◌∙◌, ℕ, ℤ, ◌+◌, ◌-◌, ◌≤◌, Bool, List, [], ◌∷◌, ◌++◌, length, refl, ap, sym, subst, arith, length-append}
-use Rattle.std.proofs.Common.{IsPermutation, Option, None, Some, MatchOption, inl, inr, ⊎_elim, IsTrue, Result}
-use Rattle.std.specs.Prelude.{◌⊎◌, option_map, slice_index}
-use Rattle.std.proofs.lemmas.List.Sorted.{IsPermutation-refl, IsPermutation-sym}
-use Rattle.ss_outside.specs.Disk.{Told}
-use Rattle.ss_catalog.specs.declared.TheConstants.{LAST_TIME}
-use Rattle.ss_codec.specs.Record.{is_valid}
-use Rattle.ss_codec.specs.declared.record.Record.{Record}
+use Rattle.ss_store.proofs.Common.{◌≡◌, ◌∙◌, ℕ, ℤ, ◌+◌, ◌-◌, ◌≤◌, Bool, List, [], ◌∷◌, ◌++◌, length, refl, ap, sym, subst, arith, length-append}
+use Rattle.ss_store.proofs.Common.{IsPermutation, Option, None, Some, MatchOption, inl, inr, ⊎_elim, IsTrue, Result, option_map, slice_index}
+use Rattle.ss_store.proofs.Common.{IsPermutation-refl, IsPermutation-sym, Told, LAST_TIME, is_valid, Record, IsValue-is_valid, Landmark, LandmarkValue}
+use Rattle.ss_store.proofs.Common.{all_values, closed_at, open_landmark, opened_at, with_value, AreKnown, CanClose, all_values-close, all_values-open}
+use Rattle.ss_store.proofs.Common.{all_values-take, CanBeSaid, later, with_closed, IsStream, Stream, Agrees, all_value_records, in_slots, landmark_record}
+use Rattle.ss_store.proofs.Common.{landmark_records, mark_slots, marks_held, records_held, slots_held, window_slots, windows_held, StreamParts, RecordsState}
+use Rattle.ss_store.proofs.Common.{shown_by, TurnsShown, IsHeldIn, without_spare, CanMark, FitsMark, IsItsSlot, event_of, landmarks_after, mark_record}
+use Rattle.ss_store.proofs.Common.{mark_refusal, slots_after, value_slots_after, slots_used, values_open, with_mark, AreSomeLive, LiveSlotsGo, StagesRecord}
+use Rattle.ss_store.proofs.Common.{live_slots, HasRecords, Mark, Open, Close, HasRecords-permutation}
+use Rattle.std.specs.Prelude.{◌⊎◌}
 use Rattle.ss_codec.specs.declared.record.Record.TheVariants as records
-use Rattle.ss_codec.proofs.RecordLemmas.{IsValue-is_valid}
-use Rattle.ss_landmarks.specs.Landmark.{Landmark, LandmarkValue, all_values, closed_at, open_landmark, opened_at, with_value}
-use Rattle.ss_landmarks.specs.Landmarks.{AreKnown, opened}
-use Rattle.ss_landmarks.specs.Order.{CanClose}
+use Rattle.ss_landmarks.specs.Landmarks.{opened}
 use Rattle.ss_landmarks.proofs.OrderLemmas.{AreLandmarks-close, AreLandmarks-take, FollowFrom-open}
-use Rattle.ss_landmarks.proofs.TimeLemmas.{all_values-close, all_values-open, all_values-take}
-use Rattle.ss_model.specs.History.{CanBeSaid}
-use Rattle.ss_model.specs.Marks.{later, with_closed}
-use Rattle.ss_model.specs.Standing.{IsStream}
-use Rattle.ss_model.specs.State.{Stream}
-use Rattle.ss_recover.specs.Held.{Agrees, all_value_records, in_slots, landmark_record, landmark_records, mark_slots, marks_held, records_held}
-use Rattle.ss_recover.specs.Held.{slots_held, window_slots, windows_held}
-use Rattle.ss_recover.specs.declared.parts.StreamParts.{StreamParts}
-use Rattle.ss_records.specs.Kept.{RecordsState, shown_by}
-use Rattle.ss_store.specs.Calls.{TurnsShown}
-use Rattle.ss_query.specs.Held.{IsHeldIn}
-use Rattle.ss_store.specs.Kept.{without_spare}
-use Rattle.ss_store.specs.Marking.{CanMark, FitsMark, IsItsSlot, event_of, landmarks_after, mark_record, mark_refusal, slots_after}
-use Rattle.ss_store.specs.Marking.{value_slots_after, slots_used, values_open, with_mark}
-use Rattle.ss_store.specs.Slots.{AreSomeLive, LiveSlotsGo, StagesRecord, StagesReplaced, live_slots}
-use Rattle.ss_query.specs.Slots.{HasRecords}
-use Rattle.ss_store.specs.declared.marking.Mark.{Mark}
-use Rattle.ss_store.specs.declared.marking.Mark.TheVariants.{Open, Value, Close}
+use Rattle.ss_store.specs.Slots.{StagesReplaced}
+use Rattle.ss_store.specs.declared.marking.Mark.TheVariants.{Value}
 use Rattle.ss_store.proofs.ShownCalls.{TurnsShown-weaker}
 use Rattle.ss_store.proofs.LiveSlots.{AreSomeLive-permutation, LiveSlotsGo-beside, LiveSlotsGo-permutation}
 use Rattle.ss_store.proofs.OpenMarks.{HasOpen, HasOpen-can, change-has, closes, count-has, start-has, takes, values-has}
-use Rattle.ss_query.proofs.Records.{HasRecords-permutation}
 use Rattle.ss_store.proofs.Marked.{Agrees-mark, HaveSlots, IsAdding, IsMarked, IsStream-mark, last-slot, length-change_last, marks-added, marks-last}
 use Rattle.ss_store.proofs.Marked.{marks_after, marks_in, moved-beside, moved-in, pushed-first, pushed-second, same_window_slots, same_windows}
 

@@ -1,21 +1,12 @@
 -- What the catalog finds by a name, and what is held of it.
-use Rattle.std.proofs.Common.{◌≡◌, ℕ, Bool, List, [], ◌∷◌, map, refl, ap, sym, ◌∙◌, subst, None, Some, is_some, inl, inr}
-use Rattle.std.specs.Prelude.{slice_get, Option, option_map, IfSome, IsSome, ◌==◌, ◌||◌}
-use Rattle.std.specs.List.{position_or_len, list_any, find}
-use Rattle.std.specs.List.Sorted.{IsStrictlyIncreasing}
-use Rattle.std.proofs.lemmas.Bool.{cases_Bool}
-use Rattle.std.proofs.lemmas.List.{length-map}
-use Rattle.std.proofs.lemmas.List.Folds.{find_at}
+use Rattle.ss_store.proofs.Common.{◌≡◌, ℕ, Bool, List, [], ◌∷◌, map, refl, ap, sym, ◌∙◌, subst, None, Some, inl, inr, slice_get, option_map, IfSome, IsSome}
+use Rattle.ss_store.proofs.Common.{◌==◌, ◌||◌, position_or_len, list_any, find, IsStrictlyIncreasing, cases_Bool, length-map, find_at, same_name, LAST_STREAM}
+use Rattle.ss_store.proofs.Common.{StreamId, IsState, IsStream, Stream, numbers_of, stream_named, stream_numbered, AllAgree, Agrees, StreamParts, SomeAgree}
+use Rattle.ss_store.proofs.Common.{entry_of, has_all_numbers, numbers_held, part_named, part_numbered}
+use Rattle.std.proofs.Common.{is_some}
+use Rattle.std.specs.Prelude.{Option}
 use Rattle.ss_catalog.specs.Catalog.{id_of}
-use Rattle.ss_catalog.specs.Names.{same_name}
-use Rattle.ss_catalog.specs.declared.TheConstants.{LAST_STREAM}
-use Rattle.ss_catalog.specs.declared.stream_id.StreamId.{StreamId}
 use Rattle.ss_model.specs.Refusals.{stands, has_all_streams}
-use Rattle.ss_model.specs.Standing.{IsState, IsStream}
-use Rattle.ss_model.specs.State.{Stream, numbers_of, stream_named, stream_numbered}
-use Rattle.ss_recover.specs.Held.{AllAgree, Agrees}
-use Rattle.ss_recover.specs.declared.parts.StreamParts.{StreamParts}
-use Rattle.ss_store.specs.Kept.{SomeAgree, entry_of, has_all_numbers, numbers_held, part_named, part_numbered}
 use Rattle.ss_store.proofs.Among.{Agrees-at, IsStream-at}
 use Rattle.ss_store.proofs.HeldCounts.{SomeAgree-named}
 use Rattle.ss_store.proofs.PlaceLemmas.{part_numbered-at}

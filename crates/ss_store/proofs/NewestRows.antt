@@ -1,22 +1,13 @@
 -- Worked rows of where the newest value is held and of refused looks, each computed, and what looks tell.
-use Rattle.std.proofs.Common.{◌≡◌, ℕ, ◌+◌, ◌≤◌, true, false, List, [], ◌∷◌, ◌++◌, length, map, take, drop, refl, None, Some, Ok, pos}
-use Rattle.ss_outside.specs.Crash.{OnlyReads}
-use Rattle.ss_outside.specs.Disk.{Told}
+use Rattle.ss_store.proofs.Common.{◌≡◌, ℕ, ◌+◌, ◌≤◌, true, false, List, [], ◌∷◌, ◌++◌, length, map, take, drop, refl, None, Some, Ok, pos, OnlyReads, Told}
+use Rattle.ss_store.proofs.Common.{Landmark, LandmarkValue, all_values, At, Entry, Happened, landmarks_of, values_of, later, latest_of, newest_in, Stream}
+use Rattle.ss_store.proofs.Common.{Newest, RecordsState, shown_by, TellsNewest, is_newer, place_if_newer, Recovers, Stands}
 use Rattle.ss_catalog.specs.declared.refusal.Refusal.TheVariants as refusal
-use Rattle.ss_landmarks.specs.Landmark.{Landmark, LandmarkValue, all_values}
 use Rattle.ss_landmarks.specs.ValuesIn.{values_between}
-use Rattle.ss_line.specs.declared.entry.At.{At}
-use Rattle.ss_line.specs.declared.entry.Entry.{Entry}
-use Rattle.ss_model.specs.History.{Happened, landmarks_of, marked_of, values_of}
-use Rattle.ss_model.specs.Marks.{later, latest_of}
-use Rattle.ss_model.specs.Newest.{newest_in}
+use Rattle.ss_model.specs.History.{marked_of}
 use Rattle.ss_model.specs.NewestTruth.{HoldsNewest}
-use Rattle.ss_model.specs.State.{Stream}
 use Rattle.ss_model.specs.Windows.{time_of_last}
-use Rattle.ss_model.specs.declared.newest.Newest.{Newest}
-use Rattle.ss_records.specs.Kept.{RecordsState, shown_by}
-use Rattle.ss_store.specs.Newest.{TellsNewest, is_newer, place_if_newer, refuses_reading_held, refuses_values_held}
-use Rattle.ss_store.specs.Recover.{Recovers, Stands}
+use Rattle.ss_store.specs.Newest.{refuses_reading_held, refuses_values_held}
 use Rattle.ss_store.specs.Values.{AreValuesIn}
 use Rattle.ss_store.specs.declared.store.values.ValueRange.{ValueRange}
 

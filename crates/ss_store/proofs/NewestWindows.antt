@@ -1,24 +1,10 @@
 -- The newest value of a stream, as what is held of it tells.
-use Rattle.std.proofs.Common.{◌≡◌, ◌∙◌, ℕ, ◌+◌, ◌-◌, Bool, true, false, List, [], ◌∷◌, length, map, refl, sym, ap, arith, Option, Some, None}
-use Rattle.std.specs.Prelude.{if◌then◌else◌, nat_lt, option_map, slice_get}
-use Rattle.std.specs.List.{last_or}
-use Rattle.std.proofs.lemmas.List.{length-map}
-use Rattle.std.proofs.lemmas.Option.{none-some, same_Some, slice_get-map}
-use Rattle.ss_landmarks.specs.Landmark.{Landmark, LandmarkValue}
-use Rattle.ss_landmarks.specs.Newest.{newest_value}
-use Rattle.ss_landmarks.proofs.PlaceLemmas.{last_or-slice_get}
-use Rattle.ss_line.specs.Line.{index_of}
-use Rattle.ss_line.specs.declared.entry.At.{At}
-use Rattle.ss_line.specs.declared.entry.Entry.{Entry}
-use Rattle.ss_model.specs.Newest.{known_exactly, known_in, newer, newest_known, newest_of, newest_told}
-use Rattle.ss_model.specs.Shown.{placed_of}
-use Rattle.ss_model.specs.State.{Stream, last_time}
+use Rattle.ss_store.proofs.Common.{◌≡◌, ◌∙◌, ℕ, ◌+◌, ◌-◌, Bool, true, false, List, [], ◌∷◌, length, map, refl, sym, ap, arith, Option, Some, None}
+use Rattle.ss_store.proofs.Common.{if◌then◌else◌, nat_lt, option_map, slice_get, last_or, length-map, none-some, same_Some, slice_get-map, Landmark}
+use Rattle.ss_store.proofs.Common.{LandmarkValue, newest_value, last_or-slice_get, index_of, At, Entry, known_exactly, newest_of, newest_told, placed_of}
+use Rattle.ss_store.proofs.Common.{Stream, last_time, Placed, Window, Agrees, entries_of, times_held, times_of, StreamParts, newest_place, place_if_newer}
+use Rattle.ss_model.specs.Newest.{known_in, newer, newest_known}
 use Rattle.ss_model.specs.declared.newest.Known.{Known}
-use Rattle.ss_model.specs.declared.types.Placed.{Placed}
-use Rattle.ss_model.specs.declared.types.Window.{Window}
-use Rattle.ss_recover.specs.Held.{Agrees, entries_of, times_held, times_of}
-use Rattle.ss_recover.specs.declared.parts.StreamParts.{StreamParts}
-use Rattle.ss_store.specs.Newest.{newest_place, place_if_newer}
 
 -- the last of what is made of each
 last_or-map : {A B : Type 0} (f : A → B) (o : Option A) (xs : List A) → last_or (option_map f o) (map f xs) ≡ option_map f (last_or o xs)

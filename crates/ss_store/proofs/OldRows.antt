@@ -1,36 +1,32 @@
 -- Worked images of a store without filters, as it left them and with values that one with filters has taken since.
-use Rattle.std.specs.Prelude.{◌≡◌, ℕ, ℤ, ◌^◌, ◌-◌, ◌==◌, Bool, true, false, pos, negsuc, List, [], ◌∷◌, ◌++◌}
-use Rattle.std.specs.Prelude.{drop, flat_map, map, slice_index, take, Option, Some}
-use Rattle.std.proofs.Common.{◌∙◌, ap, refl, sym}
+use Rattle.ss_store.proofs.Common.{◌==◌, negsuc, slice_index, ◌∙◌, ap, refl, sym, Event, Query, zeros, Happened, added, Stream, Outcome, Window, Recovers}
+use Rattle.ss_store.proofs.Common.{Stands, no_store, damaged_entry, damaged_slot, damaged_stream, recovers}
+use Rattle.std.specs.Prelude.{◌≡◌, ℕ, ℤ, ◌^◌, ◌-◌, Bool, true, false, pos, List, [], ◌∷◌, ◌++◌}
+use Rattle.std.specs.Prelude.{drop, flat_map, map, take, Option, Some}
 use Rattle.ss_fields.specs.Fields as Numbers
 use Rattle.ss_summary.specs.Filters.{bit_of, filter_of, full, has, union}
 use Rattle.ss_summary.specs.Points.{Old}
 use Rattle.ss_summary.specs.Possible as Possible
 use Rattle.ss_catalog.specs.Names as Names
-use Rattle.ss_catalog.specs.declared.event.Event.{Event}
 use Rattle.ss_catalog.specs.declared.query.Kind.TheVariants as kinds
-use Rattle.ss_catalog.specs.declared.query.Query.{Query}
 use Rattle.ss_windowing.specs.Windowing.{window_index}
 use Rattle.ss_journal.specs.Checks.{entry_form, slot_form}
 use Rattle.ss_journal.specs.Format.{is_born, kind_of}
 use Rattle.ss_journal.specs.Entries.{entries}
-use Rattle.ss_journal.specs.Redo.{redo, zeros}
+use Rattle.ss_journal.specs.Redo.{redo}
 use Rattle.ss_codec.specs.Fields as Fields
 use Rattle.ss_codec.specs.Record.{spelling, is_valid}
 use Rattle.ss_codec.specs.Decoded.{decoded, params_in, record_in, stream_in, window_in}
 use Rattle.ss_model.specs.Answers.{outcome_of}
-use Rattle.ss_model.specs.History.{Happened, added}
 use Rattle.ss_model.specs.Marks as Marks
-use Rattle.ss_model.specs.State.{Stream, state}
-use Rattle.ss_model.specs.declared.outcome.Outcome.{Outcome}
+use Rattle.ss_model.specs.State.{state}
 use Rattle.ss_model.specs.declared.outcome.Outcome.TheVariants.{Has}
 use Rattle.ss_model.specs.declared.outcome.Presence.{Presence}
 use Rattle.ss_model.specs.declared.outcome.Presence.TheVariants.{Absent, Present, Maybe}
-use Rattle.ss_model.specs.declared.types.Window.{Window}
 use Rattle.ss_recover.specs.Carried.{spelled}
 use Rattle.ss_recover.specs.Conditions.{is_sound}
 use Rattle.ss_recover.specs.Parts.{carried}
-use Rattle.ss_store.specs.Recover.{Recovered, Recovers, Stands, recover, no_store, damaged_entry, damaged_slot, damaged_stream, recovers}
+use Rattle.ss_store.specs.Recover.{Recovered, recover}
 use Rattle.ss_store.proofs.Rows.{a, a_slot, image_of, no_entry, value, window_slot}
 use Rattle.ss_store.proofs.Rows.{as_they_came, filter_of_four, first_four, next_two, readings, state-readings}
 

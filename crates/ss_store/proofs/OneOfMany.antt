@@ -1,10 +1,9 @@
 -- One element of a list, and the others.
-use Rattle.std.proofs.Common.{◌≡◌, ℕ, zero, suc, ◌<◌, List, [], ◌∷◌, ◌++◌, length, map, flat_map, remove, slice_get, slice_set, zip, refl, ap, sym}
-use Rattle.std.proofs.Common.{subst, ◌∙◌, arith, IsPermutation, Some}
+use Rattle.ss_store.proofs.Common.{◌≡◌, ℕ, zero, suc, ◌<◌, List, [], ◌∷◌, ◌++◌, length, map, flat_map, remove, slice_set, zip, refl, ap, sym, subst, ◌∙◌}
+use Rattle.ss_store.proofs.Common.{arith, IsPermutation, Some, IsPermutation-append_comm, IsPermutation-append_left, IsPermutation-append_right}
+use Rattle.ss_store.proofs.Common.{IsPermutation-refl, IsPermutation-trans, none-some, same_Some}
+use Rattle.std.proofs.Common.{slice_get}
 use Rattle.std.proofs.lemmas.List.{append_assoc}
-use Rattle.std.proofs.lemmas.List.Sorted.{IsPermutation-append_comm, IsPermutation-append_left, IsPermutation-append_right, IsPermutation-refl}
-use Rattle.std.proofs.lemmas.List.Sorted.{IsPermutation-trans}
-use Rattle.std.proofs.lemmas.Option.{none-some, same_Some}
 
 -- two pieces change places before a third
 IsPermutation-exchange : {X : Type 0} (xs ys zs : List X) → IsPermutation (xs ++ (ys ++ zs)) (ys ++ (xs ++ zs))

@@ -1,34 +1,22 @@
 -- The open landmark among landmarks in order, and their times once one opens, takes a value or closes.
-use Rattle.std.proofs.Common.{◌≡◌, ◌∙◌, ℕ, ◌+◌, ◌<◌, ◌≤◌, Bool, true, false, not, ◌&&◌, List, [], ◌∷◌, ◌++◌, length, max, refl, ap, sym, subst, arith}
-use Rattle.std.proofs.Common.{length-append, Option, None, Some, IfSome, IsNone, MatchOption, is_none, is_some, inl, inr}
-use Rattle.std.specs.Prelude.{All, nat_le, ◌==◌}
-use Rattle.std.specs.List.{list_all}
-use Rattle.std.specs.Option.{option_map_or}
-use Rattle.std.proofs.lemmas.Bool.{and_parts, cases_Bool, cond-false, cond-true, eqb-true, not-false}
-use Rattle.std.proofs.lemmas.Bool.Decides.{nat_tests}
-use Rattle.std.proofs.lemmas.List.Elements.{All-cons, All-head, All-nil, All-push, All-tail}
-use Rattle.ss_catalog.specs.declared.refusal.Refusal.{Refusal}
+use Rattle.ss_store.proofs.Common.{◌≡◌, ◌∙◌, ℕ, ◌+◌, ◌<◌, ◌≤◌, Bool, true, false, not, ◌&&◌, List, [], ◌∷◌, ◌++◌, length, refl, ap, sym, subst, arith}
+use Rattle.ss_store.proofs.Common.{length-append, Option, None, Some, MatchOption, inl, inr, All, nat_le, ◌==◌, list_all, option_map_or, and_parts}
+use Rattle.ss_store.proofs.Common.{cases_Bool, cond-false, cond-true, eqb-true, not-false, nat_tests, All-cons, All-head, All-nil, All-push, All-tail}
+use Rattle.ss_store.proofs.Common.{Refusal, Landmark, LandmarkValue, all_values, change_last, closed_at, open_landmark, opened_at, with_value, AllEndBy}
+use Rattle.ss_store.proofs.Common.{CanClose, EndsBy, FollowFrom, cases-finish, AllEndBy-later, AreKnown, MOST_SLOTS, has_open, later, latest_in, latest_of}
+use Rattle.ss_store.proofs.Common.{lies_free, first_that_applies, is_before, is_opening, is_past, newest_time, Window, EndByLast, mark_slots, StreamParts}
+use Rattle.ss_store.proofs.Common.{latest_of-last, is_early_held, CanMark, IsInOpen, landmarks_after, mark_refusal, values_open, Mark, Open, Close}
+use Rattle.std.proofs.Common.{max}
+use Rattle.std.proofs.Common.{IfSome, IsNone, is_none, is_some}
 use Rattle.ss_landmarks.specs.Free.{covers, is_free}
-use Rattle.ss_landmarks.specs.Landmark.{Landmark, LandmarkValue, all_values, change_last, closed_at, open_landmark, opened_at, with_value}
-use Rattle.ss_landmarks.specs.Order.{AllEndBy, AreLandmarks, CanClose, CanOpen, CanTake, EndsBy, FollowFrom, IsClosedBefore, IsLandmark}
+use Rattle.ss_landmarks.specs.Order.{AreLandmarks, CanOpen, CanTake, IsClosedBefore, IsLandmark}
 use Rattle.ss_landmarks.specs.declared.landmarks.TheConstants.{LATEST_TIME}
-use Rattle.ss_landmarks.proofs.OrderLemmas.{cases-finish}
-use Rattle.ss_landmarks.proofs.TimeLemmas.{AllEndBy-close, AllEndBy-later, AllEndBy-open, AllEndBy-take, CanClose-after, CanOpen-after, CanTake-after}
+use Rattle.ss_landmarks.proofs.TimeLemmas.{AllEndBy-close, AllEndBy-open, AllEndBy-take, CanClose-after, CanOpen-after, CanTake-after}
 use Rattle.ss_landmarks.proofs.TimeLemmas.{CanTake-first}
-use Rattle.ss_landmarks.specs.Landmarks.{AreKnown}
-use Rattle.ss_journal.specs.declared.format.TheConstants.{MOST_SLOTS}
-use Rattle.ss_model.specs.Marks.{has_open, later, latest_in, latest_of, lies_free}
-use Rattle.ss_model.specs.Refusals.{first_that_applies, is_before, is_opening, is_past}
-use Rattle.ss_model.specs.Windows.{newest_time}
-use Rattle.ss_model.specs.declared.types.Window.{Window}
 use Rattle.ss_model.proofs.MarkLemmas.{LiesFree-lies_free}
-use Rattle.ss_recover.specs.Held.{EndByLast, mark_slots}
-use Rattle.ss_recover.specs.declared.parts.StreamParts.{StreamParts}
-use Rattle.ss_recover.proofs.MarksSoFar.{latest_in-closed, latest_in-value, latest_of-last}
-use Rattle.ss_store.specs.Kept.{is_early_held}
-use Rattle.ss_store.specs.Marking.{CanMark, IsInOpen, landmarks_after, mark_refusal, start_open, values_open}
-use Rattle.ss_store.specs.declared.marking.Mark.{Mark}
-use Rattle.ss_store.specs.declared.marking.Mark.TheVariants.{Open, Value, Close}
+use Rattle.ss_recover.proofs.MarksSoFar.{latest_in-closed, latest_in-value}
+use Rattle.ss_store.specs.Marking.{start_open}
+use Rattle.ss_store.specs.declared.marking.Mark.TheVariants.{Value}
 
 -- ---- which landmark is open
 

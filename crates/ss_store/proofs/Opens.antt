@@ -1,41 +1,20 @@
 -- What opening reads, and what it leaves of the disk.
-use Rattle.std.proofs.Common.{◌≡◌, ◌≤◌, ℕ, List, arith, flat_map, zip, refl, ap, subst, sym, ◌∙◌, Result, Ok, Err}
-use Rattle.std.specs.Prelude.{IsErr}
-use Rattle.ss_outside.specs.Crash.{KnowsNow, OnlyReads}
-use Rattle.ss_outside.specs.Disk.{Told}
+use Rattle.ss_store.proofs.Common.{◌≡◌, ◌≤◌, ℕ, List, arith, flat_map, zip, refl, ap, subst, sym, ◌∙◌, Result, Ok, Err, IsErr, KnowsNow, OnlyReads, Told}
+use Rattle.ss_store.proofs.Common.{IfUndone, IsFirm, Verdict, IsKept, IsSealed, JournalState, shown, SlotMap, StandsFor, SameMap-refl, StandsFor-from}
+use Rattle.ss_store.proofs.Common.{shown-sealed, AreKept, RecordsState, closed_state, IsState, Stream, state, AllAgree, records_held, Parts, StreamParts}
+use Rattle.ss_store.proofs.Common.{KeepsWithin, Turns, OpensStore, OpensAs, SettlesAll, verdict_of_opening, verdict_of_read, StoreIsKept, StoreState}
+use Rattle.ss_store.proofs.Common.{HasRecords, HasRebuilt, HasRebuiltBeside, IsRebuilt, Recovers, Stands, recovered_from, recovered_of, OpenError, ReadError}
 use Rattle.ss_outside.specs.Verdict as verdicts
-use Rattle.ss_outside.specs.Verdict.{IfUndone, IsFirm, Verdict}
 use Rattle.ss_journal.specs.Calls.{verdict_of_open}
 use Rattle.ss_journal.specs.Kept as Journals
-use Rattle.ss_journal.specs.Kept.{IsKept, IsSealed, JournalState, shown}
-use Rattle.ss_journal.specs.Redo.{SlotMap, StandsFor}
 use Rattle.ss_journal.specs.declared.journal_error.JournalError.{JournalError}
 use Rattle.ss_journal.specs.declared.journal_error.JournalError.TheVariants as journal
-use Rattle.ss_journal.proofs.MapLemmas.{SameMap-refl}
-use Rattle.ss_journal.proofs.RedoLemmas.{StandsFor-from}
-use Rattle.ss_journal.proofs.ShownLemmas.{shown-sealed}
-use Rattle.ss_records.specs.Kept.{AreKept, RecordsState}
-use Rattle.ss_model.specs.ClosedState.{closed_state}
-use Rattle.ss_model.specs.Standing.{IsState}
-use Rattle.ss_model.specs.State.{Stream, state}
-use Rattle.ss_recover.specs.Held.{AllAgree, records_held}
 use Rattle.ss_recover.specs.Rebuilt.{RebuildsAs, verdict_of_rebuild}
-use Rattle.ss_recover.specs.declared.parts.Parts.{Parts}
-use Rattle.ss_recover.specs.declared.parts.StreamParts.{StreamParts}
 use Rattle.ss_recover.specs.declared.recover_error.RecoverError.{RecoverError}
 use Rattle.ss_recover.specs.declared.recover_error.RecoverError.TheVariants as recovering
-use Rattle.ss_store.specs.Calls.{KeepsHistory, KeepsState, KeepsWithin, Turns}
-use Rattle.ss_store.specs.Applied.{OpensStore}
-use Rattle.ss_store.specs.Causes.{OpensAs}
-use Rattle.ss_store.specs.Settling.{SettlesAll}
-use Rattle.ss_store.specs.Errors.{open_of_fault, open_of_journal, open_of_recover, verdict_of_opening}
-use Rattle.ss_query.specs.Reading.{verdict_of_read}
-use Rattle.ss_store.specs.Kept.{StoreIsKept, StoreState}
-use Rattle.ss_query.specs.Slots.{HasRecords}
-use Rattle.ss_store.specs.Rebuilt.{HasRebuilt, HasRebuiltBeside, IsRebuilt}
-use Rattle.ss_store.specs.Recover.{Recovers, Stands, recover, recovered_from, recovered_of}
-use Rattle.ss_store.specs.declared.error.OpenError.{OpenError}
-use Rattle.ss_query.specs.declared.read_error.ReadError.{ReadError}
+use Rattle.ss_store.specs.Calls.{KeepsHistory, KeepsState}
+use Rattle.ss_store.specs.Errors.{open_of_fault, open_of_journal, open_of_recover}
+use Rattle.ss_store.specs.Recover.{recover}
 use Rattle.ss_query.specs.declared.read_error.ReadError.TheVariants as fault
 use Rattle.ss_store.proofs.Among.{Recovers-held, recover-StandsFor}
 use Rattle.ss_store.proofs.Changes.{extent-kept}

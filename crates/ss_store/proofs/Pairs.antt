@@ -1,42 +1,20 @@
 -- Two neighbours in a line that become one: their places, their positions, their slots and their records.
-use Rattle.std.proofs.Common.{◌≡◌, ◌∙◌, ℕ, ◌+◌, ◌-◌, ◌<◌, ◌≤◌, true, false, List, [], ◌∷◌, ◌++◌, map, length, refl, sym, ap}
-use Rattle.std.proofs.Common.{ap₂, subst, arith, append_assoc, length-append, IsPermutation, Option, Some}
+use Rattle.ss_store.proofs.Common.{◌≡◌, ◌∙◌, ℕ, ◌+◌, ◌-◌, ◌<◌, ◌≤◌, true, false, List, [], ◌∷◌, ◌++◌, map, length, refl, sym, ap, ap₂, subst, arith}
+use Rattle.ss_store.proofs.Common.{append_assoc, length-append, IsPermutation, Option, Some, list_all, list_any, and_parts, map-append}
+use Rattle.ss_store.proofs.Common.{IsPermutation-append_left, IsPermutation-cons, IsPermutation-middle, IsPermutation-sym, IsPermutation-trans, Record}
+use Rattle.ss_store.proofs.Common.{Landmark, AreKnown, LandmarksState, StandsIn, entry_at, index_of, is_at, At, Entry, joined, params_of, joined_window}
+use Rattle.ss_store.proofs.Common.{last_position, may_join, JoinsDue, later, latest_of, lies_free, Rule, may_be_one, rule_of, IsStream, Stream, values_in}
+use Rattle.ss_store.proofs.Common.{AreWindows, Window, IsStream-joined, Agrees, TileFrom, all_value_records, entries_of, in_slots, landmark_records}
+use Rattle.ss_store.proofs.Common.{mark_slots, marks_held, records_held, slots_held, span_held, span_of, stream_record, window_record, times_held, times_of}
+use Rattle.ss_store.proofs.Common.{window_slots, windows_held, StreamParts, values_held, with_windows, AreDue, may_be_joined, entries_in, index-once}
+use Rattle.ss_store.proofs.Common.{joined_entry, zip-held}
 use Rattle.std.specs.Prelude.{zip, IsTrue}
-use Rattle.std.specs.List.{list_all, list_any}
-use Rattle.std.proofs.lemmas.Bool.{and_parts}
-use Rattle.std.proofs.lemmas.List.{map-append}
 use Rattle.std.proofs.lemmas.List.Folds.{list_all-append}
-use Rattle.std.proofs.lemmas.List.Sorted.{IsPermutation-append_left, IsPermutation-cons, IsPermutation-middle, IsPermutation-sym, IsPermutation-trans}
-use Rattle.ss_codec.specs.declared.record.Record.{Record}
 use Rattle.ss_codec.specs.declared.record.Record.TheVariants as records
-use Rattle.ss_landmarks.specs.Landmark.{Landmark}
-use Rattle.ss_landmarks.specs.Landmarks.{AreKnown, LandmarksState}
-use Rattle.ss_line.specs.Line.{StandsIn, entry_at, index_of, is_at}
-use Rattle.ss_line.specs.declared.entry.At.{At}
-use Rattle.ss_line.specs.declared.entry.Entry.{Entry}
-use Rattle.ss_summary.specs.Summaries.{joined}
-use Rattle.ss_target.specs.Targets.{params_of}
-use Rattle.ss_model.specs.Closed.{joined_window, last_position, may_join}
-use Rattle.ss_model.specs.Joins.{JoinsDue}
-use Rattle.ss_model.specs.Marks.{later, latest_of, lies_free}
-use Rattle.ss_target.specs.Rule.{Rule, may_be_one, rule_of}
-use Rattle.ss_model.specs.Standing.{IsStream}
-use Rattle.ss_model.specs.State.{Stream, values_in}
-use Rattle.ss_model.specs.Tiling.{AreWindows}
-use Rattle.ss_model.specs.declared.types.Window.{Window}
 use Rattle.ss_model.proofs.JoinLemmas.{JoinsDue-one, newest_time-JoinsDue}
-use Rattle.ss_model.proofs.StreamLemmas.{IsStream-joined}
 use Rattle.ss_model.proofs.Tiles.{AreNeighbours-from_AreWindows}
-use Rattle.ss_recover.specs.Held.{Agrees, TileFrom, all_value_records, entries_of, in_slots, landmark_records, mark_slots}
-use Rattle.ss_recover.specs.Held.{marks_held, records_held, slots_held, span_held, span_of, stream_record, window_record}
-use Rattle.ss_recover.specs.Held.{times_held, times_of, window_slots, windows_held}
-use Rattle.ss_recover.specs.declared.parts.StreamParts.{StreamParts}
-use Rattle.ss_store.specs.Held.{values_held, with_windows}
-use Rattle.ss_store.specs.Joining.{AreDue, may_be_joined}
-use Rattle.ss_query.proofs.Places.{entries_in, find-read, index-once}
-use Rattle.ss_schedule.specs.Pairs.{joined_entry}
+use Rattle.ss_query.proofs.Places.{find-read}
 use Rattle.ss_store.proofs.Spans.{AreTiled, AreTiled-seam, values_held-windows}
-use Rattle.ss_query.proofs.Records.{zip-held}
 
 -- Two entries that stand side by side and are due, and the line after the second is cut out and the first set.
 pub record AreJoined (rule : Rule) (n : ℕ) (entries new : List (At × Entry)) (w v : Entry) : Type 0 where

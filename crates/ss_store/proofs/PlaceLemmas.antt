@@ -1,21 +1,15 @@
 -- Where parts of rising numbers stand.
-use Rattle.std.proofs.Common.{◌≡◌, ℕ, zero, suc, ◌+◌, ◌-◌, ◌<◌, ◌≤◌, Bool, true, false, List, [], ◌∷◌, ◌++◌, length, get_or, take, refl, ap, sym, ◌∙◌}
-use Rattle.std.proofs.Common.{subst, arith, None, Some, inl, inr}
-use Rattle.std.specs.Prelude.{slice_get, IsSome, ◌==◌, ◌||◌}
-use Rattle.std.specs.List.{position_or_len, list_any}
-use Rattle.std.specs.List.Sorted.{IsStrictlyIncreasing}
-use Rattle.std.proofs.lemmas.Bool.{cases_lt, cases_order, eqb-true, eq-eqb, ne_eqb}
+use Rattle.ss_store.proofs.Common.{◌≡◌, ℕ, zero, suc, ◌+◌, ◌-◌, ◌<◌, ◌≤◌, Bool, true, false, List, [], ◌∷◌, ◌++◌, length, get_or, take, refl, ap, sym, ◌∙◌}
+use Rattle.ss_store.proofs.Common.{subst, arith, None, Some, inl, inr, slice_get, IsSome, ◌==◌, ◌||◌, position_or_len, list_any, IsStrictlyIncreasing}
+use Rattle.ss_store.proofs.Common.{cases_lt, eqb-true, eq-eqb, ne_eqb, length-map, map-append, find_at, list_any-append, AllPairs-from_increasing}
+use Rattle.ss_store.proofs.Common.{passes_at_first, slice_get_within, get_or_from_slice_get, LAST_STREAM, next_number, StreamParts, numbers_held}
+use Rattle.ss_store.proofs.Common.{part_numbered}
+use Rattle.std.proofs.lemmas.Bool.{cases_order}
 use Rattle.std.proofs.Math.Seq.{get_or-append_seam}
 use Rattle.std.proofs.lemmas.Grind.{common_steps}
-use Rattle.std.proofs.lemmas.List.{length-map, length-append, map-append, get_or_append_left}
-use Rattle.std.proofs.lemmas.List.Folds.{find_at, list_any-append}
-use Rattle.std.proofs.lemmas.List.Kept.{AllPairs-from_increasing}
-use Rattle.std.proofs.lemmas.List.Sums.{position_or_len_is, passes_at_first}
-use Rattle.std.proofs.lemmas.Option.{slice_get_within, get_or_from_slice_get, slice_get_past}
-use Rattle.ss_catalog.specs.declared.TheConstants.{LAST_STREAM}
-use Rattle.ss_model.specs.State.{next_number}
-use Rattle.ss_recover.specs.declared.parts.StreamParts.{StreamParts}
-use Rattle.ss_store.specs.Kept.{numbers_held, part_numbered}
+use Rattle.std.proofs.lemmas.List.{length-append, get_or_append_left}
+use Rattle.std.proofs.lemmas.List.Sums.{position_or_len_is}
+use Rattle.std.proofs.lemmas.Option.{slice_get_past}
 
 pub number_at : (parts : List StreamParts) (k : ℕ) (d : StreamParts) → k < length parts → get_or (numbers_held parts) k 0 ≡ (get_or parts k d).id.0
 number_at [] k d inside = absurd (omega arith)

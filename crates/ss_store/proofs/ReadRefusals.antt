@@ -1,18 +1,9 @@
 -- Why a look at the stream of a name is refused, by what is held of the streams.
-use Rattle.std.proofs.Common.{◌≡◌, ◌∙◌, ℕ, Bool, List, [], ◌∷◌, refl, sym, ap, None, Some, Option, Result, Err}
-use Rattle.std.specs.Prelude.{◌↔◌, nat_lt}
-use Rattle.std.proofs.lemmas.Option.{none-some, same_Some}
-use Rattle.ss_catalog.specs.declared.refusal.Refusal.{Refusal}
-use Rattle.ss_model.specs.declared.newest.Newest.{Newest}
-use Rattle.ss_store.specs.declared.error.AskError.{AskError}
+use Rattle.ss_store.proofs.Common.{◌≡◌, ◌∙◌, ℕ, Bool, List, [], ◌∷◌, refl, sym, ap, None, Some, Option, Result, Err, ◌↔◌, nat_lt, none-some, same_Some}
+use Rattle.ss_store.proofs.Common.{Refusal, Newest, AskError, Range, Unknown, first_that_applies, Stream, AllAgree, StreamParts, part_named}
 use Rattle.ss_store.specs.declared.error.AskError.TheVariants as ask
-use Rattle.ss_catalog.specs.declared.refusal.Refusal.TheVariants.{Range, Unknown}
 use Rattle.ss_model.specs.Newest.{refuses_values}
-use Rattle.ss_model.specs.Refusals.{first_that_applies, refuses_reading}
-use Rattle.ss_model.specs.State.{Stream}
-use Rattle.ss_recover.specs.Held.{AllAgree}
-use Rattle.ss_recover.specs.declared.parts.StreamParts.{StreamParts}
-use Rattle.ss_store.specs.Kept.{part_named}
+use Rattle.ss_model.specs.Refusals.{refuses_reading}
 use Rattle.ss_store.specs.Newest.{refuses_reading_held, refuses_values_held}
 use Rattle.ss_store.proofs.Named.{stands-held}
 

@@ -1,22 +1,10 @@
 -- Two records that are read one after the other.
-use Rattle.std.proofs.Common.{◌≡◌, ℕ, ◌<◌, Bool, List, ◌∷◌, ◌++◌, length, ap₂, sym, subst, arith, Option, Err, All}
-use Rattle.std.specs.List.{range_with_len}
-use Rattle.std.proofs.lemmas.List.Elements.{All-filter, All-from_recursion, All-head}
-use Rattle.std.proofs.lemmas.List.Sorted.{All-permutation, IsPermutation-sym}
-use Rattle.ss_journal.specs.Kept.{shown}
-use Rattle.ss_records.specs.Kept.{RecordsState, shown_by}
-use Rattle.ss_records.specs.Live.{is_live}
-use Rattle.ss_codec.specs.declared.record.Record.{Record}
-use Rattle.ss_summary.specs.Figures.{Figures}
-use Rattle.ss_recover.proofs.Lists.{range-within}
-use Rattle.ss_recover.proofs.Permutations.{IsPermutation-turn}
-use Rattle.ss_query.specs.Reading.{IsRead}
-use Rattle.ss_store.specs.Slots.{AreSomeLive, live_slots}
-use Rattle.ss_query.specs.Slots.{HasRecords}
-use Rattle.ss_query.specs.declared.read_error.ReadError.{ReadError}
+use Rattle.ss_store.proofs.Common.{◌≡◌, ℕ, ◌<◌, Bool, List, ◌∷◌, ◌++◌, length, ap₂, sym, subst, arith, Option, Err, range_with_len, All-filter}
+use Rattle.ss_store.proofs.Common.{All-from_recursion, All-head, All-permutation, IsPermutation-sym, shown, RecordsState, shown_by, is_live, Record, Figures}
+use Rattle.ss_store.proofs.Common.{range-within, IsPermutation-turn, IsRead, AreSomeLive, live_slots, HasRecords, ReadError, HasRecords-permutation}
+use Rattle.std.proofs.Common.{All}
 use Rattle.ss_query.specs.declared.read_error.ReadError.TheVariants.{Disk, Changed}
 use Rattle.ss_store.proofs.LiveSlots.{AreSomeLive-permutation}
-use Rattle.ss_query.proofs.Records.{HasRecords-permutation}
 
 -- a failure says nothing of what was to be read
 pub IsRead-err : (first second : Figures) (fault : ReadError) → IsRead first (Err fault) → IsRead second (Err fault)

@@ -1,25 +1,15 @@
 -- Why an event is refused, by the tests that are made over what is held.
-use Rattle.std.proofs.Common.{◌≡◌, ℕ, ℤ, Bool, true, false, not, ◌&&◌, List, [], ◌∷◌, length, flat_map, refl, ap, sym, ◌∙◌, None, Some, is_some}
-use Rattle.std.specs.Prelude.{Option, if◌then◌else◌, nat_le}
-use Rattle.ss_catalog.specs.declared.event.Event.{Event}
+use Rattle.ss_store.proofs.Common.{◌≡◌, ℕ, ℤ, Bool, true, false, not, ◌&&◌, List, [], ◌∷◌, length, flat_map, refl, ap, sym, ◌∙◌, None, Some, if◌then◌else◌}
+use Rattle.ss_store.proofs.Common.{nat_le, Event, Params, Refusal, Landmark, open_landmark, has_target, MOST_VALUES, has_open, first_that_applies, is_before}
+use Rattle.ss_store.proofs.Common.{is_early, is_opening, is_past, of_named, IsState, IsStream, Stream, stream_named, last_time, MOST_RECORDS, AllAgree}
+use Rattle.ss_store.proofs.Common.{Agrees, entries_of, slots_held, StreamParts, values_held, has_all_numbers, has_all_slots, is_early_held, numbers_held}
+use Rattle.ss_store.proofs.Common.{of_part, part_named, IsInOpen, event_of, mark_refusal, slot_refusal, Mark}
+use Rattle.std.proofs.Common.{is_some}
+use Rattle.std.specs.Prelude.{Option}
 use Rattle.ss_catalog.specs.declared.event.Event.TheVariants as events
-use Rattle.ss_catalog.specs.declared.params.Params.{Params}
-use Rattle.ss_catalog.specs.declared.refusal.Refusal.{Refusal}
 use Rattle.ss_catalog.specs.declared.refusal.Refusal.TheVariants as refusal
-use Rattle.ss_landmarks.specs.Landmark.{Landmark, open_landmark}
-use Rattle.ss_target.specs.Lengths.{has_target}
-use Rattle.ss_windowing.specs.declared.decay.TheConstants.{MOST_VALUES}
-use Rattle.ss_model.specs.Marks.{has_open}
-use Rattle.ss_model.specs.Refusals.{first_that_applies, refuses, has_all_records, is_before, is_early, has_most_values, is_opening, is_past, of_named}
-use Rattle.ss_model.specs.Standing.{IsState, IsStream}
-use Rattle.ss_model.specs.State.{Stream, stream_named, last_time}
-use Rattle.ss_model.specs.declared.types.TheConstants.{MOST_RECORDS}
-use Rattle.ss_recover.specs.Held.{AllAgree, Agrees, entries_of, slots_held}
-use Rattle.ss_recover.specs.declared.parts.StreamParts.{StreamParts}
-use Rattle.ss_store.specs.Held.{values_held}
-use Rattle.ss_store.specs.Kept.{has_all_numbers, has_all_slots, is_early_held, is_full_held, numbers_held, of_part, part_named, refuses_held}
-use Rattle.ss_store.specs.Marking.{IsInOpen, event_of, mark_refusal, slot_refusal}
-use Rattle.ss_store.specs.declared.marking.Mark.{Mark}
+use Rattle.ss_model.specs.Refusals.{refuses, has_all_records, has_most_values}
+use Rattle.ss_store.specs.Kept.{is_full_held, refuses_held}
 use Rattle.ss_store.specs.declared.marking.Mark.TheVariants as marks
 use Rattle.ss_store.proofs.HeldCounts.{values_held-Agrees}
 use Rattle.ss_store.proofs.LiveCounts.{length-slots}

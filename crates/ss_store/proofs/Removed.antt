@@ -1,17 +1,14 @@
 -- One element that is taken out of a list.
-use Rattle.std.proofs.Common.{◌≡◌, ℕ, zero, suc, ◌<◌, Bool, true, false, not, List, [], ◌∷◌, length, map, filter, remove, slice_get, zip, refl, ap, sym}
-use Rattle.std.proofs.Common.{◌∙◌, ◌+◌, subst, arith, None, Some, get_or, inl, inr}
-use Rattle.std.specs.Prelude.{find, All, ◌==◌}
-use Rattle.std.proofs.lemmas.Bool.{cases_Bool}
+use Rattle.ss_store.proofs.Common.{◌≡◌, ℕ, zero, suc, ◌<◌, Bool, true, false, not, List, [], ◌∷◌, length, map, filter, remove, zip, refl, ap, sym, ◌∙◌, ◌+◌}
+use Rattle.ss_store.proofs.Common.{subst, arith, None, Some, get_or, inl, inr, All, ◌==◌, cases_Bool, AllByRecursion, AllZip, IsStrictlyIncreasing, All-cons}
+use Rattle.ss_store.proofs.Common.{All-head, All-tail, AllPairs-from_increasing, none-some, same_Some, all_weaker}
+use Rattle.std.proofs.Common.{slice_get}
+use Rattle.std.specs.Prelude.{find}
 use Rattle.std.proofs.lemmas.Bool.Decides.{Decides-eqb}
 use Rattle.std.proofs.lemmas.Map.Made.{IsDistinct-from_AllPairs}
-use Rattle.std.specs.List.{AllByRecursion, AllZip, IsDistinct}
-use Rattle.std.specs.List.Sorted.{IsStrictlyIncreasing}
-use Rattle.std.proofs.lemmas.List.Elements.{All-cons, All-head, All-tail}
-use Rattle.std.proofs.lemmas.List.Kept.{AllPairs-from_increasing}
+use Rattle.std.specs.List.{IsDistinct}
 use Rattle.std.proofs.lemmas.List.Quantifiers.{all_pairs_remove}
-use Rattle.std.proofs.lemmas.Option.{none-some, same_Some}
-use Rattle.ss_recover.proofs.Lists.{all-from_map, all_weaker, filter-all}
+use Rattle.ss_recover.proofs.Lists.{all-from_map, filter-all}
 
 pub map-remove : {X Y : Type 0} (f : X → Y) (xs : List X) (i : ℕ) → map f (remove xs i) ≡ remove (map f xs) i
 map-remove f [] zero = refl

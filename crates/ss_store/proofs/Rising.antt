@@ -1,24 +1,13 @@
 -- The times of windows: they rise, and an index of them leads to the first window that matters.
-use Rattle.std.proofs.Common.{◌≡◌, ◌∙◌, ℕ, ◌+◌, ◌<◌, ◌≤◌, false, List, [], ◌∷◌, ◌++◌}
-use Rattle.std.proofs.Common.{map, max, length, take, All, refl, sym, ap, ap₂, subst, arith, append_assoc}
-use Rattle.std.proofs.Common.{Option, Some, None, MatchOption, length-append}
-use Rattle.std.proofs.lemmas.Bool.Decides.{nat_tests}
-use Rattle.std.proofs.lemmas.List.{map-append}
-use Rattle.std.proofs.lemmas.List.Elements.{All-cons, All-drop, All-head, All-nil, All-tail, All-weaker}
-use Rattle.ss_line.specs.Line.{entry_at, index_of, place_at}
-use Rattle.ss_line.specs.declared.entry.At.{At}
-use Rattle.ss_line.specs.declared.entry.Entry.{Entry}
+use Rattle.ss_store.proofs.Common.{◌≡◌, ◌∙◌, ℕ, ◌+◌, ◌<◌, ◌≤◌, false, List, [], ◌∷◌, ◌++◌, map, length, take, refl, sym, ap, ap₂, subst, arith, append_assoc}
+use Rattle.ss_store.proofs.Common.{Option, Some, None, MatchOption, length-append, nat_tests, map-append, All-cons, All-head, All-nil, All-tail, entry_at}
+use Rattle.ss_store.proofs.Common.{index_of, place_at, At, Entry, joined_entry, later, is_past, RiseToLast, TileFrom, TimesRise, entries_of, StreamParts}
+use Rattle.ss_store.proofs.Common.{BeginsNear, entries_in, index-once, take-seam, IsOrdered, IsTimed, begun_at}
+use Rattle.std.proofs.Common.{max, All}
+use Rattle.std.proofs.lemmas.List.Elements.{All-drop, All-weaker}
 use Rattle.ss_times.specs.Times.{IsLastBy}
-use Rattle.ss_schedule.specs.Pairs.{joined_entry}
-use Rattle.ss_model.specs.Marks.{later}
-use Rattle.ss_model.specs.Refusals.{is_past}
-use Rattle.ss_recover.specs.Held.{RiseToLast, TileFrom, TimesRise, entries_of}
-use Rattle.ss_recover.specs.declared.parts.StreamParts.{StreamParts}
-use Rattle.ss_query.specs.Answered.{BeginsAt, BeginsNear}
-use Rattle.ss_query.proofs.Places.{IsAt-entry_at, entries_in, index-once}
-use Rattle.ss_schedule.proofs.Places.{take-seam}
-use Rattle.ss_store.specs.Held.{IsOrdered}
-use Rattle.ss_store.specs.Indexed.{IsTimed, begun_at}
+use Rattle.ss_query.specs.Answered.{BeginsAt}
+use Rattle.ss_query.proofs.Places.{IsAt-entry_at}
 use Rattle.ss_store.proofs.Among.{IsNoEarlier}
 
 -- two neighbours as one

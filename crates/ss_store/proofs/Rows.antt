@@ -1,36 +1,31 @@
 -- Worked images, whole, and what each recovers to.
-use Rattle.std.specs.Prelude.{◌≡◌, ℕ, ℤ, false, true, ◌*◌, pos, negsuc, List, [], ◌∷◌, ◌++◌, flat_map, map, replicate, slice_set, take, Some, None}
-use Rattle.std.proofs.Common.{refl}
+use Rattle.ss_store.proofs.Common.{negsuc, replicate, refl, Figures, Event, Params, exp, Put, Plain, zeros}
+use Rattle.ss_windowing.specs.Windowing.{window_index}
+use Rattle.ss_summary.specs.Filters.{union, has, full, filter_of, bit_of}
+use Rattle.ss_store.proofs.Common.{Happened, added, Stream, Window, Recovers, no_store, damaged_entry, damaged_slot, damaged_stream, recovers}
+use Rattle.std.specs.Prelude.{◌≡◌, ℕ, ℤ, false, true, ◌*◌, pos, List, [], ◌∷◌, ◌++◌, flat_map, map, slice_set, take, Some, None}
 use Rattle.ss_fields.specs.Fields as Numbers
-use Rattle.ss_summary.specs.Figures.{Figures}
-use Rattle.ss_summary.specs.Filters.{bit_of, filter_of, full, has, union}
 use Rattle.ss_summary.specs.Possible as Possible
 use Rattle.ss_summary.specs.declared.filter.Filter.{Filter}
 use Rattle.ss_catalog.specs.Names as Names
-use Rattle.ss_catalog.specs.declared.event.Event.{Event}
 use Rattle.ss_catalog.specs.declared.event.Event.TheVariants as events
-use Rattle.ss_catalog.specs.declared.params.Params.{Params}
-use Rattle.ss_catalog.specs.Params.{exp, power}
-use Rattle.ss_windowing.specs.Windowing.{window_index}
+use Rattle.ss_catalog.specs.Params.{power}
 use Rattle.ss_power.specs.Power.{power_length}
-use Rattle.ss_journal.specs.declared.put.Put.{Put}
 use Rattle.ss_journal.specs.Checks.{entry_form, slot_form}
-use Rattle.ss_journal.specs.declared.kind.Kind.TheVariants.{Plain, Checked}
+use Rattle.ss_journal.specs.declared.kind.Kind.TheVariants.{Checked}
 use Rattle.ss_journal.specs.Format.{is_born, is_unborn, kind_of, magic}
 use Rattle.ss_journal.specs.Entries.{entries, entry_body, is_good, puts_of}
-use Rattle.ss_journal.specs.Redo.{redo, zeros}
+use Rattle.ss_journal.specs.Redo.{redo}
 use Rattle.ss_codec.specs.Fields as Fields
 use Rattle.ss_codec.specs.Record.{spelling, is_valid}
 use Rattle.ss_codec.specs.Decoded.{decoded, finish_in, landmark_in, params_in, record_in, stream_in, value_in, window_in}
 use Rattle.ss_codec.specs.declared.record.Record.TheVariants as records
-use Rattle.ss_model.specs.History.{Happened, added}
 use Rattle.ss_model.specs.Marks as Marks
-use Rattle.ss_model.specs.State.{Stream, state}
-use Rattle.ss_model.specs.declared.types.Window.{Window}
+use Rattle.ss_model.specs.State.{state}
 use Rattle.ss_recover.specs.Carried.{spelled}
 use Rattle.ss_recover.specs.Conditions.{is_sound}
 use Rattle.ss_recover.specs.Parts.{carried}
-use Rattle.ss_store.specs.Recover.{Recovers, recover, no_store, damaged_entry, damaged_slot, damaged_stream, recovers}
+use Rattle.ss_store.specs.Recover.{recover}
 
 -- a formed file: its first two entries, and its slots
 abbrev pub image_of : List ℕ → List ℕ → List (List ℕ) → List ℕ

@@ -1,15 +1,7 @@
 -- The row of a stream that is held.
-use Rattle.std.proofs.Common.{◌≡◌, ℕ, List, map, refl, ap, sym, ◌∙◌, Some}
-use Rattle.std.specs.Prelude.{slice_get, option_map}
-use Rattle.std.proofs.lemmas.Option.{slice_get-map}
-use Rattle.ss_catalog.specs.declared.stream_id.StreamId.{StreamId}
+use Rattle.ss_store.proofs.Common.{◌≡◌, ℕ, List, map, refl, ap, sym, ◌∙◌, Some, slice_get, option_map, slice_get-map, StreamId, IsState, IsStream, Stream}
+use Rattle.ss_store.proofs.Common.{StreamRow, AllAgree, Agrees, StreamParts, row_of_held}
 use Rattle.ss_model.specs.Shown.{row_of}
-use Rattle.ss_model.specs.Standing.{IsState, IsStream}
-use Rattle.ss_model.specs.State.{Stream}
-use Rattle.ss_model.specs.declared.types.StreamRow.{StreamRow}
-use Rattle.ss_recover.specs.Held.{AllAgree, Agrees}
-use Rattle.ss_recover.specs.declared.parts.StreamParts.{StreamParts}
-use Rattle.ss_store.specs.Kept.{row_of_held}
 use Rattle.ss_store.proofs.Among.{Agrees-at, IsStream-at}
 use Rattle.ss_store.proofs.HeldCounts.{length-Agrees, values_held-Agrees}
 

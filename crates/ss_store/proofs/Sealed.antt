@@ -1,35 +1,14 @@
 -- Events that were staged are sealed: what the store shows comes to the disk.
-use Rattle.std.proofs.Common.{◌≡◌, ◌∙◌, ◌⊎◌, ⊎_elim, Bool, true, List, [], ◌∷◌, ◌++◌, ℕ, Err, Ok, Result, arith, inl, inr, subst, sym}
-use Rattle.std.proofs.lemmas.Result.{on_ok_weaker}
-use Rattle.std.specs.Prelude.{IsErr, IsTrue, None, OnOk, ⊤}
-use Rattle.ss_outside.proofs.CrashLemmas.{joined, now, weaker}
-use Rattle.ss_outside.specs.Crash.{KnowsNow, LeavesOnly}
-use Rattle.ss_outside.specs.Disk.{DiskView, NothingPending, Told}
-use Rattle.ss_outside.specs.Step.{Step}
-use Rattle.ss_outside.specs.Verdict.{failed, fine}
-use Rattle.ss_outside.specs.declared.source.Failed.{Failed}
-use Rattle.ss_catalog.specs.Events.{event_name}
-use Rattle.ss_catalog.specs.declared.event.Event.{Event}
-use Rattle.ss_journal.specs.Calls.{HasSealed, KeepsShown}
-use Rattle.ss_journal.specs.Kept.{IsSealed}
-use Rattle.ss_journal.specs.Redo.{StandsFor}
-use Rattle.ss_journal.proofs.ShownLemmas.{shown-sealed}
-use Rattle.ss_journal.proofs.StepLemmas.{step-next}
-use Rattle.ss_journal.proofs.TearLemmas.{on_err}
-use Rattle.ss_model.specs.History.{Happened, added}
-use Rattle.ss_model.specs.State.{Stream}
-use Rattle.ss_model.specs.Steps.{stepped}
-use Rattle.ss_model.specs.declared.types.Ack.{Ack}
+use Rattle.ss_store.proofs.Common.{◌≡◌, ◌∙◌, ◌⊎◌, ⊎_elim, Bool, true, List, [], ◌∷◌, ◌++◌, ℕ, Err, Ok, Result, arith, inl, inr, subst, sym, on_ok_weaker}
+use Rattle.ss_store.proofs.Common.{IsErr, OnOk, ⊤, now, weaker, KnowsNow, LeavesOnly, DiskView, NothingPending, Told, Step, failed, fine, Failed, event_name}
+use Rattle.ss_store.proofs.Common.{Event, HasSealed, KeepsShown, IsSealed, StandsFor, shown-sealed, step-next, on_err, Happened, added, Stream, stepped, Ack}
+use Rattle.ss_store.proofs.Common.{SealsRecords, RecordsState, shown_by, StreamParts, Applies, IsFew, SealsStore, RecoversToEither, StagesEvent}
+use Rattle.ss_store.proofs.Common.{StandsForEither, StepsState, TurnsShown, said_of_held, StoreIsIn, StoreIsKept, StoreState, part_named, refuses_held}
+use Rattle.ss_store.proofs.Common.{Recovers, Stands, IsShort, StandsShort}
+use Rattle.std.specs.Prelude.{IsTrue, None}
+use Rattle.ss_outside.proofs.CrashLemmas.{joined}
 use Rattle.ss_query.specs.declared.read_error.ReadError.TheVariants as fault
-use Rattle.ss_records.specs.Calls.{SealsRecords}
-use Rattle.ss_records.specs.Kept.{RecordsState, shown_by}
-use Rattle.ss_recover.specs.declared.parts.StreamParts.{StreamParts}
-use Rattle.ss_store.specs.Applied.{Applies, IsFew, SealsStore}
-use Rattle.ss_store.specs.Calls.{AddsEvent, RecoversToEither, SealsHistory, StagesEvent, StandsForEither, StepsState, TurnsShown}
-use Rattle.ss_store.specs.Causes.{said_of_held}
-use Rattle.ss_store.specs.Kept.{StoreIsIn, StoreIsKept, StoreState, part_named, refuses_held}
-use Rattle.ss_store.specs.Recover.{Recovers, Stands}
-use Rattle.ss_store.specs.Uses.{IsShort, StandsShort}
+use Rattle.ss_store.specs.Calls.{AddsEvent, SealsHistory}
 use Rattle.ss_store.specs.declared.error.ApplyError.TheVariants as apply
 use Rattle.ss_store.proofs.Applying.{Applies-failed}
 use Rattle.ss_store.proofs.KeptStates.{Recovers-of_map, Stands-of_map}

@@ -1,31 +1,9 @@
 -- What was staged of a stream is sealed: the value and the joins come to the disk together.
-use Rattle.std.proofs.Common.{inr, ℕ, ℤ, List, ◌++◌, Ok, Option, Result, subst, sym}
-use Rattle.std.specs.Prelude.{IsErr, OnOk}
-use Rattle.ss_outside.specs.Crash.{KnowsNow}
-use Rattle.ss_outside.specs.Disk.{Told}
-use Rattle.ss_outside.specs.Verdict.{IsFirm, Verdict, fine}
-use Rattle.ss_outside.specs.declared.source.Failed.{Failed}
-use Rattle.ss_journal.specs.Kept.{IsSealed}
-use Rattle.ss_journal.proofs.ShownLemmas.{shown-sealed}
-use Rattle.ss_journal.proofs.TearLemmas.{on_err}
-use Rattle.ss_records.specs.Calls.{SealsRecords}
-use Rattle.ss_records.specs.Kept.{AreKept, RecordsState}
-use Rattle.ss_codec.specs.declared.record.Record.{Record}
-use Rattle.ss_summary.specs.Points.{New}
-use Rattle.ss_model.specs.Closed.{closed}
-use Rattle.ss_model.specs.ClosedState.{closed_stream}
-use Rattle.ss_target.specs.Rule.{rule_of}
-use Rattle.ss_model.specs.State.{Stream, values_in}
-use Rattle.ss_model.specs.Steps.{with_plain_value}
-use Rattle.ss_model.proofs.JoinLemmas.{JoinsDue-closed}
-use Rattle.ss_recover.specs.Held.{records_held}
-use Rattle.ss_recover.specs.declared.parts.StreamParts.{StreamParts}
-use Rattle.ss_query.specs.Held.{IsHeldIn}
-use Rattle.ss_query.specs.Reading.{verdict_of_read}
-use Rattle.ss_query.specs.declared.read_error.ReadError.{ReadError}
-use Rattle.ss_store.specs.Calls.{StagesAtCost}
+use Rattle.ss_store.proofs.Common.{inr, ℕ, ℤ, List, ◌++◌, Ok, Option, Result, subst, sym, IsErr, OnOk, KnowsNow, Told, IsFirm, Verdict, fine, Failed}
+use Rattle.ss_store.proofs.Common.{IsSealed, shown-sealed, on_err, SealsRecords, AreKept, RecordsState, Record, New, closed, closed_stream, rule_of, Stream}
+use Rattle.ss_store.proofs.Common.{values_in, with_plain_value, JoinsDue-closed, records_held, StreamParts, IsHeldIn, verdict_of_read, ReadError}
+use Rattle.ss_store.proofs.Common.{StagesAtCost, IsHalfway, IsPartlyJoined, with_single, with_windows}
 use Rattle.ss_store.specs.Changing.{PutsValue, StagesJoins, StagesStream, TurnsStream}
-use Rattle.ss_store.specs.Held.{IsHalfway, IsPartlyJoined, with_single, with_windows}
 use Rattle.ss_store.proofs.Additions.{closed-single}
 use Rattle.ss_store.proofs.ShownCalls.{HasRecords-of_map, IsOfMap, Turns-not_sealed, Turns-sealed, TurnsShown-then}
 use Rattle.ss_store.proofs.Within.{KeepsWithin-not_sealed, KeepsWithin-sealed}

@@ -1,19 +1,7 @@
 -- What was rebuilt is settled, and the records of dropped streams are cleared.
-use Rattle.std.proofs.Common.{◌≡◌, ℕ, List, [], ◌∷◌, ap, flat_map, map, refl, zip, Bool, Ok, Option, None, Result}
-use Rattle.std.proofs.lemmas.Result.{on_ok_weaker}
-use Rattle.std.specs.Prelude.{IsErr}
-use Rattle.ss_outside.specs.Disk.{Told}
-use Rattle.ss_journal.specs.Calls.{KeepsMap}
-use Rattle.ss_codec.specs.declared.record.Record.{Record}
-use Rattle.ss_model.specs.ClosedState.{closed_state}
-use Rattle.ss_model.specs.State.{Stream}
-use Rattle.ss_recover.specs.Held.{AreWhole, AreWholeBeside, records_held, slots_held}
-use Rattle.ss_recover.specs.declared.parts.StreamParts.{StreamParts}
-use Rattle.ss_store.specs.Calls.{Turns}
-use Rattle.ss_store.specs.Clearing.{ClearsSlots}
-use Rattle.ss_store.specs.Rebuilt.{HasRebuilt, HasRebuiltBeside}
-use Rattle.ss_store.specs.Recover.{Recovers}
-use Rattle.ss_store.specs.Slots.{LiveSlotsGo}
+use Rattle.ss_store.proofs.Common.{◌≡◌, ℕ, List, [], ◌∷◌, ap, flat_map, map, refl, zip, Bool, Ok, Option, None, Result, on_ok_weaker, IsErr, Told, KeepsMap}
+use Rattle.ss_store.proofs.Common.{Record, closed_state, Stream, AreWhole, AreWholeBeside, records_held, slots_held, StreamParts, Turns, ClearsSlots}
+use Rattle.ss_store.proofs.Common.{HasRebuilt, HasRebuiltBeside, Recovers, LiveSlotsGo}
 use Rattle.ss_store.proofs.Calls.{Turns-failed, Turns-then, Turns-weaker}
 use Rattle.ss_store.proofs.Clearings.{HasDoomed-of_map, Recovers-doomed}
 use Rattle.ss_store.proofs.ShownCalls.{IsOfMap}

@@ -1,21 +1,11 @@
 -- States of which a stream has other windows, no more than before.
-use Rattle.std.proofs.Common.{◌≡◌, ℕ, zero, suc, ◌≤◌, List, [], ◌∷◌, ◌++◌, length, slice_get, slice_set, refl, ap, ◌∙◌, arith, Some}
-use Rattle.std.specs.Prelude.{sum_by}
-use Rattle.std.proofs.lemmas.List.{length-append, length-set}
-use Rattle.std.proofs.lemmas.List.Elements.{All-set}
-use Rattle.std.proofs.lemmas.List.Sums.{sum_by-cons}
-use Rattle.std.proofs.lemmas.Option.{none-some, same_Some}
-use Rattle.ss_model.specs.Closed.{closed, joined_window}
-use Rattle.ss_model.specs.ClosedState.{closed_stream}
-use Rattle.ss_model.specs.Joins.{JoinsDue, Joins}
-use Rattle.ss_target.specs.Rule.{Rule, rule_of}
-use Rattle.ss_model.specs.Standing.{IsState, IsStream}
-use Rattle.ss_model.specs.State.{Stream, records_of, values_in}
-use Rattle.ss_model.specs.Tiling.{AreWindows}
-use Rattle.ss_model.specs.Windows.{taken}
-use Rattle.ss_model.specs.declared.types.Window.{Window}
-use Rattle.ss_model.proofs.JoinLemmas.{closed-JoinsDue, taken-JoinsDue}
-use Rattle.ss_store.specs.Held.{with_windows}
+use Rattle.ss_store.proofs.Common.{◌≡◌, ℕ, zero, suc, ◌≤◌, List, [], ◌∷◌, ◌++◌, length, slice_set, refl, ap, ◌∙◌, arith, Some, sum_by, length-set, All-set}
+use Rattle.ss_store.proofs.Common.{sum_by-cons, none-some, same_Some, closed, joined_window, closed_stream, JoinsDue, Rule, rule_of, IsState, IsStream}
+use Rattle.ss_store.proofs.Common.{Stream, records_of, values_in, AreWindows, taken, Window, taken-JoinsDue, with_windows}
+use Rattle.std.proofs.Common.{slice_get}
+use Rattle.std.proofs.lemmas.List.{length-append}
+use Rattle.ss_model.specs.Joins.{Joins}
+use Rattle.ss_model.proofs.JoinLemmas.{closed-JoinsDue}
 use Rattle.ss_store.proofs.OneOfMany.{map-set_same}
 
 -- a sum of which a part gets no greater

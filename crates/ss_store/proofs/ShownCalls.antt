@@ -1,27 +1,15 @@
 -- What calls in a row make of what records show, of which some is staged, and what a seal makes of it. In each lemma the disks
 -- are plain values: a caller strips the premise that the disk tells.
-use Rattle.std.proofs.Common.{◌≡◌, ◌⊎◌, ⊎_elim, inl, inr, ℕ, List, [], ◌∷◌, Err, Ok, Option, Result, length, refl, subst, sym, IsPermutation}
-use Rattle.std.proofs.lemmas.Result.{on_ok_weaker}
-use Rattle.std.specs.Prelude.{IsErr, OnOk}
-use Rattle.ss_outside.proofs.CrashLemmas.{joined, now, read_leaves, nothing_pending-same, weaker}
-use Rattle.ss_outside.specs.Crash.{KnowsNow, LeavesOnly, OnlyReads}
-use Rattle.ss_outside.specs.Disk.{NothingPending, Told}
-use Rattle.ss_journal.specs.Calls.{KeepsShown}
+use Rattle.ss_store.proofs.Common.{◌≡◌, ◌⊎◌, ⊎_elim, inl, inr, ℕ, List, [], ◌∷◌, Err, Ok, Option, Result, length, refl, subst, sym, IsPermutation}
+use Rattle.ss_store.proofs.Common.{on_ok_weaker, IsErr, OnOk, now, read_leaves, nothing_pending-same, weaker, KnowsNow, LeavesOnly, OnlyReads, NothingPending}
+use Rattle.ss_store.proofs.Common.{Told, KeepsShown, IsSealed, JournalState, shown, SlotMap, StandsFor, changed, Put, SameMap-refl, StandsFor-also}
+use Rattle.ss_store.proofs.Common.{StandsFor-from, StandsFor-same, shown-sealed, on_err, on_ok, AreKept, RecordsState, shown_by, Record, occupied, HasRecords}
+use Rattle.ss_store.proofs.Common.{StandsLike, Turns, TurnsShown}
+use Rattle.ss_outside.proofs.CrashLemmas.{joined}
 use Rattle.ss_journal.specs.Groups.{entry_count, group_bytes}
 use Rattle.ss_journal.specs.declared.kind.Kind.{Kind}
-use Rattle.ss_journal.specs.Kept.{HasRoomFor, IfStaged, IsSealed, JournalState, shown, with_entries}
-use Rattle.ss_journal.specs.Redo.{SlotMap, StandsFor, changed}
-use Rattle.ss_journal.specs.declared.put.Put.{Put}
-use Rattle.ss_journal.proofs.MapLemmas.{SameMap-refl}
-use Rattle.ss_journal.proofs.RedoLemmas.{StandsFor-also, StandsFor-from, StandsFor-same}
-use Rattle.ss_journal.proofs.ShownLemmas.{shown-sealed}
-use Rattle.ss_journal.proofs.TearLemmas.{on_err, on_ok}
+use Rattle.ss_journal.specs.Kept.{HasRoomFor, IfStaged, with_entries}
 use Rattle.ss_records.specs.Calls.{StagesPuts}
-use Rattle.ss_records.specs.Kept.{AreKept, RecordsState, shown_by}
-use Rattle.ss_codec.specs.declared.record.Record.{Record}
-use Rattle.ss_recover.specs.Held.{occupied}
-use Rattle.ss_query.specs.Slots.{HasRecords}
-use Rattle.ss_store.specs.Calls.{StandsLike, Turns, TurnsShown}
 
 -- what a crash leaves of a call that stages: what the content stood for, or this
 abbrev pub StaysOr : Told → (List ℕ → Type 0) → List ℕ → Type 0

@@ -1,11 +1,5 @@
 -- The calls that leave the map of a disk.
-use Rattle.std.proofs.Common.{List, Result, ℕ}
-use Rattle.std.proofs.lemmas.Result.{on_ok_weaker}
-use Rattle.ss_outside.proofs.CrashLemmas.{weaker}
-use Rattle.ss_outside.specs.Disk.{Told}
-use Rattle.ss_journal.specs.Calls.{KeepsMap}
-use Rattle.ss_journal.specs.Redo.{StandsFor}
-use Rattle.ss_store.specs.Calls.{Turns}
+use Rattle.ss_store.proofs.Common.{List, Result, ℕ, on_ok_weaker, weaker, Told, KeepsMap, StandsFor, Turns}
 use Rattle.ss_store.proofs.ShownCalls.{IsOfMap}
 
 -- a call that keeps the map keeps each property of maps, also in a crash

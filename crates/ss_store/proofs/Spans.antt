@@ -1,18 +1,9 @@
 -- Positions of the entries of a line.
-use Rattle.std.proofs.Common.{◌≡◌, ◌∙◌, ℕ, ◌+◌, ◌≤◌, List, [], ◌∷◌, ◌++◌, map, refl, sym, ap, subst, arith, append_assoc}
-use Rattle.ss_windowing.specs.declared.decay.TheConstants.{MOST_VALUES}
-use Rattle.ss_line.specs.declared.entry.Entry.{Entry}
-use Rattle.ss_model.specs.Closed.{last_position, may_join}
+use Rattle.ss_store.proofs.Common.{◌≡◌, ◌∙◌, ℕ, ◌+◌, ◌≤◌, List, [], ◌∷◌, ◌++◌, map, refl, sym, ap, subst, arith, append_assoc, MOST_VALUES, Entry}
+use Rattle.ss_store.proofs.Common.{last_position, may_join, Rule, may_be_one, AreWindows, taken, Window, TileFrom, span_held, span_of, times_held, times_of}
+use Rattle.ss_store.proofs.Common.{joined_entry, values_held, NoEntriesAreDue, may_be_joined}
 use Rattle.ss_model.specs.Decay.{NoneIsDue}
-use Rattle.ss_target.specs.Rule.{Rule, may_be_one}
-use Rattle.ss_model.specs.Tiling.{AreWindows}
-use Rattle.ss_model.specs.Windows.{taken}
-use Rattle.ss_model.specs.declared.types.Window.{Window}
 use Rattle.ss_model.proofs.Tiles.{last_position-from_AreWindows}
-use Rattle.ss_recover.specs.Held.{TileFrom, span_held, span_of, times_held, times_of}
-use Rattle.ss_schedule.specs.Pairs.{joined_entry}
-use Rattle.ss_store.specs.Held.{values_held}
-use Rattle.ss_store.specs.Joining.{NoEntriesAreDue, may_be_joined}
 
 pub values_held-seam : (front : List Entry) (e : Entry) (rest : List Entry) → values_held (front ++ e ∷ rest) ≡ values_held (e ∷ rest)
 values_held-seam [] e rest = refl

@@ -1,32 +1,13 @@
 -- Calls that make a step of the state that records show, and so stage an event after the history.
-use Rattle.std.proofs.Common.{◌≡◌, ◌⊎◌, ◌+◌, ℕ, List, [], ◌∷◌, ◌++◌, sym, ◌∙◌, subst, refl, None, Some, Option, Result, Ok, Err, inl, inr}
-use Rattle.std.proofs.lemmas.Result.{on_ok_weaker}
-use Rattle.std.specs.Prelude.{◌↔◌, IsTrue}
-use Rattle.ss_outside.proofs.CrashLemmas.{at_start, of_content}
-use Rattle.ss_outside.specs.Crash.{KnowsNow}
-use Rattle.ss_outside.specs.Disk.{DiskView, Told}
-use Rattle.ss_outside.specs.Verdict.{IfUndone}
-use Rattle.ss_catalog.specs.declared.event.Event.{Event}
-use Rattle.ss_catalog.specs.declared.refusal.Refusal.{Refusal}
-use Rattle.ss_summary.specs.Points.{New}
-use Rattle.ss_model.specs.History.{CanBeSaid, Happened, added}
-use Rattle.ss_model.specs.Refusals.{refuses}
-use Rattle.ss_model.specs.State.{Stream, live, state}
-use Rattle.ss_model.specs.Steps.{stepped}
+use Rattle.ss_store.proofs.Common.{◌≡◌, ◌⊎◌, ◌+◌, ℕ, List, [], ◌∷◌, ◌++◌, sym, ◌∙◌, subst, refl, None, Some, Option, Result, Ok, Err, inl, inr, on_ok_weaker}
+use Rattle.ss_store.proofs.Common.{◌↔◌, of_content, KnowsNow, DiskView, Told, IfUndone, Event, Refusal, New, CanBeSaid, Happened, added, refuses, Stream}
+use Rattle.ss_store.proofs.Common.{live, state, stepped, state-push, Ack, StandsFor, RecordsState, shown_by, RecoversToEither, StagesEvent, StandsForEither}
+use Rattle.ss_store.proofs.Common.{StaysWithin, StepsState, TurnsShown, Applies, verdict_of_apply, StoreIsKept, StoreState, refuses_held, ApplyError}
+use Rattle.ss_store.proofs.Common.{Recovers, Stands, IsShort, StandsShort, records_in}
+use Rattle.std.specs.Prelude.{IsTrue}
+use Rattle.ss_outside.proofs.CrashLemmas.{at_start}
 use Rattle.ss_model.proofs.HistoryLemmas.{IsHistory_push}
-use Rattle.ss_model.proofs.StepLemmas.{state-push}
-use Rattle.ss_model.specs.declared.types.Ack.{Ack}
-use Rattle.ss_journal.specs.Redo.{StandsFor}
-use Rattle.ss_records.specs.Kept.{RecordsState, shown_by}
-use Rattle.ss_store.specs.Calls.{RecoversToEither, StagesEvent, StandsForEither, StaysWithin, StepsState, TurnsShown}
-use Rattle.ss_store.specs.Applied.{Applies}
-use Rattle.ss_store.specs.Errors.{verdict_of_apply}
-use Rattle.ss_store.specs.Kept.{StoreIsKept, StoreState, refuses_held}
-use Rattle.ss_store.specs.declared.error.ApplyError.{ApplyError}
 use Rattle.ss_store.specs.declared.error.ApplyError.TheVariants as apply
-use Rattle.ss_store.specs.Recover.{Recovers, Stands}
-use Rattle.ss_store.specs.Uses.{IsShort, StandsShort}
-use Rattle.ss_store.specs.Extents.{records_in}
 use Rattle.ss_store.proofs.KeptStates.{AllAgree-recovered, Recovers-of_map, Recovers-same, Stands-of_map}
 use Rattle.ss_store.proofs.Extents.{records_in-kept}
 use Rattle.ss_store.proofs.Refusals.{refuses_held-is}

@@ -1,9 +1,7 @@
 -- Steps of a disk whose answer is told by another error type.
-use Rattle.std.proofs.Common.{◌≡◌, ◌∙◌, subst}
+use Rattle.ss_store.proofs.Common.{◌≡◌, ◌∙◌, subst, DiskView, Told, Step, Verdict, fine}
 use Rattle.std.specs.Prelude.{IsTrue}
-use Rattle.ss_outside.specs.Disk.{DiskView, Told}
-use Rattle.ss_outside.specs.Step.{Step}
-use Rattle.ss_outside.specs.Verdict.{Counted, Verdict, fine}
+use Rattle.ss_outside.specs.Verdict.{Counted}
 
 -- a step that was fine and one more, by an answer of the same verdict as the second
 pub step-handed : {old mid new : DiskView} {v w : Verdict} {R Q S : Told → Told → Type 0} → v ≡ w → Step fine old mid R → Step v mid new Q →

@@ -1,16 +1,8 @@
 -- What surveying a disk answers.
-use Rattle.std.proofs.Common.{◌≡◌, ℕ, List, Ok, Err}
-use Rattle.ss_model.specs.ClosedState.{closed_state}
-use Rattle.ss_model.specs.Standing.{IsState}
-use Rattle.ss_model.specs.State.{Stream}
-use Rattle.ss_recover.specs.Held.{AllAgree}
-use Rattle.ss_recover.specs.declared.parts.StreamParts.{StreamParts}
-use Rattle.ss_store.specs.Causes.{OpensAs}
-use Rattle.ss_store.specs.Rebuilt.{IsRebuilt}
-use Rattle.ss_store.specs.Surveyed.{SurveysAs, survey_of}
-use Rattle.ss_store.specs.declared.error.OpenError.{OpenError}
+use Rattle.ss_store.proofs.Common.{◌≡◌, ℕ, List, Ok, Err, closed_state, IsState, Stream, AllAgree, StreamParts, OpensAs, IsRebuilt, survey_of, OpenError}
+use Rattle.ss_store.proofs.Common.{Survey}
+use Rattle.ss_store.specs.Surveyed.{SurveysAs}
 use Rattle.ss_store.specs.declared.error.OpenError.TheVariants as opening
-use Rattle.ss_store.specs.declared.surveying.Survey.{Survey}
 use Rattle.ss_store.proofs.Opens.{Recovers-rebuilt}
 
 -- why there is nothing to survey is why there is no store

@@ -1,23 +1,10 @@
 -- What a survey says of the first of some streams that are held.
-use Rattle.std.proofs.Common.{◌≡◌, ◌∙◌, ℕ, zero, suc, ◌+◌, ◌<◌, ◌≤◌, List, [], ◌∷◌, length, flat_map, take, get_or, refl, sym, ap, subst, arith}
-use Rattle.std.specs.Prelude.{All, sum_by}
-use Rattle.std.proofs.Math.Numerals.{add-one}
+use Rattle.ss_store.proofs.Common.{◌≡◌, ◌∙◌, ℕ, zero, suc, ◌+◌, ◌<◌, ◌≤◌, List, [], ◌∷◌, length, flat_map, take, get_or, refl, sym, ap, subst, arith, All}
+use Rattle.ss_store.proofs.Common.{sum_by, add-one, length-map, length-flat_map, All-head, All-tail, length-flat_map-take, sum_by-cons, all_values, AreKnown}
+use Rattle.ss_store.proofs.Common.{closed_state, closed_stream, IsState, IsStream, Stream, Agrees, AllAgree, slots_held, StreamParts, survey_of, Survey}
 use Rattle.std.proofs.Math.Seq.{take-length}
-use Rattle.std.proofs.lemmas.List.{length-map}
-use Rattle.std.proofs.lemmas.List.Concat.{length-flat_map}
-use Rattle.std.proofs.lemmas.List.Elements.{All-head, All-tail}
-use Rattle.std.proofs.lemmas.List.Folds.{length-flat_map-take}
-use Rattle.std.proofs.lemmas.List.Sums.{sum_by-cons, sum_by_more}
-use Rattle.ss_landmarks.specs.Landmark.{all_values}
-use Rattle.ss_landmarks.specs.Landmarks.{AreKnown}
-use Rattle.ss_model.specs.ClosedState.{closed_state, closed_stream}
-use Rattle.ss_model.specs.Standing.{IsState, IsStream}
-use Rattle.ss_model.specs.State.{Stream}
-use Rattle.ss_recover.specs.Held.{Agrees, AllAgree, slots_held}
-use Rattle.ss_recover.specs.declared.parts.StreamParts.{StreamParts}
+use Rattle.std.proofs.lemmas.List.Sums.{sum_by_more}
 use Rattle.ss_store.proofs.LiveCounts.{length-slots_held}
-use Rattle.ss_store.specs.Surveyed.{survey_of}
-use Rattle.ss_store.specs.declared.surveying.Survey.{Survey}
 
 -- how many windows streams have, once the merges that are due are made
 abbrev pub closed_counts : List Stream → ℕ

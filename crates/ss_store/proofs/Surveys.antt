@@ -1,27 +1,14 @@
 -- How many windows streams have once the merges that are due are made, told by the positions and the times of their windows alone.
-use Rattle.std.proofs.Common.{◌≡◌, ◌∙◌, ℕ, suc, ◌+◌, ◌-◌, ◌<◌, ◌≤◌, true, false, if◌then◌else◌, List, [], ◌∷◌, ◌++◌, length, map, refl, sym, ap}
-use Rattle.std.proofs.Common.{ap₂, subst, arith, append_assoc, length-append, count_by, Some, None, inl, inr}
-use Rattle.std.specs.List.{list_any}
-use Rattle.std.proofs.lemmas.Bool.{cases_Bool}
-use Rattle.std.proofs.lemmas.List.{map-append}
-use Rattle.ss_windowing.specs.declared.decay.TheConstants.{MOST_VALUES}
-use Rattle.ss_catalog.specs.declared.params.Params.{Params}
-use Rattle.ss_target.specs.Targets.{params_of}
-use Rattle.ss_line.specs.Line.{StandsIn, entry_at, index_of, is_at, place_at}
-use Rattle.ss_line.specs.declared.entry.At.{At}
-use Rattle.ss_line.specs.declared.entry.Entry.{Entry}
-use Rattle.ss_model.specs.Closed.{closed, closed_onto, joined_window, may_join}
-use Rattle.ss_model.specs.ClosedState.{closed_stream}
-use Rattle.ss_target.specs.Rule.{Rule, rule_of}
-use Rattle.ss_model.specs.Standing.{IsStream}
-use Rattle.ss_model.specs.State.{Stream, values_in}
-use Rattle.ss_model.specs.declared.types.Window.{Window}
-use Rattle.ss_recover.specs.Held.{Agrees, TileFrom, entries_of, span_held, span_of, times_held, times_of}
-use Rattle.ss_recover.specs.declared.parts.StreamParts.{StreamParts}
-use Rattle.ss_store.specs.Held.{values_held}
-use Rattle.ss_store.specs.Joining.{may_be_joined}
+use Rattle.ss_store.proofs.Common.{◌≡◌, ◌∙◌, ℕ, suc, ◌+◌, ◌-◌, ◌<◌, ◌≤◌, true, false, List, [], ◌∷◌, ◌++◌, length, map, refl, sym, ap, ap₂, subst, arith}
+use Rattle.ss_store.proofs.Common.{append_assoc, length-append, Some, None, inl, inr, list_any, cases_Bool, map-append, MOST_VALUES, Params, params_of}
+use Rattle.ss_store.proofs.Common.{StandsIn, entry_at, index_of, is_at, place_at, At, Entry, closed, joined_window, may_join, closed_stream, Rule, rule_of}
+use Rattle.ss_store.proofs.Common.{IsStream, Stream, values_in, Window, Agrees, TileFrom, entries_of, span_held, span_of, times_held, times_of, StreamParts}
+use Rattle.ss_store.proofs.Common.{values_held, may_be_joined, entries_in, index-once, read-once}
+use Rattle.std.proofs.Common.{if◌then◌else◌}
+use Rattle.std.proofs.Common.{count_by}
+use Rattle.ss_model.specs.Closed.{closed_onto}
 use Rattle.ss_store.proofs.HeldCounts.{values_held-Agrees}
-use Rattle.ss_query.proofs.Places.{IsAt-first, entries_in, index-once, neighbour, nothing_behind, read-once}
+use Rattle.ss_query.proofs.Places.{IsAt-first, neighbour, nothing_behind}
 use Rattle.ss_store.proofs.Spans.{AreTiled, AreTiled-seam, may_be_joined-window}
 
 -- how many windows are left after one that begins with an entry, by those behind it

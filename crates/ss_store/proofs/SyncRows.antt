@@ -1,8 +1,7 @@
 -- How often calls sync, on both sides of where the entries are used up.
-use Rattle.std.proofs.Common.{◌≡◌, ◌≤◌, Ok, Result, arith}
-use Rattle.ss_outside.specs.Disk.{SyncsAtMost, Told}
-use Rattle.ss_records.specs.Kept.{RecordsState}
-use Rattle.ss_store.specs.Calls.{SyncsToApply, SyncsToStage}
+use Rattle.ss_store.proofs.Common.{◌≡◌, ◌≤◌, Ok, Result, arith, Told, RecordsState, SyncsToStage}
+use Rattle.ss_outside.specs.Disk.{SyncsAtMost}
+use Rattle.ss_store.specs.Calls.{SyncsToApply}
 
 module _ {T E : Type 0} (was is : RecordsState) (old new : Told) where
   -- with 60 entries in use three more transactions need no room

@@ -1,16 +1,7 @@
 -- How often calls in a row make room, and by how many syncs.
-use Rattle.std.proofs.Common.{◌+◌, ◌<◌, ◌≡◌, ◌≤◌, Ok, Result, ap, arith, inl, inr, ℕ}
-use Rattle.std.proofs.lemmas.Bool.{cases_lt, cond-false, cond-true, le-ltb, lt-ltb}
-use Rattle.std.proofs.lemmas.Result.{on_ok_weaker}
-use Rattle.std.specs.Prelude.{IsErr, OnOk, nat_lt}
-use Rattle.ss_outside.proofs.CrashLemmas.{reads-none}
-use Rattle.ss_outside.specs.Crash.{OnlyReads}
-use Rattle.ss_outside.specs.Disk.{Told}
-use Rattle.ss_journal.proofs.TearLemmas.{on_err, on_ok}
-use Rattle.ss_journal.specs.Calls.{SyncsForRoom, entries_after}
-use Rattle.ss_journal.specs.Kept.{JournalState}
-use Rattle.ss_records.specs.Kept.{RecordsState}
-use Rattle.ss_store.specs.Calls.{SyncsToStage}
+use Rattle.ss_store.proofs.Common.{◌+◌, ◌<◌, ◌≡◌, ◌≤◌, Ok, Result, ap, arith, inl, inr, ℕ, cases_lt, cond-false, cond-true, on_ok_weaker, IsErr, OnOk, nat_lt}
+use Rattle.ss_store.proofs.Common.{reads-none, OnlyReads, Told, on_err, on_ok, SyncsForRoom, entries_after, JournalState, RecordsState, SyncsToStage}
+use Rattle.std.proofs.lemmas.Bool.{le-ltb, lt-ltb}
 
 module _ {S F T E : Type 0} {few most : ℕ} {was is : RecordsState} {old new : Told} where
   -- a step answered Ok, and the call answers whatever it answers

@@ -1,31 +1,12 @@
 -- A store in which a stream takes a value outside landmarks: what is known before the call, and what the store does then.
-use Rattle.std.proofs.Common.{◌≡◌, ◌∙◌, ℕ, ℤ, ◌+◌, ◌<◌, ◌≤◌, Bool, true, false, List, flat_map, get_or, slice_set, length, ap, arith, refl, sym}
-use Rattle.std.proofs.Common.{subst, Err, None, Ok, Some}
-use Rattle.std.proofs.lemmas.Option.{slice_get_within}
-use Rattle.ss_outside.specs.Disk.{DiskView, OfContent}
-use Rattle.ss_outside.specs.Step.{Step}
-use Rattle.ss_outside.specs.Verdict.{fine}
-use Rattle.ss_journal.proofs.StepLemmas.{step-from}
-use Rattle.ss_catalog.specs.declared.event.Event.TheVariants.{Value}
-use Rattle.ss_catalog.specs.declared.stream_id.StreamId.{StreamId}
-use Rattle.ss_line.specs.Line.{LineState}
+use Rattle.ss_store.proofs.Common.{◌≡◌, ◌∙◌, ℕ, ℤ, ◌+◌, ◌<◌, ◌≤◌, Bool, true, false, List, flat_map, get_or, slice_set, length, ap, arith, refl, sym, subst}
+use Rattle.ss_store.proofs.Common.{Err, None, Ok, Some, slice_get_within, DiskView, OfContent, Step, fine, step-from, Value, StreamId, LineState, CanBeSaid}
+use Rattle.ss_store.proofs.Common.{RecordsState, shown_by, entries_of, slots_held, StreamParts, IsTaker, Applies, StandsOn, StagesAtCost, ChangedIsHeld}
+use Rattle.ss_store.proofs.Common.{NoneAreDue, apply_of_fault, verdict_of_read, IsOrdered, IsSameStream, values_held, IndexState, IsReservedFor, StandsAfter}
+use Rattle.ss_store.proofs.Common.{is_past, IsSound, SameButSpare, StoreIsKept, StoreState, refuses_held, AreSomeLive, ReadError}
 use Rattle.ss_line.specs.declared.line.TheConstants.{MOST_PLACES}
-use Rattle.ss_model.specs.History.{CanBeSaid}
-use Rattle.ss_records.specs.Kept.{RecordsState, shown_by}
-use Rattle.ss_recover.specs.Held.{entries_of, slots_held}
-use Rattle.ss_recover.specs.declared.parts.StreamParts.{StreamParts}
-use Rattle.ss_store.specs.Admitted.{IsTaker}
-use Rattle.ss_store.specs.Applied.{Applies, StandsOn}
-use Rattle.ss_store.specs.Calls.{StagesAtCost}
-use Rattle.ss_store.specs.Changing.{ChangedIsHeld, NoneAreDue, TakesValue}
-use Rattle.ss_store.specs.Errors.{apply_of_fault}
-use Rattle.ss_query.specs.Reading.{verdict_of_read}
-use Rattle.ss_store.specs.Held.{IsOrdered, IsSameStream, values_held}
-use Rattle.ss_store.specs.Indexed.{CanAppend, IndexState, IsReservedFor, StandsAfter}
-use Rattle.ss_model.specs.Refusals.{is_past}
-use Rattle.ss_store.specs.Kept.{IsSound, SameButSpare, StoreIsKept, StoreState, refuses_held}
-use Rattle.ss_store.specs.Slots.{AreSomeLive}
-use Rattle.ss_query.specs.declared.read_error.ReadError.{ReadError}
+use Rattle.ss_store.specs.Changing.{TakesValue}
+use Rattle.ss_store.specs.Indexed.{CanAppend}
 use Rattle.ss_store.proofs.Among.{IsNoEarlier-past}
 use Rattle.ss_store.proofs.Appended.{AreWhole-IsSpared, IsSound-set, IsSpared, IsSpared-line, SameButSpare-IsSpared, StepsState-appended}
 use Rattle.ss_store.proofs.Appended.{StoreIsKept-IsSpared, StoreIsKept-appended, held-taker, live-IsSpared, others, pair, part-read, part_named-set}

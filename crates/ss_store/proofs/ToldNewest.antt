@@ -1,30 +1,10 @@
 -- What a look for the newest value of a stream tells, of what a store shows.
-use Rattle.std.proofs.Common.{◌≡◌, ◌∙◌, ℕ, ◌+◌, false, List, length, map, sym, ap, subst, Some, None, Ok}
-use Rattle.std.specs.Prelude.{IsTrue, option_map, slice_get}
-use Rattle.std.specs.List.Sorted.{IsStrictlyIncreasing}
-use Rattle.ss_outside.specs.Disk.{DiskView}
-use Rattle.ss_outside.specs.Step.{Step}
-use Rattle.ss_outside.specs.Verdict.{fine}
-use Rattle.ss_outside.proofs.CrashLemmas.{reads-none}
-use Rattle.ss_outside.proofs.StepLemmas.{step-none}
-use Rattle.ss_landmarks.specs.Newest.{newest_value}
-use Rattle.ss_line.specs.Line.{index_of}
-use Rattle.ss_line.specs.declared.entry.At.{At}
-use Rattle.ss_model.specs.History.{Happened}
-use Rattle.ss_model.specs.Newest.{known_exactly, newest_in, newest_of, newest_told}
-use Rattle.ss_model.specs.Standing.{IsState}
-use Rattle.ss_model.specs.State.{Stream, state, stream_named, stream_numbered}
-use Rattle.ss_model.specs.Shown.{placed_of}
-use Rattle.ss_model.specs.declared.newest.Newest.{Newest}
-use Rattle.ss_model.specs.declared.types.Placed.{Placed}
+use Rattle.ss_store.proofs.Common.{◌≡◌, ◌∙◌, ℕ, ◌+◌, false, List, length, map, sym, ap, subst, Some, None, Ok, option_map, slice_get, IsStrictlyIncreasing}
+use Rattle.ss_store.proofs.Common.{DiskView, Step, fine, reads-none, step-none, newest_value, index_of, At, Happened, known_exactly, newest_in, newest_of}
+use Rattle.ss_store.proofs.Common.{newest_told, IsState, Stream, state, stream_named, stream_numbered, placed_of, Newest, Placed, shown_by, AllAgree, Agrees}
+use Rattle.ss_store.proofs.Common.{StreamParts, ShowsWindow, StandsOn, StoreState, part_named, part_numbered, TellsNewest, newest_place, Recovers, Stands}
+use Rattle.std.specs.Prelude.{IsTrue}
 use Rattle.ss_model.proofs.NewestLemmas.{HoldsOf, newest_in-holds}
-use Rattle.ss_records.specs.Kept.{shown_by}
-use Rattle.ss_recover.specs.Held.{AllAgree, Agrees}
-use Rattle.ss_recover.specs.declared.parts.StreamParts.{StreamParts}
-use Rattle.ss_store.specs.Applied.{ShowsWindow, StandsOn}
-use Rattle.ss_store.specs.Kept.{StoreState, part_named, part_numbered}
-use Rattle.ss_store.specs.Newest.{TellsNewest, newest_place}
-use Rattle.ss_store.specs.Recover.{Recovers, Stands}
 use Rattle.ss_store.proofs.KeptStates.{AllAgree-recovered}
 use Rattle.ss_store.proofs.Named.{AreFound-named, AreFound-numbered, numbers-AllAgree}
 use Rattle.ss_store.proofs.NewestWindows.{known_placed, newest_of-kept, newest_of-read}

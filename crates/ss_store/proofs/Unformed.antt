@@ -1,17 +1,10 @@
 -- What a file stands for that isn't formed.
-use Rattle.std.proofs.Common.{◌≡◌, ℕ, List, [], ◌∷◌, filter, map, IsTrue, refl, ap, sym, subst, not, IsPermutation}
-use Rattle.std.specs.List.{range_with_len}
-use Rattle.std.proofs.lemmas.List.Sorted.{IsPermutation-refl}
-use Rattle.ss_journal.specs.Format.{is_unborn}
-use Rattle.ss_journal.specs.Redo.{StandsFor, blank_map, zeros}
-use Rattle.ss_journal.proofs.MapLemmas.{SameMap-refl}
-use Rattle.ss_journal.proofs.RedoLemmas.{StandsFor-from, redo-unborn}
-use Rattle.ss_records.specs.Live.{are_zeros}
+use Rattle.ss_store.proofs.Common.{◌≡◌, ℕ, List, [], ◌∷◌, filter, map, IsTrue, refl, ap, sym, subst, not, IsPermutation, range_with_len, IsPermutation-refl}
+use Rattle.ss_store.proofs.Common.{is_unborn, StandsFor, blank_map, zeros, SameMap-refl, StandsFor-from, are_zeros, occupied, Recovers, Stands}
+use Rattle.ss_journal.proofs.RedoLemmas.{redo-unborn}
 use Rattle.ss_model.specs.State.{state}
 use Rattle.ss_model.proofs.HistoryLemmas.{IsHistory-nil}
 use Rattle.ss_model.proofs.StandLemmas.{IsState-nil}
-use Rattle.ss_recover.specs.Held.{occupied}
-use Rattle.ss_store.specs.Recover.{Recovers, Stands}
 use Rattle.ss_store.proofs.Among.{Recovers-held}
 
 none-live : (slots : List ℕ) → filter (λ slot. not (are_zeros zeros)) slots ≡ []

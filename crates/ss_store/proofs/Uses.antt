@@ -1,19 +1,8 @@
 -- How many slots a history allows, and images that use no more.
-use Rattle.std.proofs.Common.{◌≡◌, ◌⊎◌, ◌+◌, ◌≤◌, ◌++◌, ⊎_elim, inl, inr, ℕ, List, [], ◌∷◌, None, Option, Result, Some, ap, append_assoc, arith, subst, sym}
-use Rattle.std.proofs.lemmas.List.{append-nil}
-use Rattle.std.proofs.lemmas.Result.{on_ok_weaker}
-use Rattle.std.specs.Prelude.{OnOk, max}
-use Rattle.ss_outside.proofs.CrashLemmas.{weaker}
-use Rattle.ss_outside.specs.Crash.{LeavesOnly}
-use Rattle.ss_outside.specs.Disk.{NothingPending, Told}
-use Rattle.ss_journal.proofs.TearLemmas.{on_ok}
-use Rattle.ss_journal.specs.Redo.{SlotMap, StandsFor}
-use Rattle.ss_model.specs.History.{Happened}
-use Rattle.ss_model.specs.State.{live, state}
-use Rattle.ss_records.specs.Kept.{RecordsState, shown_by}
-use Rattle.ss_store.specs.Calls.{StaysWithin}
-use Rattle.ss_store.specs.Recover.{Stands}
-use Rattle.ss_store.specs.Uses.{IsShort, StandsShort, UsesAtMost, most_needed, most_needed_from}
+use Rattle.ss_store.proofs.Common.{◌≡◌, ◌⊎◌, ◌+◌, ◌≤◌, ◌++◌, ⊎_elim, inl, inr, ℕ, List, [], ◌∷◌, None, Option, Result, Some, ap, append_assoc, arith, subst}
+use Rattle.ss_store.proofs.Common.{sym, append-nil, on_ok_weaker, OnOk, max, weaker, LeavesOnly, NothingPending, Told, on_ok, SlotMap, StandsFor, Happened}
+use Rattle.ss_store.proofs.Common.{live, state, RecordsState, shown_by, StaysWithin, Stands, IsShort, StandsShort, UsesAtMost, most_needed}
+use Rattle.ss_store.specs.Uses.{most_needed_from}
 use Rattle.ss_store.proofs.KeptStates.{Stands-of_map}
 use Rattle.ss_store.proofs.ShownCalls.{StaysOr, of_map-like}
 use Rattle.ss_store.proofs.Within.{UsesAtMost-also, UsesAtMost-more, UsesAtMost-of_map}

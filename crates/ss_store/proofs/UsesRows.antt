@@ -1,24 +1,13 @@
 -- How many slots an image uses and a history needs, where the definitions leave no room.
-use Rattle.std.proofs.Common.{◌≡◌, ◌⊎◌, ◌+◌, ◌*◌, ℕ, List, [], ◌∷◌, None, Ok, Some, arith, pos, refl, subst, sym}
-use Rattle.std.specs.Prelude.{Result, length, max, replicate, ⊤}
-use Rattle.ss_outside.specs.Crash.{LeavesOnly}
-use Rattle.ss_outside.specs.Disk.{NothingPending, Told}
-use Rattle.ss_outside.specs.declared.source.Failed.{Failed}
-use Rattle.ss_catalog.specs.Params.{exp}
+use Rattle.ss_store.proofs.Common.{◌≡◌, ◌⊎◌, ◌+◌, ◌*◌, ℕ, List, [], ◌∷◌, None, Ok, Some, arith, pos, refl, subst, sym, max, replicate, ⊤, LeavesOnly}
+use Rattle.ss_store.proofs.Common.{NothingPending, Told, Failed, exp, blank_map, stands, SameMap-refl, StandsFor-from, StandsFor-same, Happened, added}
+use Rattle.ss_store.proofs.Common.{RecordsState, shown_by, OpensStore, SealsStore, KeepsWithin, StandsLike, StaysWithin, StoreState, Stands, IsShort}
+use Rattle.ss_store.proofs.Common.{StandsShort, UsesAtMost, most_needed, OpenError}
+use Rattle.std.specs.Prelude.{Result, length}
 use Rattle.ss_catalog.specs.declared.event.Event.TheVariants as events
 use Rattle.ss_journal.specs.Format.{is_born, is_unborn}
-use Rattle.ss_journal.specs.Redo.{blank_map, redo, stands}
-use Rattle.ss_journal.proofs.MapLemmas.{SameMap-refl}
-use Rattle.ss_journal.proofs.RedoLemmas.{StandsFor-from, StandsFor-same}
-use Rattle.ss_model.specs.History.{Happened, added}
+use Rattle.ss_journal.specs.Redo.{redo}
 use Rattle.ss_model.specs.State.{state}
-use Rattle.ss_records.specs.Kept.{RecordsState, shown_by}
-use Rattle.ss_store.specs.Applied.{OpensStore, SealsStore}
-use Rattle.ss_store.specs.Calls.{KeepsWithin, StandsLike, StaysWithin}
-use Rattle.ss_store.specs.Kept.{StoreState}
-use Rattle.ss_store.specs.Recover.{Stands}
-use Rattle.ss_store.specs.Uses.{IsShort, StandsShort, UsesAtMost, most_needed}
-use Rattle.ss_store.specs.declared.error.OpenError.{OpenError}
 
 -- a file of two slots, of zeros
 abbrev two_slots : List ℕ

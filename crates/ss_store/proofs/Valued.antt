@@ -1,37 +1,19 @@
 -- A stream that takes a value, or whose landmarks take an event: the state with it.
-use Rattle.std.proofs.Common.{◌≡◌, ℕ, zero, suc, ◌+◌, ◌<◌, ℤ, true, false, List, [], ◌∷◌, ◌++◌, drop, get_or, slice_get, slice_set, refl, ap, sym}
-use Rattle.std.proofs.Common.{◌∙◌, subst, arith, None, Some, inl, inr}
-use Rattle.std.specs.List.{AllByRecursion, IsDistinct}
-use Rattle.std.proofs.lemmas.Bool.{cases_Bool}
-use Rattle.std.proofs.lemmas.List.{length-set, length_push, map-set}
-use Rattle.std.proofs.lemmas.List.Elements.{All-set}
+use Rattle.ss_store.proofs.Common.{◌≡◌, ℕ, zero, suc, ◌+◌, ◌<◌, ℤ, true, false, List, [], ◌∷◌, ◌++◌, drop, get_or, slice_set, refl, ap, sym, ◌∙◌, subst}
+use Rattle.ss_store.proofs.Common.{arith, None, Some, inl, inr, AllByRecursion, IsDistinct, cases_Bool, length-set, length_push, map-set, All-set}
+use Rattle.ss_store.proofs.Common.{get_or_from_slice_get, none-some, same_Some, slice_get_within, same_name, Event, Value, MOST_VALUES, New, closed}
+use Rattle.ss_store.proofs.Common.{closed_state, closed_stream, CanBeSaid, is_past, refuses, rule_of, IsState, IsStream, Stream, last_time, records_of}
+use Rattle.ss_store.proofs.Common.{values_in, has_open, with_closed, with_opened, single_window, stepped, with_plain_value, JoinsDue-closed}
+use Rattle.ss_store.proofs.Common.{same_name-Decides, CanAppend-refuses, IsStream-single, taken-append, with_single, with_windows, IsInOpen, event_of}
+use Rattle.ss_store.proofs.Common.{with_mark, Mark}
+use Rattle.std.proofs.Common.{slice_get}
 use Rattle.std.proofs.lemmas.List.Sums.{sum_by-set}
 use Rattle.std.proofs.lemmas.Map.Keys.{IsDistinct-head, IsDistinct-tail}
-use Rattle.std.proofs.lemmas.Option.{get_or_from_slice_get, none-some, same_Some, slice_get_within}
-use Rattle.ss_catalog.specs.Names.{same_name}
-use Rattle.ss_catalog.specs.declared.event.Event.{Event}
-use Rattle.ss_catalog.specs.declared.event.Event.TheVariants.{Value, Open, Close}
-use Rattle.ss_windowing.specs.declared.decay.TheConstants.{MOST_VALUES}
-use Rattle.ss_summary.specs.Points.{New}
-use Rattle.ss_model.specs.Closed.{closed}
-use Rattle.ss_model.specs.ClosedState.{closed_state, closed_stream}
-use Rattle.ss_model.specs.History.{CanBeSaid}
-use Rattle.ss_model.specs.Refusals.{is_past, refuses}
-use Rattle.ss_target.specs.Rule.{rule_of}
-use Rattle.ss_model.specs.Standing.{IsState, IsStream}
-use Rattle.ss_model.specs.State.{Stream, last_time, names_of, records_of, values_in}
-use Rattle.ss_model.specs.Marks.{has_open, with_closed, with_opened}
-use Rattle.ss_model.specs.Steps.{change_named, single_window, stepped, with_taken, with_plain_value, stepped_from}
-use Rattle.ss_model.proofs.JoinLemmas.{JoinsDue-closed}
-use Rattle.ss_model.proofs.NameLemmas.{same_name-Decides}
+use Rattle.ss_catalog.specs.declared.event.Event.TheVariants.{Open, Close}
+use Rattle.ss_model.specs.State.{names_of}
+use Rattle.ss_model.specs.Steps.{change_named, with_taken, stepped_from}
 use Rattle.ss_model.proofs.StandLemmas.{IsPossible-single, below-has_all_records}
-use Rattle.ss_model.proofs.StepLemmas.{CanAppend-refuses}
-use Rattle.ss_model.proofs.StreamLemmas.{IsStream-single}
 use Rattle.ss_model.proofs.Stretches.{count-summary_of, taken-cons}
-use Rattle.ss_model.proofs.Tiles.{taken-append}
-use Rattle.ss_store.specs.Held.{with_single, with_windows}
-use Rattle.ss_store.specs.Marking.{IsInOpen, event_of, with_mark}
-use Rattle.ss_store.specs.declared.marking.Mark.{Mark}
 use Rattle.ss_store.specs.declared.marking.Mark.TheVariants as mark
 use Rattle.ss_store.proofs.OneOfMany.{map-set_same}
 use Rattle.ss_store.proofs.ShorterStates.{closed_stream-joined}

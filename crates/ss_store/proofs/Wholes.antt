@@ -1,20 +1,8 @@
 -- What changes of one stream in a row keep over every disk, and what joins in a row make of it.
-use Rattle.std.proofs.Common.{◌∙◌, ℕ, Bool, List, Option, Ok, Result, arith, refl, subst, sym, length, ◌-◌, ◌≤◌, ◌≡◌}
-use Rattle.ss_outside.specs.Crash.{KnowsNow}
-use Rattle.ss_outside.specs.Disk.{DiskView, Told}
-use Rattle.ss_outside.specs.Step.{Step}
-use Rattle.ss_outside.specs.Verdict.{fine}
-use Rattle.ss_journal.specs.Calls.{HasSealed}
-use Rattle.ss_journal.specs.Kept.{IsSettled}
-use Rattle.ss_records.specs.Kept.{RecordsState}
-use Rattle.ss_recover.specs.Held.{entries_of, slots_held}
-use Rattle.ss_recover.specs.declared.parts.StreamParts.{StreamParts}
-use Rattle.ss_store.specs.Calls.{StagesAtCost}
-use Rattle.ss_store.specs.Changing.{JoinsWindows, KeepsAtRest, KeepsWhole}
-use Rattle.ss_store.specs.Held.{IsOrdered, IsSameStream, values_held, with_windows}
-use Rattle.ss_store.specs.Indexed.{IndexState, IsKeyedFor, StandsAfter}
-use Rattle.ss_store.specs.Slots.{LiveSlotsGo}
-use Rattle.ss_query.specs.declared.read_error.ReadError.{ReadError}
+use Rattle.ss_store.proofs.Common.{◌∙◌, ℕ, Bool, List, Option, Ok, Result, arith, refl, subst, sym, length, ◌-◌, ◌≤◌, ◌≡◌, KnowsNow, DiskView, Told, Step}
+use Rattle.ss_store.proofs.Common.{fine, HasSealed, IsSettled, RecordsState, entries_of, slots_held, StreamParts, StagesAtCost, KeepsWhole, IsOrdered}
+use Rattle.ss_store.proofs.Common.{IsSameStream, values_held, with_windows, IndexState, IsKeyedFor, StandsAfter, LiveSlotsGo, ReadError}
+use Rattle.ss_store.specs.Changing.{JoinsWindows, KeepsAtRest}
 use Rattle.ss_store.proofs.Closings.{JoinsEach-more, JoinsEach-none}
 use Rattle.ss_store.proofs.LiveSlots.{LiveSlotsGo-none, LiveSlotsGo-then}
 

@@ -1,12 +1,7 @@
 -- Slots that are put last one by one: those of windows, and those of landmarks and their values.
-use Rattle.std.proofs.Common.{◌≡◌, ◌∙◌, ℕ, ◌+◌, List, [], ◌∷◌, ◌++◌, map, take, ap, sym, Some}
-use Rattle.std.specs.Prelude.{slice_get}
-use Rattle.std.proofs.lemmas.List.{append_assoc, map_more, take_more}
-use Rattle.std.proofs.lemmas.Option.{get_or_from_slice_get, slice_get_within}
-use Rattle.ss_line.specs.Line.{StandsIn, index_of}
-use Rattle.ss_line.specs.declared.entry.At.{At}
-use Rattle.ss_line.specs.declared.entry.Entry.{Entry}
-use Rattle.ss_query.proofs.Places.{entries_in}
+use Rattle.ss_store.proofs.Common.{◌≡◌, ◌∙◌, ℕ, ◌+◌, List, [], ◌∷◌, ◌++◌, map, take, ap, sym, Some, slice_get, take_more, get_or_from_slice_get}
+use Rattle.ss_store.proofs.Common.{slice_get_within, StandsIn, index_of, At, Entry, entries_in}
+use Rattle.std.proofs.lemmas.List.{append_assoc, map_more}
 
 -- the slots of entries
 abbrev pub entry_slots : List Entry → List ℕ

@@ -1,24 +1,9 @@
 -- One window of a stream that is held: its entry, and its place in the line.
-use Rattle.std.proofs.Common.{◌≡◌, ℕ, zero, suc, ◌+◌, ◌<◌, ◌≤◌, Bool, List, [], ◌∷◌, ◌++◌, length, ap, sym, ◌∙◌, subst, arith, Some}
-use Rattle.std.specs.Prelude.{slice_get, option_map, ◌==◌, All}
-use Rattle.std.specs.List.{AllByRecursion, range_with_len}
-use Rattle.std.proofs.lemmas.List.Elements.{All-filter, All-from_recursion, All-get_or, recursion_from_All}
-use Rattle.std.proofs.lemmas.List.Folds.{find_at}
-use Rattle.std.proofs.lemmas.List.Sorted.{All-permutation, IsPermutation-sym}
-use Rattle.std.proofs.lemmas.Option.{get_or_from_slice_get, none-some, same_Some, slice_get-map, slice_get_within}
-use Rattle.ss_journal.specs.declared.format.TheConstants.{MOST_SLOTS}
-use Rattle.ss_line.specs.Line.{entry_at, index_of}
-use Rattle.ss_line.specs.declared.entry.At.{At}
-use Rattle.ss_line.specs.declared.entry.Entry.{Entry}
-use Rattle.ss_records.specs.Live.{is_live}
-use Rattle.ss_windowing.specs.declared.decay.TheConstants.{MOST_VALUES}
-use Rattle.ss_recover.specs.Held.{AreWhole, TileFrom, entries_of, mark_slots, slots_held, window_slots}
-use Rattle.ss_recover.specs.declared.parts.StreamParts.{StreamParts}
-use Rattle.ss_recover.proofs.Lists.{range-within}
-use Rattle.ss_query.specs.Answered.{window_slots_of}
-use Rattle.ss_query.proofs.Places.{slice_get-entry}
-use Rattle.ss_store.specs.Kept.{part_numbered}
-use Rattle.ss_store.specs.Slots.{AreSomeLive, live_slots}
+use Rattle.ss_store.proofs.Common.{◌≡◌, ℕ, zero, suc, ◌+◌, ◌<◌, ◌≤◌, Bool, List, [], ◌∷◌, ◌++◌, length, ap, sym, ◌∙◌, subst, arith, Some, slice_get}
+use Rattle.ss_store.proofs.Common.{option_map, ◌==◌, All, AllByRecursion, range_with_len, All-filter, All-from_recursion, All-get_or, recursion_from_All}
+use Rattle.ss_store.proofs.Common.{find_at, All-permutation, IsPermutation-sym, get_or_from_slice_get, none-some, same_Some, slice_get-map, slice_get_within}
+use Rattle.ss_store.proofs.Common.{MOST_SLOTS, entry_at, index_of, At, Entry, is_live, MOST_VALUES, AreWhole, TileFrom, entries_of, mark_slots, slots_held}
+use Rattle.ss_store.proofs.Common.{window_slots, StreamParts, range-within, window_slots_of, slice_get-entry, part_numbered, AreSomeLive, live_slots}
 use Rattle.ss_store.proofs.Among.{AreWhole-at}
 
 TileFrom-at : (first : ℕ) (es : List Entry) (i : ℕ) (e : Entry) → TileFrom first es → slice_get es i ≡ Some e → (e.first ≤ e.last) × (e.last ≤ MOST_VALUES)

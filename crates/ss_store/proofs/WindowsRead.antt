@@ -1,46 +1,20 @@
 -- A window that is read: its record among all, and the window that it is of.
-use Rattle.std.proofs.Common.{◌≡◌, ℕ, zero, suc, Bool, true, IsTrue, List, [], ◌∷◌, ◌++◌, map, remove, refl, ap, sym, ◌∙◌, subst, None, Some, Option, Ok, Err}
-use Rattle.std.specs.Prelude.{slice_get, option_map, IfSome}
-use Rattle.std.specs.List.{list_all}
-use Rattle.std.proofs.lemmas.Bool.{and_parts}
+use Rattle.ss_store.proofs.Common.{◌≡◌, ℕ, zero, suc, Bool, true, IsTrue, List, [], ◌∷◌, ◌++◌, map, remove, refl, ap, sym, ◌∙◌, subst, None, Some, Option, Ok}
+use Rattle.ss_store.proofs.Common.{Err, slice_get, option_map, IfSome, list_all, and_parts, get_or_from_slice_get, none-some, same_Some, slice_get-map}
+use Rattle.ss_store.proofs.Common.{slice_get_within, Event, Record, entry_at, index_of, At, Entry, Figures, lengths_of, Happened, lies_free}
+use Rattle.ss_store.proofs.Common.{IsReadWithinTarget, IsHistory, placed_of, Stream, state, stream_numbered, values_in, Placed, Window, Agrees, entries_of}
+use Rattle.ss_store.proofs.Common.{marks_held, records_held, span_held, span_of, times_held, times_of, window_record, windows_held, StreamParts, DiskView}
+use Rattle.ss_store.proofs.Common.{OfContent, Told, Step, IsFirm, fine, RecordsState, shown_by, IsRead, verdict_of_read, ReadError, ShowsWindow, StoreIsIn}
+use Rattle.ss_store.proofs.Common.{StoreIsKept, StoreState, part_numbered, Recovers, HasRecords, HasRecords-permutation, slice_get-entry}
 use Rattle.std.proofs.lemmas.List.Sorted.{IsPermutation-remove}
-use Rattle.std.proofs.lemmas.Option.{get_or_from_slice_get, none-some, same_Some, slice_get-map, slice_get_within}
-use Rattle.ss_catalog.specs.declared.event.Event.{Event}
-use Rattle.ss_codec.specs.declared.record.Record.{Record}
-use Rattle.ss_line.specs.Line.{entry_at, index_of}
-use Rattle.ss_line.specs.declared.entry.At.{At}
-use Rattle.ss_line.specs.declared.entry.Entry.{Entry}
-use Rattle.ss_summary.specs.Figures.{Figures}
-use Rattle.ss_target.specs.Lengths.{lengths_of}
-use Rattle.ss_model.specs.History.{Happened}
-use Rattle.ss_model.specs.Marks.{lies_free}
-use Rattle.ss_model.specs.Decay.{IsReadWithinTarget}
-use Rattle.ss_model.specs.Refusals.{IsHistory}
-use Rattle.ss_model.specs.Shown.{placed_of}
-use Rattle.ss_model.specs.State.{Stream, state, stream_numbered, values_in}
-use Rattle.ss_model.specs.declared.types.Placed.{Placed}
-use Rattle.ss_model.specs.declared.types.Window.{Window}
 use Rattle.ss_model.proofs.WithinLemmas.{IsReadWithinTarget-read}
-use Rattle.ss_recover.specs.Held.{Agrees, entries_of, marks_held, records_held, span_held, span_of, times_held, times_of, window_record, windows_held}
-use Rattle.ss_recover.specs.declared.parts.StreamParts.{StreamParts}
-use Rattle.ss_outside.specs.Disk.{DiskView, OfContent, Told}
-use Rattle.ss_outside.specs.Step.{Step}
-use Rattle.ss_outside.specs.Verdict.{IsFirm, fine}
-use Rattle.ss_records.specs.Kept.{RecordsState, shown_by}
-use Rattle.ss_query.specs.Reading.{IsRead, ReadsWindow, verdict_of_read}
-use Rattle.ss_query.specs.declared.read_error.ReadError.{ReadError}
+use Rattle.ss_query.specs.Reading.{ReadsWindow}
 use Rattle.ss_query.specs.declared.read_error.ReadError.TheVariants as error
-use Rattle.ss_store.specs.Applied.{ShowsWindow}
-use Rattle.ss_store.specs.Kept.{StoreIsIn, StoreIsKept, StoreState, part_numbered}
-use Rattle.ss_store.specs.Recover.{Recovers}
-use Rattle.ss_query.specs.Slots.{HasRecords}
 use Rattle.ss_store.proofs.Among.{IsHeldIn-at, others_of}
 use Rattle.ss_store.proofs.KeptStates.{Recovers-StoreIsIn, Recovers-same}
 use Rattle.ss_store.proofs.Named.{AreFound-numbered}
 use Rattle.ss_store.proofs.OneOfMany.{slice_get-zip}
-use Rattle.ss_query.proofs.Records.{HasRecords-permutation}
 use Rattle.ss_store.proofs.WindowsHeld.{first_at}
-use Rattle.ss_query.proofs.Places.{slice_get-entry}
 
 -- a window of the state that the content stands for, and its record; it lies free among the landmarks
 pub record IsKeptWindow (content : List ℕ) (streams : List Stream) (number place : ℕ) (e : Entry) (part : StreamParts) : Type 0 where

@@ -1,19 +1,7 @@
 -- How many slots calls in a row use, also in a crash. In each lemma the disks are plain values: a caller strips the premise that the disk tells.
-use Rattle.std.proofs.Common.{◌≡◌, ◌≤◌, ⊎_elim, ℕ, List, Err, Ok, Result, arith, subst, sym}
-use Rattle.std.specs.Prelude.{IsErr, OnOk, max}
-use Rattle.ss_outside.proofs.CrashLemmas.{reads-none, weaker}
-use Rattle.ss_outside.specs.Crash.{KnowsNow, OnlyReads}
-use Rattle.ss_outside.specs.Disk.{Told}
-use Rattle.ss_journal.specs.Calls.{KeepsMap, KeepsShown}
-use Rattle.ss_journal.specs.Kept.{IsSealed}
-use Rattle.ss_journal.specs.Redo.{SlotMap, StandsFor}
-use Rattle.ss_journal.proofs.MapLemmas.{SameMap-refl}
-use Rattle.ss_journal.proofs.RedoLemmas.{StandsFor-also, StandsFor-from, StandsFor-same}
-use Rattle.ss_journal.proofs.ShownLemmas.{shown-sealed}
-use Rattle.ss_journal.proofs.TearLemmas.{on_ok}
-use Rattle.ss_records.specs.Kept.{AreKept, RecordsState, shown_by}
-use Rattle.ss_store.specs.Calls.{KeepsWithin, StaysWithin, Turns, TurnsShown}
-use Rattle.ss_store.specs.Uses.{UsesAtMost}
+use Rattle.ss_store.proofs.Common.{◌≡◌, ◌≤◌, ⊎_elim, ℕ, List, Err, Ok, Result, arith, subst, sym, IsErr, OnOk, max, reads-none, weaker, KnowsNow, OnlyReads}
+use Rattle.ss_store.proofs.Common.{Told, KeepsMap, KeepsShown, IsSealed, SlotMap, StandsFor, SameMap-refl, StandsFor-also, StandsFor-from, StandsFor-same}
+use Rattle.ss_store.proofs.Common.{shown-sealed, on_ok, AreKept, RecordsState, shown_by, KeepsWithin, StaysWithin, Turns, TurnsShown, UsesAtMost}
 use Rattle.ss_store.proofs.Calls.{Turns-answers, Turns-failed, Turns-joined, Turns-reads}
 use Rattle.ss_store.proofs.Changes.{extent-kept}
 use Rattle.ss_store.proofs.ShownCalls.{IsOfMap, StaysOr, Turns-not_sealed, Turns-sealed, TurnsShown-answers, TurnsShown-failed, TurnsShown-kept}

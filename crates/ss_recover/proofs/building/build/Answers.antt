@@ -1,6 +1,6 @@
-use Rattle.ss_recover.proofs.Words.{◌&&◌, ◌∙◌, ◌≡◌, and_from, ap, ap₂, are_marks, AreMade, has_sound_values_in_order, keep_step, Landmark, landmarks_made}
-use Rattle.ss_recover.proofs.Words.{later, lies_free, List, list_all, MakesMarks, marks_in, Ok, Params, refl, step_number, subst, sym, tile, times_rise, true}
-use Rattle.ss_recover.proofs.Words.{windows_in, without_slots}
+use Rattle.ss_recover.proofs.Common.{◌&&◌, ◌∙◌, ◌≡◌, and_from, ap, ap₂, are_marks, AreMade, has_sound_values_in_order, keep_step, Landmark, landmarks_made}
+use Rattle.ss_recover.proofs.Common.{later, lies_free, List, list_all, MakesMarks, marks_in, Ok, Params, refl, step_number, subst, sym, tile, times_rise, true}
+use Rattle.ss_recover.proofs.Common.{windows_in, without_slots}
 use Rattle.ss_recover.proofs.building.build.Goals as goal
 
 pub returns : goal.returns

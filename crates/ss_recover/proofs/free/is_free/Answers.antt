@@ -1,5 +1,5 @@
-use Rattle.ss_recover.proofs.Words.{[], ◌+◌, ◌-◌, ◌==◌, ◌∙◌, ◌≡◌, ap, arith, Bool, cond, count_by, false, free, is_free, Landmark, List, range_with_len, refl}
-use Rattle.ss_recover.proofs.Words.{sum_by-cons, true, ℕ}
+use Rattle.ss_recover.proofs.Common.{[], ◌+◌, ◌-◌, ◌==◌, ◌∙◌, ◌≡◌, ap, arith, Bool, cond, count_by, false, free, is_free, Landmark, List, range_with_len, refl}
+use Rattle.ss_recover.proofs.Common.{sum_by-cons, true, ℕ}
 use Rattle.ss_recover.proofs.free.is_free.Goals as goal
 
 -- of one time, one is free or none

@@ -1,5 +1,5 @@
-use Rattle.ss_recover.proofs.Words.{◌∙◌, ◌≡◌, ◌≤◌, after-step, ap, AreFoundBelow, arith, IsKept, IsSealed, JournalState, List, rules, StandsFor, step-from}
-use Rattle.ss_recover.proofs.Words.{step-pair, step-refused, subst, sym, ℕ}
+use Rattle.ss_recover.proofs.Common.{◌∙◌, ◌≡◌, ◌≤◌, after-step, ap, AreFoundBelow, arith, IsKept, IsSealed, JournalState, List, rules, StandsFor, step-from}
+use Rattle.ss_recover.proofs.Common.{step-pair, step-refused, subst, sym, ℕ}
 use Rattle.ss_outside.proofs.CrashLemmas.{reads-joined}
 use Rattle.ss_recover.proofs.GatherLemmas.{extent-kept, IsLowestBad-told, StandsFor-sealed}
 use Rattle.ss_recover.proofs.gathering.gather.Goals as goal

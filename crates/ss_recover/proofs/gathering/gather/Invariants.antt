@@ -1,4 +1,4 @@
-use Rattle.ss_recover.proofs.Words.{◌%◌, ◌-◌, ◌<◌, ◌≡◌, ◌≤◌, AreFoundBelow, AreGathered, FindsOut, fine, vec_capacity}
+use Rattle.ss_recover.proofs.Common.{◌%◌, ◌-◌, ◌<◌, ◌≡◌, ◌≤◌, AreFoundBelow, AreGathered, FindsOut, fine, vec_capacity}
 use Rattle.ss_outside.specs.Step.{Step}
 use Rattle.ss_recover.proofs.gathering.gather.Given as goal
 

@@ -1,4 +1,4 @@
-use Rattle.ss_recover.proofs.Words.{◌≡◌, Free, inl, inr, sym}
+use Rattle.ss_recover.proofs.Common.{◌≡◌, Free, inl, inr, sym}
 use Rattle.ss_recover.proofs.ValidRecords.{IsUsable-valid}
 use Rattle.ss_recover.proofs.gathering.record_in.Goals as goal
 

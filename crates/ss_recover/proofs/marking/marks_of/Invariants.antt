@@ -1,4 +1,4 @@
-use Rattle.ss_recover.proofs.Words.{Marked, ShowsMarks, take}
+use Rattle.ss_recover.proofs.Common.{Marked, ShowsMarks, take}
 use Rattle.ss_recover.proofs.marking.marks_of.Given as goal
 
 abbrev pub invariant-loop-one : goal.invariant-loop-one

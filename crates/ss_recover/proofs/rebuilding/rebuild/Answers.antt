@@ -1,6 +1,6 @@
-use Rattle.ss_recover.proofs.Words.{◌∙◌, All, All-permutation, ap, AreBelow, AreFound, AreWholeBeside, arith, Counted, Err, err_from_is_err_and, Found}
-use Rattle.ss_recover.proofs.Words.{found_key, IsUsable, JournalState, length, length_permutation, List, Ok, RecordsState, refl, Rises, step-from, subst, sym}
-use Rattle.ss_recover.proofs.Words.{WalksAs}
+use Rattle.ss_recover.proofs.Common.{◌∙◌, All, All-permutation, ap, AreBelow, AreFound, AreWholeBeside, arith, Counted, Err, err_from_is_err_and, Found}
+use Rattle.ss_recover.proofs.Common.{found_key, IsUsable, JournalState, length, length_permutation, List, Ok, RecordsState, refl, Rises, step-from, subst, sym}
+use Rattle.ss_recover.proofs.Common.{WalksAs}
 use Rattle.ss_outside.proofs.StepLemmas.{step-verdict}
 use Rattle.ss_recover.proofs.GatherLemmas.{AreLiveOver-read, few-gathered, IsKept-read, slots-gathered, verdict-told}
 use Rattle.ss_recover.proofs.InOrder.{Rises-in_order}

@@ -1,4 +1,4 @@
-use Rattle.ss_recover.proofs.Words.{answers_always, found_key, on_ok_weaker, rules}
+use Rattle.ss_recover.proofs.Common.{answers_always, found_key, on_ok_weaker, rules}
 use Rattle.ss_recover.proofs.OrderLemmas.{in_order-from_sort}
 use Rattle.ss_recover.proofs.sorting.sort.Goals as goal
 

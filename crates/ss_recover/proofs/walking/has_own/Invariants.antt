@@ -1,4 +1,4 @@
-use Rattle.ss_recover.proofs.Words.{◌≡◌, false, is_own, list_any, take, without_slots}
+use Rattle.ss_recover.proofs.Common.{◌≡◌, false, is_own, list_any, take, without_slots}
 use Rattle.ss_recover.proofs.walking.has_own.Given as goal
 
 abbrev pub invariant-loop-one : goal.invariant-loop-one

@@ -1,4 +1,4 @@
-use Rattle.ss_recover.proofs.Words.{◌∙◌, sym}
+use Rattle.ss_recover.proofs.Common.{◌∙◌, sym}
 use Rattle.ss_recover.proofs.RunWalk.{stands-none, stands-some}
 use Rattle.ss_recover.proofs.walking.may_stand.Goals as goal
 

@@ -1,4 +1,4 @@
-use Rattle.ss_recover.proofs.Words.{◌++◌, ◌≡◌, slots_found, take}
+use Rattle.ss_recover.proofs.Common.{◌++◌, ◌≡◌, slots_found, take}
 use Rattle.ss_recover.proofs.walking.push_slots.Given as goal
 
 abbrev pub invariant-loop-one : goal.invariant-loop-one

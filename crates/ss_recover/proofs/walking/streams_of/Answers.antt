@@ -1,4 +1,4 @@
-use Rattle.ss_recover.proofs.Words.{◌∙◌, ap, arith, Err, err_from_is_err_and, subst, sym, take_all, TakesAs, WalksAs, without_slots}
+use Rattle.ss_recover.proofs.Common.{◌∙◌, ap, arith, Err, err_from_is_err_and, subst, sym, take_all, TakesAs, WalksAs, without_slots}
 use Rattle.ss_recover.proofs.RunsDone.{AreDone, AreDone-none, IsDoneTo-more, walk-refused, walks-end}
 use Rattle.ss_recover.proofs.RunStream.{nothing-before}
 use Rattle.ss_recover.proofs.walking.streams_of.Goals as goal

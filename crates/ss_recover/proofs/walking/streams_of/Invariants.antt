@@ -1,4 +1,4 @@
-use Rattle.ss_recover.proofs.Words.{◌-◌, length}
+use Rattle.ss_recover.proofs.Common.{◌-◌, length}
 use Rattle.ss_recover.proofs.RunsDone.{IsDoneTo}
 use Rattle.ss_recover.proofs.walking.streams_of.Given as goal
 

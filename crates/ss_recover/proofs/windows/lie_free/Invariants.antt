@@ -1,4 +1,4 @@
-use Rattle.ss_recover.proofs.Words.{◌≡◌, drop, lies_free, list_all}
+use Rattle.ss_recover.proofs.Common.{◌≡◌, drop, lies_free, list_all}
 use Rattle.ss_recover.proofs.WindowLaws.{windows_at}
 use Rattle.ss_recover.proofs.windows.lie_free.Given as goal
 

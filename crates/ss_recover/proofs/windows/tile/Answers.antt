@@ -1,4 +1,4 @@
-use Rattle.ss_recover.proofs.Words.{◌+◌, ◌∙◌, ◌≡◌, arith, subst, sym}
+use Rattle.ss_recover.proofs.Common.{◌+◌, ◌∙◌, ◌≡◌, arith, subst, sym}
 use Rattle.ss_recover.proofs.WindowLaws.{TileTo, TileTo-other, TileTo-window}
 use Rattle.ss_recover.proofs.windows.tile.Goals.{in-None, in-Some+else-window-next}
 use Rattle.ss_recover.proofs.windows.tile.Goals as goal

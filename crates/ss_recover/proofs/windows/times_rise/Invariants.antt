@@ -1,4 +1,4 @@
-use Rattle.ss_recover.proofs.Words.{◌≡◌, drop, times_rise}
+use Rattle.ss_recover.proofs.Common.{◌≡◌, drop, times_rise}
 use Rattle.ss_recover.proofs.WindowLaws.{rise_from, windows_at}
 use Rattle.ss_recover.proofs.windows.times_rise.Given as goal
 

@@ -1,4 +1,4 @@
-use Rattle.ss_recover.proofs.Words.{[], ◌++◌, ◌+◌, ◌∙◌, ◌∷◌, ◌≡◌, ap, AreWindowsOf, arith, Found, length-take, List, stream_of, subst, sym, take, take_more}
+use Rattle.ss_recover.proofs.Common.{[], ◌++◌, ◌+◌, ◌∙◌, ◌∷◌, ◌≡◌, ap, AreWindowsOf, arith, Found, length-take, List, stream_of, subst, sym, take, take_more}
 use Rattle.ss_recover.proofs.WindowLaws.{AreWindowsOf-more, AreWindowsOf-other, each-at, room-windows}
 use Rattle.ss_recover.proofs.windows.windows_of.Goals.{in-None, in-Some+in_ok-put-in-Some}
 use Rattle.ss_recover.proofs.windows.windows_of.Goals as goal

@@ -1,4 +1,4 @@
-use Rattle.ss_recover.proofs.Words.{AreWindowsOf, take}
+use Rattle.ss_recover.proofs.Common.{AreWindowsOf, take}
 use Rattle.ss_recover.proofs.windows.windows_of.Given as goal
 
 abbrev pub invariant-loop-one : goal.invariant-loop-one

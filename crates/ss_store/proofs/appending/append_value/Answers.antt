@@ -1,14 +1,6 @@
-use Rattle.std.proofs.Common.{◌≡◌, ℕ, ◌+◌, ◌*◌, ◌≤◌, Result, Ok, Err, OnOk, length, refl, arith, w64}
-use Rattle.std.proofs.lemmas.Int.{to_z-of_z}
-use Rattle.std.proofs.lemmas.Result.{err_from_is_err_and, on_ok_weaker}
-use Rattle.ss_outside.proofs.StepLemmas.{step-as}
-use Rattle.ss_journal.proofs.StepLemmas.{after-step, step-next}
-use Rattle.ss_summary.specs.Points.{New}
-use Rattle.ss_model.specs.Steps.{with_plain_value}
-use Rattle.ss_recover.specs.Held.{slots_held}
-use Rattle.ss_query.specs.Held.{IsHeldIn}
-use Rattle.ss_query.specs.declared.read_error.ReadError.{ReadError}
-use Rattle.ss_store.specs.Held.{IsHalfway, with_single}
+use Rattle.ss_store.proofs.Common.{◌≡◌, ℕ, ◌+◌, ◌*◌, ◌≤◌, Result, Ok, Err, length, refl, arith, w64, to_z-of_z, err_from_is_err_and, on_ok_weaker, step-as}
+use Rattle.ss_store.proofs.Common.{after-step, step-next, New, with_plain_value, slots_held, IsHeldIn, ReadError, IsHalfway, with_single}
+use Rattle.std.proofs.Common.{OnOk}
 use Rattle.ss_store.proofs.Closings.{IsSameStream-more}
 use Rattle.ss_store.proofs.Costs.{StagesAtCost-failed, StagesAtCost-then}
 use Rattle.ss_store.proofs.LiveSlots.{AreSomeLive-go}

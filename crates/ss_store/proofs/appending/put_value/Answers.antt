@@ -1,25 +1,12 @@
-use Rattle.std.proofs.Common.{◌≡◌, ◌∙◌, ℕ, ◌+◌, List, [], ◌∷◌, ◌++◌, map, refl, ap, arith, length, length-append, subst, sym, take, Some, w64}
-use Rattle.std.proofs.lemmas.List.{map-append}
-use Rattle.std.proofs.lemmas.Result.{err_from_is_err_and}
+use Rattle.ss_store.proofs.Common.{◌≡◌, ◌∙◌, ℕ, ◌+◌, List, [], ◌∷◌, ◌++◌, map, refl, ap, arith, length, length-append, subst, sym, take, Some, w64}
+use Rattle.ss_store.proofs.Common.{map-append, err_from_is_err_and, is_valid-IsWindow, LineState, index_of, IsKeyed, NoPairFits, take-seam, rule_of}
+use Rattle.ss_store.proofs.Common.{params_of, At, Entry, step-as, summary_of, entries_of, StreamParts, New, IsHalfway, values_held, with_single, IsHeldIn}
+use Rattle.ss_store.proofs.Common.{begun_at}
 use Rattle.std.proofs.Math.Facts.{to_z-of_z}
-use Rattle.ss_codec.proofs.RecordLemmas.{is_valid-IsWindow}
-use Rattle.ss_line.specs.Line.{LineState, index_of}
-use Rattle.ss_schedule.specs.Keyed.{IsKeyed, merge_rule}
-use Rattle.ss_schedule.specs.Pairs.{NoPairFits}
+use Rattle.ss_schedule.specs.Keyed.{merge_rule}
 use Rattle.ss_schedule.proofs.KeyedLemmas.{IsKeyed-next}
-use Rattle.ss_schedule.proofs.Places.{fresh-none, index-once, take-seam}
-use Rattle.ss_target.specs.Rule.{rule_of}
-use Rattle.ss_target.specs.Targets.{lengths-positive, params_of}
-use Rattle.ss_line.specs.declared.entry.At.{At}
-use Rattle.ss_line.specs.declared.entry.Entry.{Entry}
-use Rattle.ss_outside.proofs.StepLemmas.{step-as}
-use Rattle.ss_summary.specs.Summaries.{summary_of}
-use Rattle.ss_recover.specs.Held.{entries_of}
-use Rattle.ss_recover.specs.declared.parts.StreamParts.{StreamParts}
-use Rattle.ss_summary.specs.Points.{New}
-use Rattle.ss_store.specs.Held.{IsHalfway, values_held, with_single}
-use Rattle.ss_query.specs.Held.{IsHeldIn}
-use Rattle.ss_store.specs.Indexed.{begun_at}
+use Rattle.ss_schedule.proofs.Places.{fresh-none, index-once}
+use Rattle.ss_target.specs.Targets.{lengths-positive}
 use Rattle.ss_store.proofs.Additions.{IsAdded, IsOrdered-added, LiveSlotsGo-added, TileFrom-added, TurnsShown-added, single_entry, values_held-added}
 use Rattle.ss_store.proofs.KeyedWindows.{FollowUpTo-take, FollowUpTo-tiles, NoPairFits-entries, take-all}
 use Rattle.ss_store.proofs.Rising.{IsTimed-added}

@@ -1,7 +1,4 @@
-use Rattle.std.proofs.Common.{◌∙◌, refl}
-use Rattle.std.proofs.lemmas.Result.{err_from_is_err_and, on_ok_weaker}
-use Rattle.ss_outside.proofs.StepLemmas.{step-as}
-use Rattle.ss_journal.proofs.StepLemmas.{after-step, step-next}
+use Rattle.ss_store.proofs.Common.{◌∙◌, refl, err_from_is_err_and, on_ok_weaker, step-as, after-step, step-next}
 use Rattle.ss_store.proofs.Clearings.{ClearsSlots-not_sealed, ClearsSlots-sealed}
 use Rattle.ss_store.proofs.Within.{KeepsWithin-not_sealed, KeepsWithin-sealed}
 use Rattle.ss_store.proofs.clearing.clear_all.Goals as goal

@@ -1,10 +1,6 @@
-use Rattle.std.proofs.Common.{◌∙◌, ℕ, List, [], Ok, arith, refl, subst, suc}
-use Rattle.std.proofs.Math.Numerals.{add-one}
+use Rattle.ss_store.proofs.Common.{◌∙◌, ℕ, List, [], Ok, arith, refl, subst, suc, add-one, err_from_is_err_and, step-as, step-none, after-step, step-next}
+use Rattle.ss_store.proofs.Common.{LiveSlotsGo}
 use Rattle.std.proofs.lemmas.List.{take_all}
-use Rattle.std.proofs.lemmas.Result.{err_from_is_err_and}
-use Rattle.ss_outside.proofs.StepLemmas.{step-as, step-none}
-use Rattle.ss_journal.proofs.StepLemmas.{after-step, step-next}
-use Rattle.ss_store.specs.Slots.{LiveSlotsGo}
 use Rattle.ss_store.proofs.Clearings.{AreSomeLive-next, LiveSlotsGo-more, StagesClearing-all, StagesClearing-failed, StagesFirst-more, StagesFirst-none}
 use Rattle.ss_store.proofs.Costs.{StagesAtCost-answers, StagesAtCost-none, StagesAtCost-then}
 use Rattle.ss_store.proofs.clearing.stage_clearing.Goals as goal

@@ -1,10 +1,4 @@
-use Rattle.std.proofs.Common.{◌≡◌, [], Ok, take}
-use Rattle.ss_outside.specs.Step.{Step}
-use Rattle.ss_outside.specs.Verdict.{fine}
-use Rattle.ss_outside.specs.declared.source.Failed.{Failed}
-use Rattle.ss_journal.specs.Kept.{IsSettled}
-use Rattle.ss_store.specs.Calls.{StagesAtCost}
-use Rattle.ss_store.specs.Slots.{LiveSlotsGo}
+use Rattle.ss_store.proofs.Common.{◌≡◌, [], Ok, take, Step, fine, Failed, IsSettled, StagesAtCost, LiveSlotsGo}
 use Rattle.ss_store.proofs.Clearings.{StagesFirst}
 use Rattle.ss_store.proofs.clearing.stage_clearing.Given as goal
 

@@ -1,11 +1,4 @@
-use Rattle.std.proofs.Common.{refl}
-use Rattle.std.proofs.lemmas.Result.{err_from_is_err_and}
-use Rattle.ss_outside.proofs.StepLemmas.{step-as}
-use Rattle.ss_outside.specs.Verdict.{failed, fine}
-use Rattle.ss_journal.proofs.StepLemmas.{after-step, step-next}
-use Rattle.ss_model.specs.ClosedState.{closed_stream}
-use Rattle.ss_query.specs.Held.{IsHeldIn}
-use Rattle.ss_store.specs.Held.{IsPartlyJoined}
+use Rattle.ss_store.proofs.Common.{refl, err_from_is_err_and, step-as, failed, fine, after-step, step-next, closed_stream, IsHeldIn, IsPartlyJoined}
 use Rattle.ss_store.proofs.Calls.{Turns-answers, Turns-failed}
 use Rattle.ss_store.proofs.Joinings.{IsPartlyJoined-none}
 use Rattle.ss_store.proofs.Sealings.{IsHeldIn-of_map, IsPartlyJoined-closed, IsPartlyJoined-of_map, TurnsStream-not_sealed, TurnsStream-sealed}

@@ -1,25 +1,11 @@
-use Rattle.std.proofs.Common.{◌≡◌, ◌∙◌, ℕ, List, [], ◌∷◌, ◌++◌, map, refl, sym, ap, subst, arith, Err, MatchOption}
-use Rattle.ss_line.specs.declared.entry.At.{At}
-use Rattle.ss_line.specs.declared.entry.Entry.{Entry}
-use Rattle.std.proofs.lemmas.Result.{err_from_is_err_and}
-use Rattle.ss_codec.proofs.RecordLemmas.{is_valid-IsWindow}
-use Rattle.ss_summary.specs.Summaries.{joined}
-use Rattle.ss_schedule.specs.Keyed.{IsKeyed}
-use Rattle.ss_target.specs.Rule.{rule_of}
-use Rattle.ss_target.specs.Targets.{params_of}
-use Rattle.ss_recover.specs.Held.{TileFrom, TimesRise, entries_of}
-use Rattle.ss_query.specs.Reading.{IsRead}
-use Rattle.ss_journal.proofs.StepLemmas.{step-from, step-next}
-use Rattle.ss_store.specs.Held.{IsPartlyJoined, values_held}
-use Rattle.ss_query.specs.Held.{IsHeldIn}
-use Rattle.ss_store.specs.Joining.{IsJoinedIn}
-use Rattle.ss_store.specs.Slots.{AreSomeLive, LiveSlotsGo}
+use Rattle.ss_store.proofs.Common.{◌≡◌, ◌∙◌, ℕ, List, [], ◌∷◌, ◌++◌, map, refl, sym, ap, subst, arith, Err, MatchOption, At, Entry, err_from_is_err_and}
+use Rattle.ss_store.proofs.Common.{is_valid-IsWindow, joined, IsKeyed, rule_of, params_of, TileFrom, TimesRise, entries_of, IsRead, step-from, step-next}
+use Rattle.ss_store.proofs.Common.{IsPartlyJoined, values_held, IsHeldIn, IsJoinedIn, AreSomeLive, LiveSlotsGo, IsTimed, begun_at}
 use Rattle.ss_store.proofs.Joinings.{AreSomeLive-two, IfChanged-window, IsFirm-read, LiveSlotsGo-two, TurnsShown-join}
 use Rattle.ss_store.proofs.Joinings.{TurnsShown-not_read, read-held}
 use Rattle.ss_store.proofs.Pairs.{AreJoined, ArePair-read, AreSlots-joined, JoinsHeld-pair, StandsIn-left}
 use Rattle.ss_store.proofs.Pairs.{StandsIn-right, joined_line, next_is, one_part, one_part-same}
 use Rattle.ss_store.proofs.KeyedWindows.{AreDue-pair}
-use Rattle.ss_store.specs.Indexed.{IsTimed, begun_at}
 use Rattle.ss_store.proofs.Rising.{IsTimed-joined, IsTimed-seam, TimesRise-any, TimesRise-seam, rise-joined}
 use Rattle.ss_store.proofs.ShownCalls.{TurnsShown-answers, TurnsShown-failed}
 use Rattle.ss_store.proofs.Spans.{TileFrom-joined, values_held-joined}

@@ -1,10 +1,5 @@
-use Rattle.std.proofs.Common.{◌≡◌, ◌∙◌, ◌∷◌, ap, ap₂, arith, [], Option, Some, ℕ}
-use Rattle.std.proofs.lemmas.Result.{err_from_is_err_and}
-use Rattle.ss_outside.proofs.CrashLemmas.{reads-joined}
-use Rattle.ss_outside.proofs.StepLemmas.{step-as, step-then}
-use Rattle.ss_codec.specs.declared.record.Record.{Record}
-use Rattle.ss_recover.specs.Held.{window_record}
-use Rattle.ss_summary.specs.Summaries.{joined}
+use Rattle.ss_store.proofs.Common.{◌≡◌, ◌∙◌, ◌∷◌, ap, ap₂, arith, [], Option, Some, ℕ, err_from_is_err_and, reads-joined, step-as, step-then, Record}
+use Rattle.ss_store.proofs.Common.{window_record, joined}
 use Rattle.ss_store.proofs.Readings.{HasRecords-second, IsRead-err, live-below, live-below_second, shown-same}
 use Rattle.ss_store.proofs.closing.read_joined.Goals as goal
 

@@ -1,14 +1,5 @@
-use Rattle.std.proofs.Common.{◌∙◌, refl, sym, subst, arith, Ok}
-use Rattle.std.proofs.lemmas.Result.{err_from_is_err_and}
-use Rattle.ss_outside.proofs.StepLemmas.{step-as, step-none}
-use Rattle.ss_journal.proofs.StepLemmas.{after-step, step-next}
-use Rattle.ss_target.specs.Rule.{rule_of}
-use Rattle.ss_target.specs.Targets.{params_of}
-use Rattle.ss_recover.specs.Held.{entries_of, slots_held}
-use Rattle.ss_store.specs.Held.{IsPartlyJoined}
-use Rattle.ss_query.specs.Held.{IsHeldIn}
-use Rattle.ss_schedule.specs.Keyed.{IsKeyed}
-use Rattle.ss_store.specs.Joining.{IsJoinedIn, NoEntriesAreDue}
+use Rattle.ss_store.proofs.Common.{◌∙◌, refl, sym, subst, arith, Ok, err_from_is_err_and, step-as, step-none, after-step, step-next, rule_of, params_of}
+use Rattle.ss_store.proofs.Common.{entries_of, slots_held, IsPartlyJoined, IsHeldIn, IsKeyed, IsJoinedIn, NoEntriesAreDue}
 use Rattle.ss_store.proofs.KeyedWindows.{NoEntriesAreDue-pairs}
 use Rattle.ss_store.proofs.Closings.{IsSameStream-more, TurnsShown-closes}
 use Rattle.ss_store.proofs.LiveSlots.{AreSomeLive-go}

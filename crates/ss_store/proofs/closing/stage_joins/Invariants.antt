@@ -1,4 +1,4 @@
-use Rattle.std.proofs.Common.{◌+◌, ◌*◌, ◌≤◌, length}
+use Rattle.ss_store.proofs.Common.{◌+◌, ◌*◌, ◌≤◌, length}
 use Rattle.ss_store.proofs.Wholes.{IsClosing}
 use Rattle.ss_store.proofs.closing.stage_joins.Given as goal
 

@@ -1,4 +1,4 @@
-use Rattle.std.proofs.Common.{sym, ◌∙◌}
+use Rattle.ss_store.proofs.Common.{sym, ◌∙◌}
 use Rattle.ss_store.proofs.LastEntries.{values_held-last}
 use Rattle.ss_store.proofs.closing.values_held.Goals as goal
 

@@ -1,10 +1,6 @@
-use Rattle.std.proofs.Common.{◌∙◌, ◌+◌, ap, arith, map, subst, sym, take, Some}
-use Rattle.ss_line.specs.Line.{StandsIn, index_of}
-use Rattle.ss_schedule.specs.Keyed.{IsKeyed}
-use Rattle.ss_query.proofs.Places.{index_of-first, index_of-next, none-first}
+use Rattle.ss_store.proofs.Common.{◌∙◌, ◌+◌, ap, arith, map, subst, sym, take, Some, StandsIn, index_of, IsKeyed, index_of-first, index_of-next, none-first}
+use Rattle.ss_store.proofs.Common.{entries_of, IsTimed, begun_at}
 use Rattle.ss_store.proofs.KeyedWindows.{FollowUpTo-take, FollowUpTo-tiles, StandsIn-below, none_past, take-all, take-none}
-use Rattle.ss_recover.specs.Held.{entries_of}
-use Rattle.ss_store.specs.Indexed.{IsTimed, begun_at}
 use Rattle.ss_store.proofs.Rising.{TimesRise-any}
 use Rattle.ss_store.proofs.indexing.add_windows.Goals as goal
 

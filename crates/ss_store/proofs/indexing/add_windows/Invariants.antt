@@ -1,5 +1,4 @@
-use Rattle.std.proofs.Common.{◌-◌, length}
-use Rattle.ss_line.specs.Line.{index_of}
+use Rattle.ss_store.proofs.Common.{◌-◌, length, index_of}
 use Rattle.ss_store.proofs.KeyedWindows.{IsKeyedUpTo}
 use Rattle.ss_store.proofs.indexing.add_windows.Given as goal
 

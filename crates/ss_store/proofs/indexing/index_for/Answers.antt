@@ -1,6 +1,4 @@
-use Rattle.std.proofs.Common.{◌≤◌, sym, subst, []}
-use Rattle.ss_windowing.specs.declared.decay.TheConstants.{MOST_VALUES}
-use Rattle.ss_recover.specs.Held.{entries_of}
+use Rattle.ss_store.proofs.Common.{◌≤◌, sym, subst, [], MOST_VALUES, entries_of}
 use Rattle.ss_store.specs.Indexed.{IsKeyedAt}
 use Rattle.ss_store.proofs.KeyedWindows.{held-few}
 use Rattle.ss_store.proofs.indexing.index_for.Goals as goal

@@ -1,6 +1,4 @@
-use Rattle.std.proofs.Common.{take}
-use Rattle.std.proofs.lemmas.List.{take_more}
-use Rattle.ss_store.specs.Indexed.{IsKeyedFor}
+use Rattle.ss_store.proofs.Common.{take, take_more, IsKeyedFor}
 use Rattle.ss_store.proofs.IndexedStreams.{AllZip-more}
 use Rattle.ss_store.proofs.indexing.indexes_of.Goals as goal
 

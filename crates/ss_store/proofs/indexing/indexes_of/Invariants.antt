@@ -1,6 +1,4 @@
-use Rattle.std.proofs.Common.{take}
-use Rattle.std.specs.List.{AllZip}
-use Rattle.ss_store.specs.Indexed.{IsKeyedFor}
+use Rattle.ss_store.proofs.Common.{take, AllZip, IsKeyedFor}
 use Rattle.ss_store.proofs.indexing.indexes_of.Given as goal
 
 abbrev pub invariant-loop-part : goal.invariant-loop-part

@@ -1,6 +1,4 @@
-use Rattle.ss_journal.proofs.ShownLemmas.{shown-sealed}
-use Rattle.ss_model.specs.State.{state}
-use Rattle.ss_records.specs.Kept.{shown_by}
+use Rattle.ss_store.proofs.Common.{shown-sealed, state, shown_by}
 use Rattle.ss_store.proofs.KeptStates.{AllAgree-recovered, Recovers-StoreIsIn}
 use Rattle.ss_store.proofs.laws.what_is_kept_is_the_state.Goals as goal
 

@@ -1,15 +1,5 @@
-use Rattle.std.proofs.Common.{Some, arith, refl, subst, sym}
-use Rattle.std.proofs.lemmas.Result.{err_from_is_err_and}
-use Rattle.ss_outside.proofs.StepLemmas.{step-as}
-use Rattle.ss_outside.specs.Disk.{DiskView}
-use Rattle.ss_records.specs.Kept.{RecordsState}
-use Rattle.ss_landmarks.proofs.TimeLemmas.{AllEndBy-later}
-use Rattle.ss_recover.specs.Held.{entries_of}
-use Rattle.ss_recover.specs.declared.parts.StreamParts.{StreamParts}
-use Rattle.ss_store.specs.Held.{IsOrdered}
-use Rattle.ss_store.specs.Changing.{KeepsWhole}
-use Rattle.ss_query.specs.Held.{IsHeldIn}
-use Rattle.ss_store.specs.Marking.{landmarks_after, slots_used, with_mark}
+use Rattle.ss_store.proofs.Common.{Some, arith, refl, subst, sym, err_from_is_err_and, step-as, DiskView, RecordsState, AllEndBy-later, entries_of}
+use Rattle.ss_store.proofs.Common.{StreamParts, IsOrdered, KeepsWhole, IsHeldIn, landmarks_after, slots_used, with_mark}
 use Rattle.ss_store.proofs.ShownCalls.{TurnsShown-answers, TurnsShown-failed}
 use Rattle.ss_store.proofs.Marked.{IsMarked}
 use Rattle.ss_store.proofs.MarkedCalls.{AreSomeLive-last, FitsMark-valid, IsAdding-is, IsLastSlot-is, IsMarked-marked_part, LiveSlotsGo-mark_added}

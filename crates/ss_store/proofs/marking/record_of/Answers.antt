@@ -1,6 +1,5 @@
-use Rattle.std.proofs.Common.{◌+◌, arith, refl, rules, subst}
+use Rattle.ss_store.proofs.Common.{◌+◌, arith, refl, rules, subst, CanMark}
 use Rattle.ss_codec.proofs.RecordLemmas.{is_valid-IsLandmark, is_valid-IsValue}
-use Rattle.ss_store.specs.Marking.{CanMark}
 use Rattle.ss_store.proofs.OpenMarks.{HasOpen-can, closes, count-has, few-marks, open-has, start-has, takes}
 use Rattle.ss_store.proofs.marking.record_of.Goals as goal
 

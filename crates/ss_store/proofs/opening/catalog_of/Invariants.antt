@@ -1,5 +1,4 @@
-use Rattle.std.proofs.Common.{◌≡◌, map, take}
-use Rattle.ss_store.specs.Kept.{entry_of}
+use Rattle.ss_store.proofs.Common.{◌≡◌, map, take, entry_of}
 use Rattle.ss_store.proofs.opening.catalog_of.Given as goal
 
 abbrev pub invariant-loop-stream : goal.invariant-loop-stream

@@ -1,19 +1,12 @@
-use Rattle.std.proofs.Common.{◌≡◌, ◌∙◌, ◌<◌, arith, refl, suc, length, slice_get, slice_index_or, slice_set, Ok, Some}
-use Rattle.std.proofs.Math.Numerals.{add-one}
-use Rattle.std.proofs.lemmas.Option.{slice_get-get_or}
-use Rattle.std.proofs.lemmas.Result.{err_from_is_err_and}
-use Rattle.ss_outside.proofs.StepLemmas.{step-as, step-none, step-then}
-use Rattle.ss_journal.proofs.StepLemmas.{after-step}
-use Rattle.ss_model.specs.ClosedState.{closed_state}
-use Rattle.ss_store.specs.Kept.{entry_of}
-use Rattle.ss_store.specs.Recover.{Recovers}
+use Rattle.ss_store.proofs.Common.{◌≡◌, ◌∙◌, ◌<◌, arith, refl, suc, length, slice_set, Ok, Some, add-one, slice_get-get_or, err_from_is_err_and, step-as}
+use Rattle.ss_store.proofs.Common.{step-none, step-then, after-step, closed_state, entry_of, Recovers, reads-none}
+use Rattle.std.proofs.Common.{slice_get, slice_index_or}
 use Rattle.ss_store.proofs.Among.{AreWhole-at, AreWhole-set, IsNoEarlier-same, length-AllAgree}
 use Rattle.ss_store.proofs.Calls.{Turns-failed}
 use Rattle.ss_store.proofs.ClosingAll.{AreHeldIn, ClosesFirst-more, ClosesFirst-none, SomeChangedIsHeld-set, Turns-all, Turns-open, closed_until}
 use Rattle.ss_store.proofs.ClosingAll.{firm-ClosesFirst}
 use Rattle.ss_store.proofs.OneOfMany.{map-set_same}
 use Rattle.ss_store.proofs.IndexedStreams.{AreClosedTo-all, AreClosedTo-at, AreClosedTo-long, AreClosedTo-more, AreClosedTo-none}
-use Rattle.ss_outside.proofs.CrashLemmas.{reads-none}
 use Rattle.ss_store.proofs.Within.{KeepsWithin-failed, KeepsWithin-reads, KeepsWithin-then}
 use Rattle.ss_store.proofs.opening.close_all.Goals as goal
 

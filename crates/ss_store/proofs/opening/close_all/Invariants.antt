@@ -1,11 +1,6 @@
-use Rattle.std.proofs.Common.{◌≡◌, ◌≤◌, Ok, map}
-use Rattle.ss_outside.specs.Step.{Step}
-use Rattle.ss_outside.specs.Verdict.{fine}
+use Rattle.ss_store.proofs.Common.{◌≡◌, ◌≤◌, Ok, map, Step, fine, AreWhole, entry_of, ReadError}
 use Rattle.ss_records.specs.Kept.{AreAtRest}
-use Rattle.ss_recover.specs.Held.{AreWhole}
 use Rattle.ss_store.specs.Changing.{Makes}
-use Rattle.ss_store.specs.Kept.{entry_of}
-use Rattle.ss_query.specs.declared.read_error.ReadError.{ReadError}
 use Rattle.ss_store.proofs.ClosingAll.{ClosesFirst}
 use Rattle.ss_store.proofs.IndexedStreams.{AreClosedTo}
 use Rattle.ss_store.proofs.opening.close_all.Given as goal

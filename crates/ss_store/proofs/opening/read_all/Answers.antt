@@ -1,10 +1,5 @@
-use Rattle.std.proofs.Common.{subst, sym, List, Err, ℕ}
-use Rattle.std.proofs.lemmas.Result.{err_from_is_err_and}
-use Rattle.ss_outside.proofs.CrashLemmas.{reads-joined}
-use Rattle.ss_outside.proofs.StepLemmas.{step-then, step-verdict}
-use Rattle.ss_journal.specs.Kept.{IsKept}
-use Rattle.ss_journal.specs.Redo.{StandsFor}
-use Rattle.ss_journal.proofs.StepLemmas.{after-step}
+use Rattle.ss_store.proofs.Common.{subst, sym, List, Err, ℕ, err_from_is_err_and, reads-joined, step-then, IsKept, StandsFor, after-step}
+use Rattle.ss_outside.proofs.StepLemmas.{step-verdict}
 use Rattle.ss_store.proofs.Opens.{IsRebuilt-from, OpensAs-journal, OpensAs-recover, StandsFor-kept, firm-journal, firm-recover, verdict-journal}
 use Rattle.ss_store.proofs.Opens.{verdict-recover}
 use Rattle.ss_store.proofs.Steps.{step-handed}

@@ -1,13 +1,6 @@
-use Rattle.std.proofs.Common.{◌≤◌, [], Ok, arith, flat_map, refl, subst, sym, List, Bool}
-use Rattle.std.proofs.lemmas.Result.{err_from_is_err_and, on_ok_weaker}
-use Rattle.ss_outside.specs.declared.source.Failed.{Failed}
-use Rattle.ss_outside.proofs.StepLemmas.{step-as, step-then}
-use Rattle.ss_journal.proofs.StepLemmas.{after-step, step-pair}
-use Rattle.ss_model.specs.ClosedState.{closed_state}
-use Rattle.ss_recover.specs.Held.{slots_held}
-use Rattle.ss_store.specs.Rebuilt.{HasRebuilt, HasRebuiltBeside}
-use Rattle.ss_store.specs.Recover.{Recovers}
-use Rattle.ss_store.specs.Slots.{AreSomeLive, LiveSlotsGo}
+use Rattle.ss_store.proofs.Common.{◌≤◌, [], Ok, arith, flat_map, refl, subst, sym, List, Bool, err_from_is_err_and, on_ok_weaker, Failed, step-as, step-then}
+use Rattle.ss_store.proofs.Common.{after-step, closed_state, slots_held, HasRebuilt, HasRebuiltBeside, Recovers, AreSomeLive, LiveSlotsGo}
+use Rattle.ss_journal.proofs.StepLemmas.{step-pair}
 use Rattle.ss_store.proofs.Calls.{Turns-failed, Turns-joined}
 use Rattle.ss_store.proofs.Settlings.{AreWhole-cleared, Turns-settled, Turns-unsettled}
 use Rattle.ss_store.proofs.Within.{KeepsWithin-failed, KeepsWithin-map, KeepsWithin-then}

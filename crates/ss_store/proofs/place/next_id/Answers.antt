@@ -1,11 +1,5 @@
-use Rattle.std.proofs.Common.{◌≡◌, ◌∙◌, true, false, length, refl, arith}
-use Rattle.std.specs.Prelude.{nat_le, ◌==◌}
-use Rattle.std.proofs.lemmas.Bool.{ne_eqb}
-use Rattle.std.proofs.lemmas.Bool.Decides.{nat_tests}
-use Rattle.std.proofs.lemmas.List.{length-map}
-use Rattle.ss_catalog.specs.declared.TheConstants.{MOST_STREAMS, LAST_STREAM}
-use Rattle.ss_recover.specs.declared.parts.StreamParts.{StreamParts}
-use Rattle.ss_store.specs.Kept.{has_all_numbers, numbers_held}
+use Rattle.ss_store.proofs.Common.{◌≡◌, ◌∙◌, true, false, length, refl, arith, nat_le, ◌==◌, ne_eqb, nat_tests, length-map, MOST_STREAMS, LAST_STREAM}
+use Rattle.ss_store.proofs.Common.{StreamParts, has_all_numbers, numbers_held}
 use Rattle.ss_store.proofs.PlaceLemmas.{TellsNext-last}
 use Rattle.ss_store.proofs.place.next_id.Goals as goal
 

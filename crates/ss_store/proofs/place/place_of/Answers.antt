@@ -1,7 +1,5 @@
-use Rattle.std.proofs.Common.{◌≡◌, ◌+◌, ◌-◌, ◌/◌, ap, sym, ◌∙◌, arith}
-use Rattle.std.specs.Prelude.{slice_get, ◌==◌}
-use Rattle.std.proofs.lemmas.List.Folds.{find_at}
-use Rattle.ss_recover.specs.declared.parts.StreamParts.{StreamParts}
+use Rattle.ss_store.proofs.Common.{◌≡◌, ◌+◌, ◌-◌, ap, sym, ◌∙◌, arith, slice_get, ◌==◌, find_at, StreamParts}
+use Rattle.std.proofs.Common.{◌/◌}
 use Rattle.ss_store.proofs.PlaceLemmas.{place_in, place_in-inside, place_in-after, place_in-before}
 use Rattle.ss_store.proofs.place.place_of.Goals as goal
 

@@ -1,4 +1,4 @@
-use Rattle.std.proofs.Common.{◌-◌, ◌<◌, ◌≤◌, length}
+use Rattle.ss_store.proofs.Common.{◌-◌, ◌<◌, ◌≤◌, length}
 use Rattle.ss_store.proofs.PlaceLemmas.{place_in}
 use Rattle.ss_store.proofs.place.place_of.Given as goal
 

@@ -1,9 +1,4 @@
-use Rattle.std.proofs.Common.{◌∙◌, sym, ap, arith}
-use Rattle.ss_target.specs.Rule.{rule_of}
-use Rattle.ss_target.specs.Targets.{params_of}
-use Rattle.ss_recover.specs.Held.{entries_of}
-use Rattle.ss_store.specs.Held.{values_held}
-use Rattle.ss_query.proofs.Places.{entries_in, none-first}
+use Rattle.ss_store.proofs.Common.{◌∙◌, sym, ap, arith, rule_of, params_of, entries_of, values_held, entries_in, none-first}
 use Rattle.ss_store.proofs.Surveys.{IsCountedNext, IsCounted-first, IsCounted-next, StandsIn-counted, windows_left, windows_left-Agrees, windows_left-counted}
 use Rattle.ss_store.proofs.surveying.closed_windows.Goals as goal
 

@@ -1,7 +1,4 @@
-use Rattle.std.proofs.Common.{◌-◌, length}
-use Rattle.ss_line.specs.Line.{index_of}
-use Rattle.ss_target.specs.Rule.{rule_of}
-use Rattle.ss_target.specs.Targets.{params_of}
+use Rattle.ss_store.proofs.Common.{◌-◌, length, index_of, rule_of, params_of}
 use Rattle.ss_store.proofs.Surveys.{IsCounted}
 use Rattle.ss_store.proofs.surveying.closed_windows.Given as goal
 

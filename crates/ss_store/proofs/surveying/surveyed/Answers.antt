@@ -1,4 +1,4 @@
-use Rattle.std.proofs.Common.{arith}
+use Rattle.ss_store.proofs.Common.{arith}
 use Rattle.ss_store.proofs.SurveyedStreams.{AreSurveyed-more, HasCounts-next, survey_of-AreSurveyed}
 use Rattle.ss_store.proofs.surveying.surveyed.Goals as goal
 

@@ -1,11 +1,6 @@
-use Rattle.std.proofs.Common.{Bool, List, Some, [], ap, ap₂, arith, refl, subst, sym, ◌∷◌, ◌≡◌, ◌≤◌, ◌∙◌}
-use Rattle.std.proofs.lemmas.Result.{err_from_is_err_and}
+use Rattle.ss_store.proofs.Common.{Bool, List, Some, [], ap, ap₂, arith, refl, subst, sym, ◌∷◌, ◌≡◌, ◌≤◌, ◌∙◌, err_from_is_err_and, extent_after, step-from}
+use Rattle.ss_store.proofs.Common.{live_after, HasRecords, LiveSlotsGo, record_put}
 use Rattle.ss_journal.specs.Kept.{IsRunning}
-use Rattle.ss_journal.specs.Puts.{extent_after}
-use Rattle.ss_journal.proofs.StepLemmas.{step-from}
-use Rattle.ss_records.specs.Live.{live_after}
-use Rattle.ss_query.specs.Slots.{HasRecords}
-use Rattle.ss_store.specs.Slots.{LiveSlotsGo, record_put}
 use Rattle.ss_store.proofs.Changes.{LiveSlotsGo-added, extent_after-next, moves-added}
 use Rattle.ss_store.proofs.Costs.{StagesAtCost-no_room, StagesAtCost-staged}
 use Rattle.ss_store.proofs.LiveSlots.{lowest_free-is_free}

@@ -1,14 +1,5 @@
-use Rattle.std.proofs.Common.{IsTrue, List, Option, Some, [], ap₂, arith, refl, subst, sym, ◌∷◌, ◌<◌, ◌∙◌, ℕ, ap}
-use Rattle.std.proofs.lemmas.Result.{err_from_is_err_and}
-use Rattle.ss_journal.specs.Puts.{IsTxn, extent_after, slots_fit}
-use Rattle.ss_journal.specs.Redo.{StandsFor, changed}
-use Rattle.ss_journal.specs.declared.format.TheConstants.{MOST_SLOTS}
-use Rattle.ss_journal.specs.declared.put.Put.{Put}
-use Rattle.ss_records.specs.Live.{live_after}
-use Rattle.ss_codec.specs.declared.record.Record.{Record}
-use Rattle.ss_journal.proofs.StepLemmas.{step-from}
-use Rattle.ss_query.specs.Slots.{HasRecords}
-use Rattle.ss_store.specs.Slots.{record_put}
+use Rattle.ss_store.proofs.Common.{IsTrue, List, Option, Some, [], ap₂, arith, refl, subst, sym, ◌∷◌, ◌<◌, ◌∙◌, ℕ, ap, err_from_is_err_and, IsTxn}
+use Rattle.ss_store.proofs.Common.{extent_after, slots_fit, StandsFor, changed, MOST_SLOTS, Put, live_after, Record, step-from, HasRecords, record_put}
 use Rattle.ss_store.proofs.Changes.{IsTxn-one, extent_after-one, live_after-again, moves-replaced, slots_fit-one}
 use Rattle.ss_store.proofs.Costs.{StagesAtCost-no_room, StagesAtCost-staged}
 use Rattle.ss_store.proofs.LiveSlots.{IsOneLive-permutation}

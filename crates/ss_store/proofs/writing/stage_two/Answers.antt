@@ -1,13 +1,5 @@
-use Rattle.std.proofs.Common.{Bool, IsTrue, List, Option, Some, [], ap₂, arith, refl, subst, sym, ◌∷◌, ◌<◌, ◌≡◌, ◌∙◌, ℕ, ap}
-use Rattle.std.proofs.lemmas.Result.{err_from_is_err_and}
-use Rattle.ss_journal.specs.Puts.{IsTxn, extent_after, slots_fit}
-use Rattle.ss_journal.specs.declared.format.TheConstants.{MOST_SLOTS}
-use Rattle.ss_journal.specs.declared.put.Put.{Put}
-use Rattle.ss_records.specs.Live.{live_after}
-use Rattle.ss_codec.specs.declared.record.Record.{Record}
-use Rattle.ss_journal.proofs.StepLemmas.{step-from}
-use Rattle.ss_query.specs.Slots.{HasRecords}
-use Rattle.ss_store.specs.Slots.{LiveSlotsGo, pair_put}
+use Rattle.ss_store.proofs.Common.{Bool, IsTrue, List, Option, Some, [], ap₂, arith, refl, subst, sym, ◌∷◌, ◌<◌, ◌≡◌, ◌∙◌, ℕ, ap, err_from_is_err_and, IsTxn}
+use Rattle.ss_store.proofs.Common.{extent_after, slots_fit, MOST_SLOTS, Put, live_after, Record, step-from, HasRecords, LiveSlotsGo, pair_put}
 use Rattle.ss_store.proofs.ShownCalls.{TurnsShown-failed, TurnsShown-keeps, TurnsShown-staged}
 use Rattle.ss_store.proofs.Changes.{IsTxn-pair, LiveSlotsGo-paired, moves-paired, extent_after-pair, slots_fit-pair}
 use Rattle.ss_store.proofs.Costs.{StagesAtCost-no_room, StagesAtCost-staged}

@@ -1,4 +1,4 @@
-use Rattle.ss_recover.proofs.Words.{◌/◌, ◌≡◌, AreFoundBelow, AreGathered, SlotMap, vec_capacity}
+use Rattle.ss_recover.proofs.Common.{◌/◌, ◌≡◌, AreFoundBelow, AreGathered, SlotMap, vec_capacity}
 use Rattle.ss_records.specs.Pages.{IsPage}
 use Rattle.ss_recover.proofs.gathering.Gathered.take_page.Given as goal
 

@@ -1,4 +1,4 @@
-use Rattle.ss_recover.proofs.Words.{[], ◌++◌, ◌∷◌, IsUsable, marked_with, Record, ShowsMarks, StepsAs, stream_of, subst, sym, to_z-of_z, w64, ℤ}
+use Rattle.ss_recover.proofs.Common.{[], ◌++◌, ◌∷◌, IsUsable, marked_with, Record, ShowsMarks, StepsAs, stream_of, subst, sym, to_z-of_z, w64, ℤ}
 use Rattle.ss_codec.specs.declared.record.Record.TheVariants as records
 use Rattle.ss_recover.proofs.marking.Marks.take.Goals as goal
 

@@ -1,4 +1,4 @@
-use Rattle.ss_recover.proofs.Words.{◌<◌, ◌∙◌, ap, can_open, length, List, MOST_LANDMARK_SLOTS, subst, sym, ℕ}
+use Rattle.ss_recover.proofs.Common.{◌<◌, ◌∙◌, ap, can_open, length, List, MOST_LANDMARK_SLOTS, subst, sym, ℕ}
 use Rattle.ss_recover.proofs.MarkLaws.{began, close-ready, open-ready, room-marks}
 use Rattle.ss_recover.proofs.marking.Marks.take_landmark.Goals as goal
 

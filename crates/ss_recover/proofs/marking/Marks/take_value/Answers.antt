@@ -1,4 +1,4 @@
-use Rattle.ss_recover.proofs.Words.{◌∙◌, AddsToLandmark, ap, can_add, subst, sym, to_z-of_z, w64, ℕ, ℤ}
+use Rattle.ss_recover.proofs.Common.{◌∙◌, AddsToLandmark, ap, can_add, subst, sym, to_z-of_z, w64, ℕ, ℤ}
 use Rattle.ss_recover.proofs.MarkLaws.{added, room-marks, take-ready}
 use Rattle.ss_recover.proofs.marking.Marks.take_value.Goals as goal
 

@@ -1,4 +1,4 @@
-use Rattle.ss_recover.proofs.Words.{◌++◌, ◌∙◌, ap, IsNonDecreasingBy-from_sort, IsPermutation-sym, refl}
+use Rattle.ss_recover.proofs.Common.{◌++◌, ◌∙◌, ap, IsNonDecreasingBy-from_sort, IsPermutation-sym, refl}
 use Rattle.ss_recover.proofs.OrderLemmas.{Rises-from_sorted}
 use Rattle.ss_recover.proofs.walking.Walk.end.Goals as goal
 

@@ -1,6 +1,4 @@
-use Rattle.std.proofs.Common.{◌≡◌, ◌∙◌, ℕ, List, [], ◌∷◌, ◌++◌, ap}
-use Rattle.ss_line.specs.declared.entry.At.{At}
-use Rattle.ss_store.specs.Indexed.{IndexState}
+use Rattle.ss_store.proofs.Common.{◌≡◌, ◌∙◌, ℕ, List, [], ◌∷◌, ◌++◌, ap, At, IndexState}
 use Rattle.ss_store.proofs.Rising.{IsTimed-next, begin-next}
 use Rattle.ss_store.proofs.index.Index.push_window.Goals as goal
 

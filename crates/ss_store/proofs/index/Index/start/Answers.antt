@@ -1,5 +1,4 @@
-use Rattle.std.proofs.Common.{◌≡◌, ◌∙◌, ap}
-use Rattle.ss_store.specs.Indexed.{IndexState}
+use Rattle.ss_store.proofs.Common.{◌≡◌, ◌∙◌, ap, IndexState}
 use Rattle.ss_store.proofs.Rising.{BeginsAt-first, BeginsAt-sought, BeginsNear-first, BeginsNear-sought}
 use Rattle.ss_store.proofs.index.Index.start.Goals as goal
 

@@ -1,12 +1,6 @@
-use Rattle.std.proofs.Common.{◌≡◌, None, Some, true, false, refl, ap, sym, ◌∙◌, subst, length, flat_map}
-use Rattle.std.specs.Prelude.{is_some, nat_le}
-use Rattle.ss_catalog.specs.declared.event.Event.TheVariants.{Create}
+use Rattle.ss_store.proofs.Common.{◌≡◌, None, Some, true, false, refl, ap, sym, ◌∙◌, subst, length, flat_map, is_some, nat_le, Create, has_target}
+use Rattle.ss_store.proofs.Common.{next_number, MOST_RECORDS, slots_held, StoreState, has_all_numbers, numbers_held, part_named, refuses_held}
 use Rattle.ss_catalog.specs.declared.refusal.Refusal.TheVariants.{Exists, Streams, StoreFull}
-use Rattle.ss_target.specs.Lengths.{has_target}
-use Rattle.ss_model.specs.State.{next_number}
-use Rattle.ss_model.specs.declared.types.TheConstants.{MOST_RECORDS}
-use Rattle.ss_recover.specs.Held.{slots_held}
-use Rattle.ss_store.specs.Kept.{StoreState, has_all_numbers, numbers_held, part_named, refuses_held}
 use Rattle.ss_store.proofs.Named.{is_some-listed}
 use Rattle.ss_store.proofs.Refusals.{not-true, none_is_some, refuses_held-create}
 use Rattle.ss_store.proofs.store.Store.admit.Goals as goal

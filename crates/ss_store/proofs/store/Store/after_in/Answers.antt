@@ -1,6 +1,4 @@
-use Rattle.std.proofs.Common.{◌+◌}
-use Rattle.ss_line.specs.Line.{index_of}
-use Rattle.ss_query.proofs.Places.{index_of-next}
+use Rattle.ss_store.proofs.Common.{◌+◌, index_of, index_of-next}
 use Rattle.ss_store.proofs.store.Store.after_in.Goals as goal
 
 pub returns-clause-index : goal.returns-clause-index

@@ -1,11 +1,6 @@
-use Rattle.std.proofs.Common.{◌∙◌, ◌+◌, ◌++◌, ◌∷◌, [], Err, Ok, arith, refl, sym}
-use Rattle.std.proofs.lemmas.Result.{err_from_is_err_and}
-use Rattle.ss_model.specs.History.{added}
-use Rattle.ss_store.specs.Calls.{StandsForEither}
-use Rattle.ss_store.specs.Recover.{Stands}
+use Rattle.ss_store.proofs.Common.{◌∙◌, ◌+◌, ◌++◌, ◌∷◌, [], Err, Ok, arith, refl, sym, err_from_is_err_and, added, StandsForEither, Stands, records_in}
 use Rattle.ss_store.proofs.Calls.{Turns-answers, Turns-failed}
 use Rattle.ss_store.proofs.Sealed.{AddsEvent-sealed, AddsEvent-unsealed, Applies-sealed, Applies-unsealed}
-use Rattle.ss_store.specs.Extents.{records_in}
 use Rattle.ss_store.proofs.Within.{KeepsWithin-not_sealed, KeepsWithin-rest, StaysWithin-answers, StaysWithin-failed, StaysWithin-then}
 use Rattle.ss_store.proofs.store.Store.apply.Goals as goal
 

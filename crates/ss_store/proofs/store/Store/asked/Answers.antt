@@ -1,7 +1,5 @@
-use Rattle.std.proofs.Common.{◌∙◌, sym, arith}
-use Rattle.std.proofs.lemmas.Bool.Decides.{nat_tests}
+use Rattle.ss_store.proofs.Common.{◌∙◌, sym, arith, nat_tests, part_named}
 use Rattle.std.specs.Prelude.{true, false}
-use Rattle.ss_store.specs.Kept.{part_named}
 use Rattle.ss_store.proofs.AskedStreams.{named-found, named-missing, refuses_query_held-known, refuses_query_held-unknown}
 use Rattle.ss_store.proofs.store.Store.asked.Goals as goal
 

@@ -1,5 +1,4 @@
-use Rattle.std.proofs.Common.{◌≡◌, ◌∙◌, Some, ap}
-use Rattle.ss_store.specs.Kept.{StoreState, part_numbered}
+use Rattle.ss_store.proofs.Common.{◌≡◌, ◌∙◌, Some, ap, StoreState, part_numbered}
 use Rattle.ss_store.proofs.WindowsHeld.{IsEntry-numbered}
 use Rattle.ss_store.proofs.store.Store.entry.Goals as goal
 

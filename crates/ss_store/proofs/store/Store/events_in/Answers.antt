@@ -1,9 +1,4 @@
-use Rattle.std.proofs.Common.{◌≡◌, ◌∙◌, ◌+◌, ap, length, sym, subst, Some}
-use Rattle.std.specs.Prelude.{IfSome}
-use Rattle.ss_model.specs.History.{events_of}
-use Rattle.ss_recover.specs.declared.parts.StreamParts.{StreamParts}
-use Rattle.ss_store.specs.Events.{events_held}
-use Rattle.ss_store.specs.Kept.{StoreState, part_numbered}
+use Rattle.ss_store.proofs.Common.{◌≡◌, ◌∙◌, ◌+◌, ap, length, sym, subst, Some, IfSome, events_of, StreamParts, events_held, StoreState, part_numbered}
 use Rattle.ss_store.proofs.EventsHeld.{counted-held, few-held, sum-held}
 use Rattle.ss_store.proofs.store.Store.events_in.Goals as goal
 

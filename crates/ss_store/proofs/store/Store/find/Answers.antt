@@ -1,6 +1,4 @@
-use Rattle.std.proofs.Common.{◌≡◌, refl}
-use Rattle.std.specs.Prelude.{IsSome}
-use Rattle.ss_store.specs.Kept.{part_named, part_numbered}
+use Rattle.ss_store.proofs.Common.{◌≡◌, refl, IsSome, part_named, part_numbered}
 use Rattle.ss_store.proofs.Named.{id_of-named, IsFoundBy, IsFoundBy-find, IfSome-weaker}
 use Rattle.ss_store.proofs.store.Store.find.Goals as goal
 

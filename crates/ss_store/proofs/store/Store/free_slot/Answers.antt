@@ -1,8 +1,5 @@
-use Rattle.std.proofs.Common.{◌∙◌, ap, arith, subst}
-use Rattle.std.specs.Prelude.{IfSome, IsNone, IsTrue, ◌↔◌, nat_le, length, flat_map, ◌≤◌}
-use Rattle.ss_recover.specs.Held.{slots_held}
-use Rattle.ss_model.specs.declared.types.TheConstants.{MOST_RECORDS}
-use Rattle.ss_store.specs.Kept.{StoreState}
+use Rattle.ss_store.proofs.Common.{◌∙◌, ap, arith, subst, IfSome, IsNone, ◌↔◌, nat_le, slots_held, MOST_RECORDS, StoreState}
+use Rattle.std.specs.Prelude.{IsTrue, length, flat_map, ◌≤◌}
 use Rattle.ss_store.proofs.LiveCounts.{is_full-exactly, low-slots}
 use Rattle.ss_store.proofs.store.Store.free_slot.Goals as goal
 

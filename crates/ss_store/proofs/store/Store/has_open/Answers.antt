@@ -1,8 +1,4 @@
-use Rattle.std.proofs.Common.{◌≡◌, ◌∙◌, ap, arith, false, refl, sym}
-use Rattle.std.specs.Prelude.{is_some}
-use Rattle.ss_landmarks.specs.Landmark.{open_landmark}
-use Rattle.ss_model.specs.Marks.{has_open}
-use Rattle.ss_store.specs.Kept.{StoreState, of_part}
+use Rattle.ss_store.proofs.Common.{◌≡◌, ◌∙◌, ap, arith, false, refl, sym, is_some, open_landmark, has_open, StoreState, of_part}
 use Rattle.ss_store.proofs.Found.{IsAtPlace-found, inside-found, none-found}
 use Rattle.ss_store.proofs.Named.{is_some-option_map}
 use Rattle.ss_store.proofs.Refusals.{of_part-named}

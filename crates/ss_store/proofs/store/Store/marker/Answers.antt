@@ -1,11 +1,5 @@
-use Rattle.std.proofs.Common.{◌≡◌, ◌∙◌, true, List, ℕ, Option, refl, ap, arith}
-use Rattle.std.specs.Prelude.{slice_get}
-use Rattle.ss_catalog.specs.declared.refusal.Refusal.{Refusal}
-use Rattle.ss_model.specs.Marks.{has_open}
-use Rattle.ss_recover.specs.declared.parts.StreamParts.{StreamParts}
-use Rattle.ss_store.specs.Kept.{StoreState, has_all_slots, of_part, refuses_held}
-use Rattle.ss_store.specs.Marking.{IsInOpen, event_of, mark_refusal, slot_refusal}
-use Rattle.ss_store.specs.declared.marking.Mark.{Mark}
+use Rattle.ss_store.proofs.Common.{◌≡◌, ◌∙◌, true, List, ℕ, Option, refl, ap, arith, slice_get, Refusal, has_open, StreamParts, StoreState, has_all_slots}
+use Rattle.ss_store.proofs.Common.{of_part, refuses_held, IsInOpen, event_of, mark_refusal, slot_refusal, Mark}
 use Rattle.ss_store.proofs.Among.{Marks-at}
 use Rattle.ss_store.proofs.Found.{IsAtPlace-found, inside-found, none-found}
 use Rattle.ss_store.proofs.LiveCounts.{few-marks, live_count-slots}

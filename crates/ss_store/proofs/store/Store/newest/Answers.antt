@@ -1,6 +1,4 @@
-use Rattle.std.proofs.Common.{◌∙◌, sym}
-use Rattle.ss_catalog.specs.declared.refusal.Refusal.TheVariants.{Unknown}
-use Rattle.ss_store.specs.Kept.{part_named}
+use Rattle.ss_store.proofs.Common.{◌∙◌, sym, Unknown, part_named}
 use Rattle.ss_store.proofs.AskedStreams.{named-found, named-missing}
 use Rattle.ss_store.proofs.ReadRefusals.{refused-known, refused-unknown, refuses_reading_held-known, refuses_reading_held-unknown}
 use Rattle.ss_store.proofs.store.Store.newest.Goals as goal

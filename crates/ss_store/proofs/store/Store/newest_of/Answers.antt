@@ -1,11 +1,5 @@
-use Rattle.std.proofs.Common.{◌≡◌, ◌∙◌, ℕ, ℤ, Some, ap, sym}
+use Rattle.ss_store.proofs.Common.{◌≡◌, ◌∙◌, ℕ, ℤ, Some, ap, sym, to_z-of_z, to_z, of_z, Figures, Newest, err_from_is_err_and, newest_told}
 use Rattle.std.specs.Int.{w64}
-use Rattle.std.proofs.lemmas.Int.{to_z-of_z}
-use mir.Val.{to_z, of_z}
-use Rattle.ss_summary.specs.Figures.{Figures}
-use Rattle.ss_model.specs.declared.newest.Newest.{Newest}
-use Rattle.std.proofs.lemmas.Result.{err_from_is_err_and}
-use Rattle.ss_model.specs.Newest.{newest_told}
 use Rattle.ss_store.proofs.ChangedSlots.{IfChanged-window}
 use Rattle.ss_store.proofs.ToldNewest.{tells-kept, tells-read}
 use Rattle.ss_store.proofs.store.Store.newest_of.Goals as goal

@@ -1,4 +1,4 @@
-use Rattle.std.proofs.Common.{arith, refl}
+use Rattle.ss_store.proofs.Common.{arith, refl}
 use Rattle.ss_store.proofs.store.Store.open.Goals as goal
 
 pub open_in-requires : goal.open_in-requires

@@ -1,16 +1,10 @@
-use Rattle.std.proofs.Common.{◌≡◌, ◌∙◌, sym, ap, subst, arith, false, length, map, refl, vec_len, All, List, Vec}
+use Rattle.ss_store.proofs.Common.{◌≡◌, ◌∙◌, sym, ap, subst, arith, false, length, map, refl, List, length-map, err_from_is_err_and, after-step, step-from}
+use Rattle.ss_store.proofs.Common.{step-next, StreamParts, IsOrdered, IsSound, StoreState, entry_of, AllZip, AllZip-long, IndexState, IsKeyedFor, IsScheduled}
+use Rattle.std.proofs.Common.{vec_len, All, Vec}
 use Rattle.std.specs.Global.{Global}
 use Rattle.std.specs.Vec.{with_items}
-use Rattle.std.proofs.lemmas.List.{length-map, with_items_is}
-use Rattle.std.proofs.lemmas.Result.{err_from_is_err_and}
-use Rattle.ss_journal.proofs.StepLemmas.{after-step, step-from, step-next}
-use Rattle.ss_recover.specs.declared.parts.StreamParts.{StreamParts}
-use Rattle.ss_store.specs.Held.{IsOrdered}
-use Rattle.ss_store.specs.Kept.{IsSound, StoreState, entry_of}
+use Rattle.std.proofs.lemmas.List.{with_items_is}
 use Rattle.ss_store.specs.declared.error.OpenError.TheVariants.{OutOfMemory}
-use Rattle.std.specs.List.{AllZip}
-use Rattle.std.proofs.lemmas.Slice.Zip.{AllZip-long}
-use Rattle.ss_store.specs.Indexed.{IndexState, IsKeyedFor, IsScheduled}
 use Rattle.ss_store.proofs.Rising.{ordered-all}
 use Rattle.ss_store.proofs.Opens.{OpensStore-closed, OpensStore-read, OpensStore-unclosed, verdict-fault}
 use Rattle.ss_store.proofs.Steps.{step-handed}

@@ -1,7 +1,5 @@
-use Rattle.std.proofs.Common.{◌≡◌, ◌<◌, ◌∙◌, ap, length, subst, sym}
-use Rattle.std.specs.Prelude.{IsSome, slice_get}
-use Rattle.std.specs.List.Sorted.{IsStrictlyIncreasing}
-use Rattle.ss_store.specs.Kept.{StoreState, numbers_held, part_named, part_numbered}
+use Rattle.ss_store.proofs.Common.{◌≡◌, ◌<◌, ◌∙◌, ap, length, subst, sym, IsSome, slice_get, IsStrictlyIncreasing, StoreState, numbers_held, part_named}
+use Rattle.ss_store.proofs.Common.{part_numbered}
 use Rattle.ss_store.proofs.AskedStreams.{named-missing}
 use Rattle.ss_store.proofs.store.Store.place_named.Goals as goal
 

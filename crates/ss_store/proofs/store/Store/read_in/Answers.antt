@@ -1,7 +1,4 @@
-use Rattle.std.proofs.Common.{ap, refl, subst, sym, ◌∙◌}
-use Rattle.std.specs.List.Sorted.{IsStrictlyIncreasing}
-use Rattle.ss_model.specs.declared.types.Placed.{Placed}
-use Rattle.ss_store.specs.Kept.{StoreState, numbers_held}
+use Rattle.ss_store.proofs.Common.{ap, refl, subst, sym, ◌∙◌, IsStrictlyIncreasing, Placed, StoreState, numbers_held}
 use Rattle.ss_store.proofs.Looking.{IsPartAt-read, Looks-failed}
 use Rattle.ss_store.proofs.WindowsRead.{IsFirm-read, entry-read, shows-read}
 use Rattle.ss_store.proofs.store.Store.read_in.Goals as goal

@@ -1,5 +1,4 @@
-use Rattle.std.proofs.Common.{true}
-use Rattle.ss_journal.proofs.StepLemmas.{step-from}
+use Rattle.ss_store.proofs.Common.{true, step-from}
 use Rattle.ss_store.proofs.Sealed.{SealsStore-records}
 use Rattle.ss_store.proofs.store.Store.seal.Goals as goal
 

@@ -1,13 +1,6 @@
-use Rattle.std.proofs.Common.{◌≡◌, ◌∙◌, Some, ap, arith, refl, subst, sym}
-use Rattle.std.proofs.lemmas.Option.{slice_get_within}
-use Rattle.std.proofs.lemmas.Slice.Zip.{AllZip-long}
-use Rattle.std.specs.Prelude.{slice_get}
+use Rattle.ss_store.proofs.Common.{◌≡◌, ◌∙◌, Some, ap, arith, refl, subst, sym, slice_get_within, AllZip-long, slice_get, IsStrictlyIncreasing}
+use Rattle.ss_store.proofs.Common.{window_slots_of, Seen, StoreState, numbers_held, part_named, IsScheduled}
 use Rattle.std.specs.List.{Contains}
-use Rattle.std.specs.List.Sorted.{IsStrictlyIncreasing}
-use Rattle.ss_query.specs.Answered.{window_slots_of}
-use Rattle.ss_query.specs.declared.asking.Seen.{Seen}
-use Rattle.ss_store.specs.Kept.{StoreState, numbers_held, part_named}
-use Rattle.ss_store.specs.Indexed.{IsScheduled}
 use Rattle.ss_store.proofs.IndexedStreams.{IsScheduled-at}
 use Rattle.ss_store.proofs.AskedStreams.{IsFirm-kept, sees-kept}
 use Rattle.ss_store.proofs.Looking.{IfChanged-ask, IsPartAt-read, Looks-failed}

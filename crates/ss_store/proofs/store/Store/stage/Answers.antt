@@ -1,13 +1,7 @@
-use Rattle.std.proofs.Common.{◌≡◌, ◌∙◌, ap, false, rules, sym, subst, true, w64}
+use Rattle.ss_store.proofs.Common.{◌≡◌, ◌∙◌, ap, false, rules, sym, subst, true, w64, to_z, of_z, Event, Value, CanBeSaid, has_open, Applies, is_of_landmark}
+use Rattle.ss_store.proofs.Common.{of_part}
 use Rattle.std.specs.Prelude.{FitsSigned}
-use mir.Val.{to_z, of_z}
 use Rattle.ss_catalog.specs.Events.{IsInTime}
-use Rattle.ss_catalog.specs.declared.event.Event.{Event}
-use Rattle.ss_catalog.specs.declared.event.Event.TheVariants.{Value}
-use Rattle.ss_model.specs.History.{CanBeSaid}
-use Rattle.ss_model.specs.Marks.{has_open}
-use Rattle.ss_store.specs.Applied.{Applies}
-use Rattle.ss_store.specs.Kept.{is_of_landmark, of_part}
 use Rattle.ss_store.proofs.Stepping.{StagesEvent-applied}
 use Rattle.ss_store.proofs.store.Store.stage.Goals as goal
 

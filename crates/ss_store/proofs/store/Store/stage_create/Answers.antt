@@ -1,9 +1,5 @@
-use Rattle.std.proofs.Common.{◌≡◌, ◌+◌, ◌≤◌, None, ap, arith, false, refl, true}
-use Rattle.ss_catalog.specs.declared.event.Event.TheVariants.{Create}
-use Rattle.ss_line.specs.Line.{LineState}
-use Rattle.ss_recover.specs.declared.parts.StreamParts.{StreamParts}
+use Rattle.ss_store.proofs.Common.{◌≡◌, ◌+◌, ◌≤◌, None, ap, arith, false, refl, true, Create, LineState, StreamParts, IsScheduled, records_in}
 use Rattle.ss_store.proofs.Appended.{SameButSpare-same}
-use Rattle.ss_store.specs.Indexed.{IsScheduled}
 use Rattle.ss_store.proofs.KeyedWindows.{IsScheduled-none}
 use Rattle.ss_store.proofs.IndexedStreams.{AllZip-more}
 use Rattle.ss_store.proofs.Applying.{Applies-refused, Applies-starved}
@@ -11,7 +7,6 @@ use Rattle.ss_store.proofs.Created.{IsFreshPart-made}
 use Rattle.ss_store.proofs.Creating.{applies-created, applies-unwritten, creating, sound-created, sound-unwritten}
 use Rattle.ss_store.proofs.Syncs.{SyncsToStage-answers, SyncsToStage-failed, SyncsToStage-none}
 use Rattle.ss_store.proofs.Within.{StaysWithin-answers, StaysWithin-failed, StaysWithin-none}
-use Rattle.ss_store.specs.Extents.{records_in}
 use Rattle.ss_store.proofs.store.Store.stage_create.Goals as goal
 
 pub returns-in-Err-clause-applies : goal.returns-in-Err-clause-applies

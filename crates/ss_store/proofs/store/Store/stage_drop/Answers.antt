@@ -1,10 +1,5 @@
-use Rattle.std.proofs.Common.{◌≡◌, ◌+◌, ◌≤◌, ◌∙◌, List, ℕ, ap, arith, false, length, refl, subst, sym, true}
-use Rattle.std.proofs.lemmas.Slice.Zip.{AllZip-long}
-use Rattle.ss_catalog.specs.declared.event.Event.TheVariants.{Drop}
-use Rattle.ss_catalog.specs.declared.refusal.Refusal.TheVariants.{Unknown}
-use Rattle.ss_store.specs.Indexed.{IsScheduled}
-use Rattle.ss_store.specs.Kept.{StoreState}
-use Rattle.ss_store.specs.Slots.{AreSomeLive}
+use Rattle.ss_store.proofs.Common.{◌≡◌, ◌+◌, ◌≤◌, ◌∙◌, List, ℕ, ap, arith, false, length, refl, subst, sym, true, AllZip-long, Drop, Unknown, IsScheduled}
+use Rattle.ss_store.proofs.Common.{StoreState, AreSomeLive, records_in}
 use Rattle.ss_store.proofs.Appended.{SameButSpare-same}
 use Rattle.ss_store.proofs.Applying.{Applies-refused, Applies-starved}
 use Rattle.ss_store.proofs.Found.{IsAtPlace-found, IsTakenOut-found, inside-found, none-found}
@@ -14,7 +9,6 @@ use Rattle.ss_store.proofs.Removed.{AllZip-remove}
 use Rattle.ss_store.proofs.LiveCounts.{few-slots, length-slots_in_turn}
 use Rattle.ss_store.proofs.Syncs.{SyncsToStage-answers, SyncsToStage-failed, SyncsToStage-none}
 use Rattle.ss_store.proofs.Within.{StaysWithin-answers, StaysWithin-failed, StaysWithin-none}
-use Rattle.ss_store.specs.Extents.{records_in}
 use Rattle.ss_store.proofs.store.Store.stage_drop.Goals as goal
 
 pub returns-in_default-clause-applies : goal.returns-in_default-clause-applies

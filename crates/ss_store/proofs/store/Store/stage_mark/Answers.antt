@@ -1,14 +1,11 @@
-use Rattle.std.proofs.Common.{◌≡◌, ◌+◌, ◌≤◌, ap, arith, false, refl, true}
-use Rattle.ss_line.specs.Line.{LineState}
+use Rattle.ss_store.proofs.Common.{◌≡◌, ◌+◌, ◌≤◌, ap, arith, false, refl, true, LineState, event_of, slots_used, records_in}
 use Rattle.ss_store.proofs.IndexedStreams.{AreScheduled-other}
-use Rattle.ss_store.specs.Marking.{event_of, slots_used}
 use Rattle.ss_store.proofs.Applying.{Applies-refused, Applies-starved}
 use Rattle.ss_store.proofs.MarkTaking.{applies-taken, applies-untaken, can-mark, live-spared, same-spared, same-untaken, sound-spared, sound-stopped}
 use Rattle.ss_store.proofs.MarkTaking.{sound-taken}
 use Rattle.ss_store.proofs.MarkTaking.{stands-spared, taking-mark}
 use Rattle.ss_store.proofs.Syncs.{SyncsToStage-answers, SyncsToStage-failed, SyncsToStage-none}
 use Rattle.ss_store.proofs.Within.{StaysWithin-answers, StaysWithin-failed, StaysWithin-none}
-use Rattle.ss_store.specs.Extents.{records_in}
 use Rattle.ss_store.proofs.store.Store.stage_mark.Goals as goal
 
 pub returns-in-Err-clause-applies : goal.returns-in-Err-clause-applies

@@ -1,9 +1,6 @@
-use Rattle.std.proofs.Common.{◌≡◌, ◌+◌, ◌≤◌, ◌<◌, ℕ, List, All, arith, refl, subst, sym, true, false, w64, ap, length}
-use Rattle.ss_line.specs.declared.entry.At.{At}
-use Rattle.std.proofs.lemmas.Int.{to_z-of_z}
-use Rattle.ss_catalog.specs.declared.event.Event.TheVariants.{Value}
-use Rattle.std.proofs.lemmas.Slice.Zip.{AllZip-long}
-use Rattle.ss_store.specs.Indexed.{IsScheduled}
+use Rattle.ss_store.proofs.Common.{◌≡◌, ◌+◌, ◌≤◌, ◌<◌, ℕ, List, arith, refl, subst, sym, true, false, w64, ap, length, At, to_z-of_z, Value, AllZip-long}
+use Rattle.ss_store.proofs.Common.{IsScheduled, records_in}
+use Rattle.std.proofs.Common.{All}
 use Rattle.ss_store.proofs.KeyedWindows.{IsReservedFor-scheduled, IsScheduled-same}
 use Rattle.ss_store.proofs.Rising.{begin-by_last}
 use Rattle.ss_store.proofs.IndexedStreams.{AllZip-set, IsScheduled-at}
@@ -12,7 +9,6 @@ use Rattle.ss_store.proofs.Taking.{applies-taken, applies-untaken, can-append, l
 use Rattle.ss_store.proofs.Taking.{few-records, few-taker, inside-taker, later-taker, ordered-spared, runs-taker, stands-spared, taking}
 use Rattle.ss_store.proofs.Syncs.{SyncsToStage-answers, SyncsToStage-failed, SyncsToStage-none}
 use Rattle.ss_store.proofs.Within.{StaysWithin-answers, StaysWithin-failed, StaysWithin-none}
-use Rattle.ss_store.specs.Extents.{records_in}
 use Rattle.ss_store.proofs.store.Store.stage_value.Goals as goal
 
 pub returns-in-Err-clause-applies : goal.returns-in-Err-clause-applies

@@ -1,9 +1,5 @@
-use Rattle.std.proofs.Common.{◌≡◌, ◌<◌, ◌∙◌, ap, length, refl, Some, subst, sym}
-use Rattle.std.specs.Prelude.{option_map, slice_get}
-use Rattle.std.proofs.lemmas.Option.{slice_get_read}
-use Rattle.ss_model.specs.declared.types.StreamRow.{StreamRow}
-use Rattle.ss_recover.specs.Held.{AllAgree}
-use Rattle.ss_store.specs.Kept.{StoreState, row_of_held}
+use Rattle.ss_store.proofs.Common.{◌≡◌, ◌<◌, ◌∙◌, ap, length, refl, Some, subst, sym, option_map, slice_get, slice_get_read, StreamRow, AllAgree, StoreState}
+use Rattle.ss_store.proofs.Common.{row_of_held}
 use Rattle.ss_store.proofs.RowsHeld.{row-at}
 use Rattle.ss_store.proofs.store.Store.stream_in.Goals as goal
 

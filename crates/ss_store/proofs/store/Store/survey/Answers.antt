@@ -1,8 +1,4 @@
-use Rattle.std.proofs.Common.{◌≤◌, arith, length, flat_map}
-use Rattle.ss_journal.specs.declared.format.TheConstants.{MOST_SLOTS}
-use Rattle.ss_recover.specs.Held.{slots_held}
-use Rattle.std.proofs.lemmas.Result.{err_from_is_err_and}
-use Rattle.ss_outside.proofs.StepLemmas.{step-as}
+use Rattle.ss_store.proofs.Common.{◌≤◌, arith, length, flat_map, MOST_SLOTS, slots_held, err_from_is_err_and, step-as}
 use Rattle.ss_store.proofs.LiveCounts.{live_count-beside}
 use Rattle.ss_store.proofs.SurveyAnswers.{SurveysAs-error, SurveysAs-rebuilt}
 use Rattle.ss_store.proofs.store.Store.survey.Goals as goal

@@ -1,14 +1,6 @@
-use Rattle.std.proofs.Common.{◌≡◌, ◌∙◌, ℕ, List, Some, true, false, get_or, refl, ap, sym, arith}
-use Rattle.std.specs.Prelude.{Option, nat_le}
-use Rattle.std.proofs.lemmas.Bool.Decides.{nat_tests}
-use Rattle.ss_recover.specs.Held.{entries_of}
-use Rattle.ss_recover.specs.declared.parts.StreamParts.{StreamParts}
-use Rattle.ss_windowing.specs.declared.decay.TheConstants.{MOST_VALUES}
-use Rattle.ss_model.specs.Marks.{has_open}
-use Rattle.ss_model.specs.Refusals.{is_past}
-use Rattle.ss_store.specs.Held.{values_held}
-use Rattle.ss_store.specs.Kept.{StoreState, has_all_slots, of_part}
-use Rattle.ss_store.specs.Places.{IsPlaceOf}
+use Rattle.ss_store.proofs.Common.{◌≡◌, ◌∙◌, ℕ, List, Some, true, false, get_or, refl, ap, sym, arith, nat_le, nat_tests, entries_of, StreamParts}
+use Rattle.ss_store.proofs.Common.{MOST_VALUES, has_open, is_past, values_held, StoreState, has_all_slots, of_part, IsPlaceOf}
+use Rattle.std.specs.Prelude.{Option}
 use Rattle.ss_store.proofs.Found.{IsAtPlace-found, inside-found, none-found}
 use Rattle.ss_store.proofs.LiveCounts.{few-entries}
 use Rattle.ss_store.proofs.Named.{IsAtPlace}

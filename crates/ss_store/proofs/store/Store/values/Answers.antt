@@ -1,6 +1,4 @@
-use Rattle.std.proofs.Common.{◌∙◌, sym, arith, true, false}
-use Rattle.std.proofs.lemmas.Bool.Decides.{nat_tests}
-use Rattle.ss_store.specs.Kept.{part_named}
+use Rattle.ss_store.proofs.Common.{◌∙◌, sym, arith, true, false, nat_tests, part_named}
 use Rattle.ss_store.proofs.AskedStreams.{named-found, named-missing}
 use Rattle.ss_store.proofs.ReadRefusals.{refuses_values_held-known, refuses_values_held-unknown}
 use Rattle.ss_store.proofs.store.Store.values.Goals as goal

@@ -1,4 +1,4 @@
-use Rattle.ss_query.proofs.Places.{index_of-first}
+use Rattle.ss_store.proofs.Common.{index_of-first}
 use Rattle.ss_store.proofs.store.Store.window_first.Goals as goal
 
 pub returns-clause-index : goal.returns-clause-index

@@ -1,5 +1,4 @@
-use Rattle.std.proofs.Common.{arith, false}
-use Rattle.ss_codec.proofs.RecordLemmas.{is_valid-IsStream}
+use Rattle.ss_store.proofs.Common.{arith, false, is_valid-IsStream}
 use Rattle.ss_store.proofs.store.create.record_of.Goals as goal
 
 pub returns-clause-valid : goal.returns-clause-valid

@@ -1,4 +1,4 @@
-use Rattle.std.proofs.Common.{◌∙◌, ◌++◌}
+use Rattle.ss_store.proofs.Common.{◌∙◌, ◌++◌}
 use Rattle.ss_store.proofs.WindowSlots.{number-more}
 use Rattle.ss_store.proofs.store.drop.push_mark_slots.Goals as goal
 

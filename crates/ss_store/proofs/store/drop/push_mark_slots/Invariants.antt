@@ -1,4 +1,4 @@
-use Rattle.std.proofs.Common.{◌≡◌, ◌++◌, take}
+use Rattle.ss_store.proofs.Common.{◌≡◌, ◌++◌, take}
 use Rattle.ss_store.proofs.store.drop.push_mark_slots.Given as goal
 
 abbrev pub invariant-loop-place : goal.invariant-loop-place

@@ -1,9 +1,5 @@
-use Rattle.std.proofs.Common.{◌≡◌, ◌∙◌, ◌+◌, ◌++◌, Some, ap, arith, subst, sym, take}
-use Rattle.std.proofs.lemmas.List.{append-nil, length-map}
-use Rattle.ss_line.specs.Line.{index_of}
-use Rattle.ss_line.specs.declared.entry.At.{At}
-use Rattle.ss_line.specs.declared.entry.Entry.{Entry}
-use Rattle.ss_query.proofs.Places.{entries_in, index_of-first, index_of-next, slice_get-entry}
+use Rattle.ss_store.proofs.Common.{◌≡◌, ◌∙◌, ◌+◌, ◌++◌, Some, ap, arith, subst, sym, take, append-nil, length-map, index_of, At, Entry, entries_in}
+use Rattle.ss_store.proofs.Common.{index_of-first, index_of-next, slice_get-entry}
 use Rattle.ss_store.proofs.KeyedWindows.{none_past, take-all, take-none}
 use Rattle.ss_store.proofs.WindowSlots.{slots-more, entry_slots}
 use Rattle.ss_store.proofs.store.drop.push_window_slots.Goals as goal

@@ -1,10 +1,8 @@
-use Rattle.std.proofs.Common.{◌≡◌, ◌∙◌, ℕ, zero, suc, ap, arith, refl, true}
-use Rattle.std.proofs.lemmas.Bool.Decides.{nat_tests}
+use Rattle.ss_store.proofs.Common.{◌≡◌, ◌∙◌, ℕ, zero, suc, ap, arith, refl, true, nat_tests, is_valid-IsStream, params_of}
 use Rattle.ss_catalog.specs.Params.{in_range, is_family, is_step, step_for}
 use Rattle.ss_catalog.specs.declared.params.Family.TheVariants as families
-use Rattle.ss_codec.proofs.RecordLemmas.{is_valid-IsStream}
 use Rattle.ss_power.specs.Power.{IsPower}
-use Rattle.ss_target.specs.Targets.{family_of, params_of}
+use Rattle.ss_target.specs.Targets.{family_of}
 use Rattle.ss_target.specs.declared.target.Target.{Target}
 use Rattle.ss_target.specs.declared.target.Windows.{Windows}
 use Rattle.ss_target.specs.declared.target.Windows.TheVariants.{Exp, Power}

@@ -1,8 +1,5 @@
-use Rattle.std.proofs.Common.{◌≡◌, ◌∙◌, List, ℕ, arith, refl, subst, sym, true}
-use Rattle.std.proofs.lemmas.Result.{err_from_is_err_and}
-use Rattle.ss_codec.specs.Record.{is_valid}
-use Rattle.ss_journal.proofs.StepLemmas.{after-step, step-from, step-next}
-use Rattle.ss_store.specs.Slots.{AreSomeLive}
+use Rattle.ss_store.proofs.Common.{◌≡◌, ◌∙◌, List, ℕ, arith, refl, subst, sym, true, err_from_is_err_and, is_valid, after-step, step-from, step-next}
+use Rattle.ss_store.proofs.Common.{AreSomeLive}
 use Rattle.ss_store.proofs.Dropping.{TurnsShown-dropped, TurnsShown-undropped, own-live}
 use Rattle.ss_store.proofs.Costs.{StagesAtCost-failed, StagesAtCost-then}
 use Rattle.ss_store.proofs.store.drop.stage_doomed.Goals as goal

@@ -1,6 +1,4 @@
-use Rattle.std.proofs.Common.{◌≡◌, ◌∙◌, ap, sym, arith}
-use Rattle.std.specs.Prelude.{is_some}
-use Rattle.ss_landmarks.specs.Landmark.{open_landmark}
+use Rattle.ss_store.proofs.Common.{◌≡◌, ◌∙◌, ap, sym, arith, is_some, open_landmark}
 use Rattle.ss_store.proofs.EventsHeld.{count-open, one_if_open}
 use Rattle.ss_store.proofs.Named.{is_some-option_map}
 use Rattle.ss_store.proofs.store.events.mark_events.Goals as goal

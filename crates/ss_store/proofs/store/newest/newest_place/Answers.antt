@@ -1,6 +1,5 @@
-use Rattle.std.proofs.Common.{◌≡◌, ◌∙◌, true, false, Some, None, ap, sym, if◌then◌else◌}
-use Rattle.ss_landmarks.specs.Newest.{newest_value}
-use Rattle.ss_store.specs.Newest.{is_newer, place_if_newer}
+use Rattle.ss_store.proofs.Common.{◌≡◌, ◌∙◌, true, false, Some, None, ap, sym, newest_value, is_newer, place_if_newer}
+use Rattle.std.proofs.Common.{if◌then◌else◌}
 use Rattle.ss_store.proofs.LastWindows.{last-index, last-none, last-read}
 use Rattle.ss_store.proofs.store.newest.newest_place.Goals as goal
 

@@ -1,4 +1,4 @@
--- The names of other crates and of the definitions that several proofs use.
+-- The words of other files that the proofs of this crate use.
 pub use Rattle.ss_catalog.specs.Names.{same_name}
 pub use Rattle.ss_catalog.specs.Params.{step_number}
 pub use Rattle.ss_catalog.specs.declared.TheConstants.{MOST_STREAMS}
