@@ -21,12 +21,13 @@ use std::sync::ledger::Ledger;
 
 /// What a stream answers to a query: what is known of it from its first window on, as an answer. It writes nothing, and takes no
 /// memory.
-pub fn answer<D: Disk, L: Ledger>(
+pub fn answer<D: Disk, L: Ledger, R: Ledger>(
     part: &StreamParts,
     records: &mut Records,
     disk: &mut D,
     query: &Query,
     steps: &mut Steps<L>,
+    reads: &mut Steps<R>,
 ) -> Result<Outcome, ReadError>
     requires order { query.now.from ≤ query.now.to }
     requires running { IsRunning records.old.journal }
@@ -41,6 +42,6 @@ pub fn answer<D: Disk, L: Ledger>(
     ensures changed { IfChanged (verdict_of_read result) (Contains (window_slots_of part.now)) }
     ensures records { KeepsRecords (verdict_of_read result) records.old records.new }
 {
-    let seen = see_from(part, part.line.first(), records, disk, query, steps)?;
+    let seen = see_from(part, part.line.first(), records, disk, query, steps, reads)?;
     Ok(outcome_seen(seen, query.kind))
 }

@@ -20,7 +20,9 @@ use ss_model::Window;
 use ss_outside::Disk;
 use ss_records::Records;
 use ss_recover::{StreamParts, lies_free};
+use ss_steps::Steps;
 use ss_summary::Summary;
+use std::sync::ledger::Ledger;
 
 // Whether a window with this first position and this summary has the positions of the entry.
 fn is_placed_as(first: u64, summary: Summary, entry: Entry) -> bool
@@ -65,12 +67,14 @@ fn is_free(part: &StreamParts, entry: Entry, summary: Summary) -> bool
     lies_free(&part.landmarks, &Window { first, summary })
 }
 
-/// The summary of a window that is held, read from its record. It writes nothing.
-pub fn read_window<D: Disk>(
+/// The summary of a window that is held, read from its record. It writes nothing. Each call is one read of a record, and ticks
+/// once.
+pub fn read_window<D: Disk, R: Ledger>(
     records: &mut Records,
     disk: &mut D,
     part: &StreamParts,
     entry: Entry,
+    reads: &mut Steps<R>,
 ) -> Result<Summary, ReadError>
     requires running { IsRunning records.old.journal }
     requires slot { entry.slot < MOST_SLOTS }
@@ -83,7 +87,9 @@ pub fn read_window<D: Disk>(
     ensures window { IfOk result (IsWindowOf part.now entry) }
     ensures changed { IfChanged (verdict_of_read result) (λ slot. slot ≡ entry.slot) }
     ensures records { KeepsRecords (verdict_of_read result) records.old records.new }
+    ensures one_read { reads.new ≡ reads.old + 1 }
 {
+    reads.tick();
     let bytes = records.read(disk, entry.slot)?;
     match summary_of(decode(&bytes), part.id, entry) {
         Some(summary) if is_free(part, entry, summary) => Ok(summary),

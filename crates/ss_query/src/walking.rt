@@ -24,13 +24,14 @@ use std::sync::ledger::Ledger;
 
 // What is known with the window of an entry that begins by the end of the range. Its record is read only where it doesn't end
 // before the range.
-fn see_entry<D: Disk>(
+fn see_entry<D: Disk, R: Ledger>(
     records: &mut Records,
     disk: &mut D,
     part: &StreamParts,
     query: &Query,
     entry: Entry,
     seen: Seen,
+    reads: &mut Steps<R>,
 ) -> Result<Seen, ReadError>
     requires order { query.now.from ≤ query.now.to }
     requires begins { entry.t_first ≤ query.now.to }
@@ -45,13 +46,14 @@ fn see_entry<D: Disk>(
     ensures cuts { IfOk result HasCuts }
     ensures changed { IfChanged (verdict_of_read result) (λ slot. slot ≡ entry.slot) }
     ensures records { KeepsRecords (verdict_of_read result) records.old records.new }
+    ensures few_reads { reads.new ≤ reads.old + 1 }
 {
     if entry.t_last < query.from {
         return Ok(seen);
     }
     let window = Window {
         first: entry.first,
-        summary: read_window(records, disk, part, entry)?,
+        summary: read_window(records, disk, part, entry, reads)?,
     };
     if !follows(seen, &window) {
         return Err(ReadError::Changed { slot: entry.slot });
@@ -62,13 +64,14 @@ fn see_entry<D: Disk>(
 /// What is known of a stream for a query: it tallies the values of landmarks in the range, and reads the records of those
 /// windows, oldest first, that have times in the range. It begins at a place before which each window ends before the range,
 /// and looks at each window from there on, up to the first that begins after the range. It writes nothing, and takes no memory.
-pub fn see_from<D: Disk, L: Ledger>(
+pub fn see_from<D: Disk, L: Ledger, R: Ledger>(
     part: &StreamParts,
     start: Option<At>,
     records: &mut Records,
     disk: &mut D,
     query: &Query,
     steps: &mut Steps<L>,
+    reads: &mut Steps<R>,
 ) -> Result<Seen, ReadError>
     requires begins { BeginsAt part.now.line.entries query.now.from start }
     requires order { query.now.from ≤ query.now.to }
@@ -87,6 +90,9 @@ pub fn see_from<D: Disk, L: Ledger>(
     // Two looks at the first window, two at each other one that begins in the range, and one at the one after these.
     ensures looks { BeginsNear part.now.line.entries query.now.from start
         → steps.new ≤ steps.old + 2 * begun_in query.now.from query.now.to part.now.line.entries + 3 }
+    // One record for each window that begins in the range, and one for the first.
+    ensures few_reads { BeginsNear part.now.line.entries query.now.from start
+        → reads.new ≤ reads.old + begun_in query.now.from query.now.to part.now.line.entries + 1 }
 {
     let _len = part.line.len();
     let _known = part.landmarks.count();
@@ -97,7 +103,7 @@ pub fn see_from<D: Disk, L: Ledger>(
         if query.to < entry.t_first {
             return Ok(seen);
         }
-        seen = see_entry(records, disk, part, query, entry, seen)?;
+        seen = see_entry(records, disk, part, query, entry, seen, reads)?;
         next = part.line.neighbours(at, steps).1;
     }
     Ok(seen)

@@ -5,6 +5,7 @@ ghost use Rattle.ss_outside.specs.Step.{Step};
 ghost use Rattle.ss_outside.specs.Verdict.{IfChanged};
 ghost use Rattle.ss_journal.specs.Kept.{IsRunning, IsSettled};
 ghost use Rattle.ss_records.specs.Kept.{AreAtRest, AreKept};
+ghost use Rattle.ss_steps.specs.Steps.{IsFresh};
 ghost use Rattle.ss_summary.specs.Figures.{IsPossible};
 ghost use Rattle.ss_recover.specs.Held.{entries_of, slots_held};
 ghost use Rattle.ss_store.specs.Calls.{StagesAtCost};
@@ -26,7 +27,8 @@ use ss_recover::StreamParts;
 use ss_schedule::Pair;
 use ss_steps::Steps;
 use ss_summary::Summary;
-use std::sync::ledger::Ledger;
+use std::marker::Brand;
+use std::sync::ledger::{Blank, Ledger};
 
 /// How many values the windows of a stream hold.
 pub fn values_held<L: Ledger>(part: &StreamParts, steps: &mut Steps<L>) -> u64
@@ -43,13 +45,15 @@ pub fn values_held<L: Ledger>(part: &StreamParts, steps: &mut Steps<L>) -> u64
 }
 
 // The summary of two neighbouring windows as one, read from their records.
-fn read_joined<D: Disk>(
+fn read_joined<D: Disk, R: Ledger>(
     records: &mut Records,
     disk: &mut D,
     part: &StreamParts,
     window: Entry,
     next: Entry,
+    blank: Blank,
 ) -> Result<Summary, ReadError>
+    requires fresh { IsFresh R.name R.parts blank }
     requires running { IsRunning records.old.journal }
     requires live { AreSomeLive (window.slot ∷ next.slot ∷ []) records.old.live }
     requires neighbours { StandBeside window next }
@@ -64,8 +68,9 @@ fn read_joined<D: Disk>(
 {
     // Each slot that is live is one of those that a disk has.
     let _live = records.live();
-    let older = read_window(records, disk, part, window)?;
-    let newer = read_window(records, disk, part, next)?;
+    let mut reads = Steps::<R>::new(blank);
+    let older = read_window(records, disk, part, window, &mut reads)?;
+    let newer = read_window(records, disk, part, next, &mut reads)?;
     Ok(Summary::join(older, newer))
 }
 
@@ -98,7 +103,7 @@ fn join<D: Disk, L: Ledger>(
     let joined = Record::Window {
         id: number,
         first: window.first,
-        summary: read_joined(records, disk, part, window, next)?,
+        summary: read_joined::<D, Brand>(records, disk, part, window, next, Blank::new(1))?,
     };
     stage_two(records, disk, window.slot, next.slot, &joined)?;
     let n = values_held(part, steps);

@@ -94,9 +94,10 @@ impl Store {
         ensures running { result ≢ Err AskError.Stopped }
         ensures unrefused { (r : Refusal) → result ≢ Err (AskError.Refused r) }
     {
-        let entry = self.entry(id, at, &mut Steps::<L>::new(blank));
+        let mut steps = Steps::<L>::new(blank);
+        let entry = self.entry(id, at, &mut steps);
         let part = &self.streams[place_of(&self.streams, id)];
-        match read_window(&mut self.records, disk, part, entry) {
+        match read_window(&mut self.records, disk, part, entry, &mut steps) {
             Ok(summary) => Ok(Placed {
                 first: entry.first,
                 last: entry.last,

@@ -27,13 +27,14 @@ use std::marker::Brand;
 use std::sync::ledger::{Blank, Ledger};
 
 // What is known of a stream for a query, from where its index says that the range begins.
-fn see_indexed<D: Disk, L: Ledger>(
+fn see_indexed<D: Disk, L: Ledger, R: Ledger>(
     part: &StreamParts,
     index: &Index,
     records: &mut Records,
     disk: &mut D,
     query: &Query,
     steps: &mut Steps<L>,
+    reads: &mut Steps<R>,
 ) -> Result<Seen, ReadError>
     requires timed { IsTimed part.now.line.entries index.now.times }
     requires times { RiseToLast part.now }
@@ -49,9 +50,11 @@ fn see_indexed<D: Disk, L: Ledger>(
     ensures records { KeepsRecords (verdict_of_read result) records.old records.new }
     // It looks at the line twice for each window that begins in the range, and at most three times besides.
     ensures looks { steps.new ≤ steps.old + 2 * begun_in query.now.from query.now.to part.now.line.entries + 3 }
+    // It reads one record for each of these windows at most, and one besides.
+    ensures few_reads { reads.new ≤ reads.old + begun_in query.now.from query.now.to part.now.line.entries + 1 }
 {
     let start = index.start(part, query.from);
-    see_from(part, start, records, disk, query, steps)
+    see_from(part, start, records, disk, query, steps, reads)
 }
 
 impl Store {
@@ -94,7 +97,13 @@ impl Store {
             return Err(AskError::Stopped);
         }
         match self.asked(query) {
-            Ok(id) => self.see_stream::<D, Brand>(disk, query, id, Blank::new(1)),
+            Ok(id) => self.see_stream::<D, Brand, Brand>(
+                disk,
+                query,
+                id,
+                Blank::new(1),
+                Blank::new(1),
+            ),
             Err(refusal) => Err(AskError::Refused(refusal)),
         }
     }
@@ -115,14 +124,15 @@ impl Store {
     }
 
     // What is known of the stream of a number, where the store hasn't stopped.
-    fn see_stream<D: Disk, L: Ledger>(
+    fn see_stream<D: Disk, L: Ledger, R: Ledger>(
         &mut self,
         disk: &mut D,
         query: &Query,
         id: StreamId,
-        blank: Blank,
+        steps: Blank,
+        reads: Blank,
     ) -> Result<Seen, AskError>
-        requires fresh { IsFresh L.name L.parts blank }
+        requires fresh { IsFresh L.name L.parts steps × IsFresh R.name R.parts reads }
         requires asks { AsksStream self.old.streams query.now id.0 }
         requires runs { self.old.stopped ≡ false }
         requires one_disk { OfContent (D.seen disk.old) (StoreIsKept self.old) }
@@ -137,7 +147,8 @@ impl Store {
     {
         let _live = self.records.live();
         let place = place_of(&self.streams, id);
-        let mut steps = Steps::<L>::new(blank);
+        let mut steps = Steps::<L>::new(steps);
+        let mut reads = Steps::<R>::new(reads);
         match see_indexed(
             &self.streams[place],
             &self.indexes[place],
@@ -145,6 +156,7 @@ impl Store {
             disk,
             query,
             &mut steps,
+            &mut reads,
         ) {
             Ok(seen) => Ok(seen),
             Err(error) => {

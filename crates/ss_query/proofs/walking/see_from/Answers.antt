@@ -1,5 +1,6 @@
-use Rattle.std.proofs.Common.{arith, subst, sym}
+use Rattle.std.proofs.Common.{◌+◌, arith, refl, subst, sym}
 use Rattle.std.proofs.lemmas.Result.{err_from_is_err_and}
+use Rattle.ss_line.specs.Line.{index_of, place_at}
 use Rattle.ss_query.specs.Asked.{IsFewMarked}
 use Rattle.ss_query.proofs.AskedWindows.{IsAsking, IsAsking-more, IsAsking-none, all-look, asking-at, changed-window, failed-look, late-look}
 use Rattle.ss_query.proofs.Looks.{begun_by-near, begun_by-next}
@@ -14,6 +15,7 @@ loop-next-init g c = record {
       (IsAsking-none (g.D.Disk.seen c.args.disk.now) c.args.records.now c.args.part.now c.args.query.now c.args.start
       c.requires.begins c.requires.one_disk);
   looks = omega arith;
+  reads = omega arith;
 }
 
 pub get-entry-requires : goal.get-entry-requires
@@ -65,10 +67,13 @@ loop-next-preserved g c =
     let so_far = rw c.in-Some.is at c.loop-next.invariant.looks in
     let one = c.get-entry.ensures.look in
     let two = c.neighbours-next.ensures.look in
+    let read_so_far = rw c.in-Some.is at c.loop-next.invariant.reads in
+    let read = c.in_ok-seen.ensures.few_reads in
     record {
       asking = IsAsking-more c.args.query.now c.len-len.ensures.line asking c.get-entry.ensures.entry _ c.in_ok-seen.ensures.sees
           c.in_ok-seen.ensures.room c.in_ok-seen.ensures.cuts c.in_ok-seen.ensures.records c.neighbours-next.result.1 c.neighbours-next.ensures.behind;
       looks = omega (arith, fewer, so_far, one, two);
+      reads = omega (arith, fewer, read_so_far, read);
     }
 
 pub returns-then-query-entry-clause-marked : goal.returns-then-query-entry-clause-marked
@@ -106,3 +111,22 @@ pub returns-clause-looks : goal.returns-clause-looks
 returns-clause-looks g c = λ near.
     let few = begun_by-near c.args.part.now.line c.args.query.now.from c.args.query.now.to c.args.start c.len-len.ensures.line near in
     omega (arith, few, c.loop-next.invariant.looks)
+
+pub returns-then-query-entry-clause-few_reads : goal.returns-then-query-entry-clause-few_reads
+returns-then-query-entry-clause-few_reads g c = λ near.
+    let few = begun_by-near c.args.part.now.line c.args.query.now.from c.args.query.now.to c.args.start c.len-len.ensures.line near in
+    omega (arith, few, c.loop-next.invariant.reads)
+
+pub returns-in_err-seen-clause-few_reads : goal.returns-in_err-seen-clause-few_reads
+returns-in_err-seen-clause-few_reads g c = λ near.
+    let asking = asking-at c.in-Some.is c.loop-next.invariant.asking in
+    let some = begun_by-next c.len-len.ensures.line asking.line c.get-entry.ensures.entry c.if-query-entry.false
+    (place_at c.args.part.now.line.entries (index_of c.args.part.now.line.entries c.in-Some.at + 1)) refl in
+    let so_far = rw c.in-Some.is at c.loop-next.invariant.reads in
+    let few = begun_by-near c.args.part.now.line c.args.query.now.from c.args.query.now.to c.args.start c.len-len.ensures.line near in
+    omega (arith, few, some, so_far, c.in_err-seen.ensures.few_reads)
+
+pub returns-clause-few_reads : goal.returns-clause-few_reads
+returns-clause-few_reads g c = λ near.
+    let few = begun_by-near c.args.part.now.line c.args.query.now.from c.args.query.now.to c.args.start c.len-len.ensures.line near in
+    omega (arith, few, c.loop-next.invariant.reads)

@@ -9,6 +9,8 @@ invariant-loop-next g l = record {
   asking : IsAsking (g.D.Disk.seen l.fn.disk) (g.D.Disk.seen l.disk) l.fn.records l.records l.part l.query l.seen l.next;
   looks : l.steps + 2 * begun_by l.query.to (entries_from l.part.line.entries l.next)
       ≤ l.initial.steps + 2 * begun_by l.query.to (entries_from l.part.line.entries l.fn.start);
+  reads : l.reads + begun_by l.query.to (entries_from l.part.line.entries l.next)
+      ≤ l.initial.reads + begun_by l.query.to (entries_from l.part.line.entries l.fn.start);
 }
 
 abbrev pub decreases-loop-next : goal.decreases-loop-next

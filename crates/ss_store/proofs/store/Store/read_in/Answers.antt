@@ -14,8 +14,8 @@ returns-in-Ok-clause-shows g c =
     (entry-read c.args.at part.numbered c.entry-entry.ensures.entry) c.requires.one_disk c.in-Ok.summary
     (rw (ap (λ (s : StoreState). s.records) c.self.view_is) at c.in-Ok.ensures.reads)
 
-pub returns-in-Err-clause-looks : goal.returns-in-Err-clause-looks
-returns-in-Err-clause-looks g c =
+pub returns-clause-looks : goal.returns-clause-looks
+returns-clause-looks g c =
     let streams = ap (λ (s : StoreState). s.streams) c.self.view_is in
     let part = IsPartAt-read c.deref.ensures.value streams c.place_of.ensures.at c.requires.stands c.index-part.ensures in
     Looks-failed Placed c.in-Err.error c.from.result c.args.self.now _ c.from.ensures refl streams

@@ -1,4 +1,7 @@
 use Rattle.ss_store.proofs.store.Store.see.Given as goal
 
-abbrev pub ghosts-see_stream : goal.ghosts-see_stream
-ghosts-see_stream g a = record { name = a.blank.name; parts = a.blank.parts }
+abbrev pub ghosts-see_stream-L-Ledger : goal.ghosts-see_stream-L-Ledger
+ghosts-see_stream-L-Ledger g a = record { name = a.steps.name; parts = a.steps.parts }
+
+abbrev pub ghosts-see_stream-R-Ledger : goal.ghosts-see_stream-R-Ledger
+ghosts-see_stream-R-Ledger g a = record { name = a.reads.name; parts = a.reads.parts }
