@@ -70,17 +70,6 @@ all_value_records-append number n k (x ∷ xs) l next =
     ap (λ rs. value_records number n 1 x.values ++ rs) (all_value_records-append number (n + 1) k xs l (omega (arith, next)))
     ∙ sym (append_assoc (value_records number n 1 x.values) (all_value_records number (n + 1) xs) (value_records number k 1 l.values))
 
-pub marks_of-append : (number n k : ℕ) (ls : List Landmark) (l : Landmark) → k ≡ n + length ls →
-    marks_of number n (ls ++ l ∷ []) ≡ marks_of number n ls ++ landmark_record number k l ∷ value_records number k 1 l.values
-marks_of-append number n k [] l next =
-    let same : n ≡ k = omega (arith, next) in
-    ap (λ rs. landmark_record number n l ∷ rs) (append-nil (value_records number n 1 l.values))
-    ∙ ap (λ m. landmark_record number m l ∷ value_records number m 1 l.values) same
-marks_of-append number n k (x ∷ xs) l next =
-    ap (λ rs. landmark_record number n x ∷ value_records number n 1 x.values ++ rs) (marks_of-append number (n + 1) k xs l (omega (arith, next)))
-    ∙ ap (λ rs. landmark_record number n x ∷ rs)
-    (sym (append_assoc (value_records number n 1 x.values) (marks_of number (n + 1) xs) (landmark_record number k l ∷ value_records number k 1 l.values)))
-
 -- they are the records of the landmarks and those of all values, in another order
 over : (xs ms ys zs : List Record) → IsPermutation ms (ys ++ zs) → IsPermutation (xs ++ ms) (ys ++ (xs ++ zs))
 over xs ms ys zs moved =
