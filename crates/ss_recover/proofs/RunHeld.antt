@@ -3,14 +3,14 @@ use Rattle.ss_recover.proofs.Common.{[], ◌++◌, ◌+◌, ◌<◌, ◌∙◌, 
 use Rattle.ss_recover.proofs.Common.{Bool, cond, created_by, false, filter, filter-append, filter_map, flat_map, Found, found_by, head_found, in_slot, in_slots}
 use Rattle.ss_recover.proofs.Common.{is_dropped, is_landmark, is_mark_of, is_run, is_value, is_window, IsHeldOf, IsPermutation, IsPermutation-cons}
 use Rattle.ss_recover.proofs.Common.{IsPermutation-map, IsPermutation-middle, IsPermutation-refl, IsPermutation-trans, IsUsable, Landmark, landmark_record}
-use Rattle.ss_recover.proofs.Common.{landmark_records, landmarks_made, LandmarkValue, later, latest_of, List, map, map-append, names_of, newest_time, Option}
-use Rattle.ss_recover.proofs.Common.{place_of, Record, records_held, refl, Rises, slots_found, Some, Stream, stream_of, stream_record, StreamParts, subst, sym}
-use Rattle.ss_recover.proofs.Common.{true, value_records, Window, window_of, window_record, windows_held, without_slots, zip, ℕ}
+use Rattle.ss_recover.proofs.Common.{landmark_records, landmarks_made, LandmarkValue, later, latest_of, List, map, map-append, newest_time, Option, place_of}
+use Rattle.ss_recover.proofs.Common.{Record, records_held, refl, Rises, slots_found, Some, Stream, stream_of, stream_record, StreamParts, subst, sym, true}
+use Rattle.ss_recover.proofs.Common.{value_records, Window, window_of, window_record, windows_held, without_slots, zip, ℕ}
 use Rattle.ss_recover.proofs.Lists.{all_weaker, filter-map, filter-none, map-all, map-map}
 use Rattle.ss_recover.proofs.Marks.{each-mark_of, marks_of}
 use Rattle.ss_recover.proofs.RunSound.{alone-drops}
 use Rattle.ss_recover.proofs.RunStanding.{names-more, names_created}
-use Rattle.ss_recover.proofs.RunStream.{AreWalked, AreWalked-none, AreWalked-run, meets, rest-order, stream_made}
+use Rattle.ss_recover.proofs.RunStream.{AreStanding, AreStanding-more, meets, rest-order, stream_made}
 use Rattle.ss_codec.specs.declared.record.Record.TheVariants as records
 use Rattle.std.proofs.lemmas.List.Sorted.{IsPermutation-append}
 
@@ -41,11 +41,10 @@ slots-records : (all : List Found) → in_slots (slots_found all) (without_slots
 slots-records [] = refl
 slots-records (f ∷ fs) = ap (λ l. in_slot f ∷ l) (slots-records fs)
 
--- Parts agree with streams that the records so far are of, in their order.
+-- Parts agree with streams, and their records are those so far.
 pub record AreHeldSoFar (parts : List StreamParts) (streams : List Stream) (all : List Found) : Type 0 where
   pub each : AllAgree parts streams
   pub records : IsPermutation (flat_map records_held (zip parts streams)) (map in_slot all)
-  pub walked : AreWalked (without_slots all) streams
 
 -- lists that agree, with one more of each
 pub AllAgree-push : (parts : List StreamParts) (streams : List Stream) (part : StreamParts) (s : Stream) → AllAgree parts streams → Agrees part s →
@@ -66,7 +65,7 @@ held-push (p ∷ ps) (s' ∷ ss) part s each =
 
 -- nothing is held yet
 pub AreHeldSoFar-none : AreHeldSoFar [] [] []
-AreHeldSoFar-none = record { each = tt; records = IsPermutation-refl []; walked = AreWalked-none }
+AreHeldSoFar-none = record { each = tt; records = IsPermutation-refl [] }
 
 -- ---- a stream that is done
 
@@ -115,10 +114,10 @@ of-windows p true n (w ∷ ws) is = rw (is w) (ap (λ l. window_record n w ∷ l
 of-windows p false n (w ∷ ws) is = rw (is w) (of-windows p false n ws is)
 
 -- The records of a run, after those of lower numbers.
-module _ (front : List Record) (streams : List Stream) (done : AreWalked front streams) (all : List Found) (n : ℕ) (part : StreamParts)
-    (held : IsHeldOf part all) (lower : AllByRecursion (λ r. stream_of r < n) front) (own : AllByRecursion (λ r. stream_of r ≡ n) (without_slots all))
+module _ (front : List Record) (all : List Found) (n : ℕ) (part : StreamParts) (held : IsHeldOf part all)
+    (lower : AllByRecursion (λ r. stream_of r < n) front) (own : AllByRecursion (λ r. stream_of r ≡ n) (without_slots all))
     (usable : AllByRecursion (λ (f : Found). IsUsable f.holds) all) (rises : Rises place_of (without_slots all))
-    (run : is_run (names_of streams) (without_slots all) ≡ true) where
+    (run : is_run (names_created front) (without_slots all) ≡ true) where
   abbrev rs : List Record
   rs = without_slots held.rest
 
@@ -147,8 +146,8 @@ module _ (front : List Record) (streams : List Stream) (done : AreWalked front s
   pub rises-all : Rises place_of (head ∷ rs)
   rises-all = subst (Rises place_of) split rises
 
-  pub run-all : is_run (names_of streams) (head ∷ rs) ≡ true
-  run-all = ap (is_run (names_of streams)) (sym split) ∙ run
+  run-all : is_run (names_created front) (head ∷ rs) ≡ true
+  run-all = ap (is_run (names_created front)) (sym split) ∙ run
 
   abbrev ws : List Window
   ws = filter_map (window_of held.head.number) rs
@@ -157,7 +156,7 @@ module _ (front : List Record) (streams : List Stream) (done : AreWalked front s
   ms = filter (is_mark_of held.head.number) rs
 
   abbrev pub done_stream : Stream
-  done_stream = stream_made front streams done held.head rs lower-head own-rest usable-all rises-all run-all
+  done_stream = stream_made held.head rs
 
   pub done-agrees : Agrees part done_stream
   done-agrees = record {
@@ -172,19 +171,24 @@ module _ (front : List Record) (streams : List Stream) (done : AreWalked front s
   }
 
   pub alone : filter_map created_by rs ≡ []
-  alone = (meets front streams done held.head rs lower-head own-rest usable-all rises-all run-all).alone
+  alone = (meets (names_created front) held.head rs own-rest usable-all rises-all run-all).alone
 
   -- they say that no stream was dropped, and have one name
   pub stays : is_dropped n (without_slots all) ≡ false
   stays = ap (is_dropped n) split ∙ alone-drops n rs alone
 
-  pub names-all : (before : List Record) → names_created (before ++ without_slots all) ≡ names_created before ++ part.name ∷ []
-  names-all before =
-      ap (λ us. names_created (before ++ us)) split ∙ names-more before rs held.head.number held.head.name held.head.params false alone
-      ∙ ap (λ (name : List ℕ). names_created before ++ name ∷ []) (sym held.name)
+  pub names-all : names_created (front ++ without_slots all) ≡ names_created front ++ part.name ∷ []
+  names-all =
+      ap (λ us. names_created (front ++ us)) split ∙ names-more front rs held.head.number held.head.name held.head.params false alone
+      ∙ ap (λ (name : List ℕ). names_created front ++ name ∷ []) (sym held.name)
+
+  pub done-standing : (streams : List Stream) → AreStanding front streams → AreStanding (front ++ without_slots all) (streams ++ done_stream ∷ [])
+  done-standing streams done =
+      subst (λ us. AreStanding (front ++ us) (streams ++ done_stream ∷ [])) (sym split)
+      (AreStanding-more front streams done held.head rs lower-head own-rest usable-all rises-all run-all)
 
   order-rest : rs ≡ marks_of held.head.number 1 (landmarks_made ms) ++ map (window_record held.head.number) ws
-  order-rest = rest-order front streams done held.head rs lower-head own-rest usable-all rises-all run-all
+  order-rest = rest-order (names_created front) held.head rs own-rest usable-all rises-all run-all
 
   of-kind : (p : Record → Bool) (b : Bool) → ((w : Window) → p (window_record held.head.number w) ≡ b) →
       without_slots (found_by p held.rest)
@@ -225,17 +229,13 @@ module _ (front : List Record) (streams : List Stream) (done : AreWalked front s
       ∙ sym (map-append in_slot (h ∷ fs) us) in
       subst (λ l. IsPermutation l (map in_slot all)) (sym parts) (IsPermutation-map in_slot (h ∷ (fs ++ us)) all moved)
 
-  pub done-push : (parts : List StreamParts) (before : List Found) → without_slots before ≡ front → AllAgree parts streams →
-      IsPermutation (flat_map records_held (zip parts streams)) (map in_slot before) →
+  pub done-push : (parts : List StreamParts) (streams : List Stream) (before : List Found) → AreHeldSoFar parts streams before →
       AreHeldSoFar (parts ++ part ∷ []) (streams ++ done_stream ∷ []) (before ++ all)
-  done-push parts before is each so_far = record {
-    each = AllAgree-push parts streams part done_stream each done-agrees;
+  done-push parts streams before so_far = record {
+    each = AllAgree-push parts streams part done_stream so_far.each done-agrees;
     records =
-        subst (λ l. IsPermutation l (map in_slot (before ++ all))) (sym (held-push parts streams part done_stream each))
+        subst (λ l. IsPermutation l (map in_slot (before ++ all))) (sym (held-push parts streams part done_stream so_far.each))
         (subst (IsPermutation (flat_map records_held (zip parts streams) ++ records_held (part, done_stream))) (sym (map-append in_slot before all))
         (IsPermutation-append (flat_map records_held (zip parts streams)) (map in_slot before) (records_held (part, done_stream))
-        (map in_slot all) so_far done-held));
-    walked =
-        subst (λ l. AreWalked l (streams ++ done_stream ∷ [])) (sym (map-append (λ (f : Found). f.holds) before all ∙ (λ i. is i ++ split i)))
-        (AreWalked-run front streams done held.head rs lower-head own-rest usable-all rises-all run-all);
+        (map in_slot all) so_far.records done-held));
   }

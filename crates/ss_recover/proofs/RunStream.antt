@@ -3,7 +3,7 @@ use Rattle.ss_recover.proofs.Common.{[], ◌++◌, ◌<◌, ◌∙◌, ◌∷◌
 use Rattle.ss_recover.proofs.Common.{cases_eq, Created, eq-eqb, false, filter, filter_map, flat_map-append, inl, inr, is_mark_of, is_own, is_run}
 use Rattle.ss_recover.proofs.Common.{is_sound_in_order, IsDistinct, IsDistinct-cons, IsDistinct-from_apart, IsDistinct-head, IsDistinct-tail, IsState, IsStream}
 use Rattle.ss_recover.proofs.Common.{IsUsable, key_of, landmarks_made, length, length-append, length-map, List, list_any, live, ltb-true, map, map-append}
-use Rattle.ss_recover.proofs.Common.{map-id, MOST_RECORDS, MOST_STREAMS, names_of, not-true, or_left, or_parts, Params, place_of, Record, refl, Rises, same_name}
+use Rattle.ss_recover.proofs.Common.{map-id, MOST_RECORDS, MOST_STREAMS, names_of, not-true, or_left, or_parts, place_of, Record, refl, Rises, same_name}
 use Rattle.ss_recover.proofs.Common.{same_name-swap, Stream, stream_of, subst, suc, sum_by-cons, sym, true, Window, window_of, window_record, zero, ℕ}
 use Rattle.ss_recover.proofs.HeldRecords.{all_walked, each-all_walked, walked}
 use Rattle.ss_recover.proofs.InOrder.{increasing-Rise, Rise}
@@ -86,17 +86,22 @@ AreBefore-run front run back n lower own above =
     all_weaker _ _ (λ q more. all_append _ front run (all_weaker _ _ (λ r lt. omega (arith, lt, more)) front lower)
     (all_weaker _ _ (λ r is. omega (arith, is, more)) run own)) back above
 
--- A run after the records of streams.
-module _ (front : List Record) (streams : List Stream) (done : AreWalked front streams) (head : Created) (rest : List Record)
-    (lower : AllByRecursion (λ r. stream_of r < head.number) front) (own : AllByRecursion (λ r. stream_of r ≡ head.number) rest)
+-- the stream that the records of a run make
+abbrev pub stream_made : Created → List Record → Stream
+stream_made head rest = record {
+  number = head.number;
+  name = head.name;
+  params = head.params;
+  windows = filter_map (window_of head.number) rest;
+  landmarks = landmarks_made (filter (is_mark_of head.number) rest);
+}
+
+module _ (names : List (List ℕ)) (head : Created) (rest : List Record) (own : AllByRecursion (λ r. stream_of r ≡ head.number) rest)
     (usable : AllByRecursion IsUsable (records.Stream head.number head.name head.params false ∷ rest))
     (rises : Rises place_of (records.Stream head.number head.name head.params false ∷ rest))
-    (run : is_run (names_of streams) (records.Stream head.number head.name head.params false ∷ rest) ≡ true) where
-  abbrev first : Record
-  first = records.Stream head.number head.name head.params false
-
+    (run : is_run names (records.Stream head.number head.name head.params false ∷ rest) ≡ true) where
   pub meets : MeetsRun rest head
-  meets = run-meets (names_of streams) rest head run
+  meets = run-meets names rest head run
 
   abbrev ms : List Record
   ms = filter (is_mark_of head.number) rest
@@ -108,10 +113,7 @@ module _ (front : List Record) (streams : List Stream) (done : AreWalked front s
   marks-are = AreOf-are_marks head.number ms (all-passing (is_mark_of head.number) rest) (all-kept IsUsable (is_mark_of head.number) rest usable.1)
       meets.landmarks
 
-  abbrev pub stream_made : Stream
-  stream_made = record { number = head.number; name = head.name; params = head.params; windows = ws; landmarks = landmarks_made ms }
-
-  is-stream : IsStream stream_made
+  is-stream : IsStream (stream_made head rest)
   is-stream = record {
     target = usable.0.0;
     number = usable.0.1;
@@ -126,21 +128,62 @@ module _ (front : List Record) (streams : List Stream) (done : AreWalked front s
   pub rest-order : rest ≡ marks_of head.number 1 (landmarks_made ms) ++ map (window_record head.number) ws
   rest-order = run-order head.number rest own usable.1 rises.1 meets.alone ∙ ap (λ l. l ++ map (window_record head.number) ws) marks-are.records
 
-  pub AreWalked-run : AreWalked (front ++ first ∷ rest) (streams ++ stream_made ∷ [])
-  AreWalked-run =
-      let both = and_parts _ _ run in
-      let may = and_parts _ _ both.0 in
-      let below = each-all_walked (λ k. k < head.number) streams (subst (AllByRecursion (λ r. stream_of r < head.number)) done.order lower) in
+-- Of some records, those of streams that stand are those of streams of a state, and these have no other names than all.
+pub record AreStanding (front : List Record) (streams : List Stream) : Type 0 where
+  pub walked : AreWalked (filter (stands_in front) front) streams
+  pub fewer : AreFewer (names_of streams) (names_created front)
+
+pub AreStanding-none : AreStanding [] []
+AreStanding-none = record { walked = AreWalked-none; fewer = AreFewer-nil [] }
+
+module _ (front : List Record) (streams : List Stream) (done : AreStanding front streams) (head : Created) (rest : List Record)
+    (lower : AllByRecursion (λ q. stream_of q < head.number) front) (own : AllByRecursion (λ q. stream_of q ≡ head.number) rest) where
+  -- one more that stands
+  pub AreStanding-more : AllByRecursion IsUsable (records.Stream head.number head.name head.params false ∷ rest) →
+      Rises place_of (records.Stream head.number head.name head.params false ∷ rest) →
+      is_run (names_created front) (records.Stream head.number head.name head.params false ∷ rest) ≡ true →
+      AreStanding (front ++ records.Stream head.number head.name head.params false ∷ rest) (streams ++ stream_made head rest ∷ [])
+  AreStanding-more usable rises run =
+      let first = records.Stream head.number head.name head.params false in
+      let s = stream_made head rest in
+      let was = done.walked in
+      let may = and_parts _ _ (and_parts _ _ (is_run-fewer (names_of streams) (names_created front) done.fewer (first ∷ rest) run)).0 in
       let least = ltb-true (length (names_of streams)) MOST_STREAMS may.0 in
+      let below = each-all_walked (λ k. k < head.number) streams
+      (subst (AllByRecursion (λ q. stream_of q < head.number)) was.order (all-kept _ (stands_in front) front lower)) in
+      let alone = (meets (names_created front) head rest own usable rises run).alone in
+      let names : names_of streams ++ head.name ∷ [] ≡ names_of (streams ++ s ∷ []) = sym (map-append (λ (u : Stream). u.name) streams (s ∷ [])) in
       record {
-        order =
-            (λ i. done.order i ++ first ∷ rest-order i)
-            ∙ sym (flat_map-append walked streams (stream_made ∷ []) ∙ ap (λ l. all_walked streams ++ l) (append-nil (walked stream_made)));
-        sound = all_push IsStream streams stream_made done.sound is-stream;
-        rise = Rise-push (λ s. s.number) streams stream_made done.rise below;
-        distinct = subst (IsDistinct same_name) (sym (map-append (λ (s : Stream). s.name) streams (stream_made ∷ [])))
-            (distinct-push (names_of streams) head.name done.distinct (not-true (list_any (same_name head.name) (names_of streams)) may.1));
-        few = omega (arith, least, length-map streams (λ (s : Stream). s.name), length-append streams (stream_made ∷ []));
+        walked = record {
+          order =
+              standing-more (λ q. q) front (first ∷ rest) head.number lower (refl, own) front (first ∷ rest) lower (refl, own) false
+              (alone-drops head.number rest alone)
+              ∙ (λ i. was.order i ++ first ∷ rest-order (names_created front) head rest own usable rises run i)
+              ∙ sym (flat_map-append walked streams (s ∷ []) ∙ ap (λ l. all_walked streams ++ l) (append-nil (walked s)));
+          sound = all_push IsStream streams s was.sound (is-stream (names_created front) head rest own usable rises run);
+          rise = Rise-push (λ u. u.number) streams s was.rise below;
+          distinct = subst (IsDistinct same_name) names
+              (distinct-push (names_of streams) head.name was.distinct (not-true (list_any (same_name head.name) (names_of streams)) may.1));
+          few = omega (arith, least, length-map streams (λ (u : Stream). u.name), length-append streams (s ∷ []));
+        };
+        fewer = subst (AreFewer (names_of (streams ++ s ∷ []))) (sym (names-more front rest head.number head.name head.params false alone))
+            (subst (λ l. AreFewer l (names_created front ++ head.name ∷ [])) names
+            (AreFewer-push (names_of streams) (names_created front) done.fewer head.name));
+      }
+
+  -- one more that was dropped
+  pub AreStanding-dropped : is_run (names_created front) (records.Stream head.number head.name head.params true ∷ rest) ≡ true →
+      AreStanding (front ++ records.Stream head.number head.name head.params true ∷ rest) streams
+  AreStanding-dropped run =
+      let first = records.Stream head.number head.name head.params true in
+      let alone = own-alone rest (not-true (list_any is_own rest) (and_parts _ _ (and_parts _ _ run).1).0) in
+      let more : filter (stands_in (front ++ first ∷ rest)) (front ++ first ∷ rest) ≡ filter (stands_in front) front ++ [] =
+      standing-more (λ q. q) front (first ∷ rest) head.number lower (refl, own) front (first ∷ rest) lower (refl, own) true
+      (or_left _ _ (eq-eqb head.number head.number refl)) in
+      record {
+        walked = subst (λ l. AreWalked l streams) (sym (more ∙ append-nil (filter (stands_in front) front))) done.walked;
+        fewer = subst (AreFewer (names_of streams)) (sym (names-more front rest head.number head.name head.params true alone))
+            (AreFewer-more (names_of streams) (names_created front) done.fewer head.name);
       }
 
 -- ---- all runs, where each is sound
@@ -170,63 +213,15 @@ cut n (r ∷ rs) low rises =
           })
     ]
 
--- Of some records, those of streams that stand are those of streams of a state, and these have no other names than all.
-pub record AreStanding (front : List Record) (streams : List Stream) : Type 0 where
-  pub walked : AreWalked (filter (stands_in front) front) streams
-  pub fewer : AreFewer (names_of streams) (names_created front)
-
-pub AreStanding-none : AreStanding [] []
-AreStanding-none = record { walked = AreWalked-none; fewer = AreFewer-nil [] }
-
-module _ (front : List Record) (streams : List Stream) (done : AreStanding front streams) (id : ℕ) (name : List ℕ) (params : Params) (own : List Record)
-    (lower : AllByRecursion (λ q. stream_of q < id) front) (same : AllByRecursion (λ q. stream_of q ≡ id) own) where
-  -- one more that stands
-  step-standing : (usable : AllByRecursion IsUsable (records.Stream id name params false ∷ own)) →
-      Rises place_of (records.Stream id name params false ∷ own) → is_run (names_created front) (records.Stream id name params false ∷ own) ≡ true →
-      (ss : List Stream) × AreStanding (front ++ records.Stream id name params false ∷ own) ss
-  step-standing usable rises run =
-      let r = records.Stream id name params false in
-      let head : Created = record { number = id; name = name; params = params } in
-      let kept = filter (stands_in front) front in
-      let below = all-kept (λ q. stream_of q < id) (stands_in front) front lower in
-      let fewer = is_run-fewer (names_of streams) (names_created front) done.fewer (r ∷ own) run in
-      let alone = (meets kept streams done.walked head own below same usable rises fewer).alone in
-      let s = stream_made kept streams done.walked head own below same usable rises fewer in
-      let more : filter (stands_in (front ++ r ∷ own)) (front ++ r ∷ own) ≡ kept ++ r ∷ own =
-      standing-more (λ q. q) front (r ∷ own) id lower (refl, same) front (r ∷ own) lower (refl, same) false (alone-drops id own alone) in (
-        streams ++ s ∷ [],
-        record {
-          walked = subst (λ l. AreWalked l (streams ++ s ∷ [])) (sym more)
-              (AreWalked-run kept streams done.walked head own below same usable rises fewer);
-          fewer = subst (AreFewer (names_of (streams ++ s ∷ []))) (sym (names-more front own id name params false alone))
-              (subst (λ l. AreFewer l (names_created front ++ name ∷ [])) (sym (map-append (λ (u : Stream). u.name) streams (s ∷ [])))
-              (AreFewer-push (names_of streams) (names_created front) done.fewer name));
-        },
-      )
-
-  -- one more that was dropped
-  step-dropped : is_run (names_created front) (records.Stream id name params true ∷ own) ≡ true →
-      AreStanding (front ++ records.Stream id name params true ∷ own) streams
-  step-dropped run =
-      let r = records.Stream id name params true in
-      let none = not-true (list_any is_own own) (and_parts _ _ (and_parts _ _ run).1).0 in
-      let alone = own-alone own none in
-      let more : filter (stands_in (front ++ r ∷ own)) (front ++ r ∷ own) ≡ filter (stands_in front) front ++ [] =
-      standing-more (λ q. q) front (r ∷ own) id lower (refl, same) front (r ∷ own) lower (refl, same) true (or_left _ _ (eq-eqb id id refl)) in
-      record {
-        walked = subst (λ l. AreWalked l streams) (sym (more ∙ append-nil (filter (stands_in front) front))) done.walked;
-        fewer = subst (AreFewer (names_of streams)) (sym (names-more front own id name params true alone))
-            (AreFewer-more (names_of streams) (names_created front) done.fewer name);
-      }
-
 step : (front : List Record) (streams : List Stream) → AreStanding front streams → (r : Record) (own : List Record) →
     AllByRecursion (λ q. stream_of q < stream_of r) front → AllByRecursion (λ q. stream_of q ≡ stream_of r) own → AllByRecursion IsUsable (r ∷ own) →
     Rises place_of (r ∷ own) → is_run (names_created front) (r ∷ own) ≡ true → (ss : List Stream) × AreStanding (front ++ r ∷ own) ss
 step front streams done records.Free own lower same usable rises run = absurd usable.0
 step front streams done (records.Stream id name params false) own lower same usable rises run =
-    step-standing front streams done id name params own lower same usable rises run
+    let head : Created = record { number = id; name = name; params = params } in
+    (streams ++ stream_made head own ∷ [], AreStanding-more front streams done head own lower same usable rises run)
 step front streams done (records.Stream id name params true) own lower same usable rises run =
-    (streams, step-dropped front streams done id name params own lower same run)
+    (streams, AreStanding-dropped front streams done (record { number = id; name = name; params = params }) own lower same run)
 step front streams done _ own lower same usable rises run = absurd (cc)
 
 pub walk : (most : ℕ) (front back : List Record) (streams : List Stream) → length back ≤ most → AreStanding front streams → AreBefore front back →

@@ -4,17 +4,16 @@ use Rattle.ss_recover.proofs.Common.{append_assoc, ap₂, AreBuilt, arith, BadSl
 use Rattle.ss_recover.proofs.Common.{drop-append_seam, drop-drop, EndsWalk, eq-eqb, Err, false, filter, flat_map, Found, found_key, HasNothing, HasTakenDropped}
 use Rattle.ss_recover.proofs.Common.{HasTakenStanding, IfErr, IfOk, if◌then◌else◌, in_slot, inl, inr, is_doomed, is_dropped, is_own, is_run, is_sound_in_order}
 use Rattle.ss_recover.proofs.Common.{IsLowestUnsound, IsNextRun, IsPermutation, IsPermutation-append_right, IsPermutation-map, IsPermutation-trans, IsUsable}
-use Rattle.ss_recover.proofs.Common.{length, length-filter, length-map, List, list_any, list_any-append, map, map-append, MOST_RECORDS, names_in, names_of, not}
-use Rattle.ss_recover.proofs.Common.{not-true, Ok, or_left, or_right, OutOfMemory, Parts, place_of, Record, records_held, RecoverError, recursion_from_All, refl}
-use Rattle.ss_recover.proofs.Common.{Result, Rises, slots_found, Stream, stream_of, StreamParts, subst, sym, take, take-add, take-append-drop, take-append_seam}
+use Rattle.ss_recover.proofs.Common.{length, length-filter, length-map, List, list_any, list_any-append, map, map-append, MOST_RECORDS, names_in, not, not-true}
+use Rattle.ss_recover.proofs.Common.{Ok, or_left, or_right, OutOfMemory, Parts, place_of, Record, records_held, RecoverError, recursion_from_All, refl, Result}
+use Rattle.ss_recover.proofs.Common.{Rises, slots_found, Stream, stream_of, StreamParts, subst, sym, take, take-add, take-append-drop, take-append_seam}
 use Rattle.ss_recover.proofs.Common.{TakesAs, true, Walk, WalksAs, without_slots, zip, ℕ}
-use Rattle.ss_recover.proofs.Lists.{all-from_map, all-kept, all_append, all_behind, all_weaker, map-all}
-use Rattle.ss_recover.proofs.RunHeld.{AreHeldSoFar, AreHeldSoFar-none, done-push, done_stream, names-all, stays}
+use Rattle.ss_recover.proofs.Lists.{all-from_map, all_append, all_behind, all_weaker, map-all}
+use Rattle.ss_recover.proofs.RunHeld.{AreHeldSoFar, AreHeldSoFar-none, done-push, done-standing, done_stream, names-all, stays}
 use Rattle.ss_recover.proofs.RunOrder.{places-rise, Rises-parts}
 use Rattle.ss_recover.proofs.RunSound.{is_run-sound, own-alone}
-use Rattle.ss_recover.proofs.RunStanding.{AreFewer, AreFewer-more, AreFewer-nil, AreFewer-push, doomed-is, doomed-more, doomed-stay, in-three, is_run-fewer}
-use Rattle.ss_recover.proofs.RunStanding.{names-more, names_created, none-own, standing-more, stands_in}
-use Rattle.ss_recover.proofs.RunStream.{AreBefore, AreBefore-run, IsState-walked}
+use Rattle.ss_recover.proofs.RunStanding.{doomed-is, doomed-more, doomed-stay, in-three, names-more, names_created, none-own, standing-more, stands_in}
+use Rattle.ss_recover.proofs.RunStream.{AreBefore, AreBefore-run, AreStanding, AreStanding-dropped, AreStanding-none, IsState-walked}
 use Rattle.ss_codec.specs.declared.record.Record.TheVariants as records
 
 -- those of some records that are of streams that stand
@@ -25,9 +24,9 @@ standing_found all = filter (λ (f : Found). stands_in (without_slots all) f.hol
 -- slots are those of the records of dropped ones, and all are sound whatever comes after them.
 pub record AreDone (walk : Walk) (front : List Found) : Type 0 where
   pub streams : List Stream
+  pub standing : AreStanding (without_slots front) streams
   pub held : AreHeldSoFar walk.done.items streams (standing_found front)
   pub names_are : names_in walk.names ≡ names_created (without_slots front)
-  pub fewer : AreFewer (names_of streams) (names_in walk.names)
   pub others : walk.others.items ≡ slots_found (doomed_found false front)
   pub heads : walk.heads.items ≡ slots_found (doomed_found true front)
   pub sound : (back : List Record) → AreBefore (without_slots front) back →
@@ -36,9 +35,9 @@ pub record AreDone (walk : Walk) (front : List Found) : Type 0 where
 pub AreDone-none : (walk : Walk) → HasNothing walk → AreDone walk []
 AreDone-none walk none = record {
   streams = [];
+  standing = AreStanding-none;
   held = subst (λ ps. AreHeldSoFar ps [] []) (sym none.done) AreHeldSoFar-none;
   names_are = ap names_in none.names;
-  fewer = AreFewer-nil (names_in walk.names);
   others = none.others;
   heads = none.heads;
   sound = λ back before. tt;
@@ -102,32 +101,25 @@ module _ (old : Walk) (front : List Found) (done : AreDone old front) (n : ℕ) 
   abbrev kept : List Found
   kept = standing_found front
 
-  below : AllByRecursion (λ r. stream_of r < n) (without_slots kept)
-  below = map-all _ (λ (f : Found). f.holds) kept (all-kept _ (λ (f : Found). stands_in fs f.holds) front lower-found)
-
-  done-standing : (new : Walk) → HasTakenStanding old new here → AreDone new (front ++ here)
-  done-standing new took =
-      let fewer = is_run-fewer (names_of done.streams) (names_in old.names) done.fewer rs took.runs in
-      let before = without_slots kept in
-      let s = done_stream before done.streams done.held.walked here n took.part took.held below own usable rises fewer in
-      let still = stays before done.streams done.held.walked here n took.part took.held below own usable rises fewer in
-      let held = done-push before done.streams done.held.walked here n took.part took.held below own usable rises fewer old.done.items kept refl
-      done.held.each done.held.records in
+  done-standing-more : (new : Walk) → HasTakenStanding old new here → AreDone new (front ++ here)
+  done-standing-more new took =
+      let runs = ap (λ ns. is_run ns rs) (sym done.names_are) ∙ took.runs in
+      let s = done_stream fs here n took.part took.held lower own usable rises runs in
+      let still = stays fs here n took.part took.held lower own usable rises runs in
+      let held = done-push fs here n took.part took.held lower own usable rises runs old.done.items done.streams kept done.held in
       let same : (kind : Bool) → slots_found (doomed_found kind (front ++ here)) ≡ slots_found (doomed_found kind front) =
       λ kind. ap slots_found (ap (λ us. filter (λ (f : Found). is_doomed kind us f.holds) (front ++ here)) whole
       ∙ doomed-stay (λ (f : Found). f.holds) fs rs n lower own kind front here lower-found own-found usable still) in
       record {
         streams = done.streams ++ s ∷ [];
+        standing = subst (λ us. AreStanding us (done.streams ++ s ∷ [])) (sym whole)
+            (done-standing fs here n took.part took.held lower own usable rises runs done.streams done.standing);
         held =
             subst (λ ps. AreHeldSoFar ps (done.streams ++ s ∷ []) (standing_found (front ++ here))) (sym took.done)
             (subst (AreHeldSoFar (old.done.items ++ took.part ∷ []) (done.streams ++ s ∷ [])) (sym (stand-more false still)) held);
         names_are =
             took.names ∙ ap (λ (ns : List (List ℕ)). ns ++ took.part.name ∷ []) done.names_are
-            ∙ sym (names-all before done.streams done.held.walked here n took.part took.held below own usable rises fewer fs) ∙ ap names_created (sym whole);
-        fewer =
-            subst (AreFewer (names_of (done.streams ++ s ∷ []))) (sym took.names) (subst (λ l. AreFewer l (names_in old.names ++ took.part.name ∷ []))
-            (ap (λ (name : List ℕ). names_of done.streams ++ name ∷ []) took.held.name ∙ sym (map-append (λ (u : Stream). u.name) done.streams (s ∷ [])))
-            (AreFewer-push (names_of done.streams) (names_in old.names) done.fewer took.part.name));
+            ∙ sym (names-all fs here n took.part took.held lower own usable rises runs) ∙ ap names_created (sym whole);
         others = took.others ∙ done.others ∙ sym (same false);
         heads = took.heads ∙ done.heads ∙ sym (same true);
         sound = sound-more took.runs;
@@ -151,6 +143,12 @@ module _ (old : Walk) (front : List Found) (done : AreDone old front) (n : ℕ) 
       (subst (AllByRecursion (λ (f : Found). IsUsable f.holds)) took.split usable) dropped refl (none-own (λ (f : Found). f.holds) took.rest none) in
       record {
         streams = done.streams;
+        standing =
+            subst (λ us. AreStanding us done.streams) (ap (λ l. fs ++ without_slots l) (sym took.split) ∙ sym whole)
+            (AreStanding-dropped fs done.streams done.standing took.head (without_slots took.rest)
+            (subst (λ (k : ℕ). AllByRecursion (λ r. stream_of r < k) fs) (sym at) lower)
+            (all_weaker _ _ (λ r is. is ∙ sym at) (without_slots took.rest) (subst (λ l. AllByRecursion (λ r. stream_of r ≡ n) (without_slots l)) took.split own).1)
+            (ap (λ ns. is_run ns (without_slots (x ∷ took.rest))) (sym done.names_are) ∙ asked));
         held =
             subst (λ ps. AreHeldSoFar ps done.streams (standing_found (front ++ here))) (sym took.done)
             (subst (AreHeldSoFar old.done.items done.streams) (sym (stand-more true dropped ∙ append-nil kept)) done.held);
@@ -158,8 +156,6 @@ module _ (old : Walk) (front : List Found) (done : AreDone old front) (n : ℕ) 
             took.names ∙ ap (λ (ns : List (List ℕ)). ns ++ took.head.name ∷ []) done.names_are
             ∙ sym (names-more fs (without_slots took.rest) took.head.number took.head.name took.head.params true alone)
             ∙ ap (λ l. names_created (fs ++ without_slots l)) (sym took.split) ∙ ap names_created (sym whole);
-        fewer =
-            subst (AreFewer (names_of done.streams)) (sym took.names) (AreFewer-more (names_of done.streams) (names_in old.names) done.fewer took.head.name);
         others =
             took.others ∙ ap (λ (l : List ℕ). l ++ slots_found took.rest) done.others
             ∙ sym (ap slots_found (more false) ∙ map-append (λ (f : Found). f.slot) (doomed_found false front) took.rest);
@@ -170,7 +166,7 @@ module _ (old : Walk) (front : List Found) (done : AreDone old front) (n : ℕ) 
       }
 
   pub AreDone-more : (new : Walk) → HasTakenStanding old new here ⊎ HasTakenDropped old new here → AreDone new (front ++ here)
-  AreDone-more new (inl took) = done-standing new took
+  AreDone-more new (inl took) = done-standing-more new took
   AreDone-more new (inr took) = done-dropped new took
 
   -- the number of a run that isn't sound is the lowest
@@ -283,12 +279,12 @@ AreBuilt-done walk parts all done ends usable few =
           (sym ends.streams) (IsPermutation-trans _ _ _ (IsPermutation-append_right (map in_slot doomed) held (map in_slot kept) done.held.records)
           (subst (λ l. IsPermutation l (map in_slot all)) (map-append in_slot doomed kept) (IsPermutation-map in_slot (doomed ++ kept) all split)));
       state =
-          IsState-walked (without_slots kept) done.streams done.held.walked (omega (
+          IsState-walked (filter (stands_in us) us) done.streams done.standing.walked (omega (
             arith,
             few,
-            length-map kept (λ (f : Found). f.holds),
-            length-filter (λ (f : Found). stands_in us f.holds) all,
-            count_by-le-length (λ (f : Found). stands_in us f.holds) all,
+            length-map all (λ (f : Found). f.holds),
+            length-filter (stands_in us) us,
+            count_by-le-length (stands_in us) us,
           ));
       sound = subst (λ rs. AllByRecursion (λ r. is_sound_in_order rs (stream_of r) ≡ true) us) (append-nil us) (done.sound [] none);
       others = ends.others;
