@@ -9,15 +9,12 @@ use Rattle.ss_recover.proofs.Common.{stream_number, streams_carried, subst, sym,
 use Rattle.ss_codec.specs.Decoded.{decoded}
 use Rattle.ss_recover.specs.Carried.{spelled}
 use Rattle.ss_recover.specs.Parts.{carried}
-use Rattle.ss_recover.proofs.DroppedRecords.{CarryThem, may-goes, may_go-same}
-use Rattle.ss_recover.proofs.DroppedStreams.{is-dropped}
-use Rattle.ss_recover.proofs.FreeSlots.{any-filled, zeros_are_free, ZerosAreFree}
+use Rattle.ss_recover.proofs.DroppedRecords.{CarryThem, may-goes, may_go-same, is-dropped}
+use Rattle.ss_recover.proofs.WholeSlots.{any-filled, zeros_are_free, ZerosAreFree, spells-same}
 use Rattle.ss_recover.proofs.Lists.{all_behind, all_front, all_weaker, range-above, range-below}
-use Rattle.ss_recover.proofs.Occupied.{back, filled, filled-live, filled-zeros, front, IsAmong, IsAmong-filled, range-at}
+use Rattle.ss_recover.proofs.PutLemmas.{back, filled, filled-live, filled-zeros, front, IsAmong, IsAmong-filled, range-at, extent-stays}
 use Rattle.ss_recover.proofs.Permutations.{IsPermutation-filter_map}
-use Rattle.ss_recover.proofs.PutLemmas.{extent-stays}
 use Rattle.ss_recover.proofs.SoundNumbers.{AreSound, AreSound-none_bad, carries-judged}
-use Rattle.ss_recover.proofs.WholeSlots.{spells-same}
 use Rattle.ss_codec.specs.declared.record.Record.TheVariants as records
 
 -- what is beside a slot is what its bytes spell

@@ -1,19 +1,19 @@
 -- The slots that were read, and one more.
 use Rattle.ss_recover.proofs.Common.{[], ◌%◌, ◌*◌, ◌++◌, ◌+◌, ◌-◌, ◌/◌, ◌<◌, ◌^◌, ◌∙◌, ◌∷◌, ◌≡◌, ◌≢◌, ◌≤◌, All, All-push, ap, append-nil, ap₂, are_zeros}
 use Rattle.ss_recover.proofs.Common.{AreBelow, AreFoundBelow, AreGathered, AreLiveBelow, AreLiveOver, arith, BadSlot, BadStream, below, Bool, cases_lt, cond}
-use Rattle.ss_recover.proofs.Common.{cond-false, cond-true, count_by-le-length, Disk, eq-eqb, Err, false, false_from_ne_true, filter, filter-append, Found, Free}
-use Rattle.ss_recover.proofs.Common.{Gathered, get_or, get_or-map-range_with_len, in_slot, inl, inr, is_live, is_live-below, is_live-set, is_none, IsKept}
+use Rattle.ss_recover.proofs.Common.{cond-false, cond-true, count_by-le-length, Disk, eq-eqb, Err, false, false_from_ne_true, filter, filter-append, Found}
+use Rattle.ss_recover.proofs.Common.{Free, Gathered, get_or, get_or-map-range_with_len, in_slot, inl, inr, is_live, is_live-below, is_live-set, is_none, IsKept}
 use Rattle.ss_recover.proofs.Common.{IsLowestBad, IsSealed, IsUsable, JournalState, length, length-filter, length-map, length-map-range_with_len}
-use Rattle.ss_recover.proofs.Common.{length-range_with_len, length-set, List, lowest_bad_slot, lt-ltb, map, map-append, ne_eqb, None, not, Option}
-use Rattle.ss_recover.proofs.Common.{OutOfMemory, position_or_len, position_or_len_is, range_with_len, Record, RecoverError, refl, replicate, SameMap-refl, set}
-use Rattle.ss_recover.proofs.Common.{shown, SlotMap, Some, spelling-free, Spells-decoded, SpellsNone, StandsFor, StandsFor-from, StandsFor-same, subst, suc, sym}
-use Rattle.ss_recover.proofs.Common.{true, true≢false, verdict_of_rebuild, zero, ℕ}
+use Rattle.ss_recover.proofs.Common.{length-range_with_len, length-set, List, lowest_bad_slot, lt-ltb, map, map-append, ne_eqb, None, not, Option, OutOfMemory}
+use Rattle.ss_recover.proofs.Common.{position_or_len, position_or_len_is, range_with_len, Record, RecoverError, refl, replicate, SameMap-refl, set, shown}
+use Rattle.ss_recover.proofs.Common.{SlotMap, Some, spelling-free, Spells-decoded, SpellsNone, StandsFor, StandsFor-from, StandsFor-same, subst, suc, sym, true}
+use Rattle.ss_recover.proofs.Common.{true≢false, verdict_of_rebuild, zero, ℕ}
 use Rattle.ss_journal.proofs.ShownLemmas.{IsShown-sealed, shown-sealed}
 use Rattle.ss_codec.specs.Decoded.{decoded}
 use Rattle.ss_recover.specs.Carried.{spelled}
-use Rattle.ss_recover.proofs.FreeSlots.{decoded-free}
+use Rattle.ss_recover.proofs.WholeSlots.{decoded-free}
 use Rattle.ss_recover.proofs.Lists.{all_weaker, filter-same, range-within, range_with_len-append}
-use Rattle.ss_recover.proofs.Occupied.{filled, filled-append, filled-live, filled-zeros}
+use Rattle.ss_recover.proofs.PutLemmas.{filled, filled-append, filled-live, filled-zeros}
 
 -- where nothing is staged, a map's extent is that of the journal
 pub extent-kept : (journal : JournalState) (content : List ℕ) (found : SlotMap) → IsSealed journal → IsKept journal content → StandsFor content found →

@@ -1,24 +1,23 @@
 -- What is held is what the map carries.
 use Rattle.ss_recover.proofs.Common.{[], ◌<◌, ◌∙◌, ◌∷◌, ◌≡◌, ◌≤◌, All, All-from_recursion, All-permutation, AllByRecursion, and_from, ap, ap₂, are_marks}
-use Rattle.ss_recover.proofs.Common.{AreHeld, arith, carries, Created, created_by, filter, filter_map, Free, HasWholeSlots, is_mark_of}
-use Rattle.ss_recover.proofs.Common.{is_none, IsDistinct, IsInStep, IsPermutation, IsState, IsStream, IsStrictlyIncreasing, judged, keep_own_step}
-use Rattle.ss_recover.proofs.Common.{landmarks_made, length, length-map, lies_free, List, list_all, live, lowest_bad_slot, lowest_bad_stream, map, marks_carried}
-use Rattle.ss_recover.proofs.Common.{MOST_RECORDS, MOST_STREAMS, ne_eqb, None, not, Option, or_left, or_right, Record, records_in, records_of}
-use Rattle.ss_recover.proofs.Common.{recursion_from_All, refl, rule_of, same_name, SlotMap, stands_by, Stream, stream_carried}
-use Rattle.ss_recover.proofs.Common.{stream_number, StreamParts, streams_carried, streams_created, streams_standing, subst, sum_by-cons, sym, tile, times_rise}
-use Rattle.ss_recover.proofs.Common.{true, Window, window_of, windows_carried, ℕ}
+use Rattle.ss_recover.proofs.Common.{AreHeld, arith, carries, Created, created_by, filter, filter_map, Free, HasWholeSlots, is_mark_of, is_none, IsDistinct}
+use Rattle.ss_recover.proofs.Common.{IsInStep, IsPermutation, IsState, IsStream, IsStrictlyIncreasing, judged, keep_own_step, landmarks_made, length}
+use Rattle.ss_recover.proofs.Common.{length-map, lies_free, List, list_all, live, lowest_bad_slot, lowest_bad_stream, map, marks_carried, MOST_RECORDS}
+use Rattle.ss_recover.proofs.Common.{MOST_STREAMS, ne_eqb, None, not, Option, or_left, or_right, Record, records_in, records_of, recursion_from_All, refl}
+use Rattle.ss_recover.proofs.Common.{rule_of, same_name, SlotMap, stands_by, Stream, stream_carried, stream_number, StreamParts, streams_carried}
+use Rattle.ss_recover.proofs.Common.{streams_created, streams_standing, subst, sum_by-cons, sym, tile, times_rise, true, Window, window_of, windows_carried, ℕ}
 use Rattle.ss_recover.specs.Carried.{spelled}
 use Rattle.ss_recover.specs.Conditions.{is_sound}
 use Rattle.ss_recover.specs.Parts.{carried}
 use Rattle.ss_recover.proofs.DroppedRecords.{IsNoneOf}
-use Rattle.ss_recover.proofs.HeldRecords.{all-number_of, all_walked, created, created-all_walked, every_slot_spells, HasOwn-each, made-none}
-use Rattle.ss_recover.proofs.HeldRecords.{made_of_records, standing-all_walked}
+use Rattle.ss_recover.proofs.HeldRecords.{all-number_of, all_walked, created, created-all_walked, every_slot_spells, HasOwn-each, made-none, made_of_records}
+use Rattle.ss_recover.proofs.HeldRecords.{standing-all_walked}
 use Rattle.ss_recover.proofs.InOrder.{in_order-IsPermutation, Rise, Rise-increasing}
 use Rattle.ss_recover.proofs.Lists.{all-from_map, all_both, all_weaker, filter-none, filter_map-kept, kept, map-map, position-none}
 use Rattle.ss_recover.proofs.Marks.{are_marks-marks_of, in_order-marks_of, landmarks_made-marks_of, length-marks_of, marks_of}
-use Rattle.ss_recover.proofs.OwnSteps.{keep_step-IsInStep, own_step-apart, own_step-moved}
+use Rattle.ss_recover.proofs.SoundStreams.{keep_step-IsInStep, own_step-apart, own_step-moved, Rise-AreWindows, stands_alone, stands_alone-each}
+use Rattle.ss_recover.proofs.SoundStreams.{stands_alone-moved, tile-AreWindows, times_rise-AreWindows}
 use Rattle.ss_recover.proofs.SoundNumbers.{is_sound-from, none_bad-AreSound}
-use Rattle.ss_recover.proofs.SoundStreams.{Rise-AreWindows, stands_alone, stands_alone-each, stands_alone-moved, tile-AreWindows, times_rise-AreWindows}
 
 -- the streams of a state, and of each the windows and the landmarks that records carry
 abbrev Carries : List Record → Stream → Type 0

@@ -8,23 +8,79 @@ use Rattle.ss_recover.proofs.Common.{IsPermutation-trans, IsStream, IsStrictlyIn
 use Rattle.ss_recover.proofs.Common.{length, length-map, List, list_any, lowest_bad_slot, lowest_bad_stream, map, map-append, MatchOption, max, MOST_VALUES}
 use Rattle.ss_recover.proofs.Common.{newest_time, no_memory, None, none-latest, Ok, Option, or_from, OutOfMemory, Parts, range_with_len, RebuildsAs, Record}
 use Rattle.ss_recover.proofs.Common.{records_held, records_in, RecoverError, recursion_from_All, refl, refused, Result, RiseToLast, same_name, SlotMap}
-use Rattle.ss_recover.proofs.Common.{slots_found, slots_held, Some, span_held, span_of, StandFrom, Stream, StreamParts, streams_carried, subst, suc, sum_by-cons}
-use Rattle.ss_recover.proofs.Common.{sym, taken, TileFrom, true, Verdict, verdict_of_rebuild, WalksAs, Window, without_slots, zero, zip, ℕ}
+use Rattle.ss_recover.proofs.Common.{slots_found, slots_held, Some, span_held, span_of, StandFrom, Stream, StreamParts, streams_carried, subst, suc}
+use Rattle.ss_recover.proofs.Common.{sum_by-cons, sym, taken, TileFrom, times_held, times_of, TimesRise, true, Verdict, verdict_of_rebuild, WalksAs, Window}
+use Rattle.ss_recover.proofs.Common.{without_slots, zero, zip, ℕ}
 use Rattle.ss_codec.specs.Decoded.{decoded}
 use Rattle.ss_recover.specs.Carried.{spelled}
 use Rattle.ss_recover.specs.Parts.{carried}
-use Rattle.ss_recover.proofs.DoomedLemmas.{beside-found, first-in_slot}
-use Rattle.ss_recover.proofs.DoomedTurns.{doomed_slots-found, Rise-found, slots-in_order}
-use Rattle.ss_recover.proofs.FreeSlots.{beside-seconds, filter_map-filled, zeros_are_free}
+use Rattle.ss_recover.proofs.DoomedLemmas.{beside-found, first-in_slot, doomed_slots-found, Rise-found, slots-in_order}
+use Rattle.ss_recover.proofs.WholeSlots.{beside-seconds, filter_map-filled, zeros_are_free}
 use Rattle.ss_recover.proofs.HeldLemmas.{streams_are}
-use Rattle.ss_recover.proofs.HeldTimes.{RiseToLast-Agrees}
 use Rattle.ss_recover.proofs.HeldRecords.{held-long, held-zip, records_of_stream}
 use Rattle.ss_recover.proofs.Lists.{map-all, position-none}
-use Rattle.ss_recover.proofs.OrderLemmas.{map-in_order}
+use Rattle.ss_recover.proofs.InOrder.{map-in_order}
 use Rattle.ss_recover.proofs.RebuiltRecords.{all-held, have_those, in_turn-built, sound_numbers}
 use Rattle.ss_recover.proofs.SoundNumbers.{lowest-made, none_bad-AreSound}
 use Rattle.ss_recover.proofs.Unordered.{lowest-bad}
 use Rattle.std.proofs.lemmas.List.Sorted.{IsPermutation-append}
+
+-- up to the newest time
+rise-agree : (first time newest last : ℕ) (es : List Entry) (ws : List Window) → StandFrom first time ws → newest_time ws ≡ Some newest → newest ≤ last →
+    map times_held es ≡ map times_of ws → TimesRise time last es
+rise-agree first time newest last [] ws stand is by times = tt
+rise-agree first time newest last (e ∷ es) [] stand is by times = cc
+rise-agree first time newest last (e ∷ []) (w ∷ []) stand is by times =
+    let both : times_held e ≡ times_of w = cc in
+    let begins : e.t_first ≡ w.summary.t_first = ap (λ (p : ℕ × ℕ). p.0) both in
+    let ends : e.t_last ≡ w.summary.t_last = ap (λ (p : ℕ × ℕ). p.1) both in
+    let some = stand.1.count_low in
+    let long = stand.1.times in
+    let low = stand.2 in
+    let same : w.summary.t_last ≡ newest = cc in
+    (omega (arith, begins, low), omega (arith, begins, ends, some, long), omega (arith, ends, same, by), tt)
+rise-agree first time newest last (e ∷ []) (w ∷ v ∷ vs) stand is by times = cc
+rise-agree first time newest last (e ∷ d ∷ ds) (w ∷ []) stand is by times = cc
+rise-agree first time newest last (e ∷ d ∷ ds) (w ∷ v ∷ vs) stand is by times =
+    let both : times_held e ≡ times_of w = cc in
+    let begins : e.t_first ≡ w.summary.t_first = ap (λ (p : ℕ × ℕ). p.0) both in
+    let ends : e.t_last ≡ w.summary.t_last = ap (λ (p : ℕ × ℕ). p.1) both in
+    let rest : map times_held (d ∷ ds) ≡ map times_of (v ∷ vs) = cc in
+    let some = stand.1.count_low in
+    let long = stand.1.times in
+    let low = stand.2 in
+    let behind = rise-agree (first + w.summary.count) (w.summary.t_last + 1) newest last (d ∷ ds) (v ∷ vs) stand.3 is by rest in
+    let here = behind.0 in
+    let there = behind.1 in
+    let end = behind.2 in (
+      omega (arith, begins, low),
+      omega (arith, begins, ends, some, long),
+      omega (arith, ends, here, there, end),
+      subst (λ (n : ℕ). TimesRise (n + 1) last (d ∷ ds)) (sym ends) behind,
+    )
+
+some-newest : (w : Window) (ws : List Window) → newest_time (w ∷ ws) ≡ None → ⊥
+some-newest w [] is = cc
+some-newest w (v ∷ ws) is = some-newest v ws is
+
+-- up to the later of that one and another
+rise-later : (newest latest : Option ℕ) (es : List Entry) (ws : List Window) → StandFrom 1 0 ws → newest_time ws ≡ newest →
+    map times_held es ≡ map times_of ws → MatchOption (later newest latest) (es ≡ []) (λ last. TimesRise 0 last es)
+rise-later None None [] ws stand is times = refl
+rise-later None (Some u) [] ws stand is times = tt
+rise-later (Some t) None [] ws stand is times = tt
+rise-later (Some t) (Some u) [] ws stand is times = tt
+rise-later None latest (e ∷ es) [] stand is times = cc
+rise-later None latest (e ∷ es) (w ∷ ws) stand is times = absurd (some-newest w ws is)
+rise-later (Some t) None (e ∷ es) ws stand is times = rise-agree 1 0 t t (e ∷ es) ws stand is (omega arith) times
+rise-later (Some t) (Some u) (e ∷ es) ws stand is times = rise-agree 1 0 t (max t u) (e ∷ es) ws stand is (omega arith) times
+
+pub RiseToLast-Agrees : (part : StreamParts) (s : Stream) → Agrees part s → IsStream s → RiseToLast part
+RiseToLast-Agrees part s agrees is =
+    subst (λ (last : Option ℕ). MatchOption last (entries_of part ≡ []) (λ last. TimesRise 0 last (entries_of part))) (sym agrees.last_time)
+    (rise-later (newest_time s.windows) (latest_of s.landmarks) (entries_of part) s.windows is.windows.stand refl agrees.times)
+
+-- ---- what rebuilding answers, from what was read and what the walk over it answers
 
 -- what is made of the records of a map is made of those that were found
 made-found : (found : SlotMap) (all : List Found) → HasWholeSlots found → AreFound all found → (Y : Type 0) (f : Record → Option Y) → f Free ≡ None →

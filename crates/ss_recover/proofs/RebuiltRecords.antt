@@ -1,25 +1,23 @@
 -- The records that were found, as a walk answers them: those of dropped streams, and those of the streams that are held.
-use Rattle.ss_recover.proofs.Common.{[], ◌++◌, ◌==◌, ◌∙◌, ◌≡◌, All-from_recursion, All-permutation, AllByRecursion, ap, ap₂, AreBuilt, Bool, doomed_found, false}
-use Rattle.ss_recover.proofs.Common.{filter_map, filter_map-append, flat_map, Found, found_key, Free, GoInTurn, in_order, in_slot, is_doomed, is_dropped, is_of}
-use Rattle.ss_recover.proofs.Common.{is_sound_in_order, IsPermutation, IsPermutation-append_left, IsPermutation-append_right, IsPermutation-map}
+use Rattle.ss_recover.proofs.Common.{[], ◌++◌, ◌==◌, ◌∙◌, ◌≡◌, All-from_recursion, All-permutation, AllByRecursion, ap, ap₂, AreBuilt, Bool, doomed_found}
+use Rattle.ss_recover.proofs.Common.{false, filter_map, filter_map-append, flat_map, Found, found_key, Free, GoInTurn, in_order, in_slot, is_doomed, is_dropped}
+use Rattle.ss_recover.proofs.Common.{is_of, is_sound_in_order, IsPermutation, IsPermutation-append_left, IsPermutation-append_right, IsPermutation-map}
 use Rattle.ss_recover.proofs.Common.{IsPermutation-sym, IsPermutation-trans, key_of, List, list_any, list_any-IsPermutation, map, ne_eqb, None, Option, Parts}
 use Rattle.ss_recover.proofs.Common.{Record, records_beside, records_held, records_in, recursion_from_All, refl, stands_by, Stream, stream_number, stream_of}
 use Rattle.ss_recover.proofs.Common.{subst, sym, true, true≢false, without_slots, zip, ℕ}
 use Rattle.ss_recover.specs.Conditions.{is_sound}
-use Rattle.ss_recover.proofs.DoomedLemmas.{apart-dropped, beside-found, doomed_found-moved, dropped-doomed, each-IsGone, IsGone, standing-kept}
-use Rattle.ss_recover.proofs.DoomedTurns.{doomed-go}
+use Rattle.ss_recover.proofs.DoomedLemmas.{apart-dropped, beside-found, doomed_found-moved, dropped-doomed, each-IsGone, IsGone, standing-kept, doomed-go}
 use Rattle.ss_recover.proofs.HeldLemmas.{HaveThose, HaveThose-made}
 use Rattle.ss_recover.proofs.HeldRecords.{all-all_walked, all_walked, each-number, IsPermutation-all_walked, records_in-Some, records_of_streams, second-held}
-use Rattle.ss_recover.proofs.InOrder.{IsPermutation-in_order}
+use Rattle.ss_recover.proofs.InOrder.{IsPermutation-in_order, map-in_order}
 use Rattle.ss_recover.proofs.Lists.{all-passing, all_append, all_behind, all_both, all_front, all_weaker, map-all}
-use Rattle.ss_recover.proofs.OrderLemmas.{map-in_order}
 use Rattle.ss_recover.proofs.Permutations.{IsPermutation-filter_map}
 use Rattle.ss_recover.proofs.SoundNumbers.{AreSound}
 use Rattle.ss_recover.proofs.SoundStreams.{none-passes}
 use Rattle.ss_recover.proofs.Unordered.{is_sound-in_order}
 use Rattle.ss_codec.specs.declared.record.Record.TheVariants as records
 use Rattle.std.proofs.lemmas.List.Sorted.{IsPermutation-append}
-use Rattle.ss_recover.proofs.FreeSlots.{beside-seconds}
+use Rattle.ss_recover.proofs.WholeSlots.{beside-seconds}
 
 is_of-apart : (n : ℕ) (r : Record) → (stream_of r == n) ≡ false → is_of n r ≡ false
 is_of-apart n Free apart = refl

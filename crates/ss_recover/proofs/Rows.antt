@@ -1,9 +1,9 @@
 -- Worked maps of a few slots, and what each carries or where it is damaged.
 use Rattle.ss_recover.proofs.Common.{[], ◌*◌, ◌+◌, ◌-◌, ◌^◌, ◌∙◌, ◌∷◌, ◌≡◌, ◌≤◌, AreKept, AreWhole, AreWholeBeside, bad_slot, bad_stream, BadSlot, BadStream}
 use Rattle.ss_recover.proofs.Common.{Bool, Carried, carries, Created, Disk, doomed_slots, Err, failed, false, Figures, filter, filter_of, fine, full, has_place}
-use Rattle.ss_recover.proofs.Common.{HasParts, is_live, IsPermutation, Landmark, length, List, map, negsuc, no_memory, None, occupied, Ok, Option, OutOfMemory}
-use Rattle.ss_recover.proofs.Common.{Parts, pos, range_with_len, Rebuilds, RecordsState, RecoverError, refl, refused, replicate, Result, slice_index_or}
-use Rattle.ss_recover.proofs.Common.{slice_set, SlotMap, Some, StandsFor, Stream, StreamParts, tile, true, verdict_of_rebuild, Window, zeros, ℕ}
+use Rattle.ss_recover.proofs.Common.{HasParts, is_live, IsPermutation, keep_step, Landmark, length, List, map, negsuc, no_memory, None, occupied, Ok, Option}
+use Rattle.ss_recover.proofs.Common.{OutOfMemory, Params, Parts, pos, range_with_len, Rebuilds, RecordsState, RecoverError, refl, refused, replicate, Result}
+use Rattle.ss_recover.proofs.Common.{slice_index_or, slice_set, SlotMap, Some, StandsFor, Stream, StreamParts, tile, true, verdict_of_rebuild, Window, zeros, ℕ}
 use Rattle.ss_summary.specs.Points.{New}
 use Rattle.ss_summary.specs.Summaries.{summary_of}
 use Rattle.ss_catalog.specs.Params.{exp as Exp}
@@ -87,7 +87,7 @@ last_one = summary_of ((70, pos 7, New) ∷ [])
 abbrev pub AreCarried : List (List (List ℕ) × Carried) → Type 0
 AreCarried rows = map (λ row. carried (map_of row.0)) rows ≡ map (λ row. row.1) rows
 
--- what is sound, without landmarks
+-- what is sound, without landmarks, and which filters are
 carried-sound : AreCarried (
     -- no slot, and slots that are free
     ([], carries [])
@@ -109,18 +109,10 @@ carried-sound : AreCarried (
       window_slot 7 2 (fives 1 20 20) ∷ stream_slot 7 b ∷ window_slot 0 1 (fives 2 10 11) ∷ window_slot 7 1 (fives 1 10 10) ∷ stream_slot 0 a ∷ [],
       carries (stream 0 a (window 1 (fives 2 10 11) ∷ []) ∷ stream 7 b (window 1 (fives 1 10 10) ∷ window 2 (fives 1 20 20) ∷ []) ∷ []),
     )
-    ∷ []
-    )
-unfolding carried spelled is_sound decoded record_in stream_in window_in landmark_in value_in finish_in params_in is_valid spelling
-    Names.is_name Possible.is_possible Filters.bit_of Filters.filter_of Filters.full Filters.has Filters.union
-    Fields.with_field Numbers.number_at Numbers.number_bytes Marks.lies_free
-carried-sound = refl
-
--- windows whose filters have all bits, as stores without filters wrote them, beside ones with the filters of their values: each
--- as it is
-carried-filters : AreCarried (
+    -- windows whose filters have all bits, as stores without filters wrote them, beside ones with the filters of their values: each
+    -- as it is
     -- in one stream
-    (
+    ∷ (
       stream_slot 0 a ∷ window_slot 0 1 (fives 4 10 40) ∷ window_slot 0 5 (filtered_fives 2 50 60) ∷ [],
       carries (stream 0 a (window 1 (fives 4 10 40) ∷ window 5 (filtered_fives 2 50 60) ∷ []) ∷ []),
     )
@@ -140,9 +132,9 @@ carried-filters : AreCarried (
 unfolding carried spelled is_sound decoded record_in stream_in window_in landmark_in value_in finish_in params_in is_valid spelling
     Names.is_name Possible.is_possible Filters.bit_of Filters.filter_of Filters.full Filters.has Filters.union
     Fields.with_field Numbers.number_at Numbers.number_bytes Marks.lies_free
-carried-filters = refl
+carried-sound = refl
 
--- what is damaged, without landmarks
+-- what is damaged, without landmarks, and streams that were dropped
 carried-damaged : AreCarried (
     -- a slot of another kind, also where a stream is damaged too: the slot is told, and the lowest of two
     (stream_slot 0 a ∷ slice_set zeros 0 9 ∷ [], bad_slot 1)
@@ -168,6 +160,32 @@ carried-damaged : AreCarried (
       stream_slot 0 a ∷ window_slot 0 1 (fives 2 10 20) ∷ window_slot 0 3 (fives 1 21 21) ∷ [],
       carries (stream 0 a (window 1 (fives 2 10 20) ∷ window 3 (fives 1 21 21) ∷ []) ∷ []),
     )
+    -- streams that were dropped
+    -- one with a window, and one that stands
+    ∷ (dropped_slot 0 a ∷ window_slot 0 1 first_four ∷ stream_slot 1 b ∷ [], carries (stream 1 b [] ∷ []))
+    ∷ (
+      window_slot 1 1 (fives 1 10 10) ∷ stream_slot 1 b ∷ window_slot 0 1 first_four ∷ dropped_slot 0 a ∷ [],
+      carries (stream 1 b (window 1 (fives 1 10 10) ∷ []) ∷ []),
+    )
+    -- nothing is asked of its windows and landmarks: windows with a gap, one twice, and a value of no landmark
+    ∷ (
+      dropped_slot 0 a ∷ window_slot 0 5 (fives 1 20 20) ∷ window_slot 0 5 (fives 1 20 20) ∷ value_slot 0 3 2 10 ∷ [],
+      carries [],
+    )
+    -- two records of one number, whichever says that it was dropped
+    ∷ (dropped_slot 0 a ∷ dropped_slot 0 b ∷ [], bad_stream 0)
+    ∷ (dropped_slot 0 a ∷ stream_slot 0 b ∷ [], bad_stream 0)
+    ∷ (stream_slot 0 b ∷ dropped_slot 0 a ∷ [], bad_stream 0)
+    -- the name of a lower number, whichever of them was dropped
+    ∷ (dropped_slot 0 a ∷ stream_slot 3 a ∷ [], bad_stream 3)
+    ∷ (stream_slot 0 a ∷ dropped_slot 3 a ∷ [], bad_stream 3)
+    ∷ (dropped_slot 3 a ∷ dropped_slot 0 a ∷ [], bad_stream 3)
+    -- a window without its stream, and a stream that stands whose windows have a gap
+    ∷ (dropped_slot 0 a ∷ window_slot 6 1 (fives 1 10 10) ∷ [], bad_stream 6)
+    ∷ (dropped_slot 0 a ∷ stream_slot 1 b ∷ window_slot 1 2 (fives 1 20 20) ∷ [], bad_stream 1)
+    -- a state that is neither is no valid record
+    ∷ (slice_set (dropped_slot 0 a) 3 0 ∷ [], carries (stream 0 a [] ∷ []))
+    ∷ (slice_set (dropped_slot 0 a) 3 2 ∷ [], bad_slot 0)
     ∷ []
     )
 unfolding carried spelled is_sound decoded record_in stream_in window_in landmark_in value_in finish_in params_in is_valid spelling
@@ -175,7 +193,7 @@ unfolding carried spelled is_sound decoded record_in stream_in window_in landmar
     Fields.with_field Numbers.number_at Numbers.number_bytes Marks.lies_free
 carried-damaged = refl
 
--- maps with landmarks
+-- maps with landmarks, and with windows among them
 carried-landmarks : AreCarried (
     -- a closed landmark of one time with its value
     (
@@ -228,17 +246,9 @@ carried-landmarks : AreCarried (
     ∷ (stream_slot 0 a ∷ landmark_slot 0 1 1 20 (Some 40) ∷ value_slot 0 2 1 20 ∷ [], bad_stream 0)
     ∷ (stream_slot 0 a ∷ landmark_slot 6 1 0 20 (Some 40) ∷ [], bad_stream 6)
     ∷ (stream_slot 0 a ∷ landmark_slot 0 1 0 20 (Some 40) ∷ value_slot 6 1 1 20 ∷ [], bad_stream 6)
-    ∷ []
-    )
-unfolding carried spelled is_sound decoded record_in stream_in window_in landmark_in value_in finish_in params_in is_valid spelling
-    Names.is_name Possible.is_possible Filters.bit_of Filters.filter_of Filters.full Filters.has Filters.union
-    Fields.with_field Numbers.number_at Numbers.number_bytes Marks.lies_free
-carried-landmarks = refl
-
--- windows among landmarks
-carried-among : AreCarried (
+    -- windows among landmarks
     -- an end of a window that a landmark covers: the last one, the first one, both, and neither
-    (stream_slot 0 a ∷ window_slot 0 1 (fives 2 10 20) ∷ landmark_slot 0 1 0 20 (Some 40) ∷ [], bad_stream 0)
+    ∷ (stream_slot 0 a ∷ window_slot 0 1 (fives 2 10 20) ∷ landmark_slot 0 1 0 20 (Some 40) ∷ [], bad_stream 0)
     ∷ (stream_slot 0 a ∷ window_slot 0 1 (fives 2 40 50) ∷ landmark_slot 0 1 0 20 (Some 40) ∷ [], bad_stream 0)
     ∷ (stream_slot 0 a ∷ window_slot 0 1 (fives 1 30 30) ∷ landmark_slot 0 1 0 20 (Some 40) ∷ [], bad_stream 0)
     ∷ (
@@ -269,41 +279,7 @@ carried-among : AreCarried (
 unfolding carried spelled is_sound decoded record_in stream_in window_in landmark_in value_in finish_in params_in is_valid spelling
     Names.is_name Possible.is_possible Filters.bit_of Filters.filter_of Filters.full Filters.has Filters.union
     Fields.with_field Numbers.number_at Numbers.number_bytes Marks.lies_free
-carried-among = refl
-
--- streams that were dropped
-carried-dropped : AreCarried (
-    -- one with a window, and one that stands
-    (dropped_slot 0 a ∷ window_slot 0 1 first_four ∷ stream_slot 1 b ∷ [], carries (stream 1 b [] ∷ []))
-    ∷ (
-      window_slot 1 1 (fives 1 10 10) ∷ stream_slot 1 b ∷ window_slot 0 1 first_four ∷ dropped_slot 0 a ∷ [],
-      carries (stream 1 b (window 1 (fives 1 10 10) ∷ []) ∷ []),
-    )
-    -- nothing is asked of its windows and landmarks: windows with a gap, one twice, and a value of no landmark
-    ∷ (
-      dropped_slot 0 a ∷ window_slot 0 5 (fives 1 20 20) ∷ window_slot 0 5 (fives 1 20 20) ∷ value_slot 0 3 2 10 ∷ [],
-      carries [],
-    )
-    -- two records of one number, whichever says that it was dropped
-    ∷ (dropped_slot 0 a ∷ dropped_slot 0 b ∷ [], bad_stream 0)
-    ∷ (dropped_slot 0 a ∷ stream_slot 0 b ∷ [], bad_stream 0)
-    ∷ (stream_slot 0 b ∷ dropped_slot 0 a ∷ [], bad_stream 0)
-    -- the name of a lower number, whichever of them was dropped
-    ∷ (dropped_slot 0 a ∷ stream_slot 3 a ∷ [], bad_stream 3)
-    ∷ (stream_slot 0 a ∷ dropped_slot 3 a ∷ [], bad_stream 3)
-    ∷ (dropped_slot 3 a ∷ dropped_slot 0 a ∷ [], bad_stream 3)
-    -- a window without its stream, and a stream that stands whose windows have a gap
-    ∷ (dropped_slot 0 a ∷ window_slot 6 1 (fives 1 10 10) ∷ [], bad_stream 6)
-    ∷ (dropped_slot 0 a ∷ stream_slot 1 b ∷ window_slot 1 2 (fives 1 20 20) ∷ [], bad_stream 1)
-    -- a state that is neither is no valid record
-    ∷ (slice_set (dropped_slot 0 a) 3 0 ∷ [], carries (stream 0 a [] ∷ []))
-    ∷ (slice_set (dropped_slot 0 a) 3 2 ∷ [], bad_slot 0)
-    ∷ []
-    )
-unfolding carried spelled is_sound decoded record_in stream_in window_in landmark_in value_in finish_in params_in is_valid spelling
-    Names.is_name Possible.is_possible Filters.bit_of Filters.filter_of Filters.full Filters.has Filters.union
-    Fields.with_field Numbers.number_at Numbers.number_bytes Marks.lies_free
-carried-dropped = refl
+carried-landmarks = refl
 
 -- the streams 0 and 2 were dropped, and 1 stands
 abbrev dropped_map : SlotMap
@@ -366,3 +342,56 @@ whole-few parts live whole = whole.few
 -- a slot of a dropped stream is live, and none other is beside those that are held
 whole-doomed : (live : List Bool) → AreWholeBeside (1 ∷ []) [] live → IsPermutation (1 ∷ []) (filter (is_live live) (range_with_len 0 (length live)))
 whole-doomed live whole = whole.slots
+
+-- ---- worked maps of a stream whose windows keep to a step of the clock, and what each carries
+
+-- the target `exp 2 1 1` within a step
+abbrev params : Option ℕ → Params
+params within = record (Exp 2 1 1) { within = within }
+
+-- the bytes of the record of the stream with the number 0 and this target, and this stream with these windows
+abbrev stepped_slot : Option ℕ → Bool → List ℕ
+stepped_slot within dropped = spelling (records.Stream 0 a (params within) dropped)
+
+abbrev carrying : Option ℕ → List Window → Carried
+carrying within windows = carries (record { number = 0; name = a; params = params within; windows = windows; landmarks = [] } ∷ [])
+
+-- two values 5 at these times, which are a stream's only window
+abbrev alone : Option ℕ → ℕ → ℕ → List (List ℕ)
+alone within t_first t_last = stepped_slot within false ∷ window_slot 0 1 (fives 2 t_first t_last) ∷ []
+
+abbrev carried_alone : Option ℕ → ℕ → ℕ → Carried
+carried_alone within t_first t_last = carrying within (window 1 (fives 2 t_first t_last) ∷ [])
+
+carried-steps : AreCarried (
+    -- a window that ends a second before a boundary of a minute, one that ends on it, and one that begins on it
+    (alone (Some 60) 70 119, carried_alone (Some 60) 70 119)
+    ∷ (alone (Some 60) 119 120, bad_stream 0)
+    ∷ (alone (Some 60) 120 179, carried_alone (Some 60) 120 179)
+    -- one that begins and ends a day apart, at the same time of the day
+    ∷ (alone (Some 86400) 100 86500, bad_stream 0)
+    -- without a step, and within one that has no boundary there
+    ∷ (alone None 119 120, carried_alone None 119 120)
+    ∷ (alone (Some 61) 119 120, carried_alone (Some 61) 119 120)
+    -- a step of 1 leaves each time alone
+    ∷ (alone (Some 1) 7 8, bad_stream 0)
+    -- one of two windows crosses a boundary, the older or the newer, and neither, whatever the slots
+    ∷ (stepped_slot (Some 60) false ∷ window_slot 0 1 (fives 2 50 60) ∷ window_slot 0 3 (fives 2 61 70) ∷ [], bad_stream 0)
+    ∷ (window_slot 0 3 (fives 2 100 120) ∷ window_slot 0 1 (fives 2 60 70) ∷ stepped_slot (Some 60) false ∷ [], bad_stream 0)
+    ∷ (
+      window_slot 0 3 (fives 2 60 119) ∷ window_slot 0 1 (fives 2 50 59) ∷ stepped_slot (Some 60) false ∷ [],
+      carrying (Some 60) (window 1 (fives 2 50 59) ∷ window 3 (fives 2 60 119) ∷ []),
+    )
+    -- of a dropped stream no step is asked
+    ∷ (stepped_slot (Some 60) true ∷ window_slot 0 1 (fives 2 119 120) ∷ [], carries [])
+    ∷ []
+    )
+unfolding carried spelled is_sound decoded record_in stream_in window_in landmark_in value_in finish_in params_in is_valid spelling
+    Names.is_name Possible.is_possible Filters.bit_of Filters.filter_of Filters.full Filters.has Filters.union
+    Fields.with_field Numbers.number_at Numbers.number_bytes Marks.lies_free
+carried-steps = refl
+
+-- windows that keep to a step
+keeping : map (λ step. keep_step step (window 1 (fives 2 119 120) ∷ [])) (0 ∷ 1 ∷ 60 ∷ 61 ∷ 119 ∷ 120 ∷ 121 ∷ [])
+    ≡ true ∷ false ∷ false ∷ true ∷ true ∷ false ∷ true ∷ []
+keeping = refl

@@ -7,8 +7,7 @@ use Rattle.ss_recover.proofs.Common.{length-map, lies_free, List, list_all, list
 use Rattle.ss_recover.proofs.Common.{not-true, or-false, or_from, place_of, Record, refl, Rises, same_name, step_number, stream_of, streams_created, sym, tile}
 use Rattle.ss_recover.proofs.Common.{times_rise, true, Window, window_of, window_record, windows_in, ℕ}
 use Rattle.ss_recover.proofs.Lists.{all_weaker}
-use Rattle.ss_recover.proofs.OwnSteps.{own_step-one, own_step-parts}
-use Rattle.ss_recover.proofs.SoundStreams.{count-at, count-below, new-name}
+use Rattle.ss_recover.proofs.SoundStreams.{own_step-one, own_step-parts, count-at, count-below, new-name}
 use Rattle.ss_codec.specs.declared.record.Record.TheVariants as records
 
 -- the windows and the records of landmarks of a number

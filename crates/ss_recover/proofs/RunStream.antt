@@ -10,12 +10,11 @@ use Rattle.ss_recover.proofs.InOrder.{increasing-Rise, Rise}
 use Rattle.ss_recover.proofs.Lists.{all-kept, all-passing, all_append, all_behind, all_front, all_push, all_weaker}
 use Rattle.ss_recover.proofs.Marks.{length-marks_of, marks_of}
 use Rattle.ss_recover.proofs.MarksSoFar.{AreOf, AreOf-are_marks}
-use Rattle.ss_recover.proofs.OwnSteps.{IsInStep-keep_step}
+use Rattle.ss_recover.proofs.SoundStreams.{IsInStep-keep_step, AreWindows-tile}
 use Rattle.ss_recover.proofs.RunOrder.{places-rise, Rises-parts, streams-rise}
 use Rattle.ss_recover.proofs.RunSound.{alone-drops, is_run-sound, MeetsRun, own-alone, run-meets, run-order}
 use Rattle.ss_recover.proofs.RunStanding.{AreFewer, AreFewer-more, AreFewer-nil, AreFewer-push, is_run-fewer, names-more, names_created, standing-more}
 use Rattle.ss_recover.proofs.RunStanding.{stands_in}
-use Rattle.ss_recover.proofs.SoundStreams.{AreWindows-tile}
 use Rattle.ss_recover.proofs.ValidRecords.{all-window_of}
 use Rattle.ss_codec.specs.declared.record.Record.TheVariants as records
 use Rattle.ss_model.specs.State as Streams

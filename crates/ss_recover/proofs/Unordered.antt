@@ -3,16 +3,14 @@ use Rattle.ss_recover.proofs.Common.{[], ◌&&◌, ◌*◌, ◌+◌, ◌<◌, �
 use Rattle.ss_recover.proofs.Common.{ap₂, are_marks, arith, Bool, cases_Bool, cases_lt, cond-false, cond-true, cond_both, cons_option, created_by, eq-eqb}
 use Rattle.ss_recover.proofs.Common.{eqb-true, false, filter, filter_map, fold, in_order, inl, inr, is_drop_of, is_mark_of, is_sound_in_order, IsLowestUnsound}
 use Rattle.ss_recover.proofs.Common.{IsPermutation, IsPermutation-sym, IsUsable, keep_own_step, key_of, landmarks_made, le-leb, leb, leb-false, leb-true}
-use Rattle.ss_recover.proofs.Common.{lies_free, List, list_all, list_any, list_any-IsPermutation, lowest_bad_stream, lowest_in, lt-leb, marks_carried, min, None}
-use Rattle.ss_recover.proofs.Common.{not, Option, or_cases, or_left, or_right, place_of, put_in_order, Record, recursion_from_All, refl, Rises, Some}
+use Rattle.ss_recover.proofs.Common.{lies_free, List, list_all, list_any, list_any-IsPermutation, lowest_bad_stream, lowest_in, lt-leb, marks_carried, min}
+use Rattle.ss_recover.proofs.Common.{None, not, Option, or_cases, or_left, or_right, place_of, put_in_order, Record, recursion_from_All, refl, Rises, Some}
 use Rattle.ss_recover.proofs.Common.{stream_number, stream_of, streams_created, sym, tile, times_rise, true, true≢false, Window, window_of, windows_carried, ℕ}
 use Rattle.ss_recover.specs.Conditions.{is_sound}
-use Rattle.ss_recover.proofs.InOrder.{IsPermutation-in_order, Rises-in_order}
+use Rattle.ss_recover.proofs.InOrder.{IsPermutation-in_order, Rises-in_order, put-less, put-more}
 use Rattle.ss_recover.proofs.Lists.{all_weaker, filter_map-kept, kept}
-use Rattle.ss_recover.proofs.OwnSteps.{own_step-moved}
+use Rattle.ss_recover.proofs.SoundStreams.{own_step-moved, stands_alone-moved}
 use Rattle.ss_recover.proofs.Permutations.{IsPermutation-filter_map}
-use Rattle.ss_recover.proofs.SoundStreams.{stands_alone-moved}
-use Rattle.ss_recover.proofs.OrderLemmas.{put-less, put-more}
 use Rattle.ss_codec.specs.declared.record.Record.TheVariants as records
 
 -- elements that give something are put in order as what they give is

@@ -1,17 +1,76 @@
 -- Maps of images: each slot has its 128 bytes, and maps that are the same carry the same.
-use Rattle.ss_recover.proofs.Common.{[], ◌<◌, ◌^◌, ◌∙◌, ◌∷◌, ◌≡◌, ◌≤◌, All-head, All-tail, AllByRecursion, ap, arith, blank_map, cases_Bool, cases_lt}
-use Rattle.ss_recover.proofs.Common.{cond-false, cond-true, cond_both, drop, file_map, FillSlots, HasWholeSlots, inl, inr, le-ltb, length, length-drop}
-use Rattle.ss_recover.proofs.Common.{length-replicate, length-take, List, lt-ltb, map, MOST_SLOTS, not_a_store, occupied, Put, puts_in_use, range_with_len, redo}
-use Rattle.ss_recover.proofs.Common.{redo-born, redo-neither, redo-unborn, refl, SameMap, slot_within, SlotMap, stands, StandsFor, StandsFor-parts, subst, sym}
-use Rattle.ss_recover.proofs.Common.{with_put, with_puts, zeros, ℕ}
+use Rattle.ss_recover.proofs.Common.{[], ◌<◌, ◌^◌, ◌||◌, ◌∙◌, ◌∷◌, ◌≡◌, ◌≤◌, All-head, All-tail, AllByRecursion, ap, are_zeros, arith, blank_map, Bool}
+use Rattle.ss_recover.proofs.Common.{cases_Bool, cases_lt, cond-false, cond-true, cond_both, cons_option, decoded-spelling, drop, false, file_map, FillSlots}
+use Rattle.ss_recover.proofs.Common.{filter_map, Free, HasWholeSlots, inl, inr, is_none, is_valid-free, le-ltb, length, length-drop, length-replicate}
+use Rattle.ss_recover.proofs.Common.{length-take, List, list_any, lt-ltb, map, MOST_SLOTS, None, not_a_store, occupied, Option, Put, puts_in_use}
+use Rattle.ss_recover.proofs.Common.{range_with_len, Record, records_beside, records_in, redo, redo-born, redo-neither, redo-unborn, refl, replicate}
+use Rattle.ss_recover.proofs.Common.{replicate-are_zeros, SameMap, slot_within, SlotMap, Some, spelling-free, stands, StandsFor, StandsFor-parts, subst, sym}
+use Rattle.ss_recover.proofs.Common.{true, with_put, with_puts, zeros, ℕ}
+use Rattle.ss_codec.specs.Decoded.{decoded}
+use Rattle.ss_recover.proofs.Lists.{all_weaker, any-made, kept, range-within}
+use Rattle.ss_recover.proofs.PutLemmas.{filled, filled-live, filled-zeros, filled-same}
 use Rattle.ss_journal.specs.Format.{is_born, is_unborn, kind_of, slot_at, slot_place, slots_in}
 use Rattle.ss_journal.proofs.CheckLemmas.{length-slot_form}
 use Rattle.ss_journal.proofs.PutLemmas.{extent_after-bound}
-use Rattle.ss_codec.specs.Decoded.{decoded}
 use Rattle.ss_recover.specs.Carried.{spelled}
 use Rattle.ss_recover.specs.Parts.{carried}
-use Rattle.ss_recover.proofs.Lists.{all_weaker, range-within}
-use Rattle.ss_recover.proofs.Occupied.{filled-same}
+
+-- a whole slot of zeros is free
+abbrev pub ZerosAreFree : (ℕ → List ℕ) → ℕ → Type 0
+ZerosAreFree bytes slot = are_zeros (bytes slot) ≡ true → decoded (bytes slot) ≡ Some Free
+
+pub decoded-free : (bytes : List ℕ) → length bytes ≡ 128 → are_zeros bytes ≡ true → decoded bytes ≡ Some Free
+decoded-free bytes whole zeros =
+    ap decoded (replicate-are_zeros bytes zeros ∙ ap (λ n. replicate n 0) whole ∙ sym spelling-free) ∙ decoded-spelling Free is_valid-free
+
+pub zeros_are_free : (found : SlotMap) → HasWholeSlots found → AllByRecursion (ZerosAreFree found.bytes) (range_with_len 0 found.extent)
+zeros_are_free found whole =
+    all_weaker _ _ (λ slot below zeros. let few = whole.few in decoded-free (found.bytes slot) (whole.whole slot (omega arith)) zeros)
+    (range_with_len 0 found.extent) (range-within 0 found.extent found.extent (omega arith))
+
+-- free slots give nothing to what is made of records
+module _ {Y : Type 0} (f : Record → Option Y) (free : f Free ≡ None) (bytes : ℕ → List ℕ) where
+  pub filter_map-filled : (slots : List ℕ) → AllByRecursion (ZerosAreFree bytes) slots →
+      filter_map f (records_in (map (λ slot. decoded (bytes slot)) slots)) ≡ filter_map f (records_in (map (λ e. e.1) (filled bytes slots)))
+  filter_map-filled [] each = refl
+  filter_map-filled (slot ∷ slots) each =
+      let rest = filter_map-filled slots each.1 in
+      elim (cases_Bool (are_zeros (bytes slot))) [
+        | inl zeros ↦ rw (filled-zeros bytes slot slots zeros, each.0 zeros, free) rest
+        | inr live ↦
+            rw (filled-live bytes slot slots live)
+            (elim (decoded (bytes slot)) as (λ o. filter_map f (cons_option o (records_in (map (λ slot. decoded (bytes slot)) slots)))
+            ≡ filter_map f (cons_option o (records_in (map (λ e. e.1) (filled bytes slots))))) [
+              | None ↦ rest
+              | Some r ↦ ap (cons_option (f r)) rest
+            ])
+      ]
+
+-- nor to whether a slot spells nothing
+pub list_any-filled : (bytes : ℕ → List ℕ) (slots : List ℕ) → AllByRecursion (ZerosAreFree bytes) slots →
+    list_any is_none (map (λ slot. decoded (bytes slot)) slots) ≡ list_any is_none (map (λ e. e.1) (filled bytes slots))
+list_any-filled bytes [] each = refl
+list_any-filled bytes (slot ∷ slots) each =
+    let rest = list_any-filled bytes slots each.1 in
+    elim (cases_Bool (are_zeros (bytes slot))) [
+      | inl zeros ↦ rw (filled-zeros bytes slot slots zeros, each.0 zeros) rest
+      | inr live ↦ rw (filled-live bytes slot slots live) (ap (λ b. is_none (decoded (bytes slot)) || b) rest)
+    ]
+
+-- what is in slots, without them
+pub beside-seconds : (es : List (ℕ × Option Record)) → records_beside es ≡ records_in (map (λ (e : ℕ × Option Record). e.1) es)
+beside-seconds [] = refl
+beside-seconds (e ∷ es) = ap (cons_option e.1) (beside-seconds es)
+
+-- nor to whether some record passes a test
+pub any-filled : (test : Record → Bool) → test Free ≡ false → (bytes : ℕ → List ℕ) (slots : List ℕ) → AllByRecursion (ZerosAreFree bytes) slots →
+    list_any test (records_beside (filled bytes slots)) ≡ list_any test (records_in (map (λ slot. decoded (bytes slot)) slots))
+any-filled test free bytes slots each =
+    ap (list_any test) (beside-seconds (filled bytes slots))
+    ∙ sym (any-made test (records_in (map (λ slot. decoded (bytes slot)) slots)) (records_in (map (λ e. e.1) (filled bytes slots)))
+    (filter_map-filled (kept test) (cond-false _ _ _ free) bytes slots each))
+
+-- ---- maps of images: each slot has its 128 bytes, and maps that are the same carry the same
 
 length-zeros : length zeros ≡ 128
 length-zeros = length-replicate {A = ℕ} 128 0

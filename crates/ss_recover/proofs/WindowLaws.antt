@@ -1,16 +1,19 @@
 -- The windows among records, one after another: what is asked of those that are left, and where they are held.
-use Rattle.ss_recover.proofs.Common.{[], ◌&&◌, ◌++◌, ◌+◌, ◌<◌, ◌==◌, ◌∙◌, ◌∷◌, ◌≡◌, ◌≤◌, add-one, All, and_from, and_left, ap, append-nil, AreWindowsOf, arith}
-use Rattle.ss_recover.proofs.Common.{Bool, cond, cond-true, cons_option, count_by-le-length, drop, drop-cons, Entry, eq-eqb, false, filter-append}
-use Rattle.ss_recover.proofs.Common.{filter_map-append, Found, found_by, get_or, Grows, is_after, is_window, IsInside, le-leb, length, length-filter, length-map}
-use Rattle.ss_recover.proofs.Common.{List, map, map-append, MOST_RECORDS, MOST_VALUES, nat_lt, ne_eqb, newest_time, None, Option, Record, refl}
-use Rattle.ss_recover.proofs.Common.{slots_found, Some, span_held, span_of, stream_of, subst, sum_by-append, sym, take, take_more, taken, tile, tile_from}
-use Rattle.ss_recover.proofs.Common.{times_held, times_of, times_rise, true, Window, window_of, windows_in, without_slots, ℕ}
+use Rattle.ss_recover.proofs.Common.{[], ◌&&◌, ◌++◌, ◌+◌, ◌<◌, ◌==◌, ◌∙◌, ◌∷◌, ◌≡◌, ◌≤◌, add-one, All, and-true, and_from, and_left, and_right, ap, append-nil}
+use Rattle.ss_recover.proofs.Common.{AreWindowsOf, arith, Bool, cond, cond-true, cons_option, count_by-le-length, drop, drop-cons, Entry, eq-eqb, false}
+use Rattle.ss_recover.proofs.Common.{filter-append, filter_map-append, Found, found_by, get_or, Grows, is_after, is_some, is_window, IsInside, le-leb, length}
+use Rattle.ss_recover.proofs.Common.{length-filter, length-map, List, list_any, map, map-append, may_stand, MOST_RECORDS, MOST_STREAMS, MOST_VALUES, names_in}
+use Rattle.ss_recover.proofs.Common.{nat_lt, ne_eqb, newest_time, None, not, Option, Record, refl, same_name, slots_found, Some, span_held, span_of, stream_of}
+use Rattle.ss_recover.proofs.Common.{StreamId, subst, suc, sum_by-append, sym, take, take-append-drop, take_more, taken, tile, tile_from, times_held, times_of}
+use Rattle.ss_recover.proofs.Common.{times_rise, true, Window, window_of, windows_in, without_slots, ℕ}
 use Rattle.ss_line.specs.declared.entry.At.{At}
 use Rattle.ss_line.specs.declared.line.TheConstants.{MOST_PLACES}
 use Rattle.ss_summary.specs.declared.summary.TheConstants.{GREATEST_COUNT}
 use Rattle.ss_model.proofs.Closes.{newest_time_push}
 use Rattle.ss_recover.specs.declared.windows.Windows.{Windows}
 use Rattle.ss_codec.specs.declared.record.Record.TheVariants as records
+use Rattle.std.proofs.lemmas.Map.Made.{is_some-lookup}
+use Rattle.ss_catalog.specs.Catalog.{id_of}
 
 -- the windows of a number among records that were found
 abbrev pub windows_at : ℕ → List Found → List Window
@@ -185,3 +188,20 @@ room-windows n all windows are room =
       length-map (map (λ (e : At × Entry). e.1) windows.line.entries) (λ (e : Entry). e.slot),
       length-map windows.line.entries (λ (e : At × Entry). e.1),
     )
+
+-- ---- names that streams have, and the record at an index among others
+
+-- a name that no stream has, and one that a stream has
+pub stands-none : (names : List (List ℕ × StreamId)) (name : List ℕ) (k : ℕ) → id_of name names ≡ None → k ≡ length names →
+    nat_lt k MOST_STREAMS ≡ may_stand (names_in names) name
+stands-none names name k none is =
+    let long : k ≡ length (names_in names) = is ∙ sym (length-map names (λ (n : List ℕ × StreamId). n.0)) in
+    let new : list_any (same_name name) (names_in names) ≡ false = sym (is_some-lookup (same_name name) names) ∙ ap is_some none in
+    sym (and-true (nat_lt k MOST_STREAMS)) ∙ (λ i. nat_lt (long i) MOST_STREAMS && not (sym new i))
+
+pub stands-some : (names : List (List ℕ × StreamId)) (name : List ℕ) (id : StreamId) → id_of name names ≡ Some id → false ≡ may_stand (names_in names) name
+stands-some names name id is = sym (and_right _ _ (ap not (sym (is_some-lookup (same_name name) names) ∙ ap is_some is)))
+
+-- the record at an index, among the others
+pub at-index : (all : List Found) (i : ℕ) (x : Found) → i < length all → x ≡ get_or all i x → all ≡ take i all ++ x ∷ drop (suc i) all
+at-index all i x within is = sym (take-append-drop i all) ∙ ap (λ l. take i all ++ l) (drop-cons all i x within ∙ ap (λ y. y ∷ drop (suc i) all) (sym is))

@@ -1,8 +1,7 @@
-use Rattle.ss_recover.proofs.Common.{[], ◌++◌, ◌+◌, ◌∙◌, ◌∷◌, ◌≡◌, ap, are_marks, drop, Err, err_from_is_err_and, Found, List, MakesMarks, marked_with, marks_in}
-use Rattle.ss_recover.proofs.Common.{nothing_marked, Ok, ShowsMarks, StepsAs, stream_of, subst, suc, sym, take, take_all, take_more, without_slots}
+use Rattle.ss_recover.proofs.Common.{[], ◌++◌, ◌+◌, ◌∙◌, ◌∷◌, ◌≡◌, ap, are_marks, drop, Err, err_from_is_err_and, Found, List, MakesMarks, marked_with}
+use Rattle.ss_recover.proofs.Common.{marks_in, nothing_marked, Ok, ShowsMarks, StepsAs, stream_of, subst, suc, sym, take, take_all, take_more, without_slots}
 use Rattle.ss_recover.proofs.MarkLaws.{are-made, close-ready, marked-next, ShowsMarks-none, stops}
-use Rattle.ss_recover.proofs.RunWalk.{at-index}
-use Rattle.ss_recover.proofs.WindowLaws.{each-at}
+use Rattle.ss_recover.proofs.WindowLaws.{at-index, each-at}
 use Rattle.ss_recover.proofs.marking.marks_of.Goals as goal
 
 pub loop-one-init : goal.loop-one-init

@@ -1,5 +1,5 @@
 use Rattle.ss_recover.proofs.Common.{answers_always, found_key, on_ok_weaker, rules}
-use Rattle.ss_recover.proofs.OrderLemmas.{in_order-from_sort}
+use Rattle.ss_recover.proofs.InOrder.{in_order-from_sort}
 use Rattle.ss_recover.proofs.sorting.sort.Goals as goal
 
 pub returns-clause-order : goal.returns-clause-order

@@ -1,5 +1,5 @@
 use Rattle.ss_recover.proofs.Common.{◌∙◌, ◌∷◌, ap, drop, Found, is_own, list_any, list_any-append, map-append, or_left, or_right, suc, sym, take, without_slots}
-use Rattle.ss_recover.proofs.RunWalk.{at-index}
+use Rattle.ss_recover.proofs.WindowLaws.{at-index}
 use Rattle.ss_recover.proofs.walking.has_own.Goals as goal
 
 pub returns-then-is_own : goal.returns-then-is_own

@@ -1,5 +1,5 @@
 use Rattle.ss_recover.proofs.Common.{◌∙◌, sym}
-use Rattle.ss_recover.proofs.RunWalk.{stands-none, stands-some}
+use Rattle.ss_recover.proofs.WindowLaws.{stands-none, stands-some}
 use Rattle.ss_recover.proofs.walking.may_stand.Goals as goal
 
 pub returns-in-None : goal.returns-in-None

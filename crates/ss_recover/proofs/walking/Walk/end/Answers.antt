@@ -1,5 +1,5 @@
 use Rattle.ss_recover.proofs.Common.{◌++◌, ◌∙◌, ap, IsNonDecreasingBy-from_sort, IsPermutation-sym, refl}
-use Rattle.ss_recover.proofs.OrderLemmas.{Rises-from_sorted}
+use Rattle.ss_recover.proofs.InOrder.{Rises-from_sorted}
 use Rattle.ss_recover.proofs.walking.Walk.end.Goals as goal
 
 pub returns-clause-ok : goal.returns-clause-ok
