@@ -1,25 +1,25 @@
 -- What a map carries is a state.
-use Rattle.ss_recover.proofs.Common.{[], ◌∙◌, ◌∷◌, ◌≡◌, ◌≤◌, AllByRecursion, ap, arith, Bool, carries, cases_Bool, cons_option, count_by-le-length, false}
-use Rattle.ss_recover.proofs.Common.{filter, filter_map, Free, in_order, inl, inr, is_drop_of, is_dropped, is_sound_in_order, IsPermutation, IsPermutation-sym}
-use Rattle.ss_recover.proofs.Common.{IsState, IsUsable, key_of, length, length-filter, length_permutation, List, list_any-IsPermutation, lowest_bad_slot}
-use Rattle.ss_recover.proofs.Common.{lowest_bad_stream, MOST_RECORDS, MOST_SLOTS, None, not, not-false, not-true, Option, Record, records_in, refl, SlotMap}
-use Rattle.ss_recover.proofs.Common.{Some, stands_by, stream_number, stream_of, streams_carried, subst, sym, true, ℕ}
+use Rattle.ss_recover.proofs.Common.{[], ◌++◌, ◌∙◌, ◌∷◌, ◌≡◌, ◌≤◌, AllByRecursion, ap, arith, Bool, carries, cons_option, count_by-le-length, false, filter}
+use Rattle.ss_recover.proofs.Common.{filter_map, Free, in_order, is_drop_of, is_dropped, is_sound_in_order, IsPermutation, IsPermutation-sym}
+use Rattle.ss_recover.proofs.Common.{IsPermutation-trans, IsState, IsUsable, key_of, length, length-filter, length_permutation, List, list_any-IsPermutation}
+use Rattle.ss_recover.proofs.Common.{lowest_bad_slot, lowest_bad_stream, MOST_RECORDS, MOST_SLOTS, None, Option, Record, records_in, refl, SlotMap}
+use Rattle.ss_recover.proofs.Common.{stream_number, stream_of, streams_carried, subst, sym, true, ℕ}
 use Rattle.ss_codec.specs.declared.record.Record.TheVariants.{Stream}
 use Rattle.ss_recover.specs.Carried.{spelled}
 use Rattle.ss_recover.specs.Conditions.{is_sound}
 use Rattle.ss_recover.specs.Parts.{carried}
-use Rattle.ss_recover.proofs.DoomedLemmas.{apart-dropped, each-IsGone, IsGone}
-use Rattle.ss_recover.proofs.HeldLemmas.{HaveThose-made, streams_are}
-use Rattle.ss_recover.proofs.HeldRecords.{all_walked, each-all_walked}
+use Rattle.ss_recover.proofs.HeldLemmas.{streams_are}
+use Rattle.ss_recover.proofs.HeldRecords.{all_walked}
 use Rattle.ss_recover.proofs.InOrder.{all-in_order, IsPermutation-in_order, Rises-in_order}
-use Rattle.ss_recover.proofs.Lists.{all-kept, all-passing, all_both, all_weaker}
-use Rattle.ss_recover.proofs.Permutations.{IsPermutation-filter_map}
+use Rattle.ss_recover.proofs.Lists.{all-passing, all_weaker}
+use Rattle.ss_recover.proofs.RebuiltRecords.{have_sound}
 use Rattle.ss_recover.proofs.RunStanding.{stands_in}
 use Rattle.ss_recover.proofs.RunStream.{AreStanding-none, AreWalked, IsState-walked, nothing-before, walk}
 use Rattle.ss_recover.proofs.SoundNumbers.{AreSound, AreSound-none_bad, carries-judged, is_sound-made}
 use Rattle.ss_recover.proofs.Unordered.{is_sound-in_order}
 use Rattle.ss_recover.proofs.ValidRecords.{few-records, IsFine, valid-records}
 use Rattle.ss_model.specs.State as State
+use Rattle.std.proofs.lemmas.List.Sorted.{IsPermutation-filter_both}
 
 -- the records that aren't free
 abbrev is_used : Record → Bool
@@ -41,24 +41,6 @@ numbers-used P [] all = tt
 numbers-used P (Free ∷ rs) all = numbers-used P rs all
 numbers-used P (_ ∷ rs) all = (all.0, numbers-used P rs all.1)
 
--- what is made of elements, where nothing is made of those that fail a test
-made-rest : {X Y : Type 0} (f : X → Option Y) (p : X → Bool) (xs : List X) → filter_map f (filter (λ x. not (p x)) xs) ≡ [] →
-    filter_map f (filter p xs) ≡ filter_map f xs
-made-rest f p [] none = refl
-made-rest f p (x ∷ xs) none = elim (cases_Bool (p x)) [
-  | inl passes ↦
-      (let rest : filter_map f (filter (λ y. not (p y)) xs) ≡ [] = rw passes at none in
-      rw passes (ap (cons_option (f x)) (made-rest f p xs rest)))
-  | inr fails ↦
-      (let all : cons_option (f x) (filter_map f (filter (λ y. not (p y)) xs)) ≡ [] = rw fails at none in
-      let parts = nothing (f x) (filter_map f (filter (λ y. not (p y)) xs)) all in
-      rw fails (made-rest f p xs parts.1 ∙ ap (λ o. cons_option o (filter_map f xs)) (sym parts.0)))
-]
-  where
-    nothing : {Y : Type 0} (o : Option Y) (ys : List Y) → cons_option o ys ≡ [] → (o ≡ None) × (ys ≡ [])
-    nothing None ys is = (refl, is)
-    nothing (Some y) ys is = absurd (cc)
-
 -- where each number is sound, a walk over the records in order finds the streams that they carry
 IsState-carried : (rs : List Record) → AreSound rs (filter_map stream_number rs) → AllByRecursion IsFine rs →
     length rs ≤ MOST_RECORDS → IsState (streams_carried rs)
@@ -74,6 +56,7 @@ IsState-carried rs sound fine most =
     (Rises-in_order key_of us) all in
     let ss = found.0 in
     let test : Record → Bool = stands_in qs in
+    let drops : Record → Bool = λ r. is_dropped (stream_of r) qs in
     let walked : AreWalked (filter test qs) ss = found.1.walked in
     let few : length (filter test qs) ≤ MOST_RECORDS = omega (
       arith,
@@ -85,26 +68,13 @@ IsState-carried rs sound fine most =
       count_by-le-length test qs,
     ) in
     let state = IsState-walked (filter test qs) ss walked few in
-    let beside = filter (λ r. not (test r)) qs in
-    let gone_us = each-IsGone us (all_weaker _ _ (λ r is. sym (same_used (stream_of r)) ∙ is) us each) in
-    let gone = all-in_order key_of (IsGone us) us gone_us in
-    let fails : (r : Record) → not (test r) ≡ true → is_dropped (stream_of r) us ≡ true =
-    λ r is. list_any-IsPermutation (is_drop_of (stream_of r)) us qs moved ∙ not-false (is_dropped (stream_of r) qs) (not-true (test r) is) in
-    let dropped : AllByRecursion (λ r. is_dropped (stream_of r) us ≡ true) beside = all_weaker _ _ fails beside (all-passing (λ r. not (test r)) qs) in
-    let none : AllByRecursion (λ r. stands_by r ≡ None) beside =
-    all_both _ _ _ (λ r silent is. silent is) beside (all-kept _ (λ r. not (test r)) qs gone) dropped in
-    let stays : (r : Record) → test r ≡ true → is_dropped (stream_of r) us ≡ false =
-    λ r is. list_any-IsPermutation (is_drop_of (stream_of r)) us qs moved ∙ not-true (is_dropped (stream_of r) qs) is in
-    let kept_all : AllByRecursion (λ r. is_dropped (stream_of r) us ≡ false) (all_walked ss) =
-    subst (AllByRecursion (λ r. is_dropped (stream_of r) us ≡ false)) walked.order (all_weaker _ _ stays (filter test qs) (all-passing test qs)) in
-    let made : (Y : Type 0) (f : Record → Option Y) → f Free ≡ None → filter_map f beside ≡ [] →
-    IsPermutation (filter_map f (all_walked ss)) (filter_map f rs) =
-    λ Y f free nothing.
-    subst (λ l. IsPermutation (filter_map f (all_walked ss)) l) (made-used f free rs)
-    (subst (λ l. IsPermutation l (filter_map f us)) (sym (made-rest f test qs nothing) ∙ ap (filter_map f) walked.order)
-    (IsPermutation-sym _ _ (IsPermutation-filter_map f us qs moved))) in
-    subst IsState (sym (streams_are ss rs state (HaveThose-made beside ss rs state made none
-    (apart-dropped us beside ss dropped (each-all_walked (λ n. is_dropped n us ≡ false) ss kept_all))))) state
+    let beside = filter drops qs in
+    let dropped : AllByRecursion (λ r. is_dropped (stream_of r) us ≡ true) beside =
+    all_weaker _ _ (λ r is. list_any-IsPermutation (is_drop_of (stream_of r)) us qs moved ∙ is) beside (all-passing drops qs) in
+    let parted : IsPermutation (beside ++ all_walked ss) us = subst (λ l. IsPermutation (beside ++ l) us) walked.order
+    (IsPermutation-sym _ _ (IsPermutation-trans us qs _ moved (IsPermutation-filter_both drops test (λ r. refl) qs))) in
+    subst IsState (sym (streams_are ss rs state (have_sound us beside ss (all_weaker _ _ (λ r is. sym (same_used (stream_of r)) ∙ is) us each) parted dropped
+    rs state (λ Y f free. sym (made-used f free rs))))) state
 
 pub IsState-carries : (found : SlotMap) (streams : List State.Stream) → found.extent ≤ MOST_SLOTS → carried found ≡ carries streams → IsState streams
 unfolding carried

@@ -2,11 +2,12 @@
 use Rattle.ss_recover.proofs.Common.{[], ◌++◌, ◌==◌, ◌∙◌, ◌≡◌, All-from_recursion, All-permutation, AllByRecursion, ap, ap₂, AreBuilt, Bool, doomed_found}
 use Rattle.ss_recover.proofs.Common.{false, filter_map, filter_map-append, flat_map, Found, found_key, Free, GoInTurn, in_order, in_slot, is_doomed, is_dropped}
 use Rattle.ss_recover.proofs.Common.{is_of, is_sound_in_order, IsPermutation, IsPermutation-append_left, IsPermutation-append_right, IsPermutation-map}
-use Rattle.ss_recover.proofs.Common.{IsPermutation-sym, IsPermutation-trans, key_of, List, list_any, list_any-IsPermutation, map, ne_eqb, None, Option, Parts}
-use Rattle.ss_recover.proofs.Common.{Record, records_beside, records_held, records_in, recursion_from_All, refl, stands_by, Stream, stream_number, stream_of}
-use Rattle.ss_recover.proofs.Common.{subst, sym, true, true≢false, without_slots, zip, ℕ}
+use Rattle.ss_recover.proofs.Common.{IsPermutation-sym, IsPermutation-trans, IsState, key_of, List, list_any, list_any-IsPermutation, map, ne_eqb, None, Option}
+use Rattle.ss_recover.proofs.Common.{Parts, Record, records_beside, records_held, records_in, recursion_from_All, refl, Stream, stream_number, stream_of, subst}
+use Rattle.ss_recover.proofs.Common.{sym, true, true≢false, without_slots, zip, ℕ}
 use Rattle.ss_recover.specs.Conditions.{is_sound}
-use Rattle.ss_recover.proofs.DoomedLemmas.{apart-dropped, beside-found, doomed_found-moved, dropped-doomed, each-IsGone, IsGone, standing-kept, doomed-go}
+use Rattle.ss_recover.proofs.DoomedLemmas.{apart-dropped, beside-found, doomed_found-moved, dropped-doomed, each-IsGone, IsGone, IsSoundOf, standing-kept}
+use Rattle.ss_recover.proofs.DoomedLemmas.{doomed-go}
 use Rattle.ss_recover.proofs.HeldLemmas.{HaveThose, HaveThose-made}
 use Rattle.ss_recover.proofs.HeldRecords.{all-all_walked, all_walked, each-number, IsPermutation-all_walked, records_in-Some, records_of_streams, second-held}
 use Rattle.ss_recover.proofs.InOrder.{IsPermutation-in_order, map-in_order}
@@ -22,6 +23,33 @@ use Rattle.ss_recover.proofs.WholeSlots.{beside-seconds}
 is_of-apart : (n : ℕ) (r : Record) → (stream_of r == n) ≡ false → is_of n r ≡ false
 is_of-apart n Free apart = refl
 is_of-apart n _ apart = apart
+
+-- Records whose numbers are sound are those of streams of a state, and others, of dropped streams.
+module _ (us ds : List Record) (ss : List Stream) (sound : AllByRecursion (IsSoundOf us) us) (moved : IsPermutation (ds ++ all_walked ss) us)
+    (dropped : AllByRecursion (λ r. is_dropped (stream_of r) us ≡ true) ds) where
+  gone : AllByRecursion (IsGone us) (ds ++ all_walked ss)
+  gone =
+      let both = ds ++ all_walked ss in
+      recursion_from_All (IsGone us) both (All-permutation (IsGone us) us both (IsPermutation-sym both us moved)
+      (All-from_recursion (IsGone us) us (each-IsGone us sound)))
+
+  -- these streams weren't dropped
+  kept_each : AllByRecursion (λ s. is_dropped s.number us ≡ false) ss
+  kept_each = standing-kept us ss (all_behind _ ds (all_walked ss) gone)
+
+  -- records of which is made what is made of those have those of the streams
+  pub have_sound : (rs : List Record) → IsState ss → ((Y : Type 0) (f : Record → Option Y) → f Free ≡ None → filter_map f rs ≡ filter_map f us) →
+      HaveThose ss rs
+  have_sound rs state same =
+      HaveThose-made ds ss rs state made (all_both _ _ _ (λ r silent is. silent is) ds (all_front _ ds (all_walked ss) gone) dropped)
+      (apart-dropped us ds ss dropped kept_each)
+    where
+      made : (Y : Type 0) (f : Record → Option Y) → f Free ≡ None → filter_map f ds ≡ [] →
+          IsPermutation (filter_map f (all_walked ss)) (filter_map f rs)
+      made Y f free nothing =
+          subst (λ l. IsPermutation (filter_map f (all_walked ss)) l) (sym (same Y f free)) (subst (λ l. IsPermutation l (filter_map f us))
+          (filter_map-append f ds (all_walked ss) ∙ ap (λ l. l ++ filter_map f (all_walked ss)) nothing)
+          (IsPermutation-filter_map f (ds ++ all_walked ss) us moved))
 
 -- the records that are found, as those of dropped streams and those that are held
 module _ (parts : Parts) (streams : List Stream) (all sorted : List Found) (built : AreBuilt parts streams sorted) (order : sorted ≡ in_order found_key all)
@@ -49,9 +77,6 @@ module _ (parts : Parts) (streams : List Stream) (all sorted : List Found) (buil
   pub sound_numbers : AreSound us (filter_map stream_number us)
   sound_numbers = each-number (λ n. is_sound us n ≡ true) us sound_each
 
-  gone : AllByRecursion (IsGone us) us
-  gone = each-IsGone us sound_each
-
   -- those of dropped streams and those that are held are all
   doomed-moved : IsPermutation doomed (doomed_found false sorted ++ doomed_found true sorted)
   doomed-moved =
@@ -76,14 +101,6 @@ module _ (parts : Parts) (streams : List Stream) (all sorted : List Found) (buil
       (filter_map-append (λ (e : ℕ × Option Record). e.1) (map in_slot doomed) held ∙ ap₂ ◌++◌ (beside-found doomed) records-held)
       (IsPermutation-filter_map (λ (e : ℕ × Option Record). e.1) (map in_slot doomed ++ held) (map in_slot all) all-held)))
 
-  -- the streams that are held weren't dropped
-  kept_each : AllByRecursion (λ s. is_dropped s.number us ≡ false) streams
-  kept_each =
-      let both = without_slots doomed ++ all_walked streams in
-      standing-kept us streams (all_behind _ (without_slots doomed) (all_walked streams)
-      (recursion_from_All (IsGone us) both (All-permutation (IsGone us) us both (IsPermutation-sym both us all-walked_too)
-      (All-from_recursion (IsGone us) us gone))))
-
   dropped_each : AllByRecursion (λ r. is_dropped (stream_of r) us ≡ true) (without_slots doomed)
   dropped_each =
       map-all _ (λ (f : Found). f.holds) doomed (all_append _ (doomed_found false all) (doomed_found true all) (one false) (one true))
@@ -98,26 +115,12 @@ module _ (parts : Parts) (streams : List Stream) (all sorted : List Found) (buil
       ∙ sym (list_any-IsPermutation (is_of n) (all_walked streams) (records_of_streams streams) (IsPermutation-all_walked streams))
       ∙ none-passes (is_of n) (all_walked streams) (all_weaker _ _
       (λ r stands. is_of-apart n r (ne_eqb (stream_of r) n (λ same. absurd (true≢false (sym is ∙ sym (ap (λ k. is_dropped k us) same) ∙ stands)))))
-      (all_walked streams) (all-all_walked (λ k. is_dropped k us ≡ false) streams kept_each))
+      (all_walked streams) (all-all_walked (λ k. is_dropped k us ≡ false) streams
+      (kept_each us (without_slots doomed) streams sound_each all-walked_too dropped_each)))
 
   pub in_turn-built : GoInTurn (map in_slot doomed) held
-  in_turn-built = doomed-go all held sound_each gone none_held
+  in_turn-built = doomed-go all held sound_each (each-IsGone us sound_each) none_held
 
   -- records of which is made what is made of those that were found have those of the streams
   pub have_those : (rs : List Record) → ((Y : Type 0) (f : Record → Option Y) → f Free ≡ None → filter_map f rs ≡ filter_map f us) → HaveThose streams rs
-  have_those rs same =
-      HaveThose-made (without_slots doomed) streams rs built.state made none (apart-dropped us (without_slots doomed) streams dropped_each kept_each)
-    where
-      made : (Y : Type 0) (f : Record → Option Y) → f Free ≡ None → filter_map f (without_slots doomed) ≡ [] →
-          IsPermutation (filter_map f (all_walked streams)) (filter_map f rs)
-      made Y f free nothing =
-          subst (λ l. IsPermutation (filter_map f (all_walked streams)) l) (sym (same Y f free)) (subst (λ l. IsPermutation l (filter_map f us))
-          (filter_map-append f (without_slots doomed) (all_walked streams) ∙ ap (λ l. l ++ filter_map f (all_walked streams)) nothing)
-          (IsPermutation-filter_map f (without_slots doomed ++ all_walked streams) us all-walked_too))
-
-      none : AllByRecursion (λ r. stands_by r ≡ None) (without_slots doomed)
-      none =
-          let both = without_slots doomed ++ all_walked streams in
-          let all_gone = recursion_from_All (IsGone us) both (All-permutation (IsGone us) us both (IsPermutation-sym both us all-walked_too)
-          (All-from_recursion (IsGone us) us gone)) in
-          all_both _ _ _ (λ r silent is. silent is) (without_slots doomed) (all_front _ (without_slots doomed) (all_walked streams) all_gone) dropped_each
+  have_those rs same = have_sound us (without_slots doomed) streams sound_each all-walked_too dropped_each rs built.state same

@@ -1,13 +1,14 @@
 -- Records of streams of which some were dropped: what is made of them by one run more, and the names that they have.
 use Rattle.ss_recover.proofs.Common.{[], ◌&&◌, ◌++◌, ◌<◌, ◌||◌, ◌∙◌, ◌∷◌, ◌≡◌, ◌≤◌, AllByRecursion, and-false, and-true, and_from, and_parts, ap, append-nil}
-use Rattle.ss_recover.proofs.Common.{append_assoc, ap₂, arith, Bool, cond, Created, created_by, false, filter, filter-append, filter_map, filter_map-append}
-use Rattle.ss_recover.proofs.Common.{has_sound_values_within, if◌then◌else◌, is_doomed, is_drop_of, is_dropped, is_own, is_run, IsPermutation}
-use Rattle.ss_recover.proofs.Common.{IsPermutation-cons, IsPermutation-middle, IsPermutation-refl, IsPermutation-trans, IsUsable, length, length-append, List}
-use Rattle.ss_recover.proofs.Common.{list_any, list_any-append, lt-ltb, ltb-true, map, map-append, may_stand, MOST_STREAMS, not, not-true, or-false}
-use Rattle.ss_recover.proofs.Common.{or_from, or_parts, Params, Record, refl, same_name, step_number, stream_of, streams_created, subst, sym, true, ℕ}
+use Rattle.ss_recover.proofs.Common.{ap₂, arith, Bool, cases_Bool, cond, Created, created_by, false, filter, filter-append, filter_map, filter_map-append}
+use Rattle.ss_recover.proofs.Common.{has_sound_values_within, if◌then◌else◌, inl, inr, is_doomed, is_drop_of, is_dropped, is_own, is_run, IsPermutation}
+use Rattle.ss_recover.proofs.Common.{IsPermutation-append_comm, IsPermutation-append_left, IsPermutation-sym, IsPermutation-trans, IsUsable, length}
+use Rattle.ss_recover.proofs.Common.{length-append, List, list_any, list_any-append, lt-ltb, ltb-true, map, map-append, may_stand, MOST_STREAMS, not, not-true}
+use Rattle.ss_recover.proofs.Common.{or-false, or_from, or_parts, Params, Record, refl, same_name, step_number, stream_of, streams_created, subst, sym, true, ℕ}
 use Rattle.ss_recover.proofs.Lists.{all_both, all_weaker, filter-all, filter-none, filter-same}
 use Rattle.ss_recover.proofs.RunSound.{drops-apart}
 use Rattle.ss_codec.specs.declared.record.Record.TheVariants as records
+use Rattle.std.proofs.lemmas.List.Sorted.{IsPermutation-filter_both}
 
 -- ---- names
 
@@ -163,26 +164,22 @@ module _ {X : Type 0} (h : X → Record) (fs rs : List Record) (n : ℕ) (lower 
           filter-same (λ x. is_doomed false (fs ++ rs) (h x)) (λ x. not (is_own (h x))) (y ∷ ys) (each false)
           ∙ rw first (filter-all (λ x. not (is_own (h x))) ys (all_weaker _ _ (λ x other. ap not other) ys none))
 
+filter-filter : {X : Type 0} (p q : X → Bool) (xs : List X) → filter p (filter q xs) ≡ filter (λ x. p x && q x) xs
+filter-filter p q [] = refl
+filter-filter p q (x ∷ xs) = elim (cases_Bool (q x)) [
+  | inl passes ↦ rw (passes, and-true (p x)) (ap (λ l. cond (p x) (x ∷ l) l) (filter-filter p q xs))
+  | inr fails ↦ rw (fails, and-false (p x)) (filter-filter p q xs)
+]
+
 -- those that pass one test, of these those that pass another and the rest, and those that fail the first
 pub in-three : {X : Type 0} (first second : X → Bool) (xs : List X) →
     IsPermutation ((filter (λ x. not (second x) && first x) xs ++ filter (λ x. second x && first x) xs) ++ filter (λ x. not (first x)) xs) xs
-in-three first second [] = IsPermutation-refl []
-in-three {X} first second (x ∷ xs) = go (in-three first second xs) (first x) (second x)
-  where
-    ps : List X
-    ps = filter (λ y. not (second y) && first y) xs
-
-    qs : List X
-    qs = filter (λ y. second y && first y) xs
-
-    rs : List X
-    rs = filter (λ y. not (first y)) xs
-
-    go : IsPermutation ((ps ++ qs) ++ rs) xs → (a b : Bool) →
-        IsPermutation ((cond (not b && a) (x ∷ ps) ps ++ cond (b && a) (x ∷ qs) qs) ++ cond (not a) (x ∷ rs) rs) (x ∷ xs)
-    go rest true false = IsPermutation-cons x ((ps ++ qs) ++ rs) xs rest
-    go rest false false = IsPermutation-trans _ _ _ (IsPermutation-middle (ps ++ qs) x rs) (IsPermutation-cons x ((ps ++ qs) ++ rs) xs rest)
-    go rest false true = IsPermutation-trans _ _ _ (IsPermutation-middle (ps ++ qs) x rs) (IsPermutation-cons x ((ps ++ qs) ++ rs) xs rest)
-    go rest true true =
-        subst (λ l. IsPermutation l (x ∷ xs)) (sym (append_assoc ps (x ∷ qs) rs)) (IsPermutation-trans _ _ _ (IsPermutation-middle ps x (qs ++ rs))
-        (IsPermutation-cons x (ps ++ (qs ++ rs)) xs (subst (λ l. IsPermutation l xs) (append_assoc ps qs rs) rest)))
+in-three first second xs =
+    let ys = filter first xs in
+    let rest = filter (λ x. not (first x)) xs in
+    let some : IsPermutation (filter (λ x. not (second x)) ys ++ filter second ys) ys =
+    IsPermutation-sym _ _ (IsPermutation-trans _ _ _ (IsPermutation-filter_both second (λ x. not (second x)) (λ x. refl) ys)
+    (IsPermutation-append_comm (filter second ys) (filter (λ x. not (second x)) ys))) in
+    IsPermutation-trans _ _ _ (IsPermutation-append_left rest _ ys (subst (λ l. IsPermutation l ys)
+    (λ i. filter-filter (λ x. not (second x)) first xs i ++ filter-filter second first xs i) some))
+    (IsPermutation-sym _ _ (IsPermutation-filter_both first (λ x. not (first x)) (λ x. refl) xs))
