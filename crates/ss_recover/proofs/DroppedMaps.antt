@@ -1,38 +1,20 @@
 -- Maps without a record of a dropped stream, and those of a stream that is dropped.
-use Rattle.ss_recover.proofs.Common.{[], ◌++◌, ◌+◌, ◌-◌, ◌<◌, ◌||◌, ◌∙◌, ◌∷◌, ◌≡◌, All-from_recursion, All-permutation, AllByRecursion, ap, ap₂, are_zeros}
-use Rattle.ss_recover.proofs.Common.{arith, Bool, carries, cases_Bool, changed, cond, cond-false, cond-true, Created, decoded-spelling, decoded-Spells, false}
-use Rattle.ss_recover.proofs.Common.{filter_map, filter_map-append, HasWholeSlots, inl, inr, is_none, is_valid-free, IsPermutation, IsPermutation-sym, IsRecord}
-use Rattle.ss_recover.proofs.Common.{IsTrue, judged, length, length-append, List, list_any, list_any-append, list_any-IsPermutation, lowest_bad_slot}
-use Rattle.ss_recover.proofs.Common.{lowest_bad_stream, map, map-append, may_go, nat_eq, nat_lt, nat_tests, None, not, occupied, Option, position_or_len, Put}
-use Rattle.ss_recover.proofs.Common.{range_with_len, Record, records_beside, records_in, recursion_from_All, refl, SlotMap, Some, spelling-free, Stream}
-use Rattle.ss_recover.proofs.Common.{stream_number, streams_carried, subst, sym, true, with_put, without_numbered, zeros, ℕ}
+use Rattle.ss_recover.proofs.Common.{[], ◌++◌, ◌+◌, ◌-◌, ◌<◌, ◌||◌, ◌∙◌, ◌∷◌, ◌≡◌, AllByRecursion, ap, ap₂, arith, Bool, carries, changed, cond, cond-false}
+use Rattle.ss_recover.proofs.Common.{cond-true, Created, decoded-spelling, decoded-Spells, false, filter_map, filter_map-append, HasWholeSlots, is_none}
+use Rattle.ss_recover.proofs.Common.{is_valid-free, IsPermutation, IsRecord, IsTrue, judged, length, length-append, List, list_any, list_any-append}
+use Rattle.ss_recover.proofs.Common.{list_any-IsPermutation, lowest_bad_slot, lowest_bad_stream, map, map-append, may_go, nat_eq, nat_lt, nat_tests, None, not}
+use Rattle.ss_recover.proofs.Common.{occupied, Option, position_or_len, Put, range_with_len, Record, records_beside, records_in, refl, SlotMap, Some}
+use Rattle.ss_recover.proofs.Common.{spelling-free, Stream, stream_number, streams_carried, subst, sym, true, with_put, without_numbered, zeros, ℕ}
 use Rattle.ss_codec.specs.Decoded.{decoded}
 use Rattle.ss_recover.specs.Carried.{spelled}
 use Rattle.ss_recover.specs.Parts.{carried}
 use Rattle.ss_recover.proofs.DroppedRecords.{CarryThem, may-goes, may_go-same, is-dropped}
 use Rattle.ss_recover.proofs.WholeSlots.{any-filled, zeros_are_free, ZerosAreFree, spells-same}
 use Rattle.ss_recover.proofs.Lists.{all_behind, all_front, all_weaker, range-above, range-below}
-use Rattle.ss_recover.proofs.PutLemmas.{back, filled, filled-live, filled-zeros, front, IsAmong, IsAmong-filled, range-at, extent-stays}
+use Rattle.ss_recover.proofs.PutLemmas.{back, filled, front, IsAmong, IsAmong-filled, range-at, extent-stays}
 use Rattle.ss_recover.proofs.Permutations.{IsPermutation-filter_map}
 use Rattle.ss_recover.proofs.SoundNumbers.{AreSound, AreSound-none_bad, carries-judged}
 use Rattle.ss_codec.specs.declared.record.Record.TheVariants as records
-
--- what is beside a slot is what its bytes spell
-filled-spells : (bytes : ℕ → List ℕ) (slots : List ℕ) → AllByRecursion (λ e. e.1 ≡ decoded (bytes e.0)) (filled bytes slots)
-filled-spells bytes [] = tt
-filled-spells bytes (slot ∷ slots) = elim (cases_Bool (are_zeros (bytes slot))) [
-  | inl zeros ↦
-      subst (AllByRecursion (λ e. e.1 ≡ decoded (bytes e.0))) (sym (filled-zeros bytes slot slots zeros)) (filled-spells bytes slots)
-  | inr live ↦
-      subst (AllByRecursion (λ e. e.1 ≡ decoded (bytes e.0))) (sym (filled-live bytes slot slots live)) (refl, filled-spells bytes slots)
-]
-
-entry-spells : (bytes : ℕ → List ℕ) (p n : ℕ) (was : Option Record) (rest : List (ℕ × Option Record)) →
-    IsPermutation ((p, was) ∷ rest) (filled bytes (range_with_len 0 n)) → was ≡ decoded (bytes p)
-entry-spells bytes p n was rest moved =
-    let P : ℕ × Option Record → Type 0 = λ e. e.1 ≡ decoded (bytes e.0) in
-    (recursion_from_All P ((p, was) ∷ rest) (All-permutation P (filled bytes (range_with_len 0 n)) ((p, was) ∷ rest) (IsPermutation-sym _ _ moved)
-    (All-from_recursion P (filled bytes (range_with_len 0 n)) (filled-spells bytes (range_with_len 0 n))))).0
 
 -- what slots spell, those below one, that one and those above it
 abbrev spells : (ℕ → List ℕ) → List ℕ → List (Option Record)
@@ -105,11 +87,8 @@ module _ (found : SlotMap) (put : Put) (r q : Record) (below : put.slot < found.
 -- the records beside one
 module _ (found : SlotMap) (p : ℕ) (r : Record) (others : List (ℕ × Option Record)) (whole : HasWholeSlots found)
     (moved : IsPermutation ((p, Some r) ∷ others) (occupied found)) where
-  among : IsAmong found.bytes p found.extent others
+  among : IsAmong found.bytes p found.extent (Some r) others
   among = IsAmong-filled found.bytes p found.extent (Some r) others moved
-
-  entry : decoded (found.bytes p) ≡ Some r
-  entry = sym (entry-spells found.bytes p found.extent (Some r) others moved)
 
   abbrev below_it : List Record
   below_it = records_in (spells found.bytes (front p))
@@ -142,7 +121,7 @@ carried-goes found put streams gone others whole cleared carries_them may moved 
     let ys = above_it found put.slot gone others whole moved in
     let is = among found put.slot gone others whole moved in
     let same = may_go-same gone (records_beside others) (xs ++ ys) (any-others found put.slot gone others whole moved) in
-    carried-put found put gone records.Free is.below (entry found put.slot gone others whole moved) (decoded-cleared put cleared) (λ ss. ss) streams
+    carried-put found put gone records.Free is.below (sym is.spells) (decoded-cleared put cleared) (λ ss. ss) streams
     (may-goes xs ys gone (sym same ∙ may)) carries_them
 
 -- a stream is dropped
@@ -153,6 +132,6 @@ pub carried-dropped : (found : SlotMap) (put : Put) (streams : List Stream) (s :
 carried-dropped found put streams s others whole is carries_them moved =
     let was = records.Stream s.number s.name s.params false in
     let place = among found put.slot was others whole moved in
-    carried-put found put was (records.Stream s.number s.name s.params true) place.below (entry found put.slot was others whole moved)
+    carried-put found put was (records.Stream s.number s.name s.params true) place.below (sym place.spells)
     (decoded-Spells put.bytes (records.Stream s.number s.name s.params true) is.spelled) (without_numbered s.number) streams
     (is-dropped (below_it found put.slot was others whole moved) (above_it found put.slot was others whole moved) s) carries_them

@@ -50,16 +50,19 @@ pub not_live : (slot : ℕ) (live : List Bool) → AreBelow slot live → is_liv
 not_live slot live bounded = false_from_ne_true (is_live live slot) (λ is. absurd (omega (arith, bounded.below slot is)))
 
 -- there are at most as many records as slots
-pub length-gathered : (slot : ℕ) (read : Gathered) → AreGathered slot read → length read.all.items ≤ slot
-length-gathered slot read are =
+few-slots : (all : List Found) (p : ℕ → Bool) (n : ℕ) → map (λ (f : Found). f.slot) all ≡ filter p (range_with_len 0 n) → length all ≤ n
+few-slots all p n are =
     omega (
       arith,
-      ap (λ (ns : List ℕ). length ns) are.slots,
-      length-map read.all.items (λ (f : Found). f.slot),
-      length-filter (is_live read.live) (range_with_len 0 slot),
-      count_by-le-length (is_live read.live) (range_with_len 0 slot),
-      length-range_with_len 0 slot,
+      ap (λ (ns : List ℕ). length ns) are,
+      length-map all (λ (f : Found). f.slot),
+      length-filter p (range_with_len 0 n),
+      count_by-le-length p (range_with_len 0 n),
+      length-range_with_len 0 n,
     )
+
+pub length-gathered : (slot : ℕ) (read : Gathered) → AreGathered slot read → length read.all.items ≤ slot
+length-gathered slot read are = few-slots read.all.items (is_live read.live) slot are.slots
 
 -- a free slot is read
 pub AreGathered-free : (slot : ℕ) (read : Gathered) → AreGathered slot read → AreGathered (slot + 1) read
@@ -210,15 +213,7 @@ slots-gathered slot read are = are.slots ∙ elim (cases_lt (length read.live) s
 
 pub few-gathered : (slot : ℕ) (read : Gathered) → AreGathered slot read → length read.all.items ≤ 2 ^ 20
 few-gathered slot read are =
-    omega (
-      arith,
-      ap (λ (ns : List ℕ). length ns) (slots-gathered slot read are),
-      length-map read.all.items (λ (f : Found). f.slot),
-      length-filter (is_live read.live) (range_with_len 0 (length read.live)),
-      count_by-le-length (is_live read.live) (range_with_len 0 (length read.live)),
-      length-range_with_len 0 (length read.live),
-      are.bounded.slots,
-    )
+    omega (arith, few-slots read.all.items (is_live read.live) (length read.live) (slots-gathered slot read are), are.bounded.slots)
 
 -- where a slot lies in its page
 pub slot-of_page : (slot from : ℕ) → from % 32 ≡ 0 → from ≤ slot → slot < from + 32 → 32 * (from / 32) + slot % 32 ≡ slot

@@ -109,16 +109,16 @@ filled-put_zeros put bytes n below zeros =
     let here : are_zeros (with_put put bytes put.slot) ≡ true = ap are_zeros (with_put-same put bytes) ∙ zeros in
     filled-at_zeros (with_put put bytes) put.slot n below here ∙ beside-with_put put bytes n
 
--- each slot that is filled lies in its list, and isn't zeros
-filled-all : (bytes : ℕ → List ℕ) (P : ℕ → Type 0) (slots : List ℕ) → AllByRecursion P slots →
-    AllByRecursion (λ e. P e.0 × (are_zeros (bytes e.0) ≡ false)) (filled bytes slots)
+-- each slot that is filled lies in its list, isn't zeros, and has what it spells
+abbrev IsFilled : (ℕ → List ℕ) → (ℕ → Type 0) → ℕ × Option Record → Type 0
+IsFilled bytes P e = P e.0 × (are_zeros (bytes e.0) ≡ false) × (e.1 ≡ decoded (bytes e.0))
+
+filled-all : (bytes : ℕ → List ℕ) (P : ℕ → Type 0) (slots : List ℕ) → AllByRecursion P slots → AllByRecursion (IsFilled bytes P) (filled bytes slots)
 filled-all bytes P [] all = tt
 filled-all bytes P (slot ∷ slots) all = elim (cases_Bool (are_zeros (bytes slot))) [
-  | inl zeros ↦
-      subst (AllByRecursion (λ e. P e.0 × (are_zeros (bytes e.0) ≡ false))) (sym (filled-zeros bytes slot slots zeros)) (filled-all bytes P slots all.1)
+  | inl zeros ↦ subst (AllByRecursion (IsFilled bytes P)) (sym (filled-zeros bytes slot slots zeros)) (filled-all bytes P slots all.1)
   | inr live ↦
-      subst (AllByRecursion (λ e. P e.0 × (are_zeros (bytes e.0) ≡ false))) (sym (filled-live bytes slot slots live))
-      ((all.0, live), filled-all bytes P slots all.1)
+      subst (AllByRecursion (IsFilled bytes P)) (sym (filled-live bytes slot slots live)) ((all.0, live, refl), filled-all bytes P slots all.1)
 ]
 
 -- 1 at the entries of a slot
@@ -148,23 +148,20 @@ filter-beside p (e ∷ es) all = rw (all.0, filter-beside p es all.1) refl
 
 filled-beside : (bytes : ℕ → List ℕ) (p : ℕ) (slots : List ℕ) → AllByRecursion (λ slot. nat_eq slot p ≡ false) slots →
     AllByRecursion (λ e. nat_eq e.0 p ≡ false) (filled bytes slots)
-filled-beside bytes p slots all = go (filled bytes slots) (filled-all bytes (λ slot. nat_eq slot p ≡ false) slots all)
-  where
-    go : (es : List (ℕ × Option Record)) → AllByRecursion (λ e. (nat_eq e.0 p ≡ false) × (are_zeros (bytes e.0) ≡ false)) es →
-        AllByRecursion (λ e. nat_eq e.0 p ≡ false) es
-    go [] each = tt
-    go (e ∷ es) each = (each.0.0, go es each.1)
+filled-beside bytes p slots all =
+    all_weaker (IsFilled bytes (λ slot. nat_eq slot p ≡ false)) _ (λ e is. is.0) (filled bytes slots) (filled-all bytes (λ slot. nat_eq slot p ≡ false) slots all)
 
--- one entry among those of a map: its slot lies below the extent and isn't zeros, and the others are those beside it
-pub record IsAmong (bytes : ℕ → List ℕ) (p n : ℕ) (rest : List (ℕ × Option Record)) : Type 0 where
+-- one entry among those of a map: its slot lies below the extent, isn't zeros and spells this, and the others are those beside it
+pub record IsAmong (bytes : ℕ → List ℕ) (p n : ℕ) (was : Option Record) (rest : List (ℕ × Option Record)) : Type 0 where
   pub below : p < n
   pub live : are_zeros (bytes p) ≡ false
+  pub spells : was ≡ decoded (bytes p)
   pub others : IsPermutation rest (beside bytes p n)
 
 pub IsAmong-filled : (bytes : ℕ → List ℕ) (p n : ℕ) (was : Option Record) (rest : List (ℕ × Option Record)) →
-    IsPermutation ((p, was) ∷ rest) (filled bytes (range_with_len 0 n)) → IsAmong bytes p n rest
+    IsPermutation ((p, was) ∷ rest) (filled bytes (range_with_len 0 n)) → IsAmong bytes p n was rest
 IsAmong-filled bytes p n was rest moved =
-    let P : ℕ × Option Record → Type 0 = λ e. (e.0 < n) × (are_zeros (bytes e.0) ≡ false) in
+    let P : ℕ × Option Record → Type 0 = IsFilled bytes (λ slot. slot < n) in
     let each : AllByRecursion P (filled bytes (range_with_len 0 n)) =
     filled-all bytes (λ slot. slot < n) (range_with_len 0 n) (range-within 0 n n (omega arith)) in
     let here = recursion_from_All P ((p, was) ∷ rest) (All-permutation P (filled bytes (range_with_len 0 n)) ((p, was) ∷ rest) (IsPermutation-sym _ _ moved)
@@ -190,6 +187,7 @@ IsAmong-filled bytes p n was rest moved =
     record {
       below = here.0.0;
       live = here.0.1;
+      spells = here.0.2;
       others = subst (λ l. IsPermutation l (xs ++ ys)) left (subst (λ l. IsPermutation (filter (is_beside p) ((p, was) ∷ rest)) l) right kept);
     }
 
@@ -251,7 +249,7 @@ occupied-free found put r is within free = elim (cases_lt put.slot found.extent)
 -- a record, or zeros, in the place of a record
 module _ (found : SlotMap) (put : Put) (was : Option Record) (rest : List (ℕ × Option Record))
     (moved : IsPermutation ((put.slot, was) ∷ rest) (occupied found)) where
-  among : IsAmong found.bytes put.slot found.extent rest
+  among : IsAmong found.bytes put.slot found.extent was rest
   among = IsAmong-filled found.bytes put.slot found.extent was rest moved
 
   after : occupied (changed found (put ∷ [])) ≡ filled (with_put put found.bytes) (range_with_len 0 found.extent)
