@@ -56,11 +56,10 @@ pub use Rattle.ss_recover.specs.Parts.{stream_carried, streams_carried}
 pub use Rattle.ss_recover.specs.Rebuilt.{HasParts, Rebuilds, RebuildsAs, verdict_of_rebuild}
 pub use Rattle.ss_recover.specs.Runs.{AreBuilt, AreSlotsOf, doomed_found, has_sound_values_in_order, has_sound_values_within, is_run, is_sound_in_order}
 pub use Rattle.ss_recover.specs.Runs.{IsLowestUnsound, marks_in, may_stand, WalksAs, windows_in}
-pub use Rattle.ss_recover.specs.Shown.{AddsName, AddsToLandmark, AreMade, AreWindowsOf, BuildsAs, can_add, can_open, closes_before, EndsWalk, finish_of}
-pub use Rattle.ss_recover.specs.Shown.{found_by, Grows, has_said_last, HasClosed, HasNoMarks, HasNothing, HasTakenDropped, HasTakenStanding, head_found}
-pub use Rattle.ss_recover.specs.Shown.{is_after, is_landmark, is_value, is_window, IsHeldOf, IsInside, IsLast, IsNextRun, IsReady, latest_at_end, MakesMarks}
-pub use Rattle.ss_recover.specs.Shown.{MayClose, names_in, OpensLandmark, PutsDropped, PutsStanding, ShowsLast, ShowsMarks, StepsAs, still_open, TakesAs}
-pub use Rattle.ss_recover.specs.Shown.{with_closing}
+pub use Rattle.ss_recover.specs.Shown.{AddsName, AddsToLandmark, AreMade, AreWindowsOf, BuildsAs, can_add, can_open, EndsWalk, finish_of, found_by, Grows}
+pub use Rattle.ss_recover.specs.Shown.{has_said_last, HasClosed, HasNoMarks, HasNothing, HasTakenDropped, HasTakenStanding, head_found, is_after, is_landmark}
+pub use Rattle.ss_recover.specs.Shown.{is_value, is_window, IsHeldOf, IsInside, IsLast, IsNextRun, IsReady, latest_at_end, MakesMarks, MayClose, names_in}
+pub use Rattle.ss_recover.specs.Shown.{OpensLandmark, PutsDropped, PutsStanding, ShowsLast, ShowsMarks, StepsAs, still_open, TakesAs, with_closing}
 pub use Rattle.ss_recover.specs.Usable.{HasValidTimes, in_slot, IsUsable, slots_found, without_slots}
 pub use Rattle.ss_recover.specs.declared.found.Found.{Found}
 pub use Rattle.ss_recover.specs.declared.gathering.Gathered.{Gathered}
@@ -81,8 +80,8 @@ pub use Rattle.std.proofs.Common.{Ok, Option, pos, refl, replicate, Result, rule
 pub use Rattle.std.proofs.Math.Bool.{and-false, and-true, and_assoc, or-false}
 pub use Rattle.std.proofs.Math.Seq.{drop-append_seam, drop-cons, take-add, take-append_seam}
 pub use Rattle.std.proofs.lemmas.Bool.{and_cases, and_from, and_left, and_parts, and_right, cases_Bool, cases_eq, cases_lt, cases_order, cond-false, cond-true}
-pub use Rattle.std.proofs.lemmas.Bool.{cond_both, eq-eqb, eqb-true, false_from_ne_true, le-leb, le-ltb, leb-false, lt-leb, lt-ltb, ltb-true, ne_eqb, not-false}
-pub use Rattle.std.proofs.lemmas.Bool.{not-true, not_from_false, or_cases, or_from, or_left, or_parts, or_right, true≢false}
+pub use Rattle.std.proofs.lemmas.Bool.{cond_both, eq-eqb, eqb-true, false_from_ne_true, le-leb, le-ltb, leb-false, lt-leb, lt-ltb, ltb-true, ne_eqb, not-true}
+pub use Rattle.std.proofs.lemmas.Bool.{not_from_false, or_cases, or_from, or_left, or_parts, or_right, true≢false}
 pub use Rattle.std.proofs.lemmas.Bool.Decides.{nat_tests}
 pub use Rattle.std.proofs.lemmas.Int.{to_z-of_z}
 pub use Rattle.std.proofs.lemmas.List.{drop-drop, length-drop, length-map, length-replicate, length-set, length-take, map-append, map-id, take-append-drop}

@@ -1,12 +1,12 @@
 -- The records of dropped streams among those that were found: they are of no stream that stands, and may go in turn.
 use Rattle.ss_recover.proofs.Common.{[], ◌++◌, ◌+◌, ◌<◌, ◌==◌, ◌∙◌, ◌∷◌, ◌≡◌, ◌≤◌, AllByRecursion, and_parts, ap, ap₂, are_zeros, AreSlotsOf, arith, Bool}
-use Rattle.ss_recover.proofs.Common.{cases_Bool, cond, cond-true, count_by, Created, created_by, doomed_among, doomed_found, doomed_slots, eq-eqb, eqb-true}
-use Rattle.ss_recover.proofs.Common.{false, false_from_ne_true, filter, filter_map-append, Found, GoInTurn, in_slot, inl, inr, is_doomed, is_drop_of}
-use Rattle.ss_recover.proofs.Common.{is_dropped, is_of, is_own, IsPermutation, IsPermutation-map, IsPermutation-sym, IsPermutation-trans, List, list_any}
-use Rattle.ss_recover.proofs.Common.{list_any-append, list_any-IsPermutation, map, map-append, map-id, may_go, ne_eqb, None, not, not_from_false, occupied}
-use Rattle.ss_recover.proofs.Common.{Option, option_map_or, or_cases, or_from, or_left, or_right, range_with_len, Record, records_beside, refl, SlotMap}
-use Rattle.ss_recover.proofs.Common.{slots_found, Some, stands_by, Stream, stream_number, stream_of, streams_created, subst, suc, sym, true, true≢false}
-use Rattle.ss_recover.proofs.Common.{without_slots, zero, ℕ}
+use Rattle.ss_recover.proofs.Common.{cases_Bool, cond-true, count_by, Created, created_by, doomed_among, doomed_found, doomed_slots, eq-eqb, eqb-true, false}
+use Rattle.ss_recover.proofs.Common.{false_from_ne_true, filter, filter_map-append, Found, GoInTurn, in_slot, inl, inr, is_doomed, is_drop_of, is_dropped}
+use Rattle.ss_recover.proofs.Common.{is_of, is_own, IsPermutation, IsPermutation-map, IsPermutation-sym, IsPermutation-trans, List, list_any, list_any-append}
+use Rattle.ss_recover.proofs.Common.{list_any-IsPermutation, map, map-append, map-id, may_go, ne_eqb, None, not, not_from_false, occupied, Option}
+use Rattle.ss_recover.proofs.Common.{option_map_or, or_cases, or_from, or_left, or_right, range_with_len, Record, records_beside, refl, SlotMap, slots_found}
+use Rattle.ss_recover.proofs.Common.{Some, stands_by, Stream, stream_number, stream_of, streams_created, subst, suc, sym, true, true≢false, without_slots, zero}
+use Rattle.ss_recover.proofs.Common.{ℕ}
 use Rattle.ss_recover.proofs.RunStanding.{doomed-same}
 use Rattle.ss_recover.specs.Conditions.{is_sound}
 use Rattle.ss_recover.proofs.DroppedRecords.{IsNoneOf, IsNoneOf-apart}
@@ -60,10 +60,6 @@ apart-dropped us ds ss dropped kept =
     ds dropped) ss kept
 
 -- ---- what is found of them
-
--- whether a record is a stream's own, or is not
-abbrev own_or_not : Bool → Record → Bool
-own_or_not own r = cond own (is_own r) (not (is_own r))
 
 -- a doomed record is a stream's own or not, and of a dropped stream
 pub own-doomed : (us : List Record) (r : Record) → is_doomed true us r ≡ true → is_own r ≡ true

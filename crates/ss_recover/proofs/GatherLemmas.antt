@@ -1,13 +1,13 @@
 -- The slots that were read, and one more.
-use Rattle.ss_recover.proofs.Common.{[], ◌%◌, ◌*◌, ◌++◌, ◌+◌, ◌-◌, ◌/◌, ◌<◌, ◌^◌, ◌∙◌, ◌∷◌, ◌≡◌, ◌≢◌, ◌≤◌, All, All-push, ap, append-nil, ap₂, are_zeros}
-use Rattle.ss_recover.proofs.Common.{AreBelow, AreFoundBelow, AreGathered, AreLiveBelow, AreLiveOver, arith, BadSlot, BadStream, below, Bool, cases_lt, cond}
-use Rattle.ss_recover.proofs.Common.{cond-false, cond-true, count_by-le-length, Disk, eq-eqb, Err, false, false_from_ne_true, filter, filter-append, Found}
-use Rattle.ss_recover.proofs.Common.{Free, Gathered, get_or, get_or-map-range_with_len, in_slot, inl, inr, is_live, is_live-below, is_live-set, is_none, IsKept}
-use Rattle.ss_recover.proofs.Common.{IsLowestBad, IsSealed, IsUsable, JournalState, length, length-filter, length-map, length-map-range_with_len}
-use Rattle.ss_recover.proofs.Common.{length-range_with_len, length-set, List, lowest_bad_slot, lt-ltb, map, map-append, ne_eqb, None, not, Option, OutOfMemory}
-use Rattle.ss_recover.proofs.Common.{position_or_len, position_or_len_is, range_with_len, Record, RecoverError, refl, replicate, SameMap-refl, set, shown}
-use Rattle.ss_recover.proofs.Common.{SlotMap, Some, spelling-free, Spells-decoded, SpellsNone, StandsFor, StandsFor-from, StandsFor-same, subst, suc, sym, true}
-use Rattle.ss_recover.proofs.Common.{true≢false, verdict_of_rebuild, zero, ℕ}
+use Rattle.ss_recover.proofs.Common.{[], ◌++◌, ◌+◌, ◌-◌, ◌<◌, ◌^◌, ◌∙◌, ◌∷◌, ◌≡◌, ◌≢◌, ◌≤◌, All, All-push, ap, append-nil, ap₂, are_zeros, AreBelow}
+use Rattle.ss_recover.proofs.Common.{AreFoundBelow, AreGathered, AreLiveBelow, AreLiveOver, arith, BadSlot, BadStream, below, Bool, cases_lt, cond, cond-false}
+use Rattle.ss_recover.proofs.Common.{cond-true, count_by-le-length, Disk, eq-eqb, Err, false, false_from_ne_true, filter, filter-append, Found, Free, Gathered}
+use Rattle.ss_recover.proofs.Common.{get_or, get_or-map-range_with_len, in_slot, inl, inr, is_live, is_live-below, is_live-set, is_none, IsKept, IsLowestBad}
+use Rattle.ss_recover.proofs.Common.{IsSealed, IsUsable, JournalState, length, length-filter, length-map, length-map-range_with_len, length-range_with_len}
+use Rattle.ss_recover.proofs.Common.{length-set, List, lowest_bad_slot, lt-ltb, map, map-append, ne_eqb, None, not, Option, OutOfMemory, position_or_len}
+use Rattle.ss_recover.proofs.Common.{position_or_len_is, range_with_len, Record, RecoverError, refl, replicate, SameMap-refl, set, shown, SlotMap, Some}
+use Rattle.ss_recover.proofs.Common.{spelling-free, Spells-decoded, SpellsNone, StandsFor, StandsFor-from, StandsFor-same, subst, suc, sym, true, true≢false}
+use Rattle.ss_recover.proofs.Common.{verdict_of_rebuild, zero, ℕ}
 use Rattle.ss_journal.proofs.ShownLemmas.{IsShown-sealed, shown-sealed}
 use Rattle.ss_codec.specs.Decoded.{decoded}
 use Rattle.ss_recover.specs.Carried.{spelled}
@@ -175,13 +175,6 @@ pub IsLowestBad-here : (slot : ℕ) (read : Gathered) (found : SlotMap) → AreF
     → IsLowestBad (slot + 1) slot found
 IsLowestBad-here slot read found before none = record { below = omega arith; spelled_before = before.are.spelled_all; none = none }
 
-pub IsLowestBad-more : (slot more n : ℕ) (found : SlotMap) → slot ≤ more → IsLowestBad slot n found → IsLowestBad more n found
-IsLowestBad-more slot more n found le is = record {
-  below = let lt = is.below in omega (arith, le, lt);
-  spelled_before = is.spelled_before;
-  none = is.none;
-}
-
 pub IsLowestBad-told : (slot n : ℕ) (found : SlotMap) → slot ≤ found.extent → IsLowestBad slot n found → lowest_bad_slot (spelled found) ≡ Some n
 IsLowestBad-told slot n found le is = let lt = is.below in lowest-is found n (omega (arith, le, lt)) is.spelled_before is.none
 
@@ -214,10 +207,6 @@ slots-gathered slot read are = are.slots ∙ elim (cases_lt (length read.live) s
 pub few-gathered : (slot : ℕ) (read : Gathered) → AreGathered slot read → length read.all.items ≤ 2 ^ 20
 few-gathered slot read are =
     omega (arith, few-slots read.all.items (is_live read.live) (length read.live) (slots-gathered slot read are), are.bounded.slots)
-
--- where a slot lies in its page
-pub slot-of_page : (slot from : ℕ) → from % 32 ≡ 0 → from ≤ slot → slot < from + 32 → 32 * (from / 32) + slot % 32 ≡ slot
-slot-of_page slot from first least most = omega (arith, first, least, most)
 
 -- what was read of a disk, which keeps a journal as before
 module _ (journal now : JournalState) (old new : List ℕ) (same : now ≡ journal) (content : new ≡ old) (kept : IsKept journal old) where

@@ -1,15 +1,15 @@
 -- What is held of landmarks shows what their records make, one record after another.
 use Rattle.ss_recover.proofs.Common.{[], ◌&&◌, ◌++◌, ◌+◌, ◌<◌, ◌==◌, ◌||◌, ◌∙◌, ◌∷◌, ◌≡◌, ◌≤◌, AddsToLandmark, All, All-from_recursion, and-true, and_assoc}
-use Rattle.ss_recover.proofs.Common.{and_parts, and_right, ap, append-nil, are_marks, AreKnown, AreLandmarks, AreMade, arith, Bool, can_add, can_open}
-use Rattle.ss_recover.proofs.Common.{CanClose-after, CanOpen, CanOpen-after, CanTake, cases-finish, change_last, closed_at, cond-false, cond-true, ends-latest}
-use Rattle.ss_recover.proofs.Common.{eq-eqb, eqb-true, false, filter-append, finish_of, fold, fold-append, FollowFrom, Found, has_all_values, has_said}
-use Rattle.ss_recover.proofs.Common.{has_said_last, HasClosed, HasNoMarks, HasValidTimes, IfSome, inl, inr, is_closed_before, is_landmark, is_mark_of}
-use Rattle.ss_recover.proofs.Common.{is_next_landmark, is_next_value, is_none, is_up_to, is_value, IsLast, IsNone, IsReady, IsSome, Landmark, landmarks_in}
-use Rattle.ss_recover.proofs.Common.{LandmarkValue, Last, latest_at_end, latest_of, LATEST_TIME, leb-true, length, length-append, List, list_all}
-use Rattle.ss_recover.proofs.Common.{list_all-append, ltb-true, map-append, Marked, marked_by, marked_on, marked_with, marks_in, MatchOption, MayClose}
-use Rattle.ss_recover.proofs.Common.{MOST_LANDMARK_SLOTS, nat_le, nat_lt, nat_tests, None, nothing_marked, open_landmark, opened_at, OpensLandmark, Option}
-use Rattle.ss_recover.proofs.Common.{option_and_then, option_map_or, option_to_list, Record, refl, ShowsLast, ShowsMarks, Some, still_open, stream_of, subst}
-use Rattle.ss_recover.proofs.Common.{sym, true, with_closing, with_value, without_slots, ℕ, ℤ}
+use Rattle.ss_recover.proofs.Common.{and_parts, ap, append-nil, are_marks, AreKnown, AreLandmarks, AreMade, arith, Bool, can_add, can_open, CanClose-after}
+use Rattle.ss_recover.proofs.Common.{CanOpen, CanOpen-after, CanTake, cases-finish, change_last, closed_at, cond-false, cond-true, ends-latest, eq-eqb}
+use Rattle.ss_recover.proofs.Common.{eqb-true, false, filter-append, finish_of, fold, fold-append, FollowFrom, Found, has_all_values, has_said, has_said_last}
+use Rattle.ss_recover.proofs.Common.{HasClosed, HasNoMarks, HasValidTimes, IfSome, inl, inr, is_closed_before, is_landmark, is_mark_of, is_next_landmark}
+use Rattle.ss_recover.proofs.Common.{is_next_value, is_none, is_up_to, is_value, IsLast, IsNone, IsReady, IsSome, Landmark, landmarks_in, LandmarkValue, Last}
+use Rattle.ss_recover.proofs.Common.{latest_at_end, latest_of, LATEST_TIME, leb-true, length, length-append, List, list_all, list_all-append, ltb-true}
+use Rattle.ss_recover.proofs.Common.{map-append, Marked, marked_by, marked_on, marked_with, marks_in, MatchOption, MayClose, MOST_LANDMARK_SLOTS, nat_le}
+use Rattle.ss_recover.proofs.Common.{nat_lt, nat_tests, None, nothing_marked, open_landmark, opened_at, OpensLandmark, Option, option_and_then, option_map_or}
+use Rattle.ss_recover.proofs.Common.{option_to_list, Record, refl, ShowsLast, ShowsMarks, Some, still_open, stream_of, subst, sym, true, with_closing}
+use Rattle.ss_recover.proofs.Common.{with_value, without_slots, ℕ, ℤ}
 use Rattle.ss_landmarks.proofs.OpenLemmas.{open_landmark-close}
 use Rattle.ss_recover.proofs.Latest.{latest_of-closed, latest_of-opened, latest_of-value}
 use Rattle.ss_recover.proofs.Lists.{all_weaker, each-list_all}
@@ -206,11 +206,6 @@ module _ (s : Marks) (n : ℕ) (m : Marked) (own : List Found) (shows : ShowsMar
   pub take-ready : (c : Last) (number index t : ℕ) → s.last ≡ Some c → AreLandmarks ls → can_add (length ls) c number index t ≡ true → CanTake ls t
   take-ready c number index t is order can = CanTake-shown ls s.latest m c number index t (last-shown c is) order can
 
-  -- a landmark's record
-  pub not-began : (id number said start : ℕ) (finish : Option ℕ) → can_open (length ls) s.last number start ≡ false →
-      marked_with m (records.Landmark id number said start finish) ≡ None
-  not-began id number said start finish can = cond-false _ _ _ (sym (open-shown ls s.latest m s.last number start shows.last) ∙ can)
-
   pub began : (closed opened : Marks) (slot number said start : ℕ) (finish : Option ℕ) → can_open (length ls) s.last number start ≡ true → AreLandmarks ls →
       HasClosed (finish_of s.last) s closed → OpensLandmark closed opened slot start → HasValidTimes said start finish →
       MatchOption (marked_with m (records.Landmark n number said start finish)) ⊥
@@ -249,16 +244,6 @@ module _ (s : Marks) (n : ℕ) (m : Marked) (own : List Found) (shows : ShowsMar
       may-close : (o : Option ℕ) → HasValidTimes said start o → IfSome o (λ t. (start ≤ t) × (t ≤ LATEST_TIME))
       may-close None _ = tt
       may-close (Some t) timed = timed
-
-  -- a value's record
-  pub not-added : (id number index t : ℕ) (v : ℤ) (c : Last) → s.last ≡ Some c → can_add (length ls) c number index t ≡ false →
-      marked_with m (records.Value id number index t v) ≡ None
-  not-added id number index t v c is can = cond-false _ _ _ (sym (add-shown ls s.latest m c number index t (last-shown c is)) ∙ can)
-
-  pub none-added : (id number index t : ℕ) (v : ℤ) → s.last ≡ None → marked_with m (records.Value id number index t v) ≡ None
-  none-added id number index t v none =
-      let nothing = subst (λ last. ShowsLast last ls s.latest m) none shows.last in
-      cond-false _ _ _ (ap (λ k. is_next_value k number index t) nothing.0 ∙ and_right _ _ refl)
 
   pub added : (c : Last) (new : Marks) (slot number index t : ℕ) (v : ℤ) → s.last ≡ Some c → can_add (length ls) c number index t ≡ true →
       AddsToLandmark s new slot t v →
@@ -334,9 +319,6 @@ module _ (s : Marks) (n : ℕ) (m : Marked) (own : List Found) (shows : ShowsMar
     slots = closes.slots ∙ shows.slots;
     value_slots = closes.value_slots ∙ shows.value_slots;
   }
-
-  pub not-made : has_said_last s.last ≡ false → are_marks (marks_in n (without_slots own)) ≡ false
-  not-made said = ap (λ o. option_map_or has_all_values o false) shows.by ∙ sym (said-shown ls s.latest m s.last shows.last) ∙ said
 
   -- where a record may not come, all with it aren't those of landmarks
   pub stops : (x : Found) (rest : List Found) → stream_of x.holds ≡ n → marked_with m x.holds ≡ None →

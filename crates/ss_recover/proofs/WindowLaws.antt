@@ -1,11 +1,11 @@
 -- The windows among records, one after another: what is asked of those that are left, and where they are held.
-use Rattle.ss_recover.proofs.Common.{[], ◌&&◌, ◌++◌, ◌+◌, ◌<◌, ◌==◌, ◌∙◌, ◌∷◌, ◌≡◌, ◌≤◌, add-one, All, and-true, and_from, and_left, and_right, ap, append-nil}
-use Rattle.ss_recover.proofs.Common.{AreWindowsOf, arith, Bool, cond, cond-true, cons_option, count_by-le-length, drop, drop-cons, Entry, eq-eqb, false}
-use Rattle.ss_recover.proofs.Common.{filter-append, filter_map-append, Found, found_by, get_or, Grows, is_after, is_some, is_window, IsInside, le-leb, length}
-use Rattle.ss_recover.proofs.Common.{length-filter, length-map, List, list_any, map, map-append, may_stand, MOST_RECORDS, MOST_STREAMS, MOST_VALUES, names_in}
-use Rattle.ss_recover.proofs.Common.{nat_lt, ne_eqb, newest_time, None, not, Option, Record, refl, same_name, slots_found, Some, span_held, span_of, stream_of}
-use Rattle.ss_recover.proofs.Common.{StreamId, subst, suc, sum_by-append, sym, take, take-append-drop, take_more, taken, tile, tile_from, times_held, times_of}
-use Rattle.ss_recover.proofs.Common.{times_rise, true, Window, window_of, windows_in, without_slots, ℕ}
+use Rattle.ss_recover.proofs.Common.{[], ◌&&◌, ◌++◌, ◌+◌, ◌<◌, ◌==◌, ◌∙◌, ◌∷◌, ◌≡◌, ◌≤◌, add-one, All, and-true, and_right, ap, append-nil, AreWindowsOf, arith}
+use Rattle.ss_recover.proofs.Common.{Bool, cond, cond-true, cons_option, count_by-le-length, drop, drop-cons, Entry, eq-eqb, false, filter-append}
+use Rattle.ss_recover.proofs.Common.{filter_map-append, Found, found_by, get_or, Grows, is_after, is_some, is_window, IsInside, length, length-filter}
+use Rattle.ss_recover.proofs.Common.{length-map, List, list_any, map, map-append, may_stand, MOST_RECORDS, MOST_STREAMS, names_in, nat_lt, newest_time, None}
+use Rattle.ss_recover.proofs.Common.{not, Option, Record, refl, same_name, slots_found, Some, span_held, span_of, stream_of, StreamId, subst, suc}
+use Rattle.ss_recover.proofs.Common.{sum_by-append, sym, take, take-append-drop, take_more, taken, tile_from, times_held, times_of, times_rise, true, Window}
+use Rattle.ss_recover.proofs.Common.{window_of, windows_in, without_slots, ℕ}
 use Rattle.ss_line.specs.declared.entry.At.{At}
 use Rattle.ss_line.specs.declared.line.TheConstants.{MOST_PLACES}
 use Rattle.ss_summary.specs.declared.summary.TheConstants.{GREATEST_COUNT}
@@ -95,19 +95,6 @@ module _ (n : ℕ) (all : List Found) (i : ℕ) (x : Found) (within : i < length
       same : (k : ℕ) → (k == k) ≡ true
       same k = grind arith
 
-  pub tile-fails : (next : ℕ) → TileTo n all i next → (w : Window) → window_of n x.holds ≡ Some w → (w.first ≡ next → ⊥) → tile (windows_at n all) ≡ false
-  tile-fails next to w some apart =
-      and_left _ _ (to.left ∙ ap (tile_from next) (left-window w some)
-      ∙ ap (λ b. b && tile_from (next + w.summary.count) (windows_at n (drop (i + 1) all))) (ne_eqb w.first next apart))
-
--- at the end
-pub tile-holds : (n : ℕ) (all : List Found) (i next : ℕ) → TileTo n all i next → drop i all ≡ [] → take i all ≡ all → tile (windows_at n all) ≡ true
-tile-holds n all i next to none whole =
-    let few = to.few in
-    let so_far = to.so_far in
-    and_from _ _ (to.left ∙ ap (λ l. tile_from next (windows_at n l)) none)
-    (le-leb (taken (windows_at n all)) MOST_VALUES (omega (arith, few, so_far, ap (λ l. taken (windows_at n l)) whole)))
-
 -- ---- where they are held
 
 own-window : (n : ℕ) (r : Record) (w : Window) → window_of n r ≡ Some w → is_window r ≡ true
@@ -158,14 +145,6 @@ module _ (n : ℕ) (all : List Found) (x : Found) (windows : Windows) (are : Are
             ∙ (λ i. are.entries i ++ grows.in_slot i ∷ []) ∙ sym (found-more is_window all x true (own-window n x.holds w some));
         newest = grows.newest ∙ sym (ap newest_time one ∙ newest_time_push (windows_at n all) w);
       }
-
-pub AreWindowsOf-none : (n : ℕ) (windows : Windows) → windows.line.entries ≡ [] → windows.newest ≡ None → AreWindowsOf n [] windows
-AreWindowsOf-none n windows none newest = record {
-  positions = ap (λ (es : List (At × Entry)). map span_held (map (λ e. e.1) es)) none;
-  times = ap (λ (es : List (At × Entry)). map times_held (map (λ e. e.1) es)) none;
-  entries = ap (λ (es : List (At × Entry)). map (λ (e : Entry). e.slot) (map (λ e. e.1) es)) none;
-  newest = newest;
-}
 
 -- how many of some records pass a test
 pub few-found : (p : Record → Bool) (all : List Found) → length (slots_found (found_by p all)) ≤ length all
