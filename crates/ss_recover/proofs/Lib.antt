@@ -17,9 +17,6 @@ pub mod DoomedLemmas
 pub mod RebuiltRecords
 pub mod RebuiltParts
 pub mod HeldLemmas
-pub mod ValidRecords
-pub mod CarriedStates
-pub mod Latest
 pub mod RunSound
 pub mod RunStanding
 pub mod WindowLaws
@@ -30,4 +27,3 @@ pub mod RunHeld
 pub mod RunsDone
 mod Rows
 mod RunRows
-mod TimeRows

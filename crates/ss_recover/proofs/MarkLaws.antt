@@ -11,10 +11,9 @@ use Rattle.ss_recover.proofs.Common.{nat_lt, nat_tests, None, nothing_marked, op
 use Rattle.ss_recover.proofs.Common.{option_to_list, Record, refl, ShowsLast, ShowsMarks, Some, still_open, stream_of, subst, sym, true, with_closing}
 use Rattle.ss_recover.proofs.Common.{with_value, without_slots, ℕ, ℤ}
 use Rattle.ss_landmarks.proofs.OpenLemmas.{open_landmark-close}
-use Rattle.ss_recover.proofs.Latest.{latest_of-closed, latest_of-opened, latest_of-value}
+use Rattle.ss_recover.proofs.MarksSoFar.{latest_of-closed, latest_of-opened, latest_of-value, marked-more, marked_on-none}
 use Rattle.ss_recover.proofs.Lists.{all_weaker, each-list_all}
 use Rattle.ss_recover.specs.declared.marking.Marks.{Marks}
-use Rattle.ss_recover.proofs.MarksSoFar.{marked-more, marked_on-none}
 use Rattle.ss_recover.proofs.WindowLaws.{few-found, found-more, records-more}
 use Rattle.ss_codec.specs.declared.record.Record.TheVariants as records
 

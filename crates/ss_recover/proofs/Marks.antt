@@ -9,7 +9,7 @@ use Rattle.ss_recover.proofs.Common.{length, length-append, List, lt-ltb, map, M
 use Rattle.ss_recover.proofs.Common.{option_map_or, place_of, Record, recursion_from_All, refl, RiseFrom, Some, Stream, stream_record, subst, sym, true}
 use Rattle.ss_recover.proofs.Common.{value_records, values_said, window_record, with_value, ℕ, ℤ}
 use Rattle.ss_recover.proofs.InOrder.{in_order-IsPermutation, Rise}
-use Rattle.ss_recover.proofs.Lists.{all_append, all_push, all_weaker, filter-all, list_all-each}
+use Rattle.ss_recover.proofs.Lists.{all-each, all_append, all_push, all_weaker, filter-all, list_all-each}
 use Rattle.ss_codec.specs.declared.record.Record.TheVariants as records
 
 -- the records of landmarks numbered from here on, each followed by those of its values
@@ -124,18 +124,13 @@ pub record AreMarksFrom (m : Marked) (rs : List Record) (ls : List Landmark) : T
 abbrev pub AreMarks : List Record → List Landmark → Type 0
 AreMarks rs ls = AreMarksFrom nothing_marked rs ls
 
--- a value that comes next
-is_up_to-IfSome : (t : ℕ) (finish : Option ℕ) → IfSome finish (λ f. t ≤ f) → is_up_to t finish ≡ true
-is_up_to-IfSome t None by = refl
-is_up_to-IfSome t (Some f) by = le-leb t f by
-
 -- the values come one by one
 module _ (number said n : ℕ) (before : List Landmark) (here : n ≡ length before + 1) where
   abbrev last_is : Landmark → Marked
   last_is l = record { before = before; last = Some l; said = said }
 
   take_value : (l : Landmark) (index : ℕ) (value : LandmarkValue) → index ≡ length l.values + 1 → l.start ≤ value.t →
-      AllByRecursion (λ v. v.t < value.t) l.values → IfSome l.finish (λ f. value.t ≤ f) →
+      AllByRecursion (λ v. v.t < value.t) l.values → is_up_to value.t l.finish ≡ true →
       marked_on (Some (last_is l)) (records.Value number n index value.t value.v) ≡ Some (last_is (with_value value l))
   take_value l index value next low above by =
       let count : n ≡ length (before ++ l ∷ []) = omega (arith, length-append before (l ∷ []), here) in
@@ -144,33 +139,26 @@ module _ (number said n : ℕ) (before : List Landmark) (here : n ≡ length bef
       let c = le-leb l.start value.t low in
       let each = all_weaker (λ (v : LandmarkValue). v.t < value.t) (λ v. nat_lt v.t value.t ≡ true) (λ v lt. lt-ltb v.t value.t lt) l.values above in
       let d = list_all-each (λ (v : LandmarkValue). nat_lt v.t value.t) l.values each in
-      let e = is_up_to-IfSome value.t l.finish by in
-      let test : is_next_value (last_is l) n index value.t ≡ true = and_from _ _ a (and_from _ _ (and_from _ _ (and_from _ _ b c) d) e) in
+      let test : is_next_value (last_is l) n index value.t ≡ true = and_from _ _ a (and_from _ _ (and_from _ _ (and_from _ _ b c) d) by) in
       cond-true _ _ _ test
 
   below_next : (value : LandmarkValue) (from : ℕ) (vs : List LandmarkValue) → from ≤ value.t → AllByRecursion (λ v. v.t < from) vs →
       AllByRecursion (λ v. v.t < value.t + 1) (vs ++ value ∷ [])
   below_next value from vs low below = all_push _ vs value (all_weaker _ _ (λ v lt. omega (arith, lt, low)) vs below) (omega arith)
 
-  first_by : (finish : Option ℕ) (value : LandmarkValue) (vs : List LandmarkValue) → IfSome finish (λ f. AllByRecursion (λ v. v.t ≤ f) (value ∷ vs)) →
-      IfSome finish (λ f. value.t ≤ f) × IfSome finish (λ f. AllByRecursion (λ v. v.t ≤ f) vs)
-  first_by None value vs by = (tt, tt)
-  first_by (Some f) value vs by = (by.0, by.1)
-
   take_values : (values : List LandmarkValue) (l : Landmark) (from index : ℕ) → index ≡ length l.values + 1 → l.start ≤ from →
-      AllByRecursion (λ v. v.t < from) l.values → RiseFrom from values → IfSome l.finish (λ f. AllByRecursion (λ v. v.t ≤ f) values) →
+      AllByRecursion (λ v. v.t < from) l.values → RiseFrom from values → AllByRecursion (λ v. is_up_to v.t l.finish ≡ true) values →
       fold marked_on (Some (last_is l)) (value_records number n index values)
       ≡ Some (last_is (record { start = l.start; finish = l.finish; values = l.values ++ values }))
   take_values [] l from index next low below rise by =
       ap (λ vs. Some (last_is (record { start = l.start; finish = l.finish; values = vs }))) (sym (append-nil l.values))
   take_values (value ∷ values) l from index next low below rise by =
       let first = rise.0 in
-      let parts = first_by l.finish value values by in
       let above = all_weaker (λ (v : LandmarkValue). v.t < from) (λ v. v.t < value.t) (λ v lt. omega (arith, lt, first)) l.values below in
-      let one = take_value l index value next (omega (arith, low, first)) above parts.0 in
+      let one = take_value l index value next (omega (arith, low, first)) above by.0 in
       let long : index + 1 ≡ length (l.values ++ value ∷ []) + 1 = omega (arith, next, length-append l.values (value ∷ [])) in
       let rest = take_values values (with_value value l) (value.t + 1) (index + 1) long (omega (arith, low, first))
-      (below_next value from l.values first below) rise.3 parts.1 in
+      (below_next value from l.values first below) rise.3 by.1 in
       ap (λ o. fold marked_on o (value_records number n (index + 1) values)) one ∙ rest
       ∙ ap (λ vs. Some (last_is (record { start = l.start; finish = l.finish; values = vs }))) (append_assoc l.values (value ∷ []) values)
 
@@ -199,12 +187,12 @@ next-whole m t =
 abbrev followed_by : Marked → Landmark → Marked
 followed_by m l = record { before = landmarks_in m; last = Some l; said = values_said l }
 
-ends_by : (l : Landmark) → IsLandmark l → IfSome l.finish (λ f. AllByRecursion (λ v. v.t ≤ f) l.values)
+ends_by : (l : Landmark) → IsLandmark l → AllByRecursion (λ v. is_up_to v.t l.finish ≡ true) l.values
 ends_by l is =
     elim l.finish as (λ o. IfSome o (λ t. (l.start ≤ t) × (t ≤ LATEST_TIME) × All (λ value. value.t ≤ t) l.values) →
-    IfSome o (λ f. AllByRecursion (λ v. v.t ≤ f) l.values)) [
-      | None ↦ λ by. tt
-      | Some f ↦ λ by. recursion_from_All (λ (v : LandmarkValue). v.t ≤ f) l.values by.2
+    AllByRecursion (λ v. is_up_to v.t o ≡ true) l.values) [
+      | None ↦ λ by. all-each (λ (v : LandmarkValue). is_up_to v.t None ≡ true) (λ v. refl) l.values
+      | Some f ↦ λ by. all_weaker _ _ (λ v le. le-leb v.t f le) l.values (recursion_from_All (λ (v : LandmarkValue). v.t ≤ f) l.values by.2)
     ] is.finish
 
 take_landmark : (number n : ℕ) (m : Marked) (l : Landmark) → n ≡ length (landmarks_in m) + 1 → has_all_values m ≡ true → IsOver l.start m → IsLandmark l →

@@ -15,7 +15,7 @@ use Rattle.ss_recover.proofs.RunOrder.{places-rise, Rises-parts, streams-rise}
 use Rattle.ss_recover.proofs.RunSound.{alone-drops, is_run-sound, MeetsRun, own-alone, run-meets, run-order}
 use Rattle.ss_recover.proofs.RunStanding.{AreFewer, AreFewer-more, AreFewer-nil, AreFewer-push, is_run-fewer, names-more, names_created, standing-more}
 use Rattle.ss_recover.proofs.RunStanding.{stands_in}
-use Rattle.ss_recover.proofs.ValidRecords.{all-window_of}
+use Rattle.ss_recover.proofs.WholeSlots.{all-window_of}
 use Rattle.ss_codec.specs.declared.record.Record.TheVariants as records
 use Rattle.ss_model.specs.State as Streams
 

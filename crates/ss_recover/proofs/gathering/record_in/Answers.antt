@@ -1,5 +1,5 @@
 use Rattle.ss_recover.proofs.Common.{◌≡◌, Free, inl, inr, sym}
-use Rattle.ss_recover.proofs.ValidRecords.{IsUsable-valid}
+use Rattle.ss_recover.proofs.WholeSlots.{IsUsable-valid}
 use Rattle.ss_recover.proofs.gathering.record_in.Goals as goal
 
 pub returns-in-Stream : goal.returns-in-Stream
