@@ -24,6 +24,7 @@ pub use Rattle.ss_landmarks.specs.Landmarks.{AreKnown}
 pub use Rattle.ss_landmarks.specs.Order.{AllEndBy, AreLandmarks, CanOpen, CanTake, EndsBy, FollowFrom, IsLandmark, RiseFrom}
 pub use Rattle.ss_landmarks.specs.declared.landmarks.TheConstants.{LATEST_TIME, MOST_LANDMARK_SLOTS}
 pub use Rattle.ss_line.specs.declared.entry.Entry.{Entry}
+pub use Rattle.ss_model.proofs.FoundLemmas.{AllByRecursion_push, each-behind, each-front}
 pub use Rattle.ss_model.proofs.MarkLemmas.{ends-latest, EndsBy-latest_in, none-latest}
 pub use Rattle.ss_model.proofs.NameLemmas.{same_name-swap}
 pub use Rattle.ss_model.specs.Decay.{IsInStep}

@@ -1,16 +1,17 @@
 -- Maps without a record of a dropped stream, and those of a stream that is dropped.
 use Rattle.ss_recover.proofs.Common.{[], ◌++◌, ◌+◌, ◌-◌, ◌<◌, ◌||◌, ◌∙◌, ◌∷◌, ◌≡◌, AllByRecursion, ap, ap₂, arith, Bool, carries, changed, cond, cond-false}
-use Rattle.ss_recover.proofs.Common.{cond-true, Created, decoded-spelling, decoded-Spells, false, filter_map, filter_map-append, HasWholeSlots, is_none}
-use Rattle.ss_recover.proofs.Common.{is_valid-free, IsPermutation, IsRecord, IsTrue, judged, length, length-append, List, list_any, list_any-append}
-use Rattle.ss_recover.proofs.Common.{list_any-IsPermutation, lowest_bad_slot, lowest_bad_stream, map, map-append, may_go, nat_eq, nat_lt, nat_tests, None, not}
-use Rattle.ss_recover.proofs.Common.{occupied, Option, position_or_len, Put, range_with_len, Record, records_beside, records_in, refl, SlotMap, Some}
-use Rattle.ss_recover.proofs.Common.{spelling-free, Stream, stream_number, streams_carried, subst, sym, true, with_put, without_numbered, zeros, ℕ}
+use Rattle.ss_recover.proofs.Common.{cond-true, Created, decoded-spelling, decoded-Spells, each-behind, each-front, false, filter_map, filter_map-append}
+use Rattle.ss_recover.proofs.Common.{HasWholeSlots, is_none, is_valid-free, IsPermutation, IsRecord, IsTrue, judged, length, length-append, List, list_any}
+use Rattle.ss_recover.proofs.Common.{list_any-append, list_any-IsPermutation, lowest_bad_slot, lowest_bad_stream, map, map-append, may_go, nat_eq, nat_lt}
+use Rattle.ss_recover.proofs.Common.{nat_tests, None, not, occupied, Option, position_or_len, Put, range_with_len, Record, records_beside, records_in, refl}
+use Rattle.ss_recover.proofs.Common.{SlotMap, Some, spelling-free, Stream, stream_number, streams_carried, subst, sym, true, with_put, without_numbered, zeros}
+use Rattle.ss_recover.proofs.Common.{ℕ}
 use Rattle.ss_codec.specs.Decoded.{decoded}
 use Rattle.ss_recover.specs.Carried.{spelled}
 use Rattle.ss_recover.specs.Parts.{carried}
 use Rattle.ss_recover.proofs.DroppedRecords.{CarryThem, may-goes, may_go-same, is-dropped}
 use Rattle.ss_recover.proofs.WholeSlots.{any-filled, zeros_are_free, ZerosAreFree, spells-same}
-use Rattle.ss_recover.proofs.Lists.{all_behind, all_front, all_weaker, range-above, range-below}
+use Rattle.ss_recover.proofs.Lists.{all_weaker, range-above, range-below}
 use Rattle.ss_recover.proofs.PutLemmas.{back, filled, front, IsAmong, IsAmong-filled, range-at, extent-stays}
 use Rattle.ss_recover.proofs.Permutations.{IsPermutation-filter_map}
 use Rattle.ss_recover.proofs.SoundNumbers.{AreSound, AreSound-none_bad, carries-judged}
@@ -101,12 +102,12 @@ module _ (found : SlotMap) (p : ℕ) (r : Record) (others : List (ℕ × Option 
       let first = filled found.bytes (front p) in
       let second = filled found.bytes (back p found.extent) in
       let free_all = subst (AllByRecursion (ZerosAreFree found.bytes)) (range-at p found.extent among.below) (zeros_are_free found whole) in
-      let free_back = all_behind (ZerosAreFree found.bytes) (front p) (p ∷ back p found.extent) free_all in
+      let free_back = each-behind (ZerosAreFree found.bytes) (front p) (p ∷ back p found.extent) free_all in
       list_any-IsPermutation test (records_beside others) (records_beside (first ++ second))
       (IsPermutation-filter_map (λ (e : ℕ × Option Record). e.1) others (first ++ second) among.others)
       ∙ ap (list_any test) (filter_map-append (λ (e : ℕ × Option Record). e.1) first second)
       ∙ list_any-append test (records_beside first) (records_beside second) ∙ ap₂ (λ (a b : Bool). a || b)
-      (any-filled test free found.bytes (front p) (all_front _ (front p) (p ∷ back p found.extent) free_all))
+      (any-filled test free found.bytes (front p) (each-front _ (front p) (p ∷ back p found.extent) free_all))
       (any-filled test free found.bytes (back p found.extent) free_back.1) ∙ sym (list_any-append test below_it above_it)
 
 decoded-cleared : (put : Put) → put.bytes ≡ zeros → decoded put.bytes ≡ Some records.Free

@@ -1,15 +1,15 @@
 -- Records without one of a dropped stream.
 use Rattle.ss_recover.proofs.Common.{[], ◌&&◌, ◌++◌, ◌+◌, ◌==◌, ◌||◌, ◌∙◌, ◌∷◌, ◌≡◌, ◌⊎◌, AllByRecursion, and_cases, and_from, and_left, and_parts, and_right}
-use Rattle.ss_recover.proofs.Common.{ap, ap₂, arith, Bool, cases_Bool, cond-false, cons_option, count_by, Created, created_by, eq-eqb, eqb-true, false, filter}
-use Rattle.ss_recover.proofs.Common.{filter-append, filter_map, filter_map-append, has_new_name, has_one_record, has_place, in_order, inl, inr, is_drop_of}
-use Rattle.ss_recover.proofs.Common.{is_dropped, is_mark_of, is_named_before, is_of, keep_own_step, leb, List, list_any, list_any-append, lowest_bad_stream}
-use Rattle.ss_recover.proofs.Common.{lt-ltb, ltb-true, map, may_go, MOST_STREAMS, nat_lt, None, not, not-true, Option, option_map_or, or_cases, or_from}
-use Rattle.ss_recover.proofs.Common.{or_left, or_parts, or_right, Params, Record, refl, Some, stands_by, Stream, stream_carried, stream_number, stream_of}
-use Rattle.ss_recover.proofs.Common.{streams_carried, streams_created, streams_standing, subst, sum_by-append, sum_by-cons, sym, true, true≢false, window_of}
-use Rattle.ss_recover.proofs.Common.{without_numbered, ℕ}
+use Rattle.ss_recover.proofs.Common.{ap, ap₂, arith, Bool, cases_Bool, cond-false, cons_option, count_by, Created, created_by, each-behind, each-front, eq-eqb}
+use Rattle.ss_recover.proofs.Common.{eqb-true, false, filter, filter-append, filter_map, filter_map-append, has_new_name, has_one_record, has_place, in_order}
+use Rattle.ss_recover.proofs.Common.{inl, inr, is_drop_of, is_dropped, is_mark_of, is_named_before, is_of, keep_own_step, leb, List, list_any, list_any-append}
+use Rattle.ss_recover.proofs.Common.{lowest_bad_stream, lt-ltb, ltb-true, map, may_go, MOST_STREAMS, nat_lt, None, not, not-true, Option, option_map_or}
+use Rattle.ss_recover.proofs.Common.{or_cases, or_from, or_left, or_parts, or_right, Params, Record, refl, Some, stands_by, Stream, stream_carried}
+use Rattle.ss_recover.proofs.Common.{stream_number, stream_of, streams_carried, streams_created, streams_standing, subst, sum_by-append, sum_by-cons, sym, true}
+use Rattle.ss_recover.proofs.Common.{true≢false, window_of, without_numbered, ℕ}
 use Rattle.ss_recover.specs.Conditions.{is_sound}
 use Rattle.ss_recover.proofs.InOrder.{all-in_order}
-use Rattle.ss_recover.proofs.Lists.{all-each, all_append, all_behind, all_both, all_front, all_weaker, filter-all, filter_map-kept, kept}
+use Rattle.ss_recover.proofs.Lists.{all-each, all_append, all_both, all_weaker, filter-all, filter_map-kept, kept}
 use Rattle.ss_recover.proofs.SoundStreams.{digit, none-passes, own_step-fewer, stands_alone}
 use Rattle.ss_recover.proofs.SoundNumbers.{all-false, AreSound, HaveSameValues, is_numbered, is_sound-kept, none-stands, none_bad-AreSound, one-dropped}
 use Rattle.ss_recover.proofs.SoundNumbers.{one-sound, standing-any, stream_carried-same}
@@ -72,11 +72,11 @@ pub numbers-without : (P : ℕ → Type 0) (xs ys : List Record) (r : Record) (i
 numbers-without P xs ys r id is all =
     let parts = subst (AllByRecursion P) (filter_map-append stream_number xs (r ∷ ys) ∙ ap (λ o. filter_map stream_number xs
     ++ cons_option o (filter_map stream_number ys)) is) all in
-    let back = all_behind P (filter_map stream_number xs) (id ∷ filter_map stream_number ys) parts in (
+    let back = each-behind P (filter_map stream_number xs) (id ∷ filter_map stream_number ys) parts in (
       back.0,
       subst (AllByRecursion P) (sym (filter_map-append stream_number xs (records.Free ∷ ys)))
           (all_append P (filter_map stream_number xs) (filter_map stream_number ys)
-          (all_front P (filter_map stream_number xs) (id ∷ filter_map stream_number ys) parts) back.1),
+          (each-front P (filter_map stream_number xs) (id ∷ filter_map stream_number ys) parts) back.1),
     )
 
 -- Records carry the streams that others do, and no number of theirs is unsound.

@@ -1,12 +1,12 @@
 -- A list in the order of its keys: where its elements are those of a list whose keys rise, it is that list.
 use Rattle.ss_recover.proofs.Common.{[], ◌&&◌, ◌++◌, ◌+◌, ◌<◌, ◌∙◌, ◌∷◌, ◌≡◌, ◌≤◌, All-from_recursion, All-permutation, AllByRecursion, AllPairs, ap, arith}
-use Rattle.ss_recover.proofs.Common.{Bool, cases_Bool, cases_eq, cases_order, cond, cond-false, cond-true, cond_both, eq-eqb, eqb, false, filter, in_order, inl}
-use Rattle.ss_recover.proofs.Common.{inr, IsNonDecreasingBy, IsNonDecreasingBy-from_sort, IsPermutation, IsPermutation-cons, IsPermutation-refl}
+use Rattle.ss_recover.proofs.Common.{Bool, cases_Bool, cases_eq, cases_order, cond, cond-false, cond-true, cond_both, each-behind, eq-eqb, eqb, false, filter}
+use Rattle.ss_recover.proofs.Common.{in_order, inl, inr, IsNonDecreasingBy, IsNonDecreasingBy-from_sort, IsPermutation, IsPermutation-cons, IsPermutation-refl}
 use Rattle.ss_recover.proofs.Common.{IsPermutation-trans, IsSortedByKey, IsStableByKey, IsStrictlyIncreasing, le-ltb, leb, leb-false, List, lt-ltb, ltb, map}
 use Rattle.ss_recover.proofs.Common.{nat_le, nat_lt, nat_tests, ne_eqb, not, put_in_order, recursion_from_All, refl, Rises, subst, suc, sum_by, sum_by-cons}
 use Rattle.ss_recover.proofs.Common.{sum_by-IsPermutation, sym, ties, true, zero, ℕ}
 use Rattle.std.proofs.lemmas.List.Kept.{AllPairs-from_increasing}
-use Rattle.ss_recover.proofs.Lists.{all-kept, all_behind}
+use Rattle.ss_recover.proofs.Lists.{all-kept}
 use Rattle.ss_recover.proofs.Permutations.{IsPermutation-turn}
 use Rattle.std.specs.Ordering.{is_lt, nat_cmp}
 pub use Rattle.ss_recover.proofs.Lists.{all_weaker}
@@ -130,7 +130,7 @@ module _ {X : Type 0} (key : X → ℕ) where
   Rise-split [] y ys rise = (tt, rise.0)
   Rise-split (x ∷ xs) y ys rise =
       let rest = Rise-split xs y ys rise.1 in
-      (((all_behind _ xs (y ∷ ys) rise.0).0, rest.0), rest.1)
+      (((each-behind _ xs (y ∷ ys) rise.0).0, rest.0), rest.1)
 
   -- keys that rise from each to the next
   Rise-pairs : (xs : List X) → AllPairs (λ m n. m < n) (map key xs) → Rise xs

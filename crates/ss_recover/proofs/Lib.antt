@@ -21,7 +21,6 @@ pub mod RunSound
 pub mod RunStanding
 pub mod WindowLaws
 pub mod MarkLaws
-pub mod RunOrder
 pub mod RunStream
 pub mod RunHeld
 pub mod RunsDone

@@ -1,15 +1,15 @@
 -- The records of landmarks in order, each landmark's before those of its values: the landmarks that they make, and the order of places.
 use Rattle.ss_recover.proofs.Common.{[], ◌&&◌, ◌*◌, ◌++◌, ◌+◌, ◌<◌, ◌==◌, ◌^◌, ◌||◌, ◌∙◌, ◌∷◌, ◌≡◌, ◌≤◌, All, all_value_records, all_values, AllByRecursion}
-use Rattle.ss_recover.proofs.Common.{and_from, ap, append-nil, append_assoc, are_marks, AreLandmarks, arith, cases-finish, cond-true, eq-eqb, false, filter}
-use Rattle.ss_recover.proofs.Common.{fold, fold-append, FollowFrom, has_all_values, has_said, IfSome, in_order, inl, inr, is_closed_before, is_mark_of}
-use Rattle.ss_recover.proofs.Common.{is_next_landmark, is_next_value, is_none, is_up_to, IsLandmark, IsPermutation, IsPermutation-append_comm}
-use Rattle.ss_recover.proofs.Common.{IsPermutation-append_left, IsPermutation-append_right, IsPermutation-cons, IsPermutation-refl, IsPermutation-trans}
-use Rattle.ss_recover.proofs.Common.{Landmark, landmark_record, landmark_records, landmarks_in, landmarks_made, LandmarkValue, later, LATEST_TIME, le-leb}
-use Rattle.ss_recover.proofs.Common.{length, length-append, List, lt-ltb, map, Marked, marked_on, MatchOption, nat_lt, None, nothing_marked, Option}
-use Rattle.ss_recover.proofs.Common.{option_map_or, place_of, Record, recursion_from_All, refl, RiseFrom, Some, Stream, stream_record, subst, sym, true}
-use Rattle.ss_recover.proofs.Common.{value_records, values_said, window_record, with_value, ℕ, ℤ}
+use Rattle.ss_recover.proofs.Common.{AllByRecursion_push, and_from, ap, append-nil, append_assoc, are_marks, AreLandmarks, arith, cases-finish, cond-true}
+use Rattle.ss_recover.proofs.Common.{eq-eqb, false, filter, fold, fold-append, FollowFrom, has_all_values, has_said, IfSome, in_order, inl, inr}
+use Rattle.ss_recover.proofs.Common.{is_closed_before, is_mark_of, is_next_landmark, is_next_value, is_none, is_up_to, IsLandmark, IsPermutation}
+use Rattle.ss_recover.proofs.Common.{IsPermutation-append_comm, IsPermutation-append_left, IsPermutation-append_right, IsPermutation-cons, IsPermutation-refl}
+use Rattle.ss_recover.proofs.Common.{IsPermutation-trans, Landmark, landmark_record, landmark_records, landmarks_in, landmarks_made, LandmarkValue, later}
+use Rattle.ss_recover.proofs.Common.{LATEST_TIME, le-leb, length, length-append, List, lt-ltb, map, Marked, marked_on, MatchOption, nat_lt, None}
+use Rattle.ss_recover.proofs.Common.{nothing_marked, Option, option_map_or, place_of, Record, recursion_from_All, refl, RiseFrom, Some, Stream, stream_record}
+use Rattle.ss_recover.proofs.Common.{subst, sym, true, value_records, values_said, window_record, with_value, ℕ, ℤ}
 use Rattle.ss_recover.proofs.InOrder.{in_order-IsPermutation, Rise}
-use Rattle.ss_recover.proofs.Lists.{all-each, all_append, all_push, all_weaker, filter-all, list_all-each}
+use Rattle.ss_recover.proofs.Lists.{all-each, all_append, all_weaker, filter-all, list_all-each}
 use Rattle.ss_codec.specs.declared.record.Record.TheVariants as records
 
 -- the records of landmarks numbered from here on, each followed by those of its values
@@ -144,7 +144,7 @@ module _ (number said n : ℕ) (before : List Landmark) (here : n ≡ length bef
 
   below_next : (value : LandmarkValue) (from : ℕ) (vs : List LandmarkValue) → from ≤ value.t → AllByRecursion (λ v. v.t < from) vs →
       AllByRecursion (λ v. v.t < value.t + 1) (vs ++ value ∷ [])
-  below_next value from vs low below = all_push _ vs value (all_weaker _ _ (λ v lt. omega (arith, lt, low)) vs below) (omega arith)
+  below_next value from vs low below = AllByRecursion_push _ vs value (all_weaker _ _ (λ v lt. omega (arith, lt, low)) vs below) (omega arith)
 
   take_values : (values : List LandmarkValue) (l : Landmark) (from index : ℕ) → index ≡ length l.values + 1 → l.start ≤ from →
       AllByRecursion (λ v. v.t < from) l.values → RiseFrom from values → AllByRecursion (λ v. is_up_to v.t l.finish ≡ true) values →

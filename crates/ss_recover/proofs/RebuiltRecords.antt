@@ -1,20 +1,20 @@
 -- The records that were found, as a walk answers them: those of dropped streams, and those of the streams that are held. What a
 -- map carries is a state.
 use Rattle.ss_recover.proofs.Common.{[], ◌++◌, ◌==◌, ◌∙◌, ◌∷◌, ◌≡◌, ◌≤◌, All-from_recursion, All-permutation, AllByRecursion, ap, ap₂, AreBuilt, arith, Bool}
-use Rattle.ss_recover.proofs.Common.{carries, cons_option, count_by-le-length, doomed_found, false, filter, filter_map, filter_map-append, flat_map, Found}
-use Rattle.ss_recover.proofs.Common.{found_key, Free, GoInTurn, in_order, in_slot, is_doomed, is_drop_of, is_dropped, is_of, is_sound_in_order, IsPermutation}
-use Rattle.ss_recover.proofs.Common.{IsPermutation-append_left, IsPermutation-append_right, IsPermutation-map, IsPermutation-sym, IsPermutation-trans, IsState}
-use Rattle.ss_recover.proofs.Common.{IsUsable, key_of, length, length-filter, length_permutation, List, list_any, list_any-IsPermutation, lowest_bad_slot}
-use Rattle.ss_recover.proofs.Common.{lowest_bad_stream, map, MOST_RECORDS, MOST_SLOTS, ne_eqb, None, Option, Parts, Record, records_beside, records_held}
-use Rattle.ss_recover.proofs.Common.{records_in, recursion_from_All, refl, SlotMap, Stream, stream_number, stream_of, streams_carried, subst, sym, true}
-use Rattle.ss_recover.proofs.Common.{true≢false, without_slots, zip, ℕ}
+use Rattle.ss_recover.proofs.Common.{carries, cons_option, count_by-le-length, doomed_found, each-behind, each-front, false, filter, filter_map}
+use Rattle.ss_recover.proofs.Common.{filter_map-append, flat_map, Found, found_key, Free, GoInTurn, in_order, in_slot, is_doomed, is_drop_of, is_dropped, is_of}
+use Rattle.ss_recover.proofs.Common.{is_sound_in_order, IsPermutation, IsPermutation-append_left, IsPermutation-append_right, IsPermutation-map}
+use Rattle.ss_recover.proofs.Common.{IsPermutation-sym, IsPermutation-trans, IsState, IsUsable, key_of, length, length-filter, length_permutation, List}
+use Rattle.ss_recover.proofs.Common.{list_any, list_any-IsPermutation, lowest_bad_slot, lowest_bad_stream, map, MOST_RECORDS, MOST_SLOTS, ne_eqb, None, Option}
+use Rattle.ss_recover.proofs.Common.{Parts, Record, records_beside, records_held, records_in, recursion_from_All, refl, SlotMap, Stream, stream_number}
+use Rattle.ss_recover.proofs.Common.{stream_of, streams_carried, subst, sym, true, true≢false, without_slots, zip, ℕ}
 use Rattle.ss_recover.specs.Conditions.{is_sound}
 use Rattle.ss_recover.proofs.DoomedLemmas.{apart-dropped, beside-found, doomed_found-moved, dropped-doomed, each-IsGone, IsGone, IsSoundOf, standing-kept}
 use Rattle.ss_recover.proofs.DoomedLemmas.{doomed-go}
 use Rattle.ss_recover.proofs.HeldLemmas.{HaveThose, HaveThose-made, streams_are}
 use Rattle.ss_recover.proofs.HeldRecords.{all-all_walked, all_walked, each-number, IsPermutation-all_walked, records_in-Some, records_of_streams, second-held}
 use Rattle.ss_recover.proofs.InOrder.{all-in_order, IsPermutation-in_order, map-in_order, Rises-in_order}
-use Rattle.ss_recover.proofs.Lists.{all-passing, all_append, all_behind, all_both, all_front, all_weaker, map-all}
+use Rattle.ss_recover.proofs.Lists.{all-passing, all_append, all_both, all_weaker, map-all}
 use Rattle.ss_recover.proofs.Permutations.{IsPermutation-filter_map}
 use Rattle.ss_recover.proofs.SoundNumbers.{AreSound, AreSound-none_bad, carries-judged, is_sound-made}
 use Rattle.ss_recover.proofs.SoundStreams.{none-passes}
@@ -42,13 +42,13 @@ module _ (us ds : List Record) (ss : List Stream) (sound : AllByRecursion (IsSou
 
   -- these streams weren't dropped
   kept_each : AllByRecursion (λ s. is_dropped s.number us ≡ false) ss
-  kept_each = standing-kept us ss (all_behind _ ds (all_walked ss) gone)
+  kept_each = standing-kept us ss (each-behind _ ds (all_walked ss) gone)
 
   -- records of which is made what is made of those have those of the streams
   pub have_sound : (rs : List Record) → IsState ss → ((Y : Type 0) (f : Record → Option Y) → f Free ≡ None → filter_map f rs ≡ filter_map f us) →
       HaveThose ss rs
   have_sound rs state same =
-      HaveThose-made ds ss rs state made (all_both _ _ _ (λ r silent is. silent is) ds (all_front _ ds (all_walked ss) gone) dropped)
+      HaveThose-made ds ss rs state made (all_both _ _ _ (λ r silent is. silent is) ds (each-front _ ds (all_walked ss) gone) dropped)
       (apart-dropped us ds ss dropped kept_each)
     where
       made : (Y : Type 0) (f : Record → Option Y) → f Free ≡ None → filter_map f ds ≡ [] →

@@ -1,18 +1,18 @@
 -- Streams that records in order are of, one run after another.
-use Rattle.ss_recover.proofs.Common.{[], ◌++◌, ◌<◌, ◌∙◌, ◌∷◌, ◌≡◌, ◌≤◌, All-from_recursion, AllByRecursion, and_parts, ap, append-nil, append_assoc, arith}
-use Rattle.ss_recover.proofs.Common.{cases_eq, Created, eq-eqb, false, filter, filter_map, flat_map-append, inl, inr, is_mark_of, is_own, is_run}
-use Rattle.ss_recover.proofs.Common.{is_sound_in_order, IsDistinct, IsDistinct-cons, IsDistinct-from_apart, IsDistinct-head, IsDistinct-tail, IsState, IsStream}
-use Rattle.ss_recover.proofs.Common.{IsUsable, key_of, landmarks_made, length, length-append, length-map, List, list_any, live, ltb-true, map, map-append}
-use Rattle.ss_recover.proofs.Common.{map-id, MOST_RECORDS, MOST_STREAMS, names_of, not-true, or_left, or_parts, place_of, Record, refl, Rises, same_name}
-use Rattle.ss_recover.proofs.Common.{same_name-swap, Stream, stream_of, subst, suc, sum_by-cons, sym, true, Window, window_of, window_record, zero, ℕ}
+use Rattle.ss_recover.proofs.Common.{[], ◌++◌, ◌<◌, ◌∙◌, ◌∷◌, ◌≡◌, ◌≤◌, All-from_recursion, AllByRecursion, AllByRecursion_push, and_parts, ap, append-nil}
+use Rattle.ss_recover.proofs.Common.{append_assoc, arith, cases_eq, Created, each-behind, each-front, eq-eqb, false, filter, filter_map, flat_map-append, inl}
+use Rattle.ss_recover.proofs.Common.{inr, is_mark_of, is_own, is_run, is_sound_in_order, IsDistinct, IsDistinct-cons, IsDistinct-from_apart, IsDistinct-head}
+use Rattle.ss_recover.proofs.Common.{IsDistinct-tail, IsState, IsStream, IsUsable, key_of, landmarks_made, length, length-append, length-map, List, list_any}
+use Rattle.ss_recover.proofs.Common.{live, ltb-true, map, map-append, map-id, MOST_RECORDS, MOST_STREAMS, names_of, not-true, or_left, or_parts, place_of}
+use Rattle.ss_recover.proofs.Common.{Record, refl, Rises, same_name, same_name-swap, Stream, stream_of, subst, suc, sum_by-cons, sym, true, Window, window_of}
+use Rattle.ss_recover.proofs.Common.{window_record, zero, ℕ}
 use Rattle.ss_recover.proofs.HeldRecords.{all_walked, each-all_walked, walked}
 use Rattle.ss_recover.proofs.InOrder.{increasing-Rise, Rise}
-use Rattle.ss_recover.proofs.Lists.{all-kept, all-passing, all_append, all_behind, all_front, all_push, all_weaker}
+use Rattle.ss_recover.proofs.Lists.{all-kept, all-passing, all_append, all_weaker}
 use Rattle.ss_recover.proofs.Marks.{length-marks_of, marks_of}
 use Rattle.ss_recover.proofs.MarksSoFar.{AreOf, AreOf-are_marks}
 use Rattle.ss_recover.proofs.SoundStreams.{IsInStep-keep_step, AreWindows-tile}
-use Rattle.ss_recover.proofs.RunOrder.{places-rise, Rises-parts, streams-rise}
-use Rattle.ss_recover.proofs.RunSound.{alone-drops, is_run-sound, MeetsRun, own-alone, run-meets, run-order}
+use Rattle.ss_recover.proofs.RunSound.{places-rise, Rises-parts, streams-rise, alone-drops, is_run-sound, MeetsRun, own-alone, run-meets, run-order}
 use Rattle.ss_recover.proofs.RunStanding.{AreFewer, AreFewer-more, AreFewer-nil, AreFewer-push, is_run-fewer, names-more, names_created, standing-more}
 use Rattle.ss_recover.proofs.RunStanding.{stands_in}
 use Rattle.ss_recover.proofs.WholeSlots.{all-window_of}
@@ -38,7 +38,7 @@ AreWalked-none = record {
 
 pub Rise-push : {X : Type 0} (key : X → ℕ) (xs : List X) (x : X) → Rise key xs → AllByRecursion (λ y. key y < key x) xs → Rise key (xs ++ x ∷ [])
 Rise-push key [] x rise below = (tt, tt)
-Rise-push key (y ∷ ys) x rise below = (all_push _ ys x rise.0 below.0, Rise-push key ys x rise.1 below.1)
+Rise-push key (y ∷ ys) x rise below = (AllByRecursion_push _ ys x rise.0 below.0, Rise-push key ys x rise.1 below.1)
 
 -- how many records streams have
 length-records : (ss : List Stream) → length (all_walked ss) ≡ live ss
@@ -67,7 +67,7 @@ distinct-push : (xs : List (List ℕ)) (y : List ℕ) → IsDistinct same_name x
 distinct-push [] y distinct new = IsDistinct-cons same_name y [] tt distinct
 distinct-push (x ∷ xs) y distinct new =
     let parts = or_parts _ _ new in
-    IsDistinct-cons same_name x (xs ++ y ∷ []) (all_push _ xs y (IsDistinct-head same_name x xs distinct) (same_name-swap x y ∙ parts.0))
+    IsDistinct-cons same_name x (xs ++ y ∷ []) (AllByRecursion_push _ xs y (IsDistinct-head same_name x xs distinct) (same_name-swap x y ∙ parts.0))
     (distinct-push xs y (IsDistinct-tail same_name x xs distinct) parts.1)
 
 -- each record of a list is of a lower number than each of another one
@@ -159,7 +159,7 @@ module _ (front : List Record) (streams : List Stream) (done : AreStanding front
               (alone-drops head.number rest alone)
               ∙ (λ i. was.order i ++ first ∷ rest-order (names_created front) head rest own usable rises run i)
               ∙ sym (flat_map-append walked streams (s ∷ []) ∙ ap (λ l. all_walked streams ++ l) (append-nil (walked s)));
-          sound = all_push IsStream streams s was.sound (is-stream (names_created front) head rest own usable rises run);
+          sound = AllByRecursion_push IsStream streams s was.sound (is-stream (names_created front) head rest own usable rises run);
           rise = Rise-push (λ u. u.number) streams s was.rise below;
           distinct = subst (IsDistinct same_name) names
               (distinct-push (names_of streams) head.name was.distinct (not-true (list_any (same_name head.name) (names_of streams)) may.1));
@@ -235,7 +235,7 @@ walk (suc most) front (r ∷ more) streams few done before usable order sound =
     let run = r ∷ c.own in
     let whole : r ∷ more ≡ run ++ c.back = ap (λ l. r ∷ l) c.split in
     let same : front ++ r ∷ more ≡ (front ++ run) ++ c.back = ap (λ l. front ++ l) whole ∙ sym (append_assoc front run c.back) in
-    let usable_run = all_front IsUsable run c.back (subst (AllByRecursion IsUsable) whole usable) in
+    let usable_run = each-front IsUsable run c.back (subst (AllByRecursion IsUsable) whole usable) in
     let orders = Rises-parts key_of run c.back (subst (Rises key_of) whole order) in
     let own : AllByRecursion (λ q. stream_of q ≡ n) run = (refl, c.same) in
     let rises : Rises place_of run = subst (Rises place_of) (map-id run) (places-rise (λ (q : Record). q) n run orders.0 own) in
@@ -243,9 +243,9 @@ walk (suc most) front (r ∷ more) streams few done before usable order sound =
     ∙ ap (λ l. is_sound_in_order (front ++ l) n) (sym whole) ∙ sound.0 in
     let next = step front streams done r c.own before.0 c.same usable_run rises is in
     let long = ap (λ (l : List Record). length l) c.split in
-    let sounds = all_behind (λ q. is_sound_in_order (front ++ r ∷ more) (stream_of q) ≡ true) run c.back
+    let sounds = each-behind (λ q. is_sound_in_order (front ++ r ∷ more) (stream_of q) ≡ true) run c.back
     (subst (AllByRecursion (λ q. is_sound_in_order (front ++ r ∷ more) (stream_of q) ≡ true)) whole sound) in
     let rest = walk most (front ++ run) c.back next.0 (omega (arith, few, long, length-append c.own c.back)) next.1
-    (AreBefore-run front run c.back n before.0 own c.above) (all_behind IsUsable run c.back (subst (AllByRecursion IsUsable) whole usable)) orders.1
+    (AreBefore-run front run c.back n before.0 own c.above) (each-behind IsUsable run c.back (subst (AllByRecursion IsUsable) whole usable)) orders.1
     (subst (λ l. AllByRecursion (λ q. is_sound_in_order l (stream_of q) ≡ true) c.back) same sounds) in
     (rest.0, subst (λ l. AreStanding l rest.0) (sym same) rest.1)

@@ -1,17 +1,16 @@
 -- Runs that are done, one after another, and what the next one makes of them.
 use Rattle.ss_recover.proofs.Common.{[], ◌&&◌, ◌++◌, ◌+◌, ◌<◌, ◌==◌, ◌∙◌, ◌∷◌, ◌≡◌, ◌≤◌, ◌⊎◌, All, AllAgree, AllByRecursion, and_parts, ap, append-nil}
 use Rattle.ss_recover.proofs.Common.{append_assoc, ap₂, AreBuilt, arith, BadSlot, BadStream, Bool, cond, count_by-le-length, Disk, doomed_found, drop}
-use Rattle.ss_recover.proofs.Common.{drop-append_seam, drop-drop, EndsWalk, eq-eqb, Err, false, filter, flat_map, Found, found_key, HasNothing, HasTakenDropped}
-use Rattle.ss_recover.proofs.Common.{HasTakenStanding, IfErr, IfOk, if◌then◌else◌, in_slot, inl, inr, is_doomed, is_dropped, is_own, is_run, is_sound_in_order}
-use Rattle.ss_recover.proofs.Common.{IsLowestUnsound, IsNextRun, IsPermutation, IsPermutation-append_right, IsPermutation-map, IsPermutation-trans, IsUsable}
-use Rattle.ss_recover.proofs.Common.{length, length-filter, length-map, List, list_any, list_any-append, map, map-append, MOST_RECORDS, names_in, not, not-true}
-use Rattle.ss_recover.proofs.Common.{Ok, or_left, or_right, OutOfMemory, Parts, place_of, Record, records_held, RecoverError, recursion_from_All, refl, Result}
-use Rattle.ss_recover.proofs.Common.{Rises, slots_found, Stream, stream_of, StreamParts, subst, sym, take, take-add, take-append-drop, take-append_seam}
-use Rattle.ss_recover.proofs.Common.{TakesAs, true, Walk, WalksAs, without_slots, zip, ℕ}
-use Rattle.ss_recover.proofs.Lists.{all-from_map, all_append, all_behind, all_weaker, map-all}
+use Rattle.ss_recover.proofs.Common.{drop-append_seam, drop-drop, each-behind, EndsWalk, eq-eqb, Err, false, filter, flat_map, Found, found_key, HasNothing}
+use Rattle.ss_recover.proofs.Common.{HasTakenDropped, HasTakenStanding, IfErr, IfOk, if◌then◌else◌, in_slot, inl, inr, is_doomed, is_dropped, is_own, is_run}
+use Rattle.ss_recover.proofs.Common.{is_sound_in_order, IsLowestUnsound, IsNextRun, IsPermutation, IsPermutation-append_right, IsPermutation-map}
+use Rattle.ss_recover.proofs.Common.{IsPermutation-trans, IsUsable, length, length-filter, length-map, List, list_any, list_any-append, map, map-append}
+use Rattle.ss_recover.proofs.Common.{MOST_RECORDS, names_in, not, not-true, Ok, or_left, or_right, OutOfMemory, Parts, place_of, Record, records_held}
+use Rattle.ss_recover.proofs.Common.{RecoverError, recursion_from_All, refl, Result, Rises, slots_found, Stream, stream_of, StreamParts, subst, sym, take}
+use Rattle.ss_recover.proofs.Common.{take-add, take-append-drop, take-append_seam, TakesAs, true, Walk, WalksAs, without_slots, zip, ℕ}
+use Rattle.ss_recover.proofs.Lists.{all-from_map, all_append, all_weaker, map-all}
 use Rattle.ss_recover.proofs.RunHeld.{AreHeldSoFar, AreHeldSoFar-none, done-push, done-standing, done_stream, names-all, stays}
-use Rattle.ss_recover.proofs.RunOrder.{places-rise, Rises-parts}
-use Rattle.ss_recover.proofs.RunSound.{is_run-sound, own-alone}
+use Rattle.ss_recover.proofs.RunSound.{places-rise, Rises-parts, is_run-sound, own-alone}
 use Rattle.ss_recover.proofs.RunStanding.{doomed-is, doomed-more, doomed-stay, in-three, names-more, names_created, none-own, standing-more, stands_in}
 use Rattle.ss_recover.proofs.RunStream.{AreBefore, AreBefore-run, AreStanding, AreStanding-dropped, AreStanding-none, IsState-walked}
 use Rattle.ss_codec.specs.declared.record.Record.TheVariants as records
@@ -71,7 +70,7 @@ module _ (old : Walk) (front : List Found) (done : AreDone old front) (n : ℕ) 
       let whole : without_slots (front ++ here) ≡ fs ++ rs = map-append (λ (f : Found). f.holds) front here in
       let both : AreBefore (fs ++ rs) rest = subst (λ us. AreBefore us rest) whole before in
       let above = all_weaker (λ q. AllByRecursion (λ r. stream_of r < stream_of q) (fs ++ rs)) (λ q. n < stream_of q)
-      (λ q all. below-first rs own (omega (arith, some, length-map here (λ (f : Found). f.holds))) q (all_behind _ fs rs all)) rest both in
+      (λ q all. below-first rs own (omega (arith, some, length-map here (λ (f : Found). f.holds))) q (each-behind _ fs rs all)) rest both in
       let same : (fs ++ rs) ++ rest ≡ fs ++ (rs ++ rest) = append_assoc fs rs rest in
       subst (λ us. AllByRecursion (λ r. is_sound_in_order (us ++ rest) (stream_of r) ≡ true) us) (sym whole)
       (subst (λ us. AllByRecursion (λ r. is_sound_in_order us (stream_of r) ≡ true) (fs ++ rs)) (sym same)

@@ -1,14 +1,14 @@
 -- The streams of a state meet the conditions that records have to meet.
 use Rattle.ss_recover.proofs.Common.{[], ◌&&◌, ◌++◌, ◌+◌, ◌<◌, ◌==◌, ◌||◌, ◌∙◌, ◌∷◌, ◌≡◌, ◌≤◌, All, All-from_recursion, AllByRecursion, and-true, and_from}
-use Rattle.ss_recover.proofs.Common.{and_left, and_parts, ap, append_assoc, ap₂, AreWindows, arith, Bool, cond, count_by, Created, eq-eqb, eqb-true, false}
-use Rattle.ss_recover.proofs.Common.{has_new_name, has_one_record, has_place, in_step, is_named_before, IsDistinct, IsDistinct-head, IsDistinct-tail, IsInStep}
-use Rattle.ss_recover.proofs.Common.{IsPermutation, IsPossible, keep_own_step, keep_step, le-ltb, leb-true, length, length-append, List, list_all}
-use Rattle.ss_recover.proofs.Common.{list_all-append, list_any, list_any-append, list_any-IsPermutation, lt-ltb, ltb-true, map, MOST_STREAMS, MOST_VALUES}
-use Rattle.ss_recover.proofs.Common.{nat_le, nat_lt, nat_tests, ne_eqb, not, or-false, or_from, or_left, Params, recursion_from_All, refl, rule_of, same_name}
-use Rattle.ss_recover.proofs.Common.{same_name-swap, StandFrom, step_number, subst, sum_by-append, sum_by-cons, sum_by-IsPermutation, sym, taken, tile}
-use Rattle.ss_recover.proofs.Common.{tile_from, times_rise, true, Window, ℕ}
+use Rattle.ss_recover.proofs.Common.{and_left, and_parts, ap, append_assoc, ap₂, AreWindows, arith, Bool, cond, count_by, Created, each-behind, eq-eqb}
+use Rattle.ss_recover.proofs.Common.{eqb-true, false, has_new_name, has_one_record, has_place, in_step, is_named_before, IsDistinct, IsDistinct-head}
+use Rattle.ss_recover.proofs.Common.{IsDistinct-tail, IsInStep, IsPermutation, IsPossible, keep_own_step, keep_step, le-ltb, leb-true, length, length-append}
+use Rattle.ss_recover.proofs.Common.{List, list_all, list_all-append, list_any, list_any-append, list_any-IsPermutation, lt-ltb, ltb-true, map, MOST_STREAMS}
+use Rattle.ss_recover.proofs.Common.{MOST_VALUES, nat_le, nat_lt, nat_tests, ne_eqb, not, or-false, or_from, or_left, Params, recursion_from_All, refl, rule_of}
+use Rattle.ss_recover.proofs.Common.{same_name, same_name-swap, StandFrom, step_number, subst, sum_by-append, sum_by-cons, sum_by-IsPermutation, sym, taken}
+use Rattle.ss_recover.proofs.Common.{tile, tile_from, times_rise, true, Window, ℕ}
 use Rattle.ss_recover.proofs.InOrder.{Rise, Rise-split}
-use Rattle.ss_recover.proofs.Lists.{all-from_map, all_behind, all_weaker, each-list_all, list_all-each}
+use Rattle.ss_recover.proofs.Lists.{all-from_map, all_weaker, each-list_all, list_all-each}
 use Rattle.ss_recover.proofs.Permutations.{along_permutation}
 
 -- 1 where a test passes
@@ -111,7 +111,7 @@ new-split (x ∷ xs) y ys distinct =
     let names = map (λ (c : Created). c.name) (xs ++ y ∷ ys) in
     let others = all-from_map (λ name. same_name x.name name ≡ false) (λ (c : Created). c.name) (xs ++ y ∷ ys)
     (IsDistinct-head same_name x.name names distinct) in
-    or_from _ _ (same_name-swap y.name x.name ∙ (all_behind _ xs (y ∷ ys) others).0) (new-split xs y ys (IsDistinct-tail same_name x.name names distinct))
+    or_from _ _ (same_name-swap y.name x.name ∙ (each-behind _ xs (y ∷ ys) others).0) (new-split xs y ys (IsDistinct-tail same_name x.name names distinct))
 
 alone-each : (xs ys : List Created) → Rise (λ c. c.number) (xs ++ ys) → IsDistinct same_name (map (λ c. c.name) (xs ++ ys)) →
     length (xs ++ ys) ≤ MOST_STREAMS → AllByRecursion (λ c. stands_alone c.number (xs ++ ys) ≡ true) ys

@@ -1,6 +1,6 @@
 use Rattle.ss_recover.proofs.Common.{◌-◌, ◌<◌, ◌∙◌, ◌≤◌, ap, drop, Found, IsPartitionedBy-leb, IsPartitionPoint-from_clause, leb, leb-false, leb-true, length}
 use Rattle.ss_recover.proofs.Common.{rules, stream_of, sym, take, take_rest, ℕ}
-use Rattle.ss_recover.proofs.RunOrder.{all-dropped, all-taken, IsNextRun-from, Rises-pairs, sliced-rises}
+use Rattle.ss_recover.proofs.RunSound.{all-dropped, all-taken, IsNextRun-from, Rises-pairs, sliced-rises}
 use Rattle.ss_recover.proofs.walking.next_run.Goals as goal
 
 pub returns : goal.returns

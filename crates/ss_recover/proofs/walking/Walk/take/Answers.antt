@@ -1,7 +1,7 @@
 use Rattle.ss_recover.proofs.Common.{[], ⊤, ◌&&◌, ◌++◌, ◌||◌, ◌∙◌, ◌∷◌, ◌≡◌, AddsName, All, All-tail, and_from, and_right, ap, arith, Bool, BuildsAs, Created}
-use Rattle.ss_recover.proofs.Common.{Err, false, Found, has_sound_values_within, head_found, IfErr, inl, inr, is_own, is_run, IsHeldOf, IsUsable, List, list_any}
-use Rattle.ss_recover.proofs.Common.{may_stand, names_in, not, Ok, OnOk, OutOfMemory, Params, PutsDropped, PutsStanding, RecoverError, refl, Result, Some}
-use Rattle.ss_recover.proofs.Common.{step_number, stream_of, StreamId, StreamParts, subst, sym, TakesAs, true, Walk, without_slots, ℕ}
+use Rattle.ss_recover.proofs.Common.{Err, false, Found, has_sound_values_within, head_found, IfErr, inl, inr, is_own, is_run, IsHeldOf, IsUsable, List}
+use Rattle.ss_recover.proofs.Common.{list_any, may_stand, names_in, not, Ok, OnOk, OutOfMemory, Params, PutsDropped, PutsStanding, RecoverError, refl, Result}
+use Rattle.ss_recover.proofs.Common.{Some, step_number, stream_of, StreamId, StreamParts, subst, sym, TakesAs, true, Walk, without_slots, ℕ}
 use Rattle.ss_codec.specs.declared.record.Record.TheVariants as records
 use Rattle.ss_recover.proofs.walking.Walk.take.Goals as goal
 
