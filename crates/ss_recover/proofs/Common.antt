@@ -27,6 +27,7 @@ pub use Rattle.ss_line.specs.declared.entry.Entry.{Entry}
 pub use Rattle.ss_model.proofs.FoundLemmas.{AllByRecursion_push, each-behind, each-front}
 pub use Rattle.ss_model.proofs.MarkLemmas.{ends-latest, EndsBy-latest_in, none-latest}
 pub use Rattle.ss_model.proofs.NameLemmas.{same_name-swap}
+pub use Rattle.ss_model.proofs.StepLemmas.{filter-map, map-map}
 pub use Rattle.ss_model.specs.Decay.{IsInStep}
 pub use Rattle.ss_model.specs.Marks.{later, latest_in, latest_of, lies_free}
 pub use Rattle.ss_model.specs.Standing.{IsState, IsStream}

@@ -1,17 +1,17 @@
 -- The records of dropped streams among those that were found: they are of no stream that stands, and may go in turn.
 use Rattle.ss_recover.proofs.Common.{[], ◌++◌, ◌+◌, ◌<◌, ◌==◌, ◌∙◌, ◌∷◌, ◌≡◌, ◌≤◌, AllByRecursion, and_parts, ap, ap₂, are_zeros, AreSlotsOf, arith, Bool}
 use Rattle.ss_recover.proofs.Common.{cases_Bool, cond-true, count_by, Created, created_by, doomed_among, doomed_found, doomed_slots, each-behind, eq-eqb}
-use Rattle.ss_recover.proofs.Common.{eqb-true, false, false_from_ne_true, filter, filter_map-append, Found, GoInTurn, in_slot, inl, inr, is_doomed, is_drop_of}
-use Rattle.ss_recover.proofs.Common.{is_dropped, is_of, is_own, IsPermutation, IsPermutation-map, IsPermutation-sym, IsPermutation-trans, List, list_any}
-use Rattle.ss_recover.proofs.Common.{list_any-append, list_any-IsPermutation, map, map-append, map-id, may_go, ne_eqb, None, not, not_from_false, occupied}
-use Rattle.ss_recover.proofs.Common.{Option, option_map_or, or_cases, or_from, or_left, or_right, range_with_len, Record, records_beside, refl, SlotMap}
-use Rattle.ss_recover.proofs.Common.{slots_found, Some, stands_by, Stream, stream_number, stream_of, streams_created, subst, suc, sym, true, true≢false}
-use Rattle.ss_recover.proofs.Common.{without_slots, zero, ℕ}
+use Rattle.ss_recover.proofs.Common.{eqb-true, false, false_from_ne_true, filter, filter-map, filter_map-append, Found, GoInTurn, in_slot, inl, inr, is_doomed}
+use Rattle.ss_recover.proofs.Common.{is_drop_of, is_dropped, is_of, is_own, IsPermutation, IsPermutation-map, IsPermutation-sym, IsPermutation-trans, List}
+use Rattle.ss_recover.proofs.Common.{list_any, list_any-append, list_any-IsPermutation, map, map-append, map-id, map-map, may_go, ne_eqb, None, not}
+use Rattle.ss_recover.proofs.Common.{not_from_false, occupied, Option, option_map_or, or_cases, or_from, or_left, or_right, range_with_len, Record}
+use Rattle.ss_recover.proofs.Common.{records_beside, refl, SlotMap, slots_found, Some, stands_by, Stream, stream_number, stream_of, streams_created, subst, suc}
+use Rattle.ss_recover.proofs.Common.{sym, true, true≢false, without_slots, zero, ℕ}
 use Rattle.ss_recover.proofs.RunStanding.{doomed-same}
 use Rattle.ss_recover.specs.Conditions.{is_sound}
 use Rattle.ss_recover.proofs.DroppedRecords.{IsNoneOf, IsNoneOf-apart}
 use Rattle.ss_recover.proofs.HeldRecords.{all_walked, walked}
-use Rattle.ss_recover.proofs.Lists.{all-each, all-from_map, all-kept, all-passing, all_both, all_weaker, filter-map, filter-same, map-all, map-map}
+use Rattle.ss_recover.proofs.Lists.{all-each, all-from_map, all-kept, all-passing, all_both, all_weaker, filter-same, map-all}
 use Rattle.ss_recover.proofs.Permutations.{IsPermutation-filter}
 use Rattle.ss_recover.proofs.SoundNumbers.{each-false, is_numbered, numbered-cons, one-dropped, one-sound, stands_at}
 use Rattle.ss_codec.specs.declared.record.Record.TheVariants as records

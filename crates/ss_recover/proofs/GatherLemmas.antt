@@ -145,6 +145,10 @@ module _ (slot : ℕ) (read new : Gathered) (f : Found) (added : new.all.items �
         (λ k less. is_live-before read.live slot within k less ∙ before.live k less) (is_live-now read.live slot within ∙ sym (ap not live)));
   }
 
+pub is_some-not : (o : Option Record) → o ≢ None → is_none o ≡ false
+is_some-not None other = absurd (other refl)
+is_some-not (Some r) other = refl
+
 -- the lowest slot that spells nothing
 pub lowest-is : (found : SlotMap) (slot : ℕ) → slot < found.extent → ((k : ℕ) → k < slot → decoded (found.bytes k) ≢ None) → decoded (found.bytes slot) ≡ None →
     lowest_bad_slot (spelled found) ≡ Some slot
@@ -158,10 +162,6 @@ lowest-is found slot lt below none =
     (λ k less. ap is_none (at k None (omega (arith, less, lt))) ∙ is_some-not (decoded (found.bytes k)) (below k less))
     (λ within. ap is_none (at slot None lt ∙ none)) in
     cond-true _ _ _ (lt-ltb (position_or_len is_none os) (length os) (omega (arith, first, long, lt))) ∙ ap Some first
-  where
-    is_some-not : (o : Option Record) → o ≢ None → is_none o ≡ false
-    is_some-not None other = absurd (other refl)
-    is_some-not (Some r) other = refl
 
 -- one that spells no record
 pub spells-none : (bytes : List ℕ) → are_zeros bytes ≡ false → SpellsNone bytes → decoded bytes ≡ None

@@ -2,7 +2,7 @@
 use Rattle.ss_recover.proofs.Common.{[], ◌<◌, ◌∙◌, ◌∷◌, ◌≡◌, ◌≤◌, All, All-from_recursion, All-permutation, AllByRecursion, and_from, ap, ap₂, are_marks}
 use Rattle.ss_recover.proofs.Common.{AreHeld, arith, carries, Created, created_by, filter, filter_map, Free, HasWholeSlots, is_mark_of, is_none, IsDistinct}
 use Rattle.ss_recover.proofs.Common.{IsInStep, IsPermutation, IsState, IsStream, IsStrictlyIncreasing, judged, keep_own_step, landmarks_made, length}
-use Rattle.ss_recover.proofs.Common.{length-map, lies_free, List, list_all, live, lowest_bad_slot, lowest_bad_stream, map, marks_carried, MOST_RECORDS}
+use Rattle.ss_recover.proofs.Common.{length-map, lies_free, List, list_all, live, lowest_bad_slot, lowest_bad_stream, map, map-map, marks_carried, MOST_RECORDS}
 use Rattle.ss_recover.proofs.Common.{MOST_STREAMS, ne_eqb, None, not, Option, or_left, or_right, Record, records_in, records_of, recursion_from_All, refl}
 use Rattle.ss_recover.proofs.Common.{rule_of, same_name, SlotMap, stands_by, Stream, stream_carried, stream_number, StreamParts, streams_carried}
 use Rattle.ss_recover.proofs.Common.{streams_created, streams_standing, subst, sum_by-cons, sym, tile, times_rise, true, Window, window_of, windows_carried, ℕ}
@@ -13,7 +13,7 @@ use Rattle.ss_recover.proofs.DroppedRecords.{IsNoneOf}
 use Rattle.ss_recover.proofs.HeldRecords.{all-number_of, all_walked, created, created-all_walked, every_slot_spells, HasOwn-each, made-none, made_of_records}
 use Rattle.ss_recover.proofs.HeldRecords.{standing-all_walked}
 use Rattle.ss_recover.proofs.InOrder.{in_order-IsPermutation, Rise, Rise-increasing}
-use Rattle.ss_recover.proofs.Lists.{all-from_map, all_both, all_weaker, filter-none, filter_map-kept, kept, map-map, position-none}
+use Rattle.ss_recover.proofs.Lists.{all-from_map, all_both, all_weaker, filter-none, filter_map-kept, kept, position-none}
 use Rattle.ss_recover.proofs.Marks.{are_marks-marks_of, in_order-marks_of, landmarks_made-marks_of, length-marks_of, marks_of}
 use Rattle.ss_recover.proofs.SoundStreams.{keep_step-IsInStep, own_step-apart, own_step-moved, Rise-AreWindows, stands_alone, stands_alone-each}
 use Rattle.ss_recover.proofs.SoundStreams.{stands_alone-moved, tile-AreWindows, times_rise-AreWindows}

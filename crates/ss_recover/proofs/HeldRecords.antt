@@ -3,13 +3,13 @@ use Rattle.ss_recover.proofs.Common.{[], ◌++◌, ◌<◌, ◌∙◌, ◌∷◌
 use Rattle.ss_recover.proofs.Common.{append_assoc, ap₂, AreHeld, arith, cons_option, Created, created_by, each-behind, entries_of, Entry, eq-eqb, false, filter}
 use Rattle.ss_recover.proofs.Common.{filter-append, filter_map, filter_map-append, flat_map, flat_map-append, Free, HasWholeSlots, is_mark_of, is_none}
 use Rattle.ss_recover.proofs.Common.{IsPermutation, IsPermutation-map, IsPermutation-refl, IsPermutation-trans, landmark_records, length, length-append}
-use Rattle.ss_recover.proofs.Common.{length-map, List, list_any, list_any-IsPermutation, map, map-append, mark_slots, marks_held, None, occupied, Option}
-use Rattle.ss_recover.proofs.Common.{range_with_len, Record, records_held, records_in, refl, seconds-zip, SlotMap, slots_held, Some, span_held, span_of}
+use Rattle.ss_recover.proofs.Common.{length-map, List, list_any, list_any-IsPermutation, map, map-append, map-map, mark_slots, marks_held, None, occupied}
+use Rattle.ss_recover.proofs.Common.{Option, range_with_len, Record, records_held, records_in, refl, seconds-zip, SlotMap, slots_held, Some, span_held, span_of}
 use Rattle.ss_recover.proofs.Common.{stands_by, Stream, stream_number, stream_of, stream_record, StreamParts, subst, sym, Window, window_of, window_record}
 use Rattle.ss_recover.proofs.Common.{window_slots, zip, ℕ, ℤ}
 use Rattle.ss_recover.specs.Carried.{spelled}
 use Rattle.ss_recover.proofs.InOrder.{Rise, Rise-split}
-use Rattle.ss_recover.proofs.Lists.{all-each, all_append, map-all, map-map}
+use Rattle.ss_recover.proofs.Lists.{all-each, all_append, map-all}
 use Rattle.ss_recover.proofs.Marks.{each-mark_of, IsPermutation-walked, length-all_value_records, length-landmark_records, marks_of, own-marks}
 use Rattle.ss_recover.proofs.RunSound.{marks-own, windows-own}
 use Rattle.ss_recover.proofs.WholeSlots.{filter_map-filled, list_any-filled, zeros_are_free}

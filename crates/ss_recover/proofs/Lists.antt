@@ -84,18 +84,6 @@ any-passing p (x ∷ xs) = elim (cases_Bool (p x)) [
 pub any-made : {X : Type 0} (p : X → Bool) (xs ys : List X) → filter_map (kept p) xs ≡ filter_map (kept p) ys → list_any p xs ≡ list_any p ys
 any-made p xs ys same = sym (any-passing p xs) ∙ ap (list_any p) (sym (filter_map-kept p xs) ∙ same ∙ filter_map-kept p ys) ∙ any-passing p ys
 
--- a test of what is made of each
-pub filter-map : {X Y : Type 0} (p : Y → Bool) (g : X → Y) (xs : List X) → filter p (map g xs) ≡ map g (filter (λ x. p (g x)) xs)
-filter-map p g [] = refl
-filter-map p g (x ∷ xs) = elim (cases_Bool (p (g x))) [
-  | inl passes ↦ rw passes (ap (λ l. g x ∷ l) (filter-map p g xs))
-  | inr fails ↦ rw fails (filter-map p g xs)
-]
-
-pub map-map : {X Y Z : Type 0} (g : Y → Z) (f : X → Y) (xs : List X) → map g (map f xs) ≡ map (λ x. g (f x)) xs
-map-map g f [] = refl
-map-map g f (x ∷ xs) = ap (λ l. g (f x) ∷ l) (map-map g f xs)
-
 -- no place where nothing passes
 position_or_len-none : {X : Type 0} (p : X → Bool) (xs : List X) → list_any p xs ≡ false → position_or_len p xs ≡ length xs
 position_or_len-none p [] none = refl

@@ -16,6 +16,7 @@ use Rattle.ss_recover.specs.Carried.{spelled}
 use Rattle.ss_recover.specs.Parts.{carried}
 use Rattle.ss_recover.proofs.DoomedLemmas.{beside-found, first-in_slot, doomed_slots-found, Rise-found, slots-in_order}
 use Rattle.ss_recover.proofs.WholeSlots.{beside-seconds, filter_map-filled, zeros_are_free}
+use Rattle.ss_recover.proofs.GatherLemmas.{is_some-not}
 use Rattle.ss_recover.proofs.HeldLemmas.{streams_are}
 use Rattle.ss_recover.proofs.HeldRecords.{held-long, held-zip, records_of_stream}
 use Rattle.ss_recover.proofs.Lists.{map-all, position-none}
@@ -94,12 +95,8 @@ made-found found all whole are Y f free =
 -- every slot spells a record
 no-none : (os : ℕ → Option Record) (a n : ℕ) → ((k : ℕ) → a ≤ k → k < a + n → os k ≢ None) → list_any is_none (map os (range_with_len a n)) ≡ false
 no-none os a zero some = refl
-no-none os a (suc n) some = or_from _ _ (go (os a) (some a (omega arith) (omega arith)))
-    (no-none os (a + 1) n (λ k ge lt. some k (omega arith) (omega arith)))
-  where
-    go : (o : Option Record) → o ≢ None → is_none o ≡ false
-    go None other = absurd (other refl)
-    go (Some r) other = refl
+no-none os a (suc n) some =
+    or_from _ _ (is_some-not (os a) (some a (omega arith) (omega arith))) (no-none os (a + 1) n (λ k ge lt. some k (omega arith) (omega arith)))
 
 no-bad-slot : (found : SlotMap) → ((slot : ℕ) → slot < found.extent → decoded (found.bytes slot) ≢ None) → lowest_bad_slot (spelled found) ≡ None
 unfolding spelled

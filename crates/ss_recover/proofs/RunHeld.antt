@@ -1,12 +1,12 @@
 -- The streams of runs that are done: what is held agrees with streams that their records are of.
 use Rattle.ss_recover.proofs.Common.{[], ◌++◌, ◌+◌, ◌<◌, ◌∙◌, ◌∷◌, ◌≡◌, Agrees, all_value_records, AllAgree, AllByRecursion, ap, append-nil, append_assoc, ap₂}
-use Rattle.ss_recover.proofs.Common.{Bool, cond, created_by, false, filter, filter-append, filter_map, flat_map, Found, found_by, head_found, in_slot, in_slots}
-use Rattle.ss_recover.proofs.Common.{is_dropped, is_landmark, is_mark_of, is_run, is_value, is_window, IsHeldOf, IsPermutation, IsPermutation-cons}
-use Rattle.ss_recover.proofs.Common.{IsPermutation-map, IsPermutation-middle, IsPermutation-refl, IsPermutation-trans, IsUsable, Landmark, landmark_record}
-use Rattle.ss_recover.proofs.Common.{landmark_records, landmarks_made, LandmarkValue, later, latest_of, List, map, map-append, newest_time, Option, place_of}
-use Rattle.ss_recover.proofs.Common.{Record, records_held, refl, Rises, slots_found, Some, Stream, stream_of, stream_record, StreamParts, subst, sym, true}
-use Rattle.ss_recover.proofs.Common.{value_records, Window, window_of, window_record, windows_held, without_slots, zip, ℕ}
-use Rattle.ss_recover.proofs.Lists.{all_weaker, filter-map, filter-none, map-all, map-map}
+use Rattle.ss_recover.proofs.Common.{Bool, cond, created_by, false, filter, filter-append, filter-map, filter_map, flat_map, Found, found_by, head_found}
+use Rattle.ss_recover.proofs.Common.{in_slot, in_slots, is_dropped, is_landmark, is_mark_of, is_run, is_value, is_window, IsHeldOf, IsPermutation}
+use Rattle.ss_recover.proofs.Common.{IsPermutation-cons, IsPermutation-map, IsPermutation-middle, IsPermutation-refl, IsPermutation-trans, IsUsable, Landmark}
+use Rattle.ss_recover.proofs.Common.{landmark_record, landmark_records, landmarks_made, LandmarkValue, later, latest_of, List, map, map-append, map-map}
+use Rattle.ss_recover.proofs.Common.{newest_time, Option, place_of, Record, records_held, refl, Rises, slots_found, Some, Stream, stream_of, stream_record}
+use Rattle.ss_recover.proofs.Common.{StreamParts, subst, sym, true, value_records, Window, window_of, window_record, windows_held, without_slots, zip, ℕ}
+use Rattle.ss_recover.proofs.Lists.{all_weaker, filter-none, map-all}
 use Rattle.ss_recover.proofs.Marks.{each-mark_of, marks_of}
 use Rattle.ss_recover.proofs.RunSound.{alone-drops}
 use Rattle.ss_recover.proofs.RunStanding.{names-more, names_created}
