@@ -2,20 +2,13 @@
 use Rattle.ss_recover.proofs.Common.{[], ◌&&◌, ◌++◌, ◌+◌, ◌<◌, ◌∙◌, ◌∷◌, ◌≡◌, ◌≤◌, All-from_recursion, All-permutation, AllByRecursion, AllPairs, ap, arith}
 use Rattle.ss_recover.proofs.Common.{Bool, cases_Bool, cases_eq, cases_order, cond, cond-false, cond-true, cond_both, each-behind, eq-eqb, eqb, false, filter}
 use Rattle.ss_recover.proofs.Common.{in_order, inl, inr, IsNonDecreasingBy, IsNonDecreasingBy-from_sort, IsPermutation, IsPermutation-cons, IsPermutation-refl}
-use Rattle.ss_recover.proofs.Common.{IsPermutation-trans, IsSortedByKey, IsStableByKey, IsStrictlyIncreasing, le-ltb, leb, leb-false, List, lt-ltb, ltb, map}
-use Rattle.ss_recover.proofs.Common.{nat_le, nat_lt, nat_tests, ne_eqb, not, put_in_order, recursion_from_All, refl, Rises, subst, suc, sum_by, sum_by-cons}
-use Rattle.ss_recover.proofs.Common.{sum_by-IsPermutation, sym, ties, true, zero, ℕ}
+use Rattle.ss_recover.proofs.Common.{IsPermutation-trans, IsSortedByKey, IsStableByKey, IsStrictlyIncreasing, le-ltb, leb, leb-false, leb-true, List, lt-ltb}
+use Rattle.ss_recover.proofs.Common.{ltb, map, nat_le, nat_lt, nat_tests, ne_eqb, not, put_in_order, recursion_from_All, refl, Rises, subst, suc, sum_by}
+use Rattle.ss_recover.proofs.Common.{sum_by-cons, sum_by-IsPermutation, sym, ties, true, zero, ℕ}
 use Rattle.std.proofs.lemmas.List.Kept.{AllPairs-from_increasing}
-use Rattle.ss_recover.proofs.Lists.{all-kept}
+use Rattle.ss_recover.proofs.Lists.{all-kept, all_weaker}
 use Rattle.ss_recover.proofs.Permutations.{IsPermutation-turn}
 use Rattle.std.specs.Ordering.{is_lt, nat_cmp}
-pub use Rattle.ss_recover.proofs.Lists.{all_weaker}
-
-le-nat_le : (m n : ℕ) → nat_le m n ≡ true → m ≤ n
-le-nat_le m n le = grind (arith, nat_tests)
-
-lt-nat_le : (m n : ℕ) → nat_le m n ≡ false → n < m
-lt-nat_le m n over = grind (arith, nat_tests)
 
 module _ {X : Type 0} (key : X → ℕ) where
   -- each key is less than those after it
@@ -34,9 +27,9 @@ module _ {X : Type 0} (key : X → ℕ) where
   Rises-put_in_order x [] none = (tt, tt)
   Rises-put_in_order x (y ∷ ys) none =
       cond_both (nat_le (key x) (key y)) (x ∷ y ∷ ys) (y ∷ put_in_order key x ys) (Rises key) (λ test.
-      let le = le-nat_le (key x) (key y) test in
+      let le = leb-true (key x) (key y) test in
       ((le, all_weaker _ _ (λ z more. omega arith) ys none.0), none)) (λ test.
-      let over = lt-nat_le (key x) (key y) test in
+      let over = leb-false (key x) (key y) test in
       (all-put_in_order (λ z. key y ≤ key z) x ys (omega arith) none.0, Rises-put_in_order x ys none.1))
 
   IsPermutation-put_in_order : (x : X) (ys : List X) → IsPermutation (x ∷ ys) (put_in_order key x ys)
