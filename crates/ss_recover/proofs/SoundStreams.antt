@@ -3,12 +3,12 @@ use Rattle.ss_recover.proofs.Common.{[], ◌&&◌, ◌++◌, ◌+◌, ◌<◌, �
 use Rattle.ss_recover.proofs.Common.{and_left, and_parts, ap, append_assoc, ap₂, AreWindows, arith, Bool, cond, count_by, Created, each-behind, eq-eqb}
 use Rattle.ss_recover.proofs.Common.{eqb-true, false, has_new_name, has_one_record, has_place, in_step, is_named_before, IsDistinct, IsDistinct-head}
 use Rattle.ss_recover.proofs.Common.{IsDistinct-tail, IsInStep, IsPermutation, IsPossible, keep_own_step, keep_step, le-ltb, leb-true, length, length-append}
-use Rattle.ss_recover.proofs.Common.{List, list_all, list_all-append, list_any, list_any-append, list_any-IsPermutation, lt-ltb, ltb-true, map, MOST_STREAMS}
-use Rattle.ss_recover.proofs.Common.{MOST_VALUES, nat_le, nat_lt, nat_tests, ne_eqb, not, or-false, or_from, or_left, Params, recursion_from_All, refl, rule_of}
-use Rattle.ss_recover.proofs.Common.{same_name, same_name-swap, StandFrom, step_number, subst, sum_by-append, sum_by-cons, sum_by-IsPermutation, sym, taken}
+use Rattle.ss_recover.proofs.Common.{length-filter, List, list_all, list_all-append, list_any, list_any-append, list_any-IsPermutation, lt-ltb, ltb-true, map}
+use Rattle.ss_recover.proofs.Common.{MOST_STREAMS, MOST_VALUES, nat_le, nat_lt, nat_tests, ne_eqb, not, or-false, or_from, or_left, Params, recursion_from_All}
+use Rattle.ss_recover.proofs.Common.{refl, rule_of, same_name, same_name-swap, StandFrom, step_number, subst, sum_by-append, sum_by-IsPermutation, sym, taken}
 use Rattle.ss_recover.proofs.Common.{tile, tile_from, times_rise, true, Window, ℕ}
 use Rattle.ss_recover.proofs.InOrder.{Rise, Rise-split}
-use Rattle.ss_recover.proofs.Lists.{all-from_map, all_weaker, each-list_all, list_all-each}
+use Rattle.ss_recover.proofs.Lists.{all-from_map, all_weaker, each-list_all, filter-all, filter-none, list_all-each}
 use Rattle.ss_recover.proofs.Permutations.{along_permutation}
 
 -- 1 where a test passes
@@ -23,12 +23,10 @@ is_below n c = nat_lt c.number n
 
 -- how many pass a test that all pass, or none does
 count-none : (p : Created → Bool) (cs : List Created) → AllByRecursion (λ c. p c ≡ false) cs → count_by p cs ≡ 0
-count-none p [] none = refl
-count-none p (c ∷ cs) none = omega (arith, sum_by-cons (λ (x : Created). digit (p x)) c cs, ap digit none.0, count-none p cs none.1)
+count-none p cs none = sym (length-filter p cs) ∙ ap (λ (l : List Created). length l) (filter-none p cs none)
 
 count-all : (p : Created → Bool) (cs : List Created) → AllByRecursion (λ c. p c ≡ true) cs → count_by p cs ≡ length cs
-count-all p [] all = refl
-count-all p (c ∷ cs) all = omega (arith, sum_by-cons (λ (x : Created). digit (p x)) c cs, ap digit all.0, count-all p cs all.1)
+count-all p cs all = sym (length-filter p cs) ∙ ap (λ (l : List Created). length l) (filter-all p cs all)
 
 pub none-passes : {X : Type 0} (p : X → Bool) (cs : List X) → AllByRecursion (λ c. p c ≡ false) cs → list_any p cs ≡ false
 none-passes p [] all = refl
