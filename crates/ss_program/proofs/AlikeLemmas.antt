@@ -1,17 +1,16 @@
 -- What is said of two states that are alike but for the filters of their windows.
-use Rattle.ss_program.proofs.Common.{◌≡◌, ◌∙◌, ℕ, ◌+◌, Bool, true, false, ℤ, List, [], ◌∷◌, ◌++◌, Option, Some, None, refl, sym, ap, ap₂, inl, inr, flat_map}
+use Rattle.ss_program.proofs.Common.{◌≡◌, ℕ, ◌+◌, Bool, true, false, ℤ, List, [], ◌∷◌, ◌++◌, Option, Some, None, refl, ap, ap₂, inl, inr, flat_map}
 use Rattle.ss_program.proofs.Common.{fold, if◌then◌else◌, is_some, map, not, nat_lt, option_map, last_or, cases_Bool, length-map, Event, Kind, Query, Unknown}
 use Rattle.ss_program.proofs.Common.{Range, Landmark, is_free, answer_of, is_apart, is_whole, later, latest_of, marked_values, known_exactly, known_in, newer}
 use Rattle.ss_program.proofs.Common.{newest_in, newest_of, newest_told, unfiltered_stream, unfiltered_window, first_that_applies, refuses, stands, placed_of}
-use Rattle.ss_program.proofs.Common.{row_of, Stream, last_time, ack_of, newest_time, taken, Ack, joined_with, left_with, right_with, seen_after, seen_count}
+use Rattle.ss_program.proofs.Common.{row_of, Stream, last_time, ack_of, Ack, joined_with, left_with, right_with, seen_after, seen_count}
 use Rattle.ss_program.proofs.Common.{seen_of, seen_sum, seen_with, whole_with, Seen, Cut, reply_line}
 use Rattle.ss_landmarks.specs.Newest.{newest_value}
 use Rattle.ss_landmarks.specs.declared.tally.Tally.{Tally}
+use Rattle.ss_model.proofs.OriginLemmas.{newest-unfiltered, outlines-unfiltered, taken-unfiltered}
 use Rattle.ss_model.proofs.OutlineLemmas.{refuses-outlines}
-use Rattle.ss_model.proofs.Stretches.{taken-cons}
 use Rattle.ss_model.specs.Answers.{outcome_of, refuses_query}
 use Rattle.ss_model.specs.Newest.{refuses_values}
-use Rattle.ss_model.specs.Outline.{SameOutlines}
 use Rattle.ss_model.specs.Refusals.{refuses_reading}
 use Rattle.ss_model.specs.Steps.{said_of}
 use Rattle.ss_model.specs.declared.newest.Known.{Known}
@@ -24,38 +23,13 @@ use Rattle.ss_catalog.specs.declared.query.Kind.TheVariants as kinds
 
 -- ---- what is kept of a stream, without the figures of its windows
 
-taken-old : (ws : List Window) → taken (map unfiltered_window ws) ≡ taken ws
-taken-old [] = refl
-taken-old (w ∷ ws) =
-    taken-cons (unfiltered_window w) (map unfiltered_window ws) ∙ ap (λ n. w.summary.count + n) (taken-old ws) ∙ sym (taken-cons w ws)
-
-newest-old : (ws : List Window) → newest_time (map unfiltered_window ws) ≡ newest_time ws
-newest-old [] = refl
-newest-old (w ∷ []) = refl
-newest-old (w ∷ v ∷ ws) = newest-old (v ∷ ws)
-
 last_time-old : (s : Stream) → last_time (unfiltered_stream s) ≡ last_time s
-last_time-old s = ap (λ t. later t (latest_of s.landmarks)) (newest-old s.windows)
-
-outlines-old : (ss : List Stream) → SameOutlines (map unfiltered_stream ss) ss
-outlines-old [] = tt
-outlines-old (s ∷ ss) = (
-  record {
-    number = refl;
-    name = refl;
-    params = refl;
-    values = taken-old s.windows;
-    windows = length-map s.windows unfiltered_window;
-    landmarks = refl;
-    last_time = last_time-old s;
-  },
-  outlines-old ss,
-)
+last_time-old s = ap (λ t. later t (latest_of s.landmarks)) (newest-unfiltered s.windows)
 
 -- ---- refusals
 
 pub refuses-old : (streams : List Stream) (event : Event) → refuses (map unfiltered_stream streams) event ≡ refuses streams event
-refuses-old streams event = refuses-outlines (map unfiltered_stream streams) streams event (outlines-old streams)
+refuses-old streams event = refuses-outlines (map unfiltered_stream streams) streams event (outlines-unfiltered streams)
 
 stands-old : (name : List ℕ) (streams : List Stream) → stands name (map unfiltered_stream streams) ≡ stands name streams
 stands-old name streams = read-old (λ (o : Option Stream). is_some o) (λ s. refl) name streams
@@ -79,7 +53,7 @@ refuses_values-old streams name from to =
 
 pub ack-old : (name : List ℕ) (streams : List Stream) → ack_of name (map unfiltered_stream streams) ≡ ack_of name streams
 ack-old name streams =
-    read-old said_of (λ s. ap₂ (λ (n k : ℕ). let ack : Ack = record { n = n; k = k } in ack) (taken-old s.windows) (length-map s.windows unfiltered_window))
+    read-old said_of (λ s. ap₂ (λ (n k : ℕ). let ack : Ack = record { n = n; k = k } in ack) (taken-unfiltered s.windows) (length-map s.windows unfiltered_window))
     name streams
 
 pub outcome-old : (streams : List Stream) (query : Query) → ((v : ℤ) → query.kind ≡ kinds.Has v → ⊥) →
@@ -103,7 +77,7 @@ newest-alike streams name =
 pub rows-old : (streams : List Stream) → map (λ s. StreamRow (row_of s)) (map unfiltered_stream streams) ≡ map (λ s. StreamRow (row_of s)) streams
 rows-old [] = refl
 rows-old (s ∷ ss) =
-    ap₂ ◌∷◌ (ap₂ (λ (n k : ℕ). StreamRow (record (row_of s) { n = n; k = k })) (taken-old s.windows) (length-map s.windows unfiltered_window)) (rows-old ss)
+    ap₂ ◌∷◌ (ap₂ (λ (n k : ℕ). StreamRow (record (row_of s) { n = n; k = k })) (taken-unfiltered s.windows) (length-map s.windows unfiltered_window)) (rows-old ss)
 
 -- the rows of windows are told without their filters
 pub windows-told : (ws : List Window) →

@@ -8,15 +8,11 @@ use Rattle.ss_program.proofs.Common.{only_replies, text_said, unless_refused}
 use Rattle.ss_certify.proofs.MadeLemmas.{IsEvidence-evidence_of}
 use Rattle.ss_model.specs.Answers.{refuses_query}
 use Rattle.ss_model.specs.Standing.{IsState, IsStream}
+use Rattle.ss_model.proofs.AnswerLemmas.{mapped}
 use Rattle.ss_program.proofs.AnswerLemmas.{StoreIsIn-open}
 use Rattle.ss_program.proofs.TextLemmas.{said_line-some}
 
 -- ---- the evidence that a state has
-
--- where there is evidence, its stream stands
-mapped : {A B : Type 0} (f : A → B) (o : Option A) (b : B) → option_map f o ≡ Some b → (a : A) × (o ≡ Some a) × (f a ≡ b)
-mapped f None b same = cc
-mapped f (Some a) b same = (a, refl, cc)
 
 -- a query that isn't refused asks a stream that stands
 pub query-stands : (streams : List Stream) (query : Query) → refuses_query streams query ≡ None → stands query.name streams ≡ true

@@ -9,6 +9,7 @@ use Rattle.ss_program.proofs.Common.{AnswersRow, refuses_series, state, true_pre
 use Rattle.ss_program.proofs.Common.{SeriesHead, Row, IsSharp, Brought, History, accepted_in, command_in, meaning_in, brings, command_brings, history_after}
 use Rattle.ss_program.proofs.Common.{meaning_brings, nothing, refused, only_replies, unless_refused, plain_after, replies}
 use Rattle.ss_command.specs.declared.command.Command.TheVariants.{Series as AskRows, List as ListAll}
+use Rattle.ss_model.proofs.RowLemmas.{some-outcome}
 use Rattle.ss_program.proofs.AnswerLemmas.{ask-event, brings-answer_replies, certify-event, history-still, last-event, series-event, values-event}
 use Rattle.ss_program.proofs.AnswerLemmas.{windows-event}
 use Rattle.ss_program.proofs.CertifyLemmas.{brings-certified, evidence-known, evidence-right}
@@ -93,10 +94,6 @@ presence-of_kind kind value (Min extreme) asked of = cc
 presence-of_kind kind value (Max extreme) asked of = cc
 presence-of_kind kind value (Has presence) asked of = (presence, refl)
 presence-of_kind kind value (Estimate lo guess hi) asked of = (let wrong : false ≡ true = sym (ap is_guess asked) ∙ of in cc)
-
-some-outcome : (o : Option Outcome) → IsSome o → (outcome : Outcome) × (o ≡ Some outcome)
-some-outcome None some = cc
-some-outcome (Some outcome) some = (outcome, refl)
 
 pub presence-line : (history : History) (line : List ℕ) (query : Query) (value : ℤ) → IsHistory history → meaning line ≡ Ok (Some (Ask query)) →
     query.kind ≡ kinds.Has value → refuses_query (state history) query ≡ None →
