@@ -1,7 +1,7 @@
 -- A store one of whose streams takes an event: what is known before, and what the call of its stream makes of the store.
 use Rattle.ss_store.proofs.Common.{◌≡◌, zero, suc, ◌≤◌, ℕ, ◌<◌, ℤ, Bool, true, false, List, [], ◌∷◌, ◌++◌, length, map, flat_map, zip, get_or, slice_set}
-use Rattle.ss_store.proofs.Common.{refl, ap, sym, ◌∙◌, subst, arith, None, Some, Option, inl, inr, Result, AllZip, find, position_or_len}
-use Rattle.ss_store.proofs.Common.{IsStrictlyIncreasing, cases_Bool, find_at, get_or_from_slice_get, none-some, same_Some, slice_get_within, Told, same_name}
+use Rattle.ss_store.proofs.Common.{refl, ap, sym, ◌∙◌, subst, arith, None, Some, Option, inl, inr, Result, AllZip, position_or_len}
+use Rattle.ss_store.proofs.Common.{IsStrictlyIncreasing, find_at, get_or_from_slice_get, none-some, same_Some, slice_get_within, Told, same_name}
 use Rattle.ss_store.proofs.Common.{Event, Value, StreamId, Record, New, CanBeSaid, has_open, is_past, Stream, stepped, with_plain_value, Ack, AreKnown}
 use Rattle.ss_store.proofs.Common.{LandmarksState, LineState, IsState, IsState-stepped, params_of, AllAgree, AreWhole, Agrees, EndByLast, RiseToLast}
 use Rattle.ss_store.proofs.Common.{TileFrom, entries_of, records_held, slots_held, span_held, times_held, StreamParts, IsSettled, AreKept, RecordsState}
@@ -21,6 +21,7 @@ use Rattle.ss_store.proofs.Named.{IsPair, IsPair-at}
 use Rattle.ss_store.proofs.OneOfMany.{map-set_same, set-same}
 use Rattle.ss_store.proofs.PlaceLemmas.{places-same}
 use Rattle.ss_store.proofs.Refusals.{refuses_held-is}
+use Rattle.ss_store.proofs.Removed.{find-passes}
 use Rattle.ss_store.proofs.Stepping.{StepsState-turns}
 use Rattle.ss_store.proofs.Valued.{IsState-single, MayStep, MayStep-mark, MayStep-valued, MayTake, closed-partly}
 
@@ -78,16 +79,9 @@ IsHeldIn-IsSpared others was now s image spared held =
       records = subst (λ l. HasRecords (l ++ others) image) (sym same) held.records;
     }
 
-pub found-passes : {X : Type 0} (p : X → Bool) (xs : List X) (x : X) → find p xs ≡ Some x → p x ≡ true
-found-passes p [] x found = absurd (none-some x found)
-found-passes p (y ∷ ys) x found = elim (cases_Bool (p y)) [
-  | inl passes ↦ subst (λ z. p z ≡ true) (same_Some y x (rw passes at found)) passes
-  | inr fails ↦ found-passes p ys x (rw fails at found)
-]
-
 -- the stream of a name has the name
 pub same_name-part : (name : List ℕ) (parts : List StreamParts) (part : StreamParts) → part_named name parts ≡ Some part → same_name name part.name ≡ true
-same_name-part name parts part named = found-passes (λ (p : StreamParts). same_name name p.name) parts part named
+same_name-part name parts part named = find-passes (λ (p : StreamParts). same_name name p.name) parts part named
 
 -- and so has what stands in its place
 pub part_named-set : (name : List ℕ) (parts : List StreamParts) (place : ℕ) (part now : StreamParts) → IsStrictlyIncreasing (numbers_held parts) →

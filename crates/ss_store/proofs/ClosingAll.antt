@@ -13,7 +13,7 @@ use Rattle.ss_query.specs.declared.read_error.ReadError.TheVariants as fault
 use Rattle.ss_store.proofs.Among.{HasRecords-set, IsHeldIn-at, IsStream-at, Recovers-held, Recovers-partly, length-AllAgree, others_of}
 use Rattle.ss_store.proofs.Calls.{Turns-joined, Turns-same, Turns-weaker}
 use Rattle.ss_store.proofs.OneOfMany.{set-same, slice_get-within}
-use Rattle.ss_store.proofs.ShorterStates.{IsState-shorter, closed_stream-joined}
+use Rattle.ss_store.proofs.ShorterStates.{IsState-shorter, closed_stream-again}
 
 -- the first streams closed, and the others as they were
 abbrev pub closed_until : ℕ → List Stream → List Stream
@@ -46,13 +46,6 @@ length-closed_until : (n : ℕ) (streams : List Stream) → length (closed_until
 length-closed_until zero streams = refl
 length-closed_until (suc n) [] = refl
 length-closed_until (suc n) (s ∷ ss) = ap suc (length-closed_until n ss)
-
--- closing again changes nothing
-closed_stream-again : (s : Stream) → IsStream s → closed_stream (closed_stream s) ≡ closed_stream s
-closed_stream-again s is =
-    let rule = rule_of s.params in
-    let n = values_in s in
-    closed_stream-joined s (closed rule n s.windows) is.windows (JoinsDue-closed rule n s.windows)
 
 closed_state-until : (n : ℕ) (streams : List Stream) → All IsStream streams → closed_state (closed_until n streams) ≡ closed_state streams
 closed_state-until zero streams each = refl

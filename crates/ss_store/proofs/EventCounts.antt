@@ -1,7 +1,7 @@
 -- How many events gave a stream what it has: as many as its history has of it after its last create.
-use Rattle.ss_store.proofs.Common.{◌≡◌, ◌≢◌, ◌∙◌, ℕ, ℤ, ◌+◌, ◌<◌, true, false, List, [], ◌∷◌, ◌++◌, length, refl, ap, sym, arith, subst, None, Some, inl, inr}
+use Rattle.ss_store.proofs.Common.{◌≡◌, ◌≢◌, ◌∙◌, ℕ, ℤ, ◌+◌, true, false, List, [], ◌∷◌, ◌++◌, length, refl, ap, sym, arith, subst, None, Some, inl, inr}
 use Rattle.ss_store.proofs.Common.{cond, is_some, All, option_map_or, count_by, cases_Bool, not-false, append-nil, length_push, filter-append, sum_by-cons}
-use Rattle.ss_store.proofs.Common.{event_name, Event, Create, Value, Drop, Params, Landmark, LandmarkValue, all_values, change_last, closed_at, open_landmark}
+use Rattle.ss_store.proofs.Common.{event_name, Event, Create, Value, Drop, Params, Landmark, LandmarkValue, all_values, change_last, closed_at}
 use Rattle.ss_store.proofs.Common.{opened_at, FollowFrom, cases-finish, all_values-close, all_values-open, all_values-take, Happened, events_of, landmarks_of}
 use Rattle.ss_store.proofs.Common.{has_open, with_closed, with_marked, with_opened, IsHistory, of_named, refuses, IsStream, Stream, stream_named}
 use Rattle.ss_store.proofs.Common.{IsState-state, same_name-Decides, same_name-same, All-state, CanAppend-refuses, state-push, is_closed, mark_events}
@@ -21,6 +21,7 @@ use Rattle.ss_model.proofs.FoundLemmas.{All-around, found, stream_named-at}
 use Rattle.ss_model.proofs.HistoryLemmas.{GoesOn, GoesOn-push, by_pushes}
 use Rattle.ss_model.proofs.ReadLemmas.{stream_named-stepped}
 use Rattle.ss_model.proofs.StepLemmas.{CanCloseAt-refuses, CanOpenAt-refuses}
+use Rattle.ss_model.proofs.StreamLemmas.{length-change_last, some-open}
 
 -- ---- the events of a stream, with one more event
 
@@ -48,11 +49,6 @@ events_of-other history name event origin fails =
     ) (append-nil (events_of history name))
 
 -- ---- landmarks, with one more event
-
-length-change_last : (change : Landmark → Landmark) (ls : List Landmark) → length (change_last change ls) ≡ length ls
-length-change_last change [] = refl
-length-change_last change (l ∷ []) = refl
-length-change_last change (l ∷ next ∷ ls) = let rest = length-change_last change (next ∷ ls) in omega (arith, rest)
 
 -- one for a landmark that is closed
 one_if_closed : Landmark → ℕ
@@ -96,10 +92,6 @@ mark_events-opened ls t =
     let values = ap length (all_values-open ls t) in
     let closed = sum_by_push (λ (x : Landmark). cond (is_closed x) 1 0) ls (opened_at t) in
     omega (arith, values, closed, length_push ls (opened_at t))
-
-some-open : (ls : List Landmark) → has_open ls ≡ true → 0 < length ls
-some-open [] begun = cc
-some-open (l ∷ ls) begun = omega arith
 
 pub mark_events-marked : (ls : List Landmark) (t : ℕ) (v : ℤ) → has_open ls ≡ true → mark_events (with_marked ls t v) ≡ mark_events ls + 1
 mark_events-marked ls t v begun =

@@ -1,6 +1,6 @@
 -- How many events a stream has taken, by what is held of it.
-use Rattle.ss_store.proofs.Common.{◌≡◌, ◌∙◌, ℕ, zero, suc, ◌+◌, ◌-◌, ◌*◌, ◌≤◌, Bool, true, List, [], ◌∷◌, length, refl, ap, sym, arith, cond, inl, inr, subst}
-use Rattle.ss_store.proofs.Common.{Some, All, is_some, slice_get, ◌==◌, count_by, find, position_or_len, cases_Bool, All-get_or, find_at, sum_by-cons}
+use Rattle.ss_store.proofs.Common.{◌≡◌, ◌∙◌, ℕ, zero, suc, ◌+◌, ◌-◌, ◌*◌, ◌≤◌, Bool, true, List, [], ◌∷◌, length, refl, ap, arith, cond, inl, inr, subst}
+use Rattle.ss_store.proofs.Common.{Some, All, is_some, slice_get, ◌==◌, count_by, cases_Bool, All-get_or, sum_by-cons}
 use Rattle.ss_store.proofs.Common.{get_or_from_slice_get, none-some, same_Some, slice_get_within, same_name, Landmark, open_landmark, FollowFrom}
 use Rattle.ss_store.proofs.Common.{cases-finish, MOST_VALUES, Happened, events_of, landmarks_of, values_of, IsHistory, rule_of, Stream, state, values_in}
 use Rattle.ss_store.proofs.Common.{IsState-state, same_name-same, All-state, AllAgree, AreWhole, TileFrom, entries_of, StreamParts, events_held, is_closed}
@@ -10,6 +10,7 @@ use Rattle.std.specs.Prelude.{MatchOption, Option}
 use Rattle.ss_landmarks.specs.declared.landmarks.TheConstants.{MOST_LANDMARK_SLOTS}
 use Rattle.ss_model.specs.Refusals.{stands}
 use Rattle.ss_model.proofs.Stretches.{taken-windows}
+use Rattle.ss_model.proofs.NewestLemmas.{All-found}
 use Rattle.ss_store.proofs.EventCounts.{counted-history}
 use Rattle.ss_store.proofs.HeldCounts.{values_held-Agrees}
 use Rattle.ss_store.proofs.KeyedWindows.{held-few}
@@ -86,15 +87,11 @@ counted-held parts number part history whole agree found =
     let events = ap (λ (name : List ℕ). length (events_of history name)) at.agrees.name in
     record { few = omega (arith, values, few); events = omega (arith, values, marks, count, events) }
 
--- what is held over every disk is whole, so no stream has more values than it can take
-All-find : {X : Type 0} (P : X → Type 0) (p : X → Bool) (xs : List X) (x : X) → All P xs → find p xs ≡ Some x → P x
-All-find P p xs x all found = All-at P xs (position_or_len p xs) x all (sym (find_at p xs) ∙ found)
-
 pub few-held : (parts : List StreamParts) (number : ℕ) (part : StreamParts) (live : List Bool) → AreWhole parts live →
     part_numbered number parts ≡ Some part → values_held (entries_of part) ≤ MOST_VALUES
 few-held parts number part live whole found =
     held-few (entries_of part)
-    (All-find (λ (p : StreamParts). TileFrom 1 (entries_of p)) (λ (p : StreamParts). number == p.id.0) parts part whole.tiles found)
+    (All-found (λ (p : StreamParts). TileFrom 1 (entries_of p)) (λ (p : StreamParts). number == p.id.0) parts part whole.tiles found)
 
 -- the sum fits, where a stream has no more values than it can take
 pub sum-held : (part : StreamParts) (values marks sum : ℕ) → values ≡ values_held (entries_of part) → marks ≡ mark_events part.landmarks.landmarks →

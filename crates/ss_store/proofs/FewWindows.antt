@@ -1,38 +1,13 @@
 -- How few windows stand where none is due, by the positions and the times of their entries.
-use Rattle.ss_store.proofs.Common.{◌≡◌, ℕ, zero, suc, ◌+◌, ◌-◌, ◌*◌, ◌<◌, ◌≤◌, inl, inr, false, cond, List, [], ◌∷◌, length, refl, arith, cases_Bool}
-use Rattle.ss_store.proofs.Common.{cases_eq, cond_both, eq-eqb, ne_eqb, window_index, Entry, cover, steps_met, Rule, TileFrom, ends_held, values_held}
+use Rattle.ss_store.proofs.Common.{◌≡◌, ℕ, zero, suc, ◌+◌, ◌-◌, ◌*◌, ◌<◌, ◌≤◌, inl, inr, false, List, [], ◌∷◌, length, arith, cases_Bool}
+use Rattle.ss_store.proofs.Common.{window_index, Entry, cover, steps_met, Rule, TileFrom, ends_held, values_held}
 use Rattle.ss_store.proofs.Common.{NoEntriesAreDue}
-use Rattle.std.proofs.Common.{◌==◌}
 use Rattle.std.proofs.lemmas.Bool.{eqb-false}
 use Rattle.ss_windowing.specs.Windowing.{fits}
 use Rattle.ss_windowing.proofs.WindowingLemmas.{window_index-monotone}
 use Rattle.ss_model.specs.Decay.{steps_after}
+use Rattle.ss_model.proofs.DecayLemmas.{apart, apart-ne, apart-same, apart_through, steps_after-none, window_index-apart}
 use Rattle.ss_target.specs.Rule.{in_step, step_of, without_step}
-
--- where two positions lie apart, the older has a greater index
-window_index-apart : (len : ℕ → ℕ) (l r n : ℕ) → l ≤ r → fits len l r n ≡ false → window_index len (n - r) < window_index len (n - l)
-window_index-apart len l r n order unfit =
-    let other = eqb-false _ _ unfit in
-    omega (arith, window_index-monotone len (n - r) (n - l) (omega arith), other)
-
--- whether two steps are others
-abbrev apart : ℕ → ℕ → ℕ
-apart a b = cond (a == b) 0 1
-
-apart-same : (a : ℕ) → apart a a ≡ 0
-apart-same a = rw (eq-eqb a a refl) refl
-
-apart_le : (a b : ℕ) → apart a b ≤ 1
-apart_le a b = cond_both (a == b) 0 1 (λ (k : ℕ). k ≤ 1) (λ same. omega arith) (λ other. omega arith)
-
-apart-ne : (a b : ℕ) → (a ≡ b → ⊥) → apart a b ≡ 1
-apart-ne a b other = rw (ne_eqb a b other) refl
-
-apart_through : (a b c : ℕ) → apart a c ≤ apart a b + apart b c
-apart_through a b c = elim (cases_eq a b) [
-  | inl same ↦ rw same (omega arith)
-  | inr other ↦ omega (arith, apart-ne a b other, apart_le a c)
-]
 
 -- of what is behind the first entry none is due
 none-behind : (rule : Rule) (n : ℕ) (e : Entry) (es : List Entry) → NoEntriesAreDue rule n (e ∷ es) → NoEntriesAreDue rule n es
@@ -83,11 +58,6 @@ length-none_due rule [] tiles none some = absurd (omega arith)
 length-none_due rule (e ∷ es) tiles none some =
     let bound = length_cover rule (values_held (e ∷ es)) e.t_first (e ∷ es) tiles none some in
     omega (arith, bound, apart-same (step_of rule.step e.t_first))
-
--- without a step no time goes on to another
-steps_after-none : (t : ℕ) (us : List ℕ) → steps_after 0 t us ≡ 0
-steps_after-none t [] = refl
-steps_after-none t (u ∷ us) = omega (arith, steps_after-none u us)
 
 -- so at most 2K - 1 stand
 pub length-none_due-without_step : (len : ℕ → ℕ) (es : List Entry) → TileFrom 1 es → NoEntriesAreDue (without_step len) (values_held es) es →

@@ -1,31 +1,16 @@
 -- What a store holds, at a history for which its image stands: what is said of a stream, and the stream that is found.
-use Rattle.ss_store.proofs.Common.{◌≡◌, ℕ, Bool, true, List, [], ◌∷◌, length, Option, Some, None, refl, ap, sym, subst, inl, inr, ◌==◌, option_map, find}
-use Rattle.ss_store.proofs.Common.{cases_Bool, All-head, All-tail, same_name, Event, StreamId, Happened, refuses, IsStream, Stream, state, stream_named}
+use Rattle.ss_store.proofs.Common.{◌≡◌, ℕ, true, List, [], ◌∷◌, length, Option, Some, None, refl, ap, sym, subst, inl, inr, ◌==◌, option_map}
+use Rattle.ss_store.proofs.Common.{cases_Bool, same_name, Event, StreamId, Happened, refuses, IsStream, Stream, state, stream_named}
 use Rattle.ss_store.proofs.Common.{stream_numbered, AllAgree, StreamParts, said_of_held, SomeAgree, StoreIsIn, StoreState, part_named, part_numbered}
 use Rattle.ss_store.proofs.Common.{refuses_held, Stands}
 use Rattle.std.proofs.Common.{IfSome}
-use Rattle.std.specs.List.{All}
 use Rattle.ss_model.specs.Steps.{ack_of, said_of}
+use Rattle.ss_model.proofs.WithinLemmas.{IfSome-find}
 use Rattle.ss_store.proofs.Among.{length-AllAgree}
 use Rattle.ss_store.proofs.HeldCounts.{SomeAgree-named, SomeAgree-numbered, length-Agrees, values_held-Agrees}
 use Rattle.ss_store.proofs.KeptStates.{AllAgree-recovered}
 use Rattle.ss_store.proofs.Refusals.{refuses_held-is}
-
--- what is found passes the test
-pub find_passes : {X : Type 0} (test : X → Bool) (xs : List X) (x : X) → find test xs ≡ Some x → test x ≡ true
-find_passes test [] x is = cc
-find_passes test (y ∷ ys) x is = elim (cases_Bool (test y)) [
-  | inl hit ↦ (let here : Some y ≡ Some x = rw hit at is in let same : y ≡ x = cc in subst (λ z. test z ≡ true) same hit)
-  | inr miss ↦ find_passes test ys x (rw miss at is)
-]
-
--- a fact of each is one of what is found
-All-find : {X : Type 0} (P : X → Type 0) (test : X → Bool) (xs : List X) → All P xs → IfSome (find test xs) P
-All-find P test [] all = tt
-All-find P test (x ∷ xs) all = elim (cases_Bool (test x)) [
-  | inl hit ↦ rw hit (All-head P x xs all)
-  | inr miss ↦ rw miss (All-find P test xs (All-tail P x xs all))
-]
+use Rattle.ss_store.proofs.Removed.{find-passes}
 
 -- what is said of a stream
 said_alike : (part : Option StreamParts) (s : Option Stream) → IfSome s IsStream → SomeAgree part s → said_of_held part ≡ said_of s
@@ -38,7 +23,7 @@ pub said-kept : (store : StoreState) (image : List ℕ) (history : List Happened
     said_of_held (part_named name store.streams) ≡ ack_of name (state history)
 said-kept store image history name kept stands =
     let both = AllAgree-recovered store image (state history) kept stands.state in
-    said_alike (part_named name store.streams) (stream_named name (state history)) (All-find IsStream (λ s. same_name name s.name) (state history) both.1.each)
+    said_alike (part_named name store.streams) (stream_named name (state history)) (IfSome-find IsStream (λ s. same_name name s.name) (state history) both.1.each)
     (SomeAgree-named store.streams (state history) name both.0)
 
 -- what is refused
@@ -94,12 +79,12 @@ both_found (p ∷ ps) (s ∷ ss) name part each named numbered =
     elim (cases_Bool (same_name name p.name)) [
       | inl found ↦ (let here : Some p ≡ Some part = rw found at named in let same : part ≡ p = cc in
           let number : (part.id.0 == p.id.0) ≡ true =
-          subst (λ q. (part.id.0 == q.id.0) ≡ true) same (find_passes (λ (q : StreamParts). part.id.0 == q.id.0) (p ∷ ps) part numbered) in
+          subst (λ q. (part.id.0 == q.id.0) ≡ true) same (find-passes (λ (q : StreamParts). part.id.0 == q.id.0) (p ∷ ps) part numbered) in
           (s, rw (name_same, found) refl, rw (number_same, number) refl))
       | inr other ↦ elim (cases_Bool (part.id.0 == p.id.0)) [
         | inl hit ↦ (let here : Some p ≡ Some part = rw hit at numbered in let same : part ≡ p = cc in
             let passes : same_name name p.name ≡ true =
-            subst (λ q. same_name name q.name ≡ true) same (find_passes (λ (q : StreamParts). same_name name q.name) (p ∷ ps) part named) in
+            subst (λ q. same_name name q.name ≡ true) same (find-passes (λ (q : StreamParts). same_name name q.name) (p ∷ ps) part named) in
             cc)
         | inr miss ↦ (let rest = both_found ps ss name part each.1 (rw other at named) (rw miss at numbered) in
             (rest.0, rw (name_same, other) rest.1, rw (number_same, miss) rest.2))

@@ -19,11 +19,6 @@ use Rattle.ss_store.specs.declared.marking.Mark.TheVariants.{Value}
 use Rattle.ss_store.proofs.OpenMarks.{AllEndBy-can, HasOpen, HasOpen-can, change-has, closes, count-has, later-last, latest_of-after, newest-open, one-passed}
 use Rattle.ss_store.proofs.OpenMarks.{open-has, takes, two-passed, values-has}
 
-pub length-change_last : (change : Landmark → Landmark) (ls : List Landmark) → length (change_last change ls) ≡ length ls
-length-change_last change [] = refl
-length-change_last change (l ∷ []) = refl
-length-change_last change (l ∷ next ∷ ls) = let rest = length-change_last change (next ∷ ls) in omega (arith, rest)
-
 -- ---- records in slots
 
 in_slots-push : (slots : List ℕ) (held : List Record) (slot : ℕ) (r : Record) → length slots ≡ length held →

@@ -14,10 +14,11 @@ use Rattle.ss_landmarks.specs.Landmarks.{opened}
 use Rattle.ss_landmarks.proofs.OrderLemmas.{AreLandmarks-close, AreLandmarks-take, FollowFrom-open}
 use Rattle.ss_store.specs.Slots.{StagesReplaced}
 use Rattle.ss_store.specs.declared.marking.Mark.TheVariants.{Value}
+use Rattle.ss_model.proofs.StreamLemmas.{length-change_last}
 use Rattle.ss_store.proofs.ShownCalls.{TurnsShown-weaker}
 use Rattle.ss_store.proofs.LiveSlots.{AreSomeLive-permutation, LiveSlotsGo-beside, LiveSlotsGo-permutation}
 use Rattle.ss_store.proofs.OpenMarks.{HasOpen, HasOpen-can, change-has, closes, count-has, start-has, takes, values-has}
-use Rattle.ss_store.proofs.Marked.{Agrees-mark, HaveSlots, IsAdding, IsMarked, IsStream-mark, last-slot, length-change_last, marks-added, marks-last}
+use Rattle.ss_store.proofs.Marked.{Agrees-mark, HaveSlots, IsAdding, IsMarked, IsStream-mark, last-slot, marks-added, marks-last}
 use Rattle.ss_store.proofs.Marked.{marks_after, marks_in, moved-beside, moved-in, pushed-first, pushed-second, same_window_slots, same_windows}
 
 -- ---- the call

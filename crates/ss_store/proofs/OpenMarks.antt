@@ -1,7 +1,7 @@
 -- The open landmark among landmarks in order, and their times once one opens, takes a value or closes.
-use Rattle.ss_store.proofs.Common.{◌≡◌, ◌∙◌, ℕ, ◌+◌, ◌<◌, ◌≤◌, Bool, true, false, not, ◌&&◌, List, [], ◌∷◌, ◌++◌, length, refl, ap, sym, subst, arith}
-use Rattle.ss_store.proofs.Common.{length-append, Option, None, Some, MatchOption, inl, inr, All, nat_le, ◌==◌, list_all, option_map_or, and_parts}
-use Rattle.ss_store.proofs.Common.{cases_Bool, cond-false, cond-true, eqb-true, not-false, nat_tests, All-cons, All-head, All-nil, All-push, All-tail}
+use Rattle.ss_store.proofs.Common.{◌≡◌, ◌∙◌, ℕ, ◌+◌, ◌<◌, ◌≤◌, Bool, true, false, not, List, [], ◌∷◌, ◌++◌, length, refl, ap, sym, subst, arith}
+use Rattle.ss_store.proofs.Common.{length-append, Option, None, Some, MatchOption, inl, inr, All, nat_le, list_all, and_parts}
+use Rattle.ss_store.proofs.Common.{cases_Bool, cond-false, cond-true, not-false, nat_tests, All-cons, All-head, All-nil, All-push, All-tail}
 use Rattle.ss_store.proofs.Common.{Refusal, Landmark, LandmarkValue, all_values, change_last, closed_at, open_landmark, opened_at, with_value, AllEndBy}
 use Rattle.ss_store.proofs.Common.{CanClose, EndsBy, FollowFrom, cases-finish, AllEndBy-later, AreKnown, MOST_SLOTS, has_open, later, latest_in, latest_of}
 use Rattle.ss_store.proofs.Common.{lies_free, first_that_applies, is_before, is_opening, is_past, newest_time, Window, EndByLast, mark_slots, StreamParts}
@@ -14,6 +14,7 @@ use Rattle.ss_landmarks.specs.declared.landmarks.TheConstants.{LATEST_TIME}
 use Rattle.ss_landmarks.proofs.TimeLemmas.{AllEndBy-close, AllEndBy-open, AllEndBy-take, CanClose-after, CanOpen-after, CanTake-after}
 use Rattle.ss_landmarks.proofs.TimeLemmas.{CanTake-first}
 use Rattle.ss_model.proofs.MarkLemmas.{LiesFree-lies_free}
+use Rattle.ss_model.proofs.StreamLemmas.{first-is_opening, none-is_some, none-open}
 use Rattle.ss_recover.proofs.MarksSoFar.{latest_in-closed, latest_in-value}
 use Rattle.ss_store.specs.Marking.{start_open}
 use Rattle.ss_store.specs.declared.marking.Mark.TheVariants.{Value}
@@ -198,18 +199,11 @@ newest-open ls has ws old free is =
 
 -- ---- what may follow, over every disk
 
-none-is_some : (o : Option Landmark) → is_some o ≡ false → o ≡ None
-none-is_some None is = refl
-none-is_some (Some l) is = cc
-
 lt-is_past : (last t : ℕ) → is_past (Some last) t ≡ false → last < t
 lt-is_past last t past = grind (arith, nat_tests)
 
 le-is_before : (last t : ℕ) → is_before (Some last) t ≡ false → last ≤ t
 le-is_before last t before = grind (arith, nat_tests)
-
-none-open : (ls : List Landmark) → has_open ls ≡ true → ls ≡ [] → ⊥
-none-open ls begun is = let wrong : false ≡ true = ap has_open (sym is) ∙ begun in cc
 
 -- landmarks end by a last time, where there is one
 abbrev EndByTime : Option ℕ → List Landmark → Type 0
@@ -227,14 +221,6 @@ CanTake-past (Some last) ls t ends begun past = CanTake-after ls last t ends beg
 CanClose-before : (o : Option ℕ) (ls : List Landmark) (t : ℕ) → EndByTime o ls → has_open ls ≡ true → is_before o t ≡ false → CanClose ls t
 CanClose-before None ls t ends begun before = absurd (none-open ls begun ends)
 CanClose-before (Some last) ls t ends begun before = CanClose-after ls last t ends begun (le-is_before last t before)
-
-first-is_opening : (o : Option Landmark) (t : ℕ) → option_map_or (λ (l : Landmark). l.start == t && length l.values == 0) o false ≡ true →
-    MatchOption o ⊥ (λ l. (l.start ≤ t) × (length l.values ≡ 0))
-first-is_opening None t is = (let wrong : false ≡ true = is in cc)
-first-is_opening (Some l) t is =
-    let both = and_parts (l.start == t) (length l.values == 0) is in
-    let start = eqb-true l.start t both.0 in
-    (omega (arith, start), eqb-true (length l.values) 0 both.1)
 
 -- the tests that were passed
 pub two-passed : (a b : Bool) (p q : Refusal) → first_that_applies ((a, p) ∷ (b, q) ∷ []) ≡ None → (a ≡ false) × (b ≡ false)

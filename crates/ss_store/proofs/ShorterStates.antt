@@ -1,7 +1,7 @@
 -- States of which a stream has other windows, no more than before.
 use Rattle.ss_store.proofs.Common.{◌≡◌, ℕ, zero, suc, ◌≤◌, List, [], ◌∷◌, ◌++◌, length, slice_set, refl, ap, ◌∙◌, arith, Some, sum_by, length-set, All-set}
 use Rattle.ss_store.proofs.Common.{sum_by-cons, none-some, same_Some, closed, joined_window, closed_stream, JoinsDue, Rule, rule_of, IsState, IsStream}
-use Rattle.ss_store.proofs.Common.{Stream, records_of, values_in, AreWindows, taken, Window, taken-JoinsDue, with_windows}
+use Rattle.ss_store.proofs.Common.{Stream, records_of, values_in, AreWindows, taken, Window, JoinsDue-closed, taken-JoinsDue, with_windows}
 use Rattle.std.proofs.Common.{slice_get}
 use Rattle.std.proofs.lemmas.List.{length-append}
 use Rattle.ss_model.specs.Joins.{Joins}
@@ -58,3 +58,9 @@ closed_stream-joined s ws tiles joins =
     let same : closed rule (taken ws) ws ≡ closed rule (values_in s) s.windows =
     ap (λ n. closed rule n ws) (taken-JoinsDue rule (values_in s) s.windows ws joins) ∙ closed-JoinsDue rule (values_in s) s.windows ws tiles joins in
     ap (with_windows s) same
+
+-- closing again changes nothing
+pub closed_stream-again : (s : Stream) → IsStream s → closed_stream (closed_stream s) ≡ closed_stream s
+closed_stream-again s is =
+    let rule = rule_of s.params in
+    closed_stream-joined s (closed rule (values_in s) s.windows) is.windows (JoinsDue-closed rule (values_in s) s.windows)

@@ -3,7 +3,7 @@ use Rattle.ss_store.proofs.Common.{◌≡◌, ℕ, zero, suc, ◌+◌, ◌<◌, 
 use Rattle.ss_store.proofs.Common.{arith, None, Some, inl, inr, AllByRecursion, IsDistinct, cases_Bool, length-set, length_push, map-set, All-set}
 use Rattle.ss_store.proofs.Common.{get_or_from_slice_get, none-some, same_Some, slice_get_within, same_name, Event, Value, MOST_VALUES, New, closed}
 use Rattle.ss_store.proofs.Common.{closed_state, closed_stream, CanBeSaid, is_past, refuses, rule_of, IsState, IsStream, Stream, last_time, records_of}
-use Rattle.ss_store.proofs.Common.{values_in, has_open, with_closed, with_opened, single_window, stepped, with_plain_value, JoinsDue-closed}
+use Rattle.ss_store.proofs.Common.{values_in, has_open, with_closed, with_opened, single_window, stepped, with_plain_value}
 use Rattle.ss_store.proofs.Common.{same_name-Decides, CanAppend-refuses, IsStream-single, taken-append, with_single, with_windows, IsInOpen, event_of}
 use Rattle.ss_store.proofs.Common.{with_mark, Mark}
 use Rattle.std.proofs.Common.{slice_get}
@@ -16,7 +16,7 @@ use Rattle.ss_model.proofs.StandLemmas.{IsPossible-single, below-has_all_records
 use Rattle.ss_model.proofs.Stretches.{count-summary_of, taken-cons}
 use Rattle.ss_store.specs.declared.marking.Mark.TheVariants as mark
 use Rattle.ss_store.proofs.OneOfMany.{map-set_same}
-use Rattle.ss_store.proofs.ShorterStates.{closed_stream-joined}
+use Rattle.ss_store.proofs.ShorterStates.{closed_stream-again}
 use Rattle.ss_store.proofs.Among.{IsStream-at}
 
 -- a name that is apart from all is apart from each
@@ -139,11 +139,6 @@ pub record MayTake (streams : List Stream) (name : List ℕ) (t : ℕ) (v : ℤ)
   pub plain : has_open s.landmarks ≡ false
   pub later : is_past (last_time s) t ≡ false
   pub few : values_in s < MOST_VALUES
-
-closed_stream-again : (s : Stream) → IsStream s → closed_stream (closed_stream s) ≡ closed_stream s
-closed_stream-again s is =
-    let rule = rule_of s.params in
-    closed_stream-joined s (closed rule (values_in s) s.windows) is.windows (JoinsDue-closed rule (values_in s) s.windows)
 
 module _ (streams : List Stream) (name : List ℕ) (t : ℕ) (v : ℤ) (place : ℕ) (s : Stream) (may : MayTake streams name t v place s) where
   pub stepped-set : slice_set streams place (with_plain_value s (t, v, New)) ≡ stepped streams (Value name t v)
