@@ -1,13 +1,17 @@
 // Landmarks of ten values each.
 ghost use Rattle.std.specs.Prelude.{◌<◌, ◌≤◌, IfOk};
 ghost use Rattle.ss_landmarks.specs.Order.{AllEndBy};
+ghost use Rattle.ss_steps.specs.Steps.{IsFresh};
 
 use crate::timing::{micros_since, now};
 use ss_landmarks::{
     LATEST_TIME, Landmarks, MOST_LANDMARK_SLOTS, Tally, last_times_rise, times_may_follow,
 };
+use ss_steps::Steps;
 use std::alloc::{AllocError, Global};
+use std::marker::Brand;
 use std::rt::Clock;
+use std::sync::ledger::{Blank, Ledger};
 
 /// The most values.
 pub const MOST_VALUES: u32 = 10_000_000;
@@ -102,13 +106,15 @@ fn from_of(call: u32, times: u64) -> u64
 }
 
 // The free times of so many ranges, added up.
-fn sum_of_free(landmarks: &Landmarks, times: u64) -> u64
+fn sum_of_free<L: Ledger>(landmarks: &Landmarks, times: u64, blank: Blank) -> u64
+    requires fresh { IsFresh L.name L.parts blank }
     requires some { 0 < times }
     requires early { times ≤ LATEST_TIME }
 {
+    let mut searches = Steps::<L>::new(blank);
     let mut sum = 0u64;
     for call in 0..CALLS {
-        sum = sum.wrapping_add(landmarks.free(from_of(call, times), times));
+        sum = sum.wrapping_add(landmarks.free(from_of(call, times), times, &mut searches));
     }
     sum
 }
@@ -151,7 +157,7 @@ fn time_of_free<R: Clock>(rt: &R, landmarks: &Landmarks, times: u64) -> f64
     requires early { times ≤ LATEST_TIME }
 {
     let begin = now(rt);
-    let sum = sum_of_free(landmarks, times);
+    let sum = sum_of_free::<Brand>(landmarks, times, Blank::new(1));
     micros_since(rt, &begin, sum > 0) / f64::from(CALLS)
 }
 

@@ -1,5 +1,6 @@
 // How what is measured is printed.
 ghost use Rattle.std.specs.Prelude.{◌<◌, ◌≤◌};
+ghost use Rattle.ss_steps.specs.Steps.{IsFresh};
 
 use crate::calls::Calls;
 use crate::codec::{decode_time, encode_time};
@@ -10,7 +11,10 @@ use crate::targets::{AGES, Cover, TAKEN, TARGETS, cover_of, look_up_time};
 use ss_catalog::{Family, Params};
 use ss_journal::JournalError;
 use ss_landmarks::Landmarks;
+use ss_steps::Steps;
+use std::marker::Brand;
 use std::rt::Clock;
+use std::sync::ledger::{Blank, Ledger};
 
 // The exit status: 3 where something could not be printed, or a time says that it failed.
 fn status(printed: bool) -> u8 {
@@ -194,12 +198,19 @@ pub fn print_look_up_times<R: Print + Clock>(rt: &R) -> u8 {
 }
 
 // Prints what is seen of landmarks: free times, and a tally.
-fn print_seen(rt: &impl Print, landmarks: &Landmarks) -> bool {
+fn print_seen<R: Print, L: Ledger>(rt: &R, landmarks: &Landmarks, blank: Blank) -> bool
+    requires { IsFresh L.name L.parts blank }
+{
+    let mut searches = Steps::<L>::new(blank);
     let tally = landmarks.values_in(0, 600);
     let sum = tally.sum;
     whole(rt, u64::from(landmarks.count()), " landmarks, ")
         & whole(rt, u64::from(landmarks.values()), " values\n")
-        & whole(rt, landmarks.free(0, 1300), " free of 0..=1300, ")
+        & whole(
+            rt,
+            landmarks.free(0, 1300, &mut searches),
+            " free of 0..=1300, ",
+        )
         & whole(rt, tally.count, " values in 0..=600 with sum ")
         & println!(rt; "{sum}").is_ok()
 }
@@ -207,7 +218,7 @@ fn print_seen(rt: &impl Print, landmarks: &Landmarks) -> bool {
 /// Prints what is seen of 1,000 values in landmarks.
 pub fn print_landmarks<R: Print + AllocGlobal>(rt: &R) -> Result<u8, JournalError> {
     let landmarks = landmarks_with(rt.alloc(), 1000)?;
-    Ok(status(print_seen(rt, &landmarks)))
+    Ok(status(print_seen::<R, Brand>(rt, &landmarks, Blank::new(1))))
 }
 
 /// Prints the times of a change, of `free` and of `values_in`, over so many values in landmarks.

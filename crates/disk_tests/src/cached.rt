@@ -11,6 +11,7 @@ mod staged;
 
 use crate::journal::files::{File, bytes_of, disk_of};
 use crate::passing::pass;
+use crate::reading::read;
 use ss_journal::{Journal, JournalError, MOST_SLOTS, PAGE_SLOTS, Put, SLOT_SIZE, Txn};
 use ss_outside::{Disk, Failed, MemDisk};
 use ss_records::Records;
@@ -116,7 +117,7 @@ fn is_same<D: Disk>(
     ensures one_disk { OfContent (D.seen disk.new) (λ content. OnOk result (AreKept records.new content)) }
     ensures other_disk { OfContent (D.seen other.new) (λ content. OnOk result (IsKept journal.new content)) }
 {
-    let first = records.read(disk, slot)?;
+    let first = read(records, disk, slot)?;
     let second = journal.read(other, slot)?;
     Ok(first == second)
 }
@@ -230,7 +231,7 @@ fn read_firsts<D: Disk>(
     ensures one_disk { OfContent (D.seen disk.new) (λ content. OnOk result (AreKept records.new content)) }
 {
     for page in pages.0..pages.1 {
-        records.read(disk, page * PAGE_SLOTS)?;
+        read(records, disk, page * PAGE_SLOTS)?;
     }
     Ok(())
 }

@@ -13,4 +13,6 @@ mod journal;
 #[cfg(test)]
 mod passing;
 #[cfg(test)]
+mod reading;
+#[cfg(test)]
 mod records;

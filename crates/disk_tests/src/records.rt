@@ -7,6 +7,7 @@ ghost use Rattle.ss_records.specs.Kept.{AreAtRest, AreKept};
 
 use crate::journal::files::{File, Map, disk_of, disk_with};
 use crate::passing::{pass, pass_if};
+use crate::reading::read;
 use ss_journal::{JournalError, Put, SLOT_SIZE, Txn};
 use ss_outside::{Disk, Failed, MemDisk};
 use ss_records::Records;
@@ -122,7 +123,7 @@ fn is_left<D: Disk>(records: &mut Records, disk: &mut D, slot: u8, byte: u8) -> 
     requires running { IsRunning records.old.journal }
     requires one_disk { OfContent (D.seen disk.old) (AreKept records.old) }
 {
-    match records.read(disk, u32::from(slot)) {
+    match read(records, disk, u32::from(slot)) {
         Ok(bytes) => bytes[0] == byte && is_seen(records, (1, 4, 0)),
         Err(Failed) => false,
     }

@@ -6,8 +6,10 @@ use crate::Tally;
 use crate::search::{free_before, is_among, places_in, values_in};
 use crate::stored::{Closed, Opened, StoredValue};
 use crate::tally::tally_of;
+use ss_steps::Steps;
 use std::alloc::{AllocError, Global};
 use std::marker::Model;
+use std::sync::ledger::Ledger;
 
 /// The latest time that a landmark or a value of one may have, a whole number in the caller's unit.
 pub const LATEST_TIME: u64 = 1 << 62;
@@ -215,8 +217,19 @@ impl Landmarks {
         }
     }
 
-    /// How many of the times `p..=q` no landmark covers. It takes the logarithm of the number of landmarks.
-    pub fn free(&self, p: u64, q: u64) -> u64
+    /// How many of the times `p..=q` no landmark covers. Each call is one search of the landmarks, and ticks once. It takes the
+    /// logarithm of their number.
+    pub fn free<L: Ledger>(&self, p: u64, q: u64, searches: &mut Steps<L>) -> u64
+        requires { q ≤ LATEST_TIME }
+        ensures free { result ≡ free self.now.landmarks p q }
+        ensures one_search { searches.new ≡ searches.old + 1 }
+    {
+        searches.tick();
+        self.free_between(p, q)
+    }
+
+    // The same, where nothing is counted.
+    fn free_between(&self, p: u64, q: u64) -> u64
         requires { q ≤ LATEST_TIME }
         ensures { result ≡ free self.now.landmarks p q }
     {

@@ -21,13 +21,14 @@ use std::sync::ledger::Ledger;
 
 /// What a stream answers to a query: what is known of it from its first window on, as an answer. It writes nothing, and takes no
 /// memory.
-pub fn answer<D: Disk, L: Ledger, R: Ledger>(
+pub fn answer<D: Disk, L: Ledger, R: Ledger, S: Ledger>(
     part: &StreamParts,
     records: &mut Records,
     disk: &mut D,
     query: &Query,
     steps: &mut Steps<L>,
     reads: &mut Steps<R>,
+    searches: &mut Steps<S>,
 ) -> Result<Outcome, ReadError>
     requires order { query.now.from ≤ query.now.to }
     requires running { IsRunning records.old.journal }
@@ -42,6 +43,15 @@ pub fn answer<D: Disk, L: Ledger, R: Ledger>(
     ensures changed { IfChanged (verdict_of_read result) (Contains (window_slots_of part.now)) }
     ensures records { KeepsRecords (verdict_of_read result) records.old records.new }
 {
-    let seen = see_from(part, part.line.first(), records, disk, query, steps, reads)?;
+    let seen = see_from(
+        part,
+        part.line.first(),
+        records,
+        disk,
+        query,
+        steps,
+        reads,
+        searches,
+    )?;
     Ok(outcome_seen(seen, query.kind))
 }

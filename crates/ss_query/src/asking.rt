@@ -19,7 +19,9 @@ use ss_bounds::{
 use ss_catalog::{Kind, LAST_TIME, Query};
 use ss_landmarks::{Landmarks, Tally};
 use ss_model::{Outcome, Presence, Window};
+use ss_steps::Steps;
 use ss_summary::{GREATEST_COUNT, Summary};
+use std::sync::ledger::Ledger;
 
 /// What the landmarks and the windows that were read so far say of a range of times.
 #[derive(Clone, Copy, Debug)]
@@ -96,26 +98,39 @@ fn ends_in(query: &Query, first: u64, last: u64) -> u64
 }
 
 // How many free times strictly between two lie in the range.
-fn times_inside(query: &Query, landmarks: &Landmarks, first: u64, last: u64) -> u64
+fn times_inside<S: Ledger>(
+    query: &Query,
+    landmarks: &Landmarks,
+    first: u64,
+    last: u64,
+    searches: &mut Steps<S>,
+) -> u64
     requires order { first < last }
     requires time { last ≤ LAST_TIME }
-    ensures { result ≡ times_inside (is_free landmarks.now.landmarks) query.now.from query.now.to first last }
+    ensures times { result ≡ times_inside (is_free landmarks.now.landmarks) query.now.from query.now.to first last }
+    ensures one_search { searches.new ≡ searches.old + 1 }
 {
     let begin = query.from.max(first + 1);
     let end = query.to.min(last - 1);
-    landmarks.free(begin, end)
+    landmarks.free(begin, end, searches)
 }
 
 // The figures of a window that the range splits.
-pub fn split_of(query: &Query, landmarks: &Landmarks, window: &Window) -> Split
+pub fn split_of<S: Ledger>(
+    query: &Query,
+    landmarks: &Landmarks,
+    window: &Window,
+    searches: &mut Steps<S>,
+) -> Split
     requires order { query.now.from ≤ query.now.to }
     requires split { IsTrue (is_split query.now.from query.now.to window.now) }
     requires free { IsTrue (lies_free landmarks.now.landmarks window.now) }
-    ensures { result ≡ split_figures (is_free landmarks.now.landmarks) query.now.from query.now.to window.now }
+    ensures figures { result ≡ split_figures (is_free landmarks.now.landmarks) query.now.from query.now.to window.now }
+    ensures searches { searches.new ≡ searches.old + 2 }
 {
     let summary = window.summary;
-    let inside = times_inside(query, landmarks, summary.t_first, summary.t_last);
-    let between = landmarks.free(summary.t_first + 1, summary.t_last - 1);
+    let inside = times_inside(query, landmarks, summary.t_first, summary.t_last, searches);
+    let between = landmarks.free(summary.t_first + 1, summary.t_last - 1, searches);
     Split {
         count: summary.count,
         sum: summary.sum,
@@ -128,15 +143,21 @@ pub fn split_of(query: &Query, landmarks: &Landmarks, window: &Window) -> Split
 }
 
 // A window that the range splits, as it is cut.
-fn cut_of(query: &Query, landmarks: &Landmarks, window: &Window) -> Cut
+fn cut_of<S: Ledger>(
+    query: &Query,
+    landmarks: &Landmarks,
+    window: &Window,
+    searches: &mut Steps<S>,
+) -> Cut
     requires order { query.now.from ≤ query.now.to }
     requires split { IsTrue (is_split query.now.from query.now.to window.now) }
     requires free { IsTrue (lies_free landmarks.now.landmarks window.now) }
     requires place { last_position window.now < 2 ^ 64 }
     ensures value { result ≡ cut_of landmarks.now.landmarks query.now.from query.now.to window.now }
     ensures cut { IsCut result }
+    ensures searches { searches.new ≡ searches.old + 2 }
 {
-    let split = split_of(query, landmarks, window);
+    let split = split_of(query, landmarks, window, searches);
     Cut {
         first: window.first,
         last: window.first + (split.count - 1),
@@ -169,11 +190,12 @@ fn whole_with(whole: Option<Summary>, query: &Query, window: &Window) -> Option<
 }
 
 // The split window that begins before the range, if this is the one.
-fn left_with(
+fn left_with<S: Ledger>(
     left: Option<Cut>,
     query: &Query,
     landmarks: &Landmarks,
     window: &Window,
+    searches: &mut Steps<S>,
 ) -> Option<Cut>
     requires order { query.now.from ≤ query.now.to }
     requires free { IsTrue (lies_free landmarks.now.landmarks window.now) }
@@ -181,20 +203,23 @@ fn left_with(
     requires cut { IfSome left IsCut }
     ensures value { result ≡ left_with landmarks.now.landmarks query.now.from query.now.to left window.now }
     ensures cut { IfSome result IsCut }
+    ensures searches { searches.new ≤ searches.old + 2 }
+    ensures unsearched { query.now.from ≤ window.now.summary.t_first → searches.new ≡ searches.old }
 {
     if is_split(query, window) && window.summary.t_first < query.from {
-        Some(cut_of(query, landmarks, window))
+        Some(cut_of(query, landmarks, window, searches))
     } else {
         left
     }
 }
 
 // The split window that begins in the range, if this is the one.
-fn right_with(
+fn right_with<S: Ledger>(
     right: Option<Cut>,
     query: &Query,
     landmarks: &Landmarks,
     window: &Window,
+    searches: &mut Steps<S>,
 ) -> Option<Cut>
     requires order { query.now.from ≤ query.now.to }
     requires free { IsTrue (lies_free landmarks.now.landmarks window.now) }
@@ -202,16 +227,24 @@ fn right_with(
     requires cut { IfSome right IsCut }
     ensures value { result ≡ right_with landmarks.now.landmarks query.now.from query.now.to right window.now }
     ensures cut { IfSome result IsCut }
+    ensures searches { searches.new ≤ searches.old + 2 }
+    ensures unsearched { window.now.summary.t_first < query.now.from → searches.new ≡ searches.old }
 {
     if is_split(query, window) && query.from <= window.summary.t_first {
-        Some(cut_of(query, landmarks, window))
+        Some(cut_of(query, landmarks, window, searches))
     } else {
         right
     }
 }
 
 // What is known with one more window, all times of which are later.
-pub fn with_window(seen: Seen, query: &Query, landmarks: &Landmarks, window: &Window) -> Seen
+pub fn with_window<S: Ledger>(
+    seen: Seen,
+    query: &Query,
+    landmarks: &Landmarks,
+    window: &Window,
+    searches: &mut Steps<S>,
+) -> Seen
     requires few { seen.taken + window.now.summary.count ≤ GREATEST_COUNT }
     requires order { query.now.from ≤ query.now.to }
     requires free { IsTrue (lies_free landmarks.now.landmarks window.now) }
@@ -221,13 +254,15 @@ pub fn with_window(seen: Seen, query: &Query, landmarks: &Landmarks, window: &Wi
     requires cuts { HasCuts seen }
     ensures value { result ≡ seen_with landmarks.now.landmarks query.now.kind query.now.from query.now.to seen window.now }
     ensures cuts { HasCuts result }
+    // Two for the cut of a window that the range splits, and two for a value that may be in it.
+    ensures searches { searches.new ≤ searches.old + 4 }
 {
     Seen {
         marked: seen.marked,
         whole: whole_with(seen.whole, query, window),
-        left: left_with(seen.left, query, landmarks, window),
-        right: right_with(seen.right, query, landmarks, window),
-        presence: presence_with(seen.presence, query, landmarks, window),
+        left: left_with(seen.left, query, landmarks, window, searches),
+        right: right_with(seen.right, query, landmarks, window, searches),
+        presence: presence_with(seen.presence, query, landmarks, window, searches),
         taken: seen.taken + window.summary.count,
         next_time: window.summary.t_last + 1,
     }

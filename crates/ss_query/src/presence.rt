@@ -1,5 +1,5 @@
 // What is known of whether the value that is asked for is there.
-ghost use Rattle.std.specs.Prelude.{◌≡◌, ◌≤◌, IsTrue};
+ghost use Rattle.std.specs.Prelude.{◌≡◌, ◌+◌, ◌≤◌, IsTrue};
 ghost use Rattle.ss_landmarks.specs.Free.{is_free};
 ghost use Rattle.ss_landmarks.specs.ValuesIn.{values_between};
 ghost use Rattle.ss_model.specs.Interval.{is_extreme, may_have, may_reach};
@@ -12,7 +12,9 @@ use ss_bounds::count_bounds;
 use ss_catalog::{Kind, Query};
 use ss_landmarks::Landmarks;
 use ss_model::Window;
+use ss_steps::Steps;
 use ss_summary::Summary;
+use std::sync::ledger::Ledger;
 
 // Whether it is there, by the values of landmarks in the range alone.
 pub fn presence_of_marks(query: &Query, landmarks: &Landmarks) -> Presence
@@ -53,13 +55,20 @@ fn is_extreme(query: &Query, window: &Window, value: i64) -> bool
 }
 
 // Whether some of the values of a window may lie in the range.
-fn may_reach(query: &Query, landmarks: &Landmarks, window: &Window) -> bool
+fn may_reach<S: Ledger>(
+    query: &Query,
+    landmarks: &Landmarks,
+    window: &Window,
+    searches: &mut Steps<S>,
+) -> bool
     requires order { query.now.from ≤ query.now.to }
     requires free { IsTrue (lies_free landmarks.now.landmarks window.now) }
-    ensures { result ≡ may_reach (is_free landmarks.now.landmarks) query.now.from query.now.to window.now }
+    ensures searches { searches.new ≤ searches.old + 2 }
+    ensures reaches { result ≡ may_reach (is_free landmarks.now.landmarks) query.now.from query.now.to window.now }
 {
     is_whole(query, window)
-        || is_split(query, window) && 1 <= count_bounds(split_of(query, landmarks, window)).1
+        || is_split(query, window)
+            && 1 <= count_bounds(split_of(query, landmarks, window, searches)).1
 }
 
 // Whether a value may be one of those of a window.
@@ -70,15 +79,22 @@ fn may_have(summary: Summary, value: i64) -> bool
 }
 
 // What one window tells of a value.
-fn presence_in(query: &Query, landmarks: &Landmarks, window: &Window, value: i64) -> Presence
+fn presence_in<S: Ledger>(
+    query: &Query,
+    landmarks: &Landmarks,
+    window: &Window,
+    value: i64,
+    searches: &mut Steps<S>,
+) -> Presence
     requires order { query.now.from ≤ query.now.to }
     requires free { IsTrue (lies_free landmarks.now.landmarks window.now) }
-    ensures { result ≡ presence_in landmarks.now.landmarks query.now.from query.now.to value window.now }
+    ensures searches { searches.new ≤ searches.old + 2 }
+    ensures presence { result ≡ presence_in landmarks.now.landmarks query.now.from query.now.to value window.now }
 {
     if is_extreme(query, window, value) {
         return Presence::Present;
     }
-    if may_reach(query, landmarks, window) && may_have(window.summary, value) {
+    if may_reach(query, landmarks, window, searches) && may_have(window.summary, value) {
         Presence::Maybe
     } else {
         Presence::Absent
@@ -86,18 +102,23 @@ fn presence_in(query: &Query, landmarks: &Landmarks, window: &Window, value: i64
 }
 
 // What is known with one more window.
-pub fn presence_with(
+pub fn presence_with<S: Ledger>(
     known: Presence,
     query: &Query,
     landmarks: &Landmarks,
     window: &Window,
+    searches: &mut Steps<S>,
 ) -> Presence
     requires order { query.now.from ≤ query.now.to }
     requires free { IsTrue (lies_free landmarks.now.landmarks window.now) }
-    ensures { result ≡ presence_with landmarks.now.landmarks query.now.kind query.now.from query.now.to known window.now }
+    ensures searches { searches.new ≤ searches.old + 2 }
+    ensures presence { result ≡ presence_with landmarks.now.landmarks query.now.kind query.now.from query.now.to known window.now }
 {
     match query.kind {
-        Kind::Has { value } => stronger(known, presence_in(query, landmarks, window, value)),
+        Kind::Has { value } => {
+            let other = presence_in(query, landmarks, window, value, searches);
+            stronger(known, other)
+        }
         _ => known,
     }
 }

@@ -59,22 +59,29 @@ fn summary_of(spelled: Option<Record>, id: StreamId, entry: Entry) -> Option<Sum
 }
 
 // Whether a window of this summary lies among the landmarks of its stream as one has to.
-fn is_free(part: &StreamParts, entry: Entry, summary: Summary) -> bool
-    ensures { result ≡ lies_free part.now.landmarks.landmarks (record { first = entry.first; summary = summary }) }
+fn is_free<S: Ledger>(
+    part: &StreamParts,
+    entry: Entry,
+    summary: Summary,
+    searches: &mut Steps<S>,
+) -> bool
+    ensures searches { searches.new ≤ searches.old + 3 }
+    ensures free { result ≡ lies_free part.now.landmarks.landmarks (record { first = entry.first; summary = summary }) }
 {
     let first = entry.first;
     let _count = summary.count;
-    lies_free(&part.landmarks, &Window { first, summary })
+    lies_free(&part.landmarks, &Window { first, summary }, searches)
 }
 
-/// The summary of a window that is held, read from its record. It writes nothing. Each call is one read of a record, and ticks
-/// once.
-pub fn read_window<D: Disk, R: Ledger>(
+/// The summary of a window that is held, read from its record. It writes nothing. Each call is one read of a record, and three
+/// searches of the landmarks at most.
+pub fn read_window<D: Disk, R: Ledger, S: Ledger>(
     records: &mut Records,
     disk: &mut D,
     part: &StreamParts,
     entry: Entry,
     reads: &mut Steps<R>,
+    searches: &mut Steps<S>,
 ) -> Result<Summary, ReadError>
     requires running { IsRunning records.old.journal }
     requires slot { entry.slot < MOST_SLOTS }
@@ -88,11 +95,11 @@ pub fn read_window<D: Disk, R: Ledger>(
     ensures changed { IfChanged (verdict_of_read result) (λ slot. slot ≡ entry.slot) }
     ensures records { KeepsRecords (verdict_of_read result) records.old records.new }
     ensures one_read { reads.new ≡ reads.old + 1 }
+    ensures searches { searches.new ≤ searches.old + 3 }
 {
-    reads.tick();
-    let bytes = records.read(disk, entry.slot)?;
+    let bytes = records.read(disk, entry.slot, reads)?;
     match summary_of(decode(&bytes), part.id, entry) {
-        Some(summary) if is_free(part, entry, summary) => Ok(summary),
+        Some(summary) if is_free(part, entry, summary, searches) => Ok(summary),
         _ => Err(ReadError::Changed { slot: entry.slot }),
     }
 }

@@ -24,7 +24,7 @@ use std::sync::ledger::Ledger;
 
 // What is known with the window of an entry that begins by the end of the range. Its record is read only where it doesn't end
 // before the range.
-fn see_entry<D: Disk, R: Ledger>(
+fn see_entry<D: Disk, R: Ledger, S: Ledger>(
     records: &mut Records,
     disk: &mut D,
     part: &StreamParts,
@@ -32,11 +32,11 @@ fn see_entry<D: Disk, R: Ledger>(
     entry: Entry,
     seen: Seen,
     reads: &mut Steps<R>,
+    searches: &mut Steps<S>,
 ) -> Result<Seen, ReadError>
     requires order { query.now.from ≤ query.now.to }
     requires begins { entry.t_first ≤ query.now.to }
-    requires room { HasRoom seen }
-    requires cuts { HasCuts seen }
+    requires open { HasRoom seen × HasCuts seen }
     requires running { IsRunning records.old.journal }
     requires slot { entry.slot < MOST_SLOTS }
     requires one_disk { OfContent (D.seen disk.old) (AreKept records.old) }
@@ -46,25 +46,25 @@ fn see_entry<D: Disk, R: Ledger>(
     ensures cuts { IfOk result HasCuts }
     ensures changed { IfChanged (verdict_of_read result) (λ slot. slot ≡ entry.slot) }
     ensures records { KeepsRecords (verdict_of_read result) records.old records.new }
-    ensures few_reads { reads.new ≤ reads.old + 1 }
+    ensures few { (reads.new ≤ reads.old + 1) × (searches.new + 7 * reads.old ≤ searches.old + 7 * reads.new) }
 {
     if entry.t_last < query.from {
         return Ok(seen);
     }
     let window = Window {
         first: entry.first,
-        summary: read_window(records, disk, part, entry, reads)?,
+        summary: read_window(records, disk, part, entry, reads, searches)?,
     };
     if !follows(seen, &window) {
         return Err(ReadError::Changed { slot: entry.slot });
     }
-    Ok(with_window(seen, query, &part.landmarks, &window))
+    Ok(with_window(seen, query, &part.landmarks, &window, searches))
 }
 
 /// What is known of a stream for a query: it tallies the values of landmarks in the range, and reads the records of those
 /// windows, oldest first, that have times in the range. It begins at a place before which each window ends before the range,
 /// and looks at each window from there on, up to the first that begins after the range. It writes nothing, and takes no memory.
-pub fn see_from<D: Disk, L: Ledger, R: Ledger>(
+pub fn see_from<D: Disk, L: Ledger, R: Ledger, S: Ledger>(
     part: &StreamParts,
     start: Option<At>,
     records: &mut Records,
@@ -72,6 +72,7 @@ pub fn see_from<D: Disk, L: Ledger, R: Ledger>(
     query: &Query,
     steps: &mut Steps<L>,
     reads: &mut Steps<R>,
+    searches: &mut Steps<S>,
 ) -> Result<Seen, ReadError>
     requires begins { BeginsAt part.now.line.entries query.now.from start }
     requires order { query.now.from ≤ query.now.to }
@@ -87,12 +88,13 @@ pub fn see_from<D: Disk, L: Ledger, R: Ledger>(
     // A slot that has changed is that of a window.
     ensures changed { IfChanged (verdict_of_read result) (Contains (window_slots_of part.now)) }
     ensures records { KeepsRecords (verdict_of_read result) records.old records.new }
-    // Two looks at the first window, two at each other one that begins in the range, and one at the one after these.
-    ensures looks { BeginsNear part.now.line.entries query.now.from start
-        → steps.new ≤ steps.old + 2 * begun_in query.now.from query.now.to part.now.line.entries + 3 }
-    // One record for each window that begins in the range, and one for the first.
-    ensures few_reads { BeginsNear part.now.line.entries query.now.from start
-        → reads.new ≤ reads.old + begun_in query.now.from query.now.to part.now.line.entries + 1 }
+    // Two looks at the first window, two at each other one that begins in the range, and one at the one after these; one record
+    // for each window that begins in the range, and one for the first.
+    ensures few { BeginsNear part.now.line.entries query.now.from start
+        → (steps.new ≤ steps.old + 2 * begun_in query.now.from query.now.to part.now.line.entries + 3)
+        × (reads.new ≤ reads.old + begun_in query.now.from query.now.to part.now.line.entries + 1) }
+    // Seven searches of the landmarks for each record that is read.
+    ensures few_searches { searches.new + 7 * reads.old ≤ searches.old + 7 * reads.new }
 {
     let _len = part.line.len();
     let _known = part.landmarks.count();
@@ -103,7 +105,7 @@ pub fn see_from<D: Disk, L: Ledger, R: Ledger>(
         if query.to < entry.t_first {
             return Ok(seen);
         }
-        seen = see_entry(records, disk, part, query, entry, seen, reads)?;
+        seen = see_entry(records, disk, part, query, entry, seen, reads, searches)?;
         next = part.line.neighbours(at, steps).1;
     }
     Ok(seen)

@@ -4,8 +4,10 @@ use crate::pages::Pages;
 use crate::slot_set::SlotSet;
 use ss_journal::{Journal, JournalError, MOST_SLOTS, PAGE_SLOTS, SLOT_SIZE, Txn};
 use ss_outside::{Disk, Failed};
+use ss_steps::Steps;
 use std::alloc::{AllocError, Global};
 use std::marker::Model;
+use std::sync::ledger::Ledger;
 
 /// A map from 2^20 slots to 128 bytes each, which knows the slots that aren't zeros. It lies on a disk that it doesn't
 /// hold: each call takes the disk, as the last such call left it. After a call that answers `Failed` no further call may
@@ -31,7 +33,7 @@ impl Model for Records {
 }
 
 impl Records {
-    ghost use Rattle.std.specs.Prelude.{◌≡◌, ◌≤◌, ◌<◌, ◌↔◌, ℕ, List, [], IsTrue, IsNone, IsSome, IfSome, IfOk, OnOk, OnErr};
+    ghost use Rattle.std.specs.Prelude.{◌≡◌, ◌+◌, ◌≤◌, ◌<◌, ◌↔◌, ℕ, List, [], IsTrue, IsNone, IsSome, IfSome, IfOk, OnOk, OnErr};
     ghost use Rattle.ss_outside.specs.Disk.{OfContent, SyncsAtMost};
     ghost use Rattle.ss_outside.specs.Step.{Step};
     ghost use Rattle.ss_outside.specs.Verdict.{verdict};
@@ -129,22 +131,29 @@ impl Records {
 
     /// The bytes of a slot: zeros where none were put. Where its page isn't cached the whole page is read, by one call of the
     /// disk, and is cached then if there is memory for it, in place of the least recently used one where 64 are. A read that
-    /// fails caches nothing.
-    pub fn read<D: Disk>(&mut self, disk: &mut D, slot: u32) -> Result<[u8; SLOT_SIZE], Failed>
+    /// fails caches nothing. Each call ticks once.
+    pub fn read<D: Disk, L: Ledger>(
+        &mut self,
+        disk: &mut D,
+        slot: u32,
+        reads: &mut Steps<L>,
+    ) -> Result<[u8; SLOT_SIZE], Failed>
         requires running { IsRunning self.old.journal }
         requires slot { slot < MOST_SLOTS }
         requires one_disk { OfContent (D.seen disk.old) (AreKept self.old) }
         ensures reads { Step (verdict result) (D.seen disk.old) (D.seen disk.new) (ReadsRecord self.old self.new slot result) }
-        ensures unused { self.old.journal.extent ≤ slot → IfOk result (λ bytes. bytes ≡ zeros) }
+        ensures one_read { reads.new ≡ reads.old + 1 }
+        // No slot behind the extent was put, and the cached pages are those from before.
+        ensures unused { self.old.journal.extent ≤ slot → IfOk result (λ bytes. bytes ≡ zeros) × (self.new.cached ≡ self.old.cached) }
         ensures journal { OnOk result (self.new.journal ≡ self.old.journal) }
         ensures live { self.new.live ≡ self.old.live }
         // A slot below the extent whose page is cached is read without the disk.
         ensures uncalled { slot < self.old.journal.extent → IsSome (cached_slot self.old.cached slot) → disk.new ≡ disk.old }
         ensures recalls { slot < self.old.journal.extent → Recalls slot self.old.cached self.new.cached }
-        ensures cached { self.old.journal.extent ≤ slot → self.new.cached ≡ self.old.cached }
         ensures uncached { OnErr result (self.new.cached ≡ self.old.cached) }
         ensures stopped { OnErr result (HasStopped self.new.journal) }
     {
+        reads.tick();
         if slot >= self.journal.extent() {
             return self.journal.read(disk, slot);
         }

@@ -60,7 +60,7 @@ pub fn build<L: Ledger>(
     let Some(marks) = marks_of(alloc, id, rest)? else {
         return Ok(None);
     };
-    if !lie_free(&marks.landmarks, id, rest) {
+    if !lie_free(&marks.landmarks, id, rest, steps) {
         return Ok(None);
     }
     let windows = windows_of(alloc, id, rest, steps)?;

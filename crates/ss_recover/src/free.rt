@@ -1,5 +1,5 @@
 // Windows among landmarks.
-ghost use Rattle.std.specs.Prelude.{◌≡◌, ◌≤◌};
+ghost use Rattle.std.specs.Prelude.{◌≡◌, ◌+◌, ◌≤◌};
 ghost use Rattle.ss_landmarks.specs.Free.{is_free};
 ghost use Rattle.ss_landmarks.specs.declared.landmarks.TheConstants.{LATEST_TIME};
 ghost use Rattle.ss_summary.specs.Figures.{IsPossible};
@@ -7,23 +7,28 @@ ghost use Rattle.ss_model.specs.Marks.{lies_free};
 
 use ss_landmarks::Landmarks;
 use ss_model::Window;
+use ss_steps::Steps;
+use std::sync::ledger::Ledger;
 
 // Whether no landmark covers the time.
-fn is_free(landmarks: &Landmarks, t: u64) -> bool
+fn is_free<L: Ledger>(landmarks: &Landmarks, t: u64, searches: &mut Steps<L>) -> bool
     requires { t ≤ LATEST_TIME }
-    ensures { result ≡ is_free landmarks.now.landmarks t }
+    ensures free { result ≡ is_free landmarks.now.landmarks t }
+    ensures one_search { searches.new ≡ searches.old + 1 }
 {
-    landmarks.free(t, t) == 1
+    landmarks.free(t, t, searches) == 1
 }
 
-/// Whether no landmark covers an end of the window, and it has no more values than there are free times in it.
+/// Whether no landmark covers an end of the window, and it has no more values than there are free times in it: three searches
+/// of the landmarks at most.
 #[tactic(auto, unfolding(ss_model::specs::Marks::lies_free))]
-pub fn lies_free(landmarks: &Landmarks, window: &Window) -> bool
+pub fn lies_free<L: Ledger>(landmarks: &Landmarks, window: &Window, searches: &mut Steps<L>) -> bool
     requires { IsPossible window.now.summary }
-    ensures { result ≡ lies_free landmarks.now.landmarks window.now }
+    ensures free { result ≡ lies_free landmarks.now.landmarks window.now }
+    ensures searches { searches.new ≤ searches.old + 3 }
 {
     let summary = window.summary;
-    is_free(landmarks, summary.t_first)
-        && is_free(landmarks, summary.t_last)
-        && summary.count <= landmarks.free(summary.t_first, summary.t_last)
+    is_free(landmarks, summary.t_first, searches)
+        && is_free(landmarks, summary.t_last, searches)
+        && summary.count <= landmarks.free(summary.t_first, summary.t_last, searches)
 }

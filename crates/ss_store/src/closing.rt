@@ -45,15 +45,16 @@ pub fn values_held<L: Ledger>(part: &StreamParts, steps: &mut Steps<L>) -> u64
 }
 
 // The summary of two neighbouring windows as one, read from their records.
-fn read_joined<D: Disk, R: Ledger>(
+fn read_joined<D: Disk, R: Ledger, S: Ledger>(
     records: &mut Records,
     disk: &mut D,
     part: &StreamParts,
     window: Entry,
     next: Entry,
-    blank: Blank,
+    reads: Blank,
+    searches: Blank,
 ) -> Result<Summary, ReadError>
-    requires fresh { IsFresh R.name R.parts blank }
+    requires fresh { IsFresh R.name R.parts reads × IsFresh S.name S.parts searches }
     requires running { IsRunning records.old.journal }
     requires live { AreSomeLive (window.slot ∷ next.slot ∷ []) records.old.live }
     requires neighbours { StandBeside window next }
@@ -68,9 +69,10 @@ fn read_joined<D: Disk, R: Ledger>(
 {
     // Each slot that is live is one of those that a disk has.
     let _live = records.live();
-    let mut reads = Steps::<R>::new(blank);
-    let older = read_window(records, disk, part, window, &mut reads)?;
-    let newer = read_window(records, disk, part, next, &mut reads)?;
+    let mut reads = Steps::<R>::new(reads);
+    let mut searches = Steps::<S>::new(searches);
+    let older = read_window(records, disk, part, window, &mut reads, &mut searches)?;
+    let newer = read_window(records, disk, part, next, &mut reads, &mut searches)?;
     Ok(Summary::join(older, newer))
 }
 
@@ -103,7 +105,15 @@ fn join<D: Disk, L: Ledger>(
     let joined = Record::Window {
         id: number,
         first: window.first,
-        summary: read_joined::<D, Brand>(records, disk, part, window, next, Blank::new(1))?,
+        summary: read_joined::<D, Brand, Brand>(
+            records,
+            disk,
+            part,
+            window,
+            next,
+            Blank::new(1),
+            Blank::new(1),
+        )?,
     };
     stage_two(records, disk, window.slot, next.slot, &joined)?;
     let n = values_held(part, steps);

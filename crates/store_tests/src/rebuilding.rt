@@ -52,11 +52,13 @@ fn has_entries<L: Ledger>(line: &Line, want: &[HeldWindow], blank: Blank) -> boo
     place.is_none()
 }
 
-fn has_marks(landmarks: &Landmarks, want: Marks) -> bool {
+fn has_marks<L: Ledger>(landmarks: &Landmarks, want: Marks, blank: Blank) -> bool
+    requires { IsFresh L.name L.parts blank }
+{
     landmarks.count() == want.0
         && landmarks.values() == want.1
         && landmarks.opened() == want.2
-        && landmarks.free(0, 100) == want.3
+        && landmarks.free(0, 100, &mut Steps::<L>::new(blank)) == want.3
 }
 
 fn is_read(part: &StreamParts, want: &Read) -> bool {
@@ -64,7 +66,7 @@ fn is_read(part: &StreamParts, want: &Read) -> bool {
         && part.slot == want.1
         && part.last_time == want.2
         && has_entries::<Brand>(&part.line, want.3, Blank::new(1))
-        && has_marks(&part.landmarks, want.4)
+        && has_marks::<Brand>(&part.landmarks, want.4, Blank::new(1))
 }
 
 fn are_read(parts: &Parts, want: &[Read]) -> bool {

@@ -1,12 +1,16 @@
 // Scripts of landmarks in time: what is told of them after each.
 ghost use Rattle.std.specs.Prelude.{◌≤◌, IfOk};
 ghost use Rattle.ss_landmarks.specs.Order.{AllEndBy};
+ghost use Rattle.ss_steps.specs.Steps.{IsFresh};
 
 use ss_landmarks::{
     LATEST_TIME, Landmarks, free_times_add_up, landmarks_stay_in_order, last_times_rise,
     the_last_is_open, times_may_follow, values_come_last, which_values_are_among_them,
 };
+use ss_steps::Steps;
 use std::alloc::{AllocError, Global};
+use std::marker::Brand;
+use std::sync::ledger::{Blank, Ledger};
 
 #[derive(Clone, Copy)]
 enum Step {
@@ -308,9 +312,12 @@ fn landmarks_of(alloc: Global, steps: &[Step]) -> Result<Landmarks, AllocError> 
     Ok(landmarks)
 }
 
-fn has_free(landmarks: &Landmarks, rows: &[(u64, u64, u64)]) -> bool {
+fn has_free<L: Ledger>(landmarks: &Landmarks, rows: &[(u64, u64, u64)], blank: Blank) -> bool
+    requires { IsFresh L.name L.parts blank }
+{
+    let mut searches = Steps::<L>::new(blank);
     for (p, q, free) in rows {
-        if *q > LATEST_TIME || landmarks.free(*p, *q) != *free {
+        if *q > LATEST_TIME || landmarks.free(*p, *q, &mut searches) != *free {
             return false;
         }
     }
@@ -359,7 +366,7 @@ fn is_told(alloc: Global, row: &Row) -> Result<bool, AllocError> {
         counts
             && landmarks.opened() == row.opened
             && has_slots(&landmarks, row.slots)
-            && has_free(&landmarks, row.free)
+            && has_free::<Brand>(&landmarks, row.free, Blank::new(1))
             && has_values(&landmarks, row.values)
             && holds_values(&landmarks, row.holds),
     )

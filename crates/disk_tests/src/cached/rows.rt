@@ -8,6 +8,7 @@ ghost use Rattle.ss_records.specs.Kept.{AreAtRest, AreKept};
 use super::{Fill, put};
 use crate::journal::files::{File, bytes_of, disk_of};
 use crate::passing::{pass, pass_if};
+use crate::reading::read;
 use ss_journal::{JournalError, MOST_SLOTS, SLOT_SIZE};
 use ss_outside::{Failed, MemDisk};
 use ss_records::Records;
@@ -85,7 +86,7 @@ pub fn is_seen(records: &mut Records, disk: &mut MemDisk, seen: Seen) -> Result<
 {
     let ((slot, byte), calls) = seen;
     let before = disk.calls();
-    let bytes = records.read(disk, slot.min(MOST_SLOTS - 1))?;
+    let bytes = read(records, disk, slot.min(MOST_SLOTS - 1))?;
     Ok(bytes == [byte; SLOT_SIZE] && disk.calls().wrapping_sub(before) == calls)
 }
 
@@ -171,7 +172,7 @@ fn fail_next(alloc: Global, records: &Records, disk: &mut MemDisk) -> Result<(),
 fn fails(alloc: Global, disk: &mut MemDisk) -> Result<bool, JournalError> {
     let mut records = Records::open(alloc, disk)?;
     fail_next(alloc, &records, disk)?;
-    Ok(matches!(records.read(disk, 0), Err(Failed)))
+    Ok(matches!(read(&mut records, disk, 0), Err(Failed)))
 }
 
 // Whether the same slot is read by one call after it.

@@ -54,7 +54,7 @@ impl Store {
         if self.stopped {
             return Err(AskError::Stopped);
         }
-        self.read_in::<D, Brand>(disk, id, at, Blank::new(1))
+        self.read_in::<D, Brand, Brand>(disk, id, at, Blank::new(1), Blank::new(1))
     }
 
     // The positions and the slot of a window.
@@ -72,14 +72,15 @@ impl Store {
     }
 
     // Reads a window, where the store hasn't stopped.
-    fn read_in<D: Disk, L: Ledger>(
+    fn read_in<D: Disk, L: Ledger, S: Ledger>(
         &mut self,
         disk: &mut D,
         id: StreamId,
         at: At,
-        blank: Blank,
+        steps: Blank,
+        searches: Blank,
     ) -> Result<Placed, AskError>
-        requires fresh { IsFresh L.name L.parts blank }
+        requires fresh { IsFresh L.name L.parts steps × IsFresh S.name S.parts searches }
         requires stands { IsSome (part_numbered id.0 self.old.streams) }
         requires at { IfSome (part_numbered id.0 self.old.streams) (λ part. StandsIn part.line.entries at) }
         requires runs { self.old.stopped ≡ false }
@@ -94,10 +95,18 @@ impl Store {
         ensures running { result ≢ Err AskError.Stopped }
         ensures unrefused { (r : Refusal) → result ≢ Err (AskError.Refused r) }
     {
-        let mut steps = Steps::<L>::new(blank);
+        let mut steps = Steps::<L>::new(steps);
+        let mut searches = Steps::<S>::new(searches);
         let entry = self.entry(id, at, &mut steps);
         let part = &self.streams[place_of(&self.streams, id)];
-        match read_window(&mut self.records, disk, part, entry, &mut steps) {
+        match read_window(
+            &mut self.records,
+            disk,
+            part,
+            entry,
+            &mut steps,
+            &mut searches,
+        ) {
             Ok(summary) => Ok(Placed {
                 first: entry.first,
                 last: entry.last,

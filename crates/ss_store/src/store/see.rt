@@ -27,7 +27,7 @@ use std::marker::Brand;
 use std::sync::ledger::{Blank, Ledger};
 
 // What is known of a stream for a query, from where its index says that the range begins.
-fn see_indexed<D: Disk, L: Ledger, R: Ledger>(
+fn see_indexed<D: Disk, L: Ledger, R: Ledger, S: Ledger>(
     part: &StreamParts,
     index: &Index,
     records: &mut Records,
@@ -35,6 +35,7 @@ fn see_indexed<D: Disk, L: Ledger, R: Ledger>(
     query: &Query,
     steps: &mut Steps<L>,
     reads: &mut Steps<R>,
+    searches: &mut Steps<S>,
 ) -> Result<Seen, ReadError>
     requires timed { IsTimed part.now.line.entries index.now.times }
     requires times { RiseToLast part.now }
@@ -48,13 +49,14 @@ fn see_indexed<D: Disk, L: Ledger, R: Ledger>(
     ensures cuts { IfOk result HasCuts }
     ensures changed { IfChanged (verdict_of_read result) (Contains (window_slots_of part.now)) }
     ensures records { KeepsRecords (verdict_of_read result) records.old records.new }
-    // It looks at the line twice for each window that begins in the range, and at most three times besides.
-    ensures looks { steps.new ≤ steps.old + 2 * begun_in query.now.from query.now.to part.now.line.entries + 3 }
-    // It reads one record for each of these windows at most, and one besides.
-    ensures few_reads { reads.new ≤ reads.old + begun_in query.now.from query.now.to part.now.line.entries + 1 }
+    // It looks at the line twice for each window that begins in the range, and at most three times besides. It reads one record
+    // for each of these windows at most, and one besides, and searches the landmarks seven times at most for each.
+    ensures few { (steps.new ≤ steps.old + 2 * begun_in query.now.from query.now.to part.now.line.entries + 3)
+        × (reads.new ≤ reads.old + begun_in query.now.from query.now.to part.now.line.entries + 1)
+        × (searches.new ≤ searches.old + 7 * (begun_in query.now.from query.now.to part.now.line.entries + 1)) }
 {
     let start = index.start(part, query.from);
-    see_from(part, start, records, disk, query, steps, reads)
+    see_from(part, start, records, disk, query, steps, reads, searches)
 }
 
 impl Store {
@@ -97,10 +99,11 @@ impl Store {
             return Err(AskError::Stopped);
         }
         match self.asked(query) {
-            Ok(id) => self.see_stream::<D, Brand, Brand>(
+            Ok(id) => self.see_stream::<D, Brand, Brand, Brand>(
                 disk,
                 query,
                 id,
+                Blank::new(1),
                 Blank::new(1),
                 Blank::new(1),
             ),
@@ -124,15 +127,16 @@ impl Store {
     }
 
     // What is known of the stream of a number, where the store hasn't stopped.
-    fn see_stream<D: Disk, L: Ledger, R: Ledger>(
+    fn see_stream<D: Disk, L: Ledger, R: Ledger, S: Ledger>(
         &mut self,
         disk: &mut D,
         query: &Query,
         id: StreamId,
         steps: Blank,
         reads: Blank,
+        searches: Blank,
     ) -> Result<Seen, AskError>
-        requires fresh { IsFresh L.name L.parts steps × IsFresh R.name R.parts reads }
+        requires fresh { IsFresh L.name L.parts steps × IsFresh R.name R.parts reads × IsFresh S.name S.parts searches }
         requires asks { AsksStream self.old.streams query.now id.0 }
         requires runs { self.old.stopped ≡ false }
         requires one_disk { OfContent (D.seen disk.old) (StoreIsKept self.old) }
@@ -149,6 +153,7 @@ impl Store {
         let place = place_of(&self.streams, id);
         let mut steps = Steps::<L>::new(steps);
         let mut reads = Steps::<R>::new(reads);
+        let mut searches = Steps::<S>::new(searches);
         match see_indexed(
             &self.streams[place],
             &self.indexes[place],
@@ -157,6 +162,7 @@ impl Store {
             query,
             &mut steps,
             &mut reads,
+            &mut searches,
         ) {
             Ok(seen) => Ok(seen),
             Err(error) => {

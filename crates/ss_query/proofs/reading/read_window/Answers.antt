@@ -34,7 +34,7 @@ returns-in_default-clause-reads g c = record {
               | in_default-via-in-Some+else-is_free b ↦
                   (let lies = lies_free-read c.args.part.now.landmarks.landmarks c.args.part.now.id.0 c.args.entry w b.in-Some.summary
                   c.decode.result spelled b.in-Some.ensures.some.0 free in
-                  let wrong : false ≡ true = sym b.if-is_free.false ∙ b.is_free.ensures ∙ lies in
+                  let wrong : false ≡ true = sym b.if-is_free.false ∙ b.is_free.ensures.free ∙ lies in
                   cc)
               | in_default-via-in_default b ↦ b.in_default.ensures.none w spelled same times
             ];

@@ -16,6 +16,7 @@ loop-next-init g c = record {
       c.requires.begins c.requires.one_disk);
   looks = omega arith;
   reads = omega arith;
+  searches = omega arith;
 }
 
 pub get-entry-requires : goal.get-entry-requires
@@ -68,12 +69,13 @@ loop-next-preserved g c =
     let one = c.get-entry.ensures.look in
     let two = c.neighbours-next.ensures.look in
     let read_so_far = rw c.in-Some.is at c.loop-next.invariant.reads in
-    let read = c.in_ok-seen.ensures.few_reads in
+    let read = c.in_ok-seen.ensures.few.0 in
     record {
       asking = IsAsking-more c.args.query.now c.len-len.ensures.line asking c.get-entry.ensures.entry _ c.in_ok-seen.ensures.sees
           c.in_ok-seen.ensures.room c.in_ok-seen.ensures.cuts c.in_ok-seen.ensures.records c.neighbours-next.result.1 c.neighbours-next.ensures.behind;
       looks = omega (arith, fewer, so_far, one, two);
       reads = omega (arith, fewer, read_so_far, read);
+      searches = omega (arith, c.loop-next.invariant.searches, c.in_ok-seen.ensures.few.1);
     }
 
 pub returns-then-query-entry-clause-marked : goal.returns-then-query-entry-clause-marked
@@ -97,36 +99,23 @@ returns-clause-cuts g c = c.loop-next.invariant.asking.line.cuts
 pub returns-clause-sees : goal.returns-clause-sees
 returns-clause-sees g c = all-look c.args.query.now (asking-at c.in_default.is c.loop-next.invariant.asking)
 
-pub returns-then-query-entry-clause-looks : goal.returns-then-query-entry-clause-looks
-returns-then-query-entry-clause-looks g c = λ near.
+pub returns-then-query-entry-clause-few : goal.returns-then-query-entry-clause-few
+returns-then-query-entry-clause-few g c = λ near.
     let few = begun_by-near c.args.part.now.line c.args.query.now.from c.args.query.now.to c.args.start c.len-len.ensures.line near in
-    omega (arith, few, c.loop-next.invariant.looks, c.get-entry.ensures.look)
+    (omega (arith, few, c.loop-next.invariant.looks, c.get-entry.ensures.look), omega (arith, few, c.loop-next.invariant.reads))
 
-pub returns-in_err-seen-clause-looks : goal.returns-in_err-seen-clause-looks
-returns-in_err-seen-clause-looks g c = λ near.
-    let few = begun_by-near c.args.part.now.line c.args.query.now.from c.args.query.now.to c.args.start c.len-len.ensures.line near in
-    omega (arith, few, c.loop-next.invariant.looks, c.get-entry.ensures.look)
-
-pub returns-clause-looks : goal.returns-clause-looks
-returns-clause-looks g c = λ near.
-    let few = begun_by-near c.args.part.now.line c.args.query.now.from c.args.query.now.to c.args.start c.len-len.ensures.line near in
-    omega (arith, few, c.loop-next.invariant.looks)
-
-pub returns-then-query-entry-clause-few_reads : goal.returns-then-query-entry-clause-few_reads
-returns-then-query-entry-clause-few_reads g c = λ near.
-    let few = begun_by-near c.args.part.now.line c.args.query.now.from c.args.query.now.to c.args.start c.len-len.ensures.line near in
-    omega (arith, few, c.loop-next.invariant.reads)
-
-pub returns-in_err-seen-clause-few_reads : goal.returns-in_err-seen-clause-few_reads
-returns-in_err-seen-clause-few_reads g c = λ near.
+pub returns-in_err-seen-clause-few : goal.returns-in_err-seen-clause-few
+returns-in_err-seen-clause-few g c = λ near.
     let asking = asking-at c.in-Some.is c.loop-next.invariant.asking in
     let some = begun_by-next c.len-len.ensures.line asking.line c.get-entry.ensures.entry c.if-query-entry.false
     (place_at c.args.part.now.line.entries (index_of c.args.part.now.line.entries c.in-Some.at + 1)) refl in
     let so_far = rw c.in-Some.is at c.loop-next.invariant.reads in
-    let few = begun_by-near c.args.part.now.line c.args.query.now.from c.args.query.now.to c.args.start c.len-len.ensures.line near in
-    omega (arith, few, some, so_far, c.in_err-seen.ensures.few_reads)
+    let few = begun_by-near c.args.part.now.line c.args.query.now.from c.args.query.now.to c.args.start c.len-len.ensures.line near in (
+      omega (arith, few, c.loop-next.invariant.looks, c.get-entry.ensures.look),
+      omega (arith, few, some, so_far, c.in_err-seen.ensures.few.0),
+    )
 
-pub returns-clause-few_reads : goal.returns-clause-few_reads
-returns-clause-few_reads g c = λ near.
+pub returns-clause-few : goal.returns-clause-few
+returns-clause-few g c = λ near.
     let few = begun_by-near c.args.part.now.line c.args.query.now.from c.args.query.now.to c.args.start c.len-len.ensures.line near in
-    omega (arith, few, c.loop-next.invariant.reads)
+    (omega (arith, few, c.loop-next.invariant.looks), omega (arith, few, c.loop-next.invariant.reads))

@@ -11,6 +11,7 @@ invariant-loop-next g l = record {
       ≤ l.initial.steps + 2 * begun_by l.query.to (entries_from l.part.line.entries l.fn.start);
   reads : l.reads + begun_by l.query.to (entries_from l.part.line.entries l.next)
       ≤ l.initial.reads + begun_by l.query.to (entries_from l.part.line.entries l.fn.start);
+  searches : l.searches + 7 * l.initial.reads ≤ l.initial.searches + 7 * l.reads;
 }
 
 abbrev pub decreases-loop-next : goal.decreases-loop-next

@@ -13,5 +13,5 @@ free-one ls t =
     let counted : count_by (is_free ls) (range_with_len t 1) ≡ cond (is_free ls t) 1 0 = omega (arith, sum_by-cons (λ u. cond (is_free ls u) 1 0) t []) in
     ap (λ n. count_by (is_free ls) (range_with_len t n) == 1) long ∙ ap (λ n. n == 1) counted ∙ one (is_free ls t)
 
-pub returns : goal.returns
-returns c = ap (λ n. n == 1) c.free.ensures ∙ free-one c.args.landmarks.now.landmarks c.args.t
+pub returns-clause-free : goal.returns-clause-free
+returns-clause-free g c = ap (λ n. n == 1) c.free.ensures.free ∙ free-one c.args.landmarks.now.landmarks c.args.t

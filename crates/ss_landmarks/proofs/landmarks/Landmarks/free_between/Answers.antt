@@ -6,7 +6,7 @@ use Rattle.ss_landmarks.specs.Stored.{bare_value, landmarks_from, free_before, K
 use Rattle.ss_landmarks.specs.declared.stored.Closed.{Closed}
 use Rattle.ss_landmarks.proofs.Counting.{among, among-add, among-same}
 use Rattle.ss_landmarks.proofs.HeldLemmas.{is_free-values}
-use Rattle.ss_landmarks.proofs.landmarks.Landmarks.free.Goals as goal
+use Rattle.ss_landmarks.proofs.landmarks.Landmarks.free_between.Goals as goal
 
 pub returns-then-p-q : goal.returns-then-p-q
 returns-then-p-q c =

@@ -5,3 +5,6 @@ ghosts-see_stream-L-Ledger g a = record { name = a.steps.name; parts = a.steps.p
 
 abbrev pub ghosts-see_stream-R-Ledger : goal.ghosts-see_stream-R-Ledger
 ghosts-see_stream-R-Ledger g a = record { name = a.reads.name; parts = a.reads.parts }
+
+abbrev pub ghosts-see_stream-S-Ledger : goal.ghosts-see_stream-S-Ledger
+ghosts-see_stream-S-Ledger g a = record { name = a.searches.name; parts = a.searches.parts }
