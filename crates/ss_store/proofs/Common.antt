@@ -20,7 +20,6 @@ pub use Rattle.std.proofs.lemmas.List.Sorted.{IsPermutation-trans}
 pub use Rattle.std.proofs.lemmas.List.Sums.{passes_at_first, sum_by-cons}
 pub use Rattle.std.proofs.lemmas.Option.{get_or_from_slice_get, none-some, same_Some, slice_get-get_or, slice_get-map, slice_get_read, slice_get_within}
 pub use Rattle.std.proofs.lemmas.Result.{err_from_is_err_and, on_ok_weaker}
-pub use Rattle.std.proofs.lemmas.Slice.Zip.{AllZip-long}
 pub use Rattle.std.specs.List.{AllByRecursion, AllZip, IsDistinct, count_by, find, last_or, list_all, list_any, position_or_len, range_with_len}
 pub use Rattle.std.specs.List.Sorted.{IsStrictlyIncreasing}
 pub use Rattle.std.specs.Option.{option_map_or}
@@ -155,7 +154,9 @@ pub use Rattle.ss_store.specs.Errors.{apply_of_fault, ask_of_fault, verdict_of_a
 pub use Rattle.ss_store.specs.Events.{events_held, is_closed, mark_events}
 pub use Rattle.ss_store.specs.Extents.{AllGrowLittle, GrowsLittle, records_in}
 pub use Rattle.ss_store.specs.Held.{IsHalfway, IsOrdered, IsPartlyJoined, IsSameStream, ends_held, values_held, with_single, with_windows}
-pub use Rattle.ss_store.specs.Indexed.{IndexState, IsKeyedFor, IsReservedFor, IsScheduled, IsTimed, StandsAfter, begun_at}
+pub use Rattle.ss_store.specs.declared.held.HeldStream.{HeldStream}
+pub use Rattle.ss_store.specs.declared.index.Index.{Index}
+pub use Rattle.ss_store.specs.Indexed.{IsKeyedFor, IsReservedFor, IsScheduled, IsTimed, StandsAfter, begun_at, parts_of}
 pub use Rattle.ss_store.specs.Joining.{AreDue, IsJoinedIn, NoEntriesAreDue, may_be_joined}
 pub use Rattle.ss_store.specs.Kept.{IsSound, SameButSpare, SomeAgree, StoreIsIn, StoreIsKept, StoreState, entry_of, has_all_numbers, has_all_slots}
 pub use Rattle.ss_store.specs.Kept.{is_early_held, is_of_landmark, numbers_held, of_part, part_named, part_numbered, refuses_held, row_of_held, without_spare}

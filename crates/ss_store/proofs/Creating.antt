@@ -1,13 +1,14 @@
 -- A store in which a stream is created: what is known before the write, and what the store does then.
 use Rattle.ss_store.proofs.Common.{◌≡◌, ◌∙◌, ◌∷◌, ◌++◌, ◌+◌, ◌≤◌, ℕ, Bool, true, false, List, [], flat_map, zip, ap, arith, refl, sym, subst, Err, None, Ok}
 use Rattle.ss_store.proofs.Common.{DiskView, OfContent, Step, failed, fine, Failed, step-from, Create, Params, StreamId, refuses, IsSettled, RecordsState}
-use Rattle.ss_store.proofs.Common.{shown_by, records_held, StreamParts, IsNew, Applies, StagesAtCost, IsSound, StoreIsIn, StoreIsKept, StoreState}
+use Rattle.ss_store.proofs.Common.{shown_by, records_held, HeldStream, StreamParts, IsNew, Applies, StagesAtCost, IsSound, StoreIsIn, StoreIsKept, StoreState}
 use Rattle.ss_store.proofs.Common.{refuses_held, LiveSlotsGo, StagesRecord, Disk}
 use Rattle.std.proofs.Common.{max}
 use Rattle.ss_codec.specs.declared.record.Record.TheVariants as records
 use Rattle.ss_query.specs.declared.read_error.ReadError.TheVariants as fault
 use Rattle.ss_store.proofs.Applying.{Applies-done, Applies-failed}
 use Rattle.ss_store.proofs.Created.{IsFreshPart, IsSound-created, StepsState-created, StoreIsKept-created, said_of_created}
+use Rattle.ss_store.proofs.IndexedStreams.{stored}
 use Rattle.ss_store.proofs.Refusals.{refuses_held-is}
 use Rattle.ss_store.proofs.Stepping.{StepsState-answers, StepsState-failed}
 
@@ -21,10 +22,12 @@ pub record IsCreating (store : StoreState) (catalog : List (List ℕ × StreamId
   pub fresh : IsFreshPart part name params
   pub is_new : IsNew store name params part.id.0 part.slot
 
-pub creating : {store view : StoreState} {catalog : List (List ℕ × StreamId)} {name : List ℕ} {params : Params} {part : StreamParts} (disk : DiskView) →
-    store ≡ view → OfContent disk (StoreIsKept view) → IsSound store catalog → view.stopped ≡ false → refuses_held view.streams (Create name params) ≡ None →
-    IsFreshPart part name params → IsNew view name params part.id.0 part.slot → IsCreating store catalog name params part disk
-creating {store} {view} {catalog} {name} {params} {part} disk same one_disk sound runs none fresh is_new = record {
+pub creating : (held : List HeldStream) {records : RecordsState} {stopped : Bool} {view : StoreState} {catalog : List (List ℕ × StreamId)} {name : List ℕ}
+    {params : Params} {part : StreamParts} (disk : DiskView) → stored held records stopped ≡ view → OfContent disk (StoreIsKept view) →
+    IsSound (stored held records stopped) catalog → view.stopped ≡ false → refuses_held view.streams (Create name params) ≡ None →
+    IsFreshPart part name params → IsNew view name params part.id.0 part.slot →
+    IsCreating (stored held records stopped) catalog name params part disk
+creating held {records} {stopped} {view} {catalog} {name} {params} {part} disk same one_disk sound runs none fresh is_new = record {
   one_disk = subst (λ (s : StoreState). OfContent disk (StoreIsKept s)) (sym same) one_disk;
   sound = sound;
   runs = ap (λ (s : StoreState). s.stopped) same ∙ runs;

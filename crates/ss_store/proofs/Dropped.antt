@@ -6,7 +6,7 @@ use Rattle.ss_store.proofs.Common.{get_or_from_slice_get, slice_get-map, slice_g
 use Rattle.ss_store.proofs.Common.{step-from, same_name, Drop, StreamId, AreKnown, Entry, AreKept, RecordsState, shown_by, closed_state, closed_stream}
 use Rattle.ss_store.proofs.Common.{IsState, Stream, numbers_of, stepped, Ack, same_name-Decides, same_name-swap, HasRecords, is_of, records_beside}
 use Rattle.ss_store.proofs.Common.{without_numbered, AllAgree, AreWhole, EndByLast, RiseToLast, TileFrom, entries_of, mark_slots, occupied, records_held}
-use Rattle.ss_store.proofs.Common.{slots_held, StreamParts, all_weaker, HasWholeSlots-StandsFor, Applies, RecoversToEither, StepsState, said_of_held}
+use Rattle.ss_store.proofs.Common.{slots_held, HeldStream, StreamParts, parts_of, all_weaker, HasWholeSlots-StandsFor, Applies, RecoversToEither, StepsState, said_of_held}
 use Rattle.ss_store.proofs.Common.{StagesAtCost, IsHeldBeside, RecoversWithOrWithout, StagesDrop, slots_in_turn, IsSound, StoreIsKept, StoreState, entry_of}
 use Rattle.ss_store.proofs.Common.{part_named, refuses_held, Recovers, AreSomeLive, LiveSlotsGo, live_slots, Disk, carried-AreHeld}
 use Rattle.std.proofs.Common.{slice_get}
@@ -19,6 +19,7 @@ use Rattle.ss_recover.proofs.Lists.{map-all}
 use Rattle.ss_store.proofs.Among.{Agrees-both, Recovers-held, length-AllAgree, others_of}
 use Rattle.ss_store.proofs.Applying.{Applies-done, Applies-failed}
 use Rattle.ss_store.proofs.DroppedRecords.{none-of-all}
+use Rattle.ss_store.proofs.IndexedStreams.{stored}
 use Rattle.ss_store.proofs.KeptStates.{Recovers-StoreIsIn}
 use Rattle.ss_store.proofs.Named.{IsAtPlace, IsPair-at}
 use Rattle.ss_store.proofs.OneOfMany.{IsPermutation-parted, slice_get-zip}
@@ -206,10 +207,11 @@ pub record IsDropping (store : StoreState) (catalog : List (List ℕ × StreamId
   pub runs : store.stopped ≡ false
   pub stands : IsAtPlace name place store.streams part
 
-pub dropping : {store view : StoreState} {catalog : List (List ℕ × StreamId)} {name : List ℕ} {place : ℕ} {part : StreamParts} (disk : DiskView) →
-    store ≡ view → OfContent disk (StoreIsKept view) → IsSound store catalog → view.stopped ≡ false → IsAtPlace name place store.streams part →
-    IsDropping store catalog name place part disk
-dropping {store} {view} {catalog} {name} {place} {part} disk same one_disk sound runs stands = record {
+pub dropping : (held : List HeldStream) {records : RecordsState} {stopped : Bool} {view : StoreState} {catalog : List (List ℕ × StreamId)} {name : List ℕ}
+    {place : ℕ} {part : StreamParts} (disk : DiskView) → stored held records stopped ≡ view → OfContent disk (StoreIsKept view) →
+    IsSound (stored held records stopped) catalog → view.stopped ≡ false → IsAtPlace name place (parts_of held) part →
+    IsDropping (stored held records stopped) catalog name place part disk
+dropping held {records} {stopped} {view} {catalog} {name} {place} {part} disk same one_disk sound runs stands = record {
   one_disk = subst (λ (s : StoreState). OfContent disk (StoreIsKept s)) (sym same) one_disk;
   sound = sound;
   runs = ap (λ (s : StoreState). s.stopped) same ∙ runs;

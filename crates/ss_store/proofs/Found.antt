@@ -1,7 +1,8 @@
 -- The stream at the place where it was found by its name.
-use Rattle.ss_store.proofs.Common.{◌≡◌, ◌∙◌, ℕ, ◌<◌, List, get_or, length, refl, sym, ap, subst, None, Some, same_Some, slice_get_read, StreamParts}
+use Rattle.ss_store.proofs.Common.{◌≡◌, ◌∙◌, ℕ, ◌<◌, List, get_or, length, refl, sym, ap, subst, None, Some, length-map, same_Some, slice_get_read, HeldStream, StreamParts, parts_of}
 use Rattle.ss_store.proofs.Common.{slots_in_turn, part_named, IsPlaceOf}
 use Rattle.std.specs.Prelude.{Option}
+use Rattle.ss_store.proofs.IndexedStreams.{parts-read}
 use Rattle.ss_store.proofs.Named.{IsAtPlace}
 
 -- none was found, so none is held
@@ -9,16 +10,19 @@ pub none-found : {found : Option ℕ} (parts : List StreamParts) (name : List �
 none-found parts name is place = subst (IsPlaceOf name parts) is place
 
 -- the streams that are held have the place
-pub inside-found : {items parts : List StreamParts} {found : Option ℕ} {place : ℕ} (name : List ℕ) → items ≡ parts → found ≡ Some place →
-    IsPlaceOf name parts found → place < length items
-inside-found {items} {parts} {found} {place} name same is at = subst (λ l. place < length l) (sym same) (subst (IsPlaceOf name parts) is at).0
+pub inside-found : (held : List HeldStream) {parts : List StreamParts} {found : Option ℕ} {place : ℕ} (name : List ℕ) → parts_of held ≡ parts →
+    found ≡ Some place → IsPlaceOf name parts found → place < length held
+inside-found held {parts} {found} {place} name same is at =
+    subst (λ n. place < n) (ap length (sym same) ∙ length-map held (λ (h : HeldStream). h.part)) (subst (IsPlaceOf name parts) is at).0
 
 -- what is read there is the stream of the name
-pub IsAtPlace-found : {items parts : List StreamParts} {found : Option ℕ} {place : ℕ} {part : StreamParts} (name : List ℕ) → items ≡ parts →
-    found ≡ Some place → IsPlaceOf name parts found → part ≡ get_or items place part → IsAtPlace name place parts part
-IsAtPlace-found {items} {parts} {found} {place} {part} name same is place_is read =
+pub IsAtPlace-found : (held : List HeldStream) {parts : List StreamParts} {found : Option ℕ} {place : ℕ} {stream : HeldStream} (name : List ℕ) →
+    parts_of held ≡ parts → found ≡ Some place → IsPlaceOf name parts found → stream ≡ get_or held place stream →
+    IsAtPlace name place parts stream.part
+IsAtPlace-found held {parts} {found} {place} {stream} name same is place_is read =
     let it = subst (IsPlaceOf name parts) is place_is in
-    let at = slice_get_read parts (length parts) place part refl it.0 (subst (λ l. part ≡ get_or l place part) same read) in
+    let at = slice_get_read parts (length parts) place stream.part refl it.0
+    (subst (λ l. stream.part ≡ get_or l place stream.part) same (parts-read held place read)) in
     record { named = sym it.1 ∙ at; at = at }
 
 -- the stream that is taken out of its place, with the slots that were read of it there
@@ -26,11 +30,11 @@ pub record IsTakenOut (name : List ℕ) (place : ℕ) (parts : List StreamParts)
   pub stands : IsAtPlace name place parts part
   pub slots : listed ≡ slots_in_turn part
 
-pub IsTakenOut-found : {items parts : List StreamParts} {found : Option ℕ} {place : ℕ} {read part : StreamParts} {slots : List ℕ} (name : List ℕ) →
-    items ≡ parts → found ≡ Some place → IsPlaceOf name parts found → read ≡ get_or items place read → part ≡ get_or items place part →
-    slots ≡ slots_in_turn read → IsTakenOut name place items part slots
-IsTakenOut-found {items} {parts} {found} {place} {read} {part} {slots} name same is place_is first second all =
+pub IsTakenOut-found : (held : List HeldStream) {parts : List StreamParts} {found : Option ℕ} {place : ℕ} {read stream : HeldStream} {slots : List ℕ}
+    (name : List ℕ) → parts_of held ≡ parts → found ≡ Some place → IsPlaceOf name parts found → read ≡ get_or held place read →
+    stream ≡ get_or held place stream → slots ≡ slots_in_turn read.part → IsTakenOut name place (parts_of held) stream.part slots
+IsTakenOut-found held {parts} {found} {place} {read} {stream} {slots} name same is place_is first second all =
     let here = subst (λ l. IsPlaceOf name l found) (sym same) place_is in
-    let at = IsAtPlace-found name refl is here second in
-    let was = IsAtPlace-found name refl is here first in
-    record { stands = at; slots = all ∙ ap slots_in_turn (same_Some read part (sym was.at ∙ at.at)) }
+    let at = IsAtPlace-found held name refl is here second in
+    let was = IsAtPlace-found held name refl is here first in
+    record { stands = at; slots = all ∙ ap slots_in_turn (same_Some read.part stream.part (sym was.at ∙ at.at)) }

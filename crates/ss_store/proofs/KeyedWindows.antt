@@ -2,7 +2,7 @@
 use Rattle.ss_store.proofs.Common.{◌≡◌, ◌∙◌, ℕ, zero, suc, ◌+◌, ◌<◌, ◌≤◌, List, [], ◌∷◌, ◌++◌, map, length, take, refl, sym, ap, subst, arith, get_or, None}
 use Rattle.ss_store.proofs.Common.{eqb-true, All-get_or, passes_at_first, MOST_VALUES, StandsIn, index_of, is_at, place_at, At, Entry, Rule, rule_of}
 use Rattle.ss_store.proofs.Common.{params_of, IsKeyed, NoPairFits, TileFrom, entries_of, StreamParts, entries_in, NoneAreDue, values_held, AreDue}
-use Rattle.ss_store.proofs.Common.{NoEntriesAreDue, IndexState, IsReservedFor, IsScheduled, IsTimed, begun_at}
+use Rattle.ss_store.proofs.Common.{NoEntriesAreDue, HeldStream, Index, IsReservedFor, IsScheduled, IsTimed, begun_at}
 use Rattle.std.proofs.Common.{All}
 use Rattle.ss_schedule.specs.Keyed.{TileUpTo, FollowUpTo, ScheduleState}
 use Rattle.ss_schedule.specs.declared.pair.Pair.{Pair}
@@ -49,9 +49,9 @@ FollowUpTo-take n (suc k) [] follow = tt
 FollowUpTo-take n (suc k) (e ∷ es) follow = (follow.0, TileUpTo-take n e.1.first (suc k) (e ∷ es) follow.1)
 
 -- a pair that is due, by its places
-pub AreDue-pair : (part : StreamParts) (index : IndexState) (pair : Pair) (is : IsDuePair part index pair) →
-    AreDue (rule_of (params_of part.target)) (values_held (entries_of part)) part.line.entries pair.left pair.right
-AreDue-pair part index pair is = record {
+pub AreDue-pair : (held : HeldStream) (pair : Pair) (is : IsDuePair held pair) →
+    AreDue (rule_of (params_of held.part.target)) (values_held (entries_of held.part)) held.part.line.entries pair.left pair.right
+AreDue-pair held pair is = record {
   pair = is.stands.neighbours;
   due = rw (← is.stands.first, ← is.stands.last, ← is.stands.t_first, ← is.stands.t_last) is.due;
 }
@@ -68,7 +68,7 @@ take-none [] = refl
 take-none (x ∷ xs) = refl
 
 -- the windows up to a place are taken up
-pub record IsKeyedUpTo (n : ℕ) (part : StreamParts) (index : IndexState) (at : At) : Type 0 where
+pub record IsKeyedUpTo (n : ℕ) (part : StreamParts) (index : Index) (at : At) : Type 0 where
   pub target : index.schedule.target ≡ part.target
   pub stands : StandsIn part.line.entries at
   pub keyed : IsKeyed n (take (index_of part.line.entries at + 1) part.line.entries) index.schedule
@@ -108,40 +108,41 @@ keyed-same was now old new entries keep keyed =
     keep (values_held (entries_of now)) now.line.entries (subst (λ es. IsKeyed (values_held (entries_in es)) es old) (sym entries) keyed)
 
 -- a stream with other room, and an index that says the same
-pub IsScheduled-same : (was now : StreamParts) (old new : IndexState) → now.target ≡ was.target → now.line.entries ≡ was.line.entries →
-    new.schedule.target ≡ old.schedule.target →
-    ((n : ℕ) (entries : List (At × Entry)) → IsKeyed n entries old.schedule → IsKeyed n entries new.schedule) → new.times ≡ old.times →
-    IsScheduled was old → IsScheduled now new
-IsScheduled-same was now old new target entries kept keep times is = (
+pub IsScheduled-same : (was now : HeldStream) → now.part.target ≡ was.part.target → now.part.line.entries ≡ was.part.line.entries →
+    now.index.schedule.target ≡ was.index.schedule.target →
+    ((n : ℕ) (entries : List (At × Entry)) → IsKeyed n entries was.index.schedule → IsKeyed n entries now.index.schedule) →
+    now.index.times ≡ was.index.times → IsScheduled was → IsScheduled now
+IsScheduled-same was now target entries kept keep times is = (
   record {
     target = kept ∙ is.0.target ∙ sym target;
-    keyed = keyed-same was now old.schedule new.schedule entries keep is.0.keyed;
+    keyed = keyed-same was.part now.part was.index.schedule now.index.schedule entries keep is.0.keyed;
     timed = times ∙ is.0.timed ∙ ap (λ es. map begun_at es) (sym entries);
   },
-  none_due-same was now target entries is.1,
+  none_due-same was.part now.part target entries is.1,
 )
 
 -- and one that was made ready for one more window
-pub IsReservedFor-scheduled : (was now : StreamParts) (old new : IndexState) (t : ℕ) → now.target ≡ was.target → now.line.entries ≡ was.line.entries →
-    new.schedule.target ≡ old.schedule.target →
-    ((n : ℕ) (entries : List (At × Entry)) → IsKeyed n entries old.schedule → IsKeyed n entries new.schedule) →
-    new.times ≡ old.times ++ (t, record { 0 = 0 }) ∷ [] → HasPlaces now.line new.schedule → IsScheduled was old → IsReservedFor t now new
-IsReservedFor-scheduled was now old new t target entries kept keep noted places is = record {
+pub IsReservedFor-scheduled : (was now : HeldStream) (t : ℕ) → now.part.target ≡ was.part.target → now.part.line.entries ≡ was.part.line.entries →
+    now.index.schedule.target ≡ was.index.schedule.target →
+    ((n : ℕ) (entries : List (At × Entry)) → IsKeyed n entries was.index.schedule → IsKeyed n entries now.index.schedule) →
+    now.index.times ≡ was.index.times ++ (t, record { 0 = 0 }) ∷ [] → HasPlaces now.part.line now.index.schedule → IsScheduled was →
+    IsReservedFor t now
+IsReservedFor-scheduled was now t target entries kept keep noted places is = record {
   target = kept ∙ is.0.target ∙ sym target;
-  keyed = keyed-same was now old.schedule new.schedule entries keep is.0.keyed;
-  none_due = none_due-same was now target entries is.1;
+  keyed = keyed-same was.part now.part was.index.schedule now.index.schedule entries keep is.0.keyed;
+  none_due = none_due-same was.part now.part target entries is.1;
   places = places;
   noted = noted ∙ ap (λ (ts : List (ℕ × At)). ts ++ (t, record { 0 = 0 }) ∷ []) (is.0.timed ∙ ap (λ es. map begun_at es) (sym entries));
 }
 
 -- a stream without windows
-pub IsScheduled-none : (part : StreamParts) (index : IndexState) → index.schedule.target ≡ part.target → part.line.entries ≡ [] →
-    IsKeyed 0 [] index.schedule → index.times ≡ [] → IsScheduled part index
-IsScheduled-none part index target none keyed timed = (
+pub IsScheduled-none : (held : HeldStream) → held.index.schedule.target ≡ held.part.target → held.part.line.entries ≡ [] →
+    IsKeyed 0 [] held.index.schedule → held.index.times ≡ [] → IsScheduled held
+IsScheduled-none held target none keyed timed = (
   record {
     target = target;
-    keyed = subst (λ es. IsKeyed (values_held (entries_in es)) es index.schedule) (sym none) keyed;
+    keyed = subst (λ es. IsKeyed (values_held (entries_in es)) es held.index.schedule) (sym none) keyed;
     timed = timed ∙ ap (λ es. map begun_at es) (sym none);
   },
-  subst (λ es. NoEntriesAreDue (rule_of (params_of part.target)) (values_held (entries_in es)) (entries_in es)) (sym none) tt,
+  subst (λ es. NoEntriesAreDue (rule_of (params_of held.part.target)) (values_held (entries_in es)) (entries_in es)) (sym none) tt,
 )

@@ -1,9 +1,10 @@
 -- A look at a store: the part that is read, and what a failure leaves.
 use Rattle.ss_store.proofs.Common.{◌≡◌, ◌∙◌, ℕ, true, false, List, get_or, sym, ap, subst, Some, None, Err, IsTrue, IsSome, slice_get, DiskView, IfChanged}
-use Rattle.ss_store.proofs.Common.{IsFirm, StreamParts, verdict_of_read, ReadError, Looks, ask_of_fault, verdict_of_ask, StoreState, part_numbered, AskError}
+use Rattle.ss_store.proofs.Common.{IsFirm, HeldStream, StreamParts, parts_of, verdict_of_read, ReadError, Looks, ask_of_fault, verdict_of_ask, StoreState, part_numbered, AskError}
 use Rattle.std.specs.Prelude.{Option}
 use Rattle.ss_query.specs.declared.read_error.ReadError.TheVariants as error
 use Rattle.ss_store.proofs.Appended.{part-read}
+use Rattle.ss_store.proofs.IndexedStreams.{parts-read}
 
 -- what is read at the place of a stream that stands
 read-at : (parts : List StreamParts) (place : ℕ) (o : Option StreamParts) (read : StreamParts) → slice_get parts place ≡ o → IsSome o →
@@ -16,14 +17,13 @@ pub record IsPartAt (parts : List StreamParts) (number place : ℕ) (part : Stre
   pub numbered : part_numbered number parts ≡ Some part
   pub at : slice_get parts place ≡ Some part
 
-pub IsPartAt-read : {items seen parts : List StreamParts} {number place : ℕ} {part : StreamParts} → seen ≡ items → items ≡ parts →
-    slice_get seen place ≡ part_numbered number seen → IsSome (part_numbered number parts) → part ≡ get_or items place part →
-    IsPartAt parts number place part
-IsPartAt-read {items} {seen} {parts} {number} {place} {part} first second at stands read =
-    let here : slice_get parts place ≡ part_numbered number parts = subst (λ l. slice_get l place ≡ part_numbered number l) (first ∙ second) at in
-    let is : part ≡ get_or parts place part = subst (λ l. part ≡ get_or l place part) second read in
-    let numbered = read-at parts place (part_numbered number parts) part here stands is in
-    record { numbered = numbered; at = here ∙ numbered }
+pub IsPartAt-read : (held : List HeldStream) {parts : List StreamParts} {number place : ℕ} {stream : HeldStream} → parts_of held ≡ parts →
+    slice_get parts place ≡ part_numbered number parts → IsSome (part_numbered number parts) → stream ≡ get_or held place stream →
+    IsPartAt parts number place stream.part
+IsPartAt-read held {parts} {number} {place} {stream} same at stands read =
+    let is : stream.part ≡ get_or parts place stream.part = subst (λ l. stream.part ≡ get_or l place stream.part) same (parts-read held place read) in
+    let numbered = read-at parts place (part_numbered number parts) stream.part at stands is in
+    record { numbered = numbered; at = at ∙ numbered }
 
 -- an error of reading, as a store answers it: no other verdict
 pub IfChanged-ask : (T U : Type 0) (P : ℕ → Type 0) (why : ReadError) (e : AskError) → e ≡ ask_of_fault why →

@@ -1,7 +1,7 @@
 -- A store in which the landmarks of a stream take a mark: what is known before the call, and what the store does then.
 use Rattle.ss_store.proofs.Common.{◌≡◌, ◌∙◌, ℕ, ◌<◌, ◌≤◌, Bool, true, false, List, get_or, slice_set, length, map, ap, arith, refl, sym, subst, Err, None, Ok}
 use Rattle.ss_store.proofs.Common.{DiskView, OfContent, Step, failed, fine, Failed, step-from, LAST_TIME, StreamId, event_name, MOST_SLOTS, CanBeSaid}
-use Rattle.ss_store.proofs.Common.{LandmarksState, has_open, RecordsState, shown_by, entries_of, mark_slots, slots_held, StreamParts, IsMarker, Applies}
+use Rattle.ss_store.proofs.Common.{LandmarksState, has_open, RecordsState, shown_by, entries_of, mark_slots, slots_held, slice_get_within, HeldStream, StreamParts, IsMarker, Applies}
 use Rattle.ss_store.proofs.Common.{StandsOn, leaves_no_value, is_plain_value, StagesAtCost, KeepsWhole, IsOrdered, values_held, IsSound, SameButSpare}
 use Rattle.ss_store.proofs.Common.{StoreIsKept, StoreState, of_part, refuses_held, without_spare, CanMark, FitsMark, IsInOpen, IsItsSlot, event_of}
 use Rattle.ss_store.proofs.Common.{slots_used, AreSomeLive, Disk, Mark}
@@ -13,6 +13,7 @@ use Rattle.ss_store.proofs.Appended.{AreWhole-IsSpared, IsSound-set, IsSpared, I
 use Rattle.ss_store.proofs.Appended.{StoreIsKept-IsSpared, StoreIsKept-marked, held-marker, live-IsSpared, marking, part-read, said_of_set}
 use Rattle.ss_store.proofs.Appended.{ordered-IsSpared, whole-changed}
 use Rattle.ss_store.proofs.Applying.{Applies-done, Applies-failed}
+use Rattle.ss_store.proofs.IndexedStreams.{parts-read, stored}
 use Rattle.ss_store.proofs.MarkedCalls.{CanBeSaid-mark, mark_refusal-same}
 use Rattle.ss_store.proofs.Refusals.{of_part-named}
 use Rattle.ss_store.proofs.Stepping.{StepsState-answers, StepsState-failed}
@@ -31,12 +32,13 @@ pub record IsTakingMark (store : StoreState) (catalog : List (List ℕ × Stream
   pub read : was ≡ get_or store.streams place was
   pub room : HasRoomFor was.landmarks marks
 
-pub taking-mark : {store view : StoreState} {catalog : List (List ℕ × StreamId)} {name : List ℕ} {t : ℕ} {mark : Mark} {place slot : ℕ} {was : StreamParts}
-    {marks : LandmarksState} (disk : DiskView) → store ≡ view → OfContent disk (StoreIsKept view) → IsSound store catalog → view.stopped ≡ false →
+pub taking-mark : (held : List HeldStream) {records : RecordsState} {stopped : Bool} {view : StoreState} {catalog : List (List ℕ × StreamId)} {name : List ℕ}
+    {t : ℕ} {mark : Mark} {place slot : ℕ} {stream : HeldStream} {marks : LandmarksState} (disk : DiskView) → stored held records stopped ≡ view →
+    OfContent disk (StoreIsKept view) → IsSound (stored held records stopped) catalog → view.stopped ≡ false →
     IsMarker view name t mark place slot → refuses_held view.streams (event_of name t mark) ≡ None → t ≤ LAST_TIME →
-    (IsInOpen mark → of_part name view.streams (λ part. has_open part.landmarks.landmarks) ≡ true) → was ≡ get_or store.streams place was →
-    HasRoomFor was.landmarks marks → IsTakingMark store catalog name t mark place slot was marks disk
-taking-mark {store} {view} {catalog} {name} {t} {mark} {place} {slot} {was} {marks} disk same one_disk sound runs marker none early begun read room = record {
+    (IsInOpen mark → of_part name view.streams (λ part. has_open part.landmarks.landmarks) ≡ true) → stream ≡ get_or held place stream →
+    HasRoomFor stream.part.landmarks marks → IsTakingMark (stored held records stopped) catalog name t mark place slot stream.part marks disk
+taking-mark held {records} {stopped} {view} {catalog} {name} {t} {mark} {place} {slot} {stream} {marks} disk same one_disk sound runs marker none early begun read room = record {
   one_disk = subst (λ (s : StoreState). OfContent disk (StoreIsKept s)) (sym same) one_disk;
   sound = sound;
   runs = ap (λ (s : StoreState). s.stopped) same ∙ runs;
@@ -44,7 +46,7 @@ taking-mark {store} {view} {catalog} {name} {t} {mark} {place} {slot} {was} {mar
   none = ap (λ (s : StoreState). refuses_held s.streams (event_of name t mark)) same ∙ none;
   early = early;
   begun = λ own. ap (λ (s : StoreState). of_part name s.streams (λ part. has_open part.landmarks.landmarks)) same ∙ begun own;
-  read = read;
+  read = parts-read held place read;
   room = room;
 }
 
@@ -76,6 +78,9 @@ in_slot-same live part other slot marks.Close same is = subst (λ (p : StreamPar
 
 module _ {store : StoreState} {catalog : List (List ℕ × StreamId)} {name : List ℕ} {t : ℕ} {mark : Mark} {place slot : ℕ} {was : StreamParts}
     {marks : LandmarksState} {before : DiskView} (is : IsTakingMark store catalog name t mark place slot was marks before) where
+  pub inside-marker : place < length store.streams
+  inside-marker = slice_get_within store.streams place is.marker.part is.marker.at
+
   same-part : is.marker.part ≡ was
   same-part = part-read store.streams place is.marker.part was is.marker.at is.read
 

@@ -1,6 +1,6 @@
 -- One element that is taken out of a list.
 use Rattle.ss_store.proofs.Common.{◌≡◌, ℕ, zero, suc, ◌<◌, Bool, true, false, not, List, [], ◌∷◌, length, map, filter, remove, zip, refl, ap, sym, ◌∙◌, ◌+◌}
-use Rattle.ss_store.proofs.Common.{subst, arith, None, Some, get_or, inl, inr, All, ◌==◌, cases_Bool, AllByRecursion, AllZip, IsStrictlyIncreasing, All-cons}
+use Rattle.ss_store.proofs.Common.{subst, arith, None, Some, get_or, inl, inr, All, ◌==◌, cases_Bool, AllByRecursion, IsStrictlyIncreasing, All-cons}
 use Rattle.ss_store.proofs.Common.{All-head, All-tail, AllPairs-from_increasing, none-some, same_Some, all_weaker}
 use Rattle.std.proofs.Common.{slice_get}
 use Rattle.std.specs.Prelude.{find}
@@ -35,14 +35,6 @@ All-remove P [] zero all = all
 All-remove P [] (suc i) all = all
 All-remove P (x ∷ xs) zero all = All-tail P x xs all
 All-remove P (x ∷ xs) (suc i) all = All-cons P x (remove xs i) (All-head P x xs all) (All-remove P xs i (All-tail P x xs all))
-
-pub AllZip-remove : {A B : Type 0} (R : A → B → Type 0) (xs : List A) (ys : List B) (i : ℕ) → AllZip R xs ys → AllZip R (remove xs i) (remove ys i)
-AllZip-remove R [] [] zero all = tt
-AllZip-remove R [] [] (suc i) all = tt
-AllZip-remove R [] (v ∷ vs) i all = absurd all
-AllZip-remove R (u ∷ us) [] i all = absurd all
-AllZip-remove R (u ∷ us) (v ∷ vs) zero all = all.1
-AllZip-remove R (u ∷ us) (v ∷ vs) (suc i) all = (all.0, AllZip-remove R us vs i all.1)
 
 pub IsStrictlyIncreasing-remove : (xs : List ℕ) (i : ℕ) → i < length xs → IsStrictlyIncreasing xs → IsStrictlyIncreasing (remove xs i)
 IsStrictlyIncreasing-remove xs i inside rising =

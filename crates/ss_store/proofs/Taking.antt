@@ -2,7 +2,7 @@
 use Rattle.ss_store.proofs.Common.{◌≡◌, ◌∙◌, ℕ, ℤ, ◌+◌, ◌<◌, ◌≤◌, Bool, true, false, List, flat_map, get_or, slice_set, length, ap, arith, refl, sym, subst}
 use Rattle.ss_store.proofs.Common.{Err, None, Ok, Some, slice_get_within, DiskView, OfContent, Step, fine, step-from, Value, StreamId, LineState, CanBeSaid}
 use Rattle.ss_store.proofs.Common.{RecordsState, shown_by, entries_of, slots_held, StreamParts, IsTaker, Applies, StandsOn, StagesAtCost, ChangedIsHeld}
-use Rattle.ss_store.proofs.Common.{NoneAreDue, apply_of_fault, verdict_of_read, IsOrdered, IsSameStream, values_held, IndexState, IsReservedFor, StandsAfter}
+use Rattle.ss_store.proofs.Common.{NoneAreDue, apply_of_fault, verdict_of_read, IsOrdered, IsSameStream, values_held, HeldStream, Index, IsReservedFor, StandsAfter}
 use Rattle.ss_store.proofs.Common.{is_past, IsSound, SameButSpare, StoreIsKept, StoreState, refuses_held, AreSomeLive, ReadError}
 use Rattle.ss_line.specs.declared.line.TheConstants.{MOST_PLACES}
 use Rattle.ss_store.specs.Changing.{TakesValue}
@@ -13,6 +13,7 @@ use Rattle.ss_store.proofs.Appended.{StoreIsKept-IsSpared, StoreIsKept-appended,
 use Rattle.ss_store.proofs.Appended.{said_of_set, ordered-IsSpared, whole-appended}
 use Rattle.ss_store.proofs.Applying.{Applies-done, Applies-failed, held_by_named}
 use Rattle.ss_store.proofs.Decays.{KeepsToTarget-taken}
+use Rattle.ss_store.proofs.IndexedStreams.{parts-read, stored}
 use Rattle.ss_store.proofs.LiveCounts.{few-slots, length-slots_held}
 use Rattle.ss_store.proofs.Stepping.{StepsState-answers, StepsState-failed}
 
@@ -29,19 +30,20 @@ pub record IsTaking (store : StoreState) (catalog : List (List ℕ × StreamId))
   pub entries : line.entries ≡ was.line.entries
   pub grows : was.line.spare ≤ line.spare
 
-pub taking : {store view : StoreState} {catalog : List (List ℕ × StreamId)} {name : List ℕ} {t : ℕ} {v : ℤ} {place slot : ℕ} {was : StreamParts}
-    {line : LineState} (disk : DiskView) → store ≡ view → OfContent disk (StoreIsKept view) → IsSound store catalog → view.stopped ≡ false →
-    IsTaker view name t place slot →
-    refuses_held view.streams (Value name t v) ≡ None → CanBeSaid (Value name t v) → was ≡ get_or store.streams place was →
-    line.entries ≡ was.line.entries → was.line.spare ≤ line.spare → IsTaking store catalog name t v place slot was line disk
-taking {store} {view} {catalog} {name} {t} {v} {place} {slot} {was} {line} disk same one_disk sound runs taker none said read entries grows = record {
+pub taking : (held : List HeldStream) {records : RecordsState} {stopped : Bool} {view : StoreState} {catalog : List (List ℕ × StreamId)} {name : List ℕ}
+    {t : ℕ} {v : ℤ} {place slot : ℕ} {stream : HeldStream} {line : LineState} (disk : DiskView) → stored held records stopped ≡ view →
+    OfContent disk (StoreIsKept view) → IsSound (stored held records stopped) catalog → view.stopped ≡ false → IsTaker view name t place slot →
+    refuses_held view.streams (Value name t v) ≡ None → CanBeSaid (Value name t v) → stream ≡ get_or held place stream →
+    line.entries ≡ stream.part.line.entries → stream.part.line.spare ≤ line.spare →
+    IsTaking (stored held records stopped) catalog name t v place slot stream.part line disk
+taking held {records} {stopped} {view} {catalog} {name} {t} {v} {place} {slot} {stream} {line} disk same one_disk sound runs taker none said read entries grows = record {
   one_disk = subst (λ (s : StoreState). OfContent disk (StoreIsKept s)) (sym same) one_disk;
   sound = sound;
   runs = ap (λ (s : StoreState). s.stopped) same ∙ runs;
   taker = subst (λ (s : StoreState). IsTaker s name t place slot) (sym same) taker;
   none = ap (λ (s : StoreState). refuses_held s.streams (Value name t v)) same ∙ none;
   said = said;
-  read = read;
+  read = parts-read held place read;
   entries = entries;
   grows = grows;
 }
@@ -97,7 +99,8 @@ module _ {store : StoreState} {catalog : List (List ℕ × StreamId)} {name : Li
   pub later-taker : is_past was.last_time t ≡ false
   later-taker = rw (← same-part) is.taker.later
 
-  pub can-append : (index : IndexState) → 1 ≤ line.spare → IsReservedFor t (record was { line = line }) index → CanAppend (record was { line = line }) index t
+  pub can-append : (index : Index) → 1 ≤ line.spare → IsReservedFor t (record { part = record was { line = line }; index = index }) →
+      CanAppend (record { part = record was { line = line }; index = index }) t
   can-append index spare reserved = record {
     spare = spare;
     reserved = reserved;
@@ -117,7 +120,7 @@ module _ {store : StoreState} {catalog : List (List ℕ × StreamId)} {name : Li
         IsSound-set store catalog is.sound place is.taker.part now is.taker.at (same.id ∙ ap (λ (p : StreamParts). p.id) room.same) same_name records true
         (λ run. let wrong : true ≡ false = run in cc)
 
-    module _ {index : IndexState} (stands : StandsAfter (record was { line = line }) now index store.records records (slot + 1)
+    module _ {index : Index} (stands : StandsAfter (record was { line = line }) (record { part = now; index = index }) store.records records (slot + 1)
         (values_held (entries_of (record was { line = line })) + 1) (Some t)) where
       pub sound-taken : IsSound (with_stream now records store.stopped) catalog
       sound-taken =

@@ -1,7 +1,7 @@
 -- What changes of one stream in a row keep over every disk, and what joins in a row make of it.
 use Rattle.ss_store.proofs.Common.{◌∙◌, ℕ, Bool, List, Option, Ok, Result, arith, refl, subst, sym, length, ◌-◌, ◌≤◌, ◌≡◌, KnowsNow, DiskView, Told, Step}
 use Rattle.ss_store.proofs.Common.{fine, HasSealed, IsSettled, RecordsState, entries_of, slots_held, StreamParts, StagesAtCost, KeepsWhole, IsOrdered}
-use Rattle.ss_store.proofs.Common.{IsSameStream, values_held, with_windows, IndexState, IsKeyedFor, StandsAfter, LiveSlotsGo, ReadError}
+use Rattle.ss_store.proofs.Common.{IsSameStream, values_held, with_windows, HeldStream, IsKeyedFor, StandsAfter, LiveSlotsGo, ReadError}
 use Rattle.ss_store.specs.Changing.{JoinsWindows, KeepsAtRest}
 use Rattle.ss_store.proofs.Closings.{JoinsEach-more, JoinsEach-none}
 use Rattle.ss_store.proofs.LiveSlots.{LiveSlotsGo-none, LiveSlotsGo-then}
@@ -25,18 +25,18 @@ KeepsWhole-then {part} {mid} {now} {was} {between} {is} {used} first second = re
 }
 
 -- no change
-pub StandsAfter-none : (part : StreamParts) (index : IndexState) (records : RecordsState) → IsOrdered part → IsSettled records.journal →
-    IsKeyedFor part index → StandsAfter part part index records records 0 (values_held (entries_of part)) part.last_time
-StandsAfter-none part index records ordered settled keyed = record {
-  whole = KeepsWhole-none part records ordered settled;
+pub StandsAfter-none : (held : HeldStream) (records : RecordsState) → IsOrdered held.part → IsSettled records.journal → IsKeyedFor held →
+    StandsAfter held.part held records records 0 (values_held (entries_of held.part)) held.part.last_time
+StandsAfter-none held records ordered settled keyed = record {
+  whole = KeepsWhole-none held.part records ordered settled;
   holds = record { values = refl; last_time = refl };
   keyed = keyed;
 }
 
 -- one change after another
-pub StandsAfter-then : {part mid now : StreamParts} {between_index index : IndexState} {was between is : RecordsState} {used n : ℕ} {last : Option ℕ} →
-    StandsAfter part mid between_index was between used n last →
-    StandsAfter mid now index between is 0 (values_held (entries_of mid)) mid.last_time → StandsAfter part now index was is used n last
+pub StandsAfter-then : {part : StreamParts} {mid now : HeldStream} {was between is : RecordsState} {used n : ℕ} {last : Option ℕ} →
+    StandsAfter part mid was between used n last →
+    StandsAfter mid.part now between is 0 (values_held (entries_of mid.part)) mid.part.last_time → StandsAfter part now was is used n last
 StandsAfter-then first second = record {
   whole = KeepsWhole-then first.whole second.whole;
   holds = record { values = second.holds.values ∙ first.holds.values; last_time = second.holds.last_time ∙ first.holds.last_time };
@@ -73,9 +73,9 @@ JoinsWindows-more {part} {mid} {now} {was} {between} {is} {old} {then} {new} res
 }
 
 -- Joins from one moment to another: what they make of each stream that may be held, and what they leave as it was.
-pub record IsClosing (old now : DiskView) (records is : RecordsState) (part left : StreamParts) (index : IndexState) : Type 0 where
-  pub step : Step fine old now (StagesAtCost {T = Unit {0}} {E = ReadError} (JoinsWindows part left records is (Ok tt)) 0
-      (length part.line.entries - length left.line.entries) records is (Ok tt))
-  pub fewer : length left.line.entries ≤ length part.line.entries
-  pub same : IsSameStream part left
-  pub stands : StandsAfter part left index records is 0 (values_held (entries_of part)) part.last_time
+pub record IsClosing (old now : DiskView) (records is : RecordsState) (part : StreamParts) (left : HeldStream) : Type 0 where
+  pub step : Step fine old now (StagesAtCost {T = Unit {0}} {E = ReadError} (JoinsWindows part left.part records is (Ok tt)) 0
+      (length part.line.entries - length left.part.line.entries) records is (Ok tt))
+  pub fewer : length left.part.line.entries ≤ length part.line.entries
+  pub same : IsSameStream part left.part
+  pub stands : StandsAfter part left records is 0 (values_held (entries_of part)) part.last_time

@@ -16,11 +16,12 @@ use Rattle.ss_recover.specs.Held.{entries_of}
 use Rattle.ss_recover.specs.declared.parts.StreamParts.{StreamParts}
 use Rattle.ss_store.specs.Changing.{HoldsUntil, KeepsWhole, NoneAreDue}
 use Rattle.ss_store.specs.Held.{IsOrdered, values_held}
+use Rattle.ss_store.specs.declared.held.HeldStream.{HeldStream}
+use Rattle.ss_store.specs.declared.index.Index.{Index}
 
--- the index of a stream: its schedule, and of each window the time of its first value, with its place
-pub record IndexState : Type 0 where
-  pub schedule : ScheduleState
-  pub times : List (ℕ × At)
+-- what the records of streams that are held say
+abbrev pub parts_of : List HeldStream → List StreamParts
+parts_of held = map (λ (stream : HeldStream). stream.part) held
 
 -- when the first value of a window came, and where the window stands
 abbrev pub begun_at : At × Entry → ℕ × At
@@ -32,25 +33,25 @@ IsTimed entries times = times ≡ map begun_at entries
 
 -- an index of the target of a stream says when each two neighbours of its windows first fit, seen after so many values, and
 -- where each window stands
-pub record IsKeyedAt (n : ℕ) (part : StreamParts) (index : IndexState) : Type 0 where
+pub record IsKeyedAt (n : ℕ) (part : StreamParts) (index : Index) : Type 0 where
   pub target : index.schedule.target ≡ part.target
   pub keyed : IsKeyed n part.line.entries index.schedule
   pub timed : IsTimed part.line.entries index.times
 
 -- the same, seen after the values that the windows hold
-abbrev pub IsKeyedFor : StreamParts → IndexState → Type 0
-IsKeyedFor part index = IsKeyedAt (values_held (entries_of part)) part index
+abbrev pub IsKeyedFor : HeldStream → Type 0
+IsKeyedFor held = IsKeyedAt (values_held (entries_of held.part)) held.part held.index
 
 -- and none of them is due
-abbrev pub IsScheduled : StreamParts → IndexState → Type 0
-IsScheduled part index = IsKeyedFor part index × NoneAreDue part
+abbrev pub IsScheduled : HeldStream → Type 0
+IsScheduled held = IsKeyedFor held × NoneAreDue held.part
 
--- What a stream is after a call of it, beside records that are others then: whole, with so many values up to a last time, and this index
+-- What a stream is after a call of it, beside records that are others then: whole, with so many values up to a last time, and its index
 -- is that of its windows.
-pub record StandsAfter (part now : StreamParts) (index : IndexState) (was is : RecordsState) (used n : ℕ) (last : Option ℕ) : Type 0 where
-  pub whole : KeepsWhole part now was is used
-  pub holds : HoldsUntil now n last
-  pub keyed : IsKeyedFor now index
+pub record StandsAfter (part : StreamParts) (now : HeldStream) (was is : RecordsState) (used n : ℕ) (last : Option ℕ) : Type 0 where
+  pub whole : KeepsWhole part now.part was is used
+  pub holds : HoldsUntil now.part n last
+  pub keyed : IsKeyedFor now
 
 -- a schedule has room for each place of a line, also for those to spare
 abbrev pub HasPlaces : LineState → ScheduleState → Type 0
@@ -58,25 +59,25 @@ HasPlaces line schedule = length line.entries + line.spare ≤ length schedule.k
 
 -- the index of a stream in which no two windows are due is ready for one more that begins at a time: it has room for it, and
 -- has noted the time behind those of the windows
-pub record IsReservedFor (t : ℕ) (part : StreamParts) (index : IndexState) : Type 0 where
-  pub target : index.schedule.target ≡ part.target
-  pub keyed : IsKeyed (values_held (entries_of part)) part.line.entries index.schedule
-  pub none_due : NoneAreDue part
-  pub places : HasPlaces part.line index.schedule
-  pub noted : index.times ≡ map begun_at part.line.entries ++ (t, record { 0 = 0 }) ∷ []
+pub record IsReservedFor (t : ℕ) (held : HeldStream) : Type 0 where
+  pub target : held.index.schedule.target ≡ held.part.target
+  pub keyed : IsKeyed (values_held (entries_of held.part)) held.part.line.entries held.index.schedule
+  pub none_due : NoneAreDue held.part
+  pub places : HasPlaces held.part.line held.index.schedule
+  pub noted : held.index.times ≡ map begun_at held.part.line.entries ++ (t, record { 0 = 0 }) ∷ []
 
 -- a stream takes a value outside landmarks at a time: its line has a place for one more window, and its index is ready for it
-pub record CanAppend (part : StreamParts) (index : IndexState) (t : ℕ) : Type 0 where
-  pub spare : 1 ≤ part.line.spare
-  pub reserved : IsReservedFor t part index
-  pub room : values_held (entries_of part) < MOST_VALUES
-  pub plain : has_open part.landmarks.landmarks ≡ false
-  pub later : is_past part.last_time t ≡ false
-  pub ordered : IsOrdered part
+pub record CanAppend (held : HeldStream) (t : ℕ) : Type 0 where
+  pub spare : 1 ≤ held.part.line.spare
+  pub reserved : IsReservedFor t held
+  pub room : values_held (entries_of held.part) < MOST_VALUES
+  pub plain : has_open held.part.landmarks.landmarks ≡ false
+  pub later : is_past held.part.last_time t ≡ false
+  pub ordered : IsOrdered held.part
 
 -- two neighbours of a stream's windows are due, and its index is that of its windows
-pub record IsDuePair (part : StreamParts) (index : IndexState) (pair : Pair) : Type 0 where
-  pub ordered : IsOrdered part
-  pub keyed : IsKeyedFor part index
-  pub stands : IsPairIn part.line.entries pair
-  pub due : may_join (rule_of (params_of part.target)) (values_held (entries_of part)) pair ≡ true
+pub record IsDuePair (held : HeldStream) (pair : Pair) : Type 0 where
+  pub ordered : IsOrdered held.part
+  pub keyed : IsKeyedFor held
+  pub stands : IsPairIn held.part.line.entries pair
+  pub due : may_join (rule_of (params_of held.part.target)) (values_held (entries_of held.part)) pair ≡ true

@@ -16,7 +16,7 @@ ghost use Rattle.ss_store.specs.Held.{IsOrdered, IsSameStream, values_held};
 ghost use Rattle.ss_store.specs.Indexed.{IsDuePair, IsKeyedFor, IsScheduled, StandsAfter};
 ghost use Rattle.ss_store.specs.Slots.{AreSomeLive};
 
-use crate::index::Index;
+use crate::held::HeldStream;
 use crate::writing::stage_two;
 use ss_codec::Record;
 use ss_line::Entry;
@@ -78,37 +78,36 @@ fn read_joined<D: Disk, R: Ledger, S: Ledger>(
 
 // Stages the join of two neighbouring windows that are due, as one transaction.
 fn join<D: Disk, L: Ledger>(
+    stream: &mut HeldStream,
     records: &mut Records,
     disk: &mut D,
-    part: &mut StreamParts,
-    index: &mut Index,
     pair: Pair,
     steps: &mut Steps<L>,
 ) -> Result<(), ReadError>
-    requires due { IsDuePair part.old index.old pair }
+    requires due { IsDuePair stream.old pair }
     requires settled { IsSettled records.old.journal }
-    requires live { AreSomeLive (slots_held part.old) records.old.live }
+    requires live { AreSomeLive (slots_held stream.old.part) records.old.live }
     requires one_disk { OfContent (D.seen disk.old) (AreKept records.old) }
     ensures joins { Step (verdict_of_read result) (D.seen disk.old) (D.seen disk.new)
-        (StagesAtCost (JoinsWindows part.old part.new records.old records.new result) 0 1 records.old records.new result) }
-    ensures same { IsSameStream part.old part.new }
-    ensures stands { OnOk result (StandsAfter part.old part.new index.new records.old records.new 0
-        (values_held (entries_of part.old)) part.old.last_time) }
-    ensures fewer { OnOk result (length part.new.line.entries + 1 ≡ length part.old.line.entries) }
-    ensures err { OnErr result (part.new ≡ part.old) }
-    ensures changed { ChangedIsHeld (verdict_of_read result) part.old }
+        (StagesAtCost (JoinsWindows stream.old.part stream.new.part records.old records.new result) 0 1 records.old records.new result) }
+    ensures same { IsSameStream stream.old.part stream.new.part }
+    ensures stands { OnOk result (StandsAfter stream.old.part stream.new records.old records.new 0
+        (values_held (entries_of stream.old.part)) stream.old.part.last_time) }
+    ensures fewer { OnOk result (length stream.new.part.line.entries + 1 ≡ length stream.old.part.line.entries) }
+    ensures err { OnErr result (stream.new.part ≡ stream.old.part) }
+    ensures changed { ChangedIsHeld (verdict_of_read result) stream.old.part }
     ensures looks { OnOk result (steps.new ≤ steps.old + 9) }
 {
-    let window = part.line.get(pair.left, steps);
-    let next = part.line.get(pair.right, steps);
-    let number = part.id.0;
+    let window = stream.part.line.get(pair.left, steps);
+    let next = stream.part.line.get(pair.right, steps);
+    let number = stream.part.id.0;
     let joined = Record::Window {
         id: number,
         first: window.first,
         summary: read_joined::<D, Brand, Brand>(
             records,
             disk,
-            part,
+            &stream.part,
             window,
             next,
             Blank::new(1),
@@ -116,64 +115,64 @@ fn join<D: Disk, L: Ledger>(
         )?,
     };
     stage_two(records, disk, window.slot, next.slot, &joined)?;
-    let n = values_held(part, steps);
-    index.merged(&mut part.line, pair, next.t_first, n, steps);
+    let n = values_held(&stream.part, steps);
+    stream
+        .index
+        .merged(&mut stream.part.line, pair, next.t_first, n, steps);
     Ok(())
 }
 
 /// Stages the joins of neighbours, each two as one transaction, until no two may be one.
 pub fn stage_joins<D: Disk, L: Ledger>(
+    stream: &mut HeldStream,
     records: &mut Records,
     disk: &mut D,
-    part: &mut StreamParts,
-    index: &mut Index,
     steps: &mut Steps<L>,
 ) -> Result<(), ReadError>
-    requires keyed { IsKeyedFor part.old index.old }
+    requires keyed { IsKeyedFor stream.old }
     requires settled { IsSettled records.old.journal }
-    requires ordered { IsOrdered part.old }
-    requires live { AreSomeLive (slots_held part.old) records.old.live }
+    requires ordered { IsOrdered stream.old.part }
+    requires live { AreSomeLive (slots_held stream.old.part) records.old.live }
     requires one_disk { OfContent (D.seen disk.old) (AreKept records.old) }
     ensures closes { Step (verdict_of_read result) (D.seen disk.old) (D.seen disk.new)
-        (StagesAtCost (StagesJoins part.old part.new records.old records.new result) 0 (length part.old.line.entries + 1)
+        (StagesAtCost (StagesJoins stream.old.part stream.new.part records.old records.new result) 0 (length stream.old.part.line.entries + 1)
         records.old records.new result) }
-    ensures same { IsSameStream part.old part.new }
-    ensures stands { OnOk result (StandsAfter part.old part.new index.new records.old records.new 0
-        (values_held (entries_of part.old)) part.old.last_time) }
-    ensures none_due { OnOk result (NoneAreDue part.new) }
-    ensures changed { ChangedIsHeld (verdict_of_read result) part.new }
+    ensures same { IsSameStream stream.old.part stream.new.part }
+    ensures stands { OnOk result (StandsAfter stream.old.part stream.new records.old records.new 0
+        (values_held (entries_of stream.old.part)) stream.old.part.last_time) }
+    ensures none_due { OnOk result (NoneAreDue stream.new.part) }
+    ensures changed { ChangedIsHeld (verdict_of_read result) stream.new.part }
     // It looks at the line 11 times for each join, and once besides.
-    ensures looks { OnOk result (steps.new + 11 * length part.new.line.entries ≤ steps.old + 11 * length part.old.line.entries + 1) }
+    ensures looks { OnOk result (steps.new + 11 * length stream.new.part.line.entries ≤ steps.old + 11 * length stream.old.part.line.entries + 1) }
 {
-    let n = values_held(part, steps);
-    while let Some(pair) = index.due(&part.line, n, steps) {
-        join(records, disk, part, index, pair, steps)?;
+    let n = values_held(&stream.part, steps);
+    while let Some(pair) = stream.index.due(&stream.part.line, n, steps) {
+        join(stream, records, disk, pair, steps)?;
     }
     Ok(())
 }
 
 /// Joins neighbours, each two as one transaction, until no two may be one. All come to the disk together.
 pub fn close_windows<D: Disk, L: Ledger>(
+    stream: &mut HeldStream,
     records: &mut Records,
     disk: &mut D,
-    part: &mut StreamParts,
-    index: &mut Index,
     steps: &mut Steps<L>,
 ) -> Result<(), ReadError>
-    requires keyed { IsKeyedFor part.old index.old }
+    requires keyed { IsKeyedFor stream.old }
     requires at_rest { AreAtRest records.old }
-    requires ordered { IsOrdered part.old }
-    requires live { AreSomeLive (slots_held part.old) records.old.live }
+    requires ordered { IsOrdered stream.old.part }
+    requires live { AreSomeLive (slots_held stream.old.part) records.old.live }
     requires one_disk { OfContent (D.seen disk.old) (AreKept records.old) }
     ensures closes { Step (verdict_of_read result) (D.seen disk.old) (D.seen disk.new)
-        (ClosesStream part.old part.new records.new result) }
-    ensures same { IsSameStream part.old part.new }
-    ensures whole { OnOk result (KeepsAtRest part.old part.new records.old records.new 0) }
-    ensures holds { OnOk result (HoldsUntil part.new (values_held (entries_of part.old)) part.old.last_time) }
-    ensures scheduled { OnOk result (IsScheduled part.new index.new) }
-    ensures changed { ChangedIsHeld (verdict_of_read result) part.new }
+        (ClosesStream stream.old.part stream.new.part records.new result) }
+    ensures same { IsSameStream stream.old.part stream.new.part }
+    ensures whole { OnOk result (KeepsAtRest stream.old.part stream.new.part records.old records.new 0) }
+    ensures holds { OnOk result (HoldsUntil stream.new.part (values_held (entries_of stream.old.part)) stream.old.part.last_time) }
+    ensures scheduled { OnOk result (IsScheduled stream.new) }
+    ensures changed { ChangedIsHeld (verdict_of_read result) stream.new.part }
 {
-    stage_joins(records, disk, part, index, steps)?;
+    stage_joins(stream, records, disk, steps)?;
     records.seal(disk)?;
     Ok(())
 }

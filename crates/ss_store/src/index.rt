@@ -6,22 +6,13 @@ use ss_steps::Steps;
 use ss_target::Target;
 use ss_times::Times;
 use std::alloc::{AllocError, Global};
-use std::marker::Model;
 use std::sync::ledger::Ledger;
 
 /// When the windows of one stream are joined, and where they stand in its line by the times at which they begin.
 #[derive(Drop)]
 pub struct Index {
-    schedule: Schedule,
-    times: Times,
-}
-
-impl Model for Index {
-    ghost use Rattle.ss_store.specs.Indexed.{IndexState};
-
-    ghost Value = { IndexState };
-
-    ghost view = { λ s. record { schedule = s.schedule; times = s.times } };
+    pub schedule: Schedule,
+    pub times: Times,
 }
 
 impl Index {
@@ -100,7 +91,7 @@ impl Index {
         ensures target { self.new.schedule.target ≡ self.old.schedule.target }
         ensures room { length self.new.schedule.keys ≡ length self.old.schedule.keys }
         ensures placed { (before : List (ℕ × At)) (was : At) → self.old.times ≡ before ++ (t, was) ∷ [] → self.new.times ≡ before ++ (t, at) ∷ [] }
-        ensures looks { steps.new ≤ steps.old + 4 }
+        ensures looks { steps.new ≤ steps.old + 3 }
     {
         self.schedule.add_window(line, at, n, steps);
         self.times.put(t, at);

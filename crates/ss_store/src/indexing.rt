@@ -1,12 +1,12 @@
-// The indexes of streams that were read.
+// Streams that were read, and their indexes.
 ghost use Rattle.std.specs.Prelude.{◌≡◌, All, IfOk, OnOk, []};
-ghost use Rattle.std.specs.List.{AllZip};
 ghost use Rattle.ss_schedule.specs.Keyed.{IsKeyed};
 ghost use Rattle.ss_recover.specs.Held.{entries_of};
 ghost use Rattle.ss_store.specs.Held.{IsOrdered, values_held};
-ghost use Rattle.ss_store.specs.Indexed.{HasPlaces, IsKeyedAt, IsKeyedFor};
+ghost use Rattle.ss_store.specs.Indexed.{HasPlaces, IsKeyedAt, IsKeyedFor, parts_of};
 
 use crate::closing::values_held;
+use crate::held::HeldStream;
 use crate::index::Index;
 use ss_recover::StreamParts;
 use ss_steps::Steps;
@@ -41,34 +41,36 @@ fn add_windows<L: Ledger>(
     Ok(())
 }
 
-// The index of a stream.
-fn index_for<L: Ledger>(
+// A stream with its index.
+fn held_with_index<L: Ledger>(
     alloc: Global,
-    part: &StreamParts,
+    part: StreamParts,
     steps: &mut Steps<L>,
-) -> Result<Index, AllocError>
-    requires { IsOrdered part.now }
-    ensures { IfOk result (IsKeyedFor part.now) }
+) -> Result<HeldStream, AllocError>
+    requires { IsOrdered part }
+    ensures part { IfOk result (λ stream. stream.part ≡ part) }
+    ensures keyed { IfOk result IsKeyedFor }
 {
-    let n = values_held(part, steps);
+    let n = values_held(&part, steps);
     let mut index = Index::new(alloc, part.target);
     index.reserve_places(&part.line)?;
-    add_windows(part, &mut index, n, steps)?;
-    Ok(index)
+    add_windows(&part, &mut index, n, steps)?;
+    Ok(HeldStream { part, index })
 }
 
-/// The index of each stream, in order.
-pub fn indexes_of<L: Ledger>(
+/// Streams that were read, each with its index, in order.
+pub fn held_streams<L: Ledger>(
     alloc: Global,
-    streams: &[StreamParts],
+    parts: Vec<StreamParts>,
     steps: &mut Steps<L>,
-) -> Result<Vec<Index>, AllocError>
-    requires { All IsOrdered streams.now }
-    ensures { IfOk result (λ indexes. AllZip IsKeyedFor streams.now indexes.items) }
+) -> Result<Vec<HeldStream>, AllocError>
+    requires { All IsOrdered parts.items }
+    ensures parts { IfOk result (λ streams. parts_of streams.items ≡ parts.items) }
+    ensures keyed { IfOk result (λ streams. All IsKeyedFor streams.items) }
 {
-    let mut indexes = Vec::with_capacity(alloc, streams.len())?;
-    for part in streams {
-        indexes.push(index_for(alloc, part, steps)?)?;
+    let mut streams = Vec::with_capacity(alloc, parts.len())?;
+    for part in parts {
+        streams.push(held_with_index(alloc, part, steps)?)?;
     }
-    Ok(indexes)
+    Ok(streams)
 }

@@ -5,6 +5,7 @@ mod appending;
 mod clearing;
 mod closing;
 mod error;
+mod held;
 mod index;
 mod indexing;
 mod laws;

@@ -1,6 +1,6 @@
 // The steps of opening a store.
-ghost use Rattle.std.specs.Prelude.{◌≡◌, ◌≤◌, map, length, IfOk, OnOk};
-ghost use Rattle.std.specs.List.{AllZip, IsDistinct};
+ghost use Rattle.std.specs.Prelude.{◌≡◌, ◌≤◌, All, map, length, IfOk, OnOk};
+ghost use Rattle.std.specs.List.{IsDistinct};
 ghost use Rattle.ss_outside.specs.Disk.{OfContent};
 ghost use Rattle.ss_outside.specs.Step.{Step};
 ghost use Rattle.ss_outside.specs.Verdict.{IsFirm};
@@ -16,12 +16,12 @@ ghost use Rattle.ss_query.specs.Reading.{verdict_of_read};
 ghost use Rattle.ss_store.specs.Kept.{entry_of};
 ghost use Rattle.ss_store.specs.Rebuilt.{ReadsAll};
 ghost use Rattle.ss_store.specs.Settling.{SettlesAll};
-ghost use Rattle.ss_store.specs.Indexed.{IsKeyedFor, IsScheduled};
+ghost use Rattle.ss_store.specs.Indexed.{IsKeyedFor, IsScheduled, parts_of};
 
 use crate::OpenError;
 use crate::clearing::clear_all;
 use crate::closing::close_windows;
-use crate::index::Index;
+use crate::held::HeldStream;
 use ss_catalog::Catalog;
 use ss_journal::Journal;
 use ss_outside::Disk;
@@ -64,61 +64,53 @@ pub fn catalog_of(alloc: Global, streams: &[StreamParts]) -> Result<Catalog, All
 
 // Makes the merges that are due in each stream.
 pub fn close_all<D: Disk, L: Ledger>(
+    streams: &mut [HeldStream],
     records: &mut Records,
     disk: &mut D,
-    streams: &mut [StreamParts],
-    indexes: &mut [Index],
     steps: &mut Steps<L>,
 ) -> Result<(), ReadError>
     requires at_rest { AreAtRest records.old }
-    requires whole { AreWhole streams.old records.old.live }
-    requires keyed { AllZip IsKeyedFor streams.old indexes.old }
+    requires whole { AreWhole (parts_of streams.old) records.old.live }
+    requires keyed { All IsKeyedFor streams.old }
     requires one_disk { OfContent (D.seen disk.old) (AreKept records.old) }
     ensures closes { Step (verdict_of_read result) (D.seen disk.old) (D.seen disk.new)
-        (ClosesAll streams.old streams.new records.new result) }
+        (ClosesAll (parts_of streams.old) (parts_of streams.new) records.new result) }
     ensures extent { OnOk result (records.new.journal.extent ≤ records.old.journal.extent) }
-    ensures entries { map entry_of streams.new ≡ map entry_of streams.old }
-    ensures whole { OnOk result (AreWhole streams.new records.new.live) }
+    ensures entries { map entry_of (parts_of streams.new) ≡ map entry_of (parts_of streams.old) }
+    ensures whole { OnOk result (AreWhole (parts_of streams.new) records.new.live) }
     ensures at_rest { OnOk result (AreAtRest records.new) }
-    ensures scheduled { OnOk result (AllZip IsScheduled streams.new indexes.new) }
-    ensures changed { SomeChangedIsHeld (verdict_of_read result) streams.new }
+    ensures scheduled { OnOk result (All IsScheduled streams.new) }
+    ensures changed { SomeChangedIsHeld (verdict_of_read result) (parts_of streams.new) }
 {
     for place in 0..streams.len() {
-        close_windows(
-            records,
-            disk,
-            &mut streams[place],
-            &mut indexes[place],
-            steps,
-        )?;
+        close_windows(&mut streams[place], records, disk, steps)?;
     }
     Ok(())
 }
 
 // Settles the entries in use, clears the records of dropped streams, and makes the merges that are due in each stream.
 pub fn settle_all<D: Disk, L: Ledger>(
+    streams: &mut [HeldStream],
+    doomed: &[u32],
     records: &mut Records,
     disk: &mut D,
-    doomed: &[u32],
-    streams: &mut [StreamParts],
-    indexes: &mut [Index],
     steps: &mut Steps<L>,
 ) -> Result<(), ReadError>
     requires running { IsRunning records.old.journal }
     requires sealed { IsSealed records.old.journal }
-    requires whole { AreWholeBeside doomed.now streams.old records.old.live }
-    requires keyed { AllZip IsKeyedFor streams.old indexes.old }
+    requires whole { AreWholeBeside doomed.now (parts_of streams.old) records.old.live }
+    requires keyed { All IsKeyedFor streams.old }
     requires one_disk { OfContent (D.seen disk.old) (AreKept records.old) }
     ensures settles { Step (verdict_of_read result) (D.seen disk.old) (D.seen disk.new)
-        (SettlesAll doomed.now streams.old streams.new records.new result) }
+        (SettlesAll doomed.now (parts_of streams.old) (parts_of streams.new) records.new result) }
     ensures extent { OnOk result (records.new.journal.extent ≤ records.old.journal.extent) }
-    ensures entries { map entry_of streams.new ≡ map entry_of streams.old }
-    ensures whole { OnOk result (AreWhole streams.new records.new.live) }
+    ensures entries { map entry_of (parts_of streams.new) ≡ map entry_of (parts_of streams.old) }
+    ensures whole { OnOk result (AreWhole (parts_of streams.new) records.new.live) }
     ensures at_rest { OnOk result (AreAtRest records.new) }
-    ensures scheduled { OnOk result (AllZip IsScheduled streams.new indexes.new) }
-    ensures changed { SomeChangedIsHeld (verdict_of_read result) streams.new }
+    ensures scheduled { OnOk result (All IsScheduled streams.new) }
+    ensures changed { SomeChangedIsHeld (verdict_of_read result) (parts_of streams.new) }
 {
     records.settle(disk)?;
     clear_all(records, disk, doomed)?;
-    close_all(records, disk, streams, indexes, steps)
+    close_all(streams, records, disk, steps)
 }

@@ -2,23 +2,25 @@
 ghost use Rattle.std.specs.Prelude.{◌≡◌, ◌<◌, ◌↔◌, length, slice_get, IsTrue, IsNone, IsSome, IfSome};
 ghost use Rattle.std.specs.List.Sorted.{IsStrictlyIncreasing};
 ghost use Rattle.ss_model.specs.State.{next_number};
+ghost use Rattle.ss_store.specs.Indexed.{parts_of};
 ghost use Rattle.ss_store.specs.Kept.{has_all_numbers, numbers_held, part_numbered};
 
+use crate::held::HeldStream;
 use ss_catalog::{LAST_STREAM, MOST_STREAMS, StreamId};
 use ss_recover::StreamParts;
 
 // The place of the stream of a number, from 0: by halves, since numbers rise in order of creation.
-pub fn place_of(streams: &[StreamParts], id: StreamId) -> usize
-    requires rising { IsStrictlyIncreasing (numbers_held streams.now) }
-    requires stands { IsSome (part_numbered id.0 streams.now) }
+pub fn place_of(streams: &[HeldStream], id: StreamId) -> usize
+    requires rising { IsStrictlyIncreasing (numbers_held (parts_of streams.now)) }
+    requires stands { IsSome (part_numbered id.0 (parts_of streams.now)) }
     ensures inside { result < length streams.now }
-    ensures at { slice_get streams.now result ≡ part_numbered id.0 streams.now }
+    ensures at { slice_get (parts_of streams.now) result ≡ part_numbered id.0 (parts_of streams.now) }
 {
     let mut low = 0;
     let mut high = streams.len();
     while 1 < high - low {
         let middle = low + (high - low) / 2;
-        if number_of(&streams[middle]) <= id.0 {
+        if number_of(&streams[middle].part) <= id.0 {
             low = middle;
         } else {
             high = middle;
@@ -35,10 +37,10 @@ pub fn number_of(stream: &StreamParts) -> u32
 }
 
 // The number of a new stream, if there is a place and a number for one.
-pub fn next_id(streams: &[StreamParts]) -> Option<StreamId>
-    requires { IsStrictlyIncreasing (numbers_held streams.now) }
-    ensures none { IsNone result ↔ IsTrue (has_all_numbers (numbers_held streams.now)) }
-    ensures value { IfSome result (λ id. id.0 ≡ next_number (numbers_held streams.now)) }
+pub fn next_id(streams: &[HeldStream]) -> Option<StreamId>
+    requires { IsStrictlyIncreasing (numbers_held (parts_of streams.now)) }
+    ensures none { IsNone result ↔ IsTrue (has_all_numbers (numbers_held (parts_of streams.now))) }
+    ensures value { IfSome result (λ id. id.0 ≡ next_number (numbers_held (parts_of streams.now))) }
 {
     if streams.len() >= MOST_STREAMS as usize {
         return None;
@@ -46,7 +48,7 @@ pub fn next_id(streams: &[StreamParts]) -> Option<StreamId>
     match streams.last() {
         None => Some(StreamId(0)),
         Some(last) => {
-            let number = number_of(last);
+            let number = number_of(&last.part);
             if number == LAST_STREAM {
                 None
             } else {

@@ -15,7 +15,7 @@ mod see;
 mod times;
 mod values;
 
-use crate::index::Index;
+use crate::held::HeldStream;
 use crate::place::place_of;
 use ss_catalog::{Catalog, StreamId};
 use ss_records::Records;
@@ -29,31 +29,28 @@ pub use values::ValueRange;
 /// events are refused. After a call that answers `Disk` or `Changed` the store has stopped.
 #[derive(Drop)]
 pub struct Store {
-    streams: Vec<StreamParts>,
-    // The index of each stream, at its place.
-    indexes: Vec<Index>,
+    streams: Vec<HeldStream>,
     catalog: Catalog,
     records: Records,
     stopped: bool,
 }
 
 impl Model for Store {
-    ghost use Rattle.std.specs.Prelude.{◌≡◌, false};
-    ghost use Rattle.std.specs.List.{AllZip};
+    ghost use Rattle.std.specs.Prelude.{◌≡◌, false, All};
     ghost use Rattle.ss_store.specs.Kept.{IsSound, StoreState};
-    ghost use Rattle.ss_store.specs.Indexed.{IsScheduled};
+    ghost use Rattle.ss_store.specs.Indexed.{IsScheduled, parts_of};
 
     ghost Value = { StoreState };
 
-    ghost view = { λ s. record { streams = s.streams.items; records = s.records; stopped = s.stopped } };
+    ghost view = { λ s. record { streams = parts_of s.streams.items; records = s.records; stopped = s.stopped } };
 
     ghost invariant = { λ s.
-        IsSound (record { streams = s.streams.items; records = s.records; stopped = s.stopped }) s.catalog
-        × (s.stopped ≡ false → AllZip IsScheduled s.streams.items s.indexes.items) };
+        IsSound (record { streams = parts_of s.streams.items; records = s.records; stopped = s.stopped }) s.catalog
+        × (s.stopped ≡ false → All IsScheduled s.streams.items) };
 }
 
 impl Store {
-    ghost use Rattle.std.specs.Prelude.{◌≡◌, ◌≤◌, ◌↔◌, false, nat_le, length, flat_map, Some, IsTrue, IsNone, IsSome, IfSome};
+    ghost use Rattle.std.specs.Prelude.{◌≡◌, ◌≤◌, ◌<◌, ◌↔◌, false, nat_le, length, flat_map, slice_get, Some, IsTrue, IsNone, IsSome, IfSome};
     ghost use Rattle.ss_records.specs.Live.{lowest_free};
     ghost use Rattle.ss_model.specs.declared.types.TheConstants.{MOST_RECORDS};
     ghost use Rattle.ss_recover.specs.Held.{slots_held};
@@ -70,11 +67,21 @@ impl Store {
         self.records.lowest_free()
     }
 
-    // The stream of a number, as it is held.
+    // The place of the stream of a number, from 0.
+    fn place(&self, id: StreamId) -> usize
+        requires { IsSome (part_numbered id.0 self.now.streams) }
+        ensures inside { result < length self.now.streams }
+        ensures at { slice_get self.now.streams result ≡ part_numbered id.0 self.now.streams }
+    {
+        place_of(&self.streams, id)
+    }
+
+    // What the records of the stream of a number say.
     fn part(&self, id: StreamId) -> &StreamParts
         requires { IsSome (part_numbered id.0 self.now.streams) }
         ensures { part_numbered id.0 self.now.streams ≡ Some result.now }
     {
-        &self.streams[place_of(&self.streams, id)]
+        let place = self.place(id);
+        &self.streams[place].part
     }
 }

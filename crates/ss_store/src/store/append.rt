@@ -44,7 +44,7 @@ impl Store {
         let Some(place) = found else {
             return Err(Refusal::Unknown);
         };
-        let stream = &self.streams[place];
+        let stream = &self.streams[place].part;
         if is_past(stream.last_time, t) {
             return Err(Refusal::Time);
         }
@@ -87,24 +87,14 @@ impl Store {
             Err(refusal) => return Err(ApplyError::Refused(refusal)),
         };
         let stream = &mut self.streams[place];
-        let index = &mut self.indexes[place];
-        match index.reserve_window(&mut stream.line, t) {
+        match stream.index.reserve_window(&mut stream.part.line, t) {
             Ok(()) => {}
             Err(_) => return Err(ApplyError::OutOfMemory),
         }
-        match append_value(
-            &mut self.records,
-            disk,
-            stream,
-            index,
-            slot,
-            t,
-            v,
-            &mut steps,
-        ) {
+        match append_value(stream, &mut self.records, disk, slot, t, v, &mut steps) {
             Ok(()) => Ok(Ack {
-                n: values_held(stream, &mut steps),
-                k: stream.line.len(),
+                n: values_held(&stream.part, &mut steps),
+                k: stream.part.line.len(),
             }),
             Err(fault) => {
                 self.stopped = true;

@@ -2,7 +2,6 @@
 use super::Store;
 use crate::ApplyError;
 use crate::marking::Mark;
-use crate::place::place_of;
 use ss_catalog::{Event, Name};
 use ss_model::Ack;
 use ss_outside::{Disk, Failed};
@@ -139,7 +138,7 @@ impl Store {
         ensures { IsPlaceOf name.now self.now.streams result }
     {
         match self.find(name) {
-            Some(id) => Some(place_of(&self.streams, id)),
+            Some(id) => Some(self.place(id)),
             None => None,
         }
     }
@@ -150,7 +149,7 @@ impl Store {
         ensures { result ≡ of_part name.now self.now.streams (λ part. has_open part.landmarks.landmarks) }
     {
         match found {
-            Some(place) => self.streams[place].landmarks.opened().is_some(),
+            Some(place) => self.streams[place].part.landmarks.opened().is_some(),
             None => false,
         }
     }

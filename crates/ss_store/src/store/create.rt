@@ -6,6 +6,7 @@ ghost use Rattle.ss_target.specs.Lengths.{has_target};
 
 use super::Store;
 use crate::ApplyError;
+use crate::held::HeldStream;
 use crate::index::Index;
 use crate::place::next_id;
 use crate::writing::stage_record;
@@ -19,32 +20,25 @@ use ss_recover::StreamParts;
 use ss_target::Target;
 use std::alloc::AllocError;
 
-// Puts a stream and its index last, and its name into the catalog, which is the last to grow. An error leaves all as they
-// were.
+// Puts a stream last, and its name into the catalog, which is the last to grow. An error leaves both as they were.
 fn grow(
-    streams: &mut Vec<StreamParts>,
-    indexes: &mut Vec<Index>,
+    streams: &mut Vec<HeldStream>,
     catalog: &mut Catalog,
-    stream: StreamParts,
-    index: Index,
+    stream: HeldStream,
     name: Name,
     id: StreamId,
 ) -> Result<(), AllocError>
     ensures streams { OnOk result (streams.new.items ≡ streams.old.items ++ stream ∷ []) }
-    ensures indexes { OnOk result (indexes.new.items ≡ indexes.old.items ++ index ∷ []) }
     ensures catalog { OnOk result (catalog.new ≡ catalog.old ++ (name, id) ∷ []) }
     ensures err_streams { OnErr result (streams.new.items ≡ streams.old.items) }
-    ensures err_indexes { OnErr result (indexes.new.items ≡ indexes.old.items) }
     ensures err_catalog { OnErr result (catalog.new ≡ catalog.old) }
 {
     streams.reserve(1)?;
-    indexes.reserve(1)?;
     match catalog.add(name, id) {
         Ok(()) => {}
         Err(_) => return Err(AllocError),
     }
     streams.push(stream).unwrap();
-    indexes.push(index).unwrap();
     Ok(())
 }
 
@@ -123,7 +117,7 @@ impl Store {
             Err(refusal) => return Err(ApplyError::Refused(refusal)),
         };
         let alloc = *self.streams.allocator();
-        let stream = StreamParts {
+        let part = StreamParts {
             id,
             name,
             target,
@@ -132,15 +126,11 @@ impl Store {
             line: Line::new(alloc),
             landmarks: Landmarks::new(alloc),
         };
-        match grow(
-            &mut self.streams,
-            &mut self.indexes,
-            &mut self.catalog,
-            stream,
-            Index::new(alloc, target),
-            name,
-            id,
-        ) {
+        let stream = HeldStream {
+            part,
+            index: Index::new(alloc, target),
+        };
+        match grow(&mut self.streams, &mut self.catalog, stream, name, id) {
             Ok(()) => {}
             Err(_) => return Err(ApplyError::OutOfMemory),
         }

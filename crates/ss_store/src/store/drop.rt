@@ -148,14 +148,13 @@ impl Store {
         };
         let alloc = *self.streams.allocator();
         let mut steps = Steps::<L>::new(blank);
-        let slots = match slots_of(alloc, &self.streams[place], &mut steps) {
+        let slots = match slots_of(alloc, &self.streams[place].part, &mut steps) {
             Ok(slots) => slots,
             Err(_) => return Err(ApplyError::OutOfMemory),
         };
         let _ = self.catalog.remove(name);
-        let part = self.streams.remove(place);
-        let _ = self.indexes.remove(place);
-        match stage_doomed(&mut self.records, disk, &part, &slots) {
+        let stream = self.streams.remove(place);
+        match stage_doomed(&mut self.records, disk, &stream.part, &slots) {
             Ok(()) => Ok(Ack { n: 0, k: 0 }),
             Err(Failed) => {
                 self.stopped = true;

@@ -52,7 +52,7 @@ impl Store {
         ensures row { (streams : List Stream) → IsState streams → AllAgree self.now.streams streams →
             slice_get (map row_of streams) place ≡ Some result }
     {
-        let stream = &self.streams[place as usize];
+        let stream = &self.streams[place as usize].part;
         StreamRow {
             id: stream.id,
             name: stream.name,

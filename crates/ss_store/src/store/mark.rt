@@ -88,7 +88,7 @@ impl Store {
         let Some(place) = found else {
             return Err(Refusal::Unknown);
         };
-        let stream = &self.streams[place];
+        let stream = &self.streams[place].part;
         if let Some(refusal) = refuses(stream, t, mark) {
             return Err(refusal);
         }
@@ -128,7 +128,7 @@ impl Store {
             Ok(marker) => marker,
             Err(refusal) => return Err(ApplyError::Refused(refusal)),
         };
-        let stream = &mut self.streams[place];
+        let stream = &mut self.streams[place].part;
         match reserve(&mut stream.landmarks) {
             Ok(()) => {}
             Err(_) => return Err(ApplyError::OutOfMemory),

@@ -1,7 +1,7 @@
 // Opening a store.
 use super::Store;
 use crate::OpenError;
-use crate::indexing::indexes_of;
+use crate::indexing::held_streams;
 use crate::opening::{catalog_of, read_all, settle_all};
 use ss_outside::Disk;
 use ss_recover::Parts;
@@ -42,24 +42,13 @@ impl Store {
         ensures runs { IfOk result (λ store. (store.stopped ≡ false) × IsSealed store.records.journal) }
     {
         let (mut records, parts) = read_all(alloc, disk)?;
-        let Parts {
-            mut streams,
-            doomed,
-        } = parts;
+        let Parts { streams, doomed } = parts;
         let catalog = catalog_of(alloc, &streams)?;
         let mut steps = Steps::<L>::new(blank);
-        let mut indexes = indexes_of(alloc, &streams, &mut steps)?;
-        settle_all(
-            &mut records,
-            disk,
-            &doomed,
-            &mut streams,
-            &mut indexes,
-            &mut steps,
-        )?;
+        let mut streams = held_streams(alloc, streams, &mut steps)?;
+        settle_all(&mut streams, &doomed, &mut records, disk, &mut steps)?;
         Ok(Store {
             streams,
-            indexes,
             catalog,
             records,
             stopped: false,

@@ -1,7 +1,6 @@
 // Reading a window.
 use super::Store;
 use crate::AskError;
-use crate::place::place_of;
 use ss_catalog::{Refusal, StreamId};
 use ss_line::{At, Entry};
 use ss_model::Placed;
@@ -98,7 +97,8 @@ impl Store {
         let mut steps = Steps::<L>::new(steps);
         let mut searches = Steps::<S>::new(searches);
         let entry = self.entry(id, at, &mut steps);
-        let part = &self.streams[place_of(&self.streams, id)];
+        let place = self.place(id);
+        let part = &self.streams[place].part;
         match read_window(
             &mut self.records,
             disk,

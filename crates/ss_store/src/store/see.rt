@@ -15,21 +15,18 @@ ghost use Rattle.ss_store.specs.Indexed.{IsTimed};
 
 use super::Store;
 use crate::AskError;
-use crate::index::Index;
-use crate::place::place_of;
+use crate::held::HeldStream;
 use ss_catalog::{Query, Refusal, StreamId};
 use ss_outside::Disk;
 use ss_query::{ReadError, Seen, see_from};
 use ss_records::Records;
-use ss_recover::StreamParts;
 use ss_steps::Steps;
 use std::marker::Brand;
 use std::sync::ledger::{Blank, Ledger};
 
 // What is known of a stream for a query, from where its index says that the range begins.
 fn see_indexed<D: Disk, L: Ledger, R: Ledger, S: Ledger>(
-    part: &StreamParts,
-    index: &Index,
+    stream: &HeldStream,
     records: &mut Records,
     disk: &mut D,
     query: &Query,
@@ -37,26 +34,35 @@ fn see_indexed<D: Disk, L: Ledger, R: Ledger, S: Ledger>(
     reads: &mut Steps<R>,
     searches: &mut Steps<S>,
 ) -> Result<Seen, ReadError>
-    requires timed { IsTimed part.now.line.entries index.now.times }
-    requires times { RiseToLast part.now }
+    requires timed { IsTimed stream.now.part.line.entries stream.now.index.times }
+    requires times { RiseToLast stream.now.part }
     requires order { query.now.from ≤ query.now.to }
     requires running { IsRunning records.old.journal }
-    requires slots { All (λ slot. slot < MOST_SLOTS) (window_slots_of part.now) }
+    requires slots { All (λ slot. slot < MOST_SLOTS) (window_slots_of stream.now.part) }
     requires one_disk { OfContent (D.seen disk.old) (AreKept records.old) }
     ensures sees { Step (verdict_of_read result) (D.seen disk.old) (D.seen disk.new)
-        (SeesStream part.now query.now records.old records.new result) }
+        (SeesStream stream.now.part query.now records.old records.new result) }
     ensures marked { IfOk result (λ seen. IsFewMarked seen.marked) }
     ensures cuts { IfOk result HasCuts }
-    ensures changed { IfChanged (verdict_of_read result) (Contains (window_slots_of part.now)) }
+    ensures changed { IfChanged (verdict_of_read result) (Contains (window_slots_of stream.now.part)) }
     ensures records { KeepsRecords (verdict_of_read result) records.old records.new }
     // It looks at the line twice for each window that begins in the range, and at most three times besides. It reads one record
     // for each of these windows at most, and one besides, and searches the landmarks seven times at most for each.
-    ensures few { (steps.new ≤ steps.old + 2 * begun_in query.now.from query.now.to part.now.line.entries + 3)
-        × (reads.new ≤ reads.old + begun_in query.now.from query.now.to part.now.line.entries + 1)
-        × (searches.new ≤ searches.old + 7 * (begun_in query.now.from query.now.to part.now.line.entries + 1)) }
+    ensures few { (steps.new ≤ steps.old + 2 * begun_in query.now.from query.now.to stream.now.part.line.entries + 3)
+        × (reads.new ≤ reads.old + begun_in query.now.from query.now.to stream.now.part.line.entries + 1)
+        × (searches.new ≤ searches.old + 7 * (begun_in query.now.from query.now.to stream.now.part.line.entries + 1)) }
 {
-    let start = index.start(part, query.from);
-    see_from(part, start, records, disk, query, steps, reads, searches)
+    let start = stream.index.start(&stream.part, query.from);
+    see_from(
+        &stream.part,
+        start,
+        records,
+        disk,
+        query,
+        steps,
+        reads,
+        searches,
+    )
 }
 
 impl Store {
@@ -150,13 +156,12 @@ impl Store {
         ensures unrefused { (r : Refusal) → result ≢ Err (AskError.Refused r) }
     {
         let _live = self.records.live();
-        let place = place_of(&self.streams, id);
+        let place = self.place(id);
         let mut steps = Steps::<L>::new(steps);
         let mut reads = Steps::<R>::new(reads);
         let mut searches = Steps::<S>::new(searches);
         match see_indexed(
             &self.streams[place],
-            &self.indexes[place],
             &mut self.records,
             disk,
             query,

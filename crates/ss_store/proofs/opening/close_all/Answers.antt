@@ -1,12 +1,15 @@
-use Rattle.ss_store.proofs.Common.{◌≡◌, ◌∙◌, ◌<◌, arith, refl, suc, length, slice_set, Ok, Some, add-one, slice_get-get_or, err_from_is_err_and, step-as}
+use Rattle.ss_store.proofs.Common.{◌≡◌, ◌∙◌, ◌<◌, arith, refl, suc, length, slice_set, Ok, add-one, err_from_is_err_and, step-as}
+use Rattle.ss_store.proofs.Common.{All, All-get_or, All-nil, All-push, All-set, ap, length-map, map, subst, sym, take, AreWhole, HeldStream, IsKeyedFor, IsScheduled, parts_of}
+use Rattle.std.proofs.lemmas.List.{take_more_set}
 use Rattle.ss_store.proofs.Common.{step-none, step-then, after-step, closed_state, entry_of, Recovers, reads-none}
-use Rattle.std.proofs.Common.{slice_get, slice_index_or}
+use Rattle.std.proofs.Common.{slice_index_or}
 use Rattle.ss_store.proofs.Among.{AreWhole-at, AreWhole-set, IsNoEarlier-same, length-AllAgree}
 use Rattle.ss_store.proofs.Calls.{Turns-failed}
 use Rattle.ss_store.proofs.ClosingAll.{AreHeldIn, ClosesFirst-more, ClosesFirst-none, SomeChangedIsHeld-set, Turns-all, Turns-open, closed_until}
 use Rattle.ss_store.proofs.ClosingAll.{firm-ClosesFirst}
 use Rattle.ss_store.proofs.OneOfMany.{map-set_same}
-use Rattle.ss_store.proofs.IndexedStreams.{AreClosedTo-all, AreClosedTo-at, AreClosedTo-long, AreClosedTo-more, AreClosedTo-none}
+use Rattle.ss_store.proofs.IndexedStreams.{parts-at, parts-set}
+use Rattle.ss_store.proofs.KeyedWindows.{take-all, take-none}
 use Rattle.ss_store.proofs.Within.{KeepsWithin-failed, KeepsWithin-reads, KeepsWithin-then}
 use Rattle.ss_store.proofs.opening.close_all.Goals as goal
 
@@ -15,7 +18,7 @@ loop-place-init g c = record {
   step = step-none (g.D.Disk.seen c.args.disk.now) _ (λ told.
       let knows = g.met.D.Disk.knows_now c.args.disk.now told in
       record {
-        changes = ClosesFirst-none c.args.streams.now _ knows;
+        changes = ClosesFirst-none (parts_of c.args.streams.now) _ knows;
         kept = c.requires.one_disk told;
         within = KeepsWithin-reads (Ok tt) knows (reads-none (g.D.Disk.seen c.args.disk.now).told);
       });
@@ -23,15 +26,26 @@ loop-place-init g c = record {
   extent = omega arith;
   whole = c.requires.whole;
   entries = refl;
-  closed = AreClosedTo-none c.args.streams.now c.args.indexes.now c.requires.keyed;
+  keyed = c.requires.keyed;
+  closed = subst (All IsScheduled) (sym (take-none c.args.streams.now)) (All-nil IsScheduled);
 }
+
+pub close_windows-requires-clause-ordered : goal.close_windows-requires-clause-ordered
+close_windows-requires-clause-ordered g c =
+    let held = c.loop-place.streams in
+    let streams = parts_of held in
+    let place = c.loop-place.place in
+    let part = (slice_index_or held place c.index-streams-place.result).part in
+    let at = parts-at held place c.index-streams-place.result (omega arith) in
+    (AreWhole-at streams c.loop-place.records.live place part c.loop-place.invariant.whole at).0
 
 pub close_windows-requires-clause-live : goal.close_windows-requires-clause-live
 close_windows-requires-clause-live g c =
-    let streams = c.loop-place.streams in
+    let held = c.loop-place.streams in
+    let streams = parts_of held in
     let place = c.loop-place.place in
-    let part = slice_index_or streams place c.index-streams-place.result in
-    let at : slice_get streams place ≡ Some part = slice_get-get_or streams place c.index-streams-place.result (omega arith) in
+    let part = (slice_index_or held place c.index-streams-place.result).part in
+    let at = parts-at held place c.index-streams-place.result (omega arith) in
     (AreWhole-at streams c.loop-place.records.live place part c.loop-place.invariant.whole at).1
 
 pub close_windows-requires-clause-one_disk : goal.close_windows-requires-clause-one_disk
@@ -39,16 +53,17 @@ close_windows-requires-clause-one_disk g c = after-step c.loop-place.invariant.s
 
 pub returns-in_err-close_windows-clause-closes : goal.returns-in_err-close_windows-clause-closes
 returns-in_err-close_windows-clause-closes g c =
-    let was = c.args.streams.now in
-    let now = c.loop-place.streams in
+    let was = parts_of c.args.streams.now in
+    let held = c.loop-place.streams in
+    let now = parts_of held in
     let place = c.loop-place.place in
-    let part = slice_index_or now place c.index-streams-place.result in
-    let at : slice_get now place ≡ Some part = slice_get-get_or now place c.index-streams-place.result (omega arith) in
-    let new = c.close_windows.new.part in
+    let part = (slice_index_or held place c.index-streams-place.result).part in
+    let at = parts-at held place c.index-streams-place.result (omega arith) in
+    let new = c.close_windows.new.stream.part in
     let changed = slice_set now place new in
-    let inside : place < length was = c.loop-place-test.true in
+    let inside : place < length was = rw (length-map c.args.streams.now (λ (h : HeldStream). h.part)) c.loop-place-test.true in
     let p = err_from_is_err_and c.from_residual.result c.from_residual.ensures.1 in
-    rw (p.1, p.2)
+    rw (p.1, p.2, parts-set held place c.close_windows.new.stream)
     (step-then c.loop-place.invariant.step c.in_err-close_windows.ensures.closes (λ first second. record {
       turns = λ all state agree.
           Turns-open was changed all _ _ _ agree
@@ -63,53 +78,64 @@ returns-in_err-close_windows-clause-closes g c =
 
 pub returns-in_err-close_windows-clause-entries : goal.returns-in_err-close_windows-clause-entries
 returns-in_err-close_windows-clause-entries g c =
-    let streams = c.loop-place.streams in
+    let held = c.loop-place.streams in
+    let streams = parts_of held in
     let place = c.loop-place.place in
-    let part = slice_index_or streams place c.index-streams-place.result in
-    let at : slice_get streams place ≡ Some part = slice_get-get_or streams place c.index-streams-place.result (omega arith) in
+    let part = (slice_index_or held place c.index-streams-place.result).part in
+    let at = parts-at held place c.index-streams-place.result (omega arith) in
     let same = c.close_windows.ensures.same in
-    map-set_same entry_of streams place part c.close_windows.new.part at (λ i. (same.name i, same.id i)) ∙ c.loop-place.invariant.entries
+    ap (map entry_of) (parts-set held place c.close_windows.new.stream)
+    ∙ map-set_same entry_of streams place part c.close_windows.new.stream.part at (λ i. (same.name i, same.id i)) ∙ c.loop-place.invariant.entries
 
 pub returns-in_err-close_windows-clause-changed : goal.returns-in_err-close_windows-clause-changed
 returns-in_err-close_windows-clause-changed g c =
-    let streams = c.loop-place.streams in
+    let held = c.loop-place.streams in
+    let streams = parts_of held in
     let place = c.loop-place.place in
-    let part = slice_index_or streams place c.index-streams-place.result in
-    let at : slice_get streams place ≡ Some part = slice_get-get_or streams place c.index-streams-place.result (omega arith) in
+    let part = (slice_index_or held place c.index-streams-place.result).part in
+    let at = parts-at held place c.index-streams-place.result (omega arith) in
     let p = err_from_is_err_and c.from_residual.result c.from_residual.ensures.1 in
-    rw (p.1, p.2)
-    (SomeChangedIsHeld-set streams place part c.close_windows.new.part c.in_err-close_windows.field-0.0 at c.in_err-close_windows.ensures.changed)
+    rw (p.1, p.2, parts-set held place c.close_windows.new.stream)
+    (SomeChangedIsHeld-set streams place part c.close_windows.new.stream.part c.in_err-close_windows.field-0.0 at c.in_err-close_windows.ensures.changed)
 
 pub loop-place-preserved : goal.loop-place-preserved
 loop-place-preserved g c =
-    let was = c.args.streams.now in
-    let now = c.loop-place.streams in
+    let was = parts_of c.args.streams.now in
+    let held = c.loop-place.streams in
+    let now = parts_of held in
     let place = c.loop-place.place in
-    let part = slice_index_or now place c.index-streams-place.result in
-    let at : slice_get now place ≡ Some part = slice_get-get_or now place c.index-streams-place.result (omega arith) in
-    let new = c.close_windows.new.part in
+    let part = (slice_index_or held place c.index-streams-place.result).part in
+    let at = parts-at held place c.index-streams-place.result (omega arith) in
+    let new = c.close_windows.new.stream.part in
     let same = c.close_windows.ensures.same in
     let before = c.loop-place.invariant in
     let after = c.in_ok-close_windows.ensures in
+    let set = parts-set held place c.close_windows.new.stream in
+    let inside : place < length was = rw (length-map c.args.streams.now (λ (h : HeldStream). h.part)) c.loop-place-test.true in
+    let within : place < length held = omega arith in
     record {
       step = step-then before.step after.closes (λ first second. record {
-        changes = rw add-one (ClosesFirst-more was now part new place _ _ _ (Ok tt) at c.loop-place-test.true first.changes second.turns);
+        changes = rw (add-one, set) (ClosesFirst-more was now part new place _ _ _ (Ok tt) at inside first.changes second.turns);
         kept = second.kept;
         within = KeepsWithin-then (Ok tt) first.within second.within;
       });
       at_rest = (after.whole.whole.settled, after.whole.sealed);
       extent = omega (arith, before.extent, after.whole.whole.extent);
-      whole = AreWhole-set now c.loop-place.records.live c.close_windows.new.records.live place part new before.whole at same
-          (IsNoEarlier-same part.last_time new.last_time after.holds.last_time) after.whole.whole.ordered after.whole.whole.live;
-      entries = map-set_same entry_of now place part new at (λ i. (same.name i, same.id i)) ∙ before.entries;
-      closed = rw add-one
-          (AreClosedTo-more place now c.loop-place.indexes new c.close_windows.new.index before.closed after.scheduled);
+      whole = subst (λ parts. AreWhole parts c.close_windows.new.records.live) (sym set)
+          (AreWhole-set now c.loop-place.records.live c.close_windows.new.records.live place part new before.whole at same
+          (IsNoEarlier-same part.last_time new.last_time after.holds.last_time) after.whole.whole.ordered after.whole.whole.live);
+      entries = ap (map entry_of) set ∙ map-set_same entry_of now place part new at (λ i. (same.name i, same.id i)) ∙ before.entries;
+      keyed = All-set IsKeyedFor held place c.close_windows.new.stream after.scheduled.0 before.keyed;
+      closed = rw (take_more_set held place c.close_windows.new.stream within)
+          (All-push IsScheduled (take place held) c.close_windows.new.stream before.closed after.scheduled);
     }
 
 pub returns-clause-closes : goal.returns-clause-closes
 returns-clause-closes g c =
-    let was = c.args.streams.now in
-    let now = c.loop-place.streams in
+    let was = parts_of c.args.streams.now in
+    let held = c.loop-place.streams in
+    let now = parts_of held in
+    let all = length-map c.args.streams.now (λ (h : HeldStream). h.part) in
     let end : c.loop-place.place ≡ length was = omega arith in
     step-as c.loop-place.invariant.step (λ made. record {
       turns = λ all state agree. Turns-open was now all _ _ (Ok tt) agree (Turns-all was now c.loop-place.place _ _ made.changes end all state agree);
@@ -122,20 +148,8 @@ returns-clause-closes g c =
 
 pub returns-clause-scheduled : goal.returns-clause-scheduled
 returns-clause-scheduled g c =
-    AreClosedTo-all c.loop-place.place c.loop-place.streams c.loop-place.indexes (omega arith) c.loop-place.invariant.closed
+    subst (All IsScheduled) (take-all c.loop-place.streams c.loop-place.place (omega arith)) c.loop-place.invariant.closed
 
 pub close_windows-requires-clause-keyed : goal.close_windows-requires-clause-keyed
 close_windows-requires-clause-keyed g c =
-    let streams = c.loop-place.streams in
-    let indexes = c.loop-place.indexes in
-    let place = c.loop-place.place in
-    let closed = c.loop-place.invariant.closed in
-    let long = AreClosedTo-long place streams indexes closed in
-    AreClosedTo-at place streams indexes (slice_index_or streams place c.index-streams-place.result)
-    (slice_index_or indexes place c.index-indexes-place.result) closed
-    (slice_get-get_or streams place c.index-streams-place.result (omega arith))
-    (slice_get-get_or indexes place c.index-indexes-place.result (omega (arith, long)))
-
-pub bounds-indexes-place : goal.bounds-indexes-place
-bounds-indexes-place g c =
-    let long = AreClosedTo-long c.loop-place.place c.loop-place.streams c.loop-place.indexes c.loop-place.invariant.closed in omega (arith, long)
+    All-get_or IsKeyedFor c.loop-place.streams c.loop-place.place c.index-streams-place.result (omega arith) c.loop-place.invariant.keyed

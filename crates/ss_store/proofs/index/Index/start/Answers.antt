@@ -1,22 +1,18 @@
-use Rattle.ss_store.proofs.Common.{◌≡◌, ◌∙◌, ap, IndexState}
 use Rattle.ss_store.proofs.Rising.{BeginsAt-first, BeginsAt-sought, BeginsNear-first, BeginsNear-sought}
 use Rattle.ss_store.proofs.index.Index.start.Goals as goal
 
 pub returns-in-Some-clause-begins : goal.returns-in-Some-clause-begins
 returns-in-Some-clause-begins c =
-    let same : c.self.inside.times ≡ c.args.self.now.times = ap (λ (i : IndexState). i.times) c.self.view_is in
-    BeginsAt-sought c.args.part.now c.self.inside.times c.args.from c.in-Some.at (same ∙ c.requires.timed) c.requires.times (rw c.in-Some.is at c.seek.ensures)
+    BeginsAt-sought c.args.part.now c.args.self.now.times c.args.from c.in-Some.at c.requires.timed c.requires.times (rw c.in-Some.is at c.seek.ensures)
 
 pub returns-in-Some-clause-near : goal.returns-in-Some-clause-near
 returns-in-Some-clause-near c =
-    let same : c.self.inside.times ≡ c.args.self.now.times = ap (λ (i : IndexState). i.times) c.self.view_is in
-    BeginsNear-sought c.args.part.now.line.entries c.self.inside.times c.args.from c.in-Some.at (same ∙ c.requires.timed) (rw c.in-Some.is at c.seek.ensures)
+    BeginsNear-sought c.args.part.now.line.entries c.args.self.now.times c.args.from c.in-Some.at c.requires.timed (rw c.in-Some.is at c.seek.ensures)
 
 pub returns-in-None-clause-begins : goal.returns-in-None-clause-begins
 returns-in-None-clause-begins c = BeginsAt-first c.args.part.now.line.entries c.args.from c.first.result c.first.ensures.value
 
 pub returns-in-None-clause-near : goal.returns-in-None-clause-near
 returns-in-None-clause-near c =
-    let same : c.self.inside.times ≡ c.args.self.now.times = ap (λ (i : IndexState). i.times) c.self.view_is in
-    BeginsNear-first c.args.part.now.line.entries c.self.inside.times c.args.from c.first.result c.first.ensures.value (same ∙ c.requires.timed)
+    BeginsNear-first c.args.part.now.line.entries c.args.self.now.times c.args.from c.first.result c.first.ensures.value c.requires.timed
     (rw c.in-None.is at c.seek.ensures)

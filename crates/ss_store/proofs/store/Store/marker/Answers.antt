@@ -1,4 +1,4 @@
-use Rattle.ss_store.proofs.Common.{◌≡◌, ◌∙◌, true, List, ℕ, Option, refl, ap, arith, slice_get, Refusal, has_open, StreamParts, StoreState, has_all_slots}
+use Rattle.ss_store.proofs.Common.{◌≡◌, ◌∙◌, true, List, ℕ, Option, refl, ap, arith, slice_get, Refusal, has_open, StreamParts, StoreState, parts_of, has_all_slots}
 use Rattle.ss_store.proofs.Common.{of_part, refuses_held, IsInOpen, event_of, mark_refusal, slot_refusal, Mark}
 use Rattle.ss_store.proofs.Among.{Marks-at}
 use Rattle.ss_store.proofs.Found.{IsAtPlace-found, inside-found, none-found}
@@ -13,9 +13,9 @@ returns-in_default-clause-refused c =
     refuses_held-unmarked c.args.self.now.streams c.args.name.now c.args.t c.args.mark
     (none-found c.args.self.now.streams c.args.name.now c.in_default.is c.requires.found)
 
-pub index-stream-requires : goal.index-stream-requires
-index-stream-requires c =
-    let inside = inside-found c.args.name.now (ap (λ (s : StoreState). s.streams) c.self.view_is) c.in-Some.is c.requires.found in
+pub index-requires : goal.index-requires
+index-requires c =
+    let inside = inside-found c.self.inside.streams.items c.args.name.now (ap (λ (s : StoreState). s.streams) c.self.view_is) c.in-Some.is c.requires.found in
     omega (arith, inside)
 
 -- a landmark of the stream is open where a value is the open one's
@@ -33,28 +33,28 @@ judged store name t mark place part why at marked is =
 
 pub returns-in-Some-refuses-clause-refused : goal.returns-in-Some-refuses-clause-refused
 returns-in-Some-refuses-clause-refused c =
-    let is = IsAtPlace-found c.args.name.now (ap (λ (s : StoreState). s.streams) c.self.view_is) c.in-Some.is c.requires.found c.index-stream.ensures in
-    judged c.args.self.now c.args.name.now c.args.t c.args.mark c.in-Some.place c.index-stream.result.now _ is c.requires.marked
+    let is = IsAtPlace-found c.self.inside.streams.items c.args.name.now (ap (λ (s : StoreState). s.streams) c.self.view_is) c.in-Some.is c.requires.found c.index.ensures in
+    judged c.args.self.now c.args.name.now c.args.t c.args.mark c.in-Some.place c.index.result.now.part _ is c.requires.marked
     (ap (λ o. or_else o (slot_refusal c.args.mark (has_all_slots c.args.self.now.streams))) c.in-Some-refuses.ensures.some)
 
 pub returns-in-Some-slot_for-clause-accepted : goal.returns-in-Some-slot_for-clause-accepted
 returns-in-Some-slot_for-clause-accepted c =
-    let is = IsAtPlace-found c.args.name.now (ap (λ (s : StoreState). s.streams) c.self.view_is) c.in-Some.is c.requires.found c.index-stream.ensures in
-    judged c.args.self.now c.args.name.now c.args.t c.args.mark c.in-Some.place c.index-stream.result.now _ is c.requires.marked
+    let is = IsAtPlace-found c.self.inside.streams.items c.args.name.now (ap (λ (s : StoreState). s.streams) c.self.view_is) c.in-Some.is c.requires.found c.index.ensures in
+    judged c.args.self.now c.args.name.now c.args.t c.args.mark c.in-Some.place c.index.result.now.part _ is c.requires.marked
     (ap (λ o. or_else o (slot_refusal c.args.mark (has_all_slots c.args.self.now.streams))) c.in_default-refuses.ensures.none ∙ c.in-Some-slot_for.ensures.some)
 
 pub returns-in-None-clause-refused : goal.returns-in-None-clause-refused
 returns-in-None-clause-refused c =
-    let is = IsAtPlace-found c.args.name.now (ap (λ (s : StoreState). s.streams) c.self.view_is) c.in-Some.is c.requires.found c.index-stream.ensures in
-    judged c.args.self.now c.args.name.now c.args.t c.args.mark c.in-Some.place c.index-stream.result.now _ is c.requires.marked
+    let is = IsAtPlace-found c.self.inside.streams.items c.args.name.now (ap (λ (s : StoreState). s.streams) c.self.view_is) c.in-Some.is c.requires.found c.index.ensures in
+    judged c.args.self.now c.args.name.now c.args.t c.args.mark c.in-Some.place c.index.result.now.part _ is c.requires.marked
     (ap (λ o. or_else o (slot_refusal c.args.mark (has_all_slots c.args.self.now.streams))) c.in_default-refuses.ensures.none ∙ c.in-None.ensures.none refl)
 
 pub returns-in-Some-slot_for-clause-marker : goal.returns-in-Some-slot_for-clause-marker
 returns-in-Some-slot_for-clause-marker c =
-    let parts = c.self.inside.streams.items in
-    let part = c.index-stream.result.now in
+    let parts = parts_of c.self.inside.streams.items in
+    let part = c.index.result.now.part in
     let streams = ap (λ (s : StoreState). s.streams) c.self.view_is in
-    let is = IsAtPlace-found c.args.name.now streams c.in-Some.is c.requires.found c.index-stream.ensures in
+    let is = IsAtPlace-found c.self.inside.streams.items c.args.name.now streams c.in-Some.is c.requires.found c.index.ensures in
     let at = ap (λ l. slice_get l c.in-Some.place) streams ∙ is.at in
     let whole = c.self.invariant.0.whole (ap (λ (s : StoreState). s.stopped) c.self.view_is ∙ c.requires.runs) in
     let ends = (Marks-at parts c.self.inside.records.live c.in-Some.place part whole at).1 in

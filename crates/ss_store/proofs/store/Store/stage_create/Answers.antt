@@ -1,7 +1,7 @@
-use Rattle.ss_store.proofs.Common.{◌≡◌, ◌+◌, ◌≤◌, None, ap, arith, false, refl, true, Create, LineState, StreamParts, IsScheduled, records_in}
+use Rattle.ss_store.proofs.Common.{◌≡◌, ◌+◌, ◌≤◌, All-push, None, ap, arith, false, refl, true, Create, LineState, StreamParts, IsScheduled, records_in}
 use Rattle.ss_store.proofs.Appended.{SameButSpare-same}
 use Rattle.ss_store.proofs.KeyedWindows.{IsScheduled-none}
-use Rattle.ss_store.proofs.IndexedStreams.{AllZip-more}
+use Rattle.ss_store.proofs.IndexedStreams.{parts-more}
 use Rattle.ss_store.proofs.Applying.{Applies-refused, Applies-starved}
 use Rattle.ss_store.proofs.Created.{IsFreshPart-made}
 use Rattle.ss_store.proofs.Creating.{applies-created, applies-unwritten, creating, sound-created, sound-unwritten}
@@ -31,15 +31,15 @@ invariant_of-self-in-Ok-stage_record g c =
       line = c.new.result;
       landmarks = c.new-2.result;
     } in
-    let is = creating {store = record { streams = c.self.inside.streams.items; records = c.self.inside.records; stopped = c.self.inside.stopped }} {part = part}
+    let is = creating c.self.inside.streams.items {part = part}
     (g.D.Disk.seen c.args.disk.now) c.self.view_is c.requires.one_disk c.self.invariant.0 c.requires.runs c.in-Ok.ensures.accepted
     (IsFreshPart-made part c.args.params c.in-Ok.ensures.target refl (ap (λ (l : LineState). l.entries) c.new.ensures) c.new-2.ensures) c.in-Ok.ensures.new in
     let done = c.in-Ok-stage_record.ensures in (
-      rw (c.in-Ok-grow.ensures.streams, c.in-Ok-grow.ensures.catalog) (sound-created is c.stage_record.new.records done.settled done.live),
-      λ run. rw (c.in-Ok-grow.ensures.streams, c.in-Ok-grow.ensures.indexes)
-          (AllZip-more IsScheduled c.self.inside.streams.items c.self.inside.indexes.items part c.new-3.result (c.self.invariant.1 run)
-          (IsScheduled-none part c.new-3.result c.new-3.ensures.target (ap (λ (l : LineState). l.entries) c.new.ensures) (c.new-3.ensures.keyed 0 (omega arith))
-          c.new-3.ensures.times)),
+      rw (c.in-Ok-grow.ensures.streams, c.in-Ok-grow.ensures.catalog, parts-more) (sound-created is c.stage_record.new.records done.settled done.live),
+      λ run. rw c.in-Ok-grow.ensures.streams
+          (All-push IsScheduled c.self.inside.streams.items (record { part = part; index = c.new-3.result }) (c.self.invariant.1 run)
+          (IsScheduled-none (record { part = part; index = c.new-3.result }) c.new-3.ensures.target (ap (λ (l : LineState). l.entries) c.new.ensures)
+          (c.new-3.ensures.keyed 0 (omega arith)) c.new-3.ensures.times)),
     )
 
 pub invariant_of-self-in-Err-stage_record : goal.invariant_of-self-in-Err-stage_record
@@ -53,10 +53,10 @@ invariant_of-self-in-Err-stage_record g c =
       line = c.new.result;
       landmarks = c.new-2.result;
     } in
-    let is = creating {store = record { streams = c.self.inside.streams.items; records = c.self.inside.records; stopped = c.self.inside.stopped }} {part = part}
+    let is = creating c.self.inside.streams.items {part = part}
     (g.D.Disk.seen c.args.disk.now) c.self.view_is c.requires.one_disk c.self.invariant.0 c.requires.runs c.in-Ok.ensures.accepted
     (IsFreshPart-made part c.args.params c.in-Ok.ensures.target refl (ap (λ (l : LineState). l.entries) c.new.ensures) c.new-2.ensures) c.in-Ok.ensures.new in (
-      rw (c.in-Ok-grow.ensures.streams, c.in-Ok-grow.ensures.catalog) (sound-unwritten is c.stage_record.new.records),
+      rw (c.in-Ok-grow.ensures.streams, c.in-Ok-grow.ensures.catalog, parts-more) (sound-unwritten is c.stage_record.new.records),
       λ run. let wrong : true ≡ false = run in absurd (cc),
     )
 
@@ -71,11 +71,11 @@ returns-in-Ok-stage_record-clause-applies g c =
       line = c.new.result;
       landmarks = c.new-2.result;
     } in
-    let is = creating {store = record { streams = c.self.inside.streams.items; records = c.self.inside.records; stopped = c.self.inside.stopped }} {part = part}
+    let is = creating c.self.inside.streams.items {part = part}
     (g.D.Disk.seen c.args.disk.now) c.self.view_is c.requires.one_disk c.self.invariant.0 c.requires.runs c.in-Ok.ensures.accepted
     (IsFreshPart-made part c.args.params c.in-Ok.ensures.target refl (ap (λ (l : LineState). l.entries) c.new.ensures) c.new-2.ensures) c.in-Ok.ensures.new in
     let done = c.in-Ok-stage_record.ensures in
-    rw (← c.self.view_is, c.in-Ok-grow.ensures.streams)
+    rw (← c.self.view_is, c.in-Ok-grow.ensures.streams, parts-more)
     (applies-created is c.stage_record.new.records _ _ done.extent (rw c.record_of.ensures.value at done.stages))
 
 pub returns-in-Err-stage_record-clause-applies : goal.returns-in-Err-stage_record-clause-applies
@@ -89,10 +89,10 @@ returns-in-Err-stage_record-clause-applies g c =
       line = c.new.result;
       landmarks = c.new-2.result;
     } in
-    let is = creating {store = record { streams = c.self.inside.streams.items; records = c.self.inside.records; stopped = c.self.inside.stopped }} {part = part}
+    let is = creating c.self.inside.streams.items {part = part}
     (g.D.Disk.seen c.args.disk.now) c.self.view_is c.requires.one_disk c.self.invariant.0 c.requires.runs c.in-Ok.ensures.accepted
     (IsFreshPart-made part c.args.params c.in-Ok.ensures.target refl (ap (λ (l : LineState). l.entries) c.new.ensures) c.new-2.ensures) c.in-Ok.ensures.new in
-    rw (← c.self.view_is, c.in-Ok-grow.ensures.streams)
+    rw (← c.self.view_is, c.in-Ok-grow.ensures.streams, parts-more)
     (applies-unwritten is c.stage_record.new.records _ _ (rw c.record_of.ensures.value at c.in-Err-stage_record.ensures.stages))
 
 pub returns-in-Err-clause-within : goal.returns-in-Err-clause-within

@@ -1,11 +1,12 @@
-use Rattle.ss_store.proofs.Common.{◌≡◌, ◌+◌, ◌≤◌, ◌∙◌, List, ℕ, ap, arith, false, length, refl, subst, sym, true, AllZip-long, Drop, Unknown, IsScheduled}
-use Rattle.ss_store.proofs.Common.{StoreState, AreSomeLive, records_in}
+use Rattle.ss_store.proofs.Common.{◌≡◌, ◌+◌, ◌≤◌, ◌∙◌, List, ℕ, ap, arith, false, length, refl, subst, sym, true, Drop, Unknown, IsScheduled}
+use Rattle.ss_store.proofs.Common.{StoreState, AreSomeLive, parts_of, records_in}
 use Rattle.ss_store.proofs.Appended.{SameButSpare-same}
 use Rattle.ss_store.proofs.Applying.{Applies-refused, Applies-starved}
 use Rattle.ss_store.proofs.Found.{IsAtPlace-found, IsTakenOut-found, inside-found, none-found}
 use Rattle.ss_store.proofs.Dropped.{applies-dropped, applies-undropped, dropping, live-slots, sound-dropped, sound-undropped}
 use Rattle.ss_store.proofs.Refusals.{refuses_held-dropped, refuses_held-undropped}
-use Rattle.ss_store.proofs.Removed.{AllZip-remove}
+use Rattle.ss_store.proofs.IndexedStreams.{parts-remove}
+use Rattle.ss_store.proofs.Removed.{All-remove}
 use Rattle.ss_store.proofs.LiveCounts.{few-slots, length-slots_in_turn}
 use Rattle.ss_store.proofs.Syncs.{SyncsToStage-answers, SyncsToStage-failed, SyncsToStage-none}
 use Rattle.ss_store.proofs.Within.{StaysWithin-answers, StaysWithin-failed, StaysWithin-none}
@@ -19,34 +20,27 @@ returns-in_default-clause-applies g c =
 
 pub index-requires : goal.index-requires
 index-requires g c =
-    let inside = inside-found c.args.name.now (ap (λ (s : StoreState). s.streams) c.self.view_is) c.in-Some.is c.requires.found in
+    let inside = inside-found c.self.inside.streams.items c.args.name.now (ap (λ (s : StoreState). s.streams) c.self.view_is) c.in-Some.is c.requires.found in
     omega (arith, inside)
 
 pub returns-in-Err-clause-applies : goal.returns-in-Err-clause-applies
 returns-in-Err-clause-applies g c =
-    let is = IsAtPlace-found c.args.name.now (ap (λ (s : StoreState). s.streams) c.self.view_is) c.in-Some.is c.requires.found c.index.ensures in
+    let is = IsAtPlace-found c.self.inside.streams.items c.args.name.now (ap (λ (s : StoreState). s.streams) c.self.view_is) c.in-Some.is c.requires.found c.index.ensures in
     Applies-starved (Drop c.args.name.now) c.args.self.now c.args.self.now
-    (refuses_held-dropped c.args.self.now.streams c.args.name.now c.index.result.now is.named) _ (SameButSpare-same c.args.self.now)
+    (refuses_held-dropped c.args.self.now.streams c.args.name.now c.index.result.now.part is.named) _ (SameButSpare-same c.args.self.now)
     (λ run. c.requires.one_disk) (g.met.D.Disk.knows_now c.args.disk.now)
-
-pub remove-requires-2 : goal.remove-requires-2
-remove-requires-2 g c =
-    let runs : c.self.inside.stopped ≡ false = ap (λ (s : StoreState). s.stopped) c.self.view_is ∙ c.requires.runs in
-    let long = AllZip-long IsScheduled c.self.inside.streams.items c.self.inside.indexes.items (c.self.invariant.1 runs) in
-    let inside = inside-found c.args.name.now (ap (λ (s : StoreState). s.streams) c.self.view_is) c.in-Some.is c.requires.found in
-    omega (arith, long, inside)
 
 pub stage_doomed-requires-clause-slots : goal.stage_doomed-requires-clause-slots
 stage_doomed-requires-clause-slots g c =
-    let its = IsTakenOut-found c.args.name.now (ap (λ (s : StoreState). s.streams) c.self.view_is) c.in-Some.is c.requires.found c.index.ensures
-    c.remove-part.ensures.value (c.deref.ensures.value ∙ c.in-Ok.ensures) in
+    let its = IsTakenOut-found c.self.inside.streams.items c.args.name.now (ap (λ (s : StoreState). s.streams) c.self.view_is) c.in-Some.is c.requires.found c.index.ensures
+    c.remove-stream.ensures.value (c.deref.ensures.value ∙ c.in-Ok.ensures) in
     its.slots
 
 pub stage_doomed-requires-clause-live : goal.stage_doomed-requires-clause-live
 stage_doomed-requires-clause-live g c =
-    let its = IsTakenOut-found c.args.name.now (ap (λ (s : StoreState). s.streams) c.self.view_is) c.in-Some.is c.requires.found c.index.ensures
-    c.remove-part.ensures.value (c.deref.ensures.value ∙ c.in-Ok.ensures) in
-    let is = dropping {store = record { streams = c.self.inside.streams.items; records = c.self.inside.records; stopped = c.self.inside.stopped }}
+    let its = IsTakenOut-found c.self.inside.streams.items c.args.name.now (ap (λ (s : StoreState). s.streams) c.self.view_is) c.in-Some.is c.requires.found c.index.ensures
+    c.remove-stream.ensures.value (c.deref.ensures.value ∙ c.in-Ok.ensures) in
+    let is = dropping c.self.inside.streams.items
     (g.D.Disk.seen c.args.disk.now) c.self.view_is c.requires.one_disk c.self.invariant.0 c.requires.runs its.stands in
     subst (λ (l : List ℕ). AreSomeLive l c.self.inside.records.live) (sym its.slots) (live-slots is)
 
@@ -57,42 +51,42 @@ stage_doomed-requires-clause-one_disk g c =
 
 pub invariant_of-self : goal.invariant_of-self
 invariant_of-self g c =
-    let its = IsTakenOut-found c.args.name.now (ap (λ (s : StoreState). s.streams) c.self.view_is) c.in-Some.is c.requires.found c.index.ensures
-    c.remove-part.ensures.value (c.deref.ensures.value ∙ c.in-Ok.ensures) in
-    let is = dropping {store = record { streams = c.self.inside.streams.items; records = c.self.inside.records; stopped = c.self.inside.stopped }}
+    let its = IsTakenOut-found c.self.inside.streams.items c.args.name.now (ap (λ (s : StoreState). s.streams) c.self.view_is) c.in-Some.is c.requires.found c.index.ensures
+    c.remove-stream.ensures.value (c.deref.ensures.value ∙ c.in-Ok.ensures) in
+    let is = dropping c.self.inside.streams.items
     (g.D.Disk.seen c.args.disk.now) c.self.view_is c.requires.one_disk c.self.invariant.0 c.requires.runs its.stands in
     let done = c.in-Ok-stage_doomed.ensures in (
-      rw (c.remove-part.ensures.items, c.remove.ensures.others) (sound-dropped is c.stage_doomed.new.records done.settled (rw its.slots at done.live)),
-      λ run. rw (c.remove-part.ensures.items, c.remove-2.ensures.items)
-          (AllZip-remove IsScheduled c.self.inside.streams.items c.self.inside.indexes.items c.in-Some.place (c.self.invariant.1 run)),
+      rw (c.remove-stream.ensures.items, c.remove.ensures.others, parts-remove)
+          (sound-dropped is c.stage_doomed.new.records done.settled (rw its.slots at done.live)),
+      λ run. rw c.remove-stream.ensures.items (All-remove IsScheduled c.self.inside.streams.items c.in-Some.place (c.self.invariant.1 run)),
     )
 
 pub invariant_of-self-in-Err-stage_doomed : goal.invariant_of-self-in-Err-stage_doomed
 invariant_of-self-in-Err-stage_doomed g c =
-    let its = IsTakenOut-found c.args.name.now (ap (λ (s : StoreState). s.streams) c.self.view_is) c.in-Some.is c.requires.found c.index.ensures
-    c.remove-part.ensures.value (c.deref.ensures.value ∙ c.in-Ok.ensures) in
-    let is = dropping {store = record { streams = c.self.inside.streams.items; records = c.self.inside.records; stopped = c.self.inside.stopped }}
+    let its = IsTakenOut-found c.self.inside.streams.items c.args.name.now (ap (λ (s : StoreState). s.streams) c.self.view_is) c.in-Some.is c.requires.found c.index.ensures
+    c.remove-stream.ensures.value (c.deref.ensures.value ∙ c.in-Ok.ensures) in
+    let is = dropping c.self.inside.streams.items
     (g.D.Disk.seen c.args.disk.now) c.self.view_is c.requires.one_disk c.self.invariant.0 c.requires.runs its.stands in (
-      rw (c.remove-part.ensures.items, c.remove.ensures.others) (sound-undropped is c.stage_doomed.new.records),
+      rw (c.remove-stream.ensures.items, c.remove.ensures.others, parts-remove) (sound-undropped is c.stage_doomed.new.records),
       λ run. let wrong : true ≡ false = run in absurd (cc),
     )
 
 pub returns-in-Ok-stage_doomed-clause-applies : goal.returns-in-Ok-stage_doomed-clause-applies
 returns-in-Ok-stage_doomed-clause-applies g c =
-    let its = IsTakenOut-found c.args.name.now (ap (λ (s : StoreState). s.streams) c.self.view_is) c.in-Some.is c.requires.found c.index.ensures
-    c.remove-part.ensures.value (c.deref.ensures.value ∙ c.in-Ok.ensures) in
-    let is = dropping {store = record { streams = c.self.inside.streams.items; records = c.self.inside.records; stopped = c.self.inside.stopped }}
+    let its = IsTakenOut-found c.self.inside.streams.items c.args.name.now (ap (λ (s : StoreState). s.streams) c.self.view_is) c.in-Some.is c.requires.found c.index.ensures
+    c.remove-stream.ensures.value (c.deref.ensures.value ∙ c.in-Ok.ensures) in
+    let is = dropping c.self.inside.streams.items
     (g.D.Disk.seen c.args.disk.now) c.self.view_is c.requires.one_disk c.self.invariant.0 c.requires.runs its.stands in
     let done = c.in-Ok-stage_doomed.ensures in
-    rw (← c.self.view_is, c.remove-part.ensures.items) (applies-dropped is c.stage_doomed.new.records _ _ done.extent done.drops)
+    rw (← c.self.view_is, c.remove-stream.ensures.items, parts-remove) (applies-dropped is c.stage_doomed.new.records _ _ done.extent done.drops)
 
 pub returns-clause-applies : goal.returns-clause-applies
 returns-clause-applies g c =
-    let its = IsTakenOut-found c.args.name.now (ap (λ (s : StoreState). s.streams) c.self.view_is) c.in-Some.is c.requires.found c.index.ensures
-    c.remove-part.ensures.value (c.deref.ensures.value ∙ c.in-Ok.ensures) in
-    let is = dropping {store = record { streams = c.self.inside.streams.items; records = c.self.inside.records; stopped = c.self.inside.stopped }}
+    let its = IsTakenOut-found c.self.inside.streams.items c.args.name.now (ap (λ (s : StoreState). s.streams) c.self.view_is) c.in-Some.is c.requires.found c.index.ensures
+    c.remove-stream.ensures.value (c.deref.ensures.value ∙ c.in-Ok.ensures) in
+    let is = dropping c.self.inside.streams.items
     (g.D.Disk.seen c.args.disk.now) c.self.view_is c.requires.one_disk c.self.invariant.0 c.requires.runs its.stands in
-    rw (← c.self.view_is, c.remove-part.ensures.items)
+    rw (← c.self.view_is, c.remove-stream.ensures.items, parts-remove)
     (applies-undropped is c.stage_doomed.new.records _ _ c.in-Err-stage_doomed.ensures.drops)
 
 pub returns-in_default-clause-within : goal.returns-in_default-clause-within
@@ -119,18 +113,18 @@ returns-in-Err-clause-syncs g c told = SyncsToStage-none _ tt
 
 pub returns-in-Ok-stage_doomed-clause-syncs : goal.returns-in-Ok-stage_doomed-clause-syncs
 returns-in-Ok-stage_doomed-clause-syncs g c told =
-    let its = IsTakenOut-found c.args.name.now (ap (λ (s : StoreState). s.streams) c.self.view_is) c.in-Some.is c.requires.found c.index.ensures
-    c.remove-part.ensures.value (c.deref.ensures.value ∙ c.in-Ok.ensures) in
-    let few = few-slots c.self.inside.streams.items c.in-Some.place c.remove-part.result its.stands.at in
+    let its = IsTakenOut-found c.self.inside.streams.items c.args.name.now (ap (λ (s : StoreState). s.streams) c.self.view_is) c.in-Some.is c.requires.found c.index.ensures
+    c.remove-stream.ensures.value (c.deref.ensures.value ∙ c.in-Ok.ensures) in
+    let few = few-slots (parts_of c.self.inside.streams.items) c.in-Some.place c.remove-stream.result.part its.stands.at in
     rw (← c.self.view_is)
-    (SyncsToStage-answers _ (omega (arith, few, ap length its.slots, length-slots_in_turn c.remove-part.result))
+    (SyncsToStage-answers _ (omega (arith, few, ap length its.slots, length-slots_in_turn c.remove-stream.result.part))
     (c.in-Ok-stage_doomed.ensures.drops.told told).syncs)
 
 pub returns-clause-syncs : goal.returns-clause-syncs
 returns-clause-syncs g c told =
-    let its = IsTakenOut-found c.args.name.now (ap (λ (s : StoreState). s.streams) c.self.view_is) c.in-Some.is c.requires.found c.index.ensures
-    c.remove-part.ensures.value (c.deref.ensures.value ∙ c.in-Ok.ensures) in
-    let few = few-slots c.self.inside.streams.items c.in-Some.place c.remove-part.result its.stands.at in
+    let its = IsTakenOut-found c.self.inside.streams.items c.args.name.now (ap (λ (s : StoreState). s.streams) c.self.view_is) c.in-Some.is c.requires.found c.index.ensures
+    c.remove-stream.ensures.value (c.deref.ensures.value ∙ c.in-Ok.ensures) in
+    let few = few-slots (parts_of c.self.inside.streams.items) c.in-Some.place c.remove-stream.result.part its.stands.at in
     rw (← c.self.view_is)
-    (SyncsToStage-failed _ refl (omega (arith, few, ap length its.slots, length-slots_in_turn c.remove-part.result))
+    (SyncsToStage-failed _ refl (omega (arith, few, ap length its.slots, length-slots_in_turn c.remove-stream.result.part))
     (c.in-Err-stage_doomed.ensures.drops.told told).syncs)

@@ -1,7 +1,7 @@
 use Rattle.ss_store.proofs.Common.{◌≡◌, ◌+◌, ◌≤◌, ap, arith, false, refl, true, LineState, event_of, slots_used, records_in}
-use Rattle.ss_store.proofs.IndexedStreams.{AreScheduled-other}
+use Rattle.ss_store.proofs.IndexedStreams.{AreScheduled-other, parts-set}
 use Rattle.ss_store.proofs.Applying.{Applies-refused, Applies-starved}
-use Rattle.ss_store.proofs.MarkTaking.{applies-taken, applies-untaken, can-mark, live-spared, same-spared, same-untaken, sound-spared, sound-stopped}
+use Rattle.ss_store.proofs.MarkTaking.{applies-taken, applies-untaken, can-mark, inside-marker, live-spared, same-spared, same-untaken, sound-spared, sound-stopped}
 use Rattle.ss_store.proofs.MarkTaking.{sound-taken}
 use Rattle.ss_store.proofs.MarkTaking.{stands-spared, taking-mark}
 use Rattle.ss_store.proofs.Syncs.{SyncsToStage-answers, SyncsToStage-failed, SyncsToStage-none}
@@ -15,91 +15,90 @@ returns-in-Err-clause-applies g c =
 
 pub invariant_of-self : goal.invariant_of-self
 invariant_of-self g c =
-    let is = taking-mark {store = record { streams = c.self.inside.streams.items; records = c.self.inside.records; stopped = c.self.inside.stopped }}
+    let is = taking-mark c.self.inside.streams.items
     (g.D.Disk.seen c.args.disk.now) c.self.view_is c.requires.one_disk c.self.invariant.0 c.requires.runs c.in-Ok.ensures.marker
     c.in-Ok.ensures.accepted c.requires.in_time
-    c.requires.marked c.index_mut-stream.ensures.value c.reserve.ensures.grown in (
-      sound-spared is,
-      λ run. AreScheduled-other c.self.inside.streams.items c.self.inside.indexes.items c.in-Ok.marker.0 c.index_mut-stream.result.now
-          (record c.index_mut-stream.result.now { landmarks = c.reserve.new.landmarks }) (c.self.invariant.1 run) c.index_mut-stream.ensures.value refl refl,
+    c.requires.marked c.index_mut.ensures.value c.reserve.ensures.grown in (
+      rw parts-set (sound-spared is),
+      λ run. AreScheduled-other c.self.inside.streams.items c.in-Ok.marker.0 (record c.index_mut.result.now.part { landmarks = c.reserve.new.landmarks }) (c.self.invariant.1 run)
+          (inside-marker is) c.index_mut.ensures.value refl refl,
     )
 
 pub returns-in-Err-reserve-clause-applies : goal.returns-in-Err-reserve-clause-applies
 returns-in-Err-reserve-clause-applies g c =
-    let is = taking-mark {store = record { streams = c.self.inside.streams.items; records = c.self.inside.records; stopped = c.self.inside.stopped }}
+    let is = taking-mark c.self.inside.streams.items
     (g.D.Disk.seen c.args.disk.now) c.self.view_is c.requires.one_disk c.self.invariant.0 c.requires.runs c.in-Ok.ensures.marker
     c.in-Ok.ensures.accepted c.requires.in_time
-    c.requires.marked c.index_mut-stream.ensures.value c.reserve.ensures.grown in
-    rw (← c.self.view_is)
+    c.requires.marked c.index_mut.ensures.value c.reserve.ensures.grown in
+    rw (← c.self.view_is, parts-set)
     (Applies-starved (event_of c.args.name.now c.args.t c.args.what) _ _ is.none _ (same-spared is) (stands-spared is)
     (g.met.D.Disk.knows_now c.args.disk.now))
 
 pub put_mark-requires-clause-can : goal.put_mark-requires-clause-can
 put_mark-requires-clause-can g c =
-    let is = taking-mark {store = record { streams = c.self.inside.streams.items; records = c.self.inside.records; stopped = c.self.inside.stopped }}
+    let is = taking-mark c.self.inside.streams.items
     (g.D.Disk.seen c.args.disk.now) c.self.view_is c.requires.one_disk c.self.invariant.0 c.requires.runs c.in-Ok.ensures.marker
     c.in-Ok.ensures.accepted c.requires.in_time
-    c.requires.marked c.index_mut-stream.ensures.value c.reserve.ensures.grown in
+    c.requires.marked c.index_mut.ensures.value c.reserve.ensures.grown in
     can-mark is c.in-Ok-reserve.ensures.room c.in-Ok-reserve.ensures.value_room
 
 pub put_mark-requires-clause-live : goal.put_mark-requires-clause-live
 put_mark-requires-clause-live g c =
-    let is = taking-mark {store = record { streams = c.self.inside.streams.items; records = c.self.inside.records; stopped = c.self.inside.stopped }}
+    let is = taking-mark c.self.inside.streams.items
     (g.D.Disk.seen c.args.disk.now) c.self.view_is c.requires.one_disk c.self.invariant.0 c.requires.runs c.in-Ok.ensures.marker
     c.in-Ok.ensures.accepted c.requires.in_time
-    c.requires.marked c.index_mut-stream.ensures.value c.reserve.ensures.grown in
+    c.requires.marked c.index_mut.ensures.value c.reserve.ensures.grown in
     live-spared is
 
 pub invariant_of-self-in-Ok-put_mark : goal.invariant_of-self-in-Ok-put_mark
 invariant_of-self-in-Ok-put_mark g c =
-    let is = taking-mark {store = record { streams = c.self.inside.streams.items; records = c.self.inside.records; stopped = c.self.inside.stopped }}
+    let is = taking-mark c.self.inside.streams.items
     (g.D.Disk.seen c.args.disk.now) c.self.view_is c.requires.one_disk c.self.invariant.0 c.requires.runs c.in-Ok.ensures.marker
     c.in-Ok.ensures.accepted c.requires.in_time
-    c.requires.marked c.index_mut-stream.ensures.value c.reserve.ensures.grown in
+    c.requires.marked c.index_mut.ensures.value c.reserve.ensures.grown in
     let done = c.in-Ok-put_mark.ensures in (
-      sound-taken is c.put_mark.new.part c.put_mark.new.records c.put_mark.ensures.same c.put_mark.ensures.fits done.whole done.taken,
-      λ run. AreScheduled-other c.self.inside.streams.items c.self.inside.indexes.items c.in-Ok.marker.0 c.index_mut-stream.result.now
-          c.put_mark.new.part (c.self.invariant.1 run) c.index_mut-stream.ensures.value c.put_mark.ensures.same.target
-          (ap (λ (l : LineState). l.entries) c.put_mark.ensures.same.line),
+      rw parts-set (sound-taken is c.put_mark.new.part c.put_mark.new.records c.put_mark.ensures.same c.put_mark.ensures.fits done.whole done.taken),
+      λ run. AreScheduled-other c.self.inside.streams.items c.in-Ok.marker.0 c.put_mark.new.part (c.self.invariant.1 run) (inside-marker is) c.index_mut.ensures.value
+          c.put_mark.ensures.same.target (ap (λ (l : LineState). l.entries) c.put_mark.ensures.same.line),
     )
 
 pub invariant_of-self-in-Err-put_mark : goal.invariant_of-self-in-Err-put_mark
 invariant_of-self-in-Err-put_mark g c =
-    let is = taking-mark {store = record { streams = c.self.inside.streams.items; records = c.self.inside.records; stopped = c.self.inside.stopped }}
+    let is = taking-mark c.self.inside.streams.items
     (g.D.Disk.seen c.args.disk.now) c.self.view_is c.requires.one_disk c.self.invariant.0 c.requires.runs c.in-Ok.ensures.marker
     c.in-Ok.ensures.accepted c.requires.in_time
-    c.requires.marked c.index_mut-stream.ensures.value c.reserve.ensures.grown in (
-      sound-stopped is c.put_mark.new.part c.put_mark.new.records c.put_mark.ensures.same c.put_mark.ensures.fits,
+    c.requires.marked c.index_mut.ensures.value c.reserve.ensures.grown in (
+      rw parts-set (sound-stopped is c.put_mark.new.part c.put_mark.new.records c.put_mark.ensures.same c.put_mark.ensures.fits),
       λ run. let wrong : true ≡ false = run in absurd (cc),
     )
 
 pub returns-in-Ok-put_mark-clause-applies : goal.returns-in-Ok-put_mark-clause-applies
 returns-in-Ok-put_mark-clause-applies g c =
-    let is = taking-mark {store = record { streams = c.self.inside.streams.items; records = c.self.inside.records; stopped = c.self.inside.stopped }}
+    let is = taking-mark c.self.inside.streams.items
     (g.D.Disk.seen c.args.disk.now) c.self.view_is c.requires.one_disk c.self.invariant.0 c.requires.runs c.in-Ok.ensures.marker
     c.in-Ok.ensures.accepted c.requires.in_time
-    c.requires.marked c.index_mut-stream.ensures.value c.reserve.ensures.grown in
+    c.requires.marked c.index_mut.ensures.value c.reserve.ensures.grown in
     let done = c.in-Ok-put_mark.ensures in
-    rw (← c.self.view_is)
+    rw (← c.self.view_is, parts-set)
     (applies-taken is c.put_mark.new.part c.put_mark.new.records c.put_mark.ensures.same c.put_mark.ensures.fits done.whole done.taken _ _ _ _
     done.takes c.values_held.ensures.value c.len.ensures.value)
 
 pub returns-in-Err-put_mark-clause-applies : goal.returns-in-Err-put_mark-clause-applies
 returns-in-Err-put_mark-clause-applies g c =
-    let is = taking-mark {store = record { streams = c.self.inside.streams.items; records = c.self.inside.records; stopped = c.self.inside.stopped }}
+    let is = taking-mark c.self.inside.streams.items
     (g.D.Disk.seen c.args.disk.now) c.self.view_is c.requires.one_disk c.self.invariant.0 c.requires.runs c.in-Ok.ensures.marker
     c.in-Ok.ensures.accepted c.requires.in_time
-    c.requires.marked c.index_mut-stream.ensures.value c.reserve.ensures.grown in
-    rw (← c.self.view_is)
+    c.requires.marked c.index_mut.ensures.value c.reserve.ensures.grown in
+    rw (← c.self.view_is, parts-set)
     (applies-untaken is c.put_mark.new.part c.put_mark.new.records c.put_mark.ensures.same c.put_mark.ensures.fits _ _ c.in-Err-put_mark.ensures.takes)
 
 pub returns-in-Err-put_mark-clause-failed : goal.returns-in-Err-put_mark-clause-failed
 returns-in-Err-put_mark-clause-failed g c =
-    let is = taking-mark {store = record { streams = c.self.inside.streams.items; records = c.self.inside.records; stopped = c.self.inside.stopped }}
+    let is = taking-mark c.self.inside.streams.items
     (g.D.Disk.seen c.args.disk.now) c.self.view_is c.requires.one_disk c.self.invariant.0 c.requires.runs c.in-Ok.ensures.marker
     c.in-Ok.ensures.accepted c.requires.in_time
-    c.requires.marked c.index_mut-stream.ensures.value c.reserve.ensures.grown in
-    rw (← c.self.view_is)
+    c.requires.marked c.index_mut.ensures.value c.reserve.ensures.grown in
+    rw (← c.self.view_is, parts-set)
     (same-untaken is c.put_mark.new.part c.put_mark.new.records c.put_mark.ensures.same c.put_mark.ensures.fits c.in-Err-put_mark.ensures.err)
 
 pub returns-in-Err-clause-within : goal.returns-in-Err-clause-within

@@ -1,9 +1,9 @@
-use Rattle.ss_store.proofs.Common.{◌≡◌, ◌+◌, ◌≤◌, ◌<◌, ℕ, List, arith, refl, subst, sym, true, false, w64, ap, length, At, to_z-of_z, Value, AllZip-long}
+use Rattle.ss_store.proofs.Common.{◌≡◌, ◌+◌, ◌≤◌, ◌<◌, ℕ, List, arith, refl, subst, sym, true, false, w64, ap, length, At, to_z-of_z, Value, All-set}
 use Rattle.ss_store.proofs.Common.{IsScheduled, records_in}
 use Rattle.std.proofs.Common.{All}
 use Rattle.ss_store.proofs.KeyedWindows.{IsReservedFor-scheduled, IsScheduled-same}
 use Rattle.ss_store.proofs.Rising.{begin-by_last}
-use Rattle.ss_store.proofs.IndexedStreams.{AllZip-set, IsScheduled-at}
+use Rattle.ss_store.proofs.IndexedStreams.{IsScheduled-at, parts-set}
 use Rattle.ss_store.proofs.Applying.{Applies-refused, Applies-starved}
 use Rattle.ss_store.proofs.Taking.{applies-taken, applies-untaken, can-append, live-spared, same-spared, sound-spared, sound-stopped, sound-taken}
 use Rattle.ss_store.proofs.Taking.{few-records, few-taker, inside-taker, later-taker, ordered-spared, runs-taker, stands-spared, taking}
@@ -19,47 +19,41 @@ returns-in-Err-clause-applies g c =
 
 pub invariant_of-self : goal.invariant_of-self
 invariant_of-self g c =
-    let is = taking {store = record { streams = c.self.inside.streams.items; records = c.self.inside.records; stopped = c.self.inside.stopped }}
+    let is = taking c.self.inside.streams.items
     (g.D.Disk.seen c.args.disk.now) c.self.view_is c.requires.one_disk c.self.invariant.0 c.requires.runs c.in-Ok.ensures.taker
     (c.in-Ok.ensures.accepted c.args.v) (c.requires.in_time, c.ranges.v)
     c.index_mut-stream.ensures.value c.reserve_window.ensures.entries c.reserve_window.ensures.grows in (
-      sound-spared is,
-      λ run. AllZip-set IsScheduled c.self.inside.streams.items c.self.inside.indexes.items c.in-Ok.taker.0
-          (record c.index_mut-stream.result.now { line = c.reserve_window.new.line }) c.reserve_window.new.self (c.self.invariant.1 run)
-          (IsScheduled-same c.index_mut-stream.result.now (record c.index_mut-stream.result.now { line = c.reserve_window.new.line })
-          c.index_mut-index.result.now c.reserve_window.new.self refl c.reserve_window.ensures.entries c.reserve_window.ensures.target
-          c.reserve_window.ensures.keyed
-          c.in-Err-reserve_window.ensures.err
-          (IsScheduled-at c.self.inside.streams.items c.self.inside.indexes.items c.in-Ok.taker.0 c.index_mut-stream.result.now
-          c.index_mut-index.result.now (c.self.invariant.1 run) (inside-taker is) c.index_mut-stream.ensures.value c.index_mut-index.ensures.value)),
+      rw parts-set (sound-spared is),
+      λ run. All-set IsScheduled c.self.inside.streams.items c.in-Ok.taker.0 _
+          (IsScheduled-same c.index_mut-stream.result.now _ refl c.reserve_window.ensures.entries c.reserve_window.ensures.target
+          c.reserve_window.ensures.keyed c.in-Err-reserve_window.ensures.err
+          (IsScheduled-at c.self.inside.streams.items c.in-Ok.taker.0 (c.self.invariant.1 run) (inside-taker is) c.index_mut-stream.ensures.value))
+          (c.self.invariant.1 run),
     )
 
 pub returns-in-Err-reserve_window-clause-applies : goal.returns-in-Err-reserve_window-clause-applies
 returns-in-Err-reserve_window-clause-applies g c =
-    let is = taking {store = record { streams = c.self.inside.streams.items; records = c.self.inside.records; stopped = c.self.inside.stopped }}
+    let is = taking c.self.inside.streams.items
     (g.D.Disk.seen c.args.disk.now) c.self.view_is c.requires.one_disk c.self.invariant.0 c.requires.runs c.in-Ok.ensures.taker
     (c.in-Ok.ensures.accepted c.args.v) (c.requires.in_time, c.ranges.v)
     c.index_mut-stream.ensures.value c.reserve_window.ensures.entries c.reserve_window.ensures.grows in
-    rw (← c.self.view_is)
+    rw (← c.self.view_is, parts-set)
     (Applies-starved (Value c.args.name.now c.args.t c.args.v) _ _ is.none _ (same-spared is) (stands-spared is) (g.met.D.Disk.knows_now c.args.disk.now))
 
 pub append_value-requires-clause-can : goal.append_value-requires-clause-can
 append_value-requires-clause-can g c =
-    let is = taking {store = record { streams = c.self.inside.streams.items; records = c.self.inside.records; stopped = c.self.inside.stopped }}
+    let is = taking c.self.inside.streams.items
     (g.D.Disk.seen c.args.disk.now) c.self.view_is c.requires.one_disk c.self.invariant.0 c.requires.runs c.in-Ok.ensures.taker
     (c.in-Ok.ensures.accepted c.args.v) (c.requires.in_time, c.ranges.v)
     c.index_mut-stream.ensures.value c.reserve_window.ensures.entries c.reserve_window.ensures.grows in
     can-append is c.reserve_window.new.self c.in-Ok-reserve_window.ensures.spare
-    (IsReservedFor-scheduled c.index_mut-stream.result.now (record c.index_mut-stream.result.now { line = c.reserve_window.new.line })
-    c.index_mut-index.result.now c.reserve_window.new.self c.args.t refl c.reserve_window.ensures.entries c.reserve_window.ensures.target
+    (IsReservedFor-scheduled c.index_mut-stream.result.now _ c.args.t refl c.reserve_window.ensures.entries c.reserve_window.ensures.target
     c.reserve_window.ensures.keyed c.in-Ok-reserve_window.ensures.noted c.in-Ok-reserve_window.ensures.room
-    (IsScheduled-at c.self.inside.streams.items c.self.inside.indexes.items c.in-Ok.taker.0 c.index_mut-stream.result.now
-    c.index_mut-index.result.now (c.self.invariant.1 (runs-taker is)) (inside-taker is) c.index_mut-stream.ensures.value
-    c.index_mut-index.ensures.value))
+    (IsScheduled-at c.self.inside.streams.items c.in-Ok.taker.0 (c.self.invariant.1 (runs-taker is)) (inside-taker is) c.index_mut-stream.ensures.value))
 
 pub append_value-requires-clause-live : goal.append_value-requires-clause-live
 append_value-requires-clause-live g c =
-    let is = taking {store = record { streams = c.self.inside.streams.items; records = c.self.inside.records; stopped = c.self.inside.stopped }}
+    let is = taking c.self.inside.streams.items
     (g.D.Disk.seen c.args.disk.now) c.self.view_is c.requires.one_disk c.self.invariant.0 c.requires.runs c.in-Ok.ensures.taker
     (c.in-Ok.ensures.accepted c.args.v) (c.requires.in_time, c.ranges.v)
     c.index_mut-stream.ensures.value c.reserve_window.ensures.entries c.reserve_window.ensures.grows in
@@ -67,65 +61,54 @@ append_value-requires-clause-live g c =
 
 pub invariant_of-self-in-Ok-append_value : goal.invariant_of-self-in-Ok-append_value
 invariant_of-self-in-Ok-append_value g c =
-    let is = taking {store = record { streams = c.self.inside.streams.items; records = c.self.inside.records; stopped = c.self.inside.stopped }}
+    let is = taking c.self.inside.streams.items
     (g.D.Disk.seen c.args.disk.now) c.self.view_is c.requires.one_disk c.self.invariant.0 c.requires.runs c.in-Ok.ensures.taker
     (c.in-Ok.ensures.accepted c.args.v) (c.requires.in_time, c.ranges.v)
     c.index_mut-stream.ensures.value c.reserve_window.ensures.entries c.reserve_window.ensures.grows in
     let done = c.in-Ok-append_value.ensures in (
-      sound-taken is c.append_value.new.part c.append_value.new.records c.append_value.ensures.same done.stands,
-      λ run. AllZip-set IsScheduled c.self.inside.streams.items c.self.inside.indexes.items c.in-Ok.taker.0 c.append_value.new.part
-          c.append_value.new.index (c.self.invariant.1 run) (done.stands.keyed, done.none_due),
+      rw parts-set (sound-taken is c.append_value.new.stream.part c.append_value.new.records c.append_value.ensures.same done.stands),
+      λ run. All-set IsScheduled c.self.inside.streams.items c.in-Ok.taker.0 c.append_value.new.stream (done.stands.keyed, done.none_due) (c.self.invariant.1 run),
     )
 
 pub invariant_of-self-in-Err-append_value : goal.invariant_of-self-in-Err-append_value
 invariant_of-self-in-Err-append_value g c =
-    let is = taking {store = record { streams = c.self.inside.streams.items; records = c.self.inside.records; stopped = c.self.inside.stopped }}
+    let is = taking c.self.inside.streams.items
     (g.D.Disk.seen c.args.disk.now) c.self.view_is c.requires.one_disk c.self.invariant.0 c.requires.runs c.in-Ok.ensures.taker
     (c.in-Ok.ensures.accepted c.args.v) (c.requires.in_time, c.ranges.v)
     c.index_mut-stream.ensures.value c.reserve_window.ensures.entries c.reserve_window.ensures.grows in
-    (sound-stopped is c.append_value.new.part c.append_value.new.records c.append_value.ensures.same, λ run. let wrong : true ≡ false = run in absurd (cc))
+    (rw parts-set (sound-stopped is c.append_value.new.stream.part c.append_value.new.records c.append_value.ensures.same), λ run. let wrong : true ≡ false = run in absurd (cc))
 
 pub returns-in-Ok-append_value-clause-applies : goal.returns-in-Ok-append_value-clause-applies
 returns-in-Ok-append_value-clause-applies g c =
-    let is = taking {store = record { streams = c.self.inside.streams.items; records = c.self.inside.records; stopped = c.self.inside.stopped }}
+    let is = taking c.self.inside.streams.items
     (g.D.Disk.seen c.args.disk.now) c.self.view_is c.requires.one_disk c.self.invariant.0 c.requires.runs c.in-Ok.ensures.taker
     (c.in-Ok.ensures.accepted c.args.v) (c.requires.in_time, c.ranges.v)
     c.index_mut-stream.ensures.value c.reserve_window.ensures.entries c.reserve_window.ensures.grows in
     let done = c.in-Ok-append_value.ensures in
-    rw (← c.self.view_is)
-    (applies-taken is c.append_value.new.part c.append_value.new.records c.append_value.ensures.same done.stands _ _ _ _
+    rw (← c.self.view_is, parts-set)
+    (applies-taken is c.append_value.new.stream.part c.append_value.new.records c.append_value.ensures.same done.stands _ _ _ _
     (rw (to_z-of_z w64 c.args.v c.ranges.v) at done.takes) done.none_due c.values_held.ensures.value c.len.ensures.value)
 
 pub returns-clause-applies : goal.returns-clause-applies
 returns-clause-applies g c =
-    let is = taking {store = record { streams = c.self.inside.streams.items; records = c.self.inside.records; stopped = c.self.inside.stopped }}
+    let is = taking c.self.inside.streams.items
     (g.D.Disk.seen c.args.disk.now) c.self.view_is c.requires.one_disk c.self.invariant.0 c.requires.runs c.in-Ok.ensures.taker
     (c.in-Ok.ensures.accepted c.args.v) (c.requires.in_time, c.ranges.v)
     c.index_mut-stream.ensures.value c.reserve_window.ensures.entries c.reserve_window.ensures.grows in
-    rw (← c.self.view_is, c.from.ensures)
-    (applies-untaken is c.append_value.new.part c.append_value.new.records c.append_value.ensures.same _ c.in-Err-append_value.fault
+    rw (← c.self.view_is, c.from.ensures, parts-set)
+    (applies-untaken is c.append_value.new.stream.part c.append_value.new.records c.append_value.ensures.same _ c.in-Err-append_value.fault
     (rw (to_z-of_z w64 c.args.v c.ranges.v) at c.in-Err-append_value.ensures.takes) c.in-Err-append_value.ensures.changed)
-
-pub index_mut-index-requires : goal.index_mut-index-requires
-index_mut-index-requires g c =
-    let is = taking {store = record { streams = c.self.inside.streams.items; records = c.self.inside.records; stopped = c.self.inside.stopped }}
-    {line = c.index_mut-stream.result.now.line} (g.D.Disk.seen c.args.disk.now) c.self.view_is c.requires.one_disk c.self.invariant.0 c.requires.runs
-    c.in-Ok.ensures.taker (c.in-Ok.ensures.accepted c.args.v) (c.requires.in_time, c.ranges.v) c.index_mut-stream.ensures.value refl (omega arith) in
-    let long = AllZip-long IsScheduled c.self.inside.streams.items c.self.inside.indexes.items (c.self.invariant.1 (runs-taker is)) in
-    omega (arith, long, inside-taker is)
 
 pub reserve_window-requires : goal.reserve_window-requires
 reserve_window-requires g c =
-    let is = taking {store = record { streams = c.self.inside.streams.items; records = c.self.inside.records; stopped = c.self.inside.stopped }}
-    {line = c.index_mut-stream.result.now.line} (g.D.Disk.seen c.args.disk.now) c.self.view_is c.requires.one_disk c.self.invariant.0 c.requires.runs
+    let is = taking c.self.inside.streams.items
+    {line = c.index_mut-stream.result.now.part.line} (g.D.Disk.seen c.args.disk.now) c.self.view_is c.requires.one_disk c.self.invariant.0 c.requires.runs
     c.in-Ok.ensures.taker (c.in-Ok.ensures.accepted c.args.v) (c.requires.in_time, c.ranges.v) c.index_mut-stream.ensures.value refl (omega arith) in
-    let scheduled = IsScheduled-at c.self.inside.streams.items c.self.inside.indexes.items c.in-Ok.taker.0 c.index_mut-stream.result.now
-    c.index_mut-index.result.now (c.self.invariant.1 (runs-taker is)) (inside-taker is) c.index_mut-stream.ensures.value
-    c.index_mut-index.ensures.value in
+    let scheduled = IsScheduled-at c.self.inside.streams.items c.in-Ok.taker.0 (c.self.invariant.1 (runs-taker is)) (inside-taker is) c.index_mut-stream.ensures.value in
     record {
       few = few-taker is;
       later = subst (λ (ts : List (ℕ × At)). All (λ (e : ℕ × At). e.0 < c.args.t) ts) (sym scheduled.0.timed)
-          (begin-by_last c.index_mut-stream.result.now.last_time c.args.t c.index_mut-stream.result.now.line.entries (ordered-spared is).times
+          (begin-by_last c.index_mut-stream.result.now.part.last_time c.args.t c.index_mut-stream.result.now.part.line.entries (ordered-spared is).times
           (later-taker is));
     }
 
@@ -153,7 +136,7 @@ returns-in-Err-reserve_window-clause-syncs g c told = SyncsToStage-none _ tt
 
 pub returns-in-Ok-append_value-clause-syncs : goal.returns-in-Ok-append_value-clause-syncs
 returns-in-Ok-append_value-clause-syncs g c told =
-    let is = taking {store = record { streams = c.self.inside.streams.items; records = c.self.inside.records; stopped = c.self.inside.stopped }}
+    let is = taking c.self.inside.streams.items
     (g.D.Disk.seen c.args.disk.now) c.self.view_is c.requires.one_disk c.self.invariant.0 c.requires.runs c.in-Ok.ensures.taker
     (c.in-Ok.ensures.accepted c.args.v) (c.requires.in_time, c.ranges.v)
     c.index_mut-stream.ensures.value c.reserve_window.ensures.entries c.reserve_window.ensures.grows in
@@ -163,7 +146,7 @@ returns-in-Ok-append_value-clause-syncs g c told =
 
 pub returns-clause-syncs : goal.returns-clause-syncs
 returns-clause-syncs g c told =
-    let is = taking {store = record { streams = c.self.inside.streams.items; records = c.self.inside.records; stopped = c.self.inside.stopped }}
+    let is = taking c.self.inside.streams.items
     (g.D.Disk.seen c.args.disk.now) c.self.view_is c.requires.one_disk c.self.invariant.0 c.requires.runs c.in-Ok.ensures.taker
     (c.in-Ok.ensures.accepted c.args.v) (c.requires.in_time, c.ranges.v)
     c.index_mut-stream.ensures.value c.reserve_window.ensures.entries c.reserve_window.ensures.grows in

@@ -1,15 +1,16 @@
 use Rattle.ss_store.proofs.Common.{◌≡◌, ◌<◌, ◌∙◌, ap, length, refl, Some, subst, sym, option_map, slice_get, slice_get_read, StreamRow, AllAgree, StoreState}
-use Rattle.ss_store.proofs.Common.{row_of_held}
+use Rattle.ss_store.proofs.Common.{parts_of, row_of_held}
+use Rattle.ss_store.proofs.IndexedStreams.{parts-read}
 use Rattle.ss_store.proofs.RowsHeld.{row-at}
 use Rattle.ss_store.proofs.store.Store.stream_in.Goals as goal
 
 pub returns-clause-held : goal.returns-clause-held
 returns-clause-held g c =
-    let parts = c.self.inside.streams.items in
-    let part = c.index-stream.result.now in
+    let parts = parts_of c.self.inside.streams.items in
+    let part = c.index.result.now.part in
     let at : slice_get parts c.args.place ≡ Some part =
     slice_get_read parts (length parts) c.args.place part refl
-    (subst (λ (s : StoreState). c.args.place < length s.streams) (sym c.self.view_is) c.requires.place) c.index-stream.ensures in
+    (subst (λ (s : StoreState). c.args.place < length s.streams) (sym c.self.view_is) c.requires.place) (parts-read c.self.inside.streams.items c.args.place c.index.ensures) in
     ap (λ (s : StoreState). option_map row_of_held (slice_get s.streams c.args.place)) (sym c.self.view_is) ∙ ap (option_map row_of_held) at
     ∙ ap (λ (r : StreamRow). Some r) (rw (
       c.params.ensures,
@@ -21,12 +22,12 @@ returns-clause-held g c =
 
 pub returns-clause-row : goal.returns-clause-row
 returns-clause-row g c streams state each =
-    let parts = c.self.inside.streams.items in
-    let part = c.index-stream.result.now in
+    let parts = parts_of c.self.inside.streams.items in
+    let part = c.index.result.now.part in
     let held : AllAgree parts streams = subst (λ (s : StoreState). AllAgree s.streams streams) (sym c.self.view_is) each in
     let at : slice_get parts c.args.place ≡ Some part =
     slice_get_read parts (length parts) c.args.place part refl
-    (subst (λ (s : StoreState). c.args.place < length s.streams) (sym c.self.view_is) c.requires.place) c.index-stream.ensures in
+    (subst (λ (s : StoreState). c.args.place < length s.streams) (sym c.self.view_is) c.requires.place) (parts-read c.self.inside.streams.items c.args.place c.index.ensures) in
     row-at parts streams c.args.place part _ state held at
     (rw (
       c.params.ensures,

@@ -1,4 +1,4 @@
-use Rattle.ss_store.proofs.Common.{◌≡◌, ◌∙◌, ℕ, List, Some, true, false, get_or, refl, ap, sym, arith, nat_le, nat_tests, entries_of, StreamParts}
+use Rattle.ss_store.proofs.Common.{◌≡◌, ◌∙◌, ℕ, List, Some, true, false, get_or, refl, ap, sym, arith, nat_le, nat_tests, entries_of, HeldStream, StreamParts, parts_of}
 use Rattle.ss_store.proofs.Common.{MOST_VALUES, has_open, is_past, values_held, StoreState, has_all_slots, of_part, IsPlaceOf}
 use Rattle.std.specs.Prelude.{Option}
 use Rattle.ss_store.proofs.Found.{IsAtPlace-found, inside-found, none-found}
@@ -12,34 +12,34 @@ record IsPlain (name : List ℕ) (place : ℕ) (parts : List StreamParts) (part 
   is : IsAtPlace name place parts part
   plain : has_open part.landmarks.landmarks ≡ false
 
-IsPlain-found : {items parts : List StreamParts} {found : Option ℕ} {place : ℕ} {part : StreamParts} (name : List ℕ) → items ≡ parts → found ≡ Some place →
-    IsPlaceOf name parts found → part ≡ get_or items place part → of_part name parts (λ p. has_open p.landmarks.landmarks) ≡ false →
-    IsPlain name place parts part
-IsPlain-found {items} {parts} {found} {place} {part} name same is place_is read plain =
-    let at = IsAtPlace-found name same is place_is read in
-    record { is = at; plain = sym (of_part-named parts name part (λ p. has_open p.landmarks.landmarks) at.named) ∙ plain }
+IsPlain-found : (held : List HeldStream) {parts : List StreamParts} {found : Option ℕ} {place : ℕ} {stream : HeldStream} (name : List ℕ) →
+    parts_of held ≡ parts → found ≡ Some place → IsPlaceOf name parts found → stream ≡ get_or held place stream →
+    of_part name parts (λ p. has_open p.landmarks.landmarks) ≡ false → IsPlain name place parts stream.part
+IsPlain-found held {parts} {found} {place} {stream} name same is place_is read plain =
+    let at = IsAtPlace-found held name same is place_is read in
+    record { is = at; plain = sym (of_part-named parts name stream.part (λ p. has_open p.landmarks.landmarks) at.named) ∙ plain }
 
 pub returns-in_default-clause-refused : goal.returns-in_default-clause-refused
 returns-in_default-clause-refused g c v =
     refuses_held-unknown c.args.self.now.streams c.args.name.now c.args.t v (none-found c.args.self.now.streams c.args.name.now c.in_default.is c.requires.found)
 
-pub index-stream-requires : goal.index-stream-requires
-index-stream-requires g c =
-    let inside = inside-found c.args.name.now (ap (λ (s : StoreState). s.streams) c.self.view_is) c.in-Some.is c.requires.found in
+pub index-requires : goal.index-requires
+index-requires g c =
+    let inside = inside-found c.self.inside.streams.items c.args.name.now (ap (λ (s : StoreState). s.streams) c.self.view_is) c.in-Some.is c.requires.found in
     omega (arith, inside)
 
 pub returns-then-is_past-clause-refused : goal.returns-then-is_past-clause-refused
 returns-then-is_past-clause-refused g c v =
-    let part = c.index-stream.result.now in
-    let its = IsPlain-found c.args.name.now (ap (λ (s : StoreState). s.streams) c.self.view_is) c.in-Some.is c.requires.found c.index-stream.ensures
+    let part = c.index.result.now.part in
+    let its = IsPlain-found c.self.inside.streams.items c.args.name.now (ap (λ (s : StoreState). s.streams) c.self.view_is) c.in-Some.is c.requires.found c.index.ensures
     c.requires.plain in
     let past : is_past part.last_time c.args.t ≡ true = cc in
     refuses_held-value c.args.self.now.streams c.args.name.now c.args.t v part true _ _ its.is.named its.plain past refl refl
 
 pub returns-then-values_held-ge-MOST_VALUES-clause-refused : goal.returns-then-values_held-ge-MOST_VALUES-clause-refused
 returns-then-values_held-ge-MOST_VALUES-clause-refused g c v =
-    let part = c.index-stream.result.now in
-    let its = IsPlain-found c.args.name.now (ap (λ (s : StoreState). s.streams) c.self.view_is) c.in-Some.is c.requires.found c.index-stream.ensures
+    let part = c.index.result.now.part in
+    let its = IsPlain-found c.self.inside.streams.items c.args.name.now (ap (λ (s : StoreState). s.streams) c.self.view_is) c.in-Some.is c.requires.found c.index.ensures
     c.requires.plain in
     let later : is_past part.last_time c.args.t ≡ false = cc in
     let full : nat_le MOST_VALUES (values_held (entries_of part)) ≡ true = rw (← c.values_held.ensures.value) (grind (arith, nat_tests)) in
@@ -47,8 +47,8 @@ returns-then-values_held-ge-MOST_VALUES-clause-refused g c v =
 
 pub returns-in-Some-free_slot-clause-accepted : goal.returns-in-Some-free_slot-clause-accepted
 returns-in-Some-free_slot-clause-accepted g c v =
-    let part = c.index-stream.result.now in
-    let its = IsPlain-found c.args.name.now (ap (λ (s : StoreState). s.streams) c.self.view_is) c.in-Some.is c.requires.found c.index-stream.ensures
+    let part = c.index.result.now.part in
+    let its = IsPlain-found c.self.inside.streams.items c.args.name.now (ap (λ (s : StoreState). s.streams) c.self.view_is) c.in-Some.is c.requires.found c.index.ensures
     c.requires.plain in
     let later : is_past part.last_time c.args.t ≡ false = cc in
     let few : nat_le MOST_VALUES (values_held (entries_of part)) ≡ false = rw (← c.values_held.ensures.value) (grind (arith, nat_tests)) in
@@ -58,8 +58,8 @@ returns-in-Some-free_slot-clause-accepted g c v =
 
 pub returns-in-None-clause-refused : goal.returns-in-None-clause-refused
 returns-in-None-clause-refused g c v =
-    let part = c.index-stream.result.now in
-    let its = IsPlain-found c.args.name.now (ap (λ (s : StoreState). s.streams) c.self.view_is) c.in-Some.is c.requires.found c.index-stream.ensures
+    let part = c.index.result.now.part in
+    let its = IsPlain-found c.self.inside.streams.items c.args.name.now (ap (λ (s : StoreState). s.streams) c.self.view_is) c.in-Some.is c.requires.found c.index.ensures
     c.requires.plain in
     let later : is_past part.last_time c.args.t ≡ false = cc in
     let few : nat_le MOST_VALUES (values_held (entries_of part)) ≡ false = rw (← c.values_held.ensures.value) (grind (arith, nat_tests)) in
@@ -69,8 +69,8 @@ returns-in-None-clause-refused g c v =
 pub returns-in-Some-free_slot-clause-taker : goal.returns-in-Some-free_slot-clause-taker
 returns-in-Some-free_slot-clause-taker g c =
     let parts = c.args.self.now.streams in
-    let part = c.index-stream.result.now in
-    let its = IsPlain-found c.args.name.now (ap (λ (s : StoreState). s.streams) c.self.view_is) c.in-Some.is c.requires.found c.index-stream.ensures
+    let part = c.index.result.now.part in
+    let its = IsPlain-found c.self.inside.streams.items c.args.name.now (ap (λ (s : StoreState). s.streams) c.self.view_is) c.in-Some.is c.requires.found c.index.ensures
     c.requires.plain in
     let later : is_past part.last_time c.args.t ≡ false = cc in
     let stored : has_all_slots parts ≡ false = not-true _ (λ full. let wrong : true ≡ false = c.in-Some-free_slot.ensures.full.1 full in cc) in
