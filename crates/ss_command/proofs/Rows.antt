@@ -11,7 +11,7 @@ use Rattle.ss_catalog.specs.declared.query.End.TheVariants as ends
 use Rattle.ss_catalog.specs.declared.query.Kind.TheVariants as kinds
 use Rattle.ss_catalog.specs.declared.refusal.Refusal.{Refusal}
 use Rattle.ss_catalog.specs.declared.refusal.Refusal.TheVariants as refusals
-use Rattle.ss_command.specs.Grammar.{meaning}
+use Rattle.ss_command.specs.Grammar.{meaning, verb_of}
 use Rattle.ss_command.specs.Lines.{ended_lines, lines, unended}
 use Rattle.ss_command.specs.Printed.{printed}
 use Rattle.ss_command.specs.Words.{words}
@@ -19,6 +19,7 @@ use Rattle.ss_command.specs.declared.TheConstants.{LINE_END, CARRIAGE_RETURN, LO
 use Rattle.ss_command.specs.declared.line_reader.TheConstants.{MOST_BYTES_KEPT}
 use Rattle.ss_command.specs.declared.command.Command.{Command}
 use Rattle.ss_command.specs.declared.command.Command.TheVariants as commands
+use Rattle.ss_command.specs.declared.verb.Verb.TheVariants as verbs
 
 line_end : LINE_END ≡ 10
 line_end = refl
@@ -366,3 +367,10 @@ printed-newest :
     map printed (commands.Last (codes "a") ∷ commands.Values (codes "a") 7 4611686018427387904 ∷ []) ≡ codes "last a" ∷ codes "values a 7 4611686018427387904" ∷ []
 unfolding printed digits
 printed-newest = refl
+
+verbs-each : map verb_of (map codes ("create" ∷ "append" ∷ "landmark" ∷ "drop" ∷ "query" ∷ "series" ∷ "windows" ∷ "list" ∷ "certify" ∷ "last" ∷ "values" ∷ "estimate" ∷ "estimates" ∷ [])) ≡
+    map Some (verbs.Create ∷ verbs.Append ∷ verbs.Landmark ∷ verbs.Drop ∷ verbs.Query ∷ verbs.Series ∷ verbs.Windows ∷ verbs.List ∷ verbs.Certify ∷ verbs.Last ∷ verbs.Values ∷ verbs.Estimate ∷ verbs.Estimates ∷ [])
+verbs-each = refl
+
+verbs-none : map verb_of (map codes ("Create" ∷ "creates" ∷ "estimat" ∷ "cursor" ∷ "" ∷ [])) ≡ None ∷ None ∷ None ∷ None ∷ None ∷ []
+verbs-none = refl

@@ -16,16 +16,18 @@ use Rattle.ss_catalog.specs.declared.query.Kind.{Kind}
 use Rattle.ss_catalog.specs.declared.query.Kind.TheVariants as kinds
 use Rattle.ss_catalog.specs.declared.refusal.Refusal.{Refusal}
 use Rattle.ss_command.specs.declared.TheConstants.{LONGEST_LINE}
-use Rattle.ss_command.specs.Grammar.{◌>>=◌, added_of, append_of, certify_of, close_of, command_of, create_of, drop_of, end_of, exp_of, figure_of, has_of}
+use Rattle.ss_command.specs.Grammar.{◌>>=◌, added_of, append_of, certify_of, close_of, command_of, create_of, drop_of, end_of, exp_of, figure_of, form_of, has_of}
 use Rattle.ss_command.specs.Grammar.{is_comment, landmark_of, last_of, list_of, meaning, values_of}
 use Rattle.ss_command.specs.Grammar.{◌>>=◌, meaning_of_words, estimate_of, estimates_of, guessed_of, kind_of, name_of, open_of, or_number, parameter_of, power_of, query_of}
 use Rattle.ss_command.specs.Grammar.{series_of, step_of, steps_of, time_of}
-use Rattle.ss_command.specs.Grammar.{value_of}
+use Rattle.ss_command.specs.Grammar.{value_of, verb_of}
 use Rattle.ss_command.specs.Grammar.{windows_of, within_of, within_word}
 use Rattle.ss_command.specs.Printed.{IsSayable, IsStepOfNumber, takes_value}
 use Rattle.ss_command.specs.Words.{is_word, words}
 use Rattle.ss_command.specs.declared.command.Command.{Command}
 use Rattle.ss_command.specs.declared.command.Command.TheVariants as commands
+use Rattle.ss_command.specs.declared.verb.Verb.{Verb}
+use Rattle.ss_command.specs.declared.verb.Verb.TheVariants as verbs
 
 -- where steps give something, the first gave something to the others
 bind-Ok : {A B : Type 0} (r : Result A Refusal) (next : A → Result B Refusal) (b : B) → (r >>= next) ≡ Ok b → (a : A) × (r ≡ Ok a) × (next a ≡ Ok b)
@@ -336,29 +338,28 @@ values-sayable (name ∷ first ∷ last ∷ []) c same =
     subst IsSayable is (name-is name stream.0 stream.1, time-le first from.0 from.1, time-le last to.0 to.1)
 values-sayable (name ∷ first ∷ last ∷ more ∷ rest) c same = cc
 
-command-sayable : (verb : List ℕ) (rest : List (List ℕ)) (c : Command) → command_of verb rest ≡ Ok c → IsSayable c
-command-sayable verb rest c same =
-    choice (IsSayable c) (is_word verb (codes "create")) _ _ c (create-sayable rest c)
-    (choice (IsSayable c) (is_word verb (codes "append")) _ _ c (append-sayable rest c)
-    (choice (IsSayable c) (is_word verb (codes "landmark")) _ _ c (landmark-sayable rest c)
-    (choice (IsSayable c) (is_word verb (codes "drop")) _ _ c (drop-sayable rest c)
-    (choice (IsSayable c) (is_word verb (codes "query")) _ _ c (query-sayable rest c)
-    (choice (IsSayable c) (is_word verb (codes "series")) _ _ c (series-sayable rest c)
-    (choice (IsSayable c) (is_word verb (codes "windows")) _ _ c (windows-sayable rest c)
-    (choice (IsSayable c) (is_word verb (codes "list")) _ _ c (list-sayable rest c)
-    (choice (IsSayable c) (is_word verb (codes "certify")) _ _ c (certify-sayable rest c)
-    (choice (IsSayable c) (is_word verb (codes "last")) _ _ c (last-sayable rest c)
-    (choice (IsSayable c) (is_word verb (codes "values")) _ _ c (values-sayable rest c)
-    (choice (IsSayable c) (is_word verb (codes "estimate")) _ _ c (estimate-sayable rest c)
-    (choice (IsSayable c) (is_word verb (codes "estimates")) _ _ c (estimates-sayable rest c) (λ wrong. cc (wrong))))))))))))))
-    same
+form-sayable : (verb : Option Verb) (rest : List (List ℕ)) (c : Command) → form_of verb rest ≡ Ok c → IsSayable c
+form-sayable (Some verbs.Create) = create-sayable
+form-sayable (Some verbs.Append) = append-sayable
+form-sayable (Some verbs.Landmark) = landmark-sayable
+form-sayable (Some verbs.Drop) = drop-sayable
+form-sayable (Some verbs.Query) = query-sayable
+form-sayable (Some verbs.Series) = series-sayable
+form-sayable (Some verbs.Windows) = windows-sayable
+form-sayable (Some verbs.List) = list-sayable
+form-sayable (Some verbs.Certify) = certify-sayable
+form-sayable (Some verbs.Last) = last-sayable
+form-sayable (Some verbs.Values) = values-sayable
+form-sayable (Some verbs.Estimate) = estimate-sayable
+form-sayable (Some verbs.Estimates) = estimates-sayable
+form-sayable None = λ rest c same. cc (same)
 
 words-sayable : (ws : List (List ℕ)) (c : Command) → meaning_of_words ws ≡ Ok (Some c) → IsSayable c
 words-sayable [] c same = cc
-words-sayable (verb ∷ rest) c same =
-    let command = bind-Ok (command_of verb rest) _ (Some c) same in
+words-sayable (word ∷ rest) c same =
+    let command = bind-Ok (command_of word rest) _ (Some c) same in
     let is : command.0 ≡ c = cc (command.2) in
-    subst IsSayable is (command-sayable verb rest command.0 command.1)
+    subst IsSayable is (form-sayable (verb_of word) rest command.0 command.1)
 
 -- a command that a line means is one that a line can say
 pub meant-sayable : (line : List ℕ) (c : Command) → meaning line ≡ Ok (Some c) → IsSayable c

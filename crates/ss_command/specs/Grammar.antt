@@ -19,6 +19,8 @@ use Rattle.ss_command.specs.Words.{words, is_word}
 use Rattle.ss_command.specs.declared.TheConstants.{LONGEST_LINE, COMMENT}
 use Rattle.ss_command.specs.declared.command.Command.{Command}
 use Rattle.ss_command.specs.declared.command.Command.TheVariants as commands
+use Rattle.ss_command.specs.declared.verb.Verb.{Verb}
+use Rattle.ss_command.specs.declared.verb.Verb.TheVariants as verbs
 
 -- a step that reads, and those after it; the first that is refused is the answer
 infixl 10 ◌>>=◌
@@ -253,29 +255,49 @@ values_of (name ∷ first ∷ last ∷ []) = do
   Ok (commands.Values stream from to)
 values_of _ = Err refusals.Syntax
 
+-- the first words of the commands
+abbrev pub verb_of : List ℕ → Option Verb
+verb_of word =
+    if is_word word (codes "create") then Some verbs.Create
+    else (if is_word word (codes "append") then Some verbs.Append
+    else (if is_word word (codes "landmark") then Some verbs.Landmark
+    else (if is_word word (codes "drop") then Some verbs.Drop
+    else (if is_word word (codes "query") then Some verbs.Query
+    else (if is_word word (codes "series") then Some verbs.Series
+    else (if is_word word (codes "windows") then Some verbs.Windows
+    else (if is_word word (codes "list") then Some verbs.List
+    else (if is_word word (codes "certify") then Some verbs.Certify
+    else (if is_word word (codes "last") then Some verbs.Last
+    else (if is_word word (codes "values") then Some verbs.Values
+    else (if is_word word (codes "estimate") then Some verbs.Estimate
+    else (if is_word word (codes "estimates") then Some verbs.Estimates
+    else None))))))))))))
+
 -- the forms of a command: its first word says which one the words after it are to have
+abbrev pub form_of : Option Verb → List (List ℕ) → Result Command Refusal
+form_of (Some verbs.Create) = create_of
+form_of (Some verbs.Append) = append_of
+form_of (Some verbs.Landmark) = landmark_of
+form_of (Some verbs.Drop) = drop_of
+form_of (Some verbs.Query) = query_of
+form_of (Some verbs.Series) = series_of
+form_of (Some verbs.Windows) = windows_of
+form_of (Some verbs.List) = list_of
+form_of (Some verbs.Certify) = certify_of
+form_of (Some verbs.Last) = last_of
+form_of (Some verbs.Values) = values_of
+form_of (Some verbs.Estimate) = estimate_of
+form_of (Some verbs.Estimates) = estimates_of
+form_of None = λ _. Err refusals.Syntax
+
 abbrev pub command_of : List ℕ → List (List ℕ) → Result Command Refusal
-command_of verb rest =
-    if is_word verb (codes "create") then create_of rest
-    else (if is_word verb (codes "append") then append_of rest
-    else (if is_word verb (codes "landmark") then landmark_of rest
-    else (if is_word verb (codes "drop") then drop_of rest
-    else (if is_word verb (codes "query") then query_of rest
-    else (if is_word verb (codes "series") then series_of rest
-    else (if is_word verb (codes "windows") then windows_of rest
-    else (if is_word verb (codes "list") then list_of rest
-    else (if is_word verb (codes "certify") then certify_of rest
-    else (if is_word verb (codes "last") then last_of rest
-    else (if is_word verb (codes "values") then values_of rest
-    else (if is_word verb (codes "estimate") then estimate_of rest
-    else (if is_word verb (codes "estimates") then estimates_of rest
-    else Err refusals.Syntax))))))))))))
+command_of word = form_of (verb_of word)
 
 -- what words mean: nothing, where there are none, or a command
 abbrev pub meaning_of_words : List (List ℕ) → Result (Option Command) Refusal
 meaning_of_words [] = Ok None
-meaning_of_words (verb ∷ rest) = do
-  command ← command_of verb rest
+meaning_of_words (word ∷ rest) = do
+  command ← command_of word rest
   Ok (Some command)
 
 -- a line that is no command, as its first byte says

@@ -8,6 +8,7 @@ ghost use Rattle.ss_command.specs.Printed.{IsCommandInTime, IsSayable, takes_val
 
 use crate::command::Command;
 use crate::numbers::{read_name, read_parameter, read_step, read_time, read_value, read_within};
+use crate::verb::{Verb, verb_of};
 use crate::words::{Words, is_word};
 use crate::{COMMENT, LONGEST_LINE};
 use ss_catalog::{End, Event, Family, Kind, Params, Query, Refusal, Series};
@@ -387,38 +388,25 @@ fn values(mut words: Words) -> Result<Command, Refusal>
 }
 
 // Reads a command from its first word and those after it.
-fn command(verb: &[u8], words: Words) -> Result<Command, Refusal>
-    ensures meaning { result ≡ command_of verb.now words.entry }
+fn command(word: &[u8], words: Words) -> Result<Command, Refusal>
+    ensures meaning { result ≡ command_of word.now words.entry }
     ensures time { IfOk result IsCommandInTime }
 {
-    if is_word(verb, "create") {
-        create(words)
-    } else if is_word(verb, "append") {
-        append(words)
-    } else if is_word(verb, "landmark") {
-        landmark(words)
-    } else if is_word(verb, "drop") {
-        drop(words)
-    } else if is_word(verb, "query") {
-        query(words)
-    } else if is_word(verb, "series") {
-        series(words)
-    } else if is_word(verb, "windows") {
-        windows(words)
-    } else if is_word(verb, "list") {
-        list(words)
-    } else if is_word(verb, "certify") {
-        certify(words)
-    } else if is_word(verb, "last") {
-        last(words)
-    } else if is_word(verb, "values") {
-        values(words)
-    } else if is_word(verb, "estimate") {
-        estimate(words)
-    } else if is_word(verb, "estimates") {
-        estimates(words)
-    } else {
-        Err(Refusal::Syntax)
+    match verb_of(word) {
+        Some(Verb::Create) => create(words),
+        Some(Verb::Append) => append(words),
+        Some(Verb::Landmark) => landmark(words),
+        Some(Verb::Drop) => drop(words),
+        Some(Verb::Query) => query(words),
+        Some(Verb::Series) => series(words),
+        Some(Verb::Windows) => windows(words),
+        Some(Verb::List) => list(words),
+        Some(Verb::Certify) => certify(words),
+        Some(Verb::Last) => last(words),
+        Some(Verb::Values) => values(words),
+        Some(Verb::Estimate) => estimate(words),
+        Some(Verb::Estimates) => estimates(words),
+        None => Err(Refusal::Syntax),
     }
 }
 
@@ -444,7 +432,7 @@ pub fn parse(line: &[u8]) -> Result<Option<Command>, Refusal>
     let mut words = Words::of(line);
     match words.next() {
         None => Ok(None),
-        Some(verb) => match command(verb, words) {
+        Some(word) => match command(word, words) {
             Ok(command) => Ok(Some(command)),
             Err(refusal) => Err(refusal),
         },

@@ -8,6 +8,7 @@ mod line_reader;
 mod numbers;
 mod printing;
 mod put;
+mod verb;
 mod words;
 
 pub use command::Command;
@@ -19,6 +20,7 @@ pub use laws::{
 pub use line_reader::{Ended, LineReader};
 pub use printing::print;
 pub use put::{put_name, put_number, put_sum, put_target, put_value};
+pub use verb::{Verb, verb_of};
 pub use words::{Words, cut_first, is_word};
 
 /// The byte that ends a line.
