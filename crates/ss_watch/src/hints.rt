@@ -1,41 +1,32 @@
 // What follows a reason where a mistake is a common one.
 use crate::words::{has_digits_alone, word_at};
+use arrayvec::ArrayVec;
+use ss_command::{LONGEST_LINE, is_word, verb_of};
 use std::alloc::{AllocError, Global};
 
-// The first words of the commands.
-const VERBS: [&str; 14] = [
-    "create",
-    "append",
-    "landmark",
-    "drop",
-    "query",
-    "series",
-    "windows",
-    "list",
-    "certify",
-    "last",
-    "values",
-    "cursor",
-    "estimate",
-    "estimates",
-];
+// Whether a word is the first of a command, or of a form of a cursor.
+fn is_first_word(word: &[u8]) -> bool {
+    verb_of(word).is_some() || is_word(word, "cursor")
+}
 
-// What is asked for of the values of a stream.
-const KINDS: [&str; 5] = ["count", "sum", "min", "max", "has"];
-
-/// Whether a word is the first of a command.
+/// Whether a word is the first of a command, or of a form of a cursor.
 pub fn is_verb(word: &str) -> bool {
-    VERBS.iter().any(|known| word == *known)
+    is_first_word(word.as_bytes())
 }
 
-// Whether a word is the first of a command, but for its capitals.
+// Whether a word is the first of a command, or of a form of a cursor, but for its capitals.
 fn is_verb_in_capitals(word: &str) -> bool {
-    VERBS.iter().any(|known| word.eq_ignore_ascii_case(known))
+    let mut letters: ArrayVec<u8, LONGEST_LINE> = ArrayVec::new();
+    if letters.try_extend_from_slice(word.as_bytes()).is_err() {
+        return false;
+    }
+    letters.as_mut_slice().make_ascii_lowercase();
+    is_first_word(letters.as_slice())
 }
 
-/// Whether a word says what is asked for.
-pub fn is_kind(word: &str) -> bool {
-    KINDS.iter().any(|known| word == *known)
+// Whether a word says what is asked for of the values of a stream.
+fn is_kind(word: &str) -> bool {
+    matches!(word, "count" | "sum" | "min" | "max" | "has")
 }
 
 // What follows where a file isn't plain text, or is in another form.
@@ -57,18 +48,13 @@ fn hint_on_form(verb: &str) -> &'static str {
 
 // What follows where a word of another program begins a line.
 fn hint_on_word(verb: &str) -> &'static str {
-    if is_verb_in_capitals(verb) {
-        ": commands are in small letters"
-    } else if verb == "help" || verb == "?" {
-        ": summarystore --help lists the commands"
-    } else if verb == "quit" || verb == "exit" {
-        ": the run ends where its input ends, at a terminal by Ctrl-D"
-    } else if verb == "frame" {
-        ": the bytes that its digits spell are read by the mode follow"
-    } else if is_kind(verb) {
-        ": that is asked for by a query, as in query NAME sum T1 T2"
-    } else {
-        ""
+    match verb {
+        "help" | "?" => ": summarystore --help lists the commands",
+        "quit" | "exit" => ": the run ends where its input ends, at a terminal by Ctrl-D",
+        "frame" => ": the bytes that its digits spell are read by the mode follow",
+        _ if is_verb_in_capitals(verb) => ": commands are in small letters",
+        _ if is_kind(verb) => ": that is asked for by a query, as in query NAME sum T1 T2",
+        _ => "",
     }
 }
 
@@ -90,13 +76,10 @@ pub fn hint(words: &[&str]) -> &'static str {
 
 /// What follows where a word is none of those that can be asked for.
 pub fn hint_on_kind(words: &[&str]) -> &'static str {
-    let kind = word_at(words, 2);
-    if kind == "mean" || kind == "avg" || kind == "average" {
-        ": a mean is a sum divided by a count"
-    } else if is_kind(word_at(words, 1)) {
-        ": the name stands before what is asked for"
-    } else {
-        ""
+    match word_at(words, 2) {
+        "mean" | "avg" | "average" => ": a mean is a sum divided by a count",
+        _ if is_kind(word_at(words, 1)) => ": the name stands before what is asked for",
+        _ => "",
     }
 }
 

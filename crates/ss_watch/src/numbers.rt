@@ -2,6 +2,7 @@
 use crate::hints::hint_on_number;
 use crate::words::{has_digits_alone, word_at};
 use ss_catalog::{LAST_TIME, MOST_ROWS};
+use ss_command::{Verb, verb_of};
 use ss_fields::{read_i64, read_u64};
 use std::alloc::{AllocError, Global};
 
@@ -23,25 +24,29 @@ fn place_of_within(family: &str) -> usize {
     if family == "power" { 7 } else { 6 }
 }
 
-// What the number at a place of a command stands for, where one stands there: of a query also by what it asks for, and of a create by
-// its family. Places are counted from 0.
-fn number_at(verb: &str, asked: &str, place: usize) -> Option<Number> {
-    if verb == "create" && place >= 3 && place != place_of_within(asked) {
-        Some(Number::Parameter)
-    } else if (verb == "append" || verb == "query" && asked == "has") && place == 3 {
-        Some(Number::Value)
-    } else if (verb == "series" || verb == "estimates") && place == 5 {
-        Some(Number::Step)
-    } else if verb == "cursor" && place == 2 {
-        Some(Number::Count)
-    } else if (verb == "append" || verb == "values") && place >= 2
-        || (verb == "landmark" || verb == "query" || verb == "series") && place >= 3
-        || (verb == "estimate" || verb == "estimates") && place >= 3
-        || verb == "certify" && place >= 4
-    {
+// A time stands at each place from this one on.
+fn time_from(first: usize, place: usize) -> Option<Number> {
+    if place >= first {
         Some(Number::Time)
     } else {
         None
+    }
+}
+
+// What the number at a place of a command stands for, where one stands there: of a query also by what it asks for, and of a create by
+// its family. Places are counted from 0.
+fn number_at(verb: Verb, asked: &str, place: usize) -> Option<Number> {
+    match verb {
+        Verb::Create if place >= 3 && place != place_of_within(asked) => Some(Number::Parameter),
+        Verb::Append if place == 3 => Some(Number::Value),
+        Verb::Query if asked == "has" && place == 3 => Some(Number::Value),
+        Verb::Series | Verb::Estimates if place == 5 => Some(Number::Step),
+        Verb::Append | Verb::Values => time_from(2, place),
+        Verb::Landmark | Verb::Query | Verb::Series | Verb::Estimate | Verb::Estimates => {
+            time_from(3, place)
+        }
+        Verb::Certify => time_from(4, place),
+        Verb::Create | Verb::Drop | Verb::Windows | Verb::List | Verb::Last => None,
     }
 }
 
@@ -66,7 +71,8 @@ fn is_number(word: &str, number: Number) -> bool {
 
 // The first word that isn't the number that it is to be.
 fn first_wrong<'a>(words: &[&'a str]) -> Option<(&'a str, Number)> {
-    let (verb, asked) = (word_at(words, 0), word_at(words, 2));
+    let verb = verb_of(word_at(words, 0).as_bytes())?;
+    let asked = word_at(words, 2);
     for (place, word) in words.iter().enumerate() {
         if let Some(number) = number_at(verb, asked, place) {
             if !is_number(word, number) {
@@ -103,21 +109,26 @@ fn together(alloc: Global, words: &[&str]) -> Result<String, AllocError> {
     )
 }
 
-/// Why a number of these words is none, or is out of its range.
+// Why a word isn't such a number.
+fn wrong(alloc: Global, word: &str, number: Number) -> Result<String, AllocError> {
+    if is_whole(word) {
+        let range = range(alloc, number)?;
+        format!(in alloc; "{word} isn't within {range}")
+    } else {
+        let hint = hint_on_number(alloc, word, matches!(number, Number::Time))?;
+        format!(in alloc; "{word} isn't a whole number{hint}")
+    }
+}
+
+/// Why a number of these words, which begin with a verb, is none, or is out of its range.
 pub fn number_reason(alloc: Global, words: &[&str]) -> Result<String, AllocError> {
     match first_wrong(words) {
+        Some((word, number)) => wrong(alloc, word, number),
         None => together(alloc, words),
-        Some((word, number)) if is_whole(word) => {
-            let range = range(alloc, number)?;
-            format!(in alloc; "{word} isn't within {range}")
-        }
-        Some((word, number)) => {
-            let is_time = match number {
-                Number::Time => true,
-                _ => false,
-            };
-            let hint = hint_on_number(alloc, word, is_time)?;
-            format!(in alloc; "{word} isn't a whole number{hint}")
-        }
     }
+}
+
+/// Why a word isn't how many rows a cursor gives at once.
+pub fn count_reason(alloc: Global, word: &str) -> Result<String, AllocError> {
+    wrong(alloc, word, Number::Count)
 }

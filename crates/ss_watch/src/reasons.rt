@@ -1,6 +1,6 @@
 // Why a line was refused, in words.
 use crate::frames::frame_reason;
-use crate::numbers::number_reason;
+use crate::numbers::{count_reason, number_reason};
 use crate::speaker::{Speaker, is_of_cursor};
 use crate::syntax::{syntax, syntax_of_cursor};
 use crate::words::{shown, word_at, words_of};
@@ -35,18 +35,18 @@ fn of_cursor(
     let text = shown(alloc, line)?;
     let words = words_of(alloc, text.as_str())?;
     let session = char::from(session);
-    let stream = word_at(words.as_slice(), 2);
+    let word = word_at(words.as_slice(), 2);
     match refusal {
         Refusal::Syntax => syntax_of_cursor(alloc, words.as_slice()),
-        Refusal::Number => number_reason(alloc, words.as_slice()),
-        Refusal::Unknown => unknown(alloc, stream),
+        Refusal::Number => count_reason(alloc, word),
+        Refusal::Unknown => unknown(alloc, word),
         Refusal::Busy => format!(in alloc;
             "session {session} has a cursor already: cursor close ends it"
         ),
         Refusal::NoCursor => format!(in alloc;
             "session {session} has no cursor: cursor open NAME opens one"
         ),
-        _ => name(alloc, stream),
+        _ => name(alloc, word),
     }
 }
 

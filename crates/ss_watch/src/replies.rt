@@ -50,18 +50,10 @@ fn rows_after(head: &str) -> u64 {
     let mut words = head.split(' ');
     let first = words.next().unwrap_or("");
     let count = words.last().unwrap_or("").parse::<u64>().unwrap_or(0);
-    if first == "windows"
-        || first == "list"
-        || first == "series"
-        || first == "estimates"
-        || first == "rows"
-        || first == "values"
-    {
-        count
-    } else if first == "certify" {
-        count.saturating_mul(2)
-    } else {
-        0
+    match first {
+        "windows" | "list" | "series" | "estimates" | "rows" | "values" => count,
+        "certify" => count.saturating_mul(2),
+        _ => 0,
     }
 }
 

@@ -1,6 +1,7 @@
 // Why the words of a line fit no form.
 use crate::hints::{hint, hint_on_kind};
 use crate::words::word_at;
+use ss_command::{Verb, verb_of};
 use std::alloc::{AllocError, Global};
 
 const CREATE: &str = "create NAME exp B R S, or create NAME power P Q R S";
@@ -27,6 +28,11 @@ fn unlike(
     format!(in alloc; "{form} has {wanted} {noun}, and this line has {found}")
 }
 
+// Another word than `within` stands behind a form of a create.
+fn unlike_within(alloc: Global, form: &str, other: &str) -> Result<String, AllocError> {
+    format!(in alloc; "\"{other}\" isn't within: {form} within E")
+}
+
 // A form of a create has another number of words, or another word than `within` stands behind it.
 fn unlike_target(
     alloc: Global,
@@ -37,8 +43,7 @@ fn unlike_target(
     let found = words.len();
     let with_step = wanted.saturating_add(2);
     if found == with_step {
-        let other = word_at(words, wanted);
-        return format!(in alloc; "\"{other}\" isn't within: {form} within E");
+        return unlike_within(alloc, form, word_at(words, wanted));
     }
     format!(in alloc;
         "{form} has {wanted} words, or {with_step} with within E, and this line has {found}"
@@ -46,15 +51,11 @@ fn unlike_target(
 }
 
 fn create(alloc: Global, words: &[&str]) -> Result<String, AllocError> {
-    let family = word_at(words, 2);
-    if family == "exp" {
-        unlike_target(alloc, "create NAME exp B R S", 6, words)
-    } else if family == "power" {
-        unlike_target(alloc, "create NAME power P Q R S", 7, words)
-    } else if family == "" {
-        format!(in alloc; "a create is {CREATE}")
-    } else {
-        format!(in alloc; "\"{family}\" is neither exp nor power: {CREATE}")
+    match word_at(words, 2) {
+        "exp" => unlike_target(alloc, "create NAME exp B R S", 6, words),
+        "power" => unlike_target(alloc, "create NAME power P Q R S", 7, words),
+        "" => format!(in alloc; "a create is {CREATE}"),
+        family => format!(in alloc; "\"{family}\" is neither exp nor power: {CREATE}"),
     }
 }
 
@@ -97,13 +98,16 @@ fn query(alloc: Global, words: &[&str]) -> Result<String, AllocError> {
     )
 }
 
+// What is wrong with a word of a certify, which asks for a count or a sum.
+fn unlike_end(alloc: Global, kind: &str, end: &str) -> Result<String, AllocError> {
+    match kind {
+        "count" | "sum" => format!(in alloc; "\"{end}\" is neither lo nor hi"),
+        _ => format!(in alloc; "\"{kind}\" is neither count nor sum"),
+    }
+}
+
 fn certify(alloc: Global, words: &[&str]) -> Result<String, AllocError> {
-    let (kind, end) = (word_at(words, 2), word_at(words, 3));
-    let neither = if kind == "count" || kind == "sum" {
-        format!(in alloc; "\"{end}\" is neither lo nor hi")?
-    } else {
-        format!(in alloc; "\"{kind}\" is neither count nor sum")?
-    };
+    let neither = unlike_end(alloc, word_at(words, 2), word_at(words, 3))?;
     unlike(
         alloc,
         "certify NAME count lo T1 T2, or sum, or hi,",
@@ -115,69 +119,58 @@ fn certify(alloc: Global, words: &[&str]) -> Result<String, AllocError> {
 
 /// Why these words, which begin with `cursor`, fit no form of a line of a session.
 pub fn syntax_of_cursor(alloc: Global, words: &[&str]) -> Result<String, AllocError> {
-    let form = word_at(words, 1);
-    if form == "open" {
-        unlike(alloc, "cursor open NAME", 3, words, "")
-    } else if form == "next" {
-        unlike(alloc, "cursor next C", 3, words, "")
-    } else if form == "close" {
-        unlike(alloc, "cursor close", 2, words, "")
-    } else {
-        String::from_str(
+    match word_at(words, 1) {
+        "open" => unlike(alloc, "cursor open NAME", 3, words, ""),
+        "next" => unlike(alloc, "cursor next C", 3, words, ""),
+        "close" => unlike(alloc, "cursor close", 2, words, ""),
+        _ => String::from_str(
             alloc,
             "a cursor form is cursor open NAME, cursor next C or cursor close",
-        )
+        ),
     }
 }
 
-/// Why these words fit no form.
-pub fn syntax(alloc: Global, words: &[&str]) -> Result<String, AllocError> {
-    let verb = word_at(words, 0);
-    if verb == "create" {
-        create(alloc, words)
-    } else if verb == "append" {
-        unlike(alloc, "append NAME T V", 4, words, "")
-    } else if verb == "landmark" {
-        landmark(alloc, words)
-    } else if verb == "drop" {
-        unlike(alloc, "drop NAME", 2, words, "")
-    } else if verb == "query" {
-        query(alloc, words)
-    } else if verb == "series" {
-        asked(
+// Why these words, which begin with a verb, fit no form of it.
+fn syntax_of(alloc: Global, verb: Verb, words: &[&str]) -> Result<String, AllocError> {
+    match verb {
+        Verb::Create => create(alloc, words),
+        Verb::Append => unlike(alloc, "append NAME T V", 4, words, ""),
+        Verb::Landmark => landmark(alloc, words),
+        Verb::Drop => unlike(alloc, "drop NAME", 2, words, ""),
+        Verb::Query => query(alloc, words),
+        Verb::Series => asked(
             alloc,
             "series NAME count T1 T2 STEP, or sum, min or max,",
             6,
             "none of count, sum, min and max",
             words,
-        )
-    } else if verb == "estimate" {
-        asked(
+        ),
+        Verb::Windows => unlike(alloc, "windows NAME", 2, words, ""),
+        Verb::List => unlike(alloc, "list", 1, words, ""),
+        Verb::Certify => certify(alloc, words),
+        Verb::Last => unlike(alloc, "last NAME", 2, words, ""),
+        Verb::Values => unlike(alloc, "values NAME T1 T2", 4, words, ""),
+        Verb::Estimate => asked(
             alloc,
             "estimate NAME count T1 T2, or sum,",
             5,
             "neither count nor sum",
             words,
-        )
-    } else if verb == "estimates" {
-        asked(
+        ),
+        Verb::Estimates => asked(
             alloc,
             "estimates NAME count T1 T2 STEP, or sum,",
             6,
             "neither count nor sum",
             words,
-        )
-    } else if verb == "windows" {
-        unlike(alloc, "windows NAME", 2, words, "")
-    } else if verb == "list" {
-        unlike(alloc, "list", 1, words, "")
-    } else if verb == "certify" {
-        certify(alloc, words)
-    } else if verb == "last" {
-        unlike(alloc, "last NAME", 2, words, "")
-    } else if verb == "values" {
-        unlike(alloc, "values NAME T1 T2", 4, words, "")
-    } else {
-        no_command(alloc, words)
+        ),
+    }
+}
+
+/// Why these words fit no form.
+pub fn syntax(alloc: Global, words: &[&str]) -> Result<String, AllocError> {
+    match verb_of(word_at(words, 0).as_bytes()) {
+        Some(verb) => syntax_of(alloc, verb, words),
+        None => no_command(alloc, words),
     }
 }
