@@ -17,15 +17,15 @@ pub use Rattle.ss_journal.specs.Redo.{blank_map, changed, file_map, not_a_store,
 pub use Rattle.ss_journal.specs.declared.format.TheConstants.{MOST_SLOTS}
 pub use Rattle.ss_journal.specs.declared.put.Put.{Put}
 pub use Rattle.ss_landmarks.proofs.OrderLemmas.{cases-finish, RiseFrom_push}
-pub use Rattle.ss_landmarks.proofs.TimeLemmas.{AllEndBy-later, CanClose-after, CanOpen-after}
+pub use Rattle.ss_landmarks.proofs.TimeLemmas.{AllEndBy-later}
 pub use Rattle.ss_landmarks.specs.Free.{free, is_free, is_up_to}
 pub use Rattle.ss_landmarks.specs.Landmark.{all_values, change_last, closed_at, Landmark, LandmarkValue, open_landmark, opened_at, with_value}
 pub use Rattle.ss_landmarks.specs.Landmarks.{AreKnown}
-pub use Rattle.ss_landmarks.specs.Order.{AllEndBy, AreLandmarks, CanOpen, CanTake, EndsBy, FollowFrom, IsLandmark, RiseFrom}
-pub use Rattle.ss_landmarks.specs.declared.landmarks.TheConstants.{LATEST_TIME, MOST_LANDMARK_SLOTS}
+pub use Rattle.ss_landmarks.specs.Order.{AllEndBy, AreLandmarks, CanOpen, EndsBy, FollowFrom, IsLandmark, RiseFrom}
+pub use Rattle.ss_landmarks.specs.declared.landmarks.TheConstants.{LATEST_TIME}
 pub use Rattle.ss_line.specs.declared.entry.Entry.{Entry}
 pub use Rattle.ss_model.proofs.FoundLemmas.{AllByRecursion_push, each-behind, each-front}
-pub use Rattle.ss_model.proofs.MarkLemmas.{ends-latest, EndsBy-latest_in, none-latest}
+pub use Rattle.ss_model.proofs.MarkLemmas.{ends-latest, none-latest}
 pub use Rattle.ss_model.proofs.NameLemmas.{same_name-swap}
 pub use Rattle.ss_model.proofs.StepLemmas.{filter-map, map-map}
 pub use Rattle.ss_model.specs.Decay.{IsInStep}
@@ -58,14 +58,15 @@ pub use Rattle.ss_recover.specs.Parts.{stream_carried, streams_carried}
 pub use Rattle.ss_recover.specs.Rebuilt.{HasParts, Rebuilds, RebuildsAs, verdict_of_rebuild}
 pub use Rattle.ss_recover.specs.Runs.{AreBuilt, AreSlotsOf, doomed_found, has_sound_values_in_order, has_sound_values_within, is_run, is_sound_in_order}
 pub use Rattle.ss_recover.specs.Runs.{IsLowestUnsound, marks_in, may_stand, WalksAs, windows_in}
-pub use Rattle.ss_recover.specs.Shown.{AddsName, AddsToLandmark, AreMade, AreWindowsOf, BuildsAs, can_add, can_open, EndsWalk, finish_of, found_by, Grows}
-pub use Rattle.ss_recover.specs.Shown.{has_said_last, HasClosed, HasNoMarks, HasNothing, HasTakenDropped, HasTakenStanding, head_found, is_after, is_landmark}
-pub use Rattle.ss_recover.specs.Shown.{is_value, is_window, IsHeldOf, IsInside, IsLast, IsNextRun, IsReady, latest_at_end, MakesMarks, MayClose, names_in}
-pub use Rattle.ss_recover.specs.Shown.{OpensLandmark, PutsDropped, PutsStanding, ShowsLast, ShowsMarks, StepsAs, still_open, TakesAs, with_closing}
+pub use Rattle.ss_recover.specs.Shown.{AddsName, AreMade, AreWindowsOf, all_closed, BuildsAs, EndsWalk, found_by, Grows, has_said_last, HasNothing, HasMarkRoom}
+pub use Rattle.ss_recover.specs.Shown.{HasTakenDropped, HasTakenStanding, head_found, is_after, is_landmark, is_value, is_window, IsHeldOf, IsInside}
+pub use Rattle.ss_recover.specs.Shown.{IsNextRun, marks_shown, MarksShown, may_add, may_open, MayClose, MayCome, names_in, PutsDropped, PutsStanding, seen_next}
+pub use Rattle.ss_recover.specs.Shown.{TakesAs, with_closing, with_found}
 pub use Rattle.ss_recover.specs.Usable.{HasValidTimes, in_slot, IsUsable, slots_found, without_slots}
 pub use Rattle.ss_recover.specs.declared.found.Found.{Found}
 pub use Rattle.ss_recover.specs.declared.gathering.Gathered.{Gathered}
 pub use Rattle.ss_recover.specs.declared.marking.Last.{Last}
+pub use Rattle.ss_recover.specs.declared.marking.Seen.{Seen}
 pub use Rattle.ss_recover.specs.declared.parts.Parts.{Parts}
 pub use Rattle.ss_recover.specs.declared.parts.StreamParts.{StreamParts}
 pub use Rattle.ss_recover.specs.declared.recover_error.RecoverError.{RecoverError}
@@ -76,8 +77,8 @@ pub use Rattle.ss_summary.specs.Filters.{filter_of, full}
 pub use Rattle.ss_target.specs.Rule.{in_step, rule_of}
 pub use Rattle.ss_windowing.specs.declared.decay.TheConstants.{MOST_VALUES}
 pub use Rattle.std.proofs.Common.{[], ◌%◌, ◌&&◌, ◌*◌, ◌++◌, ◌+◌, ◌-◌, ◌/◌, ◌<◌, ◌^◌, ◌||◌, ◌∙◌, ◌∷◌, ◌≡◌, ◌≤◌, ◌⊎◌, add-one, All, ap, append-nil, append_assoc}
-pub use Rattle.std.proofs.Common.{ap₂, arith, Bool, cond, drop, eqb, Err, false, filter, flat_map, fold, get_or, IfErr, IfOk, IfSome, inl, inr, is_none, IsNone}
-pub use Rattle.std.proofs.Common.{IsPermutation, IsSome, IsTrue, leb, leb-true, length, length-append, List, ltb, map, MatchOption, max, min, nat_eq, None, not}
+pub use Rattle.std.proofs.Common.{ap₂, arith, Bool, cond, drop, eqb, Err, false, filter, flat_map, fold, get_or, IfErr, IfOk, IfSome, inl, inr, is_none}
+pub use Rattle.std.proofs.Common.{IsPermutation, IsTrue, leb, leb-true, length, length-append, List, ltb, map, MatchOption, max, min, nat_eq, None, not}
 pub use Rattle.std.proofs.Common.{Ok, Option, pos, refl, replicate, Result, rules, set, Some, subst, suc, swap, sym, take, true, zero, ℕ, ℤ}
 pub use Rattle.std.proofs.Math.Bool.{and-false, and-true, and_assoc, or-false}
 pub use Rattle.std.proofs.Math.Seq.{drop-append_seam, drop-cons, take-add, take-append_seam}
@@ -85,7 +86,6 @@ pub use Rattle.std.proofs.lemmas.Bool.{and_cases, and_from, and_left, and_parts,
 pub use Rattle.std.proofs.lemmas.Bool.{cond_both, eq-eqb, eqb-true, false_from_ne_true, le-leb, le-ltb, leb-false, lt-leb, lt-ltb, ltb-true, ne_eqb, not-true}
 pub use Rattle.std.proofs.lemmas.Bool.{not_from_false, or_cases, or_from, or_left, or_parts, or_right, true≢false}
 pub use Rattle.std.proofs.lemmas.Bool.Decides.{nat_tests}
-pub use Rattle.std.proofs.lemmas.Int.{to_z-of_z}
 pub use Rattle.std.proofs.lemmas.List.{drop-drop, length-drop, length-map, length-replicate, length-set, length-take, map-append, map-id, take-append-drop}
 pub use Rattle.std.proofs.lemmas.List.{take_all, take_more, take_rest}
 pub use Rattle.std.proofs.lemmas.List.Concat.{flat_map-append}

@@ -1,344 +1,336 @@
--- What is held of landmarks shows what their records make, one record after another.
-use Rattle.ss_recover.proofs.Common.{[], ◌&&◌, ◌++◌, ◌+◌, ◌<◌, ◌==◌, ◌||◌, ◌∙◌, ◌∷◌, ◌≡◌, ◌≤◌, AddsToLandmark, All, All-from_recursion, and-true, and_assoc}
-use Rattle.ss_recover.proofs.Common.{and_parts, ap, append-nil, are_marks, AreKnown, AreLandmarks, AreMade, arith, Bool, can_add, can_open, CanClose-after}
-use Rattle.ss_recover.proofs.Common.{CanOpen, CanOpen-after, CanTake, cases-finish, change_last, closed_at, cond-false, cond-true, ends-latest, eq-eqb}
-use Rattle.ss_recover.proofs.Common.{eqb-true, false, filter-append, finish_of, fold, fold-append, FollowFrom, Found, has_all_values, has_said, has_said_last}
-use Rattle.ss_recover.proofs.Common.{HasClosed, HasNoMarks, HasValidTimes, IfSome, inl, inr, is_closed_before, is_landmark, is_mark_of, is_next_landmark}
-use Rattle.ss_recover.proofs.Common.{is_next_value, is_none, is_up_to, is_value, IsLast, IsNone, IsReady, IsSome, Landmark, landmarks_in, LandmarkValue, Last}
-use Rattle.ss_recover.proofs.Common.{latest_at_end, latest_of, LATEST_TIME, leb-true, length, length-append, List, list_all, list_all-append, ltb-true}
-use Rattle.ss_recover.proofs.Common.{map-append, Marked, marked_by, marked_on, marked_with, marks_in, MatchOption, MayClose, MOST_LANDMARK_SLOTS, nat_le}
-use Rattle.ss_recover.proofs.Common.{nat_lt, nat_tests, None, nothing_marked, open_landmark, opened_at, OpensLandmark, Option, option_and_then, option_map_or}
-use Rattle.ss_recover.proofs.Common.{option_to_list, Record, refl, ShowsLast, ShowsMarks, Some, still_open, stream_of, subst, sym, true, with_closing}
-use Rattle.ss_recover.proofs.Common.{with_value, without_slots, ℕ, ℤ}
-use Rattle.ss_landmarks.proofs.OpenLemmas.{open_landmark-close}
-use Rattle.ss_recover.proofs.MarksSoFar.{latest_of-closed, latest_of-opened, latest_of-value, marked-more, marked_on-none}
-use Rattle.ss_recover.proofs.Lists.{all_weaker, each-list_all}
-use Rattle.ss_recover.specs.declared.marking.Marks.{Marks}
-use Rattle.ss_recover.proofs.WindowLaws.{few-found, found-more, records-more}
+-- The records of landmarks and of their values, one after another: which may come, and what is held of the landmarks so far.
+use Rattle.ss_recover.proofs.Common.{[], ◌&&◌, ◌++◌, ◌+◌, ◌<◌, ◌==◌, ◌∙◌, ◌∷◌, ◌≡◌, ◌≤◌, All, All-from_recursion, All-head, All-nil, All-push, All-tail}
+use Rattle.ss_recover.proofs.Common.{all_closed, AllByRecursion, and-false, and-true, and_assoc, and_from, and_parts, ap, append-nil, append_assoc}
+use Rattle.ss_recover.proofs.Common.{are_marks, AreMade, arith, Bool, CanOpen, cases-finish, change_last, closed_at, cond, cond-false, cond-true, eq-eqb}
+use Rattle.ss_recover.proofs.Common.{eqb-true, false, fold, fold-append, Found, found_by, has_all_values, has_said, has_said_last, HasMarkRoom, IfSome}
+use Rattle.ss_recover.proofs.Common.{inl, inr, is_landmark, is_mark_of, is_next_landmark, is_next_value, is_none, is_up_to, is_value, IsLandmark, IsUsable}
+use Rattle.ss_recover.proofs.Common.{Landmark, landmarks_in, LandmarkValue, Last, later, latest_in, latest_of, LATEST_TIME, le-leb, leb-true, length}
+use Rattle.ss_recover.proofs.Common.{length-append, List, list_all, lt-ltb, ltb-true, map, map-append, Marked, marked_by, marked_on, marked_with, marks_in}
+use Rattle.ss_recover.proofs.Common.{MarksShown, MatchOption, max, may_add, may_open, MayClose, MayCome, MOST_RECORDS, nat_le, nat_lt, nat_tests, None}
+use Rattle.ss_recover.proofs.Common.{nothing_marked, open_landmark, opened_at, Option, option_and_then, option_map_or, option_to_list, Record}
+use Rattle.ss_recover.proofs.Common.{recursion_from_All, refl, Seen, seen_next, slots_found, Some, stream_of, subst, sym, true, with_closing, with_found}
+use Rattle.ss_recover.proofs.Common.{with_value, without_slots, ℕ}
+use Rattle.std.specs.Prelude.{option_map}
+use Rattle.ss_landmarks.specs.Order.{CanClose, IsClosedBefore}
+use Rattle.ss_recover.proofs.MarksSoFar.{comes-next, IsLandmark-bare, IsLandmark-value, latest_in-more, latest_of-push, later-assoc, marked_on-none}
+use Rattle.std.proofs.lemmas.List.Elements.{All-weaker}
+use Rattle.ss_recover.proofs.Lists.{all_weaker, list_all-each, map-all}
+use Rattle.ss_recover.proofs.WindowLaws.{few-found}
 use Rattle.ss_codec.specs.declared.record.Record.TheVariants as records
 
--- ---- the last landmark
+-- the record before the others, where they are of one stream
+mark-first : (id : ℕ) (m : Marked) (r : Record) (rs : List Record) → stream_of r ≡ id →
+    fold marked_on (Some m) (marks_in id (r ∷ rs)) ≡ fold marked_on (marked_with m r) (marks_in id rs)
+mark-first id m records.Free rs own = refl
+mark-first id m (records.Stream number name params dropped) rs own = refl
+mark-first id m (records.Window number first summary) rs own = refl
+mark-first id m r rs own = ap (fold marked_on (Some m)) (cond-true (is_mark_of id r) (r ∷ marks_in id rs) (marks_in id rs) (eq-eqb (stream_of r) id own))
 
--- where landmarks are in order, the open one is the last
-open-last : (from : ℕ) (front : List Landmark) (x : Landmark) → FollowFrom from (front ++ x ∷ []) → x.finish ≡ None → open_landmark (front ++ x ∷ []) ≡ Some x
-open-last from [] x follow is = cond-true _ _ _ (ap is_none is)
-open-last from (y ∷ ys) x follow is =
-    elim (cases-finish y.finish) [
-      | inl begun ↦
-          (let last : ys ++ x ∷ [] ≡ [] = subst (λ (f : Option ℕ). MatchOption f (ys ++ x ∷ [] ≡ []) (λ t. FollowFrom (t + 1) (ys ++ x ∷ []))) begun follow.2 in
-          absurd (omega (arith, ap (λ (l : List Landmark). length l) last, length-append ys (x ∷ []))))
-      | inr some ↦
-          (let later = subst (λ (f : Option ℕ). MatchOption f (ys ++ x ∷ [] ≡ []) (λ t. FollowFrom (t + 1) (ys ++ x ∷ []))) some.1 follow.2 in
-          cond-false _ _ _ (ap is_none some.1) ∙ open-last (some.0 + 1) ys x later is)
-    ]
+-- ---- which records may come
 
-pub change_last-front : (change : Landmark → Landmark) (front : List Landmark) (x : Landmark) → change_last change (front ++ x ∷ []) ≡ front ++ change x ∷ []
+-- what is known of the landmarks so far
+abbrev next_from : Landmark → ℕ
+next_from l = fold max l.start (map (λ (value : LandmarkValue). value.t + 1) l.values)
+
+abbrev last_of : ℕ → Landmark → Last
+last_of said l = record { finish = l.finish; said = said; values = length l.values; from = next_from l }
+
+abbrev seen : Marked → Seen
+seen m = record { count = length (landmarks_in m); last = option_map (last_of m.said) m.last }
+
+abbrev marked : List Landmark → Option Landmark → ℕ → Marked
+marked before last said = record { before = before; last = last; said = said }
+
+-- a time is after the opening and all values
+after-values : (start t : ℕ) (values : List LandmarkValue) → (nat_le start t && list_all (λ (value : LandmarkValue). nat_lt value.t t) values)
+    ≡ nat_le (fold max start (map (λ (value : LandmarkValue). value.t + 1) values)) t
+after-values start t [] = and-true (nat_le start t)
+after-values start t (value ∷ values) =
+    sym (and_assoc (nat_le start t) (nat_lt value.t t) (list_all (λ (x : LandmarkValue). nat_lt x.t t) values))
+    ∙ ap (λ b. b && list_all (λ (x : LandmarkValue). nat_lt x.t t) values) (both start value.t) ∙ after-values (max start (value.t + 1)) t values
+  where
+    both : (s u : ℕ) → (nat_le s t && nat_lt u t) ≡ nat_le (max s (u + 1)) t
+    both s u = grind (arith, nat_tests)
+
+same-open : (before : List Landmark) (last : Option Landmark) (said number start : ℕ) →
+    is_next_landmark (marked before last said) number start ≡ may_open (seen (marked before last said)) number start
+same-open before None said number start = refl
+same-open before (Some l) said number start = refl
+
+same-add : (before : List Landmark) (l : Landmark) (said number index t : ℕ) →
+    is_next_value (marked before (Some l) said) number index t ≡ may_add (length (before ++ l ∷ [])) (last_of said l) number index t
+same-add before l said number index t =
+    ap (λ b. number == length (before ++ l ∷ []) && (b && is_up_to t l.finish))
+    (and_assoc (index == length l.values + 1) (nat_le l.start t) (list_all (λ (value : LandmarkValue). nat_lt value.t t) l.values)
+    ∙ ap (λ b. index == length l.values + 1 && b) (after-values l.start t l.values))
+
+same-if : (b c : Bool) (next : Marked) (s : Seen) → b ≡ c → (b ≡ true → s ≡ seen next) → cond c (Some s) None ≡ option_map seen (cond b (Some next) None)
+same-if true c next s same is = ap (λ d. cond d (Some s) None) (sym same) ∙ ap Some (is refl)
+same-if false c next s same is = ap (λ d. cond d (Some s) None) (sym same)
+
+seen-with : (before : List Landmark) (last : Option Landmark) (said : ℕ) (r : Record) →
+    seen_next (seen (marked before last said)) r ≡ option_map seen (marked_with (marked before last said) r)
+seen-with before last said (records.Landmark id number values start finish) =
+    let all = before ++ option_to_list last in
+    let l : Landmark = record { start = start; finish = finish; values = [] } in
+    same-if (is_next_landmark (marked before last said) number start) (may_open (seen (marked before last said)) number start) (marked all (Some l) values)
+    (record { count = number; last = Some (last_of values l) }) (same-open before last said number start) (λ is.
+    let long : number ≡ length (all ++ l ∷ []) = omega (arith, eqb-true number (length all + 1) (and_parts _ _ is).0, length-append all (l ∷ [])) in
+    ap (λ (k : ℕ). record { count = k; last = Some (last_of values l) }) long)
+seen-with before None said (records.Value id number index t v) = ap (option_map seen) (sym (cond-false _ _ _ (and-false (number == length (before ++ [])))))
+seen-with before (Some l) said (records.Value id number index t v) =
+    let value : LandmarkValue = record { t = t; v = v } in
+    let more = with_value value l in
+    same-if (is_next_value (marked before (Some l) said) number index t) (may_add (length (before ++ l ∷ [])) (last_of said l) number index t)
+    (marked before (Some more) said) (record { count = number; last = Some (record { finish = l.finish; said = said; values = index; from = t + 1 }) })
+    (same-add before l said number index t) (λ is.
+    let comes = comes-next before l said number index t is in
+    let late = leb-true (next_from l) t (sym (after-values l.start t l.values)
+    ∙ and_from _ _ (le-leb l.start t comes.low) (list_all-each (λ (x : LandmarkValue). nat_lt x.t t) l.values
+    (all_weaker _ _ (λ x lt. lt-ltb x.t t lt) l.values comes.above))) in
+    let long : number ≡ length (before ++ more ∷ []) = omega (arith, comes.place, length-append before (more ∷ [])) in
+    let indexed : index ≡ length (l.values ++ value ∷ []) = omega (arith, comes.counted, length-append l.values (value ∷ [])) in
+    let times = map-append (λ (x : LandmarkValue). x.t + 1) l.values (value ∷ []) in
+    let from : t + 1 ≡ next_from more =
+    sym (ap (fold max l.start) times ∙ fold-append max l.start (map (λ (x : LandmarkValue). x.t + 1) l.values) ((t + 1) ∷ [])
+    ∙ omega (arith, late)) in
+    λ i. record { count = long i; last = Some (record { finish = l.finish; said = said; values = indexed i; from = from i }) })
+seen-with before last said records.Free = refl
+seen-with before last said (records.Stream number name params dropped) = refl
+seen-with before last said (records.Window number first summary) = refl
+
+-- the records that are left may come, and the last landmark has all its values then
+abbrev pub ends_whole : Seen → List Record → Bool
+ends_whole seen [] = has_said_last seen.last
+ends_whole seen (r ∷ rs) = option_map_or (λ next. ends_whole next rs) (seen_next seen r) false
+
+ends_whole-marked : (id : ℕ) (m : Marked) (rs : List Record) → AllByRecursion (λ r. stream_of r ≡ id) rs →
+    option_map_or has_all_values (fold marked_on (Some m) (marks_in id rs)) false ≡ ends_whole (seen m) rs
+ends_whole-marked id m [] own =
+    elim m.last as (λ o. option_map_or (has_said m.said) o true ≡ has_said_last (option_map (last_of m.said) o)) [ None ↦ refl | Some l ↦ refl ]
+ends_whole-marked id m (r ∷ rs) own =
+    ap (λ o. option_map_or has_all_values o false) (mark-first id m r rs own.0)
+    ∙ (elim (marked_with m r) as (λ o. option_map_or has_all_values (fold marked_on o (marks_in id rs)) false
+    ≡ option_map_or (λ next. ends_whole next rs) (option_map seen o) false) [
+      | None ↦ ap (λ o. option_map_or has_all_values o false) (marked_on-none (marks_in id rs))
+      | Some next ↦ ends_whole-marked id next rs own.1
+    ]) ∙ sym (ap (λ o. option_map_or (λ next. ends_whole next rs) o false) (seen-with m.before m.last m.said r))
+
+pub ends_whole-are_marks : (id : ℕ) (found : List Found) → All (λ f. stream_of f.holds ≡ id) found →
+    are_marks (marks_in id (without_slots found)) ≡ ends_whole (record { count = 0; last = None }) (without_slots found)
+ends_whole-are_marks id found own =
+    ends_whole-marked id nothing_marked (without_slots found)
+    (map-all (λ r. stream_of r ≡ id) (λ (f : Found). f.holds) found (recursion_from_All (λ (f : Found). stream_of f.holds ≡ id) found own))
+
+-- ---- what is held
+
+-- the landmarks without the closing of the last one
+abbrev still_open : Landmark → Landmark
+still_open l = record { start = l.start; finish = None; values = l.values }
+
+abbrev held : List Landmark → Option Landmark → List ℕ → List ℕ → MarksShown
+held before last slots value_slots = record {
+  landmarks = before ++ option_to_list (option_map still_open last);
+  slots = slots;
+  value_slots = value_slots;
+  finish = option_and_then (λ (l : Landmark). l.finish) last;
+  latest = latest_of (before ++ option_to_list last);
+}
+
+-- the last one is a landmark, and those before it close before it opens
+abbrev IsFine : List Landmark → Option Landmark → Type 0
+IsFine before None = before ≡ []
+IsFine before (Some l) = IsLandmark l × CanOpen before l.start
+
+change_last-front : (change : Landmark → Landmark) (front : List Landmark) (x : Landmark) → change_last change (front ++ x ∷ []) ≡ front ++ change x ∷ []
 change_last-front change [] x = refl
 change_last-front change (y ∷ []) x = refl
 change_last-front change (y ∷ z ∷ zs) x = ap (λ ls. y ∷ ls) (change_last-front change (z ∷ zs) x)
 
-open-held : (c : Last) (ls : List Landmark) (latest : Option ℕ) (m : Marked) (is : IsLast c ls latest m) → AreLandmarks ls →
-    open_landmark ls ≡ Some (still_open is.landmark)
-open-held c ls latest m is order = ap open_landmark is.held ∙ open-last 0 m.before (still_open is.landmark) (subst (FollowFrom 0) is.held order) refl
+open-held : (front : List Landmark) (l : Landmark) (t : ℕ) → CanOpen front t → open_landmark (front ++ still_open l ∷ []) ≡ Some (still_open l)
+open-held [] l t closed = refl
+open-held (y ∷ ys) l t closed =
+    elim (cases-finish y.finish) [
+      | inl begun ↦ absurd (subst (λ (o : Option ℕ). MatchOption o ⊥ (λ f. f < t)) begun (All-head (IsClosedBefore t) y ys closed))
+      | inr some ↦ cond-false _ _ _ (ap is_none some.1) ∙ open-held ys l t (All-tail (IsClosedBefore t) y ys closed)
+    ]
 
--- the landmarks with the last one, and how many they are
-in-held : (c : Last) (ls : List Landmark) (latest : Option ℕ) (m : Marked) (is : IsLast c ls latest m) → landmarks_in m ≡ m.before ++ is.landmark ∷ []
-in-held c ls latest m is = ap (λ o. m.before ++ option_to_list o) is.last
-
-long-held : (c : Last) (ls : List Landmark) (latest : Option ℕ) (m : Marked) → IsLast c ls latest m → length ls ≡ length (landmarks_in m)
-long-held c ls latest m is =
-    omega (
-      arith,
-      ap (λ (us : List Landmark). length us) is.held,
-      ap (λ (us : List Landmark). length us) (in-held c ls latest m is),
-      length-append m.before (still_open is.landmark ∷ []),
-      length-append m.before (is.landmark ∷ []),
-    )
-
-module _ (ls : List Landmark) (latest : Option ℕ) (m : Marked) where
-  -- it may close when it is to
-  pub MayClose-shown : (last : Option Last) → ShowsLast last ls latest m → AreLandmarks ls → latest ≡ latest_of ls → MayClose (finish_of last) ls
-  MayClose-shown None shows order is = tt
-  MayClose-shown (Some c) shows order is =
-      elim c.finish as (λ o. IfSome o (λ t. (shows.time ≤ t) × (t ≤ LATEST_TIME)) → MayClose o ls) [
-        | None ↦ λ closes. tt
-        | Some t ↦ λ closes. (
-          closes.1,
-          CanClose-after ls shows.time t (ends-latest None ls shows.time (sym is ∙ shows.latest))
-              (subst IsSome (sym (open-held c ls latest m shows order)) refl) closes.0,
+module _ (slots value_slots : List ℕ) where
+  may-close : (before : List Landmark) (last : Option Landmark) → IsFine before last → MayClose (held before last slots value_slots)
+  may-close before None fine = tt
+  may-close before (Some l) fine =
+      elim l.finish as (λ o. IfSome o (λ t. (l.start ≤ t) × (t ≤ LATEST_TIME) × All (λ value. value.t ≤ t) l.values) →
+      IfSome o (λ t. (t ≤ LATEST_TIME) × CanClose (before ++ still_open l ∷ []) t)) [
+        | None ↦ λ ends. tt
+        | Some t ↦ λ ends. (
+          ends.1,
+          subst (λ (o : Option Landmark). MatchOption o ⊥ (λ x. (x.start ≤ t) × All (λ value. value.t ≤ t) x.values))
+              (sym (open-held before l l.start fine.1)) (ends.0, ends.2),
         )
-      ] shows.closes
+      ] fine.0.finish
 
-  -- then the landmarks are those that the records make
-  pub closed-shown : (last : Option Last) → ShowsLast last ls latest m → with_closing (finish_of last) ls ≡ landmarks_in m
-  closed-shown None shows = shows.1 ∙ sym (ap landmarks_in shows.0)
-  closed-shown (Some c) shows =
-      let l = shows.landmark in
-      ap (λ o. with_closing o ls) shows.finish ∙ ap (with_closing l.finish) shows.held ∙ (elim (cases-finish l.finish) [
-        | inl begun ↦
-            (let same : still_open l ≡ l = λ i. record { start = l.start; finish = sym begun i; values = l.values } in
-            ap (λ o. with_closing o (m.before ++ still_open l ∷ [])) begun ∙ ap (λ x. m.before ++ x ∷ []) same)
-        | inr closed ↦
-            (let same : closed_at closed.0 (still_open l) ≡ l = λ i. record { start = l.start; finish = sym closed.1 i; values = l.values } in
-            ap (λ o. with_closing o (m.before ++ still_open l ∷ [])) closed.1 ∙ change_last-front (closed_at closed.0) m.before (still_open l)
-            ∙ ap (λ x. m.before ++ x ∷ []) same)
-      ]) ∙ sym (in-held c ls latest m shows)
-
-  -- and their latest time is the one that is held
-  pub latest-shown : (last : Option Last) → ShowsLast last ls latest m → latest ≡ latest_of ls →
-      latest_at_end (finish_of last) latest ≡ latest_of (with_closing (finish_of last) ls)
-  latest-shown None shows is = is
-  latest-shown (Some c) shows is =
-      elim c.finish as (λ o. IfSome o (λ t. (shows.time ≤ t) × (t ≤ LATEST_TIME)) → latest_at_end o latest ≡ latest_of (with_closing o ls)) [
-        | None ↦ λ closes. is
-        | Some t ↦ λ closes. sym (latest_of-closed t shows.time ls (sym is ∙ shows.latest) closes.0)
-      ] shows.closes
-
-  -- the tests of the code are those of the definition
-  pub said-shown : (last : Option Last) → ShowsLast last ls latest m → has_said_last last ≡ has_all_values m
-  said-shown None shows = sym (ap has_all_values shows.0)
-  said-shown (Some c) shows =
-      (λ i. is_none (shows.finish i) || shows.values i == shows.said i) ∙ sym (ap (λ o. option_map_or (has_said m.said) o true) shows.last)
-
-  pub open-shown : (last : Option Last) (number start : ℕ) → ShowsLast last ls latest m →
-      can_open (length ls) last number start ≡ is_next_landmark m number start
-  open-shown None number start shows =
-      ap (λ (us : List Landmark). number == length us + 1 && true) shows.1 ∙ sym (ap (λ k. is_next_landmark k number start) shows.0)
-  open-shown (Some c) number start shows =
-      (λ i. number == long-held c ls latest m shows i + 1
-      && ((is_none (shows.finish i) || shows.values i == shows.said i) && option_map_or (λ finish. nat_lt finish start) (shows.finish i) false))
-      ∙ sym (ap (λ o. number == length (landmarks_in m) + 1 && option_map_or (λ l. has_said m.said l && is_closed_before start l) o true) shows.last)
-
-  pub add-shown : (c : Last) (number index t : ℕ) → IsLast c ls latest m → can_add (length ls) c number index t ≡ is_next_value m number index t
-  add-shown c number index t shows =
-      (λ i. number == long-held c ls latest m shows i && (index == shows.values i + 1 && sym (shows.from t) i && is_up_to t (shows.finish i)))
-      ∙ ap (λ b. number == length (landmarks_in m) && b) (ap (λ a. a && is_up_to t shows.landmark.finish)
-      (sym (and_assoc (index == length shows.landmark.values + 1) (nat_le shows.landmark.start t)
-      (list_all (λ (value : LandmarkValue). nat_lt value.t t) shows.landmark.values)))) ∙ sym (ap (λ o. number == length (landmarks_in m) && option_map_or
-      (λ (l : Landmark). index == length l.values + 1 && nat_le l.start t
-      && list_all (λ (value : LandmarkValue). nat_lt value.t t) l.values && is_up_to t l.finish) o false) shows.last)
-
-  -- a landmark may open after those that have closed, and the last one may take a value
-  pub CanOpen-shown : (last : Option Last) (us : List Landmark) (number start : ℕ) → ShowsLast last ls latest m → latest ≡ latest_of ls → AreLandmarks ls →
-      can_open (length ls) last number start ≡ true → us ≡ with_closing (finish_of last) ls →
-      CanOpen us start × IfSome (latest_of us) (λ time. time < start)
-  CanOpen-shown None us number start shows is order can closed =
-      let none : us ≡ [] = closed ∙ shows.1 in
-      subst (λ vs. CanOpen vs start × IfSome (latest_of vs) (λ time. time < start)) (sym none) ((λ k d below. absurd (omega (arith, below))), tt)
-  CanOpen-shown (Some c) us number start shows is order can closed =
-      let tests = and_parts _ _ can in
-      let before = and_parts _ _ tests.1 in
-      elim (cases-finish c.finish) [
-        | inl begun ↦ absurd (let wrong : false ≡ true = sym (ap (λ o. option_map_or (λ finish. nat_lt finish start) o false) begun) ∙ before.1 in cc)
-        | inr some ↦
-            let f = some.0 in
-            let lt = ltb-true f start (sym (ap (λ o. option_map_or (λ finish. nat_lt finish start) o false) some.1) ∙ before.1) in
-            let is_closed : us ≡ change_last (closed_at f) ls = closed ∙ ap (λ o. with_closing o ls) some.1 in
-            let last : latest_of us ≡ Some f = ap latest_of closed ∙ sym (latest-shown (Some c) shows is) ∙ ap (λ o. latest_at_end o latest) some.1 in (
-              CanOpen-after us f start (ends-latest None us f last)
-                  (subst (λ vs. IsNone (open_landmark vs)) (sym is_closed) (open_landmark-close 0 ls f order)) lt,
-              subst (λ (o : Option ℕ). IfSome o (λ time. time < start)) (sym last) lt,
-            )
+  closed-held : (before : List Landmark) (last : Option Landmark) → (all_closed (held before last slots value_slots)).landmarks ≡ before ++ option_to_list last
+  closed-held before None = refl
+  closed-held before (Some l) =
+      elim l.finish as (λ o. with_closing o (before ++ still_open l ∷ []) ≡ before ++ record { start = l.start; finish = o; values = l.values } ∷ []) [
+        | None ↦ refl
+        | Some t ↦ change_last-front (closed_at t) before (still_open l)
       ]
 
-  pub CanTake-shown : (c : Last) (number index t : ℕ) → IsLast c ls latest m → AreLandmarks ls → can_add (length ls) c number index t ≡ true → CanTake ls t
-  CanTake-shown c number index t shows order can =
-      let l = shows.landmark in
-      let tests = and_parts _ _ (and_parts _ _ can).1 in
-      let times = and_parts _ _ (shows.from t ∙ (and_parts _ _ tests.0).1) in
-      subst (λ (o : Option Landmark). MatchOption o ⊥ (λ x. (x.start ≤ t) × All (λ value. value.t < t) x.values)) (sym (open-held c ls latest m shows order)) (
-        leb-true l.start t times.0,
-        All-from_recursion (λ (value : LandmarkValue). value.t < t) l.values
-            (all_weaker _ _ (λ value lt. ltb-true value.t t lt) l.values (each-list_all (λ (value : LandmarkValue). nat_lt value.t t) l.values times.1)),
+can-open : (before : List Landmark) (last : Option Landmark) (said number start : ℕ) → IsFine before last →
+    is_next_landmark (marked before last said) number start ≡ true → CanOpen (before ++ option_to_list last) start
+can-open before None said number start fine test = subst (λ (ls : List Landmark). CanOpen (ls ++ []) start) (sym fine) (All-nil (IsClosedBefore start))
+can-open before (Some l) said number start fine test =
+    let ends =
+    elim l.finish as (λ o. option_map_or (λ f. nat_lt f start) o false ≡ true → IfSome o (λ t. (l.start ≤ t) × (t ≤ LATEST_TIME)
+    × All (λ value. value.t ≤ t) l.values) → (l.start ≤ start) × MatchOption o ⊥ (λ f. f < start)) [
+      | None ↦ λ never is. absurd (cc)
+      | Some f ↦ λ past is. let lt = ltb-true f start past in (omega (arith, lt, is.0), lt)
+    ] (and_parts _ _ (and_parts _ _ test).1).1 fine.0.finish in
+    All-push (IsClosedBefore start) before l
+    (All-weaker (IsClosedBefore l.start) (IsClosedBefore start) (λ y closed. sooner y.finish closed ends.0) before fine.1) ends.1
+  where
+    sooner : (o : Option ℕ) → MatchOption o ⊥ (λ f. f < l.start) → l.start ≤ start → MatchOption o ⊥ (λ f. f < start)
+    sooner None closed le = closed
+    sooner (Some f) closed le = omega (arith, closed, le)
+
+-- ---- the records come one by one
+
+-- Each of these records may come, after those before it, and what is held then is as it is to be.
+abbrev pub MayAllCome : (MarksShown → Type 0) → MarksShown → List Found → Type 0
+MayAllCome Ends s [] = MayClose s × Ends (all_closed s)
+MayAllCome Ends s (f ∷ fs) = MayCome s f.holds × HasMarkRoom s × MayAllCome Ends (with_found s f.slot f.holds) fs
+
+module _ (number : ℕ) (all : List Found) (few : length all < MOST_RECORDS) (are : are_marks (marks_in number (without_slots all)) ≡ true) where
+  abbrev whole : Option Marked
+  whole = marked_by (marks_in number (without_slots all))
+
+  abbrev Comes : MarksShown → List Found → Type 0
+  Comes s fs = MayAllCome (AreMade number all) s fs
+
+  -- landmarks are held, and these records and slots are left
+  record Held (before : List Landmark) (last : Option Landmark) (said : ℕ) (slots value_slots : List ℕ) (left : List Record) (ls vs : List ℕ) : Type 0 where
+    by : whole ≡ fold marked_on (Some (marked before last said)) left
+    fine : IsFine before last
+    of_landmarks : slots ++ ls ≡ slots_found (found_by is_landmark all)
+    of_values : value_slots ++ vs ≡ slots_found (found_by is_value all)
+
+  abbrev HeldTo : List Landmark → Option Landmark → ℕ → List ℕ → List ℕ → List Found → Type 0
+  HeldTo before last said slots value_slots left =
+      Held before last said slots value_slots (marks_in number (without_slots left))
+      (slots_found (found_by is_landmark left)) (slots_found (found_by is_value left))
+
+  has-room : (before : List Landmark) (last : Option Landmark) (said : ℕ) (slots value_slots : List ℕ) (left : List Record) (ls vs : List ℕ) →
+      Held before last said slots value_slots left ls vs → HasMarkRoom (held before last slots value_slots)
+  has-room before last said slots value_slots left ls vs to =
+      let of_landmarks = to.of_landmarks in
+      let of_values = to.of_values in
+      record {
+        slots = omega (arith, few, few-found is_landmark all, ap (λ (l : List ℕ). length l) of_landmarks, length-append slots ls);
+        value_slots = omega (arith, few, few-found is_value all, ap (λ (l : List ℕ). length l) of_values, length-append value_slots vs);
+      }
+
+  -- a record may come, where the others have
+  next-by : (m next : Marked) (b : Bool) (rs : List Record) → whole ≡ fold marked_on (cond b (Some next) None) rs →
+      (b ≡ true) × (whole ≡ fold marked_on (Some next) rs)
+  next-by m next true rs by = (refl, by)
+  next-by m next false rs by = absurd (let never = sym (ap (λ o. option_map_or has_all_values o false) (by ∙ marked_on-none rs)) ∙ are in cc)
+
+  one-comes : (slot : ℕ) (r : Record) (rest : List Found) → stream_of r ≡ number → IsUsable r →
+      ((before : List Landmark) (last : Option Landmark) (said : ℕ) (slots value_slots : List ℕ) → HeldTo before last said slots value_slots rest →
+      Comes (held before last slots value_slots) rest) →
+      (before : List Landmark) (last : Option Landmark) (said : ℕ) (slots value_slots : List ℕ) →
+      HeldTo before last said slots value_slots (record { slot = slot; holds = r } ∷ rest) →
+      MayCome (held before last slots value_slots) r × HasMarkRoom (held before last slots value_slots)
+      × Comes (with_found (held before last slots value_slots) slot r) rest
+  one-comes slot records.Free rest own usable others before last said slots value_slots to =
+      (tt, has-room before last said slots value_slots _ _ _ to, others before last said slots value_slots to)
+  one-comes slot (records.Stream id name params dropped) rest own usable others before last said slots value_slots to =
+      (tt, has-room before last said slots value_slots _ _ _ to, others before last said slots value_slots to)
+  one-comes slot (records.Window id first summary) rest own usable others before last said slots value_slots to =
+      (tt, has-room before last said slots value_slots _ _ _ to, others before last said slots value_slots to)
+  one-comes slot (records.Landmark id n values start finish) rest own usable others before last said slots value_slots to =
+      let m = marked before last said in
+      let ls = landmarks_in m in
+      let l : Landmark = record { start = start; finish = finish; values = [] } in
+      let rs = marks_in number (without_slots rest) in
+      let is = next-by m (marked ls (Some l) values) (is_next_landmark m n start) rs (to.by ∙ mark-first number m (records.Landmark id n values start finish)
+      (without_slots rest) own) in
+      let after = can-open before last said n start to.fine is.0 in
+      let are_held = closed-held slots value_slots before last in
+      let times : later (latest_of ls) (later (Some start) finish) ≡ latest_of (ls ++ l ∷ []) =
+      ap (later (latest_of ls)) (latest-bare finish) ∙ sym (latest_of-push ls l) in (
+        (may-close slots value_slots before last to.fine, subst (λ us. CanOpen us start) (sym are_held) after),
+        has-room before last said slots value_slots _ _ _ to,
+        subst (λ s. Comes s rest) (λ i. record {
+          landmarks = sym are_held i ++ opened_at start ∷ [];
+          slots = slots ++ slot ∷ [];
+          value_slots = value_slots;
+          finish = finish;
+          latest = sym times i;
+        }) (others ls (Some l) values (slots ++ slot ∷ []) value_slots (record {
+          by = is.1;
+          fine = ((IsLandmark-bare values start finish usable.2).0, after);
+          of_landmarks = append_assoc slots (slot ∷ []) (slots_found (found_by is_landmark rest)) ∙ to.of_landmarks;
+          of_values = to.of_values;
+        })),
+      )
+    where
+      latest-bare : (o : Option ℕ) → later (Some start) o ≡ Some (fold max start (option_to_list o))
+      latest-bare None = refl
+      latest-bare (Some f) = refl
+  one-comes slot (records.Value id n index t v) rest own usable others before None said slots value_slots to =
+      let m = marked before None said in
+      let is = next-by m m (n == length (before ++ []) && false) (marks_in number (without_slots rest))
+      (to.by ∙ mark-first number m (records.Value id n index t v) (without_slots rest) own) in
+      absurd (let never = (and_parts (n == length (before ++ [])) false is.0).1 in cc)
+  one-comes slot (records.Value id n index t v) rest own usable others before (Some l) said slots value_slots to =
+      let m = marked before (Some l) said in
+      let value : LandmarkValue = record { t = t; v = v } in
+      let more = with_value value l in
+      let is = next-by m (marked before (Some more) said) (is_next_value m n index t) (marks_in number (without_slots rest))
+      (to.by ∙ mark-first number m (records.Value id n index t v) (without_slots rest) own) in
+      let comes = comes-next before l said n index t is.0 in
+      let are_held = change_last-front (with_value value) before (still_open l) in
+      let times : later (latest_of (before ++ l ∷ [])) (Some t) ≡ latest_of (before ++ more ∷ []) =
+      ap (λ o. later o (Some t)) (latest_of-push before l)
+      ∙ sym (latest_of-push before more ∙ ap (λ k. later (latest_of before) (Some k)) (latest_in-more l value)
+      ∙ later-assoc (latest_of before) (Some (latest_in l)) (Some t)) in (
+        subst (λ (o : Option Landmark). MatchOption o ⊥ (λ x. (x.start ≤ t) × All (λ u. u.t < t) x.values)) (sym (open-held before l l.start to.fine.1))
+            (comes.low, All-from_recursion (λ (u : LandmarkValue). u.t < t) l.values comes.above),
+        has-room before (Some l) said slots value_slots _ _ _ to,
+        subst (λ s. Comes s rest) (λ i. record {
+          landmarks = sym are_held i;
+          slots = slots;
+          value_slots = value_slots ++ slot ∷ [];
+          finish = l.finish;
+          latest = sym times i;
+        }) (others before (Some more) said slots (value_slots ++ slot ∷ []) (record {
+          by = is.1;
+          fine = (IsLandmark-value l value to.fine.0 comes.low comes.above comes.by usable.3 usable.4, to.fine.1);
+          of_landmarks = to.of_landmarks;
+          of_values = append_assoc value_slots (slot ∷ []) (slots_found (found_by is_value rest)) ∙ to.of_values;
+        })),
       )
 
--- ---- what is held of landmarks shows what their records make, one record after another
+  all-come : (fs : List Found) → AllByRecursion (λ f. stream_of f.holds ≡ number) fs → AllByRecursion (λ f. IsUsable f.holds) fs →
+      (before : List Landmark) (last : Option Landmark) (said : ℕ) (slots value_slots : List ℕ) →
+      HeldTo before last said slots value_slots fs → Comes (held before last slots value_slots) fs
+  all-come [] own usable before last said slots value_slots to =
+      let are_held = closed-held slots value_slots before last in (
+        may-close slots value_slots before last to.fine,
+        record {
+          landmarks = are_held ∙ sym (ap (λ o. option_map_or landmarks_in o []) to.by);
+          latest = sym (ap latest_of are_held);
+          slots = sym (append-nil slots) ∙ to.of_landmarks;
+          value_slots = sym (append-nil value_slots) ∙ to.of_values;
+        },
+      )
+  all-come (f ∷ fs) own usable before last said slots value_slots to =
+      one-comes f.slot f.holds fs own.0 usable.0 (all-come fs own.1 usable.1) before last said slots value_slots to
 
-marks-more : (n : ℕ) (own : List Found) (x : Found) → marks_in n (without_slots (own ++ x ∷ [])) ≡ marks_in n (without_slots own) ++ marks_in n (x.holds ∷ [])
-marks-more n own x = ap (marks_in n) (records-more own x) ∙ filter-append (is_mark_of n) (without_slots own) (x.holds ∷ [])
-
--- a record of a landmark or of a value that may come
-by-more : (n : ℕ) (own : List Found) (x : Found) (m next : Marked) → marked_by (marks_in n (without_slots own)) ≡ Some m → is_mark_of n x.holds ≡ true →
-    marked_with m x.holds ≡ Some next → marked_by (marks_in n (without_slots (own ++ x ∷ []))) ≡ Some next
-by-more n own x m next by mark with_r =
-    ap marked_by (marks-more n own x ∙ ap (λ l. marks_in n (without_slots own) ++ l) (cond-true (is_mark_of n x.holds) (x.holds ∷ []) [] mark))
-    ∙ marked-more (marks_in n (without_slots own)) x.holds m next by with_r
-
--- the landmarks so far with those that they are now, and what is known of the last one
-abbrev pub with_last : Marks → Option Last → Marks
-with_last marks last = record { landmarks = marks.landmarks; latest = marks.latest; last = last }
-
--- there is room for one more of each
-pub room-marks : (marks : Marks) → IsReady marks →
-    (length marks.landmarks.slots < MOST_LANDMARK_SLOTS) × (length marks.landmarks.value_slots < MOST_LANDMARK_SLOTS)
-room-marks marks ready =
-    let room = ready.room in (
-      omega (arith, room, few-found is_landmark ready.own, ap (λ (l : List ℕ). length l) ready.shows.slots),
-      omega (arith, room, few-found is_value ready.own, ap (λ (l : List ℕ). length l) ready.shows.value_slots),
-    )
-
--- what is held of no landmark
-pub ShowsMarks-none : (n : ℕ) (marks : Marks) → HasNoMarks marks → ShowsMarks marks n nothing_marked []
-ShowsMarks-none n marks none = record {
-  last = subst (λ last. ShowsLast last marks.landmarks.landmarks marks.latest nothing_marked) (sym none.last) (refl, none.landmarks, none.latest);
-  latest = none.latest ∙ sym (ap latest_of none.landmarks);
-  by = refl;
-  slots = none.slots;
-  value_slots = none.value_slots;
-}
-
-module _ (s : Marks) (n : ℕ) (m : Marked) (own : List Found) (shows : ShowsMarks s n m own) where
-  abbrev ls : List Landmark
-  ls = s.landmarks.landmarks
-
-  pub close-ready : AreLandmarks ls → MayClose (finish_of s.last) ls
-  close-ready order = MayClose-shown ls s.latest m s.last shows.last order shows.latest
-
-  pub open-ready : (closed : Marks) (number start : ℕ) → AreLandmarks ls → can_open (length ls) s.last number start ≡ true →
-      HasClosed (finish_of s.last) s closed → CanOpen closed.landmarks.landmarks start
-  open-ready closed number start order can closes =
-      (CanOpen-shown ls s.latest m s.last closed.landmarks.landmarks number start shows.last shows.latest order can closes.landmarks).0
-
-  last-shown : (c : Last) → s.last ≡ Some c → ShowsLast (Some c) ls s.latest m
-  last-shown c is = subst (λ last. ShowsLast last ls s.latest m) is shows.last
-
-  pub take-ready : (c : Last) (number index t : ℕ) → s.last ≡ Some c → AreLandmarks ls → can_add (length ls) c number index t ≡ true → CanTake ls t
-  take-ready c number index t is order can = CanTake-shown ls s.latest m c number index t (last-shown c is) order can
-
-  pub began : (closed opened : Marks) (slot number said start : ℕ) (finish : Option ℕ) → can_open (length ls) s.last number start ≡ true → AreLandmarks ls →
-      HasClosed (finish_of s.last) s closed → OpensLandmark closed opened slot start → HasValidTimes said start finish →
-      MatchOption (marked_with m (records.Landmark n number said start finish)) ⊥
-      (λ next. ShowsMarks (with_last opened (Some (record { finish = finish; said = said; values = 0; from = start }))) n next
-      (own ++ record { slot = slot; holds = records.Landmark n number said start finish } ∷ []))
-  began closed opened slot number said start finish can order closes opens timed =
-      let x : Found = record { slot = slot; holds = records.Landmark n number said start finish } in
-      let last : Last = record { finish = finish; said = said; values = 0; from = start } in
-      let l : Landmark = record { start = start; finish = finish; values = [] } in
-      let next : Marked = record { before = landmarks_in m; last = Some l; said = said } in
-      let test = sym (open-shown ls s.latest m s.last number start shows.last) ∙ can in
-      let with_r : marked_with m x.holds ≡ Some next = cond-true _ _ _ test in
-      let new : ShowsMarks (with_last opened (Some last)) n next (own ++ x ∷ []) = record {
-        last = record {
-          landmark = l;
-          last = refl;
-          held = opens.landmarks ∙ ap (λ us. us ++ opened_at start ∷ []) (closes.landmarks ∙ closed-shown ls s.latest m s.last shows.last);
-          finish = refl;
-          said = refl;
-          values = refl;
-          from = λ t. and-true (nat_le start t);
-          time = start;
-          latest = opens.latest;
-          early = omega arith;
-          closes = may-close finish timed;
-        };
-        latest =
-            opens.latest ∙ sym (ap latest_of opens.landmarks ∙ latest_of-opened start closed.landmarks.landmarks
-            (CanOpen-shown ls s.latest m s.last closed.landmarks.landmarks number start shows.last shows.latest order can closes.landmarks).1);
-        by = by-more n own x m next shows.by (eq-eqb n n refl) with_r;
-        slots = opens.slots ∙ ap (λ k. k ++ slot ∷ []) (closes.slots ∙ shows.slots) ∙ sym (found-more is_landmark own x true refl);
-        value_slots = opens.value_slots ∙ closes.value_slots ∙ shows.value_slots ∙ sym (found-more is_value own x false refl ∙ append-nil _);
-      } in
-      subst (λ o. MatchOption o ⊥ (λ k. ShowsMarks (with_last opened (Some last)) n k (own ++ x ∷ []))) (sym with_r) new
-    where
-      may-close : (o : Option ℕ) → HasValidTimes said start o → IfSome o (λ t. (start ≤ t) × (t ≤ LATEST_TIME))
-      may-close None _ = tt
-      may-close (Some t) timed = timed
-
-  pub added : (c : Last) (new : Marks) (slot number index t : ℕ) (v : ℤ) → s.last ≡ Some c → can_add (length ls) c number index t ≡ true →
-      AddsToLandmark s new slot t v →
-      MatchOption (marked_with m (records.Value n number index t v)) ⊥
-      (λ next. ShowsMarks (with_last new (Some (record { finish = c.finish; said = c.said; values = index; from = t + 1 }))) n next
-      (own ++ record { slot = slot; holds = records.Value n number index t v } ∷ []))
-  added c new slot number index t v is can adds =
-      let x : Found = record { slot = slot; holds = records.Value n number index t v } in
-      let last : Last = record { finish = c.finish; said = c.said; values = index; from = t + 1 } in
-      let value : LandmarkValue = record { t = t; v = v } in
-      let was = last-shown c is in
-      let l = was.landmark in
-      let tests = (and_parts _ _ can).1 in
-      let both = and_parts _ _ tests in
-      let first = and_parts _ _ both.0 in
-      let turn = eqb-true index (c.values + 1) first.0 in
-      let late = leb-true c.from t first.1 in
-      let early = was.early in
-      let next : Marked = record { before = m.before; last = option_and_then (λ k. Some (with_value value k)) m.last; said = m.said } in
-      let test = sym (add-shown ls s.latest m c number index t was) ∙ can in
-      let with_r : marked_with m x.holds ≡ Some next = cond-true _ _ _ test in
-      let result : ShowsMarks (with_last new (Some last)) n next (own ++ x ∷ []) = record {
-        last = record {
-          landmark = with_value value l;
-          last = ap (λ o. option_and_then (λ k. Some (with_value value k)) o) was.last;
-          held = adds.landmarks ∙ ap (change_last (with_value value)) was.held ∙ change_last-front (with_value value) m.before (still_open l);
-          finish = was.finish;
-          said = was.said;
-          values = omega (arith, turn, was.values, length-append l.values (value ∷ []));
-          from = λ u.
-              ap (λ b. nat_le l.start u && b) (list_all-append (λ (y : LandmarkValue). nat_lt y.t u) l.values (value ∷ []))
-              ∙ sym (and_assoc (nat_le l.start u) (list_all (λ (y : LandmarkValue). nat_lt y.t u) l.values) (nat_lt t u && true))
-              ∙ after-from c.from t _ u late (was.from u);
-          time = t;
-          latest = adds.latest;
-          early = omega arith;
-          closes = closes-by t c.finish was.time both.1 was.closes;
-        };
-        latest =
-            adds.latest ∙ sym (ap latest_of adds.landmarks ∙ latest_of-value value was.time ls (sym shows.latest ∙ was.latest) (omega (arith, early, late)));
-        by = by-more n own x m next shows.by (eq-eqb n n refl) with_r;
-        slots = adds.slots ∙ shows.slots ∙ sym (found-more is_landmark own x false refl ∙ append-nil _);
-        value_slots = adds.value_slots ∙ ap (λ k. k ++ slot ∷ []) shows.value_slots ∙ sym (found-more is_value own x true refl);
-      } in
-      subst (λ o. MatchOption o ⊥ (λ k. ShowsMarks (with_last new (Some last)) n k (own ++ x ∷ []))) (sym with_r) result
-    where
-      after-from : (from t : ℕ) (a : Bool) (u : ℕ) → from ≤ t → a ≡ nat_le from u → (a && (nat_lt t u && true)) ≡ nat_le (t + 1) u
-      after-from from t a u le a_is = rw a_is (grind (arith, nat_tests))
-
-      closes-by : (t : ℕ) (o : Option ℕ) (time : ℕ) → is_up_to t o ≡ true → IfSome o (λ f. (time ≤ f) × (f ≤ LATEST_TIME)) →
-          IfSome o (λ f. (t ≤ f) × (f ≤ LATEST_TIME))
-      closes-by t None time up closes = tt
-      closes-by t (Some f) time up closes = (leb-true t f up, closes.1)
-
-  -- another record
-  pub other : (x : Found) → is_mark_of n x.holds ≡ false → is_landmark x.holds ≡ false → is_value x.holds ≡ false → ShowsMarks s n m (own ++ x ∷ [])
-  other x none mark value = record {
-    last = shows.last;
-    latest = shows.latest;
-    by = ap marked_by (marks-more n own x ∙ ap (λ l. marks_in n (without_slots own) ++ l) (cond-false (is_mark_of n x.holds) (x.holds ∷ []) [] none)
-        ∙ append-nil (marks_in n (without_slots own))) ∙ shows.by;
-    slots = shows.slots ∙ sym (found-more is_landmark own x false mark ∙ append-nil _);
-    value_slots = shows.value_slots ∙ sym (found-more is_value own x false value ∙ append-nil _);
-  }
-
-  -- all records came
-  pub are-made : (closed : Marks) → has_said_last s.last ≡ true → HasClosed (finish_of s.last) s closed → AreKnown closed.landmarks → AreMade n own closed
-  are-made closed said closes known = record {
-    are = ap (λ o. option_map_or has_all_values o false) shows.by ∙ sym (said-shown ls s.latest m s.last shows.last) ∙ said;
-    landmarks = closes.landmarks ∙ closed-shown ls s.latest m s.last shows.last ∙ sym (ap (λ o. option_map_or landmarks_in o []) shows.by);
-    known = known;
-    latest = closes.latest ∙ latest-shown ls s.latest m s.last shows.last shows.latest ∙ sym (ap latest_of closes.landmarks);
-    slots = closes.slots ∙ shows.slots;
-    value_slots = closes.value_slots ∙ shows.value_slots;
-  }
-
-  -- where a record may not come, all with it aren't those of landmarks
-  pub stops : (x : Found) (rest : List Found) → stream_of x.holds ≡ n → marked_with m x.holds ≡ None →
-      are_marks (marks_in n (without_slots (own ++ x ∷ rest))) ≡ false
-  stops x rest same none = ap (λ l. are_marks (marks_in n l)) (map-append (λ (f : Found). f.holds) own (x ∷ rest)) ∙ go x.holds same none
-    where
-      with_first : (r : Record) → is_mark_of n r ≡ true → marked_with m r ≡ None → are_marks (marks_in n (without_slots own ++ r ∷ without_slots rest)) ≡ false
-      with_first r mark none =
-          ap (λ o. option_map_or has_all_values o false) (ap marked_by (filter-append (is_mark_of n) (without_slots own) (r ∷ without_slots rest)
-          ∙ ap (λ l. marks_in n (without_slots own) ++ l) (cond-true _ _ _ mark))
-          ∙ fold-append marked_on (Some nothing_marked) (marks_in n (without_slots own)) (r ∷ marks_in n (without_slots rest))
-          ∙ ap (λ o. fold marked_on (marked_on o r) (marks_in n (without_slots rest))) shows.by
-          ∙ ap (λ o. fold marked_on o (marks_in n (without_slots rest))) none ∙ marked_on-none (marks_in n (without_slots rest)))
-
-      go : (r : Record) → stream_of r ≡ n → marked_with m r ≡ None → are_marks (marks_in n (without_slots own ++ r ∷ without_slots rest)) ≡ false
-      go records.Free same none = absurd (cc)
-      go (records.Stream id name params dropped) same none = absurd (cc)
-      go (records.Window id first summary) same none = absurd (cc)
-      go r same none = with_first r (eq-eqb (stream_of r) n same) none
-
--- what comes next, where something may
-pub marked-next : (P : Marked → Type 0) (o : Option Marked) → MatchOption o ⊥ P → (m : Marked) × P m
-marked-next P None none = absurd none
-marked-next P (Some m) shows = (m, shows)
+  pub all-may-come : All (λ f. stream_of f.holds ≡ number) all → All (λ f. IsUsable f.holds) all →
+      Comes (record { landmarks = []; slots = []; value_slots = []; finish = None; latest = None }) all
+  all-may-come own usable =
+      all-come all (recursion_from_All (λ (f : Found). stream_of f.holds ≡ number) all own) (recursion_from_All (λ (f : Found). IsUsable f.holds) all usable)
+      [] None 0 [] [] (record { by = refl; fine = refl; of_landmarks = refl; of_values = refl })

@@ -1,12 +1,12 @@
 -- The latest time of landmarks, and the landmarks that records make.
 use Rattle.ss_recover.proofs.Common.{[], ⊤, ◌++◌, ◌+◌, ◌<◌, ◌==◌, ◌||◌, ◌∙◌, ◌∷◌, ◌≡◌, ◌≤◌, All, All-from_recursion, All-head, All-push, All-tail}
-use Rattle.ss_recover.proofs.Common.{AllByRecursion, AllEndBy, and_parts, ap, append-nil, append_assoc, are_marks, AreLandmarks, arith, Bool, change_last}
-use Rattle.ss_recover.proofs.Common.{closed_at, cond, EndsBy, EndsBy-latest_in, eqb-true, false, FitsSigned, fold, fold-append, FollowFrom, has_all_values}
-use Rattle.ss_recover.proofs.Common.{has_said, HasValidTimes, IfSome, is_mark_of, is_next_landmark, is_next_value, is_none, is_up_to, IsLandmark, IsUsable}
-use Rattle.ss_recover.proofs.Common.{Landmark, landmarks_in, landmarks_made, LandmarkValue, later, latest_in, latest_of, LATEST_TIME, leb-true, length}
-use Rattle.ss_recover.proofs.Common.{length-append, List, ltb-true, map, map-append, Marked, marked_by, marked_on, marked_with, MatchOption, max, nat_lt, None}
-use Rattle.ss_recover.proofs.Common.{nothing_marked, opened_at, Option, option_map_or, option_to_list, Record, recursion_from_All, refl, RiseFrom_push, Some}
-use Rattle.ss_recover.proofs.Common.{subst, sym, true, value_records, values_said, w64, with_value, ℕ}
+use Rattle.ss_recover.proofs.Common.{AllByRecursion, AllEndBy, and_parts, ap, append-nil, append_assoc, are_marks, AreLandmarks, arith, Bool}
+use Rattle.ss_recover.proofs.Common.{closed_at, cond, EndsBy, eqb-true, false, FitsSigned, fold, fold-append, FollowFrom, has_all_values, has_said}
+use Rattle.ss_recover.proofs.Common.{HasValidTimes, IfSome, is_mark_of, is_next_landmark, is_next_value, is_none, is_up_to, IsLandmark, IsUsable, Landmark}
+use Rattle.ss_recover.proofs.Common.{landmarks_in, landmarks_made, LandmarkValue, later, latest_in, latest_of, LATEST_TIME, leb-true, length}
+use Rattle.ss_recover.proofs.Common.{length-append, List, ltb-true, map, map-append, Marked, marked_by, marked_on, MatchOption, max, nat_lt, None}
+use Rattle.ss_recover.proofs.Common.{nothing_marked, Option, option_map_or, option_to_list, Record, recursion_from_All, refl, RiseFrom_push, Some, subst}
+use Rattle.ss_recover.proofs.Common.{sym, true, value_records, values_said, w64, with_value, ℕ}
 use Rattle.ss_recover.proofs.Lists.{map-all, all_weaker, each-list_all}
 use Rattle.ss_recover.proofs.Marks.{marks_of}
 use Rattle.ss_codec.specs.declared.record.Record.TheVariants as records
@@ -41,14 +41,13 @@ latest_in-closed l t ends =
     let least = fold-least (max l.start t) (times_of l) in
     omega (arith, most, least)
 
-pub latest_in-value : (l : Landmark) (value : LandmarkValue) → EndsBy value.t l → latest_in (with_value value l) ≡ value.t
-latest_in-value l value ends =
-    let before = latest_in-EndsBy l value.t ends in
+pub latest_in-more : (l : Landmark) (value : LandmarkValue) → latest_in (with_value value l) ≡ max (latest_in l) value.t
+latest_in-more l value =
     let begun = fold max l.start (option_to_list l.finish) in
-    let times : map (λ (v : LandmarkValue). v.t) (l.values ++ value ∷ []) ≡ times_of l ++ value.t ∷ [] =
-    map-append (λ (v : LandmarkValue). v.t) l.values (value ∷ []) in
-    let last : max (latest_in l) value.t ≡ value.t = omega (arith, before) in
-    ap (fold max begun) times ∙ fold-append max begun (times_of l) (value.t ∷ []) ∙ last
+    ap (fold max begun) (map-append (λ (v : LandmarkValue). v.t) l.values (value ∷ [])) ∙ fold-append max begun (times_of l) (value.t ∷ [])
+
+pub latest_in-value : (l : Landmark) (value : LandmarkValue) → EndsBy value.t l → latest_in (with_value value l) ≡ value.t
+latest_in-value l value ends = latest_in-more l value ∙ omega (arith, latest_in-EndsBy l value.t ends)
 
 -- the latest time is that of the last one, where those before it end by then
 pub latest_of-last : (ls : List Landmark) (l : Landmark) → AllEndBy (latest_in l) ls → latest_of (ls ++ l ∷ []) ≡ Some (latest_in l)
@@ -57,45 +56,16 @@ latest_of-last (x ∷ xs) l ends =
     let here = latest_in-EndsBy x (latest_in l) (All-head (EndsBy (latest_in l)) x xs ends) in
     ap (later (Some (latest_in x))) (latest_of-last xs l (All-tail (EndsBy (latest_in l)) x xs ends)) ∙ ap Some (omega (arith, here))
 
-some-latest : (ls : List Landmark) (l : Landmark) → (t : ℕ) × (latest_of (l ∷ ls) ≡ Some t)
-some-latest ls l =
-    elim (latest_of ls) as (λ o. (t : ℕ) × (later (Some (latest_in l)) o ≡ Some t)) [
-      | None ↦ (latest_in l, refl)
-      | Some u ↦ (max (latest_in l) u, refl)
-    ]
+-- and it is the later of theirs and of the last one's, which one more value changes to the later of both
+pub later-assoc : (o p q : Option ℕ) → later o (later p q) ≡ later (later o p) q
+later-assoc None p q = refl
+later-assoc (Some t) None q = refl
+later-assoc (Some t) (Some u) None = refl
+later-assoc (Some t) (Some u) (Some v) = ap Some (omega arith)
 
--- a change of the last one, after which this is its latest time
-latest_of-change : (change : Landmark → Landmark) (t : ℕ) → ((l : Landmark) → latest_in l ≤ t → latest_in (change l) ≡ t) →
-    (last : ℕ) (ls : List Landmark) → latest_of ls ≡ Some last → last ≤ t → latest_of (change_last change ls) ≡ Some t
-latest_of-change change t gives last [] is le = cc
-latest_of-change change t gives last (l ∷ []) is le =
-    let same : latest_in l ≡ last = cc in
-    ap Some (gives l (omega arith))
-latest_of-change change t gives last (l ∷ next ∷ ls) is le =
-    let some = some-latest ls next in
-    let both : Some (max (latest_in l) some.0) ≡ Some last = sym (ap (later (Some (latest_in l))) some.1) ∙ is in
-    let most : max (latest_in l) some.0 ≡ last = cc in
-    let rest = latest_of-change change t gives some.0 (next ∷ ls) some.1 (omega (arith, most)) in
-    ap (later (Some (latest_in l))) rest ∙ ap Some (omega (arith, most))
-
-pub latest_of-closed : (t last : ℕ) (ls : List Landmark) → latest_of ls ≡ Some last → last ≤ t → latest_of (change_last (closed_at t) ls) ≡ Some t
-latest_of-closed t last ls is le = latest_of-change (closed_at t) t (λ l by. latest_in-closed l t (EndsBy-latest_in l t by)) last ls is le
-
-pub latest_of-value : (value : LandmarkValue) (last : ℕ) (ls : List Landmark) → latest_of ls ≡ Some last → last ≤ value.t →
-    latest_of (change_last (with_value value) ls) ≡ Some value.t
-latest_of-value value last ls is le = latest_of-change (with_value value) value.t
-    (λ l by. latest_in-value l value (EndsBy-latest_in l value.t by)) last ls is le
-
-later-after : (t : ℕ) (o : Option ℕ) (first : ℕ) → IfSome (later (Some first) o) (λ last. last < t) → (first < t) × IfSome o (λ last. last < t)
-later-after t None first after = (after, tt)
-later-after t (Some u) first after = (omega (arith, after), omega (arith, after))
-
--- one more that opens after all of them
-pub latest_of-opened : (t : ℕ) (ls : List Landmark) → IfSome (latest_of ls) (λ last. last < t) → latest_of (ls ++ opened_at t ∷ []) ≡ Some t
-latest_of-opened t [] after = refl
-latest_of-opened t (l ∷ ls) after =
-    let both = later-after t (latest_of ls) (latest_in l) after in
-    ap (later (Some (latest_in l))) (latest_of-opened t ls both.1) ∙ ap Some (omega (arith, both.0))
+pub latest_of-push : (ls : List Landmark) (l : Landmark) → latest_of (ls ++ l ∷ []) ≡ later (latest_of ls) (Some (latest_in l))
+latest_of-push [] l = refl
+latest_of-push (x ∷ xs) l = ap (later (Some (latest_in x))) (latest_of-push xs l) ∙ later-assoc (Some (latest_in x)) (latest_of xs) (Some (latest_in l))
 
 -- ---- the records of landmarks so far, while they come one by one, and the landmarks that they make
 
@@ -125,7 +95,7 @@ last-follows None = refl
 last-follows (Some f) = tt
 
 -- what a usable record of a landmark says of it
-IsLandmark-bare : (said start : ℕ) (finish : Option ℕ) →
+pub IsLandmark-bare : (said start : ℕ) (finish : Option ℕ) →
     HasValidTimes said start finish → IsLandmark (record { start = start; finish = finish; values = [] }) × SaysNone said finish
 IsLandmark-bare said start None is = (record { start = is.1; values = tt; finish = tt }, is.0)
 IsLandmark-bare said start (Some f) is = (
@@ -134,7 +104,7 @@ IsLandmark-bare said start (Some f) is = (
 )
 
 -- a landmark with one more value
-IsLandmark-value : (l : Landmark) (value : LandmarkValue) → IsLandmark l → l.start ≤ value.t → AllByRecursion (λ v. v.t < value.t) l.values →
+pub IsLandmark-value : (l : Landmark) (value : LandmarkValue) → IsLandmark l → l.start ≤ value.t → AllByRecursion (λ v. v.t < value.t) l.values →
     is_up_to value.t l.finish ≡ true → value.t ≤ LATEST_TIME → FitsSigned w64 value.v → IsLandmark (with_value value l)
 IsLandmark-value l value is low above by early fits = record {
   start = is.start;
@@ -156,6 +126,30 @@ has-come : (b : Bool) (next m : Marked) (rs : List Record) → fold marked_on (c
     (b ≡ true) × (fold marked_on (Some next) rs ≡ Some m)
 has-come true next m rs by = (refl, by)
 has-come false next m rs by = absurd (let never = sym (marked_on-none rs) ∙ by in cc)
+
+-- a value that may come next into the last landmark
+pub record ComesNext (before : List Landmark) (l : Landmark) (number index t : ℕ) : Type 0 where
+  pub place : number ≡ length before + 1
+  pub counted : index ≡ length l.values + 1
+  pub low : l.start ≤ t
+  pub above : AllByRecursion (λ v. v.t < t) l.values
+  pub by : is_up_to t l.finish ≡ true
+
+pub comes-next : (before : List Landmark) (l : Landmark) (said number index t : ℕ) →
+    is_next_value (record { before = before; last = Some l; said = said }) number index t ≡ true → ComesNext before l number index t
+comes-next before l said number index t is =
+    let tests = and_parts _ _ is in
+    let inner = and_parts _ _ tests.1 in
+    let both = and_parts _ _ inner.0 in
+    let first = and_parts _ _ both.0 in
+    record {
+      place = omega (arith, eqb-true number (length (before ++ l ∷ [])) tests.0, length-append before (l ∷ []));
+      counted = eqb-true index (length l.values + 1) first.0;
+      low = leb-true l.start t first.1;
+      above = all_weaker (λ (v : LandmarkValue). nat_lt v.t t ≡ true) (λ v. v.t < t) (λ v lt. ltb-true v.t t lt) l.values
+          (each-list_all (λ (v : LandmarkValue). nat_lt v.t t) l.values both.1);
+      by = inner.1;
+    }
 
 -- a landmark with more values
 abbrev with_values : Landmark → List LandmarkValue → Landmark
@@ -222,16 +216,9 @@ come-after number n said before l (records.Value id k index t v ∷ rs) m here o
     let last : Marked = record { before = before; last = Some l; said = said } in
     let value : LandmarkValue = record { t = t; v = v } in
     let come = has-come (is_next_value last k index t) (record { before = before; last = Some (with_value value l); said = said }) m rs by in
-    let tests = and_parts _ _ come.0 in
-    let inner = and_parts _ _ tests.1 in
-    let both = and_parts _ _ inner.0 in
-    let first = and_parts _ _ both.0 in
-    let counted = eqb-true k (length (before ++ l ∷ [])) tests.0 in
-    let place : k ≡ n = omega (arith, counted, here, length-append before (l ∷ [])) in
-    let indexed = eqb-true index (length l.values + 1) first.0 in
-    let above = all_weaker (λ (x : LandmarkValue). nat_lt x.t t ≡ true) (λ x. x.t < t) (λ x lt. ltb-true x.t t lt) l.values
-    (each-list_all (λ (x : LandmarkValue). nat_lt x.t t) l.values both.1) in
-    let more = IsLandmark-value l value is (leb-true l.start t first.1) above inner.1 usable.0.3 usable.0.4 in
+    let comes = comes-next before l said k index t come.0 in
+    let place : k ≡ n = omega (arith, comes.place, here) in
+    let more = IsLandmark-value l value is comes.low comes.above comes.by usable.0.3 usable.0.4 in
     let rest = come-after number n said before (with_value value l) rs m here own.1 usable.1 more rightly come.1 whole in
     let long : length (l.values ++ value ∷ []) + 1 ≡ length l.values + 1 + 1 = omega (arith, length-append l.values (value ∷ [])) in
     let same : with_values (with_value value l) rest.values ≡ with_values l (value ∷ rest.values) =
@@ -240,7 +227,7 @@ come-after number n said before l (records.Value id k index t v ∷ rs) m here o
     record {
       values = value ∷ rest.values;
       others = rest.others;
-      records = λ i. records.Value (eqb-true id number own.0 i) (place i) (indexed i) t v ∷ behind i;
+      records = λ i. records.Value (eqb-true id number own.0 i) (place i) (comes.counted i) t v ∷ behind i;
       landmarks = rest.landmarks ∙ ap (λ x. before ++ x ∷ rest.others) same;
       says = rest.says ∙ ap values_said same;
       is = subst IsLandmark same rest.is;
@@ -274,8 +261,3 @@ AreOf-are_marks number rs own usable are = go (marked_by rs) refl are
     go : (o : Option Marked) → marked_by rs ≡ o → option_map_or has_all_values o false ≡ true → AreOf number rs (option_map_or landmarks_in o [])
     go None by whole = absurd (cc)
     go (Some m) by whole = AreOf-marked_by number rs m own usable by whole
-
--- ---- the fold over the records
-
-pub marked-more : (rs : List Record) (r : Record) (m next : Marked) → marked_by rs ≡ Some m → marked_with m r ≡ Some next → marked_by (rs ++ r ∷ []) ≡ Some next
-marked-more rs r m next by with_r = fold-append marked_on (Some nothing_marked) rs (r ∷ []) ∙ ap (λ o. marked_on o r) by ∙ with_r

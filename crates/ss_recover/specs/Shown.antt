@@ -1,20 +1,20 @@
--- What is held of a stream whose records come shows what they are, and what a walk over the records of one stream after another answers.
-use Rattle.std.specs.Prelude.{◌≡◌, ◌⊎◌, ℕ, ℤ, ◌+◌, ◌<◌, ◌≤◌, Bool, true, false, ◌==◌, ◌&&◌, ◌||◌, nat_le, nat_lt, is_none, List, [], ◌∷◌, ◌++◌}
+-- What is held of a stream whose records come, and what a walk over the records of one stream after another answers.
+use Rattle.std.specs.Prelude.{◌≡◌, ◌⊎◌, ℕ, ℤ, ◌+◌, ◌<◌, ◌≤◌, Bool, true, false, ◌==◌, ◌&&◌, ◌||◌, nat_le, nat_lt, is_none, if◌then◌else◌, List, [], ◌∷◌, ◌++◌}
 use Rattle.std.specs.Prelude.{length, map, filter}
 use Rattle.std.specs.Prelude.{All, drop}
-use Rattle.std.specs.Prelude.{IfSome, MatchOption, Option, Some, None, Result, Ok, Err, ⊤}
+use Rattle.std.specs.Prelude.{IfSome, Option, Some, None, option_and_then, Result, Ok, Err, ⊤}
 use Rattle.std.specs.Option.{option_map_or}
-use Rattle.std.specs.List.{AllByRecursion, list_all}
+use Rattle.std.specs.List.{AllByRecursion}
 use Rattle.std.specs.List.Sorted.{IsPermutation}
 use Rattle.ss_catalog.specs.declared.stream_id.StreamId.{StreamId}
 use Rattle.ss_catalog.specs.Params.{step_number}
 use Rattle.ss_codec.specs.declared.record.Record.{Record}
 use Rattle.ss_codec.specs.declared.record.Record.TheVariants as records
 use Rattle.ss_landmarks.specs.Free.{is_up_to}
-use Rattle.ss_landmarks.specs.Landmark.{Landmark, LandmarkValue, change_last, closed_at, opened_at, with_value}
+use Rattle.ss_landmarks.specs.Landmark.{Landmark, change_last, closed_at, opened_at, with_value}
 use Rattle.ss_landmarks.specs.Landmarks.{AreKnown}
-use Rattle.ss_landmarks.specs.Order.{CanClose}
-use Rattle.ss_landmarks.specs.declared.landmarks.TheConstants.{LATEST_TIME}
+use Rattle.ss_landmarks.specs.Order.{CanClose, CanOpen, CanTake}
+use Rattle.ss_landmarks.specs.declared.landmarks.TheConstants.{LATEST_TIME, MOST_LANDMARK_SLOTS}
 use Rattle.ss_line.specs.Line.{LineState}
 use Rattle.ss_line.specs.declared.entry.At.{At}
 use Rattle.ss_line.specs.declared.entry.Entry.{Entry}
@@ -24,10 +24,9 @@ use Rattle.ss_target.specs.Targets.{params_of}
 use Rattle.ss_model.specs.Marks.{later, latest_of}
 use Rattle.ss_model.specs.State.{Created}
 use Rattle.ss_model.specs.Windows.{newest_time}
-use Rattle.ss_model.specs.declared.types.TheConstants.{MOST_RECORDS}
 use Rattle.ss_model.specs.declared.types.Window.{Window}
 use Rattle.ss_recover.specs.Held.{span_held, span_of, times_held, times_of}
-use Rattle.ss_recover.specs.Marked.{Marked, are_marks, landmarks_made, marked_by, nothing_marked}
+use Rattle.ss_recover.specs.Marked.{landmarks_made}
 use Rattle.ss_recover.specs.Order.{Rises, stream_of}
 use Rattle.ss_recover.specs.Runs.{has_sound_values_within, is_run, marks_in, may_stand, windows_in}
 use Rattle.ss_recover.specs.Usable.{IsUsable, slots_found, without_slots}
@@ -36,80 +35,44 @@ use Rattle.ss_recover.specs.declared.parts.Parts.{Parts}
 use Rattle.ss_recover.specs.declared.parts.StreamParts.{StreamParts}
 use Rattle.ss_recover.specs.declared.marking.Last.{Last}
 use Rattle.ss_recover.specs.declared.marking.Marks.{Marks}
+use Rattle.ss_recover.specs.declared.marking.Seen.{Seen}
 use Rattle.ss_recover.specs.declared.windows.Windows.{Windows}
 use Rattle.ss_recover.specs.declared.walking.Walk.{Walk}
 use Rattle.ss_recover.specs.declared.recover_error.RecoverError.{RecoverError}
 use Rattle.ss_recover.specs.declared.recover_error.RecoverError.TheVariants.{BadSlot, BadStream, Disk, OutOfMemory}
 
--- ---- what is asked of the last landmark
+-- ---- what is asked of a landmark's record or a value's, after those that came
 
--- when it closes, if it is to
-abbrev pub finish_of : Option Last → Option ℕ
-finish_of None = None
-finish_of (Some last) = last.finish
-
--- it has the values that its record says, if it is to close
+-- the last landmark has the values that its record says, if it is to close
 abbrev pub has_said_last : Option Last → Bool
 has_said_last last = option_map_or (λ c. is_none c.finish || c.values == c.said) last true
 
--- it closes before a time
-abbrev pub closes_before : ℕ → Last → Bool
-closes_before t last = option_map_or (λ finish. nat_lt finish t) last.finish false
-
 -- a landmark of this number may open then
-abbrev pub can_open : ℕ → Option Last → ℕ → ℕ → Bool
-can_open count last number start =
-    number == count + 1 && option_map_or (λ c. (is_none c.finish || c.values == c.said) && closes_before start c) last true
+abbrev pub may_open : Seen → ℕ → ℕ → Bool
+may_open seen number start =
+    number == seen.count + 1
+    && option_map_or (λ c. (is_none c.finish || c.values == c.said) && option_map_or (λ finish. nat_lt finish start) c.finish false) seen.last true
 
--- a value of these numbers may come then
-abbrev pub can_add : ℕ → Last → ℕ → ℕ → ℕ → Bool
-can_add count c number index t = number == count && (index == c.values + 1 && nat_le c.from t && is_up_to t c.finish)
+-- a value of these numbers may come then, into the last of so many landmarks
+abbrev pub may_add : ℕ → Last → ℕ → ℕ → ℕ → Bool
+may_add count c number index t = number == count && (index == c.values + 1 && nat_le c.from t && is_up_to t c.finish)
 
--- the landmarks, and their latest time, once the last one has closed, if it is to
-abbrev pub with_closing : Option ℕ → List Landmark → List Landmark
-with_closing None landmarks = landmarks
-with_closing (Some finish) landmarks = change_last (closed_at finish) landmarks
-
-abbrev pub latest_at_end : Option ℕ → Option ℕ → Option ℕ
-latest_at_end None latest = latest
-latest_at_end (Some finish) latest = Some finish
-
--- the last landmark has closed, if it was to
-pub record HasClosed (finish : Option ℕ) (old new : Marks) : Type 0 where
-  pub landmarks : new.landmarks.landmarks ≡ with_closing finish old.landmarks.landmarks
-  pub slots : new.landmarks.slots ≡ old.landmarks.slots
-  pub value_slots : new.landmarks.value_slots ≡ old.landmarks.value_slots
-  pub latest : new.latest ≡ latest_at_end finish old.latest
-
--- it may close then
-abbrev pub MayClose : Option ℕ → List Landmark → Type 0
-MayClose finish landmarks = IfSome finish (λ t. (t ≤ LATEST_TIME) × CanClose landmarks t)
+-- what is known then, if the record may come
+abbrev pub seen_next : Seen → Record → Option Seen
+seen_next seen (records.Landmark id number values start finish) =
+    if may_open seen number start
+    then Some (record { count = number; last = Some (record { finish = finish; said = values; values = 0; from = start }) })
+    else None
+seen_next seen (records.Value id number index t v) =
+    option_and_then
+    (λ c.
+    if may_add seen.count c number index t
+    then Some (record { count = number; last = Some (record { finish = c.finish; said = c.said; values = index; from = t + 1 }) })
+    else None)
+    seen.last
+seen_next seen _ = Some seen
 
 -- ---- what is held
-
--- a landmark without its closing
-abbrev pub still_open : Landmark → Landmark
-still_open l = record { start = l.start; finish = None; values = l.values }
-
--- The last landmark is held without its closing, and what is known beside it is when it closes, how many values its record says,
--- how many it has, and the earliest time that the next one may have, which is not before any of its times.
-pub record IsLast (c : Last) (landmarks : List Landmark) (at : Option ℕ) (m : Marked) : Type 0 where
-  pub landmark : Landmark
-  pub last : m.last ≡ Some landmark
-  pub held : landmarks ≡ m.before ++ still_open landmark ∷ []
-  pub finish : c.finish ≡ landmark.finish
-  pub said : c.said ≡ m.said
-  pub values : c.values ≡ length landmark.values
-  pub from : (t : ℕ) → (nat_le landmark.start t && list_all (λ (value : LandmarkValue). nat_lt value.t t) landmark.values) ≡ nat_le c.from t
-  pub time : ℕ
-  pub latest : at ≡ Some time
-  pub early : time ≤ c.from
-  pub closes : IfSome c.finish (λ t. (time ≤ t) × (t ≤ LATEST_TIME))
-
--- the landmarks so far are held
-abbrev pub ShowsLast : Option Last → List Landmark → Option ℕ → Marked → Type 0
-ShowsLast None landmarks latest m = (m ≡ nothing_marked) × (landmarks ≡ []) × (latest ≡ None)
-ShowsLast (Some c) landmarks latest m = IsLast c landmarks latest m
 
 -- which record was found
 abbrev pub is_landmark : Record → Bool
@@ -139,38 +102,81 @@ pub record AreInSlots (line : LineState) (landmarks values : List ℕ) (number :
   pub slots : landmarks ≡ slots_found (found_by is_landmark own)
   pub value_slots : values ≡ slots_found (found_by is_value own)
 
--- What is held of the landmarks of a number shows what its records make so far.
-pub record ShowsMarks (marks : Marks) (number : ℕ) (m : Marked) (own : List Found) : Type 0 where
-  pub last : ShowsLast marks.last marks.landmarks.landmarks marks.latest m
-  pub latest : marks.latest ≡ latest_of marks.landmarks.landmarks
-  pub by : marked_by (marks_in number (without_slots own)) ≡ Some m
-  pub slots : marks.landmarks.slots ≡ slots_found (found_by is_landmark own)
-  pub value_slots : marks.landmarks.value_slots ≡ slots_found (found_by is_value own)
+-- What is held of landmarks while their records come: those so far, without the closing of the last one, the slots of their records
+-- and of those of their values, when the last one closes, if it is to, and their latest time, with this closing.
+pub record MarksShown : Type 0 where
+  pub landmarks : List Landmark
+  pub slots : List ℕ
+  pub value_slots : List ℕ
+  pub finish : Option ℕ
+  pub latest : Option ℕ
 
--- It shows some records, and there is room for one more.
-pub record IsReady (marks : Marks) : Type 0 where
-  pub number : ℕ
-  pub m : Marked
-  pub own : List Found
-  pub shows : ShowsMarks marks number m own
-  pub room : length own < MOST_RECORDS
+abbrev pub marks_shown : Marks → MarksShown
+marks_shown marks = record {
+  landmarks = marks.landmarks.landmarks;
+  slots = marks.landmarks.slots;
+  value_slots = marks.landmarks.value_slots;
+  finish = marks.finish;
+  latest = marks.latest;
+}
 
--- no record came yet
-pub record HasNoMarks (marks : Marks) : Type 0 where
-  pub last : marks.last ≡ None
-  pub latest : marks.latest ≡ None
-  pub landmarks : marks.landmarks.landmarks ≡ []
-  pub slots : marks.landmarks.slots ≡ []
-  pub value_slots : marks.landmarks.value_slots ≡ []
+-- the last one may close when it is to, and then these are held
+abbrev pub MayClose : MarksShown → Type 0
+MayClose s = IfSome s.finish (λ t. (t ≤ LATEST_TIME) × CanClose s.landmarks t)
 
--- all records came: these are the landmarks that they make
-pub record AreMade (number : ℕ) (own : List Found) (marks : Marks) : Type 0 where
-  pub are : are_marks (marks_in number (without_slots own)) ≡ true
-  pub landmarks : marks.landmarks.landmarks ≡ landmarks_made (marks_in number (without_slots own))
-  pub known : AreKnown marks.landmarks
-  pub latest : marks.latest ≡ latest_of marks.landmarks.landmarks
-  pub slots : marks.landmarks.slots ≡ slots_found (found_by is_landmark own)
-  pub value_slots : marks.landmarks.value_slots ≡ slots_found (found_by is_value own)
+abbrev pub with_closing : Option ℕ → List Landmark → List Landmark
+with_closing None landmarks = landmarks
+with_closing (Some finish) landmarks = change_last (closed_at finish) landmarks
+
+abbrev pub all_closed : MarksShown → MarksShown
+all_closed s = record {
+  landmarks = with_closing s.finish s.landmarks;
+  slots = s.slots;
+  value_slots = s.value_slots;
+  finish = s.finish;
+  latest = s.latest;
+}
+
+-- the next one opens once it has closed, and it takes a value
+abbrev pub with_landmark : MarksShown → ℕ → ℕ → Option ℕ → MarksShown
+with_landmark s slot start finish = record {
+  landmarks = with_closing s.finish s.landmarks ++ opened_at start ∷ [];
+  slots = s.slots ++ slot ∷ [];
+  value_slots = s.value_slots;
+  finish = finish;
+  latest = later s.latest (later (Some start) finish);
+}
+
+abbrev pub with_mark_value : MarksShown → ℕ → ℕ → ℤ → MarksShown
+with_mark_value s slot t v = record {
+  landmarks = change_last (with_value (record { t = t; v = v })) s.landmarks;
+  slots = s.slots;
+  value_slots = s.value_slots ++ slot ∷ [];
+  finish = s.finish;
+  latest = later s.latest (Some t);
+}
+
+-- a record comes, where it may and there is room for one more of each
+abbrev pub with_found : MarksShown → ℕ → Record → MarksShown
+with_found s slot (records.Landmark id number values start finish) = with_landmark s slot start finish
+with_found s slot (records.Value id number index t v) = with_mark_value s slot t v
+with_found s slot _ = s
+
+abbrev pub MayCome : MarksShown → Record → Type 0
+MayCome s (records.Landmark id number values start finish) = MayClose s × CanOpen (with_closing s.finish s.landmarks) start
+MayCome s (records.Value id number index t v) = CanTake s.landmarks t
+MayCome s _ = ⊤
+
+pub record HasMarkRoom (s : MarksShown) : Type 0 where
+  pub slots : length s.slots < MOST_LANDMARK_SLOTS
+  pub value_slots : length s.value_slots < MOST_LANDMARK_SLOTS
+
+-- They are those that the records of a number make, with their latest time.
+pub record AreMade (number : ℕ) (own : List Found) (s : MarksShown) : Type 0 where
+  pub landmarks : s.landmarks ≡ landmarks_made (marks_in number (without_slots own))
+  pub latest : s.latest ≡ latest_of s.landmarks
+  pub slots : s.slots ≡ slots_found (found_by is_landmark own)
+  pub value_slots : s.value_slots ≡ slots_found (found_by is_value own)
 
 -- a time is after the last one, if there is one
 abbrev pub is_after : Option ℕ → ℕ → Bool
@@ -190,31 +196,7 @@ pub record AreWindowsOf (number : ℕ) (own : List Found) (windows : Windows) : 
 
 -- ---- what is answered
 
--- a record is taken, or it may not come, or memory ran out
-abbrev pub StepsAs : Result Bool RecoverError → Option Marked → (Marked → Type 0) → Type 0
-StepsAs (Ok true) marked P = MatchOption marked ⊥ P
-StepsAs (Ok false) marked P = marked ≡ None
-StepsAs (Err error) marked P = error ≡ OutOfMemory
-
--- the landmarks of a number are made, or its records aren't those of landmarks
-abbrev pub MakesMarks : ℕ → List Found → Result (Option Marks) RecoverError → Type 0
-MakesMarks number own (Ok (Some marks)) = AreMade number own marks
-MakesMarks number own (Ok None) = are_marks (marks_in number (without_slots own)) ≡ false
-MakesMarks number own (Err error) = error ≡ OutOfMemory
-
--- a landmark opens, the last one takes a value, and a line has one more window
-pub record OpensLandmark (old new : Marks) (slot start : ℕ) : Type 0 where
-  pub landmarks : new.landmarks.landmarks ≡ old.landmarks.landmarks ++ opened_at start ∷ []
-  pub slots : new.landmarks.slots ≡ old.landmarks.slots ++ slot ∷ []
-  pub value_slots : new.landmarks.value_slots ≡ old.landmarks.value_slots
-  pub latest : new.latest ≡ Some start
-
-pub record AddsToLandmark (old new : Marks) (slot t : ℕ) (v : ℤ) : Type 0 where
-  pub landmarks : new.landmarks.landmarks ≡ change_last (with_value (record { t = t; v = v })) old.landmarks.landmarks
-  pub slots : new.landmarks.slots ≡ old.landmarks.slots
-  pub value_slots : new.landmarks.value_slots ≡ old.landmarks.value_slots ++ slot ∷ []
-  pub latest : new.latest ≡ Some t
-
+-- a line has one more window
 pub record Grows (old new : Windows) (slot : ℕ) (w : Window) : Type 0 where
   pub at : At
   pub entry : Entry

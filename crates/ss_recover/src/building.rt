@@ -1,14 +1,13 @@
 // A stream, made of its own record and the others.
 ghost use Rattle.std.specs.Prelude.{◌≡◌, ◌<◌, All, length, IsTrue};
 ghost use Rattle.ss_target.specs.Lengths.{has_target};
-ghost use Rattle.ss_model.specs.Marks.{later};
 ghost use Rattle.ss_model.specs.declared.types.TheConstants.{MOST_RECORDS};
 ghost use Rattle.ss_recover.specs.Order.{stream_of};
 ghost use Rattle.ss_recover.specs.Shown.{BuildsAs};
 ghost use Rattle.ss_recover.specs.Usable.{IsUsable};
 
 use crate::found::Found;
-use crate::marking::marks_of;
+use crate::marking::{are_marks, later, marks_of};
 use crate::windows::{keep_step, lie_free, tile, times_rise, windows_of};
 use crate::{RecoverError, StreamParts};
 use ss_catalog::{Name, Params, StreamId};
@@ -16,17 +15,6 @@ use ss_steps::Steps;
 use ss_target::Target;
 use std::alloc::Global;
 use std::sync::ledger::Ledger;
-
-// The later of two times, where there are any.
-fn later(time: Option<u64>, other: Option<u64>) -> Option<u64>
-    ensures { result ≡ later time other }
-{
-    match (time, other) {
-        (Some(time), Some(other)) => Some(time.max(other)),
-        (None, other) => other,
-        (time, None) => time,
-    }
-}
 
 // The stream whose own record says this, with the windows and the landmarks of its other records. None says that these break
 // a condition.
@@ -57,9 +45,10 @@ pub fn build<L: Ledger>(
     if !keep_step(&target, id, rest) {
         return Ok(None);
     }
-    let Some(marks) = marks_of(alloc, id, rest)? else {
+    if !are_marks(id, rest) {
         return Ok(None);
-    };
+    }
+    let marks = marks_of(alloc, id, rest)?;
     if !lie_free(&marks.landmarks, id, rest, steps) {
         return Ok(None);
     }
