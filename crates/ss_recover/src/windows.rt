@@ -132,14 +132,14 @@ pub fn lie_free<L: Ledger>(
     landmarks: &Landmarks,
     id: u32,
     found: &[Found],
-    searches: &mut Steps<L>,
+    steps: &mut Steps<L>,
 ) -> bool
     requires { All (λ f. IsUsable f.holds) found.now }
     ensures { result ≡ list_all (lies_free landmarks.now.landmarks) (windows_in id (without_slots found.now)) }
 {
     for one in found {
         if let Some(window) = window_of(id, &one.holds) {
-            if !lies_free(landmarks, &window, searches) {
+            if !lies_free(landmarks, &window, steps) {
                 return false;
             }
         }
