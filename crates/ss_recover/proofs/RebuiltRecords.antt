@@ -19,7 +19,6 @@ use Rattle.ss_recover.proofs.Permutations.{IsPermutation-filter_map}
 use Rattle.ss_recover.proofs.SoundNumbers.{AreSound, AreSound-none_bad, carries-judged, is_sound-made}
 use Rattle.ss_recover.proofs.SoundStreams.{none-passes}
 use Rattle.ss_recover.proofs.Unordered.{is_sound-in_order}
-use Rattle.ss_codec.specs.declared.record.Record.TheVariants as records
 use Rattle.std.proofs.lemmas.List.Sorted.{IsPermutation-append, IsPermutation-filter_both}
 use Rattle.ss_recover.proofs.WholeSlots.{beside-seconds, few-records, IsFine, valid-records}
 use Rattle.ss_recover.specs.Carried.{spelled}

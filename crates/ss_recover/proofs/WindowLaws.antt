@@ -1,11 +1,11 @@
 -- The windows among records, one after another: what is asked of those that are left, and where they are held.
-use Rattle.ss_recover.proofs.Common.{[], ◌&&◌, ◌++◌, ◌+◌, ◌<◌, ◌==◌, ◌∙◌, ◌∷◌, ◌≡◌, ◌≤◌, add-one, All, and-true, and_right, ap, append-nil, AreWindowsOf, arith}
-use Rattle.ss_recover.proofs.Common.{Bool, cond, cond-true, cons_option, count_by-le-length, drop, drop-cons, Entry, eq-eqb, false, filter-append}
+use Rattle.ss_recover.proofs.Common.{[], ◌&&◌, ◌++◌, ◌+◌, ◌<◌, ◌==◌, ◌∙◌, ◌∷◌, ◌≡◌, ◌≤◌, add-one, All, and-true, and_right, ap, append-nil, AreWindowsOf}
+use Rattle.ss_recover.proofs.Common.{arith, Bool, cond, cond-true, cons_option, count_by-le-length, drop, drop-cons, Entry, eq-eqb, false, filter-append}
 use Rattle.ss_recover.proofs.Common.{filter_map-append, Found, found_by, get_or, Grows, is_after, is_some, is_window, IsInside, length, length-filter}
-use Rattle.ss_recover.proofs.Common.{length-map, List, list_any, map, map-append, may_stand, MOST_RECORDS, MOST_STREAMS, names_in, nat_lt, newest_time, None}
-use Rattle.ss_recover.proofs.Common.{not, Option, Record, refl, same_name, slots_found, Some, span_held, span_of, stream_of, StreamId, subst, suc}
-use Rattle.ss_recover.proofs.Common.{sum_by-append, sym, take, take-append-drop, take_more, taken, tile_from, times_held, times_of, times_rise, true, Window}
-use Rattle.ss_recover.proofs.Common.{window_of, windows_in, without_slots, ℕ}
+use Rattle.ss_recover.proofs.Common.{length-map, List, list_any, map, map-append, may_stand, MOST_RECORDS, MOST_STREAMS, names_in, nat_lt, newest_time}
+use Rattle.ss_recover.proofs.Common.{None, not, Option, Record, refl, same_name, slots_found, Some, span_held, span_of, stream_of, StreamId, subst}
+use Rattle.ss_recover.proofs.Common.{sum_by-cons, sym, taken, tile_from, times_held, times_of, times_rise, true, Window, window_of, windows_in}
+use Rattle.ss_recover.proofs.Common.{without_slots, ℕ}
 use Rattle.ss_line.specs.declared.entry.At.{At}
 use Rattle.ss_line.specs.declared.line.TheConstants.{MOST_PLACES}
 use Rattle.ss_summary.specs.declared.summary.TheConstants.{GREATEST_COUNT}
@@ -50,50 +50,32 @@ rise-times (w ∷ ws) = go w ws
     go v [] = refl
     go v (u ∷ us) = ap (λ b. nat_lt v.summary.t_last u.summary.t_first && b) (go u us)
 
--- Windows so far hold each position up to this one.
-pub record TileTo (n : ℕ) (all : List Found) (i next : ℕ) : Type 0 where
-  pub left : tile_from 1 (windows_at n all) ≡ tile_from next (windows_at n (drop i all))
-  pub so_far : next ≡ 1 + taken (windows_at n (take i all))
+-- Windows so far hold each position up to this one, before those that are left.
+pub record TilesTo (all left : List Window) (next : ℕ) : Type 0 where
+  pub tiles : tile_from 1 all ≡ tile_from next left
+  pub so_far : next + taken left ≡ 1 + taken all
   pub few : next ≤ GREATEST_COUNT + 1
 
-module _ (n : ℕ) (all : List Found) (i : ℕ) (x : Found) (within : i < length all) (is : x ≡ get_or all i x) where
-  front : windows_at n (take (i + 1) all) ≡ windows_at n (take i all) ++ cons_option (window_of n x.holds) []
-  front = ap (windows_at n) (take_more all i x within ∙ ap (λ y. take i all ++ y ∷ []) (sym is)) ∙ windows-more n (take i all) x
+pub TilesTo-next : (all left : List Window) (w : Window) (next : ℕ) → TilesTo all (w ∷ left) next → IsInside w → w.first ≡ next →
+    TilesTo all left (w.first + w.summary.count)
+TilesTo-next all left w next to inside at =
+    let so_far = to.so_far in
+    record {
+      tiles = to.tiles ∙ (rw (sym at) (ap (λ b. b && tile_from (w.first + w.summary.count) left) (same w.first)));
+      so_far = omega (arith, at, so_far, sum_by-cons (λ (v : Window). v.summary.count) w left);
+      few = inside.1;
+    }
+  where
+    same : (k : ℕ) → (k == k) ≡ true
+    same k = grind arith
 
+module _ (n : ℕ) (all : List Found) (i : ℕ) (x : Found) (within : i < length all) (is : x ≡ get_or all i x) where
   -- a record that is no window of it changes nothing
   pub left-other : window_of n x.holds ≡ None → windows_at n (drop i all) ≡ windows_at n (drop (i + 1) all)
   left-other none = windows-left n all i x within is ∙ ap (λ o. cons_option o (windows_at n (drop (i + 1) all))) none
 
   pub left-window : (w : Window) → window_of n x.holds ≡ Some w → windows_at n (drop i all) ≡ w ∷ windows_at n (drop (i + 1) all)
   left-window w some = windows-left n all i x within is ∙ ap (λ o. cons_option o (windows_at n (drop (i + 1) all))) some
-
-  pub TileTo-other : (next : ℕ) → TileTo n all i next → window_of n x.holds ≡ None → TileTo n all (i + 1) next
-  TileTo-other next to none = record {
-    left = to.left ∙ ap (tile_from next) (left-other none);
-    so_far = to.so_far ∙ ap (λ (ws : List Window). 1 + taken ws) (sym (front ∙ ap (λ o. windows_at n (take i all) ++ cons_option o []) none
-        ∙ append-nil (windows_at n (take i all))));
-    few = to.few;
-  }
-
-  pub TileTo-window : (next : ℕ) → TileTo n all i next → (w : Window) → window_of n x.holds ≡ Some w → IsInside w → w.first ≡ next →
-      TileTo n all (i + 1) (w.first + w.summary.count)
-  TileTo-window next to w some inside at = record {
-    left = to.left ∙ ap (tile_from next) (left-window w some)
-        ∙ (rw (sym at) (ap (λ b. b && tile_from (w.first + w.summary.count) (windows_at n (drop (i + 1) all))) (same w.first)));
-    so_far =
-        let so_far = to.so_far in
-        omega (
-          arith,
-          at,
-          so_far,
-          ap (λ (ws : List Window). taken ws) (front ∙ ap (λ o. windows_at n (take i all) ++ cons_option o []) some),
-          sum_by-append (λ (v : Window). v.summary.count) (windows_at n (take i all)) (w ∷ []),
-        );
-    few = inside.1;
-  }
-    where
-      same : (k : ℕ) → (k == k) ≡ true
-      same k = grind arith
 
 -- ---- where they are held
 
@@ -180,7 +162,3 @@ stands-none names name k none is =
 
 pub stands-some : (names : List (List ℕ × StreamId)) (name : List ℕ) (id : StreamId) → id_of name names ≡ Some id → false ≡ may_stand (names_in names) name
 stands-some names name id is = sym (and_right _ _ (ap not (sym (is_some-lookup (same_name name) names) ∙ ap is_some is)))
-
--- the record at an index, among the others
-pub at-index : (all : List Found) (i : ℕ) (x : Found) → i < length all → x ≡ get_or all i x → all ≡ take i all ++ x ∷ drop (suc i) all
-at-index all i x within is = sym (take-append-drop i all) ∙ ap (λ l. take i all ++ l) (drop-cons all i x within ∙ ap (λ y. y ∷ drop (suc i) all) (sym is))

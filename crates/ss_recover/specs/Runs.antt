@@ -8,7 +8,6 @@ use Rattle.ss_catalog.specs.Names.{same_name}
 use Rattle.ss_catalog.specs.Params.{step_number}
 use Rattle.ss_catalog.specs.declared.TheConstants.{MOST_STREAMS}
 use Rattle.ss_codec.specs.declared.record.Record.{Record}
-use Rattle.ss_codec.specs.declared.record.Record.TheVariants as records
 use Rattle.ss_codec.specs.declared.record.Record.TheVariants.{Stream}
 use Rattle.ss_model.specs.Marks.{lies_free}
 use Rattle.ss_model.specs.Standing.{IsState}

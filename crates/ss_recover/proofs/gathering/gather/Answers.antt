@@ -1,14 +1,8 @@
-use Rattle.ss_recover.proofs.Common.{◌∙◌, ◌≡◌, ◌≤◌, after-step, ap, AreFoundBelow, arith, IsKept, IsSealed, JournalState, List, rules, StandsFor, step-from}
-use Rattle.ss_recover.proofs.Common.{step-pair, step-refused, subst, sym, ℕ}
+use Rattle.ss_recover.proofs.Common.{◌∙◌, ◌≡◌, ◌≤◌, ap, AreFoundBelow, arith, IsSealed, JournalState, List, rules, StandsFor, step-from, step-pair}
+use Rattle.ss_recover.proofs.Common.{step-refused, subst, sym, ℕ}
 use Rattle.ss_outside.proofs.CrashLemmas.{reads-joined}
 use Rattle.ss_recover.proofs.GatherLemmas.{extent-kept, IsLowestBad-told, StandsFor-sealed}
 use Rattle.ss_recover.proofs.gathering.gather.Goals as goal
-
-pub read_page-requires-clause-one_disk : goal.read_page-requires-clause-one_disk
-read_page-requires-clause-one_disk g c =
-    after-step c.loop-slot.invariant.step (λ told before.
-    subst (λ (journal : JournalState). IsKept journal (g.D.Disk.seen c.loop-slot.disk).told.content) (sym c.loop-slot.invariant.journal)
-    (subst (IsKept c.args.journal.now) (sym before.reads.same.content) (c.requires.one_disk told)))
 
 pub returns-clause-gathers : goal.returns-clause-gathers
 returns-clause-gathers g c =

@@ -1,5 +1,6 @@
-use Rattle.ss_recover.proofs.WindowLaws.{TileTo}
+use Rattle.ss_recover.proofs.Common.{drop}
+use Rattle.ss_recover.proofs.WindowLaws.{TilesTo, windows_at}
 use Rattle.ss_recover.proofs.windows.tile.Given as goal
 
 abbrev pub invariant-loop-one : goal.invariant-loop-one
-invariant-loop-one l = TileTo l.id l.found l.one-index l.next
+invariant-loop-one l = TilesTo (windows_at l.id l.found) (windows_at l.id (drop l.one-index l.found)) l.next

@@ -1,4 +1,4 @@
-use Rattle.ss_recover.proofs.Common.{◌∙◌, ◌≡◌, ap, are_zeros, arith, false, Found, Gathered, length, List, refl, rules, sym, true, ℕ}
+use Rattle.ss_recover.proofs.Common.{◌∙◌, ◌≡◌, ap, are_zeros, arith, Found, Gathered, length, List, refl, rules, sym, ℕ}
 use Rattle.ss_codec.specs.Decoded.{decoded}
 use Rattle.ss_recover.proofs.GatherLemmas.{AreFoundBelow-free, AreFoundBelow-live, AreGathered-free, AreGathered-live, IsLowestBad-here, length-gathered}
 use Rattle.ss_recover.proofs.GatherLemmas.{spells-none}
