@@ -186,17 +186,11 @@ module _ (cached : List (ℕ × List ℕ)) (slot : ℕ) (none : cached_slot cach
   pub put_entries-none : (bytes : List ℕ) → put_entries nat_eq (lru_cache cached 64) (slot / 32) bytes ≡ (slot / 32, bytes) ∷ take 63 cached
   put_entries-none bytes = rw (no_entry cached no_page) refl
 
-  -- what `keep` leaves of the pages after a look that found none
-  pub Recalls-kept : (found kept : List (ℕ × List ℕ)) (bytes : List ℕ) → found ≡ promoted (nat_eq (slot / 32)) cached
-      → (kept ≡ found) ⊎ (kept ≡ put_entries nat_eq (lru_cache found 64) (slot / 32) bytes) → Recalls slot cached kept
-  Recalls-kept found kept bytes looked (inl stays) = inl (stays ∙ looked)
-  Recalls-kept found kept bytes looked (inr put) =
-      inr (
-        bytes,
-        none,
-        put ∙ ap (λ (list : List (ℕ × List ℕ)). put_entries nat_eq (lru_cache list 64) (slot / 32) bytes) (looked ∙ promoted-none)
-            ∙ put_entries-none bytes,
-      )
+  -- what `keep` leaves of the pages
+  pub Recalls-kept : (kept : List (ℕ × List ℕ)) (bytes : List ℕ)
+      → (kept ≡ cached) ⊎ (kept ≡ put_entries nat_eq (lru_cache cached 64) (slot / 32) bytes) → Recalls slot cached kept
+  Recalls-kept kept bytes (inl stays) = inl (stays ∙ sym promoted-none)
+  Recalls-kept kept bytes (inr put) = inr (bytes, none, put ∙ put_entries-none bytes)
 
 pub with_puts-next : (puts : List Put) (k : ℕ) (d : Put) (map : ℕ → List ℕ) → k < length puts
     → with_put (get_or puts k d) (with_puts (take k puts) map) ≡ with_puts (take (k + 1) puts) map

@@ -1,9 +1,9 @@
 -- Records over their journal.
-use Rattle.std.proofs.Common.{◌≡◌, ◌∙◌, sym, ap, subst, refl, ℕ, ◌+◌, ◌/◌, ◌%◌, ◌<◌, ◌≤◌, ◌^◌, ◌⊎◌}
-use Rattle.std.proofs.Common.{Bool, true, nat_eq, not, List, [], All, length, set, arith, inl, inr, Some, Result, Ok, Err, OnOk, IsTrue}
+use Rattle.std.proofs.Common.{◌≡◌, ◌∙◌, sym, ap, subst, refl, ℕ, ◌/◌, ◌%◌, ◌<◌, ◌≤◌, ◌^◌, ◌⊎◌}
+use Rattle.std.proofs.Common.{Bool, true, nat_eq, not, List, All, length, arith, inl, inr, Some, Result, Ok, Err, OnOk, IsTrue}
 use Rattle.std.specs.Prelude.{IsErr, OnErr}
 use Rattle.lru.specs.LruCache.{lru_cache, promoted, put_entries}
-use Rattle.std.proofs.lemmas.Bool.{cases_eq, cases_lt, cond-false, cond-true, eq-eqb, false_from_ne_true, ne_eqb}
+use Rattle.std.proofs.lemmas.Bool.{cases_lt, false_from_ne_true}
 use Rattle.ss_outside.proofs.CrashLemmas.{reads-joined, reads-none}
 use Rattle.ss_outside.specs.Crash.{OnlyReads}
 use Rattle.ss_outside.specs.Disk.{DiskView, Told}
@@ -31,7 +31,7 @@ use Rattle.ss_records.specs.Live.{are_zeros, is_live, live_after, AreBelow, AreL
 use Rattle.ss_records.specs.Kept.{uncached, AreKept, AreLiveOver, AreSound, RecordsState}
 use Rattle.ss_records.specs.Pages.{cached_slot, ArePages, IsPage}
 use Rattle.ss_records.proofs.PageLemmas.{cached_slot-is, ArePages-kept, ArePages-none, ArePages-promoted, ArePages-same}
-use Rattle.ss_records.proofs.LiveLemmas.{AreLiveIn-puts, is_live-set, below-live_after, length-live_after}
+use Rattle.ss_records.proofs.LiveLemmas.{AreLiveIn-puts, below-live_after, length-live_after}
 
 -- what a journal shows stands for some map
 pub StandsFor-kept : (journal : JournalState) (content : List ℕ) → IsKept journal content → (found : SlotMap) × StandsFor (shown journal content) found

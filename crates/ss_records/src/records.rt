@@ -157,9 +157,27 @@ impl Records {
         if slot >= self.journal.extent() {
             return self.journal.read(disk, slot);
         }
-        if let Some(bytes) = self.pages.find(slot) {
-            return Ok(bytes);
+        match self.pages.find(slot) {
+            Some(bytes) => Ok(bytes),
+            None => self.read_uncached(disk, slot),
         }
+    }
+
+    // The bytes of a slot whose page isn't cached: the page is read, and is cached then if there is memory for it. It isn't
+    // inlined, since whoever has a page among its variables clears 4,096 bytes at each call, also where the page is cached.
+    #[inline(never)]
+    fn read_uncached<D: Disk>(&mut self, disk: &mut D, slot: u32) -> Result<[u8; SLOT_SIZE], Failed>
+        requires running { IsRunning self.old.journal }
+        requires slot { slot < MOST_SLOTS }
+        requires uncached { cached_slot self.old.cached slot ≡ None }
+        requires one_disk { OfContent (D.seen disk.old) (AreKept self.old) }
+        ensures reads { Step (verdict result) (D.seen disk.old) (D.seen disk.new) (ReadsRecord self.old self.new slot result) }
+        ensures journal { OnOk result (self.new.journal ≡ self.old.journal) }
+        ensures live { self.new.live ≡ self.old.live }
+        ensures recalls { Recalls slot self.old.cached self.new.cached }
+        ensures kept { OnErr result (self.new.cached ≡ self.old.cached) }
+        ensures stopped { OnErr result (HasStopped self.new.journal) }
+    {
         let mut page = self.journal.read_page(disk, slot / PAGE_SLOTS)?;
         let bytes = page.slot(slot % PAGE_SLOTS);
         self.pages.keep(slot / PAGE_SLOTS, page);
