@@ -6,3 +6,5 @@ pub mod KeyedLemmas
 pub mod JoinLemmas
 pub mod MergeLemmas
 pub mod Rows
+pub mod OrderLemmas
+pub mod TimesRows

@@ -1,6 +1,7 @@
 -- When each pair of neighbours first fits, by the place of the right one.
 use Rattle.std.specs.Prelude.{◌≡◌, ◌≢◌, ℕ, ◌+◌, ◌≤◌, ◌<◌, true, List, [], ◌∷◌, length, Option, Some, None, ⊤}
 use Rattle.std.specs.List.{slice_index_or}
+use Rattle.ss_line.specs.Line.{LineState}
 use Rattle.ss_line.specs.declared.entry.At.{At}
 use Rattle.ss_line.specs.declared.entry.Entry.{Entry}
 use Rattle.ss_target.specs.Rule.{Rule, in_step, rule_of}
@@ -70,6 +71,10 @@ pub record IsKeyed (n : ℕ) (entries : List (At × Entry)) (schedule : Schedule
   pub follow : FollowUpTo n entries
   pub room : AreBelow (length schedule.keys) entries
   pub keys : (at : At) → IsKeyOf (merge_rule schedule) n (pair_at entries at) (key_at schedule.keys at)
+
+-- a schedule has room for each place of a line, also for those to spare
+abbrev pub HasPlaces : LineState → ScheduleState → Type 0
+HasPlaces line schedule = length line.entries + line.spare ≤ length schedule.keys
 
 -- a key was put at a place: the one that it has to have where this pair has its right one
 pub record PutsKey (old new : ScheduleState) (n : ℕ) (at : At) (pair : Option Pair) : Type 0 where

@@ -83,6 +83,7 @@ pub use Rattle.ss_target.specs.Targets.{params_of}
 pub use Rattle.ss_schedule.proofs.Places.{take-seam}
 pub use Rattle.ss_schedule.specs.Keyed.{IsKeyed}
 pub use Rattle.ss_schedule.specs.Pairs.{NoPairFits, joined_entry}
+pub use Rattle.ss_schedule.specs.declared.index.Index.{Index}
 pub use Rattle.ss_codec.proofs.RecordLemmas.{IsValue-is_valid, is_valid-IsStream, is_valid-IsWindow}
 pub use Rattle.ss_codec.specs.Decoded.{decoded, params_in, record_in, stream_in, window_in}
 pub use Rattle.ss_codec.specs.Record.{is_valid, spelling}
@@ -155,7 +156,6 @@ pub use Rattle.ss_store.specs.Events.{events_held, is_closed, mark_events}
 pub use Rattle.ss_store.specs.Extents.{AllGrowLittle, GrowsLittle, records_in}
 pub use Rattle.ss_store.specs.Held.{IsHalfway, IsOrdered, IsPartlyJoined, IsSameStream, ends_held, values_held, with_single, with_windows}
 pub use Rattle.ss_store.specs.declared.held.HeldStream.{HeldStream}
-pub use Rattle.ss_store.specs.declared.index.Index.{Index}
 pub use Rattle.ss_store.specs.Indexed.{IsKeyedFor, IsReservedFor, IsScheduled, IsTimed, StandsAfter, begun_at, parts_of}
 pub use Rattle.ss_store.specs.Joining.{AreDue, IsJoinedIn, NoEntriesAreDue, may_be_joined}
 pub use Rattle.ss_store.specs.Kept.{IsSound, SameButSpare, SomeAgree, StoreIsIn, StoreIsKept, StoreState, entry_of, has_all_numbers, has_all_slots}

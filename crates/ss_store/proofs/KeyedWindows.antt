@@ -6,7 +6,8 @@ use Rattle.ss_store.proofs.Common.{NoEntriesAreDue, HeldStream, Index, IsReserve
 use Rattle.std.proofs.Common.{All}
 use Rattle.ss_schedule.specs.Keyed.{TileUpTo, FollowUpTo, ScheduleState}
 use Rattle.ss_schedule.specs.declared.pair.Pair.{Pair}
-use Rattle.ss_store.specs.Indexed.{HasPlaces, IsDuePair}
+use Rattle.ss_schedule.specs.Keyed.{HasPlaces}
+use Rattle.ss_store.specs.Indexed.{IsDuePair}
 use Rattle.ss_store.proofs.Spans.{last-held}
 
 -- no pair of a line may be one, by its places and without them

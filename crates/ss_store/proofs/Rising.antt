@@ -5,7 +5,7 @@ use Rattle.ss_store.proofs.Common.{index_of, place_at, At, Entry, joined_entry, 
 use Rattle.ss_store.proofs.Common.{BeginsNear, entries_in, index-once, take-seam, IsOrdered, IsTimed, begun_at}
 use Rattle.std.proofs.Common.{max, All}
 use Rattle.std.proofs.lemmas.List.Elements.{All-drop, All-weaker}
-use Rattle.ss_times.specs.Times.{IsLastBy}
+use Rattle.ss_schedule.specs.Times.{IsLastBy}
 use Rattle.ss_query.specs.Answered.{BeginsAt}
 use Rattle.ss_query.proofs.Places.{IsAt-entry_at}
 use Rattle.ss_store.proofs.Among.{IsNoEarlier}

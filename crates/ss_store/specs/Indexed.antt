@@ -1,14 +1,14 @@
 -- The index of a stream: when its windows are joined, and where they stand by their times, over every disk.
 use Rattle.std.specs.Prelude.{◌≡◌, ℕ, ◌+◌, ◌<◌, ◌≤◌, true, false, List, [], ◌∷◌, ◌++◌, length, map, Option}
 use Rattle.ss_records.specs.Kept.{RecordsState}
-use Rattle.ss_line.specs.Line.{LineState}
 use Rattle.ss_line.specs.declared.entry.At.{At}
 use Rattle.ss_line.specs.declared.entry.Entry.{Entry}
 use Rattle.ss_target.specs.Rule.{rule_of}
 use Rattle.ss_target.specs.Targets.{params_of}
 use Rattle.ss_windowing.specs.declared.decay.TheConstants.{MOST_VALUES}
-use Rattle.ss_schedule.specs.Keyed.{IsKeyed, ScheduleState}
+use Rattle.ss_schedule.specs.Keyed.{HasPlaces, IsKeyed}
 use Rattle.ss_schedule.specs.Pairs.{IsPairIn, may_join}
+use Rattle.ss_schedule.specs.declared.index.Index.{Index}
 use Rattle.ss_schedule.specs.declared.pair.Pair.{Pair}
 use Rattle.ss_model.specs.Marks.{has_open}
 use Rattle.ss_model.specs.Refusals.{is_past}
@@ -17,7 +17,6 @@ use Rattle.ss_recover.specs.declared.parts.StreamParts.{StreamParts}
 use Rattle.ss_store.specs.Changing.{HoldsUntil, KeepsWhole, NoneAreDue}
 use Rattle.ss_store.specs.Held.{IsOrdered, values_held}
 use Rattle.ss_store.specs.declared.held.HeldStream.{HeldStream}
-use Rattle.ss_store.specs.declared.index.Index.{Index}
 
 -- what the records of streams that are held say
 abbrev pub parts_of : List HeldStream → List StreamParts
@@ -52,10 +51,6 @@ pub record StandsAfter (part : StreamParts) (now : HeldStream) (was is : Records
   pub whole : KeepsWhole part now.part was is used
   pub holds : HoldsUntil now.part n last
   pub keyed : IsKeyedFor now
-
--- a schedule has room for each place of a line, also for those to spare
-abbrev pub HasPlaces : LineState → ScheduleState → Type 0
-HasPlaces line schedule = length line.entries + line.spare ≤ length schedule.keys
 
 -- the index of a stream in which no two windows are due is ready for one more that begins at a time: it has room for it, and
 -- has noted the time behind those of the windows

@@ -1,17 +1,42 @@
 // Streams that were read, and their indexes.
-ghost use Rattle.std.specs.Prelude.{◌≡◌, All, IfOk, OnOk, []};
-ghost use Rattle.ss_schedule.specs.Keyed.{IsKeyed};
-ghost use Rattle.ss_recover.specs.Held.{entries_of};
+ghost use Rattle.std.specs.Prelude.{◌≡◌, ◌+◌, ◌<◌, ℕ, All, IfOk, OnOk, [], length, map, take};
+ghost use Rattle.ss_line.specs.Line.{StandsIn, index_of};
+ghost use Rattle.ss_schedule.specs.Keyed.{FollowUpTo, HasPlaces, IsKeyed};
+ghost use Rattle.ss_recover.specs.Held.{TimesRise, entries_of};
 ghost use Rattle.ss_store.specs.Held.{IsOrdered, values_held};
-ghost use Rattle.ss_store.specs.Indexed.{HasPlaces, IsKeyedAt, IsKeyedFor, parts_of};
+ghost use Rattle.ss_store.specs.Indexed.{IsKeyedAt, IsKeyedFor, IsTimed, parts_of};
 
 use crate::closing::values_held;
 use crate::held::HeldStream;
-use crate::index::Index;
+use ss_line::{At, Line};
 use ss_recover::StreamParts;
+use ss_schedule::Index;
 use ss_steps::Steps;
 use std::alloc::{AllocError, Global};
 use std::sync::ledger::Ledger;
+
+// Takes up the window at a place of a line, which is the next one after those that the index is of.
+fn push_window<L: Ledger>(
+    line: &Line,
+    index: &mut Index,
+    at: At,
+    n: u64,
+    steps: &mut Steps<L>,
+) -> Result<(), AllocError>
+    requires stands { StandsIn line.now.entries at }
+    requires room { at.0 < length index.old.schedule.keys }
+    requires keyed { IsKeyed n (take (index_of line.now.entries at) line.now.entries) index.old.schedule }
+    requires follow { FollowUpTo n (take (index_of line.now.entries at + 1) line.now.entries) }
+    requires timed { IsTimed (take (index_of line.now.entries at) line.now.entries) index.old.times }
+    requires rise { (last : ℕ) × TimesRise 0 last (map (λ e. e.1) line.now.entries) }
+    ensures keyed { OnOk result (IsKeyed n (take (index_of line.now.entries at + 1) line.now.entries) index.new.schedule) }
+    ensures timed { OnOk result (IsTimed (take (index_of line.now.entries at + 1) line.now.entries) index.new.times) }
+    ensures target { OnOk result (index.new.schedule.target ≡ index.old.schedule.target) }
+    ensures room { OnOk result (length index.new.schedule.keys ≡ length index.old.schedule.keys) }
+{
+    let t = line.get(at, steps).t_first;
+    index.push_window(line, at, n, t, steps)
+}
 
 // Takes up each of a stream's windows, in order.
 fn add_windows<L: Ledger>(
@@ -33,9 +58,9 @@ fn add_windows<L: Ledger>(
     };
     // Each place lies below their number.
     let _places = part.line.places();
-    index.push_window(&part.line, at, n, steps)?;
+    push_window(&part.line, index, at, n, steps)?;
     while let Some(next) = part.line.neighbours(at, steps).1 {
-        index.push_window(&part.line, next, n, steps)?;
+        push_window(&part.line, index, next, n, steps)?;
         at = next;
     }
     Ok(())

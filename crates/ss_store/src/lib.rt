@@ -6,7 +6,6 @@ mod clearing;
 mod closing;
 mod error;
 mod held;
-mod index;
 mod indexing;
 mod laws;
 mod marking;

@@ -2,7 +2,7 @@
 ghost use Rattle.std.specs.Prelude.{◌≤◌, All, IfOk};
 
 use ss_line::At;
-use ss_times::Times;
+use ss_schedule::Times;
 use std::alloc::{AllocError, Global};
 
 #[derive(Clone, Copy)]

@@ -7,7 +7,6 @@ ghost use Rattle.ss_target.specs.Lengths.{has_target};
 use super::Store;
 use crate::ApplyError;
 use crate::held::HeldStream;
-use crate::index::Index;
 use crate::place::next_id;
 use crate::writing::stage_record;
 use ss_catalog::{Catalog, Name, Params, Refusal, StreamId};
@@ -17,6 +16,7 @@ use ss_line::Line;
 use ss_model::Ack;
 use ss_outside::{Disk, Failed};
 use ss_recover::StreamParts;
+use ss_schedule::Index;
 use ss_target::Target;
 use std::alloc::AllocError;
 

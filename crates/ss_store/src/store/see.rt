@@ -52,7 +52,7 @@ fn see_indexed<D: Disk, L: Ledger, R: Ledger, S: Ledger>(
         × (reads.new ≤ reads.old + begun_in query.now.from query.now.to stream.now.part.line.entries + 1)
         × (searches.new ≤ searches.old + 7 * (begun_in query.now.from query.now.to stream.now.part.line.entries + 1)) }
 {
-    let start = stream.index.start(&stream.part, query.from);
+    let start = stream.start(query.from);
     see_from(
         &stream.part,
         start,

@@ -23,7 +23,7 @@ impl Model for Times {
 impl Times {
     ghost use Rattle.std.specs.Prelude.{◌≡◌, ◌≢◌, ◌<◌, ℕ, [], ◌∷◌, ◌++◌, List, All, OnOk, OnErr};
     ghost use Rattle.ss_line.specs.declared.entry.At.{At};
-    ghost use Rattle.ss_times.specs.Times.{IsSought};
+    ghost use Rattle.ss_schedule.specs.Times.{IsSought};
 
     /// No windows.
     pub fn new(alloc: Global) -> Times

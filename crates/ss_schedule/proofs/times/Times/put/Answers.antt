@@ -3,10 +3,10 @@ use Rattle.std.specs.BTreeMap.{BTreeMap, is_at}
 use Rattle.std.specs.Map.{lookup, set_value}
 use Rattle.std.specs.Ordering.{nat_cmp}
 use Rattle.ss_line.specs.declared.entry.At.{At}
-use Rattle.ss_times.specs.contracts.times.Times.{the_view}
-use Rattle.ss_times.proofs.OrderLemmas.{Ascend, lookup-absent, lookup-there, set_value-there}
-use Rattle.ss_times.proofs.times.Times.put.Goals.{in-Some, in_default}
-use Rattle.ss_times.proofs.times.Times.put.Goals as goal
+use Rattle.ss_schedule.specs.contracts.times.Times.{the_view}
+use Rattle.ss_schedule.proofs.OrderLemmas.{Ascend, lookup-absent, lookup-there, set_value-there}
+use Rattle.ss_schedule.proofs.times.Times.put.Goals.{in-Some, in_default}
+use Rattle.ss_schedule.proofs.times.Times.put.Goals as goal
 
 pub returns-clause-place : goal.returns-clause-place
 returns-clause-place c before behind was is =

@@ -2,7 +2,7 @@
 use Rattle.std.proofs.Common.{◌≡◌, ℕ, ◌<◌, ◌≤◌, List, [], ◌∷◌, ◌++◌, All, None, Some, ap, sym, subst, arith, refl, lit<, lit≤}
 use Rattle.std.proofs.lemmas.List.Elements.{All-cons, All-head, All-nil}
 use Rattle.ss_line.specs.declared.entry.At.{At}
-use Rattle.ss_times.specs.Times.{IsSought}
+use Rattle.ss_schedule.specs.Times.{IsSought}
 
 abbrev place : ℕ → At
 place n = record { 0 = n }

@@ -1,10 +1,10 @@
 // What is kept beside the line of one stream.
+use crate::pair::Pair;
+use crate::schedule::Schedule;
+use crate::times::Times;
 use ss_line::{At, Line};
-use ss_recover::StreamParts;
-use ss_schedule::{Pair, Schedule};
 use ss_steps::Steps;
 use ss_target::Target;
-use ss_times::Times;
 use std::alloc::{AllocError, Global};
 use std::sync::ledger::Ledger;
 
@@ -16,18 +16,15 @@ pub struct Index {
 }
 
 impl Index {
-    ghost use Rattle.std.specs.Prelude.{◌≡◌, ◌+◌, ◌<◌, ◌≤◌, ℕ, max, true, List, [], ◌∷◌, ◌++◌, All, length, map, take};
+    ghost use Rattle.std.specs.Prelude.{◌≡◌, ◌+◌, ◌<◌, ◌≤◌, ℕ, max, true, List, [], ◌∷◌, ◌++◌, All, length, take};
     ghost use Rattle.std.specs.Prelude.{IfNone, IfSome, MatchOption, OnErr, OnOk};
     ghost use Rattle.ss_line.specs.Line.{StandsIn, index_of};
     ghost use Rattle.ss_line.specs.declared.entry.At.{At};
     ghost use Rattle.ss_line.specs.declared.entry.Entry.{Entry};
     ghost use Rattle.ss_line.specs.declared.line.TheConstants.{MOST_PLACES};
     ghost use Rattle.ss_windowing.specs.declared.decay.TheConstants.{MOST_VALUES};
-    ghost use Rattle.ss_schedule.specs.Keyed.{FollowUpTo, IsKeyed, merge_rule};
+    ghost use Rattle.ss_schedule.specs.Keyed.{FollowUpTo, HasPlaces, IsKeyed, merge_rule};
     ghost use Rattle.ss_schedule.specs.Pairs.{AreSideBySide, IsPairIn, NoPairFits, joined_entry, may_join};
-    ghost use Rattle.ss_recover.specs.Held.{RiseToLast, TimesRise};
-    ghost use Rattle.ss_query.specs.Answered.{BeginsAt, BeginsNear};
-    ghost use Rattle.ss_store.specs.Indexed.{HasPlaces, IsTimed};
 
     /// The index of a line without windows, with no room.
     pub fn new(alloc: Global, target: Target) -> Index
@@ -97,27 +94,26 @@ impl Index {
         self.times.put(t, at);
     }
 
-    /// Notes the time of the window at a place, which is the next one of the line after those that the index is of, and takes
-    /// the window up.
+    /// Takes up the window at a place, which begins at a time after all others, when n values are held: it is the next one of
+    /// the line after those that the index is of.
     pub fn push_window<L: Ledger>(
         &mut self,
         line: &Line,
         at: At,
         n: u64,
+        t: u64,
         steps: &mut Steps<L>,
     ) -> Result<(), AllocError>
         requires stands { StandsIn line.now.entries at }
         requires room { at.0 < length self.old.schedule.keys }
         requires keyed { IsKeyed n (take (index_of line.now.entries at) line.now.entries) self.old.schedule }
         requires follow { FollowUpTo n (take (index_of line.now.entries at + 1) line.now.entries) }
-        requires timed { IsTimed (take (index_of line.now.entries at) line.now.entries) self.old.times }
-        requires rise { (last : ℕ) × TimesRise 0 last (map (λ e. e.1) line.now.entries) }
+        requires later { All (λ e. e.0 < t) self.old.times }
         ensures keyed { OnOk result (IsKeyed n (take (index_of line.now.entries at + 1) line.now.entries) self.new.schedule) }
-        ensures timed { OnOk result (IsTimed (take (index_of line.now.entries at + 1) line.now.entries) self.new.times) }
+        ensures noted { OnOk result (self.new.times ≡ self.old.times ++ (t, at) ∷ []) }
         ensures target { OnOk result (self.new.schedule.target ≡ self.old.schedule.target) }
         ensures room { OnOk result (length self.new.schedule.keys ≡ length self.old.schedule.keys) }
     {
-        let t = line.get(at, steps).t_first;
         self.times.push(t, at)?;
         self.schedule.add_window(line, at, n, steps);
         Ok(())
@@ -160,21 +156,5 @@ impl Index {
     {
         self.schedule.merged(line, pair, n, steps);
         self.times.cut_out(t);
-    }
-
-    /// Where a walk over the windows of a stream begins that looks for times from one on: at the last window that begins then
-    /// or before, or else at the first one. It takes a number of steps that grows as the logarithm of how many windows there
-    /// are.
-    pub fn start(&self, part: &StreamParts, from: u64) -> Option<At>
-        requires timed { IsTimed part.now.line.entries self.now.times }
-        requires times { RiseToLast part.now }
-        ensures begins { BeginsAt part.now.line.entries from result }
-        // Of the windows from there on only the first one may begin by that time.
-        ensures near { BeginsNear part.now.line.entries from result }
-    {
-        match self.times.seek(from) {
-            Some(at) => Some(at),
-            None => part.line.first(),
-        }
     }
 }

@@ -1,8 +1,8 @@
 use Rattle.std.proofs.Common.{◌∙◌, ℕ, List, None, subst, sym}
 use Rattle.ss_line.specs.declared.entry.At.{At}
-use Rattle.ss_times.specs.Times.{IsLastBy, IsSought}
-use Rattle.ss_times.proofs.OrderLemmas.{all_later, is_last_by}
-use Rattle.ss_times.proofs.times.Times.seek.Goals as goal
+use Rattle.ss_schedule.specs.Times.{IsLastBy, IsSought}
+use Rattle.ss_schedule.proofs.OrderLemmas.{all_later, is_last_by}
+use Rattle.ss_schedule.proofs.times.Times.seek.Goals as goal
 
 pub returns-in_err-at : goal.returns-in_err-at
 returns-in_err-at c =

@@ -2,8 +2,8 @@ use Rattle.std.proofs.Common.{◌∙◌, ℕ, List, ap}
 use Rattle.std.specs.BTreeMap.{insert_entry}
 use Rattle.std.specs.Ordering.{nat_cmp}
 use Rattle.ss_line.specs.declared.entry.At.{At}
-use Rattle.ss_times.proofs.OrderLemmas.{insert_entry-last}
-use Rattle.ss_times.proofs.times.Times.push.Goals as goal
+use Rattle.ss_schedule.proofs.OrderLemmas.{insert_entry-last}
+use Rattle.ss_schedule.proofs.times.Times.push.Goals as goal
 
 pub returns-clause-ok : goal.returns-clause-ok
 returns-clause-ok c =

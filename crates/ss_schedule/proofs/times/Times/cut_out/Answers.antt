@@ -3,8 +3,8 @@ use Rattle.std.specs.BTreeMap.{is_at}
 use Rattle.std.specs.Map.{lookup, remove_entry}
 use Rattle.std.specs.Ordering.{nat_cmp}
 use Rattle.ss_line.specs.declared.entry.At.{At}
-use Rattle.ss_times.proofs.OrderLemmas.{Ascend, lookup-absent, remove_entry-there}
-use Rattle.ss_times.proofs.times.Times.cut_out.Goals as goal
+use Rattle.ss_schedule.proofs.OrderLemmas.{Ascend, lookup-absent, remove_entry-there}
+use Rattle.ss_schedule.proofs.times.Times.cut_out.Goals as goal
 
 pub returns-clause-rest : goal.returns-clause-rest
 returns-clause-rest c before behind was is =

@@ -15,7 +15,7 @@ use Rattle.std.specs.Ordering.{is_eq, is_lt, match_ordering, nat_cmp}
 use Rattle.std.specs.declared.cmp.Ordering.TheVariants.{Less, Equal, Greater}
 use Rattle.std.specs.declared.ops.Bound.TheVariants.{Included, Unbounded}
 use Rattle.ss_line.specs.declared.entry.At.{At}
-use Rattle.ss_times.specs.Times.{IsLastBy}
+use Rattle.ss_schedule.specs.Times.{IsLastBy}
 
 equal : (t : ℕ) → nat_cmp t t ≡ Equal
 equal t = sym (nat_cmp_is t t Equal refl)
