@@ -3,13 +3,13 @@ use Rattle.ss_store.proofs.Common.{◌≡◌, ◌∙◌, ℕ, suc, ◌<◌, ◌�
 use Rattle.ss_store.proofs.Common.{append_assoc, Bool, IsPermutation, Ok, Option, None, Some, Result, length-map, on_ok_weaker, IsErr, OnOk, reads-none}
 use Rattle.ss_store.proofs.Common.{weaker, KnowsNow, Told, KeepsShown, IsSealed, SlotMap, StandsFor, changed, RecordsState, Record, closed_state, Stream}
 use Rattle.ss_store.proofs.Common.{occupied-freed, HasWholeSlots-StandsFor, TurnsShown, ClearsSlots, HasDoomed, StagesChange, StagesClearing, Recovers}
-use Rattle.ss_store.proofs.Common.{recovered_of, AreSomeLive, LiveSlotsGo, live_slots, zeros_put}
+use Rattle.ss_store.proofs.Common.{recovered_of, AreSomeLive, LiveSlotsGo, live_slots, zeros_put, StaysOr}
 use Rattle.std.proofs.Math.Seq.{drop-cons, take-suc}
 use Rattle.std.proofs.lemmas.List.{drop_all, get_or-map, take-append-drop}
 use Rattle.ss_recover.proofs.DroppedMaps.{carried-goes}
 use Rattle.ss_store.proofs.Among.{recover-StandsFor}
 use Rattle.ss_store.proofs.KeptStates.{Recovers-of_map}
-use Rattle.ss_store.proofs.ShownCalls.{IsOfMap, StaysOr, StaysOr-weaker, Turns-not_sealed, Turns-sealed, TurnsShown-failed, TurnsShown-reads, TurnsShown-then}
+use Rattle.ss_store.proofs.ShownCalls.{IsOfMap, StaysOr-weaker, Turns-not_sealed, Turns-sealed, TurnsShown-failed, TurnsShown-reads, TurnsShown-then}
 
 -- whatever of them is left, the image recovers to the streams that it carries
 pub Recovers-doomed : (doomed held : List (ℕ × Option Record)) (streams : List Stream) (image : List ℕ) → HasDoomed doomed held streams image →

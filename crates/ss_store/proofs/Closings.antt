@@ -2,10 +2,10 @@
 use Rattle.ss_store.proofs.Common.{◌≡◌, ◌∙◌, ℕ, List, refl, subst, Option, Ok, Result, on_ok_weaker, KnowsNow, LeavesOnly, Told, now, reads-none, weaker}
 use Rattle.ss_store.proofs.Common.{RecordsState, shown_by, Record, params_of, closed, closed_stream, JoinsDue, rule_of, IsStream, Stream, values_in, Window}
 use Rattle.ss_store.proofs.Common.{taken-JoinsDue, entries_of, StreamParts, TurnsShown, IsPartlyJoined, IsSameStream, values_held, with_windows, IsHeldIn}
-use Rattle.ss_store.proofs.Common.{IsJoinedIn, NoEntriesAreDue}
+use Rattle.ss_store.proofs.Common.{IsJoinedIn, NoEntriesAreDue, StaysOr}
 use Rattle.ss_outside.proofs.CrashLemmas.{joined as run_joined}
 use Rattle.ss_model.proofs.JoinLemmas.{JoinsDue-append, closed-only_end}
-use Rattle.ss_store.proofs.ShownCalls.{StaysOr, StaysOr-later, TurnsShown-reads, TurnsShown-weaker}
+use Rattle.ss_store.proofs.ShownCalls.{StaysOr-later, TurnsShown-reads, TurnsShown-weaker}
 use Rattle.ss_store.proofs.Joinings.{IsJoinedIn-none}
 use Rattle.ss_store.proofs.Spans.{NoneIsDue-entries, values_held-windows}
 

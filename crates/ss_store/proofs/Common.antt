@@ -146,7 +146,7 @@ pub use Rattle.ss_query.specs.declared.read_error.ReadError.{ReadError}
 pub use Rattle.ss_store.specs.Admitted.{IsMarker, IsNew, IsTaker}
 pub use Rattle.ss_store.specs.Applied.{Answers, Applies, IsFew, Looks, OpensStore, SealsStore, Sees, ShowsWindow, StandsOn, is_plain_value, leaves_no_value}
 pub use Rattle.ss_store.specs.Calls.{KeepsWithin, RecoversToEither, StagesAtCost, StagesEvent, StandsForEither, StandsLike, StaysWithin, StepsState}
-pub use Rattle.ss_store.specs.Calls.{SyncsToStage, Turns, TurnsShown}
+pub use Rattle.ss_store.specs.Calls.{CrashTriple, StaysOr, SyncsToStage, Turns, TurnsShown}
 pub use Rattle.ss_store.specs.Causes.{OpensAs, said_of_held}
 pub use Rattle.ss_store.specs.Changing.{ChangedIsHeld, KeepsWhole, NoneAreDue}
 pub use Rattle.ss_store.specs.Clearing.{ClearsSlots, HasDoomed, StagesChange, StagesClearing}

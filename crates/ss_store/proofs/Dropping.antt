@@ -4,13 +4,13 @@ use Rattle.ss_store.proofs.Common.{Some, IsErr, IsPermutation-append_comm, IsPer
 use Rattle.ss_store.proofs.Common.{weaker, KnowsNow, Told, SlotMap, StandsFor, changed, zeros, Put, RecordsState, shown_by, is_valid, Record, Entry}
 use Rattle.ss_store.proofs.Common.{closed_state, Stream, HasRecords, without_numbered, Agrees, IsRecord, entries_of, mark_slots, occupied, stream_record}
 use Rattle.ss_store.proofs.Common.{carried, carries, StreamParts, HasWholeSlots-StandsFor, TurnsShown, HasDoomed, StagesChange, StagesClearing, IsHeldBeside}
-use Rattle.ss_store.proofs.Common.{RecoversWithOrWithout, dropped_record, slots_in_turn, Recovers, recovered_of, AreSomeLive, live_slots, record_put}
+use Rattle.ss_store.proofs.Common.{RecoversWithOrWithout, dropped_record, slots_in_turn, Recovers, recovered_of, AreSomeLive, live_slots, record_put, StaysOr}
 use Rattle.ss_codec.specs.declared.record.Record.TheVariants as records
 use Rattle.ss_store.proofs.Among.{recover-StandsFor}
 use Rattle.ss_recover.proofs.DroppedMaps.{carried-dropped}
 use Rattle.ss_store.proofs.Changes.{moves-replaced}
 use Rattle.ss_store.proofs.DroppedRecords.{GoInTurn-dropped, doomed_of, beside_own, slots-dropped}
-use Rattle.ss_store.proofs.ShownCalls.{StaysOr, StaysOr-weaker, TurnsShown-failed, TurnsShown-then, TurnsShown-weaker}
+use Rattle.ss_store.proofs.ShownCalls.{StaysOr-weaker, TurnsShown-failed, TurnsShown-then, TurnsShown-weaker}
 
 -- an image of a map that carries streams recovers to what they close to
 Recovers-carried : (image : List ℕ) (found : SlotMap) (streams : List Stream) → StandsFor image found → carried found ≡ carries streams →

@@ -4,16 +4,13 @@ use Rattle.ss_store.proofs.Common.{◌≡◌, ◌⊎◌, ⊎_elim, inl, inr, ℕ
 use Rattle.ss_store.proofs.Common.{on_ok_weaker, IsErr, OnOk, now, read_leaves, nothing_pending-same, weaker, KnowsNow, LeavesOnly, OnlyReads, NothingPending}
 use Rattle.ss_store.proofs.Common.{Told, KeepsShown, IsSealed, JournalState, shown, SlotMap, StandsFor, changed, Put, SameMap-refl, StandsFor-also}
 use Rattle.ss_store.proofs.Common.{StandsFor-from, StandsFor-same, shown-sealed, on_err, on_ok, AreKept, RecordsState, shown_by, Record, occupied, HasRecords}
-use Rattle.ss_store.proofs.Common.{StandsLike, Turns, TurnsShown}
+use Rattle.ss_store.proofs.Common.{StandsLike, StaysOr, Turns, TurnsShown}
+use Rattle.ss_store.proofs.Calls.{CrashTriple-answers, CrashTriple-failed, CrashTriple-reads, CrashTriple-then, CrashTriple-weaker}
 use Rattle.ss_outside.proofs.CrashLemmas.{joined}
 use Rattle.ss_journal.specs.Groups.{entry_count, group_bytes}
 use Rattle.ss_journal.specs.declared.kind.Kind.{Kind}
 use Rattle.ss_journal.specs.Kept.{HasRoomFor, IfStaged, with_entries}
 use Rattle.ss_records.specs.Calls.{StagesPuts}
-
--- what a crash leaves of a call that stages: what the content stood for, or this
-abbrev pub StaysOr : Told → (List ℕ → Type 0) → List ℕ → Type 0
-StaysOr old M = StandsLike (λ image. (image ≡ old.content) ⊎ M image)
 
 -- the content itself, and what has this
 StaysOr-stays : (old : Told) (M : List ℕ → Type 0) (image : List ℕ) → image ≡ old.content → StaysOr old M image
@@ -41,49 +38,32 @@ StaysOr-later old mid M L gives between image left = elim left.1 [
 pub TurnsShown-then : {S F T E : Type 0} (was between is : RecordsState) (P M Q N R L : List ℕ → Type 0) (old mid new : Told) (value : S)
     (result : Result T E) → KnowsNow mid → TurnsShown {T = S} {E = F} was between P M Q old mid (Ok value) → TurnsShown between is Q N R mid new result →
     ((image : List ℕ) → M image → L image) → ((image : List ℕ) → N image → L image) → TurnsShown was is P L R old new result
-TurnsShown-then was between is P M Q N R L old mid new value result knows first second of_first of_second = record {
-  content = λ has. second.content (first.content has);
-  any_moment = λ none has.
-      let before : LeavesOnly old mid (StaysOr old L) = weaker old mid (StaysOr old M) (StaysOr old L) (StaysOr-weaker old M L of_first)
-      (first.any_moment none has) in
-      let here : StaysOr old L mid.content = now old mid (StaysOr old L) knows before mid.content knows.content_is_image in
-      joined old mid new (StaysOr old L) before
-      (weaker mid new (StaysOr mid N) (StaysOr old L) (StaysOr-later old mid N L of_second here)
-      (second.any_moment (first.durable none) (first.content has)));
-  durable = λ none. second.durable (first.durable none);
-}
+TurnsShown-then was between is P M Q N R L old mid new value result knows first second of_first of_second =
+    CrashTriple-then (P (shown_by was old.content)) (Q (shown_by between mid.content)) (R (shown_by is new.content)) (StaysOr old M) (StaysOr mid N)
+    (StaysOr old L) old mid new value result first second (StaysOr-weaker old M L of_first)
+    (λ before. StaysOr-later old mid N L of_second (now old mid (StaysOr old L) knows before mid.content knows.content_is_image))
 
 -- A step failed, and its failure is handed on: whatever the call was to reach at Ok.
 pub TurnsShown-failed : {S F T E : Type 0} (was between is : RecordsState) (P M Q R : List ℕ → Type 0) (old new : Told) (step : Result S F)
     (result : Result T E) → IsErr result → TurnsShown was between P M Q old new step → TurnsShown was is P M R old new result
-TurnsShown-failed was between is P M Q R old new step result failed turns = record {
-  content = λ has. on_err result (R (shown_by is new.content)) failed;
-  any_moment = turns.any_moment;
-  durable = λ none. on_err result (NothingPending new) failed;
-}
+TurnsShown-failed was between is P M Q R old new =
+    CrashTriple-failed (P (shown_by was old.content)) (Q (shown_by between new.content)) (R (shown_by is new.content)) (StaysOr old M) old new
 
 -- A step answered Ok, and the call answers whatever it answers without a further call of the disk.
 pub TurnsShown-answers : {S F T E : Type 0} (was is : RecordsState) (P M Q : List ℕ → Type 0) (old new : Told) (value : S) (result : Result T E) →
     TurnsShown {T = S} {E = F} was is P M Q old new (Ok value) → TurnsShown was is P M Q old new result
-TurnsShown-answers was is P M Q old new value result turns = record {
-  content = λ has. on_ok result (turns.content has);
-  any_moment = turns.any_moment;
-  durable = λ none. on_ok result (turns.durable none);
-}
+TurnsShown-answers was is P M Q old new =
+    CrashTriple-answers (P (shown_by was old.content)) (Q (shown_by is new.content)) (StaysOr old M) old new
 
 -- A call that only reads, and at Ok leaves the journal.
 pub TurnsShown-reads : {T E : Type 0} (was is : RecordsState) (P M : List ℕ → Type 0) (old new : Told) (result : Result T E) → KnowsNow old →
     OnlyReads old new → OnOk result (is.journal ≡ was.journal) → TurnsShown was is P M P old new result
-TurnsShown-reads was is P M old new result knows reads same = record {
-  content = λ has.
-      on_ok_weaker result (λ (journal : is.journal ≡ was.journal).
-      subst (λ (j : JournalState). P (shown j new.content)) (sym journal)
-      (subst (λ (i : List ℕ). P (shown was.journal i)) (sym reads.same.content) has))
-      same;
-  any_moment = λ none has.
-      weaker old new old.may_leave (StaysOr old M) (λ image left. StaysOr-stays old M image (none image left)) (read_leaves old new knows reads);
-  durable = λ none. on_ok result (nothing_pending-same old new reads.same none);
-}
+TurnsShown-reads was is P M old new result knows reads same =
+    CrashTriple-reads (P (shown_by was old.content)) (P (shown_by is new.content)) (StaysOr old M) old new result knows reads
+    (λ has. on_ok_weaker result (λ (journal : is.journal ≡ was.journal).
+    subst (λ (j : JournalState). P (shown j new.content)) (sym journal) (subst (λ (i : List ℕ). P (shown was.journal i)) (sym reads.same.content) has))
+    same)
+    (λ has none image left. StaysOr-stays old M image (none image left))
 
 -- Of less before the call, more is left, and less reached. What holds of what is shown before the call may be used.
 pub TurnsShown-weaker : {T E : Type 0} (was is : RecordsState) (P P' M M' Q Q' : List ℕ → Type 0) (old new : Told) (result : Result T E) →
@@ -91,11 +71,9 @@ pub TurnsShown-weaker : {T E : Type 0} (was is : RecordsState) (P P' M M' Q Q' :
     (P' (shown_by was old.content) → (image : List ℕ) → M image → M' image) →
     (P' (shown_by was old.content) → (image : List ℕ) → Q image → Q' image) → TurnsShown was is P M Q old new result →
     TurnsShown was is P' M' Q' old new result
-TurnsShown-weaker was is P P' M M' Q Q' old new result before crash after turns = record {
-  content = λ has. on_ok_weaker result (after has (shown_by is new.content)) (turns.content (before has));
-  any_moment = λ none has. weaker old new (StaysOr old M) (StaysOr old M') (StaysOr-weaker old M M' (crash has)) (turns.any_moment none (before has));
-  durable = turns.durable;
-}
+TurnsShown-weaker was is P P' M M' Q Q' old new result before crash after =
+    CrashTriple-weaker (P (shown_by was old.content)) (P' (shown_by was old.content)) (Q (shown_by is new.content)) (Q' (shown_by is new.content))
+    (StaysOr old M) (StaysOr old M') old new result before (λ has. StaysOr-weaker old M M' (crash has)) (λ has. after has (shown_by is new.content))
 
 -- A property of maps: an image that has it stands for a map, and so has every image that stands for that map.
 abbrev pub IsOfMap : (List ℕ → Type 0) → Type 0

@@ -1,10 +1,10 @@
 -- How many slots calls in a row use, also in a crash. In each lemma the disks are plain values: a caller strips the premise that the disk tells.
 use Rattle.ss_store.proofs.Common.{◌≡◌, ◌≤◌, ⊎_elim, ℕ, List, Err, Ok, Result, arith, subst, sym, IsErr, OnOk, max, reads-none, weaker, KnowsNow, OnlyReads}
 use Rattle.ss_store.proofs.Common.{Told, KeepsMap, KeepsShown, IsSealed, SlotMap, StandsFor, SameMap-refl, StandsFor-also, StandsFor-from, StandsFor-same}
-use Rattle.ss_store.proofs.Common.{shown-sealed, on_ok, AreKept, RecordsState, shown_by, KeepsWithin, StaysWithin, Turns, TurnsShown, UsesAtMost}
+use Rattle.ss_store.proofs.Common.{shown-sealed, on_ok, AreKept, RecordsState, shown_by, KeepsWithin, StaysWithin, Turns, TurnsShown, UsesAtMost, StaysOr}
 use Rattle.ss_store.proofs.Calls.{Turns-answers, Turns-failed, Turns-joined, Turns-reads}
 use Rattle.ss_store.proofs.Changes.{extent-kept}
-use Rattle.ss_store.proofs.ShownCalls.{IsOfMap, StaysOr, Turns-not_sealed, Turns-sealed, TurnsShown-answers, TurnsShown-failed, TurnsShown-kept}
+use Rattle.ss_store.proofs.ShownCalls.{IsOfMap, Turns-not_sealed, Turns-sealed, TurnsShown-answers, TurnsShown-failed, TurnsShown-kept}
 use Rattle.ss_store.proofs.ShownCalls.{TurnsShown-reads, TurnsShown-then, of_map-like}
 use Rattle.ss_store.proofs.Slots.{Turns-kept}
 

@@ -12,23 +12,30 @@ use Rattle.ss_model.specs.Steps.{stepped}
 use Rattle.ss_store.specs.Recover.{Recovers, Stands}
 use Rattle.ss_store.specs.Uses.{IsShort, StandsShort, UsesAtMost}
 
--- A call turns a content that has P into one that has Q. With nothing pending at the call, a crash at any moment of it leaves
--- only images that have M, and at Ok nothing is pending.
-pub record Turns {T E : Type 0} (P M Q : List ℕ → Type 0) (old new : Told) (result : Result T E) : Type 0 where
-  pub content : P old.content → OnOk result (Q new.content)
-  pub any_moment : NothingPending old → P old.content → LeavesOnly old new M
+-- The triple of a call: where this was so before it, that is so at Ok. With nothing pending at the call, a crash at any moment of it
+-- leaves only images that have M, and at Ok nothing is pending.
+pub record CrashTriple {T E : Type 0} (before : Type 0) (M : List ℕ → Type 0) (after : Type 0) (old new : Told) (result : Result T E) : Type 0 where
+  pub content : before → OnOk result after
+  pub any_moment : NothingPending old → before → LeavesOnly old new M
   pub durable : NothingPending old → OnOk result (NothingPending new)
+
+-- A call turns a content that has P into one that has Q, and a crash leaves what has M.
+abbrev pub Turns : {T E : Type 0} → (List ℕ → Type 0) → (List ℕ → Type 0) → (List ℕ → Type 0) → Told → Told → Result T E → Type 0
+Turns P M Q old new result = CrashTriple (P old.content) M (Q new.content) old new result
 
 -- the image stands for the map of an image that has P
 abbrev pub StandsLike : (List ℕ → Type 0) → List ℕ → Type 0
 StandsLike P image = (was : List ℕ) × P was × ((found : SlotMap) → StandsFor was found → StandsFor image found)
 
--- Records, which are others then, turn what they show from P into Q. With nothing pending at the call, a crash at any moment of it
--- leaves only images that stand for what the content stood for, or for what has M, and at Ok nothing is pending.
-pub record TurnsShown {T E : Type 0} (was is : RecordsState) (P M Q : List ℕ → Type 0) (old new : Told) (result : Result T E) : Type 0 where
-  pub content : P (shown_by was old.content) → OnOk result (Q (shown_by is new.content))
-  pub any_moment : NothingPending old → P (shown_by was old.content) → LeavesOnly old new (StandsLike (λ image. (image ≡ old.content) ⊎ M image))
-  pub durable : NothingPending old → OnOk result (NothingPending new)
+-- what a crash leaves of a call that stages: images that stand for what the content stood for, or for what has M
+abbrev pub StaysOr : Told → (List ℕ → Type 0) → List ℕ → Type 0
+StaysOr old M = StandsLike (λ image. (image ≡ old.content) ⊎ M image)
+
+-- Records, which are others then, turn what they show from P into Q. A crash leaves images that stand for what the content stood for, or
+-- for what has M.
+abbrev pub TurnsShown : {T E : Type 0} → RecordsState → RecordsState → (List ℕ → Type 0) → (List ℕ → Type 0) → (List ℕ → Type 0) → Told → Told →
+    Result T E → Type 0
+TurnsShown was is P M Q old new result = CrashTriple (P (shown_by was old.content)) (StaysOr old M) (Q (shown_by is new.content)) old new result
 
 -- A call keeps what the disk stands for, whatever it is.
 abbrev pub KeepsState : {T E : Type 0} → Told → Told → Result T E → Type 0
