@@ -89,12 +89,3 @@ pub Turns-weaker : {T E : Type 0} (P P' M M' Q Q' : List ℕ → Type 0) (old ne
     Turns P M Q old new result → Turns P' M' Q' old new result
 Turns-weaker P P' M M' Q Q' old new result before crash after =
     CrashTriple-weaker (P old.content) (P' old.content) (Q new.content) (Q' new.content) M M' old new result before crash (λ has. after has new.content)
-
--- What holds before the call names something: it may be anything for which the call does the same.
-pub Turns-some : {A : Type 0} {T E : Type 0} (any : A) (P : A → List ℕ → Type 0) (M Q : List ℕ → Type 0) (old new : Told) (result : Result T E) →
-    ((x : A) → Turns (P x) M Q old new result) → Turns (λ image. (x : A) × P x image) M Q old new result
-Turns-some any P M Q old new result each = record {
-  content = λ has. (each has.0).content has.1;
-  any_moment = λ none has. (each has.0).any_moment none has.1;
-  durable = (each any).durable;
-}

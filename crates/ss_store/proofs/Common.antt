@@ -154,9 +154,10 @@ pub use Rattle.ss_store.specs.Dropping.{IsHeldBeside, RecoversWithOrWithout, Sta
 pub use Rattle.ss_store.specs.Errors.{apply_of_fault, ask_of_fault, verdict_of_apply, verdict_of_ask, verdict_of_opening}
 pub use Rattle.ss_store.specs.Events.{events_held, is_closed, mark_events}
 pub use Rattle.ss_store.specs.Extents.{AllGrowLittle, GrowsLittle, records_in}
-pub use Rattle.ss_store.specs.Held.{IsHalfway, IsOrdered, IsPartlyJoined, IsSameStream, ends_held, values_held, with_single, with_windows}
+pub use Rattle.ss_store.specs.Held.{IsHalfway, IsOrdered, IsPartlyJoined, IsSameStream, ends_held, held_parts, values_held, with_single}
+pub use Rattle.ss_store.specs.Held.{with_windows}
 pub use Rattle.ss_store.specs.declared.held.HeldStream.{HeldStream}
-pub use Rattle.ss_store.specs.Indexed.{IsKeyedFor, IsReservedFor, IsScheduled, IsTimed, StandsAfter, begun_at, parts_of}
+pub use Rattle.ss_store.specs.Indexed.{IsKeyedFor, IsReservedFor, IsScheduled, IsTimed, StandsAfter, begun_at}
 pub use Rattle.ss_store.specs.Joining.{AreDue, IsJoinedIn, NoEntriesAreDue, may_be_joined}
 pub use Rattle.ss_store.specs.Kept.{IsSound, SameButSpare, SomeAgree, StoreIsIn, StoreIsKept, StoreState, entry_of, has_all_numbers, has_all_slots}
 pub use Rattle.ss_store.specs.Kept.{is_early_held, is_of_landmark, numbers_held, of_part, part_named, part_numbered, refuses_held, row_of_held, without_spare}

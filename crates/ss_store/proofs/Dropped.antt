@@ -2,12 +2,12 @@
 use Rattle.ss_store.proofs.Common.{◌≡◌, ◌∙◌, ℕ, zero, suc, ◌<◌, Bool, true, false, List, [], ◌∷◌, ◌++◌, length, map, flat_map, remove, zip, refl, ap, sym}
 use Rattle.ss_store.proofs.Common.{subst, arith, inl, inr, Err, Ok, None, Result, Some, IsPermutation, get_or, ◌==◌, AllByRecursion, IsDistinct, list_any}
 use Rattle.ss_store.proofs.Common.{cases_eq, eq-eqb, ne_eqb, length-map, IsPermutation-append_comm, IsPermutation-append_left, IsPermutation-trans}
-use Rattle.ss_store.proofs.Common.{get_or_from_slice_get, slice_get-map, slice_get_within, DiskView, OfContent, Told, Step, failed, fine, Failed, IsSettled}
+use Rattle.ss_store.proofs.Common.{get_or_from_slice_get, slice_get-map, slice_get_within, DiskView, OfContent, Told, Step, failed, fine, Failed, IsSettled, Record, Option}
 use Rattle.ss_store.proofs.Common.{step-from, same_name, Drop, StreamId, AreKnown, Entry, AreKept, RecordsState, shown_by, closed_state, closed_stream}
 use Rattle.ss_store.proofs.Common.{IsState, Stream, numbers_of, stepped, Ack, same_name-Decides, same_name-swap, HasRecords, is_of, records_beside}
 use Rattle.ss_store.proofs.Common.{without_numbered, AllAgree, AreWhole, EndByLast, RiseToLast, TileFrom, entries_of, mark_slots, occupied, records_held}
-use Rattle.ss_store.proofs.Common.{slots_held, HeldStream, StreamParts, parts_of, all_weaker, HasWholeSlots-StandsFor, Applies, RecoversToEither, StepsState, said_of_held}
-use Rattle.ss_store.proofs.Common.{StagesAtCost, IsHeldBeside, RecoversWithOrWithout, StagesDrop, slots_in_turn, IsSound, StoreIsKept, StoreState, entry_of}
+use Rattle.ss_store.proofs.Common.{slots_held, HeldStream, StreamParts, held_parts, all_weaker, HasWholeSlots-StandsFor, Applies, RecoversToEither, StepsState, said_of_held}
+use Rattle.ss_store.proofs.Common.{StagesAtCost, IsHeldBeside, RecoversWithOrWithout, StagesDrop, slots_in_turn, IsSound, StoreIsIn, StoreIsKept, StoreState, entry_of}
 use Rattle.ss_store.proofs.Common.{part_named, refuses_held, Recovers, AreSomeLive, LiveSlotsGo, live_slots, Disk, carried-AreHeld}
 use Rattle.std.proofs.Common.{slice_get}
 use Rattle.std.proofs.lemmas.List.Edits.{length-remove}
@@ -17,16 +17,16 @@ use Rattle.ss_model.proofs.DropLemmas.{IsState-without, without_named-place, wit
 use Rattle.ss_query.specs.declared.read_error.ReadError.TheVariants as fault
 use Rattle.ss_recover.proofs.Lists.{map-all}
 use Rattle.ss_store.proofs.Among.{Agrees-both, Recovers-held, length-AllAgree, others_of}
-use Rattle.ss_store.proofs.Applying.{Applies-done, Applies-failed}
 use Rattle.ss_store.proofs.DroppedRecords.{none-of-all}
 use Rattle.ss_store.proofs.IndexedStreams.{stored}
 use Rattle.ss_store.proofs.KeptStates.{Recovers-StoreIsIn}
-use Rattle.ss_store.proofs.Named.{IsAtPlace, IsPair-at}
+use Rattle.ss_store.proofs.Named.{IsAtPlace, IsPair, IsPair-at}
 use Rattle.ss_store.proofs.OneOfMany.{IsPermutation-parted, slice_get-zip}
 use Rattle.ss_store.proofs.Refusals.{refuses_held-dropped}
 use Rattle.ss_store.proofs.Removed.{All-remove, IsDistinct-remove, IsStrictlyIncreasing-remove, all-zip, filter-remove, find-none, find-passes}
 use Rattle.ss_store.proofs.Removed.{map-remove, numbers-differ, others-differ, zip-remove}
-use Rattle.ss_store.proofs.Stepping.{StepsState-answers, StepsState-failed, StepsState-turns}
+use Rattle.ss_store.proofs.Stepping.{StepsState-turns}
+use Rattle.ss_store.proofs.Taking.{IsTaking, applies-done, applies-failed, taking}
 
 -- ---- what is held without the stream at a place
 
@@ -199,22 +199,19 @@ module _ (parts : List StreamParts) (streams : List Stream) (name : List ℕ) (p
 
 -- ---- the store
 
--- What is known before the first transaction: the store is sound and runs, and this is the stream of the name, at its place.
+-- What is known before the first transaction: this is the stream of the name, at its place, of a store that takes the event.
 pub record IsDropping (store : StoreState) (catalog : List (List ℕ × StreamId)) (name : List ℕ) (place : ℕ) (part : StreamParts) (disk : DiskView) :
     Type 0 where
-  pub one_disk : OfContent disk (StoreIsKept store)
-  pub sound : IsSound store catalog
-  pub runs : store.stopped ≡ false
+  pub takes : IsTaking (Drop name) store catalog disk
   pub stands : IsAtPlace name place store.streams part
 
 pub dropping : (held : List HeldStream) {records : RecordsState} {stopped : Bool} {view : StoreState} {catalog : List (List ℕ × StreamId)} {name : List ℕ}
     {place : ℕ} {part : StreamParts} (disk : DiskView) → stored held records stopped ≡ view → OfContent disk (StoreIsKept view) →
-    IsSound (stored held records stopped) catalog → view.stopped ≡ false → IsAtPlace name place (parts_of held) part →
+    IsSound (stored held records stopped) catalog → view.stopped ≡ false → IsAtPlace name place (held_parts held) part →
     IsDropping (stored held records stopped) catalog name place part disk
-dropping held {records} {stopped} {view} {catalog} {name} {place} {part} disk same one_disk sound runs stands = record {
-  one_disk = subst (λ (s : StoreState). OfContent disk (StoreIsKept s)) (sym same) one_disk;
-  sound = sound;
-  runs = ap (λ (s : StoreState). s.stopped) same ∙ runs;
+dropping held {name = name} {part = part} disk same one_disk sound runs stands = record {
+  takes = taking held disk same one_disk sound runs
+      (sym (ap (λ (s : StoreState). refuses_held s.streams (Drop name)) same) ∙ refuses_held-dropped (held_parts held) name part stands.named);
   stands = stands;
 }
 
@@ -224,70 +221,64 @@ module _ {store : StoreState} {catalog : List (List ℕ × StreamId)} {name : Li
   abbrev pub without_part : RecordsState → Bool → StoreState
   without_part now stopped = record { streams = remove store.streams place; records = now; stopped = stopped }
 
+  whole : AreWhole store.streams store.records.live
+  whole = is.takes.sound.whole is.takes.runs
+
   pub live-slots : AreSomeLive (slots_in_turn part) store.records.live
-  live-slots = AreSomeLive-turned store.streams store.records.live place part (is.sound.whole is.runs) is.stands.at
-
-  pub none-dropping : refuses_held store.streams (Drop name) ≡ None
-  none-dropping = refuses_held-dropped store.streams name part is.stands.named
-
-  pub kept-records : OfContent before (AreKept store.records)
-  kept-records told = (is.one_disk told).records
+  live-slots = AreSomeLive-turned store.streams store.records.live place part whole is.stands.at
 
   -- over every disk
   pub sound-undropped : (now : RecordsState) → IsSound (without_part now true) (without_name name catalog)
   sound-undropped now =
-      IsSound-dropped store catalog name place part now true is.sound is.runs is.stands (λ run. let wrong : true ≡ false = run in cc)
+      IsSound-dropped store catalog name place part now true is.takes.sound is.takes.runs is.stands (λ run. let wrong : true ≡ false = run in cc)
 
   pub sound-dropped : (now : RecordsState) → IsSettled now.journal → LiveSlotsGo (slots_in_turn part) [] store.records.live now.live →
       IsSound (without_part now store.stopped) (without_name name catalog)
   sound-dropped now settled live =
-      IsSound-dropped store catalog name place part now store.stopped is.sound is.runs is.stands (λ run. (settled, live))
+      IsSound-dropped store catalog name place part now store.stopped is.takes.sound is.takes.runs is.stands (λ run. (settled, live))
 
-  -- what the transactions do to the state
-  steps : {T E : Type 0} (now : RecordsState) (after : Told) (result : Result T E) → StoreIsKept store before.told.content →
-      StagesDrop part store.records now result before.told after → StepsState (Drop name) store.records now result before.told after
-  steps now after result whole stages =
-      let kept = whole.shown in
-      let streams = kept.streams in
-      let pair = IsPair-at store.streams streams place part kept.agree kept.state is.stands.at in
-      let others = others_of place store.streams streams in
-      StepsState-turns (Drop name) store.records now before.told after result streams (IsHeldBeside others part pair.stream streams)
-      (RecoversWithOrWithout pair.stream.number streams) (HasRecords others)
-      (Recovers-StoreIsIn store (shown_by store.records before.told.content) kept)
-      (IsHeldBeside-at store.streams streams name place part pair.stream kept.state kept.agree is.stands pair.here
-      (shown_by store.records before.told.content) kept.held)
-      (λ image left. either-dropped store.streams streams name place part pair.stream kept.state kept.agree is.stands pair.here image kept.closed left)
-      (λ image has. Recovers-remove store.streams streams name place part pair.stream kept.state kept.agree is.stands pair.here image kept.closed has)
-      (stages others pair.stream streams)
+  module _ (kept : StoreIsIn store (shown_by store.records before.told.content)) where
+    pair : IsPair store.streams kept.streams place part
+    pair = IsPair-at store.streams kept.streams place part kept.agree kept.state is.stands.at
 
-  kept-after : (now : RecordsState) (after : Told) (done : Unit {0}) → StoreIsKept store before.told.content → AreKept now after.content →
-      StagesDrop {T = Unit {0}} {E = Failed} part store.records now (Ok done) before.told after →
-      StoreIsKept (without_part now store.stopped) after.content
-  kept-after now after done whole are stages =
-      let kept = whole.shown in
-      let streams = kept.streams in
-      let pair = IsPair-at store.streams streams place part kept.agree kept.state is.stands.at in
-      let others = others_of place store.streams streams in
-      let has : HasRecords others (shown_by now after.content) =
-      (stages others pair.stream streams).content
-      (IsHeldBeside-at store.streams streams name place part pair.stream kept.state kept.agree is.stands pair.here
-      (shown_by store.records before.told.content) kept.held) in
-      record {
-        records = are;
-        shown = record {
-          streams = remove streams place;
-          state = IsState-remove store.streams streams name place part pair.stream kept.state kept.agree is.stands pair.here;
-          agree = AllAgree-remove store.streams streams place kept.agree;
-          held = HasRecords-remove store.streams streams name place part pair.stream kept.state kept.agree is.stands pair.here
-              (shown_by now after.content) has;
-          closed = closed-remove streams place kept.closed;
-        };
-      }
+    abbrev beside : List (ℕ × Option Record)
+    beside = others_of place store.streams kept.streams
+
+    held-beside : IsHeldBeside beside part pair.stream kept.streams (shown_by store.records before.told.content)
+    held-beside =
+        IsHeldBeside-at store.streams kept.streams name place part pair.stream kept.state kept.agree is.stands pair.here
+        (shown_by store.records before.told.content) kept.held
+
+    -- what the transactions do to the state
+    steps : {T E : Type 0} (now : RecordsState) (after : Told) (result : Result T E) →
+        StagesDrop part store.records now result before.told after → StepsState (Drop name) store.records now result before.told after
+    steps now after result stages =
+        StepsState-turns (Drop name) store.records now before.told after result kept.streams (IsHeldBeside beside part pair.stream kept.streams)
+        (RecoversWithOrWithout pair.stream.number kept.streams) (HasRecords beside)
+        (Recovers-StoreIsIn store (shown_by store.records before.told.content) kept) held-beside
+        (λ image left.
+        either-dropped store.streams kept.streams name place part pair.stream kept.state kept.agree is.stands pair.here image kept.closed left)
+        (λ image has.
+        Recovers-remove store.streams kept.streams name place part pair.stream kept.state kept.agree is.stands pair.here image kept.closed has)
+        (stages beside pair.stream kept.streams)
+
+    kept-after : (now : RecordsState) (after : List ℕ) → AreKept now after → HasRecords beside (shown_by now after) →
+        StoreIsKept (without_part now store.stopped) after
+    kept-after now after are has = record {
+      records = are;
+      shown = record {
+        streams = remove kept.streams place;
+        state = IsState-remove store.streams kept.streams name place part pair.stream kept.state kept.agree is.stands pair.here;
+        agree = AllAgree-remove store.streams kept.streams place kept.agree;
+        held = HasRecords-remove store.streams kept.streams name place part pair.stream kept.state kept.agree is.stands pair.here (shown_by now after) has;
+        closed = closed-remove kept.streams place kept.closed;
+      };
+    }
 
   said-dropped : (let zeros : Ack = record { n = 0; k = 0 } in zeros) ≡ said_of_held (part_named name (remove store.streams place))
   said-dropped =
       let none = find-none (λ (p : StreamParts). same_name name p.name) (remove store.streams place)
-      (names-apart name store.streams place part (is.sound.whole is.runs).names is.stands) in
+      (names-apart name store.streams place part whole.names is.stands) in
       rw none refl
 
   -- the event is applied
@@ -297,13 +288,12 @@ module _ {store : StoreState} {catalog : List (List ℕ × StreamId)} {name : Li
       (Ok done)) →
       Applies (Drop name) store (without_part now store.stopped) before after (Ok (record { n = 0; k = 0 }))
   applies-dropped now after done extent step =
-      Applies-done (Drop name) store (without_part now store.stopped) none-dropping before after (record { n = 0; k = 0 })
-      (step-from step (λ told made. (
-        StepsState-answers (Drop name) store.records now before.told after.told done (Ok (record { n = 0; k = 0 }))
-            (steps now after.told (Ok done) (is.one_disk told) made.changes),
-        kept-after now after.told done (is.one_disk told) made.kept made.changes,
-      )))
-      (λ none_left. refl) said-dropped (λ plain. let wrong : false ≡ true = plain in absurd (cc)) refl (omega (arith, extent))
+      applies-done is.takes (remove store.streams place) now after (record { n = 0; k = 0 }) done step
+      (λ kept made. (
+        steps kept now after.told (Ok done) made,
+        λ are. kept-after kept now after.told.content are ((made (beside kept) (pair kept).stream kept.streams).content (held-beside kept)),
+      ))
+      (omega (arith, extent)) (λ none_left. refl) said-dropped (λ plain. let wrong : false ≡ true = plain in absurd (cc))
 
   -- the disk failed
   pub applies-undropped : {used most : ℕ} (now : RecordsState) (after : DiskView) (e : Failed) →
@@ -311,8 +301,5 @@ module _ {store : StoreState} {catalog : List (List ℕ × StreamId)} {name : Li
       (StagesAtCost {T = Unit {0}} {E = Failed} (StagesDrop {T = Unit {0}} {E = Failed} part store.records now (Err e)) used most store.records now (Err e)) →
       Applies (Drop name) store (without_part now true) before after (Err Disk)
   applies-undropped now after e step =
-      Applies-failed (Drop name) store (without_part now true) none-dropping before after fault.Disk
-      (step-from step (λ told made.
-      StepsState-failed (Drop name) store.records now now before.told after.told (Err e) Disk
-      (steps now after.told (Err e) (is.one_disk told) made.changes)))
-      (λ told. tt) tt refl
+      applies-failed is.takes (remove store.streams place) now after fault.Disk (Err e) step
+      (λ kept made. (steps kept now after.told (Err e) made, tt)) tt

@@ -1,5 +1,5 @@
 -- The stream at the place where it was found by its name.
-use Rattle.ss_store.proofs.Common.{◌≡◌, ◌∙◌, ℕ, ◌<◌, List, get_or, length, refl, sym, ap, subst, None, Some, length-map, same_Some, slice_get_read, HeldStream, StreamParts, parts_of}
+use Rattle.ss_store.proofs.Common.{◌≡◌, ◌∙◌, ℕ, ◌<◌, List, get_or, length, refl, sym, ap, subst, None, Some, length-map, same_Some, slice_get_read, HeldStream, StreamParts, held_parts}
 use Rattle.ss_store.proofs.Common.{slots_in_turn, part_named, IsPlaceOf}
 use Rattle.std.specs.Prelude.{Option}
 use Rattle.ss_store.proofs.IndexedStreams.{parts-read}
@@ -10,14 +10,14 @@ pub none-found : {found : Option ℕ} (parts : List StreamParts) (name : List �
 none-found parts name is place = subst (IsPlaceOf name parts) is place
 
 -- the streams that are held have the place
-pub inside-found : (held : List HeldStream) {parts : List StreamParts} {found : Option ℕ} {place : ℕ} (name : List ℕ) → parts_of held ≡ parts →
+pub inside-found : (held : List HeldStream) {parts : List StreamParts} {found : Option ℕ} {place : ℕ} (name : List ℕ) → held_parts held ≡ parts →
     found ≡ Some place → IsPlaceOf name parts found → place < length held
 inside-found held {parts} {found} {place} name same is at =
     subst (λ n. place < n) (ap length (sym same) ∙ length-map held (λ (h : HeldStream). h.part)) (subst (IsPlaceOf name parts) is at).0
 
 -- what is read there is the stream of the name
 pub IsAtPlace-found : (held : List HeldStream) {parts : List StreamParts} {found : Option ℕ} {place : ℕ} {stream : HeldStream} (name : List ℕ) →
-    parts_of held ≡ parts → found ≡ Some place → IsPlaceOf name parts found → stream ≡ get_or held place stream →
+    held_parts held ≡ parts → found ≡ Some place → IsPlaceOf name parts found → stream ≡ get_or held place stream →
     IsAtPlace name place parts stream.part
 IsAtPlace-found held {parts} {found} {place} {stream} name same is place_is read =
     let it = subst (IsPlaceOf name parts) is place_is in
@@ -31,8 +31,8 @@ pub record IsTakenOut (name : List ℕ) (place : ℕ) (parts : List StreamParts)
   pub slots : listed ≡ slots_in_turn part
 
 pub IsTakenOut-found : (held : List HeldStream) {parts : List StreamParts} {found : Option ℕ} {place : ℕ} {read stream : HeldStream} {slots : List ℕ}
-    (name : List ℕ) → parts_of held ≡ parts → found ≡ Some place → IsPlaceOf name parts found → read ≡ get_or held place read →
-    stream ≡ get_or held place stream → slots ≡ slots_in_turn read.part → IsTakenOut name place (parts_of held) stream.part slots
+    (name : List ℕ) → held_parts held ≡ parts → found ≡ Some place → IsPlaceOf name parts found → read ≡ get_or held place read →
+    stream ≡ get_or held place stream → slots ≡ slots_in_turn read.part → IsTakenOut name place (held_parts held) stream.part slots
 IsTakenOut-found held {parts} {found} {place} {read} {stream} {slots} name same is place_is first second all =
     let here = subst (λ l. IsPlaceOf name l found) (sym same) place_is in
     let at = IsAtPlace-found held name refl is here second in

@@ -22,10 +22,6 @@ pub IsJoinedIn-none : (others : List (ℕ × Option Record)) (part : StreamParts
     IsJoinedIn others part s image
 IsJoinedIn-none others part s image held = record { windows = s.windows; joins = (0, refl); held = held }
 
-pub IsPartlyJoined-joined : (others : List (ℕ × Option Record)) (part : StreamParts) (s : Stream) (image : List ℕ) → IsJoinedIn others part s image →
-    IsPartlyJoined others s image
-IsPartlyJoined-joined others part s image is = record { part = part; windows = is.windows; joins = is.joins; held = is.held }
-
 -- where reading gave no failure of a record
 pub IsFirm-read : (T : Type 0) (summary : Figures) (failure : ReadError) → IsRead summary (Err failure) → IsFirm (verdict_of_read {T = T} (Err failure))
 IsFirm-read T summary fault.Disk read = tt

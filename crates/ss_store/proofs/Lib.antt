@@ -47,7 +47,7 @@ pub mod RowsHeld
 pub mod Stepping
 pub mod Created
 pub mod Valued
-pub mod Appended
+pub mod Spared
 pub mod Decays
 pub mod Looking
 pub mod WindowsRead
@@ -73,6 +73,7 @@ pub mod Steps
 pub mod Applying
 pub mod Sealed
 pub mod Taking
+pub mod ValueTaking
 pub mod MarkTaking
 pub mod Creating
 pub mod Dropped

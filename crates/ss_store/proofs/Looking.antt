@@ -1,9 +1,9 @@
 -- A look at a store: the part that is read, and what a failure leaves.
 use Rattle.ss_store.proofs.Common.{◌≡◌, ◌∙◌, ℕ, true, false, List, get_or, sym, ap, subst, Some, None, Err, IsTrue, IsSome, slice_get, DiskView, IfChanged}
-use Rattle.ss_store.proofs.Common.{IsFirm, HeldStream, StreamParts, parts_of, verdict_of_read, ReadError, Looks, ask_of_fault, verdict_of_ask, StoreState, part_numbered, AskError}
+use Rattle.ss_store.proofs.Common.{IsFirm, HeldStream, StreamParts, held_parts, verdict_of_read, ReadError, Looks, ask_of_fault, verdict_of_ask, StoreState, part_numbered, AskError}
 use Rattle.std.specs.Prelude.{Option}
 use Rattle.ss_query.specs.declared.read_error.ReadError.TheVariants as error
-use Rattle.ss_store.proofs.Appended.{part-read}
+use Rattle.ss_store.proofs.Spared.{part-read}
 use Rattle.ss_store.proofs.IndexedStreams.{parts-read}
 
 -- what is read at the place of a stream that stands
@@ -17,7 +17,7 @@ pub record IsPartAt (parts : List StreamParts) (number place : ℕ) (part : Stre
   pub numbered : part_numbered number parts ≡ Some part
   pub at : slice_get parts place ≡ Some part
 
-pub IsPartAt-read : (held : List HeldStream) {parts : List StreamParts} {number place : ℕ} {stream : HeldStream} → parts_of held ≡ parts →
+pub IsPartAt-read : (held : List HeldStream) {parts : List StreamParts} {number place : ℕ} {stream : HeldStream} → held_parts held ≡ parts →
     slice_get parts place ≡ part_numbered number parts → IsSome (part_numbered number parts) → stream ≡ get_or held place stream →
     IsPartAt parts number place stream.part
 IsPartAt-read held {parts} {number} {place} {stream} same at stands read =

@@ -37,9 +37,6 @@ counted-at (p ∷ ps) (s ∷ ss) (suc n) part each are inside at =
     let fewer = sum_by-cons (λ (u : Stream). length (closed_stream u).windows) s (take n ss) in
     (found.0, found.1, found.2, omega (arith, counts, more, fewer))
 
-pub AreSurveyed-none : (parts : List StreamParts) → AreSurveyed parts 0 (record { streams = 0; windows = 0; landmarks = 0; values = 0 })
-AreSurveyed-none parts = record { few = omega arith; streams = refl; windows = λ all are each. refl; landmarks = refl; values = refl }
-
 -- how many slots a stream holds, and the streams before it
 slots-more : (parts : List StreamParts) (n : ℕ) (part : StreamParts) → n < length parts → part ≡ get_or parts n part →
     length (flat_map slots_held (take (n + 1) parts)) ≡ length (flat_map slots_held (take n parts)) + length (slots_held part)

@@ -1,5 +1,5 @@
 -- What a call makes of what a disk stands for, also in a crash.
-use Rattle.std.specs.Prelude.{◌≡◌, ◌⊎◌, ℕ, ◌+◌, ◌*◌, ◌≤◌, List, [], ◌∷◌, ◌++◌, Option, Result, OnOk}
+use Rattle.std.specs.Prelude.{◌≡◌, ◌⊎◌, ℕ, ◌+◌, ◌*◌, ◌≤◌, List, [], ◌∷◌, ◌++◌, Option, Result, OnOk, ⊤}
 use Rattle.ss_catalog.specs.declared.event.Event.{Event}
 use Rattle.ss_outside.specs.Crash.{LeavesOnly}
 use Rattle.ss_outside.specs.Disk.{Told, NothingPending, SyncsAtMost}
@@ -110,6 +110,11 @@ pub record StagesAtCost {T E : Type 0} (change : Told → Told → Type 0) (used
   pub kept : OnOk result (AreKept is new.content)
   pub within : StaysWithin used was is result old new
   pub syncs : SyncsToStage most was is result old new
+
+-- What staging an event costs a store that held so many records: no more slots are used than for these and one, and room is made for
+-- so many transactions and two at most.
+abbrev pub CostsEvent : {T E : Type 0} → ℕ → RecordsState → RecordsState → Result T E → Told → Told → Type 0
+CostsEvent records was is result = StagesAtCost (λ old new. ⊤) (records + 1) (records + 2) was is result
 
 -- A call that seals what it stages makes two syncs besides.
 pub record SyncsToApply (most : ℕ) (was : RecordsState) (old new : Told) : Type 0 where

@@ -1,5 +1,5 @@
--- One stream among others: what is held of it in memory, and its records.
-use Rattle.std.specs.Prelude.{◌≡◌, ◌⊎◌, ℕ, ℤ, ◌+◌, List, [], ◌∷◌, ◌++◌, Option}
+-- What is held in memory of streams, and of one among others with its records.
+use Rattle.std.specs.Prelude.{◌≡◌, ◌⊎◌, ℕ, ℤ, ◌+◌, List, [], ◌∷◌, ◌++◌, map, Option}
 use Rattle.ss_codec.specs.declared.record.Record.{Record}
 use Rattle.ss_line.specs.declared.entry.Entry.{Entry}
 use Rattle.ss_summary.specs.Points.{New}
@@ -11,6 +11,11 @@ use Rattle.ss_model.specs.declared.types.Window.{Window}
 use Rattle.ss_recover.specs.Held.{RiseToLast, TileFrom, entries_of}
 use Rattle.ss_recover.specs.declared.parts.StreamParts.{StreamParts}
 use Rattle.ss_query.specs.Held.{IsHeldIn}
+use Rattle.ss_store.specs.declared.held.HeldStream.{HeldStream}
+
+-- what the records of streams that are held say
+abbrev pub held_parts : List HeldStream → List StreamParts
+held_parts held = map (λ (stream : HeldStream). stream.part) held
 
 -- a stream with these windows in place of its own
 abbrev pub with_windows : Stream → List Window → Stream

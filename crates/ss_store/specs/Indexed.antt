@@ -18,10 +18,6 @@ use Rattle.ss_store.specs.Changing.{HoldsUntil, KeepsWhole, NoneAreDue}
 use Rattle.ss_store.specs.Held.{IsOrdered, values_held}
 use Rattle.ss_store.specs.declared.held.HeldStream.{HeldStream}
 
--- what the records of streams that are held say
-abbrev pub parts_of : List HeldStream → List StreamParts
-parts_of held = map (λ (stream : HeldStream). stream.part) held
-
 -- when the first value of a window came, and where the window stands
 abbrev pub begun_at : At × Entry → ℕ × At
 begun_at e = (e.1.t_first, e.0)

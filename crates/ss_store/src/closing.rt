@@ -76,103 +76,104 @@ fn read_joined<D: Disk, R: Ledger, S: Ledger>(
     Ok(Summary::join(older, newer))
 }
 
-// Stages the join of two neighbouring windows that are due, as one transaction.
-fn join<D: Disk, L: Ledger>(
-    stream: &mut HeldStream,
-    records: &mut Records,
-    disk: &mut D,
-    pair: Pair,
-    steps: &mut Steps<L>,
-) -> Result<(), ReadError>
-    requires due { IsDuePair stream.old pair }
-    requires settled { IsSettled records.old.journal }
-    requires live { AreSomeLive (slots_held stream.old.part) records.old.live }
-    requires one_disk { OfContent (D.seen disk.old) (AreKept records.old) }
-    ensures joins { Step (verdict_of_read result) (D.seen disk.old) (D.seen disk.new)
-        (StagesAtCost (JoinsWindows stream.old.part stream.new.part records.old records.new result) 0 1 records.old records.new result) }
-    ensures same { IsSameStream stream.old.part stream.new.part }
-    ensures stands { OnOk result (StandsAfter stream.old.part stream.new records.old records.new 0
-        (values_held (entries_of stream.old.part)) stream.old.part.last_time) }
-    ensures fewer { OnOk result (length stream.new.part.line.entries + 1 ≡ length stream.old.part.line.entries) }
-    ensures err { OnErr result (stream.new.part ≡ stream.old.part) }
-    ensures changed { ChangedIsHeld (verdict_of_read result) stream.old.part }
-    ensures looks { OnOk result (steps.new ≤ steps.old + 9) }
-{
-    let window = stream.part.line.get(pair.left, steps);
-    let next = stream.part.line.get(pair.right, steps);
-    let number = stream.part.id.0;
-    let joined = Record::Window {
-        id: number,
-        first: window.first,
-        summary: read_joined::<D, Brand, Brand>(
-            records,
-            disk,
-            &stream.part,
-            window,
-            next,
-            Blank::new(1),
-            Blank::new(1),
-        )?,
-    };
-    stage_two(records, disk, window.slot, next.slot, &joined)?;
-    let n = values_held(&stream.part, steps);
-    stream
-        .index
-        .merged(&mut stream.part.line, pair, next.t_first, n, steps);
-    Ok(())
-}
-
-/// Stages the joins of neighbours, each two as one transaction, until no two may be one.
-pub fn stage_joins<D: Disk, L: Ledger>(
-    stream: &mut HeldStream,
-    records: &mut Records,
-    disk: &mut D,
-    steps: &mut Steps<L>,
-) -> Result<(), ReadError>
-    requires keyed { IsKeyedFor stream.old }
-    requires settled { IsSettled records.old.journal }
-    requires ordered { IsOrdered stream.old.part }
-    requires live { AreSomeLive (slots_held stream.old.part) records.old.live }
-    requires one_disk { OfContent (D.seen disk.old) (AreKept records.old) }
-    ensures closes { Step (verdict_of_read result) (D.seen disk.old) (D.seen disk.new)
-        (StagesAtCost (StagesJoins stream.old.part stream.new.part records.old records.new result) 0 (length stream.old.part.line.entries + 1)
-        records.old records.new result) }
-    ensures same { IsSameStream stream.old.part stream.new.part }
-    ensures stands { OnOk result (StandsAfter stream.old.part stream.new records.old records.new 0
-        (values_held (entries_of stream.old.part)) stream.old.part.last_time) }
-    ensures none_due { OnOk result (NoneAreDue stream.new.part) }
-    ensures changed { ChangedIsHeld (verdict_of_read result) stream.new.part }
-    // It looks at the line 11 times for each join, and once besides.
-    ensures looks { OnOk result (steps.new + 11 * length stream.new.part.line.entries ≤ steps.old + 11 * length stream.old.part.line.entries + 1) }
-{
-    let n = values_held(&stream.part, steps);
-    while let Some(pair) = stream.index.due(&stream.part.line, n, steps) {
-        join(stream, records, disk, pair, steps)?;
+impl HeldStream {
+    // Stages the join of two neighbouring windows that are due, as one transaction.
+    fn join<D: Disk, L: Ledger>(
+        &mut self,
+        records: &mut Records,
+        disk: &mut D,
+        pair: Pair,
+        steps: &mut Steps<L>,
+    ) -> Result<(), ReadError>
+        requires due { IsDuePair self.old pair }
+        requires settled { IsSettled records.old.journal }
+        requires live { AreSomeLive (slots_held self.old.part) records.old.live }
+        requires one_disk { OfContent (D.seen disk.old) (AreKept records.old) }
+        ensures joins { Step (verdict_of_read result) (D.seen disk.old) (D.seen disk.new)
+            (StagesAtCost (JoinsWindows self.old.part self.new.part records.old records.new result) 0 1 records.old records.new result) }
+        ensures same { IsSameStream self.old.part self.new.part }
+        ensures stands { OnOk result (StandsAfter self.old.part self.new records.old records.new 0
+            (values_held (entries_of self.old.part)) self.old.part.last_time) }
+        ensures fewer { OnOk result (length self.new.part.line.entries + 1 ≡ length self.old.part.line.entries) }
+        ensures err { OnErr result (self.new.part ≡ self.old.part) }
+        ensures changed { ChangedIsHeld (verdict_of_read result) self.old.part }
+        ensures looks { OnOk result (steps.new ≤ steps.old + 9) }
+    {
+        let window = self.part.line.get(pair.left, steps);
+        let next = self.part.line.get(pair.right, steps);
+        let number = self.part.id.0;
+        let joined = Record::Window {
+            id: number,
+            first: window.first,
+            summary: read_joined::<D, Brand, Brand>(
+                records,
+                disk,
+                &self.part,
+                window,
+                next,
+                Blank::new(1),
+                Blank::new(1),
+            )?,
+        };
+        stage_two(records, disk, window.slot, next.slot, &joined)?;
+        let n = values_held(&self.part, steps);
+        self.index
+            .merged(&mut self.part.line, pair, next.t_first, n, steps);
+        Ok(())
     }
-    Ok(())
-}
 
-/// Joins neighbours, each two as one transaction, until no two may be one. All come to the disk together.
-pub fn close_windows<D: Disk, L: Ledger>(
-    stream: &mut HeldStream,
-    records: &mut Records,
-    disk: &mut D,
-    steps: &mut Steps<L>,
-) -> Result<(), ReadError>
-    requires keyed { IsKeyedFor stream.old }
-    requires at_rest { AreAtRest records.old }
-    requires ordered { IsOrdered stream.old.part }
-    requires live { AreSomeLive (slots_held stream.old.part) records.old.live }
-    requires one_disk { OfContent (D.seen disk.old) (AreKept records.old) }
-    ensures closes { Step (verdict_of_read result) (D.seen disk.old) (D.seen disk.new)
-        (ClosesStream stream.old.part stream.new.part records.new result) }
-    ensures same { IsSameStream stream.old.part stream.new.part }
-    ensures whole { OnOk result (KeepsAtRest stream.old.part stream.new.part records.old records.new 0) }
-    ensures holds { OnOk result (HoldsUntil stream.new.part (values_held (entries_of stream.old.part)) stream.old.part.last_time) }
-    ensures scheduled { OnOk result (IsScheduled stream.new) }
-    ensures changed { ChangedIsHeld (verdict_of_read result) stream.new.part }
-{
-    stage_joins(stream, records, disk, steps)?;
-    records.seal(disk)?;
-    Ok(())
+    /// Stages the joins of neighbours, each two as one transaction, until no two may be one.
+    pub fn stage_joins<D: Disk, L: Ledger>(
+        &mut self,
+        records: &mut Records,
+        disk: &mut D,
+        steps: &mut Steps<L>,
+    ) -> Result<(), ReadError>
+        requires keyed { IsKeyedFor self.old }
+        requires settled { IsSettled records.old.journal }
+        requires ordered { IsOrdered self.old.part }
+        requires live { AreSomeLive (slots_held self.old.part) records.old.live }
+        requires one_disk { OfContent (D.seen disk.old) (AreKept records.old) }
+        ensures closes { Step (verdict_of_read result) (D.seen disk.old) (D.seen disk.new)
+            (StagesAtCost (StagesJoins self.old.part self.new.part records.old records.new result) 0 (length self.old.part.line.entries + 1)
+            records.old records.new result) }
+        ensures same { IsSameStream self.old.part self.new.part }
+        ensures stands { OnOk result (StandsAfter self.old.part self.new records.old records.new 0
+            (values_held (entries_of self.old.part)) self.old.part.last_time) }
+        ensures none_due { OnOk result (NoneAreDue self.new.part) }
+        ensures changed { ChangedIsHeld (verdict_of_read result) self.new.part }
+        // It looks at the line 11 times for each join, and once besides.
+        ensures looks { OnOk result (steps.new + 11 * length self.new.part.line.entries ≤ steps.old + 11 * length self.old.part.line.entries + 1) }
+    {
+        let n = values_held(&self.part, steps);
+        while let Some(pair) = self.index.due(&self.part.line, n, steps) {
+            self.join(records, disk, pair, steps)?;
+        }
+        Ok(())
+    }
+
+    /// Joins neighbours, each two as one transaction, until no two may be one. All come to the disk together.
+    pub fn close_windows<D: Disk, L: Ledger>(
+        &mut self,
+        records: &mut Records,
+        disk: &mut D,
+        steps: &mut Steps<L>,
+    ) -> Result<(), ReadError>
+        requires keyed { IsKeyedFor self.old }
+        requires at_rest { AreAtRest records.old }
+        requires ordered { IsOrdered self.old.part }
+        requires live { AreSomeLive (slots_held self.old.part) records.old.live }
+        requires one_disk { OfContent (D.seen disk.old) (AreKept records.old) }
+        ensures closes { Step (verdict_of_read result) (D.seen disk.old) (D.seen disk.new)
+            (ClosesStream self.old.part self.new.part records.new result) }
+        ensures same { IsSameStream self.old.part self.new.part }
+        ensures whole { OnOk result (KeepsAtRest self.old.part self.new.part records.old records.new 0) }
+        ensures holds { OnOk result (HoldsUntil self.new.part (values_held (entries_of self.old.part)) self.old.part.last_time) }
+        ensures scheduled { OnOk result (IsScheduled self.new) }
+        ensures changed { ChangedIsHeld (verdict_of_read result) self.new.part }
+    {
+        self.stage_joins(records, disk, steps)?;
+        records.seal(disk)?;
+        Ok(())
+    }
 }

@@ -3,8 +3,8 @@ ghost use Rattle.std.specs.Prelude.{◌≡◌, ◌+◌, ◌<◌, ℕ, All, IfOk,
 ghost use Rattle.ss_line.specs.Line.{StandsIn, index_of};
 ghost use Rattle.ss_schedule.specs.Keyed.{FollowUpTo, HasPlaces, IsKeyed};
 ghost use Rattle.ss_recover.specs.Held.{TimesRise, entries_of};
-ghost use Rattle.ss_store.specs.Held.{IsOrdered, values_held};
-ghost use Rattle.ss_store.specs.Indexed.{IsKeyedAt, IsKeyedFor, IsTimed, parts_of};
+ghost use Rattle.ss_store.specs.Held.{IsOrdered, held_parts, values_held};
+ghost use Rattle.ss_store.specs.Indexed.{IsKeyedAt, IsKeyedFor, IsTimed};
 
 use crate::closing::values_held;
 use crate::held::HeldStream;
@@ -90,7 +90,7 @@ pub fn held_streams<L: Ledger>(
     steps: &mut Steps<L>,
 ) -> Result<Vec<HeldStream>, AllocError>
     requires { All IsOrdered parts.items }
-    ensures parts { IfOk result (λ streams. parts_of streams.items ≡ parts.items) }
+    ensures parts { IfOk result (λ streams. held_parts streams.items ≡ parts.items) }
     ensures keyed { IfOk result (λ streams. All IsKeyedFor streams.items) }
 {
     let mut streams = Vec::with_capacity(alloc, parts.len())?;

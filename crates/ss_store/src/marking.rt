@@ -17,6 +17,7 @@ ghost use Rattle.ss_store.specs.Changing.{CanTakeMark, HasSameWindows, HasRoomFo
 ghost use Rattle.ss_store.specs.Marking.{CanMark, FitsMark, landmarks_after, mark_record, slots_after, slots_used, start_open, value_slots_after, values_open};
 ghost use Rattle.ss_store.specs.Slots.{AreSomeLive};
 
+use crate::held::HeldStream;
 use crate::place::number_of;
 use crate::writing::{stage_record, stage_replaced};
 use ss_catalog::LAST_TIME;
@@ -126,35 +127,39 @@ fn later(last_time: Option<u64>, t: u64) -> u64
     }
 }
 
-/// Opens a landmark of a stream, adds a value to the open one, or closes it, and stages that as one transaction. There is room
-/// for what is kept of it.
-pub fn put_mark<D: Disk>(
-    records: &mut Records,
-    disk: &mut D,
-    part: &mut StreamParts,
-    slot: u32,
-    t: u64,
-    mark: Mark,
-) -> Result<(), Failed>
-    requires settled { IsSettled records.old.journal }
-    requires can { CanTakeMark records.old part.old slot t mark }
-    requires time { t ≤ LAST_TIME }
-    requires live { AreSomeLive (slots_held part.old) records.old.live }
-    requires one_disk { OfContent (D.seen disk.old) (AreKept records.old) }
-    ensures takes { Step (verdict result) (D.seen disk.old) (D.seen disk.new)
-        (StagesAtCost (TakesMark part.old part.new t mark records.old records.new result) (slots_used mark slot) 1 records.old records.new result) }
-    ensures fits { FitsMark mark }
-    ensures same { HasSameWindows part.old part.new }
-    ensures taken { OnOk result (HasTakenMark part.old part.new t mark) }
-    ensures whole { OnOk result (KeepsWhole part.old part.new records.old records.new (slots_used mark slot)) }
-    ensures err { OnErr result (part.new ≡ part.old) }
-{
-    let written = record_of(part, t, mark);
-    match mark {
-        Mark::Open | Mark::Value(_) => stage_record(records, disk, slot, &written)?,
-        Mark::Close => stage_replaced(records, disk, slot, &written)?,
+impl HeldStream {
+    /// Opens a landmark of a stream, adds a value to the open one, or closes it, and stages that as one transaction. There is room
+    /// for what is kept of it.
+    pub fn put_mark<D: Disk>(
+        &mut self,
+        records: &mut Records,
+        disk: &mut D,
+        slot: u32,
+        t: u64,
+        mark: Mark,
+    ) -> Result<(), Failed>
+        requires settled { IsSettled records.old.journal }
+        requires can { CanTakeMark records.old self.old.part slot t mark }
+        requires time { t ≤ LAST_TIME }
+        requires live { AreSomeLive (slots_held self.old.part) records.old.live }
+        requires one_disk { OfContent (D.seen disk.old) (AreKept records.old) }
+        ensures takes { Step (verdict result) (D.seen disk.old) (D.seen disk.new)
+            (StagesAtCost (TakesMark self.old.part self.new.part t mark records.old records.new result) (slots_used mark slot) 1
+            records.old records.new result) }
+        ensures fits { FitsMark mark }
+        ensures same { HasSameWindows self.old.part self.new.part }
+        ensures index { self.new.index ≡ self.old.index }
+        ensures taken { OnOk result (HasTakenMark self.old.part self.new.part t mark) }
+        ensures whole { OnOk result (KeepsWhole self.old.part self.new.part records.old records.new (slots_used mark slot)) }
+        ensures err { OnErr result (self.new.part ≡ self.old.part) }
+    {
+        let written = record_of(&self.part, t, mark);
+        match mark {
+            Mark::Open | Mark::Value(_) => stage_record(records, disk, slot, &written)?,
+            Mark::Close => stage_replaced(records, disk, slot, &written)?,
+        }
+        take_mark(&mut self.part.landmarks, slot, t, mark);
+        self.part.last_time = Some(later(self.part.last_time, t));
+        Ok(())
     }
-    take_mark(&mut part.landmarks, slot, t, mark);
-    part.last_time = Some(later(part.last_time, t));
-    Ok(())
 }

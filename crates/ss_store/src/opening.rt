@@ -16,11 +16,11 @@ ghost use Rattle.ss_query.specs.Reading.{verdict_of_read};
 ghost use Rattle.ss_store.specs.Kept.{entry_of};
 ghost use Rattle.ss_store.specs.Rebuilt.{ReadsAll};
 ghost use Rattle.ss_store.specs.Settling.{SettlesAll};
-ghost use Rattle.ss_store.specs.Indexed.{IsKeyedFor, IsScheduled, parts_of};
+ghost use Rattle.ss_store.specs.Held.{held_parts};
+ghost use Rattle.ss_store.specs.Indexed.{IsKeyedFor, IsScheduled};
 
 use crate::OpenError;
 use crate::clearing::clear_all;
-use crate::closing::close_windows;
 use crate::held::HeldStream;
 use ss_catalog::Catalog;
 use ss_journal::Journal;
@@ -70,20 +70,20 @@ pub fn close_all<D: Disk, L: Ledger>(
     steps: &mut Steps<L>,
 ) -> Result<(), ReadError>
     requires at_rest { AreAtRest records.old }
-    requires whole { AreWhole (parts_of streams.old) records.old.live }
+    requires whole { AreWhole (held_parts streams.old) records.old.live }
     requires keyed { All IsKeyedFor streams.old }
     requires one_disk { OfContent (D.seen disk.old) (AreKept records.old) }
     ensures closes { Step (verdict_of_read result) (D.seen disk.old) (D.seen disk.new)
-        (ClosesAll (parts_of streams.old) (parts_of streams.new) records.new result) }
+        (ClosesAll (held_parts streams.old) (held_parts streams.new) records.new result) }
     ensures extent { OnOk result (records.new.journal.extent ≤ records.old.journal.extent) }
-    ensures entries { map entry_of (parts_of streams.new) ≡ map entry_of (parts_of streams.old) }
-    ensures whole { OnOk result (AreWhole (parts_of streams.new) records.new.live) }
+    ensures entries { map entry_of (held_parts streams.new) ≡ map entry_of (held_parts streams.old) }
+    ensures whole { OnOk result (AreWhole (held_parts streams.new) records.new.live) }
     ensures at_rest { OnOk result (AreAtRest records.new) }
     ensures scheduled { OnOk result (All IsScheduled streams.new) }
-    ensures changed { SomeChangedIsHeld (verdict_of_read result) (parts_of streams.new) }
+    ensures changed { SomeChangedIsHeld (verdict_of_read result) (held_parts streams.new) }
 {
     for place in 0..streams.len() {
-        close_windows(&mut streams[place], records, disk, steps)?;
+        streams[place].close_windows(records, disk, steps)?;
     }
     Ok(())
 }
@@ -98,17 +98,17 @@ pub fn settle_all<D: Disk, L: Ledger>(
 ) -> Result<(), ReadError>
     requires running { IsRunning records.old.journal }
     requires sealed { IsSealed records.old.journal }
-    requires whole { AreWholeBeside doomed.now (parts_of streams.old) records.old.live }
+    requires whole { AreWholeBeside doomed.now (held_parts streams.old) records.old.live }
     requires keyed { All IsKeyedFor streams.old }
     requires one_disk { OfContent (D.seen disk.old) (AreKept records.old) }
     ensures settles { Step (verdict_of_read result) (D.seen disk.old) (D.seen disk.new)
-        (SettlesAll doomed.now (parts_of streams.old) (parts_of streams.new) records.new result) }
+        (SettlesAll doomed.now (held_parts streams.old) (held_parts streams.new) records.new result) }
     ensures extent { OnOk result (records.new.journal.extent ≤ records.old.journal.extent) }
-    ensures entries { map entry_of (parts_of streams.new) ≡ map entry_of (parts_of streams.old) }
-    ensures whole { OnOk result (AreWhole (parts_of streams.new) records.new.live) }
+    ensures entries { map entry_of (held_parts streams.new) ≡ map entry_of (held_parts streams.old) }
+    ensures whole { OnOk result (AreWhole (held_parts streams.new) records.new.live) }
     ensures at_rest { OnOk result (AreAtRest records.new) }
     ensures scheduled { OnOk result (All IsScheduled streams.new) }
-    ensures changed { SomeChangedIsHeld (verdict_of_read result) (parts_of streams.new) }
+    ensures changed { SomeChangedIsHeld (verdict_of_read result) (held_parts streams.new) }
 {
     records.settle(disk)?;
     clear_all(records, disk, doomed)?;

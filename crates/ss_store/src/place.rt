@@ -2,7 +2,7 @@
 ghost use Rattle.std.specs.Prelude.{◌≡◌, ◌<◌, ◌↔◌, length, slice_get, IsTrue, IsNone, IsSome, IfSome};
 ghost use Rattle.std.specs.List.Sorted.{IsStrictlyIncreasing};
 ghost use Rattle.ss_model.specs.State.{next_number};
-ghost use Rattle.ss_store.specs.Indexed.{parts_of};
+ghost use Rattle.ss_store.specs.Held.{held_parts};
 ghost use Rattle.ss_store.specs.Kept.{has_all_numbers, numbers_held, part_numbered};
 
 use crate::held::HeldStream;
@@ -11,10 +11,10 @@ use ss_recover::StreamParts;
 
 // The place of the stream of a number, from 0: by halves, since numbers rise in order of creation.
 pub fn place_of(streams: &[HeldStream], id: StreamId) -> usize
-    requires rising { IsStrictlyIncreasing (numbers_held (parts_of streams.now)) }
-    requires stands { IsSome (part_numbered id.0 (parts_of streams.now)) }
+    requires rising { IsStrictlyIncreasing (numbers_held (held_parts streams.now)) }
+    requires stands { IsSome (part_numbered id.0 (held_parts streams.now)) }
     ensures inside { result < length streams.now }
-    ensures at { slice_get (parts_of streams.now) result ≡ part_numbered id.0 (parts_of streams.now) }
+    ensures at { slice_get (held_parts streams.now) result ≡ part_numbered id.0 (held_parts streams.now) }
 {
     let mut low = 0;
     let mut high = streams.len();
@@ -38,9 +38,9 @@ pub fn number_of(stream: &StreamParts) -> u32
 
 // The number of a new stream, if there is a place and a number for one.
 pub fn next_id(streams: &[HeldStream]) -> Option<StreamId>
-    requires { IsStrictlyIncreasing (numbers_held (parts_of streams.now)) }
-    ensures none { IsNone result ↔ IsTrue (has_all_numbers (numbers_held (parts_of streams.now))) }
-    ensures value { IfSome result (λ id. id.0 ≡ next_number (numbers_held (parts_of streams.now))) }
+    requires { IsStrictlyIncreasing (numbers_held (held_parts streams.now)) }
+    ensures none { IsNone result ↔ IsTrue (has_all_numbers (numbers_held (held_parts streams.now))) }
+    ensures value { IfSome result (λ id. id.0 ≡ next_number (numbers_held (held_parts streams.now))) }
 {
     if streams.len() >= MOST_STREAMS as usize {
         return None;

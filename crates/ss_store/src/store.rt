@@ -38,14 +38,15 @@ pub struct Store {
 impl Model for Store {
     ghost use Rattle.std.specs.Prelude.{◌≡◌, false, All};
     ghost use Rattle.ss_store.specs.Kept.{IsSound, StoreState};
-    ghost use Rattle.ss_store.specs.Indexed.{IsScheduled, parts_of};
+    ghost use Rattle.ss_store.specs.Held.{held_parts};
+    ghost use Rattle.ss_store.specs.Indexed.{IsScheduled};
 
     ghost Value = { StoreState };
 
-    ghost view = { λ s. record { streams = parts_of s.streams.items; records = s.records; stopped = s.stopped } };
+    ghost view = { λ s. record { streams = held_parts s.streams.items; records = s.records; stopped = s.stopped } };
 
     ghost invariant = { λ s.
-        IsSound (record { streams = parts_of s.streams.items; records = s.records; stopped = s.stopped }) s.catalog
+        IsSound (record { streams = held_parts s.streams.items; records = s.records; stopped = s.stopped }) s.catalog
         × (s.stopped ≡ false → All IsScheduled s.streams.items) };
 }
 

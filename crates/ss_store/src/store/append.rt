@@ -2,7 +2,6 @@
 use super::Store;
 use super::times::is_past;
 use crate::ApplyError;
-use crate::appending::append_value;
 use crate::closing::values_held;
 use ss_catalog::{LAST_TIME, Name, Refusal};
 use ss_model::Ack;
@@ -19,7 +18,7 @@ impl Store {
     ghost use Rattle.ss_model.specs.Marks.{has_open};
     ghost use Rattle.ss_store.specs.Admitted.{IsTaker};
     ghost use Rattle.ss_store.specs.Applied.{Applies};
-    ghost use Rattle.ss_store.specs.Calls.{StaysWithin, SyncsToStage};
+    ghost use Rattle.ss_store.specs.Calls.{CostsEvent};
     ghost use Rattle.ss_store.specs.Errors.{verdict_of_apply};
     ghost use Rattle.ss_store.specs.Extents.{records_in};
     ghost use Rattle.ss_store.specs.Kept.{StoreIsKept, of_part, refuses_held};
@@ -74,10 +73,8 @@ impl Store {
         requires plain { of_part name.now self.old.streams (λ part. has_open part.landmarks.landmarks) ≡ false }
         requires one_disk { OfContent (D.seen disk.old) (StoreIsKept self.old) }
         ensures applies { Applies (Value name.now t v) self.old self.new (D.seen disk.old) (D.seen disk.new) result }
-        ensures within { Between (D.seen disk.old) (D.seen disk.new)
-            (StaysWithin (records_in self.old + 1) self.old.records self.new.records result) }
-        ensures syncs { Between (D.seen disk.old) (D.seen disk.new)
-            (SyncsToStage (records_in self.old + 2) self.old.records self.new.records result) }
+        ensures costs { Between (D.seen disk.old) (D.seen disk.new)
+            (CostsEvent (records_in self.old) self.old.records self.new.records result) }
         ensures running { result ≢ Err ApplyError.Stopped }
         ensures uncalled { IfUndone (verdict_of_apply result) (disk.new ≡ disk.old) }
     {
@@ -91,7 +88,7 @@ impl Store {
             Ok(()) => {}
             Err(_) => return Err(ApplyError::OutOfMemory),
         }
-        match append_value(stream, &mut self.records, disk, slot, t, v, &mut steps) {
+        match stream.append_value(&mut self.records, disk, slot, t, v, &mut steps) {
             Ok(()) => Ok(Ack {
                 n: values_held(&stream.part, &mut steps),
                 k: stream.part.line.len(),

@@ -9,16 +9,18 @@ use std::marker::Brand;
 use std::sync::ledger::Blank;
 
 impl Store {
-    ghost use Rattle.std.specs.Prelude.{◌≡◌, ◌+◌, ◌↔◌, true, false, map, Err, OnOk, OnErr};
+    ghost use Rattle.std.specs.Prelude.{◌≡◌, ◌≢◌, ◌+◌, ◌↔◌, true, false, map, Err, OnOk, OnErr};
     ghost use Rattle.ss_outside.specs.Disk.{Between, OfContent, SyncsAtMost};
     ghost use Rattle.ss_outside.specs.Step.{Step};
     ghost use Rattle.ss_outside.specs.Verdict.{IfUndone, OnFailed, verdict};
     ghost use Rattle.ss_catalog.specs.Events.{IsInTime};
     ghost use Rattle.ss_journal.specs.Calls.{HasSealed};
     ghost use Rattle.ss_journal.specs.Kept.{IsSealed};
+    ghost use Rattle.ss_model.specs.History.{CanBeSaid};
     ghost use Rattle.ss_model.specs.Marks.{has_open};
     ghost use Rattle.ss_store.specs.Applied.{Applies, SealsStore, StandsOn};
-    ghost use Rattle.ss_store.specs.Calls.{AddsEvent, KeepsWithin, StagesEvent, StaysWithin, SyncsToApply, SyncsToStage};
+    ghost use Rattle.ss_store.specs.Calls.{AddsEvent, CostsEvent, KeepsWithin, StagesEvent, StaysWithin, SyncsToApply};
+    ghost use Rattle.ss_store.specs.Calls.{SyncsToStage};
     ghost use Rattle.ss_store.specs.Errors.{verdict_of_apply};
     ghost use Rattle.ss_store.specs.Extents.{records_in};
     ghost use Rattle.ss_store.specs.Kept.{StoreIsKept, is_of_landmark, of_part, without_spare};
@@ -78,6 +80,23 @@ impl Store {
         if self.stopped {
             return Err(ApplyError::Stopped);
         }
+        self.stage_event(disk, event)
+    }
+
+    // Stages an event of a store that hasn't stopped.
+    fn stage_event<D: Disk>(&mut self, disk: &mut D, event: &Event) -> Result<Ack, ApplyError>
+        requires in_time { IsInTime event.now }
+        requires runs { self.old.stopped ≡ false }
+        requires one_disk { OfContent (D.seen disk.old) (StoreIsKept self.old) }
+        ensures said { CanBeSaid event.now }
+        ensures applies { Applies event.now self.old self.new (D.seen disk.old) (D.seen disk.new) result }
+        ensures costs { Between (D.seen disk.old) (D.seen disk.new)
+            (CostsEvent (records_in self.old) self.old.records self.new.records result) }
+        ensures failed { is_of_landmark self.old.streams event.now ≡ true →
+            OnFailed (verdict_of_apply result) (map without_spare self.new.streams ≡ map without_spare self.old.streams) }
+        ensures running { result ≢ Err ApplyError.Stopped }
+        ensures uncalled { IfUndone (verdict_of_apply result) (disk.new ≡ disk.old) }
+    {
         match *event {
             Event::Create { name, params } => self.stage_create(disk, name, params),
             Event::Value { name, t, v } => {

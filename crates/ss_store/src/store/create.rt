@@ -67,7 +67,7 @@ impl Store {
     ghost use Rattle.ss_target.specs.Targets.{params_of};
     ghost use Rattle.ss_store.specs.Admitted.{IsNew};
     ghost use Rattle.ss_store.specs.Applied.{Applies};
-    ghost use Rattle.ss_store.specs.Calls.{StaysWithin, SyncsToStage};
+    ghost use Rattle.ss_store.specs.Calls.{CostsEvent};
     ghost use Rattle.ss_store.specs.Errors.{verdict_of_apply};
     ghost use Rattle.ss_store.specs.Extents.{records_in};
     ghost use Rattle.ss_store.specs.Kept.{StoreIsKept, refuses_held};
@@ -105,10 +105,8 @@ impl Store {
         requires runs { self.old.stopped ≡ false }
         requires one_disk { OfContent (D.seen disk.old) (StoreIsKept self.old) }
         ensures applies { Applies (Create name params) self.old self.new (D.seen disk.old) (D.seen disk.new) result }
-        ensures within { Between (D.seen disk.old) (D.seen disk.new)
-            (StaysWithin (records_in self.old + 1) self.old.records self.new.records result) }
-        ensures syncs { Between (D.seen disk.old) (D.seen disk.new)
-            (SyncsToStage (records_in self.old + 2) self.old.records self.new.records result) }
+        ensures costs { Between (D.seen disk.old) (D.seen disk.new)
+            (CostsEvent (records_in self.old) self.old.records self.new.records result) }
         ensures running { result ≢ Err ApplyError.Stopped }
         ensures uncalled { IfUndone (verdict_of_apply result) (disk.new ≡ disk.old) }
     {

@@ -6,7 +6,7 @@ ghost use Rattle.ss_outside.specs.Verdict.{verdict};
 ghost use Rattle.ss_journal.specs.Kept.{IsSettled};
 ghost use Rattle.ss_records.specs.Kept.{AreKept};
 ghost use Rattle.ss_codec.specs.Record.{is_valid};
-ghost use Rattle.ss_store.specs.Calls.{StagesAtCost, StaysWithin, SyncsToStage};
+ghost use Rattle.ss_store.specs.Calls.{CostsEvent, StagesAtCost};
 ghost use Rattle.ss_store.specs.Dropping.{StagesDrop, dropped_record, slots_in_turn};
 ghost use Rattle.ss_store.specs.Slots.{AreSomeLive, LiveSlotsGo};
 
@@ -136,10 +136,8 @@ impl Store {
         requires found { IsPlaceOf name.now self.old.streams found }
         requires one_disk { OfContent (D.seen disk.old) (StoreIsKept self.old) }
         ensures applies { Applies (Drop name.now) self.old self.new (D.seen disk.old) (D.seen disk.new) result }
-        ensures within { Between (D.seen disk.old) (D.seen disk.new)
-            (StaysWithin (records_in self.old + 1) self.old.records self.new.records result) }
-        ensures syncs { Between (D.seen disk.old) (D.seen disk.new)
-            (SyncsToStage (records_in self.old + 2) self.old.records self.new.records result) }
+        ensures costs { Between (D.seen disk.old) (D.seen disk.new)
+            (CostsEvent (records_in self.old) self.old.records self.new.records result) }
         ensures running { result ≢ Err ApplyError.Stopped }
         ensures uncalled { IfUndone (verdict_of_apply result) (disk.new ≡ disk.old) }
     {

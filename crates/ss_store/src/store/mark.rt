@@ -6,7 +6,7 @@ use super::Store;
 use super::times::{is_before, is_opening, is_past};
 use crate::ApplyError;
 use crate::closing::values_held;
-use crate::marking::{Mark, put_mark, reserve};
+use crate::marking::{Mark, reserve};
 use ss_catalog::{LAST_TIME, Name, Refusal};
 use ss_model::Ack;
 use ss_outside::{Disk, Failed};
@@ -44,7 +44,7 @@ impl Store {
     ghost use Rattle.ss_recover.specs.Held.{slots_held};
     ghost use Rattle.ss_store.specs.Admitted.{IsMarker};
     ghost use Rattle.ss_store.specs.Applied.{Applies};
-    ghost use Rattle.ss_store.specs.Calls.{StaysWithin, SyncsToStage};
+    ghost use Rattle.ss_store.specs.Calls.{CostsEvent};
     ghost use Rattle.ss_store.specs.Errors.{verdict_of_apply};
     ghost use Rattle.ss_store.specs.Extents.{records_in};
     ghost use Rattle.ss_store.specs.Kept.{StoreIsKept, has_all_slots, of_part, refuses_held, without_spare};
@@ -117,10 +117,8 @@ impl Store {
         requires one_disk { OfContent (D.seen disk.old) (StoreIsKept self.old) }
         ensures applies { Applies (event_of name.now t what) self.old self.new (D.seen disk.old) (D.seen disk.new) result }
         ensures failed { OnFailed (verdict_of_apply result) (map without_spare self.new.streams ≡ map without_spare self.old.streams) }
-        ensures within { Between (D.seen disk.old) (D.seen disk.new)
-            (StaysWithin (records_in self.old + 1) self.old.records self.new.records result) }
-        ensures syncs { Between (D.seen disk.old) (D.seen disk.new)
-            (SyncsToStage (records_in self.old + 2) self.old.records self.new.records result) }
+        ensures costs { Between (D.seen disk.old) (D.seen disk.new)
+            (CostsEvent (records_in self.old) self.old.records self.new.records result) }
         ensures running { result ≢ Err ApplyError.Stopped }
         ensures uncalled { IfUndone (verdict_of_apply result) (disk.new ≡ disk.old) }
     {
@@ -128,15 +126,15 @@ impl Store {
             Ok(marker) => marker,
             Err(refusal) => return Err(ApplyError::Refused(refusal)),
         };
-        let stream = &mut self.streams[place].part;
-        match reserve(&mut stream.landmarks) {
+        let stream = &mut self.streams[place];
+        match reserve(&mut stream.part.landmarks) {
             Ok(()) => {}
             Err(_) => return Err(ApplyError::OutOfMemory),
         }
-        match put_mark(&mut self.records, disk, stream, slot, t, what) {
+        match stream.put_mark(&mut self.records, disk, slot, t, what) {
             Ok(()) => Ok(Ack {
-                n: values_held(stream, &mut Steps::<L>::new(blank)),
-                k: stream.line.len(),
+                n: values_held(&stream.part, &mut Steps::<L>::new(blank)),
+                k: stream.part.line.len(),
             }),
             Err(Failed) => {
                 self.stopped = true;

@@ -1,5 +1,5 @@
 use Rattle.ss_store.proofs.Common.{◌≡◌, ◌∙◌, ◌<◌, arith, refl, suc, length, slice_set, Ok, add-one, err_from_is_err_and, step-as}
-use Rattle.ss_store.proofs.Common.{All, All-get_or, All-nil, All-push, All-set, ap, length-map, map, subst, sym, take, AreWhole, HeldStream, IsKeyedFor, IsScheduled, parts_of}
+use Rattle.ss_store.proofs.Common.{All, All-get_or, All-nil, All-push, All-set, ap, length-map, map, subst, sym, take, AreWhole, HeldStream, IsKeyedFor, IsScheduled, held_parts}
 use Rattle.std.proofs.lemmas.List.{take_more_set}
 use Rattle.ss_store.proofs.Common.{step-none, step-then, after-step, closed_state, entry_of, Recovers, reads-none}
 use Rattle.std.proofs.Common.{slice_index_or}
@@ -18,7 +18,7 @@ loop-place-init g c = record {
   step = step-none (g.D.Disk.seen c.args.disk.now) _ (λ told.
       let knows = g.met.D.Disk.knows_now c.args.disk.now told in
       record {
-        changes = ClosesFirst-none (parts_of c.args.streams.now) _ knows;
+        changes = ClosesFirst-none (held_parts c.args.streams.now) _ knows;
         kept = c.requires.one_disk told;
         within = KeepsWithin-reads (Ok tt) knows (reads-none (g.D.Disk.seen c.args.disk.now).told);
       });
@@ -33,7 +33,7 @@ loop-place-init g c = record {
 pub close_windows-requires-clause-ordered : goal.close_windows-requires-clause-ordered
 close_windows-requires-clause-ordered g c =
     let held = c.loop-place.streams in
-    let streams = parts_of held in
+    let streams = held_parts held in
     let place = c.loop-place.place in
     let part = (slice_index_or held place c.index-streams-place.result).part in
     let at = parts-at held place c.index-streams-place.result (omega arith) in
@@ -42,7 +42,7 @@ close_windows-requires-clause-ordered g c =
 pub close_windows-requires-clause-live : goal.close_windows-requires-clause-live
 close_windows-requires-clause-live g c =
     let held = c.loop-place.streams in
-    let streams = parts_of held in
+    let streams = held_parts held in
     let place = c.loop-place.place in
     let part = (slice_index_or held place c.index-streams-place.result).part in
     let at = parts-at held place c.index-streams-place.result (omega arith) in
@@ -53,17 +53,17 @@ close_windows-requires-clause-one_disk g c = after-step c.loop-place.invariant.s
 
 pub returns-in_err-close_windows-clause-closes : goal.returns-in_err-close_windows-clause-closes
 returns-in_err-close_windows-clause-closes g c =
-    let was = parts_of c.args.streams.now in
+    let was = held_parts c.args.streams.now in
     let held = c.loop-place.streams in
-    let now = parts_of held in
+    let now = held_parts held in
     let place = c.loop-place.place in
     let part = (slice_index_or held place c.index-streams-place.result).part in
     let at = parts-at held place c.index-streams-place.result (omega arith) in
-    let new = c.close_windows.new.stream.part in
+    let new = c.close_windows.new.self.part in
     let changed = slice_set now place new in
     let inside : place < length was = rw (length-map c.args.streams.now (λ (h : HeldStream). h.part)) c.loop-place-test.true in
     let p = err_from_is_err_and c.from_residual.result c.from_residual.ensures.1 in
-    rw (p.1, p.2, parts-set held place c.close_windows.new.stream)
+    rw (p.1, p.2, parts-set held place c.close_windows.new.self)
     (step-then c.loop-place.invariant.step c.in_err-close_windows.ensures.closes (λ first second. record {
       turns = λ all state agree.
           Turns-open was changed all _ _ _ agree
@@ -79,38 +79,38 @@ returns-in_err-close_windows-clause-closes g c =
 pub returns-in_err-close_windows-clause-entries : goal.returns-in_err-close_windows-clause-entries
 returns-in_err-close_windows-clause-entries g c =
     let held = c.loop-place.streams in
-    let streams = parts_of held in
+    let streams = held_parts held in
     let place = c.loop-place.place in
     let part = (slice_index_or held place c.index-streams-place.result).part in
     let at = parts-at held place c.index-streams-place.result (omega arith) in
     let same = c.close_windows.ensures.same in
-    ap (map entry_of) (parts-set held place c.close_windows.new.stream)
-    ∙ map-set_same entry_of streams place part c.close_windows.new.stream.part at (λ i. (same.name i, same.id i)) ∙ c.loop-place.invariant.entries
+    ap (map entry_of) (parts-set held place c.close_windows.new.self)
+    ∙ map-set_same entry_of streams place part c.close_windows.new.self.part at (λ i. (same.name i, same.id i)) ∙ c.loop-place.invariant.entries
 
 pub returns-in_err-close_windows-clause-changed : goal.returns-in_err-close_windows-clause-changed
 returns-in_err-close_windows-clause-changed g c =
     let held = c.loop-place.streams in
-    let streams = parts_of held in
+    let streams = held_parts held in
     let place = c.loop-place.place in
     let part = (slice_index_or held place c.index-streams-place.result).part in
     let at = parts-at held place c.index-streams-place.result (omega arith) in
     let p = err_from_is_err_and c.from_residual.result c.from_residual.ensures.1 in
-    rw (p.1, p.2, parts-set held place c.close_windows.new.stream)
-    (SomeChangedIsHeld-set streams place part c.close_windows.new.stream.part c.in_err-close_windows.field-0.0 at c.in_err-close_windows.ensures.changed)
+    rw (p.1, p.2, parts-set held place c.close_windows.new.self)
+    (SomeChangedIsHeld-set streams place part c.close_windows.new.self.part c.in_err-close_windows.field-0.0 at c.in_err-close_windows.ensures.changed)
 
 pub loop-place-preserved : goal.loop-place-preserved
 loop-place-preserved g c =
-    let was = parts_of c.args.streams.now in
+    let was = held_parts c.args.streams.now in
     let held = c.loop-place.streams in
-    let now = parts_of held in
+    let now = held_parts held in
     let place = c.loop-place.place in
     let part = (slice_index_or held place c.index-streams-place.result).part in
     let at = parts-at held place c.index-streams-place.result (omega arith) in
-    let new = c.close_windows.new.stream.part in
+    let new = c.close_windows.new.self.part in
     let same = c.close_windows.ensures.same in
     let before = c.loop-place.invariant in
     let after = c.in_ok-close_windows.ensures in
-    let set = parts-set held place c.close_windows.new.stream in
+    let set = parts-set held place c.close_windows.new.self in
     let inside : place < length was = rw (length-map c.args.streams.now (λ (h : HeldStream). h.part)) c.loop-place-test.true in
     let within : place < length held = omega arith in
     record {
@@ -125,16 +125,16 @@ loop-place-preserved g c =
           (AreWhole-set now c.loop-place.records.live c.close_windows.new.records.live place part new before.whole at same
           (IsNoEarlier-same part.last_time new.last_time after.holds.last_time) after.whole.whole.ordered after.whole.whole.live);
       entries = ap (map entry_of) set ∙ map-set_same entry_of now place part new at (λ i. (same.name i, same.id i)) ∙ before.entries;
-      keyed = All-set IsKeyedFor held place c.close_windows.new.stream after.scheduled.0 before.keyed;
-      closed = rw (take_more_set held place c.close_windows.new.stream within)
-          (All-push IsScheduled (take place held) c.close_windows.new.stream before.closed after.scheduled);
+      keyed = All-set IsKeyedFor held place c.close_windows.new.self after.scheduled.0 before.keyed;
+      closed = rw (take_more_set held place c.close_windows.new.self within)
+          (All-push IsScheduled (take place held) c.close_windows.new.self before.closed after.scheduled);
     }
 
 pub returns-clause-closes : goal.returns-clause-closes
 returns-clause-closes g c =
-    let was = parts_of c.args.streams.now in
+    let was = held_parts c.args.streams.now in
     let held = c.loop-place.streams in
-    let now = parts_of held in
+    let now = held_parts held in
     let all = length-map c.args.streams.now (λ (h : HeldStream). h.part) in
     let end : c.loop-place.place ≡ length was = omega arith in
     step-as c.loop-place.invariant.step (λ made. record {

@@ -1,4 +1,4 @@
-use Rattle.ss_store.proofs.Common.{◌≡◌, ◌≤◌, Ok, All, map, take, Step, fine, AreWhole, IsKeyedFor, IsScheduled, entry_of, parts_of, ReadError}
+use Rattle.ss_store.proofs.Common.{◌≡◌, ◌≤◌, Ok, All, map, take, Step, fine, AreWhole, IsKeyedFor, IsScheduled, entry_of, held_parts, ReadError}
 use Rattle.ss_records.specs.Kept.{AreAtRest}
 use Rattle.ss_store.specs.Changing.{Makes}
 use Rattle.ss_store.proofs.ClosingAll.{ClosesFirst}
@@ -7,11 +7,11 @@ use Rattle.ss_store.proofs.opening.close_all.Given as goal
 abbrev pub invariant-loop-place : goal.invariant-loop-place
 invariant-loop-place g l = record {
   step : Step fine (g.D.Disk.seen l.fn.disk) (g.D.Disk.seen l.disk)
-      (Makes {T = Unit {0}} {E = ReadError} (ClosesFirst (parts_of l.fn.streams) (parts_of l.streams) l.place) l.records (Ok tt));
+      (Makes {T = Unit {0}} {E = ReadError} (ClosesFirst (held_parts l.fn.streams) (held_parts l.streams) l.place) l.records (Ok tt));
   at_rest : AreAtRest l.records;
   extent : l.records.journal.extent ≤ l.fn.records.journal.extent;
-  whole : AreWhole (parts_of l.streams) l.records.live;
-  entries : map entry_of (parts_of l.streams) ≡ map entry_of (parts_of l.fn.streams);
+  whole : AreWhole (held_parts l.streams) l.records.live;
+  entries : map entry_of (held_parts l.streams) ≡ map entry_of (held_parts l.fn.streams);
   keyed : All IsKeyedFor l.streams;
   closed : All IsScheduled (take l.place l.streams);
 }

@@ -1,5 +1,5 @@
 use Rattle.ss_store.proofs.Common.{◌≤◌, [], Ok, arith, flat_map, refl, subst, sym, List, Bool, err_from_is_err_and, on_ok_weaker, Failed, step-as, step-then}
-use Rattle.ss_store.proofs.Common.{after-step, closed_state, slots_held, HasRebuilt, HasRebuiltBeside, Recovers, AreSomeLive, LiveSlotsGo, parts_of}
+use Rattle.ss_store.proofs.Common.{after-step, closed_state, slots_held, HasRebuilt, HasRebuiltBeside, Recovers, AreSomeLive, LiveSlotsGo, held_parts}
 use Rattle.ss_journal.proofs.StepLemmas.{step-pair}
 use Rattle.ss_store.proofs.Calls.{Turns-failed, Turns-joined}
 use Rattle.ss_store.proofs.Settlings.{AreWhole-cleared, Turns-settled, Turns-unsettled}
@@ -12,7 +12,7 @@ returns-in_err-settle-clause-settles g c =
     rw (p.1, p.2)
     (step-as c.in_err-settle.ensures.settles (λ settled. record {
       turns = λ all state agree.
-          Turns-unsettled c.args.doomed.now (parts_of c.args.streams.now) all (HasRebuilt (parts_of c.args.streams.now) (closed_state all)) _ _ _ _ refl settled.keeps_map;
+          Turns-unsettled c.args.doomed.now (held_parts c.args.streams.now) all (HasRebuilt (held_parts c.args.streams.now) (closed_state all)) _ _ _ _ refl settled.keeps_map;
       agree = λ all state agree has. tt;
       firm = λ all state agree has. tt;
       kept = tt;
@@ -22,7 +22,7 @@ returns-in_err-settle-clause-settles g c =
 pub clear_all-requires-clause-live : goal.clear_all-requires-clause-live
 clear_all-requires-clause-live g c =
     subst (λ (live : List Bool). AreSomeLive c.args.doomed.now live) (sym c.settle.ensures.live)
-    (flat_map slots_held (parts_of c.args.streams.now), c.requires.whole.slots)
+    (flat_map slots_held (held_parts c.args.streams.now), c.requires.whole.slots)
 
 pub clear_all-requires-clause-one_disk : goal.clear_all-requires-clause-one_disk
 clear_all-requires-clause-one_disk g c = after-step c.in_ok-settle.ensures.settles (λ told has. has.kept)
@@ -30,7 +30,7 @@ clear_all-requires-clause-one_disk g c = after-step c.in_ok-settle.ensures.settl
 pub returns-in_err-clear_all-clause-settles : goal.returns-in_err-clear_all-clause-settles
 returns-in_err-clear_all-clause-settles g c =
     let slots = c.args.doomed.now in
-    let was = parts_of c.args.streams.now in
+    let was = held_parts c.args.streams.now in
     let p = err_from_is_err_and c.from_residual-in_err-clear_all.result c.from_residual-in_err-clear_all.ensures.1 in
     rw (p.1, p.2)
     (step-then c.in_ok-settle.ensures.settles c.in_err-clear_all.ensures.clears (λ first second. record {
@@ -45,7 +45,7 @@ returns-in_err-clear_all-clause-settles g c =
 
 pub close_all-requires-clause-whole : goal.close_all-requires-clause-whole
 close_all-requires-clause-whole g c =
-    AreWhole-cleared c.args.doomed.now (parts_of c.args.streams.now) c.args.records.now.live c.clear_all.new.records.live c.requires.whole
+    AreWhole-cleared c.args.doomed.now (held_parts c.args.streams.now) c.args.records.now.live c.clear_all.new.records.live c.requires.whole
     (subst (λ (live : List Bool). LiveSlotsGo c.args.doomed.now [] live c.clear_all.new.records.live) c.settle.ensures.live c.in_ok-clear_all.ensures.live)
 
 pub close_all-requires-clause-one_disk : goal.close_all-requires-clause-one_disk
@@ -54,8 +54,8 @@ close_all-requires-clause-one_disk g c = after-step c.in_ok-clear_all.ensures.cl
 pub returns-clause-settles : goal.returns-clause-settles
 returns-clause-settles g c =
     let slots = c.args.doomed.now in
-    let was = parts_of c.args.streams.now in
-    let now = parts_of c.close_all.new.streams in
+    let was = held_parts c.args.streams.now in
+    let now = held_parts c.close_all.new.streams in
     step-then (step-pair c.in_ok-settle.ensures.settles c.in_ok-clear_all.ensures.clears) c.close_all.ensures.closes (λ cleared third. record {
       turns = λ all state agree.
           Turns-joined (HasRebuiltBeside slots was all) (Recovers (closed_state all)) (HasRebuilt was all) (HasRebuilt now (closed_state all)) _ _ _ tt _

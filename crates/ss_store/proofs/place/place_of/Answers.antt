@@ -1,4 +1,4 @@
-use Rattle.ss_store.proofs.Common.{◌≡◌, ◌+◌, ◌-◌, ap, sym, ◌∙◌, arith, slice_get, ◌==◌, find_at, length-map, HeldStream, StreamParts, parts_of}
+use Rattle.ss_store.proofs.Common.{◌≡◌, ◌+◌, ◌-◌, ap, sym, ◌∙◌, arith, slice_get, ◌==◌, find_at, length-map, HeldStream, StreamParts, held_parts}
 use Rattle.std.proofs.Common.{◌/◌}
 use Rattle.std.proofs.Math.ListN.{get_or-map}
 use Rattle.ss_store.proofs.PlaceLemmas.{place_in, place_in-inside, place_in-after, place_in-before}
@@ -7,13 +7,13 @@ use Rattle.ss_store.proofs.place.place_of.Goals as goal
 pub loop-high-init : goal.loop-high-init
 loop-high-init c = record {
   low = omega arith;
-  high = rw (← length-map c.args.streams.now (λ (h : HeldStream). h.part)) (place_in-inside c.args.id.0 (parts_of c.args.streams.now) c.requires.stands);
+  high = rw (← length-map c.args.streams.now (λ (h : HeldStream). h.part)) (place_in-inside c.args.id.0 (held_parts c.args.streams.now) c.requires.stands);
   inside = omega arith;
 }
 
 pub loop-high-preserved-then-number_of-id : goal.loop-high-preserved-then-number_of-id
 loop-high-preserved-then-number_of-id c =
-    let parts = parts_of c.args.streams.now in
+    let parts = held_parts c.args.streams.now in
     let before = c.loop-high.invariant in
     let middle = c.loop-high.low + (c.loop-high.high - c.loop-high.low) / 2 in
     let read = c.index-streams-middle.result.part in
@@ -28,7 +28,7 @@ loop-high-preserved-then-number_of-id c =
 
 pub loop-high-preserved : goal.loop-high-preserved
 loop-high-preserved c =
-    let parts = parts_of c.args.streams.now in
+    let parts = held_parts c.args.streams.now in
     let before = c.loop-high.invariant in
     let middle = c.loop-high.low + (c.loop-high.high - c.loop-high.low) / 2 in
     let read = c.index-streams-middle.result.part in
@@ -43,7 +43,7 @@ loop-high-preserved c =
 
 pub returns-clause-at : goal.returns-clause-at
 returns-clause-at c =
-    let parts = parts_of c.args.streams.now in
+    let parts = held_parts c.args.streams.now in
     let before = c.loop-high.invariant in
     let place : c.loop-high.low ≡ place_in c.args.id.0 parts = omega arith in
     ap (λ k. slice_get parts k) place ∙ sym (find_at (λ (s : StreamParts). c.args.id.0 == s.id.0) parts)

@@ -1,11 +1,11 @@
-use Rattle.ss_store.proofs.Common.{◌-◌, ◌<◌, ◌≤◌, length, parts_of}
+use Rattle.ss_store.proofs.Common.{◌-◌, ◌<◌, ◌≤◌, length, held_parts}
 use Rattle.ss_store.proofs.PlaceLemmas.{place_in}
 use Rattle.ss_store.proofs.place.place_of.Given as goal
 
 abbrev pub invariant-loop-high : goal.invariant-loop-high
 invariant-loop-high l = record {
-  low : l.low ≤ place_in l.id.0 (parts_of l.streams);
-  high : place_in l.id.0 (parts_of l.streams) < l.high;
+  low : l.low ≤ place_in l.id.0 (held_parts l.streams);
+  high : place_in l.id.0 (held_parts l.streams) < l.high;
   inside : l.high ≤ length l.streams;
 }
 

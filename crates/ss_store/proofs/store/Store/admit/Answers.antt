@@ -1,5 +1,5 @@
 use Rattle.ss_store.proofs.Common.{◌≡◌, None, Some, true, false, refl, ap, sym, ◌∙◌, subst, length, flat_map, is_some, nat_le, Create, has_target}
-use Rattle.ss_store.proofs.Common.{next_number, MOST_RECORDS, slots_held, StoreState, parts_of, has_all_numbers, numbers_held, part_named, refuses_held}
+use Rattle.ss_store.proofs.Common.{next_number, MOST_RECORDS, slots_held, StoreState, held_parts, has_all_numbers, numbers_held, part_named, refuses_held}
 use Rattle.ss_catalog.specs.declared.refusal.Refusal.TheVariants.{Exists, Streams, StoreFull}
 use Rattle.ss_store.proofs.Named.{is_some-listed}
 use Rattle.ss_store.proofs.Refusals.{not-true, none_is_some, refuses_held-create}
@@ -12,7 +12,7 @@ returns-in_default-clause-refused c =
 
 pub returns-then-is_some-clause-refused : goal.returns-then-is_some-clause-refused
 returns-then-is_some-clause-refused c =
-    let parts = parts_of c.self.inside.streams.items in
+    let parts = held_parts c.self.inside.streams.items in
     let target : has_target c.args.params ≡ true = c.in-Ok.ensures.exactly.0 refl in
     let listed = is_some-listed c.args.name.now parts c.self.inside.catalog c.self.invariant.0.listed in
     let known : is_some (part_named c.args.name.now parts) ≡ true = cc in
@@ -21,7 +21,7 @@ returns-then-is_some-clause-refused c =
 
 pub returns-in_default-next_id-clause-refused : goal.returns-in_default-next_id-clause-refused
 returns-in_default-next_id-clause-refused c =
-    let parts = parts_of c.self.inside.streams.items in
+    let parts = held_parts c.self.inside.streams.items in
     let target : has_target c.args.params ≡ true = c.in-Ok.ensures.exactly.0 refl in
     let listed = is_some-listed c.args.name.now parts c.self.inside.catalog c.self.invariant.0.listed in
     let new : is_some (part_named c.args.name.now parts) ≡ false = cc in
@@ -31,7 +31,7 @@ returns-in_default-next_id-clause-refused c =
 
 pub returns-in-Some-free_slot-clause-accepted : goal.returns-in-Some-free_slot-clause-accepted
 returns-in-Some-free_slot-clause-accepted c =
-    let parts = parts_of c.self.inside.streams.items in
+    let parts = held_parts c.self.inside.streams.items in
     let target : has_target c.args.params ≡ true = c.in-Ok.ensures.exactly.0 refl in
     let listed = is_some-listed c.args.name.now parts c.self.inside.catalog c.self.invariant.0.listed in
     let new : is_some (part_named c.args.name.now parts) ≡ false = cc in
@@ -45,7 +45,7 @@ returns-in-Some-free_slot-clause-accepted c =
 
 pub returns-in-None-clause-refused : goal.returns-in-None-clause-refused
 returns-in-None-clause-refused c =
-    let parts = parts_of c.self.inside.streams.items in
+    let parts = held_parts c.self.inside.streams.items in
     let target : has_target c.args.params ≡ true = c.in-Ok.ensures.exactly.0 refl in
     let listed = is_some-listed c.args.name.now parts c.self.inside.catalog c.self.invariant.0.listed in
     let new : is_some (part_named c.args.name.now parts) ≡ false = cc in
@@ -58,7 +58,7 @@ returns-in-None-clause-refused c =
 
 pub returns-in-Some-free_slot-clause-new : goal.returns-in-Some-free_slot-clause-new
 returns-in-Some-free_slot-clause-new c =
-    let parts = parts_of c.self.inside.streams.items in
+    let parts = held_parts c.self.inside.streams.items in
     let listed = is_some-listed c.args.name.now parts c.self.inside.catalog c.self.invariant.0.listed in
     let unknown : is_some (part_named c.args.name.now parts) ≡ false = cc in
     let numbers : has_all_numbers (numbers_held parts) ≡ false =

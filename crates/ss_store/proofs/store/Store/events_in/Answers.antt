@@ -1,11 +1,11 @@
-use Rattle.ss_store.proofs.Common.{◌≡◌, ◌∙◌, ◌+◌, ap, length, sym, subst, Some, IfSome, events_of, StreamParts, events_held, parts_of, StoreState, part_numbered}
+use Rattle.ss_store.proofs.Common.{◌≡◌, ◌∙◌, ◌+◌, ap, length, sym, subst, Some, IfSome, events_of, StreamParts, events_held, held_parts, StoreState, part_numbered}
 use Rattle.ss_store.proofs.EventsHeld.{counted-held, few-held, sum-held}
 use Rattle.ss_store.proofs.store.Store.events_in.Goals as goal
 
 pub returns-clause-held : goal.returns-clause-held
 returns-clause-held g c runs =
     let part = c.part-part.result.now in
-    let parts = parts_of c.self.inside.streams.items in
+    let parts = held_parts c.self.inside.streams.items in
     let number = c.args.id.0 in
     let found : part_numbered number parts ≡ Some part = ap (λ (s : StoreState). part_numbered number s.streams) c.self.view_is ∙ c.part-part.ensures in
     let whole = c.self.invariant.0.whole (ap (λ (s : StoreState). s.stopped) c.self.view_is ∙ runs) in

@@ -1,4 +1,4 @@
-use Rattle.ss_store.proofs.Common.{◌≡◌, ◌∙◌, true, List, ℕ, Option, refl, ap, arith, slice_get, Refusal, has_open, StreamParts, StoreState, parts_of, has_all_slots}
+use Rattle.ss_store.proofs.Common.{◌≡◌, ◌∙◌, true, List, ℕ, Option, refl, ap, arith, slice_get, Refusal, has_open, StreamParts, StoreState, held_parts, has_all_slots}
 use Rattle.ss_store.proofs.Common.{of_part, refuses_held, IsInOpen, event_of, mark_refusal, slot_refusal, Mark}
 use Rattle.ss_store.proofs.Among.{Marks-at}
 use Rattle.ss_store.proofs.Found.{IsAtPlace-found, inside-found, none-found}
@@ -51,7 +51,7 @@ returns-in-None-clause-refused c =
 
 pub returns-in-Some-slot_for-clause-marker : goal.returns-in-Some-slot_for-clause-marker
 returns-in-Some-slot_for-clause-marker c =
-    let parts = parts_of c.self.inside.streams.items in
+    let parts = held_parts c.self.inside.streams.items in
     let part = c.index.result.now.part in
     let streams = ap (λ (s : StoreState). s.streams) c.self.view_is in
     let is = IsAtPlace-found c.self.inside.streams.items c.args.name.now streams c.in-Some.is c.requires.found c.index.ensures in

@@ -1,5 +1,5 @@
 use Rattle.ss_store.proofs.Common.{◌≡◌, ◌∙◌, Some, ap, refl, sym, slice_get_within, slice_get}
-use Rattle.ss_store.proofs.Common.{window_slots_of, Seen, StoreState, part_named, parts_of}
+use Rattle.ss_store.proofs.Common.{window_slots_of, Seen, StoreState, part_named, held_parts}
 use Rattle.std.specs.List.{Contains}
 use Rattle.ss_store.proofs.IndexedStreams.{IsScheduled-at}
 use Rattle.ss_store.proofs.AskedStreams.{IsFirm-kept, sees-kept}
@@ -16,14 +16,14 @@ see_indexed-requires-clause-timed g c =
     let part = IsPartAt-read c.self.inside.streams.items streams c.place-place.ensures.at c.requires.asks.stands c.index.ensures in
     let here = ap (λ l. slice_get l c.place-place.result) streams ∙ part.at in
     (IsScheduled-at c.self.inside.streams.items c.place-place.result (c.self.invariant.1 (ap (λ (s : StoreState). s.stopped) c.self.view_is ∙ c.requires.runs))
-    (slice_get_within (parts_of c.self.inside.streams.items) c.place-place.result c.index.result.now.part here) c.index.ensures).0.timed
+    (slice_get_within (held_parts c.self.inside.streams.items) c.place-place.result c.index.result.now.part here) c.index.ensures).0.timed
 
 pub see_indexed-requires-clause-slots : goal.see_indexed-requires-clause-slots
 see_indexed-requires-clause-slots g c =
     let streams = ap (λ (s : StoreState). s.streams) c.self.view_is in
     let part = IsPartAt-read c.self.inside.streams.items streams c.place-place.ensures.at c.requires.asks.stands c.index.ensures in
     let whole = c.self.invariant.0.whole (ap (λ (s : StoreState). s.stopped) c.self.view_is ∙ c.requires.runs) in
-    window_slots-below (parts_of c.self.inside.streams.items) c.self.inside.records.live c.place-place.result c.index.result.now.part whole
+    window_slots-below (held_parts c.self.inside.streams.items) c.self.inside.records.live c.place-place.result c.index.result.now.part whole
     c.live-live.ensures.sound.slots (ap (λ l. slice_get l c.place-place.result) streams ∙ part.at)
 
 pub returns-in-Ok-clause-sees : goal.returns-in-Ok-clause-sees

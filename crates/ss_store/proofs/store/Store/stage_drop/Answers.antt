@@ -1,15 +1,14 @@
 use Rattle.ss_store.proofs.Common.{◌≡◌, ◌+◌, ◌≤◌, ◌∙◌, List, ℕ, ap, arith, false, length, refl, subst, sym, true, Drop, Unknown, IsScheduled}
-use Rattle.ss_store.proofs.Common.{StoreState, AreSomeLive, parts_of, records_in}
-use Rattle.ss_store.proofs.Appended.{SameButSpare-same}
+use Rattle.ss_store.proofs.Common.{StoreState, AreSomeLive, held_parts, records_in}
+use Rattle.ss_store.proofs.Spared.{SameButSpare-same}
 use Rattle.ss_store.proofs.Applying.{Applies-refused, Applies-starved}
+use Rattle.ss_store.proofs.Costs.{StagesAtCost-answers, StagesAtCost-failed, StagesAtCost-none}
 use Rattle.ss_store.proofs.Found.{IsAtPlace-found, IsTakenOut-found, inside-found, none-found}
 use Rattle.ss_store.proofs.Dropped.{applies-dropped, applies-undropped, dropping, live-slots, sound-dropped, sound-undropped}
 use Rattle.ss_store.proofs.Refusals.{refuses_held-dropped, refuses_held-undropped}
 use Rattle.ss_store.proofs.IndexedStreams.{parts-remove}
 use Rattle.ss_store.proofs.Removed.{All-remove}
 use Rattle.ss_store.proofs.LiveCounts.{few-slots, length-slots_in_turn}
-use Rattle.ss_store.proofs.Syncs.{SyncsToStage-answers, SyncsToStage-failed, SyncsToStage-none}
-use Rattle.ss_store.proofs.Within.{StaysWithin-answers, StaysWithin-failed, StaysWithin-none}
 use Rattle.ss_store.proofs.store.Store.stage_drop.Goals as goal
 
 pub returns-in_default-clause-applies : goal.returns-in_default-clause-applies
@@ -89,42 +88,26 @@ returns-clause-applies g c =
     rw (← c.self.view_is, c.remove-stream.ensures.items, parts-remove)
     (applies-undropped is c.stage_doomed.new.records _ _ c.in-Err-stage_doomed.ensures.drops)
 
-pub returns-in_default-clause-within : goal.returns-in_default-clause-within
-returns-in_default-clause-within g c told = StaysWithin-none _ (g.met.D.Disk.knows_now c.args.disk.now told) tt
+pub returns-in_default-clause-costs : goal.returns-in_default-clause-costs
+returns-in_default-clause-costs g c told = StagesAtCost-none _ (g.met.D.Disk.knows_now c.args.disk.now told) tt tt tt
 
-pub returns-in-Err-clause-within : goal.returns-in-Err-clause-within
-returns-in-Err-clause-within g c told = StaysWithin-none _ (g.met.D.Disk.knows_now c.args.disk.now told) tt
+pub returns-in-Err-clause-costs : goal.returns-in-Err-clause-costs
+returns-in-Err-clause-costs g c told = StagesAtCost-none _ (g.met.D.Disk.knows_now c.args.disk.now told) tt tt tt
 
-pub returns-in-Ok-stage_doomed-clause-within : goal.returns-in-Ok-stage_doomed-clause-within
-returns-in-Ok-stage_doomed-clause-within g c told =
-    let low : 0 ≤ records_in c.args.self.now + 1 = omega arith in
-    rw (← c.self.view_is) (StaysWithin-answers _ (rw (← c.self.view_is) at low) (c.in-Ok-stage_doomed.ensures.drops.told told).within)
-
-pub returns-clause-within : goal.returns-clause-within
-returns-clause-within g c told =
-    let low : 0 ≤ records_in c.args.self.now + 1 = omega arith in
-    rw (← c.self.view_is) (StaysWithin-failed _ refl (rw (← c.self.view_is) at low) (c.in-Err-stage_doomed.ensures.drops.told told).within)
-
-pub returns-in_default-clause-syncs : goal.returns-in_default-clause-syncs
-returns-in_default-clause-syncs g c told = SyncsToStage-none _ tt
-
-pub returns-in-Err-clause-syncs : goal.returns-in-Err-clause-syncs
-returns-in-Err-clause-syncs g c told = SyncsToStage-none _ tt
-
-pub returns-in-Ok-stage_doomed-clause-syncs : goal.returns-in-Ok-stage_doomed-clause-syncs
-returns-in-Ok-stage_doomed-clause-syncs g c told =
+pub returns-in-Ok-stage_doomed-clause-costs : goal.returns-in-Ok-stage_doomed-clause-costs
+returns-in-Ok-stage_doomed-clause-costs g c told =
     let its = IsTakenOut-found c.self.inside.streams.items c.args.name.now (ap (λ (s : StoreState). s.streams) c.self.view_is) c.in-Some.is c.requires.found c.index.ensures
     c.remove-stream.ensures.value (c.deref.ensures.value ∙ c.in-Ok.ensures) in
-    let few = few-slots (parts_of c.self.inside.streams.items) c.in-Some.place c.remove-stream.result.part its.stands.at in
+    let few = few-slots (held_parts c.self.inside.streams.items) c.in-Some.place c.remove-stream.result.part its.stands.at in
     rw (← c.self.view_is)
-    (SyncsToStage-answers _ (omega (arith, few, ap length its.slots, length-slots_in_turn c.remove-stream.result.part))
-    (c.in-Ok-stage_doomed.ensures.drops.told told).syncs)
+    (StagesAtCost-answers _ (omega arith) (omega (arith, few, ap length its.slots, length-slots_in_turn c.remove-stream.result.part))
+    (c.in-Ok-stage_doomed.ensures.drops.told told) (λ drops. tt))
 
-pub returns-clause-syncs : goal.returns-clause-syncs
-returns-clause-syncs g c told =
+pub returns-clause-costs : goal.returns-clause-costs
+returns-clause-costs g c told =
     let its = IsTakenOut-found c.self.inside.streams.items c.args.name.now (ap (λ (s : StoreState). s.streams) c.self.view_is) c.in-Some.is c.requires.found c.index.ensures
     c.remove-stream.ensures.value (c.deref.ensures.value ∙ c.in-Ok.ensures) in
-    let few = few-slots (parts_of c.self.inside.streams.items) c.in-Some.place c.remove-stream.result.part its.stands.at in
+    let few = few-slots (held_parts c.self.inside.streams.items) c.in-Some.place c.remove-stream.result.part its.stands.at in
     rw (← c.self.view_is)
-    (SyncsToStage-failed _ refl (omega (arith, few, ap length its.slots, length-slots_in_turn c.remove-stream.result.part))
-    (c.in-Err-stage_doomed.ensures.drops.told told).syncs)
+    (StagesAtCost-failed _ refl (omega arith) (omega (arith, few, ap length its.slots, length-slots_in_turn c.remove-stream.result.part))
+    (c.in-Err-stage_doomed.ensures.drops.told told) (λ drops. tt))

@@ -1,12 +1,12 @@
 use Rattle.ss_store.proofs.Common.{◌≡◌, ◌<◌, ◌∙◌, ap, length, refl, Some, subst, sym, option_map, slice_get, slice_get_read, StreamRow, AllAgree, StoreState}
-use Rattle.ss_store.proofs.Common.{parts_of, row_of_held}
+use Rattle.ss_store.proofs.Common.{held_parts, row_of_held}
 use Rattle.ss_store.proofs.IndexedStreams.{parts-read}
 use Rattle.ss_store.proofs.RowsHeld.{row-at}
 use Rattle.ss_store.proofs.store.Store.stream_in.Goals as goal
 
 pub returns-clause-held : goal.returns-clause-held
 returns-clause-held g c =
-    let parts = parts_of c.self.inside.streams.items in
+    let parts = held_parts c.self.inside.streams.items in
     let part = c.index.result.now.part in
     let at : slice_get parts c.args.place ≡ Some part =
     slice_get_read parts (length parts) c.args.place part refl
@@ -22,7 +22,7 @@ returns-clause-held g c =
 
 pub returns-clause-row : goal.returns-clause-row
 returns-clause-row g c streams state each =
-    let parts = parts_of c.self.inside.streams.items in
+    let parts = held_parts c.self.inside.streams.items in
     let part = c.index.result.now.part in
     let held : AllAgree parts streams = subst (λ (s : StoreState). AllAgree s.streams streams) (sym c.self.view_is) each in
     let at : slice_get parts c.args.place ≡ Some part =

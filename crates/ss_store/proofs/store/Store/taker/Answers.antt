@@ -1,4 +1,4 @@
-use Rattle.ss_store.proofs.Common.{◌≡◌, ◌∙◌, ℕ, List, Some, true, false, get_or, refl, ap, sym, arith, nat_le, nat_tests, entries_of, HeldStream, StreamParts, parts_of}
+use Rattle.ss_store.proofs.Common.{◌≡◌, ◌∙◌, ℕ, List, Some, true, false, get_or, refl, ap, sym, arith, nat_le, nat_tests, entries_of, HeldStream, StreamParts, held_parts}
 use Rattle.ss_store.proofs.Common.{MOST_VALUES, has_open, is_past, values_held, StoreState, has_all_slots, of_part, IsPlaceOf}
 use Rattle.std.specs.Prelude.{Option}
 use Rattle.ss_store.proofs.Found.{IsAtPlace-found, inside-found, none-found}
@@ -13,7 +13,7 @@ record IsPlain (name : List ℕ) (place : ℕ) (parts : List StreamParts) (part 
   plain : has_open part.landmarks.landmarks ≡ false
 
 IsPlain-found : (held : List HeldStream) {parts : List StreamParts} {found : Option ℕ} {place : ℕ} {stream : HeldStream} (name : List ℕ) →
-    parts_of held ≡ parts → found ≡ Some place → IsPlaceOf name parts found → stream ≡ get_or held place stream →
+    held_parts held ≡ parts → found ≡ Some place → IsPlaceOf name parts found → stream ≡ get_or held place stream →
     of_part name parts (λ p. has_open p.landmarks.landmarks) ≡ false → IsPlain name place parts stream.part
 IsPlain-found held {parts} {found} {place} {stream} name same is place_is read plain =
     let at = IsAtPlace-found held name same is place_is read in

@@ -7,11 +7,11 @@ use Rattle.ss_store.proofs.LiveSlots.{AreSomeLive-go}
 use Rattle.ss_store.proofs.Sealings.{StagesStream-valued}
 use Rattle.ss_store.proofs.ShownCalls.{TurnsShown-failed}
 use Rattle.ss_store.proofs.Wholes.{StandsAfter-then}
-use Rattle.ss_store.proofs.appending.append_value.Goals as goal
+use Rattle.ss_store.proofs.held.HeldStream.append_value.Goals as goal
 
 pub returns-in_err-put_value-clause-takes : goal.returns-in_err-put_value-clause-takes
 returns-in_err-put_value-clause-takes g c =
-    let part = c.args.stream.now.part in
+    let part = c.args.self.now.part in
     let t = c.args.t in
     let v = c.args.v in
     let p = err_from_is_err_and c.from_residual.result c.from_residual.ensures.1 in
@@ -20,14 +20,14 @@ returns-in_err-put_value-clause-takes g c =
     StagesAtCost-failed _ refl (omega arith) (omega arith) put (λ single. record {
       turns = λ others s.
           TurnsShown-failed c.args.records.now c.put_value.new.records c.put_value.new.records (IsHeldIn others part s) (IsHalfway others part s t v)
-          (IsHeldIn others c.put_value.new.stream.part (with_single s t v)) (IsHeldIn others c.put_value.new.stream.part (with_plain_value s (t, v, New))) _ _ _ _ refl
+          (IsHeldIn others c.put_value.new.self.part (with_single s t v)) (IsHeldIn others c.put_value.new.self.part (with_plain_value s (t, v, New))) _ _ _ _ refl
           (single.turns others s);
       firm = single.firm;
     })))
 
 pub stage_joins-requires-clause-live : goal.stage_joins-requires-clause-live
 stage_joins-requires-clause-live g c =
-    AreSomeLive-go (slots_held c.args.stream.now.part) (slots_held c.put_value.new.stream.part) c.args.records.now.live c.put_value.new.records.live c.requires.live
+    AreSomeLive-go (slots_held c.args.self.now.part) (slots_held c.put_value.new.self.part) c.args.records.now.live c.put_value.new.records.live c.requires.live
     c.in_ok-put_value.ensures.stands.whole.live
 
 pub stage_joins-requires-clause-one_disk : goal.stage_joins-requires-clause-one_disk
@@ -44,7 +44,7 @@ returns-clause-takes g c =
 
 pub returns-clause-same : goal.returns-clause-same
 returns-clause-same g c =
-    IsSameStream-more c.args.stream.now.part c.put_value.new.stream.part c.stage_joins.new.stream.part c.put_value.ensures.same c.stage_joins.ensures.same
+    IsSameStream-more c.args.self.now.part c.put_value.new.self.part c.stage_joins.new.self.part c.put_value.ensures.same c.stage_joins.ensures.same
 
 -- a value is one window more, and each join one less
 looks-joins : (result : Result (Unit {0}) ReadError) (start mid end was between is : ℕ) → between ≡ was + 1 → mid ≤ start + 5 →
@@ -54,8 +54,8 @@ looks-joins (Err e) start mid end was between is more first rest = tt
 
 pub returns-clause-looks : goal.returns-clause-looks
 returns-clause-looks g c =
-    looks-joins c.stage_joins.result c.args.steps.now c.put_value.new.steps c.stage_joins.new.steps (length c.args.stream.now.part.line.entries)
-    (length c.put_value.new.stream.part.line.entries) (length c.stage_joins.new.stream.part.line.entries) c.in_ok-put_value.ensures.one_more
+    looks-joins c.stage_joins.result c.args.steps.now c.put_value.new.steps c.stage_joins.new.steps (length c.args.self.now.part.line.entries)
+    (length c.put_value.new.self.part.line.entries) (length c.stage_joins.new.self.part.line.entries) c.in_ok-put_value.ensures.one_more
     c.in_ok-put_value.ensures.looks c.stage_joins.ensures.looks
 
 pub returns-clause-stands : goal.returns-clause-stands

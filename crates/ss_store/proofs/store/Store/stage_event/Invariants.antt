@@ -1,4 +1,4 @@
-use Rattle.ss_store.proofs.store.Store.stage.Given as goal
+use Rattle.ss_store.proofs.store.Store.stage_event.Given as goal
 
 abbrev pub ghosts-stage_value : goal.ghosts-stage_value
 ghosts-stage_value g a = record { name = a.blank.name; parts = a.blank.parts }

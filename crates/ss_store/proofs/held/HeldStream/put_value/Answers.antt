@@ -12,7 +12,7 @@ use Rattle.ss_store.proofs.KeyedWindows.{FollowUpTo-take, FollowUpTo-tiles, NoPa
 use Rattle.ss_store.proofs.Rising.{IsTimed-added}
 use Rattle.ss_store.proofs.ShownCalls.{TurnsShown-answers, TurnsShown-failed}
 use Rattle.ss_store.proofs.Costs.{StagesAtCost-answers, StagesAtCost-failed}
-use Rattle.ss_store.proofs.appending.put_value.Goals as goal
+use Rattle.ss_store.proofs.held.HeldStream.put_value.Goals as goal
 
 pub stage_record-requires-clause-valid : goal.stage_record-requires-clause-valid
 stage_record-requires-clause-valid g c =
@@ -41,7 +41,7 @@ added_part-added part slot t = record {
 
 pub returns-in_err-stage_record-clause-puts : goal.returns-in_err-stage_record-clause-puts
 returns-in_err-stage_record-clause-puts g c =
-    let part = c.args.stream.now.part in
+    let part = c.args.self.now.part in
     let can = c.requires.can in
     let new = added_part part c.args.slot c.args.t in
     let single : c.one.result ≡ summary_of ((c.args.t, c.args.v, New) ∷ []) =
@@ -75,7 +75,7 @@ added part line at before slot t pushed all = record {
 
 pub returns-clause-puts : goal.returns-clause-puts
 returns-clause-puts g c =
-    let part = c.args.stream.now.part in
+    let part = c.args.self.now.part in
     let can = c.requires.can in
     let new = record part { last_time = Some c.args.t; line = c.push-at.new.self } in
     let single : c.one.result ≡ summary_of ((c.args.t, c.args.v, New) ∷ []) =
@@ -98,25 +98,25 @@ add_window-requires-clause-room g c = omega (arith, c.push-at.ensures.below, c.r
 
 pub add_window-requires-clause-keyed : goal.add_window-requires-clause-keyed
 add_window-requires-clause-keyed g c =
-    let part = c.args.stream.now.part in
+    let part = c.args.self.now.part in
     let ready = c.requires.can.reserved in
     let entry : Entry = single_entry (c.values_held-position.result + 1) c.args.t c.args.slot in
     let index = index-once part.line.entries c.push-at.result entry [] (fresh-none part.line.entries c.push-at.result c.push-at.ensures.fresh) in
-    let none : NoPairFits (merge_rule c.args.stream.now.index.schedule) (values_held (entries_of part)) part.line.entries =
+    let none : NoPairFits (merge_rule c.args.self.now.index.schedule) (values_held (entries_of part)) part.line.entries =
     rw ready.target (NoPairFits-entries (rule_of (params_of part.target)) (values_held (entries_of part)) part.line.entries ready.none_due) in
-    let later : IsKeyed (values_held (entries_of part) + 1) part.line.entries c.args.stream.now.index.schedule =
-    IsKeyed-next (values_held (entries_of part)) part.line.entries c.args.stream.now.index.schedule (lengths-positive c.args.stream.now.index.schedule.target)
+    let later : IsKeyed (values_held (entries_of part) + 1) part.line.entries c.args.self.now.index.schedule =
+    IsKeyed-next (values_held (entries_of part)) part.line.entries c.args.self.now.index.schedule (lengths-positive c.args.self.now.index.schedule.target)
     c.requires.can.room ready.keyed none in
     let front : take (index_of c.push-at.new.self.entries c.push-at.result) c.push-at.new.self.entries ≡ part.line.entries =
     ap (λ es. take (index_of es c.push-at.result) es) c.push-at.ensures.pushed
     ∙ ap (λ k. take k (part.line.entries ++ (c.push-at.result, entry) ∷ [])) index ∙ take-seam part.line.entries ((c.push-at.result, entry) ∷ []) in
-    subst (λ n. IsKeyed (n + 1) (take (index_of c.push-at.new.self.entries c.push-at.result) c.push-at.new.self.entries) c.args.stream.now.index.schedule)
+    subst (λ n. IsKeyed (n + 1) (take (index_of c.push-at.new.self.entries c.push-at.result) c.push-at.new.self.entries) c.args.self.now.index.schedule)
     (sym c.values_held-position.ensures.value)
-    (subst (λ es. IsKeyed (values_held (entries_of part) + 1) es c.args.stream.now.index.schedule) (sym front) later)
+    (subst (λ es. IsKeyed (values_held (entries_of part) + 1) es c.args.self.now.index.schedule) (sym front) later)
 
 pub add_window-requires-clause-follow : goal.add_window-requires-clause-follow
 add_window-requires-clause-follow g c =
-    let part = c.args.stream.now.part in
+    let part = c.args.self.now.part in
     let is = added part c.push-at.new.self c.push-at.result c.values_held-position.result c.args.slot c.args.t c.push-at.ensures.pushed
     c.values_held-position.ensures.value in
     let new = record part { last_time = Some c.args.t; line = c.push-at.new.self } in
@@ -128,7 +128,7 @@ add_window-requires-clause-follow g c =
 
 pub returns-clause-stands : goal.returns-clause-stands
 returns-clause-stands g c =
-    let part = c.args.stream.now.part in
+    let part = c.args.self.now.part in
     let line = c.push-at.new.self in
     let new = record part { last_time = Some c.args.t; line = line } in
     let entry : Entry = single_entry (c.values_held-position.result + 1) c.args.t c.args.slot in
@@ -162,7 +162,7 @@ returns-clause-stands g c =
 
 pub returns-clause-one_more : goal.returns-clause-one_more
 returns-clause-one_more g c =
-    let part = c.args.stream.now.part in
+    let part = c.args.self.now.part in
     let entry : Entry = single_entry (c.values_held-position.result + 1) c.args.t c.args.slot in
     ap (λ es. length es) c.push-at.ensures.pushed ∙ length-append part.line.entries ((c.push-at.result, entry) ∷ [])
 

@@ -7,12 +7,12 @@ use Rattle.ss_store.proofs.MarkedCalls.{LiveSlotsGo-mark_closed, Turns-added, Tu
 use Rattle.ss_store.proofs.OpenMarks.{AllEndBy-after}
 use Rattle.ss_store.proofs.Rising.{no-earlier, rise-later}
 use Rattle.ss_store.proofs.Costs.{StagesAtCost-answers, StagesAtCost-failed}
-use Rattle.ss_store.proofs.marking.put_mark.Goals as goal
-use Rattle.ss_store.proofs.marking.put_mark.Goals.{in-Open+in_ok-stage_record-in-Open, in-Close+in_ok-stage_replaced-in-Close}
+use Rattle.ss_store.proofs.held.HeldStream.put_mark.Goals as goal
+use Rattle.ss_store.proofs.held.HeldStream.put_mark.Goals.{in-Open+in_ok-stage_record-in-Open, in-Close+in_ok-stage_replaced-in-Close}
 
 pub returns-in_err-stage_record-in-Open-clause-takes : goal.returns-in_err-stage_record-in-Open-clause-takes
 returns-in_err-stage_record-in-Open-clause-takes g c =
-    let part = c.args.part.now in
+    let part = c.args.self.now.part in
     let slot = c.args.slot in
     let t = c.args.t in
     let mark = c.args.mark in
@@ -34,13 +34,13 @@ returns-in_err-stage_record-in-Open-clause-takes g c =
 
 pub stage_replaced-requires-clause-live : goal.stage_replaced-requires-clause-live
 stage_replaced-requires-clause-live g c =
-    let last = IsLastSlot-is c.args.part.now c.args.slot c.args.t c.args.records.now.live c.args.mark c.in-Close.is c.record_of-written.ensures.known
+    let last = IsLastSlot-is c.args.self.now.part c.args.slot c.args.t c.args.records.now.live c.args.mark c.in-Close.is c.record_of-written.ensures.known
     c.requires.can.can c.requires.can.in_slot in
-    AreSomeLive-last c.args.part.now c.args.slot c.args.records.now.live last c.requires.live
+    AreSomeLive-last c.args.self.now.part c.args.slot c.args.records.now.live last c.requires.live
 
 pub returns-in_err-stage_replaced-in-Close-clause-takes : goal.returns-in_err-stage_replaced-in-Close-clause-takes
 returns-in_err-stage_replaced-in-Close-clause-takes g c =
-    let part = c.args.part.now in
+    let part = c.args.self.now.part in
     let slot = c.args.slot in
     let t = c.args.t in
     let mark = c.args.mark in
@@ -61,8 +61,8 @@ returns-in_err-stage_replaced-in-Close-clause-takes g c =
     })))
 
 -- the stream as it is held then
-marked : (g : _) (c : goal.After-part-1 g) →
-    IsMarked c.args.part.now (record c.args.part.now { last_time = Some c.later.result; landmarks = c.take_mark.new.landmarks }) c.args.slot c.args.t
+marked : (g : _) (c : goal.After-self-1 g) →
+    IsMarked c.args.self.now.part (record c.args.self.now.part { last_time = Some c.later.result; landmarks = c.take_mark.new.landmarks }) c.args.slot c.args.t
     c.args.mark
 marked g c = record {
   id = refl;
@@ -82,15 +82,15 @@ returns-clause-taken g c = record {
   landmarks = c.take_mark.ensures.landmarks;
   known = c.take_mark.ensures.known;
   last = rw c.take_mark.ensures.landmarks
-      (AllEndBy-later (landmarks_after c.args.part.now.landmarks.landmarks c.args.t c.args.mark) c.args.t c.later.result
-      (no-earlier c.args.part.now.last_time c.args.t c.later.result c.later.ensures).1
-      (AllEndBy-after c.args.part.now.landmarks.landmarks c.args.t c.args.mark c.record_of-written.ensures.known.order c.requires.can.can));
+      (AllEndBy-later (landmarks_after c.args.self.now.part.landmarks.landmarks c.args.t c.args.mark) c.args.t c.later.result
+      (no-earlier c.args.self.now.part.last_time c.args.t c.later.result c.later.ensures).1
+      (AllEndBy-after c.args.self.now.part.landmarks.landmarks c.args.t c.args.mark c.record_of-written.ensures.known.order c.requires.can.can));
 }
 
-ordered_marked : (g : _) (c : goal.After-part-1 g) →
-    IsOrdered (record c.args.part.now { last_time = Some c.later.result; landmarks = c.take_mark.new.landmarks })
+ordered_marked : (g : _) (c : goal.After-self-1 g) →
+    IsOrdered (record c.args.self.now.part { last_time = Some c.later.result; landmarks = c.take_mark.new.landmarks })
 ordered_marked g c =
-    let part = c.args.part.now in
+    let part = c.args.self.now.part in
     let can = c.requires.can in
     record {
       tiles = can.ordered.tiles;
@@ -100,7 +100,7 @@ ordered_marked g c =
 
 pub returns-clause-whole : goal.returns-clause-whole
 returns-clause-whole g c =
-    let part = c.args.part.now in
+    let part = c.args.self.now.part in
     let slot = c.args.slot in
     let t = c.args.t in
     let mark = c.args.mark in
@@ -131,7 +131,7 @@ returns-clause-whole g c =
 
 pub returns-clause-takes : goal.returns-clause-takes
 returns-clause-takes g c =
-    let part = c.args.part.now in
+    let part = c.args.self.now.part in
     let slot = c.args.slot in
     let t = c.args.t in
     let mark = c.args.mark in
@@ -165,12 +165,12 @@ returns-clause-takes g c =
 
 pub returns-in_err-stage_record-in-Open-clause-fits : goal.returns-in_err-stage_record-in-Open-clause-fits
 returns-in_err-stage_record-in-Open-clause-fits g c =
-    FitsMark-valid c.args.part.now c.args.t c.args.mark (rw c.record_of-written.ensures.value at c.record_of-written.ensures.valid)
+    FitsMark-valid c.args.self.now.part c.args.t c.args.mark (rw c.record_of-written.ensures.value at c.record_of-written.ensures.valid)
 
 pub returns-in_err-stage_replaced-in-Close-clause-fits : goal.returns-in_err-stage_replaced-in-Close-clause-fits
 returns-in_err-stage_replaced-in-Close-clause-fits g c =
-    FitsMark-valid c.args.part.now c.args.t c.args.mark (rw c.record_of-written.ensures.value at c.record_of-written.ensures.valid)
+    FitsMark-valid c.args.self.now.part c.args.t c.args.mark (rw c.record_of-written.ensures.value at c.record_of-written.ensures.valid)
 
 pub returns-clause-fits : goal.returns-clause-fits
 returns-clause-fits g c =
-    FitsMark-valid c.args.part.now c.args.t c.args.mark (rw c.record_of-written.ensures.value at c.record_of-written.ensures.valid)
+    FitsMark-valid c.args.self.now.part c.args.t c.args.mark (rw c.record_of-written.ensures.value at c.record_of-written.ensures.valid)

@@ -6,24 +6,24 @@ use Rattle.ss_store.proofs.LiveSlots.{AreSomeLive-go}
 use Rattle.ss_store.proofs.ShownCalls.{TurnsShown-failed}
 use Rattle.ss_store.proofs.Wholes.{JoinsWindows-more, JoinsWindows-none, StandsAfter-none, StandsAfter-then}
 use Rattle.ss_store.proofs.Costs.{StagesAtCost-answers, StagesAtCost-none, StagesAtCost-then}
-use Rattle.ss_store.proofs.closing.stage_joins.Goals as goal
+use Rattle.ss_store.proofs.held.HeldStream.stage_joins.Goals as goal
 
 pub loop-pair-init : goal.loop-pair-init
 loop-pair-init g c = (
   record {
     step = step-none (g.D.Disk.seen c.args.disk.now) _ (λ told.
         let knows = g.met.D.Disk.knows_now c.args.disk.now told in
-        StagesAtCost-none (Ok tt) knows refl (c.requires.one_disk told) (JoinsWindows-none c.args.stream.now.part c.args.records.now _ knows));
+        StagesAtCost-none (Ok tt) knows refl (c.requires.one_disk told) (JoinsWindows-none c.args.self.now.part c.args.records.now _ knows));
     fewer = omega arith;
     same = record { id = refl; name = refl; target = refl; slot = refl; landmarks = refl };
-    stands = StandsAfter-none c.args.stream.now c.args.records.now c.requires.ordered c.requires.settled c.requires.keyed;
+    stands = StandsAfter-none c.args.self.now c.args.records.now c.requires.ordered c.requires.settled c.requires.keyed;
   },
   omega (arith, c.values_held-n.ensures.looks),
 )
 
 pub due-requires : goal.due-requires
 due-requires g c =
-    subst (λ n. IsKeyed n c.loop-pair.stream.part.line.entries c.loop-pair.stream.index.schedule)
+    subst (λ n. IsKeyed n c.loop-pair.self.part.line.entries c.loop-pair.self.index.schedule)
     (c.loop-pair.invariant.0.stands.holds.values ∙ sym c.values_held-n.ensures.value) c.loop-pair.invariant.0.stands.keyed.keyed
 
 pub join-requires-clause-due : goal.join-requires-clause-due
@@ -39,7 +39,7 @@ join-requires-clause-settled g c = c.loop-pair.invariant.0.stands.whole.settled
 
 pub join-requires-clause-live : goal.join-requires-clause-live
 join-requires-clause-live g c =
-    AreSomeLive-go (slots_held c.args.stream.now.part) (slots_held c.loop-pair.stream.part) c.args.records.now.live c.loop-pair.records.live c.requires.live
+    AreSomeLive-go (slots_held c.args.self.now.part) (slots_held c.loop-pair.self.part) c.args.records.now.live c.loop-pair.records.live c.requires.live
     c.loop-pair.invariant.0.stands.whole.live
 
 pub join-requires-clause-one_disk : goal.join-requires-clause-one_disk
@@ -58,7 +58,7 @@ loop-pair-preserved g c =
             StagesAtCost-then {first = 0} {second = 0} (Ok tt) knows (omega arith) (omega arith) (omega (arith, before.fewer, after.fewer)) first second
             (JoinsWindows-more (Ok tt) knows));
         fewer = omega (arith, before.fewer, after.fewer);
-        same = IsSameStream-more c.args.stream.now.part c.loop-pair.stream.part c.join.new.stream.part before.same c.join.ensures.same;
+        same = IsSameStream-more c.args.self.now.part c.loop-pair.self.part c.join.new.self.part before.same c.join.ensures.same;
         stands = StandsAfter-then before.stands after.stands;
       },
       omega (arith, c.loop-pair.invariant.1, c.in-Some.ensures.looks, after.fewer, after.looks),
@@ -66,7 +66,7 @@ loop-pair-preserved g c =
 
 pub returns-in_err-join-clause-closes : goal.returns-in_err-join-clause-closes
 returns-in_err-join-clause-closes g c =
-    let part = c.args.stream.now.part in
+    let part = c.args.self.now.part in
     let p = err_from_is_err_and c.from_residual.result c.from_residual.ensures.1 in
     rw (p.1, p.2)
     (step-next c.loop-pair.invariant.0.step c.in_err-join.ensures.joins (λ told then first second.
@@ -76,13 +76,13 @@ returns-in_err-join-clause-closes g c =
     record {
       turns = λ others s.
           TurnsShown-failed c.args.records.now c.join.new.records c.join.new.records (IsHeldIn others part s) (IsPartlyJoined others s)
-          (IsJoinedIn others c.join.new.stream.part s) _ _ _ _ _ refl (all.turns others s);
+          (IsJoinedIn others c.join.new.self.part s) _ _ _ _ _ refl (all.turns others s);
       firm = all.firm;
     })))
 
 pub returns-in_err-join-clause-same : goal.returns-in_err-join-clause-same
 returns-in_err-join-clause-same g c =
-    IsSameStream-more c.args.stream.now.part c.loop-pair.stream.part c.join.new.stream.part c.loop-pair.invariant.0.same c.join.ensures.same
+    IsSameStream-more c.args.self.now.part c.loop-pair.self.part c.join.new.self.part c.loop-pair.invariant.0.same c.join.ensures.same
 
 pub returns-in_err-join-clause-changed : goal.returns-in_err-join-clause-changed
 returns-in_err-join-clause-changed g c =
@@ -91,16 +91,16 @@ returns-in_err-join-clause-changed g c =
 
 -- at the end none is due
 none_due : (g : _) (c : goal.In_default g) →
-    NoEntriesAreDue (rule_of (params_of c.loop-pair.stream.part.target)) c.values_held-n.result (entries_of c.loop-pair.stream.part)
+    NoEntriesAreDue (rule_of (params_of c.loop-pair.self.part.target)) c.values_held-n.result (entries_of c.loop-pair.self.part)
 none_due g c =
-    NoEntriesAreDue-pairs (rule_of (params_of c.loop-pair.stream.part.target)) c.values_held-n.result c.loop-pair.stream.part.line.entries
+    NoEntriesAreDue-pairs (rule_of (params_of c.loop-pair.self.part.target)) c.values_held-n.result c.loop-pair.self.part.line.entries
     (rw (← c.loop-pair.invariant.0.stands.keyed.target) c.in_default.ensures.none)
 
 pub returns-clause-closes : goal.returns-clause-closes
 returns-clause-closes g c =
     step-as c.loop-pair.invariant.0.step (λ joined. StagesAtCost-answers _ (omega arith) (omega arith) joined (λ joins. record {
       turns = λ others s.
-          TurnsShown-closes c.args.records.now c.loop-pair.records others c.args.stream.now.part c.loop-pair.stream.part s c.values_held-n.result _ _
+          TurnsShown-closes c.args.records.now c.loop-pair.records others c.args.self.now.part c.loop-pair.self.part s c.values_held-n.result _ _
           (c.values_held-n.ensures.value ∙ sym c.loop-pair.invariant.0.stands.holds.values) (none_due g c) joins.turns;
       firm = λ others s held. tt;
     }))
@@ -113,7 +113,7 @@ returns-clause-stands g c = c.loop-pair.invariant.0.stands
 
 pub returns-clause-none_due : goal.returns-clause-none_due
 returns-clause-none_due g c =
-    subst (λ n. NoEntriesAreDue (rule_of (params_of c.loop-pair.stream.part.target)) n (entries_of c.loop-pair.stream.part))
+    subst (λ n. NoEntriesAreDue (rule_of (params_of c.loop-pair.self.part.target)) n (entries_of c.loop-pair.self.part))
     (c.values_held-n.ensures.value ∙ sym c.loop-pair.invariant.0.stands.holds.values) (none_due g c)
 
 pub returns-clause-looks : goal.returns-clause-looks

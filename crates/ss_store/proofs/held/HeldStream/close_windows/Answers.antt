@@ -4,25 +4,25 @@ use Rattle.ss_store.proofs.Joinings.{IsPartlyJoined-none}
 use Rattle.ss_store.proofs.Sealings.{IsHeldIn-of_map, IsPartlyJoined-closed, IsPartlyJoined-of_map, TurnsStream-not_sealed, TurnsStream-sealed}
 use Rattle.ss_store.proofs.Wholes.{KeepsAtRest-sealed}
 use Rattle.ss_store.proofs.Within.{KeepsWithin-answers, KeepsWithin-failed}
-use Rattle.ss_store.proofs.closing.close_windows.Goals as goal
+use Rattle.ss_store.proofs.held.HeldStream.close_windows.Goals as goal
 
 pub returns-in_err-stage_joins-clause-closes : goal.returns-in_err-stage_joins-clause-closes
 returns-in_err-stage_joins-clause-closes g c =
-    let part = c.args.stream.now.part in
+    let part = c.args.self.now.part in
     let p = err_from_is_err_and c.from_residual.result c.from_residual.ensures.1 in
     rw (p.1, p.2)
     (step-as c.in_err-stage_joins.ensures.closes (λ joins.
-    TurnsStream-not_sealed part IsPartlyJoined (λ others s. IsHeldIn others c.stage_joins.new.stream.part (closed_stream s)) c.args.records.now _
+    TurnsStream-not_sealed part IsPartlyJoined (λ others s. IsHeldIn others c.stage_joins.new.self.part (closed_stream s)) c.args.records.now _
     c.requires.at_rest.1 IsPartlyJoined-of_map (λ others s. IsPartlyJoined-none others part s) _ c.stage_joins.new.records c.stage_joins.new.records _ _
-    (λ others s. IsHeldIn others c.stage_joins.new.stream.part (closed_stream s)) refl joins))
+    (λ others s. IsHeldIn others c.stage_joins.new.self.part (closed_stream s)) refl joins))
 
 pub seal-requires-clause-one_disk : goal.seal-requires-clause-one_disk
 seal-requires-clause-one_disk g c = after-step c.in_ok-stage_joins.ensures.closes (λ told has. has.kept)
 
 pub returns-in_err-seal-clause-closes : goal.returns-in_err-seal-clause-closes
 returns-in_err-seal-clause-closes g c =
-    let part = c.args.stream.now.part in
-    let now = c.stage_joins.new.stream.part in
+    let part = c.args.self.now.part in
+    let now = c.stage_joins.new.self.part in
     let p = err_from_is_err_and c.from_residual-in_err-seal.result c.from_residual-in_err-seal.ensures.1 in
     rw (p.1, p.2)
     (step-next c.in_ok-stage_joins.ensures.closes c.in_err-seal.ensures.seals (λ told then staged seals.
@@ -40,8 +40,8 @@ returns-in_err-seal-clause-closes g c =
 
 pub returns-clause-closes : goal.returns-clause-closes
 returns-clause-closes g c =
-    let part = c.args.stream.now.part in
-    let now = c.stage_joins.new.stream.part in
+    let part = c.args.self.now.part in
+    let now = c.stage_joins.new.self.part in
     step-next c.in_ok-stage_joins.ensures.closes c.in_ok-seal.ensures.seals (λ told then staged seals.
     let all = TurnsStream-sealed part IsPartlyJoined (λ others s. IsHeldIn others now (closed_stream s)) c.args.records.now _ c.requires.at_rest.1
     IsPartlyJoined-of_map (λ others s. IsPartlyJoined-none others part s) fine c.stage_joins.new.records c.seal.new.self _ _ _

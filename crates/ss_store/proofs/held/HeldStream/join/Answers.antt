@@ -10,32 +10,32 @@ use Rattle.ss_store.proofs.Rising.{IsTimed-joined, IsTimed-seam, TimesRise-any, 
 use Rattle.ss_store.proofs.ShownCalls.{TurnsShown-answers, TurnsShown-failed}
 use Rattle.ss_store.proofs.Spans.{TileFrom-joined, values_held-joined}
 use Rattle.ss_store.proofs.Costs.{StagesAtCost-after_read, StagesAtCost-answers, StagesAtCost-failed, StagesAtCost-reads}
-use Rattle.ss_store.proofs.closing.join.Goals as goal
+use Rattle.ss_store.proofs.held.HeldStream.join.Goals as goal
 
 pub get-window-requires : goal.get-window-requires
 get-window-requires g c =
-    StandsIn-left (rule_of (params_of c.args.stream.now.part.target)) (values_held (entries_of c.args.stream.now.part)) c.args.stream.now.part.line.entries c.args.pair.left
-    c.args.pair.right (AreDue-pair c.args.stream.now c.args.pair c.requires.due)
+    StandsIn-left (rule_of (params_of c.args.self.now.part.target)) (values_held (entries_of c.args.self.now.part)) c.args.self.now.part.line.entries c.args.pair.left
+    c.args.pair.right (AreDue-pair c.args.self.now c.args.pair c.requires.due)
 
 pub get-next-requires : goal.get-next-requires
 get-next-requires g c =
-    StandsIn-right (rule_of (params_of c.args.stream.now.part.target)) (values_held (entries_of c.args.stream.now.part)) c.args.stream.now.part.line.entries c.args.pair.left
-    c.args.pair.right (AreDue-pair c.args.stream.now c.args.pair c.requires.due)
+    StandsIn-right (rule_of (params_of c.args.self.now.part.target)) (values_held (entries_of c.args.self.now.part)) c.args.self.now.part.line.entries c.args.pair.left
+    c.args.pair.right (AreDue-pair c.args.self.now c.args.pair c.requires.due)
 
 pub read_joined-requires-clause-live : goal.read_joined-requires-clause-live
 read_joined-requires-clause-live g c =
-    let pair = ArePair-read c.args.stream.now.part c.args.pair.left c.args.pair.right c.get-window.result c.get-next.result (AreDue-pair c.args.stream.now c.args.pair c.requires.due) c.requires.due.ordered.tiles
+    let pair = ArePair-read c.args.self.now.part c.args.pair.left c.args.pair.right c.get-window.result c.get-next.result (AreDue-pair c.args.self.now c.args.pair c.requires.due) c.requires.due.ordered.tiles
     c.get-window.ensures.entry c.get-next.ensures.entry in
-    AreSomeLive-two c.args.stream.now.part (one_part c.args.stream.now.part (joined_line (AreDue-pair c.args.stream.now c.args.pair c.requires.due)))
+    AreSomeLive-two c.args.self.now.part (one_part c.args.self.now.part (joined_line (AreDue-pair c.args.self.now c.args.pair c.requires.due)))
     c.get-window.result
     c.get-next.result c.args.records.now.live pair.slots c.requires.live
 
 pub read_joined-requires-clause-neighbours : goal.read_joined-requires-clause-neighbours
 read_joined-requires-clause-neighbours g c =
-    let part = c.args.stream.now.part in
+    let part = c.args.self.now.part in
     let w = c.get-window.result in
     let v = c.get-next.result in
-    let pair = ArePair-read part c.args.pair.left c.args.pair.right w v (AreDue-pair c.args.stream.now c.args.pair c.requires.due)
+    let pair = ArePair-read part c.args.pair.left c.args.pair.right w v (AreDue-pair c.args.self.now c.args.pair c.requires.due)
     c.requires.due.ordered.tiles c.get-window.ensures.entry c.get-next.ensures.entry in
     let rise = TimesRise-any part.last_time (entries_of part) c.requires.due.ordered.times in
     record {
@@ -47,12 +47,12 @@ read_joined-requires-clause-neighbours g c =
 
 pub returns-in_err-read_joined-clause-joins : goal.returns-in_err-read_joined-clause-joins
 returns-in_err-read_joined-clause-joins g c =
-    let part = c.args.stream.now.part in
+    let part = c.args.self.now.part in
     let w = c.get-window.result in
     let v = c.get-next.result in
-    let new = one_part part (joined_line (AreDue-pair c.args.stream.now c.args.pair c.requires.due)) in
-    let same = one_part-same part (joined_line (AreDue-pair c.args.stream.now c.args.pair c.requires.due)) in
-    let pair = ArePair-read part c.args.pair.left c.args.pair.right w v (AreDue-pair c.args.stream.now c.args.pair c.requires.due)
+    let new = one_part part (joined_line (AreDue-pair c.args.self.now c.args.pair c.requires.due)) in
+    let same = one_part-same part (joined_line (AreDue-pair c.args.self.now c.args.pair c.requires.due)) in
+    let pair = ArePair-read part c.args.pair.left c.args.pair.right w v (AreDue-pair c.args.self.now c.args.pair c.requires.due)
     c.requires.due.ordered.tiles c.get-window.ensures.entry c.get-next.ensures.entry in
     let failure = c.in_err-read_joined.field-0.0 in
     let p = err_from_is_err_and c.from_residual.result c.from_residual.ensures.1 in
@@ -69,30 +69,30 @@ returns-in_err-read_joined-clause-joins g c =
 
 pub stage_two-requires-clause-valid : goal.stage_two-requires-clause-valid
 stage_two-requires-clause-valid g c =
-    let tiled = (ArePair-read c.args.stream.now.part c.args.pair.left c.args.pair.right c.get-window.result c.get-next.result (AreDue-pair c.args.stream.now c.args.pair c.requires.due) c.requires.due.ordered.tiles
+    let tiled = (ArePair-read c.args.self.now.part c.args.pair.left c.args.pair.right c.get-window.result c.get-next.result (AreDue-pair c.args.self.now c.args.pair c.requires.due) c.requires.due.ordered.tiles
     c.get-window.ensures.entry c.get-next.ensures.entry).tiled in
     let count = c.in_ok-read_joined.ensures.count in
-    is_valid-IsWindow c.args.stream.now.part.id.0 c.get-window.result.first c.in_ok-read_joined.field-0 (omega arith) tiled.first
+    is_valid-IsWindow c.args.self.now.part.id.0 c.get-window.result.first c.in_ok-read_joined.field-0 (omega arith) tiled.first
     (omega (arith, count, tiled.last, tiled.few))
     c.in_ok-read_joined.ensures.possible
 
 pub stage_two-requires-clause-live : goal.stage_two-requires-clause-live
 stage_two-requires-clause-live g c =
-    let pair = ArePair-read c.args.stream.now.part c.args.pair.left c.args.pair.right c.get-window.result c.get-next.result (AreDue-pair c.args.stream.now c.args.pair c.requires.due) c.requires.due.ordered.tiles
+    let pair = ArePair-read c.args.self.now.part c.args.pair.left c.args.pair.right c.get-window.result c.get-next.result (AreDue-pair c.args.self.now c.args.pair c.requires.due) c.requires.due.ordered.tiles
     c.get-window.ensures.entry c.get-next.ensures.entry in
     subst (λ live. AreSomeLive (c.get-window.result.slot ∷ c.get-next.result.slot ∷ []) live) (sym c.read_joined.ensures.live)
-    (AreSomeLive-two c.args.stream.now.part (one_part c.args.stream.now.part (joined_line (AreDue-pair c.args.stream.now c.args.pair c.requires.due)))
+    (AreSomeLive-two c.args.self.now.part (one_part c.args.self.now.part (joined_line (AreDue-pair c.args.self.now c.args.pair c.requires.due)))
     c.get-window.result
     c.get-next.result c.args.records.now.live pair.slots c.requires.live)
 
 pub returns-in_err-stage_two-clause-joins : goal.returns-in_err-stage_two-clause-joins
 returns-in_err-stage_two-clause-joins g c =
-    let part = c.args.stream.now.part in
+    let part = c.args.self.now.part in
     let w = c.get-window.result in
     let v = c.get-next.result in
-    let new = one_part part (joined_line (AreDue-pair c.args.stream.now c.args.pair c.requires.due)) in
-    let same = one_part-same part (joined_line (AreDue-pair c.args.stream.now c.args.pair c.requires.due)) in
-    let pair = ArePair-read part c.args.pair.left c.args.pair.right w v (AreDue-pair c.args.stream.now c.args.pair c.requires.due)
+    let new = one_part part (joined_line (AreDue-pair c.args.self.now c.args.pair c.requires.due)) in
+    let same = one_part-same part (joined_line (AreDue-pair c.args.self.now c.args.pair c.requires.due)) in
+    let pair = ArePair-read part c.args.pair.left c.args.pair.right w v (AreDue-pair c.args.self.now c.args.pair c.requires.due)
     c.requires.due.ordered.tiles c.get-window.ensures.entry c.get-next.ensures.entry in
     let p = err_from_is_err_and c.from_residual-in_err-stage_two.result c.from_residual-in_err-stage_two.ensures.1 in
     rw (p.1, p.2)
@@ -111,29 +111,29 @@ returns-in_err-stage_two-clause-joins g c =
 
 pub returns-in_err-read_joined-clause-changed : goal.returns-in_err-read_joined-clause-changed
 returns-in_err-read_joined-clause-changed g c =
-    let part = c.args.stream.now.part in
+    let part = c.args.self.now.part in
     let w = c.get-window.result in
     let v = c.get-next.result in
-    let pair = ArePair-read part c.args.pair.left c.args.pair.right w v (AreDue-pair c.args.stream.now c.args.pair c.requires.due)
+    let pair = ArePair-read part c.args.pair.left c.args.pair.right w v (AreDue-pair c.args.self.now c.args.pair c.requires.due)
     c.requires.due.ordered.tiles c.get-window.ensures.entry c.get-next.ensures.entry in
     let p = err_from_is_err_and c.from_residual.result c.from_residual.ensures.1 in
     rw (p.1, p.2) (IfChanged-window (Unit {0}) part w v pair.joined c.in_err-read_joined.field-0.0 c.in_err-read_joined.ensures.changed)
 
 -- the line that is left, and what it is to the line before
 line : (g : _) (c : goal.After-merged g) →
-    AreJoined (rule_of (params_of c.args.stream.now.part.target)) (values_held (entries_of c.args.stream.now.part)) c.args.stream.now.part.line.entries c.merged.new.line.entries
+    AreJoined (rule_of (params_of c.args.self.now.part.target)) (values_held (entries_of c.args.self.now.part)) c.args.self.now.part.line.entries c.merged.new.line.entries
     c.get-window.result c.get-next.result
 line g c =
-    let due = AreDue-pair c.args.stream.now c.args.pair c.requires.due in
-    let pair = ArePair-read c.args.stream.now.part c.args.pair.left c.args.pair.right c.get-window.result c.get-next.result due c.requires.due.ordered.tiles
+    let due = AreDue-pair c.args.self.now c.args.pair c.requires.due in
+    let pair = ArePair-read c.args.self.now.part c.args.pair.left c.args.pair.right c.get-window.result c.get-next.result due c.requires.due.ordered.tiles
     c.get-window.ensures.entry c.get-next.ensures.entry in
-    subst (λ es. AreJoined (rule_of (params_of c.args.stream.now.part.target)) (values_held (entries_of c.args.stream.now.part)) c.args.stream.now.part.line.entries es
+    subst (λ es. AreJoined (rule_of (params_of c.args.self.now.part.target)) (values_held (entries_of c.args.self.now.part)) c.args.self.now.part.line.entries es
     c.get-window.result c.get-next.result)
     (sym (c.merged.ensures.joined due.pair)) pair.joined
 
 pub returns-clause-joins : goal.returns-clause-joins
 returns-clause-joins g c =
-    let part = c.args.stream.now.part in
+    let part = c.args.self.now.part in
     let new = record part { line = c.merged.new.line } in
     step-next c.in_ok-read_joined.ensures.joined c.in_ok-stage_two.ensures.stages (λ told told_read read staged.
     let knows = g.met.D.Disk.knows_now c.args.disk.now told in
@@ -156,21 +156,21 @@ returns-clause-fewer g c = c.merged.ensures.fewer
 -- the times that are left
 timed_joined : (g : _) (c : goal.After-merged g) → IsTimed c.merged.new.line.entries c.merged.new.self.times
 timed_joined g c =
-    let part = c.args.stream.now.part in
-    let due = AreDue-pair c.args.stream.now c.args.pair c.requires.due in
+    let part = c.args.self.now.part in
+    let due = AreDue-pair c.args.self.now c.args.pair c.requires.due in
     let it = due.pair in
     let front : List (ℕ × At) = map begun_at it.before ++ (it.window.t_first, c.args.pair.left) ∷ [] in
     let next = next_is (rule_of (params_of part.target)) (values_held (entries_of part)) part.line.entries c.args.pair.left c.args.pair.right due
     c.get-window.result c.get-next.result c.get-window.ensures.entry c.get-next.ensures.entry in
-    let was = IsTimed-seam c.args.stream.now.index.times it.before c.args.pair.left c.args.pair.right it.window it.next it.rest
-    (subst (λ es. IsTimed es c.args.stream.now.index.times) it.is c.requires.due.keyed.timed) in
+    let was = IsTimed-seam c.args.self.now.index.times it.before c.args.pair.left c.args.pair.right it.window it.next it.rest
+    (subst (λ es. IsTimed es c.args.self.now.index.times) it.is c.requires.due.keyed.timed) in
     IsTimed-joined c.merged.new.self.times c.merged.new.line.entries it.before c.args.pair.left it.window it.next it.rest (c.merged.ensures.joined it)
     (c.merged.ensures.times front (map begun_at it.rest) c.args.pair.right
     (was ∙ ap (λ (e : Entry). front ++ (e.t_first, c.args.pair.right) ∷ map begun_at it.rest) next))
 
 pub returns-clause-stands : goal.returns-clause-stands
 returns-clause-stands g c =
-    let part = c.args.stream.now.part in
+    let part = c.args.self.now.part in
     let new = record part { line = c.merged.new.line } in
     let w = c.get-window.result in
     let v = c.get-next.result in
@@ -210,7 +210,7 @@ merged-requires-clause-due g c = rw (c.requires.due.keyed.target, c.values_held-
 
 pub merged-requires-clause-keyed : goal.merged-requires-clause-keyed
 merged-requires-clause-keyed g c =
-    subst (λ n. IsKeyed n c.args.stream.now.part.line.entries c.args.stream.now.index.schedule) (sym c.values_held-n.ensures.value) c.requires.due.keyed.keyed
+    subst (λ n. IsKeyed n c.args.self.now.part.line.entries c.args.self.now.index.schedule) (sym c.values_held-n.ensures.value) c.requires.due.keyed.keyed
 
 pub returns-clause-looks : goal.returns-clause-looks
 returns-clause-looks g c =

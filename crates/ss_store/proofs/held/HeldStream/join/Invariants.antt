@@ -1,4 +1,4 @@
-use Rattle.ss_store.proofs.closing.join.Given as goal
+use Rattle.ss_store.proofs.held.HeldStream.join.Given as goal
 
 abbrev pub ghosts-read_joined-R-Ledger : goal.ghosts-read_joined-R-Ledger
 ghosts-read_joined-R-Ledger g a = record { name = a.reads.name; parts = a.reads.parts }
