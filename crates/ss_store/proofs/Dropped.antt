@@ -1,13 +1,16 @@
 -- A store in which a stream is dropped: what is held then, and what the event does.
 use Rattle.ss_store.proofs.Common.{◌≡◌, ◌∙◌, ℕ, zero, suc, ◌<◌, Bool, true, false, List, [], ◌∷◌, ◌++◌, length, map, flat_map, remove, zip, refl, ap, sym}
-use Rattle.ss_store.proofs.Common.{subst, arith, inl, inr, Err, Ok, None, Result, Some, IsPermutation, get_or, ◌==◌, AllByRecursion, IsDistinct, list_any}
+use Rattle.ss_store.proofs.Common.{subst, arith, inl, inr, Err, Ok, Result, Some, IsPermutation, get_or, ◌==◌, AllByRecursion, IsDistinct, list_any}
 use Rattle.ss_store.proofs.Common.{cases_eq, eq-eqb, ne_eqb, length-map, IsPermutation-append_comm, IsPermutation-append_left, IsPermutation-trans}
-use Rattle.ss_store.proofs.Common.{get_or_from_slice_get, slice_get-map, slice_get_within, DiskView, OfContent, Told, Step, failed, fine, Failed, IsSettled, Record, Option}
-use Rattle.ss_store.proofs.Common.{step-from, same_name, Drop, StreamId, AreKnown, Entry, AreKept, RecordsState, shown_by, closed_state, closed_stream}
+use Rattle.ss_store.proofs.Common.{get_or_from_slice_get, slice_get-map, slice_get_within, DiskView, OfContent, Told, Step, failed, fine, Failed, IsSettled}
+use Rattle.ss_store.proofs.Common.{Record, Option}
+use Rattle.ss_store.proofs.Common.{same_name, Drop, StreamId, AreKnown, Entry, AreKept, RecordsState, shown_by, closed_state, closed_stream}
 use Rattle.ss_store.proofs.Common.{IsState, Stream, numbers_of, stepped, Ack, same_name-Decides, same_name-swap, HasRecords, is_of, records_beside}
 use Rattle.ss_store.proofs.Common.{without_numbered, AllAgree, AreWhole, EndByLast, RiseToLast, TileFrom, entries_of, mark_slots, occupied, records_held}
-use Rattle.ss_store.proofs.Common.{slots_held, HeldStream, StreamParts, held_parts, all_weaker, HasWholeSlots-StandsFor, Applies, RecoversToEither, StepsState, said_of_held}
-use Rattle.ss_store.proofs.Common.{StagesAtCost, IsHeldBeside, RecoversWithOrWithout, StagesDrop, slots_in_turn, IsSound, StoreIsIn, StoreIsKept, StoreState, entry_of}
+use Rattle.ss_store.proofs.Common.{slots_held, HeldStream, StreamParts, held_parts, all_weaker, HasWholeSlots-StandsFor, Applies, RecoversToEither}
+use Rattle.ss_store.proofs.Common.{StepsState, said_of_held}
+use Rattle.ss_store.proofs.Common.{StagesAtCost, IsHeldBeside, RecoversWithOrWithout, StagesDrop, slots_in_turn, IsSound, StoreIsIn, StoreIsKept, StoreState}
+use Rattle.ss_store.proofs.Common.{entry_of}
 use Rattle.ss_store.proofs.Common.{part_named, refuses_held, Recovers, AreSomeLive, LiveSlotsGo, live_slots, Disk, carried-AreHeld}
 use Rattle.std.proofs.Common.{slice_get}
 use Rattle.std.proofs.lemmas.List.Edits.{length-remove}

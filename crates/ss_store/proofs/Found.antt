@@ -1,5 +1,6 @@
 -- The stream at the place where it was found by its name.
-use Rattle.ss_store.proofs.Common.{◌≡◌, ◌∙◌, ℕ, ◌<◌, List, get_or, length, refl, sym, ap, subst, None, Some, length-map, same_Some, slice_get_read, HeldStream, StreamParts, held_parts}
+use Rattle.ss_store.proofs.Common.{◌≡◌, ◌∙◌, ℕ, ◌<◌, List, get_or, length, refl, sym, ap, subst, None, Some, length-map, same_Some, slice_get_read}
+use Rattle.ss_store.proofs.Common.{HeldStream, StreamParts, held_parts}
 use Rattle.ss_store.proofs.Common.{slots_in_turn, part_named, IsPlaceOf}
 use Rattle.std.specs.Prelude.{Option}
 use Rattle.ss_store.proofs.IndexedStreams.{parts-read}

@@ -1,5 +1,5 @@
 -- What is held of one stream among others.
-use Rattle.ss_store.proofs.Common.{◌≡◌, ◌∙◌, ℕ, ◌<◌, Bool, List, [], ◌∷◌, ◌++◌, Some, refl, sym, ap, subst, get_or, length, map-append, map-set, option_map}
+use Rattle.ss_store.proofs.Common.{◌≡◌, ◌∙◌, ℕ, ◌<◌, Bool, List, [], ◌∷◌, ◌++◌, Some, sym, ap, subst, get_or, length, map-append, map-set, option_map}
 use Rattle.ss_store.proofs.Common.{remove, slice_get, slice_get-get_or, slice_get-map, slice_set, All, All-get_or, All-set, length-map, HeldStream, IsScheduled}
 use Rattle.ss_store.proofs.Common.{Index, IsKeyed, RecordsState, StoreState, held_parts}
 use Rattle.std.proofs.Math.ListN.{get_or-map}

@@ -1,6 +1,7 @@
 -- A look at a store: the part that is read, and what a failure leaves.
 use Rattle.ss_store.proofs.Common.{◌≡◌, ◌∙◌, ℕ, true, false, List, get_or, sym, ap, subst, Some, None, Err, IsTrue, IsSome, slice_get, DiskView, IfChanged}
-use Rattle.ss_store.proofs.Common.{IsFirm, HeldStream, StreamParts, held_parts, verdict_of_read, ReadError, Looks, ask_of_fault, verdict_of_ask, StoreState, part_numbered, AskError}
+use Rattle.ss_store.proofs.Common.{IsFirm, HeldStream, StreamParts, held_parts, verdict_of_read, ReadError, Looks, ask_of_fault, verdict_of_ask, StoreState}
+use Rattle.ss_store.proofs.Common.{part_numbered, AskError}
 use Rattle.std.specs.Prelude.{Option}
 use Rattle.ss_query.specs.declared.read_error.ReadError.TheVariants as error
 use Rattle.ss_store.proofs.Spared.{part-read}

@@ -1,7 +1,9 @@
 -- A store in which the landmarks of a stream take a mark: what is known before the call, and what the store does then.
-use Rattle.ss_store.proofs.Common.{◌≡◌, ◌∙◌, ℕ, ◌<◌, ◌≤◌, Bool, true, false, List, get_or, slice_set, length, map, ap, arith, inl, refl, sym, subst, Err, None, Ok}
-use Rattle.ss_store.proofs.Common.{DiskView, OfContent, Step, failed, fine, Failed, LAST_TIME, StreamId, event_name, MOST_SLOTS, CanBeSaid, AreKnown, EndByLast}
-use Rattle.ss_store.proofs.Common.{LandmarksState, has_open, RecordsState, shown_by, entries_of, mark_slots, HeldStream, StreamParts, held_parts, IsMarker, Applies}
+use Rattle.ss_store.proofs.Common.{◌≡◌, ◌∙◌, ℕ, ◌<◌, ◌≤◌, Bool, true, false, List, get_or, slice_set, length, map, ap, arith, inl, refl, sym, subst, Err}
+use Rattle.ss_store.proofs.Common.{None, Ok}
+use Rattle.ss_store.proofs.Common.{DiskView, OfContent, Step, failed, fine, Failed, LAST_TIME, StreamId, event_name, MOST_SLOTS}
+use Rattle.ss_store.proofs.Common.{LandmarksState, has_open, RecordsState, shown_by, entries_of, mark_slots, HeldStream, StreamParts, held_parts, IsMarker}
+use Rattle.ss_store.proofs.Common.{Applies}
 use Rattle.ss_store.proofs.Common.{leaves_no_value, is_plain_value, StagesAtCost, KeepsWhole, values_held, IsHeldIn, IsSound, same_name}
 use Rattle.ss_store.proofs.Common.{StoreIsIn, StoreIsKept, StoreState, of_part, refuses_held, without_spare, CanMark, FitsMark, IsInOpen, IsItsSlot, event_of}
 use Rattle.ss_store.proofs.Common.{slots_used, with_mark, Disk, Mark}
@@ -13,7 +15,7 @@ use Rattle.ss_store.proofs.MarkedCalls.{CanBeSaid-mark, mark_refusal-same}
 use Rattle.ss_store.proofs.Named.{IsAtPlace}
 use Rattle.ss_store.proofs.Refusals.{of_part-named, refuses_held-is}
 use Rattle.ss_store.proofs.Spared.{IsSpared-marks, part-read, same_name-part}
-use Rattle.ss_store.proofs.Taking.{IsTakingAt, applies-taken, applies-untaken, beside, ordered-spared, pair, recovers-before, same-spared, taking, with_stream}
+use Rattle.ss_store.proofs.Taking.{IsTakingAt, applies-taken, applies-untaken, ordered-spared, pair, recovers-before, same-spared, taking, with_stream}
 use Rattle.ss_store.proofs.Valued.{MayStep, MayStep-mark}
 
 -- nor does a mark create a stream
@@ -56,7 +58,8 @@ pub taking-mark : (held : List HeldStream) {records : RecordsState} {stopped : B
     IsMarker view name t mark place slot → refuses_held view.streams (event_of name t mark) ≡ None → t ≤ LAST_TIME →
     (IsInOpen mark → of_part name view.streams (λ part. has_open part.landmarks.landmarks) ≡ true) → stream ≡ get_or held place stream →
     HasRoomFor stream.part.landmarks marks → IsTakingMark (stored held records stopped) catalog name t mark place slot stream.part marks disk
-taking-mark held {records} {stopped} {name = name} {t = t} {mark = mark} {place = place} {slot = slot} {stream = stream} {marks = marks} disk same one_disk sound runs marker none early begun read room =
+taking-mark held {records} {stopped} {name = name} {t = t} {mark = mark} {place = place} {slot = slot} {stream = stream} {marks = marks} disk same
+    one_disk sound runs marker none early begun read room =
     let its = subst (λ (s : StoreState). IsMarker s name t mark place slot) (sym same) marker in
     let takes = taking held disk same one_disk sound runs none in
     let part = part-read (held_parts held) place its.part stream.part its.at (parts-read held place read) in

@@ -1,6 +1,6 @@
 -- A store that takes an event, whichever it is: what is known before the call, and what the store does then.
-use Rattle.ss_store.proofs.Common.{◌≡◌, ◌∙◌, ℕ, ◌+◌, ◌<◌, ◌≤◌, Bool, true, false, List, ◌++◌, flat_map, zip, slice_set, length, ap, arith, refl, sym, subst}
-use Rattle.ss_store.proofs.Common.{Contains, Err, IfSome, None, Ok, Option, Result, Some, max, slice_get_within, DiskView, IfChanged, IsFirm, OfContent}
+use Rattle.ss_store.proofs.Common.{◌≡◌, ◌∙◌, ℕ, ◌+◌, ◌<◌, ◌≤◌, Bool, true, false, List, flat_map, zip, slice_set, length, ap, arith, refl, sym, subst}
+use Rattle.ss_store.proofs.Common.{Contains, Err, IfSome, None, Ok, Option, Result, max, slice_get_within, DiskView, IfChanged, IsFirm, OfContent}
 use Rattle.ss_store.proofs.Common.{Step, Told, Verdict, fine, step-from, Event, Record, StreamId, event_name, AreKnown, New, IsState, IsState-stepped, Stream}
 use Rattle.ss_store.proofs.Common.{stepped, Ack, AllAgree, AreWhole, EndByLast, RiseToLast, TileFrom, entries_of, records_held, slots_held, AreKept, IsSettled}
 use Rattle.ss_store.proofs.Common.{RecordsState, shown_by, HeldStream, StreamParts, HasRecords, IsHeldIn, ReadError, verdict_of_read, window_slots_of, Applies}

@@ -1,5 +1,6 @@
 -- A store one of whose streams takes a value outside landmarks: what is known before the call, and what the store does then.
-use Rattle.ss_store.proofs.Common.{◌≡◌, ◌∙◌, ℕ, ℤ, ◌+◌, ◌<◌, ◌≤◌, Bool, true, false, List, flat_map, get_or, slice_set, length, ap, arith, inl, inr, refl, sym, subst}
+use Rattle.ss_store.proofs.Common.{◌≡◌, ◌∙◌, ℕ, ℤ, ◌+◌, ◌<◌, ◌≤◌, Bool, true, false, List, flat_map, get_or, slice_set, length, ap, arith, inl, inr}
+use Rattle.ss_store.proofs.Common.{sym, subst}
 use Rattle.ss_store.proofs.Common.{Err, None, Ok, Some, DiskView, OfContent, Step, fine, Value, StreamId, LineState, CanBeSaid, New, with_plain_value}
 use Rattle.ss_store.proofs.Common.{has_open, AreKnown, EndByLast, RecordsState, shown_by, entries_of, slots_held, StreamParts, IsTaker, Applies, StagesAtCost}
 use Rattle.ss_store.proofs.Common.{ChangedIsHeld, NoneAreDue, RecoversToEither, Recovers, apply_of_fault, verdict_of_read, IsHalfway, IsSameStream, values_held}
@@ -35,8 +36,8 @@ pub taking-value : (held : List HeldStream) {records : RecordsState} {stopped : 
     refuses_held view.streams (Value name t v) ≡ None → CanBeSaid (Value name t v) → stream ≡ get_or held place stream →
     line.entries ≡ stream.part.line.entries → stream.part.line.spare ≤ line.spare →
     IsTakingValue (stored held records stopped) catalog name t v place slot stream.part line disk
-taking-value held {records} {stopped} {name = name} {t = t} {place = place} {slot = slot} {stream = stream} {line = line} disk same one_disk sound runs taker none
-    said read entries grows =
+taking-value held {records} {stopped} {name = name} {t = t} {place = place} {slot = slot} {stream = stream} {line = line} disk same one_disk sound runs
+    taker none said read entries grows =
     let its = subst (λ (s : StoreState). IsTaker s name t place slot) (sym same) taker in
     let takes = taking held disk same one_disk sound runs none in
     let part = part-read (held_parts held) place its.part stream.part its.at (parts-read held place read) in

@@ -1,5 +1,5 @@
-use Rattle.ss_store.proofs.Common.{◌≡◌, ◌+◌, ◌≤◌, ◌∙◌, List, ℕ, ap, arith, false, length, refl, subst, sym, true, Drop, Unknown, IsScheduled}
-use Rattle.ss_store.proofs.Common.{StoreState, AreSomeLive, held_parts, records_in}
+use Rattle.ss_store.proofs.Common.{◌≡◌, ◌∙◌, List, ℕ, ap, arith, false, length, refl, subst, sym, true, Drop, Unknown, IsScheduled}
+use Rattle.ss_store.proofs.Common.{StoreState, AreSomeLive, held_parts}
 use Rattle.ss_store.proofs.Spared.{SameButSpare-same}
 use Rattle.ss_store.proofs.Applying.{Applies-refused, Applies-starved}
 use Rattle.ss_store.proofs.Costs.{StagesAtCost-answers, StagesAtCost-failed, StagesAtCost-none}
