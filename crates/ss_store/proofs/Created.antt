@@ -20,6 +20,7 @@ use Rattle.ss_store.proofs.Among.{Recovers-held, length-AllAgree}
 use Rattle.ss_store.proofs.KeptStates.{Recovers-StoreIsIn}
 use Rattle.ss_store.proofs.Named.{numbers-AllAgree}
 use Rattle.ss_store.proofs.Stepping.{StepsState-turns}
+use Rattle.ss_recover.proofs.RunHeld.{AllAgree-push}
 
 -- no landmarks, and no room for any
 abbrev pub no_landmarks : LandmarksState
@@ -66,13 +67,6 @@ Agrees-created part streams name params fresh number = record {
   known = subst AreKnown (sym fresh.landmarks) AreKnown-none;
   last_time = fresh.last_time;
 }
-
-AllAgree-push : (parts : List StreamParts) (streams : List Stream) (part : StreamParts) (s : Stream) → AllAgree parts streams → Agrees part s →
-    AllAgree (parts ++ part ∷ []) (streams ++ s ∷ [])
-AllAgree-push [] [] part s each agrees = (agrees, tt)
-AllAgree-push [] (u ∷ us) part s each agrees = absurd each
-AllAgree-push (p ∷ ps) [] part s each agrees = absurd each
-AllAgree-push (p ∷ ps) (u ∷ us) part s each agrees = (each.0, AllAgree-push ps us part s each.1 agrees)
 
 zip-push : {X Y : Type 0} (xs : List X) (ys : List Y) (x : X) (y : Y) → length xs ≡ length ys → zip (xs ++ x ∷ []) (ys ++ y ∷ []) ≡ zip xs ys ++ (x, y) ∷ []
 zip-push [] [] x y same = refl

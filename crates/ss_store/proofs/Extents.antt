@@ -1,7 +1,7 @@
 -- How many slots a file uses, and so how many bytes it has, over calls in a row.
-use Rattle.ss_store.proofs.Common.{◌≡◌, ◌+◌, ◌*◌, ◌<◌, ◌≤◌, ℕ, List, [], ◌∷◌, Ok, ap, arith, length, refl, subst, sym, cond_both, if◌then◌else◌, max, nat_eq}
+use Rattle.ss_store.proofs.Common.{◌≡◌, ◌+◌, ◌*◌, ◌<◌, ◌≤◌, ℕ, List, [], ◌∷◌, Ok, ap, arith, length, cond_both, if◌then◌else◌, max}
 use Rattle.ss_store.proofs.Common.{DiskView, Told, Verdict, Event, HasSealed, entries, is_good, puts_of, is_born, is_unborn, slots_in, IsSealed, JournalState}
-use Rattle.ss_store.proofs.Common.{extent_after, SlotMap, StandsFor, bad_entry, blank_map, changed, not_a_store, stands, MOST_SLOTS, Put, Happened, live}
+use Rattle.ss_store.proofs.Common.{SlotMap, StandsFor, bad_entry, blank_map, changed, not_a_store, stands, MOST_SLOTS, Happened, live}
 use Rattle.ss_store.proofs.Common.{state, Ack, shown_by, Applies, Looks, OpensStore, AllGrowLittle, GrowsLittle, records_in, StoreIsKept, StoreState, Stands}
 use Rattle.ss_store.proofs.Common.{UsesAtMost}
 use Rattle.ss_outside.specs.Verdict as verdicts
@@ -12,13 +12,7 @@ use Rattle.ss_journal.specs.declared.format.TheConstants.{FIRST_SLOT, SLOT_SIZE}
 use Rattle.ss_store.proofs.KeptStates.{AllAgree-recovered}
 use Rattle.ss_store.proofs.LiveCounts.{length-slots}
 use Rattle.ss_store.proofs.Opens.{StandsFor-kept}
-
--- puts never make the extent less
-extent_after-grows : (puts : List Put) (extent : ℕ) → extent ≤ extent_after puts extent
-extent_after-grows [] extent = omega arith
-extent_after-grows (put ∷ puts) extent =
-    cond_both (nat_eq put.slot extent) (extent + 1) extent (λ e. extent ≤ extent_after puts e)
-    (λ next. omega (arith, extent_after-grows puts (extent + 1))) (λ other. extent_after-grows puts extent)
+use Rattle.ss_journal.proofs.PutLemmas.{le-extent_after}
 
 -- nor do entries that are redone
 redo_entries-grows : (n : ℕ) (list : List (List ℕ)) (old found : SlotMap) → Gives (redo_entries n list old) found → old.extent ≤ found.extent
@@ -26,7 +20,7 @@ redo_entries-grows n [] old found is = omega (arith, is.extent)
 redo_entries-grows n (entry ∷ rest) old found gives =
     cond_both (is_good entry old.extent) (redo_entries (n + 1) rest (changed old (puts_of entry))) (bad_entry n)
     (λ r. Gives r found → old.extent ≤ found.extent)
-    (λ good is. omega (arith, redo_entries-grows (n + 1) rest (changed old (puts_of entry)) found is, extent_after-grows (puts_of entry) old.extent))
+    (λ good is. omega (arith, redo_entries-grows (n + 1) rest (changed old (puts_of entry)) found is, le-extent_after (puts_of entry) old.extent))
     (λ bad is. absurd is) gives
 
 -- the slots that lie in a file are used

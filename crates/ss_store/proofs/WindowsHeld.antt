@@ -5,6 +5,7 @@ use Rattle.ss_store.proofs.Common.{find_at, All-permutation, IsPermutation-sym, 
 use Rattle.ss_store.proofs.Common.{MOST_SLOTS, entry_at, index_of, At, Entry, is_live, MOST_VALUES, AreWhole, TileFrom, entries_of, mark_slots, slots_held}
 use Rattle.ss_store.proofs.Common.{window_slots, StreamParts, range-within, window_slots_of, slice_get-entry, part_numbered, AreSomeLive, live_slots}
 use Rattle.ss_store.proofs.Among.{AreWhole-at}
+use Rattle.ss_model.proofs.FoundLemmas.{each-front}
 
 TileFrom-at : (first : ℕ) (es : List Entry) (i : ℕ) (e : Entry) → TileFrom first es → slice_get es i ≡ Some e → (e.first ≤ e.last) × (e.last ≤ MOST_VALUES)
 TileFrom-at first [] i e tiles at = absurd (none-some e at)
@@ -18,10 +19,6 @@ first_at [] ys i x at = absurd (none-some x at)
 first_at (z ∷ zs) ys zero x at = at
 first_at (z ∷ zs) ys (suc i) x at = first_at zs ys i x at
 
-All-front : {X : Type 0} (P : X → Type 0) (xs ys : List X) → AllByRecursion P (xs ++ ys) → AllByRecursion P xs
-All-front P [] ys all = tt
-All-front P (x ∷ xs) ys all = (all.0, All-front P xs ys all.1)
-
 -- slots that are live are some that there are
 slots-below : (slots : List ℕ) (live : List Bool) → AreSomeLive slots live → AllByRecursion (λ slot. slot < length live) slots
 slots-below slots live some =
@@ -31,14 +28,14 @@ slots-below slots live some =
     (All-from_recursion P (range_with_len 0 (length live)) (range-within 0 (length live) (length live) (omega arith))) in
     let each : All P (slots ++ some.0) =
     All-permutation P (live_slots live) (slots ++ some.0) (IsPermutation-sym (slots ++ some.0) (live_slots live) some.1) all in
-    All-front P slots some.0 (recursion_from_All P (slots ++ some.0) each)
+    each-front P slots some.0 (recursion_from_All P (slots ++ some.0) each)
 
 -- those of the windows of a stream, in a store that is whole
 pub window_slots-below : (parts : List StreamParts) (live : List Bool) (place : ℕ) (part : StreamParts) → AreWhole parts live →
     length live ≡ MOST_SLOTS → slice_get parts place ≡ Some part → All (λ slot. slot < MOST_SLOTS) (window_slots_of part)
 window_slots-below parts live place part whole all here =
     let P : ℕ → Type 0 = λ slot. slot < length live in
-    let below = All-front P (window_slots part) (mark_slots part) (slots-below (slots_held part) live (AreWhole-at parts live place part whole here).1) in
+    let below = each-front P (window_slots part) (mark_slots part) (slots-below (slots_held part) live (AreWhole-at parts live place part whole here).1) in
     subst (λ n. All (λ slot. slot < n) (window_slots_of part)) all (All-from_recursion P (window_slots_of part) below.1)
 
 -- what is known of the entry of a window, in a store that is whole
