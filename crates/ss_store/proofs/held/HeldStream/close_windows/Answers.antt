@@ -58,9 +58,3 @@ returns-clause-closes g c =
 
 pub returns-clause-whole : goal.returns-clause-whole
 returns-clause-whole g c = KeepsAtRest-sealed c.in_ok-stage_joins.ensures.stands.whole c.seal.ensures.live c.in_ok-seal.ensures.sealed
-
-pub returns-clause-holds : goal.returns-clause-holds
-returns-clause-holds g c = c.in_ok-stage_joins.ensures.stands.holds
-
-pub returns-clause-scheduled : goal.returns-clause-scheduled
-returns-clause-scheduled g c = (c.in_ok-stage_joins.ensures.stands.keyed, c.in_ok-stage_joins.ensures.none_due)

@@ -150,9 +150,6 @@ returns-clause-joins g c =
       firm = λ others s held. tt;
     }))
 
-pub returns-clause-fewer : goal.returns-clause-fewer
-returns-clause-fewer g c = c.merged.ensures.fewer
-
 -- the times that are left
 timed_joined : (g : _) (c : goal.After-merged g) → IsTimed c.merged.new.line.entries c.merged.new.self.times
 timed_joined g c =
@@ -202,16 +199,6 @@ returns-clause-stands g c =
       };
     }
 
-pub merged-requires-clause-neighbours : goal.merged-requires-clause-neighbours
-merged-requires-clause-neighbours g c = c.requires.due.stands
-
-pub merged-requires-clause-due : goal.merged-requires-clause-due
-merged-requires-clause-due g c = rw (c.requires.due.keyed.target, c.values_held-n.ensures.value) c.requires.due.due
-
 pub merged-requires-clause-keyed : goal.merged-requires-clause-keyed
 merged-requires-clause-keyed g c =
     subst (λ n. IsKeyed n c.args.self.now.part.line.entries c.args.self.now.index.schedule) (sym c.values_held-n.ensures.value) c.requires.due.keyed.keyed
-
-pub returns-clause-looks : goal.returns-clause-looks
-returns-clause-looks g c =
-    omega (arith, c.get-window.ensures.look, c.get-next.ensures.look, c.values_held-n.ensures.looks, c.merged.ensures.looks)

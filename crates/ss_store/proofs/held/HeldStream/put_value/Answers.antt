@@ -93,9 +93,6 @@ returns-clause-puts g c =
       firm = λ others s held. tt;
     }))
 
-pub add_window-requires-clause-room : goal.add_window-requires-clause-room
-add_window-requires-clause-room g c = omega (arith, c.push-at.ensures.below, c.requires.can.reserved.places)
-
 pub add_window-requires-clause-keyed : goal.add_window-requires-clause-keyed
 add_window-requires-clause-keyed g c =
     let part = c.args.self.now.part in
@@ -165,6 +162,3 @@ returns-clause-one_more g c =
     let part = c.args.self.now.part in
     let entry : Entry = single_entry (c.values_held-position.result + 1) c.args.t c.args.slot in
     ap (λ es. length es) c.push-at.ensures.pushed ∙ length-append part.line.entries ((c.push-at.result, entry) ∷ [])
-
-pub returns-clause-looks : goal.returns-clause-looks
-returns-clause-looks g c = omega (arith, c.values_held-position.ensures.looks, c.push-at.ensures.look, c.add_window.ensures.looks)

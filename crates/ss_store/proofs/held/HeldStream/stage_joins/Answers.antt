@@ -34,9 +34,6 @@ join-requires-clause-due g c = record {
   due = rw (c.loop-pair.invariant.0.stands.holds.values, ← c.values_held-n.ensures.value, ← c.loop-pair.invariant.0.stands.keyed.target) c.in-Some.ensures.due;
 }
 
-pub join-requires-clause-settled : goal.join-requires-clause-settled
-join-requires-clause-settled g c = c.loop-pair.invariant.0.stands.whole.settled
-
 pub join-requires-clause-live : goal.join-requires-clause-live
 join-requires-clause-live g c =
     AreSomeLive-go (slots_held c.args.self.now.part) (slots_held c.loop-pair.self.part) c.args.records.now.live c.loop-pair.records.live c.requires.live
@@ -44,9 +41,6 @@ join-requires-clause-live g c =
 
 pub join-requires-clause-one_disk : goal.join-requires-clause-one_disk
 join-requires-clause-one_disk g c = after-step c.loop-pair.invariant.0.step (λ told has. has.kept)
-
-pub loop-pair-smaller : goal.loop-pair-smaller
-loop-pair-smaller g c = omega (arith, c.in_ok-join.ensures.fewer)
 
 pub loop-pair-preserved : goal.loop-pair-preserved
 loop-pair-preserved g c =
@@ -105,16 +99,7 @@ returns-clause-closes g c =
       firm = λ others s held. tt;
     }))
 
-pub returns-clause-same : goal.returns-clause-same
-returns-clause-same g c = c.loop-pair.invariant.0.same
-
-pub returns-clause-stands : goal.returns-clause-stands
-returns-clause-stands g c = c.loop-pair.invariant.0.stands
-
 pub returns-clause-none_due : goal.returns-clause-none_due
 returns-clause-none_due g c =
     subst (λ n. NoEntriesAreDue (rule_of (params_of c.loop-pair.self.part.target)) n (entries_of c.loop-pair.self.part))
     (c.values_held-n.ensures.value ∙ sym c.loop-pair.invariant.0.stands.holds.values) (none_due g c)
-
-pub returns-clause-looks : goal.returns-clause-looks
-returns-clause-looks g c = omega (arith, c.loop-pair.invariant.1, c.in_default.ensures.looks)

@@ -62,20 +62,3 @@ returns-in-Err-clause-within g c runs told =
     (StaysWithin-then {first = records_in c.args.self.now + 1} {second = 0} _ (g.met.D.Disk.knows_now c.stage.new.disk then)
     (omega arith) (omega arith) (c.in_ok-ack.ensures.within runs told)
     (StaysWithin-failed _ refl (omega arith) (c.in-Err.ensures.seals.told then).within))
-
-pub returns-in_err-ack-clause-syncs : goal.returns-in_err-ack-clause-syncs
-returns-in_err-ack-clause-syncs g c runs told =
-    let staged = c.in_err-ack.ensures.syncs runs told in
-    record { rooms = staged.rooms; syncs = omega (arith, staged.syncs); used = staged.used }
-
-pub returns-in-Ok-clause-syncs : goal.returns-in-Ok-clause-syncs
-returns-in-Ok-clause-syncs g c runs told =
-    let then = (c.in_ok-ack.ensures.applies runs).step.tells ∙ told in
-    let staged = c.in_ok-ack.ensures.syncs runs told in
-    record { rooms = staged.rooms; syncs = omega (arith, staged.syncs, c.in-Ok.ensures.syncs.told then); used = staged.used }
-
-pub returns-in-Err-clause-syncs : goal.returns-in-Err-clause-syncs
-returns-in-Err-clause-syncs g c runs told =
-    let then = (c.in_ok-ack.ensures.applies runs).step.tells ∙ told in
-    let staged = c.in_ok-ack.ensures.syncs runs told in
-    record { rooms = staged.rooms; syncs = omega (arith, staged.syncs, c.in-Err.ensures.syncs.told then); used = staged.used }

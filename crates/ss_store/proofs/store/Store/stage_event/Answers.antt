@@ -2,14 +2,8 @@ use Rattle.ss_store.proofs.Common.{◌≡◌, false, rules, true, w64, to_z, of_
 use Rattle.std.specs.Prelude.{FitsSigned}
 use Rattle.ss_store.proofs.store.Store.stage_event.Goals as goal
 
-pub returns-in-Create-clause-said : goal.returns-in-Create-clause-said
-returns-in-Create-clause-said g c = rw c.in-Create.is tt
-
 pub returns-in-Create-clause-applies : goal.returns-in-Create-clause-applies
 returns-in-Create-clause-applies g c = rw c.in-Create.is c.stage_create.ensures.applies
-
-pub returns-in-Create-clause-failed : goal.returns-in-Create-clause-failed
-returns-in-Create-clause-failed g c own = let wrong : false ≡ true = rw c.in-Create.is at own in absurd (cc)
 
 pub returns-then-has_open-clause-said : goal.returns-then-has_open-clause-said
 returns-then-has_open-clause-said g c =
@@ -35,23 +29,11 @@ pub returns-else-has_open-clause-failed : goal.returns-else-has_open-clause-fail
 returns-else-has_open-clause-failed g c own =
     let wrong : of_part c.in-Value.name c.args.self.now.streams (λ part. has_open part.landmarks.landmarks) ≡ true = rw c.in-Value.is at own in absurd (cc)
 
-pub returns-in-Open-clause-said : goal.returns-in-Open-clause-said
-returns-in-Open-clause-said g c = rw c.in-Open.is (rw c.in-Open.is at c.requires.in_time)
-
 pub returns-in-Open-clause-applies : goal.returns-in-Open-clause-applies
 returns-in-Open-clause-applies g c = rw c.in-Open.is c.stage_mark-in-Open.ensures.applies
-
-pub returns-in-Close-clause-said : goal.returns-in-Close-clause-said
-returns-in-Close-clause-said g c = rw c.in-Close.is (rw c.in-Close.is at c.requires.in_time)
 
 pub returns-in-Close-clause-applies : goal.returns-in-Close-clause-applies
 returns-in-Close-clause-applies g c = rw c.in-Close.is c.stage_mark-in-Close.ensures.applies
 
-pub returns-in-Drop-clause-said : goal.returns-in-Drop-clause-said
-returns-in-Drop-clause-said g c = rw c.in-Drop.is tt
-
 pub returns-in-Drop-clause-applies : goal.returns-in-Drop-clause-applies
 returns-in-Drop-clause-applies g c = rw c.in-Drop.is c.stage_drop.ensures.applies
-
-pub returns-in-Drop-clause-failed : goal.returns-in-Drop-clause-failed
-returns-in-Drop-clause-failed g c own = let wrong : false ≡ true = rw c.in-Drop.is at own in absurd (cc)
