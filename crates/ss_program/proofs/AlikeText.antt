@@ -15,7 +15,7 @@ use Rattle.ss_report.specs.declared.reply.Reply.TheVariants.{Done}
 use Rattle.ss_program.specs.Alike.{AsksPresence, HaveSameEvents}
 use Rattle.ss_program.proofs.AlikeLemmas.{AreSeenAlike, ack-old, count-seen, newest-alike, outcome-old, refuses-old, refuses_query-old, refuses_reading-old}
 use Rattle.ss_program.proofs.AlikeLemmas.{refuses_values-old, rows-old, seen-old, sum-seen, windows-told}
-use Rattle.ss_program.proofs.AnswerLemmas.{ask-event, certify-event, last-event, series-event, values-event, windows-event}
+use Rattle.ss_program.proofs.AnswerLemmas.{event-or-none}
 use Rattle.ss_program.proofs.OldLemmas.{kind-has, named-old, origins-alike, read-old}
 use Rattle.ss_catalog.specs.declared.query.Kind.TheVariants as kinds
 
@@ -149,14 +149,11 @@ said-command one other ListAll same sayable plain =
 
 brought-command : (one other : History) (command : Command) → HaveSameEvents one other →
     (command_brings one command).event ≡ (command_brings other command).event
-brought-command one other (Do event) same = ap (λ (b : Brought). b.event) (event-alike one other event same)
-brought-command one other (Ask query) same = ask-event one query ∙ sym (ask-event other query)
-brought-command one other (Certify query end) same = certify-event one query end ∙ sym (certify-event other query end)
-brought-command one other (AskRows series) same = series-event one series ∙ sym (series-event other series)
-brought-command one other (Last name) same = last-event one name ∙ sym (last-event other name)
-brought-command one other (Values name from to) same = values-event one name from to ∙ sym (values-event other name from to)
-brought-command one other (Windows name) same = windows-event one name ∙ sym (windows-event other name)
-brought-command one other ListAll same = refl
+brought-command one other command same = elim (event-or-none command) [
+  | inl is ↦ subst (λ (k : Command). (command_brings one k).event ≡ (command_brings other k).event) (sym is.1)
+      (ap (λ (b : Brought). b.event) (event-alike one other is.0 same))
+  | inr none ↦ none false one ∙ sym (none false other)
+]
 
 said-meaning : (one other : History) (meant : Result (Option Command) Refusal) → HaveSameEvents one other →
     ((command : Command) → meant ≡ Ok (Some command) → IsSayable command) →

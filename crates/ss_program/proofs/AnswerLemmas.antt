@@ -1,24 +1,24 @@
 -- What a line brings, by what it means, and what sending it leaves.
-use Rattle.ss_program.proofs.Common.{⊎_elim, ◌≡◌, ℕ, ◌<◌, Bool, ◌++◌, ◌↔◌, List, [], ◌∷◌, length, Option, Some, None, IsSome, Ok, Err, Result, false, IfErr}
+use Rattle.ss_program.proofs.Common.{⊎_elim, ◌≡◌, ℕ, ◌<◌, Bool, ◌++◌, ◌↔◌, List, [], ◌∷◌, length, Option, Some, None, IsSome, Ok, Err, Result, false}
 use Rattle.ss_program.proofs.Common.{common_steps, refl, sym, ap, ◌∙◌, subst, arith, inl, inr, cases_lt, cond-true, cond-false, le-leb, lt-leb, lt-ltb}
-use Rattle.ss_program.proofs.Common.{append-nil, length-append, flat_map, ◌+◌, nat_le, IsErr, IsTrue, Event, End, Query, Series, Refusal, unless_long}
-use Rattle.ss_program.proofs.Common.{LONGEST_LINE, Command, Do, Ask, Certify, Last, Values, Windows, event_name, added, answer-known, outcome_of, refuses_query}
-use Rattle.ss_program.proofs.Common.{refuses_values, ack_of, refuses, refuses_series, Stream, live, state, stream_named, Outcome, Ack, Failed, said_line, Reply}
-use Rattle.ss_program.proofs.Common.{Answered, Refused, WindowsHead, reads-none, KnowsNow, OnlyReads, DiskView, Told, shown-sealed, IsSealed, RecordsState}
-use Rattle.ss_program.proofs.Common.{shown_by, refuses_query_held, KeepsWithin, StandsForEither, Turns, StoreIsIn, StoreIsKept, StoreState, Stands, ApplyError}
-use Rattle.ss_program.proofs.Common.{refuses_query_held-is, Turns-answers, Turns-failed, Turns-reads, Turns-weaker, KeepsWithin-answers, KeepsWithin-failed}
-use Rattle.ss_program.proofs.Common.{KeepsWithin-reads, AllAgree-recovered, Adds, IsOpen, Replies, at_sink, accepted_in, command_in, framed_replies}
-use Rattle.ss_program.proofs.Common.{answer_replies, brings_in, Brought, command_brings, History, history_after, kept_in, meaning_in, only_replies, refused}
-use Rattle.ss_program.proofs.Common.{text_said, the_event, unless_refused, window_rows, appended, AppendsLess, Sends, StandsAround, IsApplyStop, IsShowStop}
-use Rattle.ss_program.proofs.Common.{IsStop, Status, Done, Usage, RefusedStore, DiskFault, SourceFault, SinkFault, OutOfMemory, InputLimit, RecordChanged}
+use Rattle.ss_program.proofs.Common.{append-nil, length-append, flat_map, ◌+◌, nat_le, IsTrue, Event, Query, Refusal, unless_long, LONGEST_LINE, Command, Do}
+use Rattle.ss_program.proofs.Common.{Ask, Certify, Last, Values, Windows, event_name, added, answer-known, outcome_of, refuses_query, refuses_values, ack_of}
+use Rattle.ss_program.proofs.Common.{refuses, refuses_series, Stream, live, state, stream_named, Outcome, Ack, Failed, said_line, Reply, Answered, Refused}
+use Rattle.ss_program.proofs.Common.{WindowsHead, reads-none, KnowsNow, OnlyReads, DiskView, Told, shown-sealed, IsSealed, RecordsState, shown_by}
+use Rattle.ss_program.proofs.Common.{refuses_query_held, KeepsWithin, StandsForEither, Turns, StoreIsIn, StoreIsKept, StoreState, Stands, ApplyError}
+use Rattle.ss_program.proofs.Common.{refuses_query_held-is, Turns-reads, Turns-weaker, KeepsWithin-reads, AllAgree-recovered, Adds, IsOpen, at_sink}
+use Rattle.ss_program.proofs.Common.{accepted_in, command_in, framed_replies, answer_replies, brings_in, Brought, command_brings, History, history_after}
+use Rattle.ss_program.proofs.Common.{kept_in, meaning_in, only_replies, refused, text_said, the_event, unless_refused, window_rows, Sends, StandsAround}
+use Rattle.ss_program.proofs.Common.{IsApplyStop, IsShowStop, IsStop, Status, HasRows, Question, question_command, newest_replies, newest_of, option_map, not}
+use Rattle.ss_program.proofs.Common.{is_some, first_that_applies, Unknown, ◌⊎◌}
 use Rattle.ss_command.specs.Grammar.{meaning}
 use Rattle.ss_command.specs.declared.command.Command.TheVariants.{Series as AskRows, List as ListAll}
 use Rattle.ss_model.specs.Refusals.{refuses_reading}
-use Rattle.ss_report.specs.declared.reply.Reply.TheVariants.{Done as AckLine}
+use Rattle.ss_report.specs.declared.reply.Reply.TheVariants.{Done as AckLine, Last as LastLine}
 use Rattle.ss_store.specs.declared.error.AskError.{AskError}
-use Rattle.ss_program.proofs.SendLemmas.{AppendsLess-none}
 use Rattle.ss_program.proofs.TextLemmas.{said_line-some}
 use Rattle.ss_catalog.specs.declared.refusal.Refusal.TheVariants as refusals
+use Rattle.ss_program.specs.declared.answer.Question.TheVariants as questions
 use Rattle.ss_store.specs.declared.error.ApplyError.TheVariants as errors
 use Rattle.ss_store.specs.declared.error.AskError.TheVariants as asking
 
@@ -53,23 +53,27 @@ unless_refused-event : (refusal : Option Refusal) (rows : List Reply) → (unles
 unless_refused-event None rows = refl
 unless_refused-event (Some r) rows = refl
 
-pub windows-event : (history : History) (name : List ℕ) → (command_brings history (Windows name)).event ≡ None
-windows-event history name = unless_refused-event (refuses_reading (state history) name) _
+-- so a command is an event, or brings none
+pub event-or-none : (command : Command) →
+    ((event : Event) × (command ≡ Do event)) ⊎ ((framed : Bool) (history : History) → (command_in framed history command).event ≡ None)
+event-or-none (Do event) = inl (event, refl)
+event-or-none (Ask query) = inr (λ framed history. unless_refused-event (refuses_query (state history) query) _)
+event-or-none (Certify query end) = inr (λ framed history. unless_refused-event (refuses_query (state history) query) _)
+event-or-none (AskRows series) = inr (λ framed history. unless_refused-event (refuses_series (state history) series) _)
+event-or-none (Last name) = inr (λ framed history. unless_refused-event (refuses_reading (state history) name) _)
+event-or-none (Values name from to) = inr (λ framed history. unless_refused-event (refuses_values (state history) name from to) _)
+event-or-none (Windows name) = inr (λ framed history. unless_refused-event (refuses_reading (state history) name) _)
+event-or-none ListAll = inr (λ framed history. refl)
 
-pub last-event : (history : History) (name : List ℕ) → (command_brings history (Last name)).event ≡ None
-last-event history name = unless_refused-event (refuses_reading (state history) name) _
+pub rows-event : (history : History) (command : Command) → HasRows command → (command_brings history command).event ≡ None
+rows-event history command rows = elim (event-or-none command) [
+  | inl is ↦ absurd (subst HasRows is.1 rows)
+  | inr none ↦ none false history
+]
 
-pub values-event : (history : History) (name : List ℕ) (from to : ℕ) → (command_brings history (Values name from to)).event ≡ None
-values-event history name from to = unless_refused-event (refuses_values (state history) name from to) _
-
-pub ask-event : (history : History) (query : Query) → (command_brings history (Ask query)).event ≡ None
-ask-event history query = unless_refused-event (refuses_query (state history) query) _
-
-pub certify-event : (history : History) (query : Query) (end : End) → (command_brings history (Certify query end)).event ≡ None
-certify-event history query end = unless_refused-event (refuses_query (state history) query) _
-
-pub series-event : (history : History) (series : Series) → (command_brings history (AskRows series)).event ≡ None
-series-event history series = unless_refused-event (refuses_series (state history) series) _
+pub question-event : (history : History) (question : Question) → (command_brings history (question_command question)).event ≡ None
+question-event history (questions.Query query) = unless_refused-event (refuses_query (state history) query) _
+question-event history (questions.Newest name) = unless_refused-event (refuses_reading (state history) name) _
 
 -- a query that is refused brings its refusal
 pub brings-unanswered : (history : History) (query : Query) (refusal : Refusal) → refuses_query (state history) query ≡ Some refusal →
@@ -151,32 +155,6 @@ pub IsStop-apply : (tells : Bool) (status : Status) → IsApplyStop tells status
 IsStop-apply tells status stop = grind (arith, common_steps)
 
 module _ (speaker : Option ℕ) where
-  -- one reply was sent, or less than it
-  pub Replies-sent : (brought : Brought) (before after : Option (List ℕ)) (reply : Reply) (sent : Result Unit Failed) →
-      brought.replies ≡ reply ∷ [] → Sends before after (said_line speaker reply) sent → Replies speaker brought before after (at_sink sent)
-  Replies-sent brought before after reply (Ok u) one sends =
-      sends ∙ ap (λ bs. appended before bs) (sym (append-nil (said_line speaker reply)) ∙ ap (λ rs. flat_map (said_line speaker) rs) (sym one))
-  Replies-sent brought before after reply (Err e) one sends =
-      subst (λ bs. AppendsLess before after bs) (sym (append-nil (said_line speaker reply)) ∙ ap (λ rs. flat_map (said_line speaker) rs) (sym one)) sends
-
-  -- what a command shows was sent, or less than it
-  pub Replies-only_replies : (tells : Bool) (brought : Brought) (before after : Option (List ℕ)) (sent : Result Unit Status) → IfErr sent (IsShowStop tells) →
-      Sends before after (text_said speaker brought) sent → Replies speaker brought before after sent
-  Replies-only_replies tells brought before after sent stop sends = grind (arith, common_steps)
-
-  -- no reply was sent to an event at which the store stopped the run
-  pub Replies-stopped : (tells : Bool) (brought : Brought) (held : Option (List ℕ)) (status : Status) → IsApplyStop tells status → IsSome brought.event →
-      0 < length (text_said speaker brought) → Replies speaker brought held held (Err status)
-  Replies-stopped tells brought held DiskFault stop event some = AppendsLess-none held (text_said speaker brought) some
-  Replies-stopped tells brought held RecordChanged stop event some = AppendsLess-none held (text_said speaker brought) some
-  Replies-stopped tells brought held OutOfMemory stop event some = (refl, event)
-  Replies-stopped tells brought held Done stop event some = absurd stop
-  Replies-stopped tells brought held Usage stop event some = absurd stop
-  Replies-stopped tells brought held RefusedStore stop event some = absurd stop
-  Replies-stopped tells brought held SourceFault stop event some = absurd stop
-  Replies-stopped tells brought held SinkFault stop event some = absurd stop
-  Replies-stopped tells brought held InputLimit stop event some = absurd stop
-
   -- an event has a reply
   pub event-some : (framed : Bool) (history : History) (event : Event) (refusal : Option Refusal) → IsSome (unless_refused refusal (accepted_in framed history event)).event →
       0 < length (text_said speaker (unless_refused refusal (accepted_in framed history event)))
@@ -199,26 +177,31 @@ module _ (speaker : Option ℕ) where
   answer-some None (Some outcome) known = one_reply-some (Answered outcome)
   answer-some (Some refusal) outcome known = one_reply-some (Refused refusal)
 
-  pub ask-some : (history : History) (query : Query) → 0 < length (text_said speaker (command_brings history (Ask query)))
-  ask-some history query =
+  newest-some : (o : Option Stream) →
+      0 < length (text_said speaker (unless_refused (first_that_applies ((not (is_some o), Unknown) ∷ []))
+      (only_replies (newest_replies (option_map newest_of o)))))
+  newest-some None = one_reply-some (Refused Unknown)
+  newest-some (Some s) = one_reply-some (LastLine (newest_of s))
+
+  pub question-some : (history : History) (question : Question) → 0 < length (text_said speaker (command_brings history (question_command question)))
+  unfolding refuses_reading
+  question-some history (questions.Query query) =
       answer-some (refuses_query (state history) query) (outcome_of (state history) query) (answer-known (state history) query)
+  question-some history (questions.Newest name) = newest-some (stream_named name (state history))
+
+  command-some : (framed : Bool) (history : History) (command : Command) → IsSome (command_in framed history command).event →
+      0 < length (text_said speaker (command_in framed history command))
+  command-some framed history command some = elim (event-or-none command) [
+    | inl is ↦ subst (λ (k : Command). IsSome (command_in framed history k).event → 0 < length (text_said speaker (command_in framed history k))) (sym is.1)
+        (event-some framed history is.0 (refuses (state history) is.0)) some
+    | inr none ↦ (let wrong = subst (λ e. IsSome e) (none framed history) some in cc)
+  ]
 
   pub meaning-some : (framed : Bool) (history : History) (means : Result (Option Command) Refusal) → IsSome (meaning_in framed history means).event →
       0 < length (text_said speaker (meaning_in framed history means))
   meaning-some framed history (Err refusal) some = cc
   meaning-some framed history (Ok None) some = cc
-  meaning-some framed history (Ok (Some (Do event))) some = event-some framed history event (refuses (state history) event) some
-  meaning-some framed history (Ok (Some (Ask query))) some = let none = ask-event history query in cc
-  meaning-some framed history (Ok (Some (Certify query end))) some = let none = certify-event history query end in cc
-  meaning-some framed history (Ok (Some (AskRows series))) some = let none = series-event history series in cc
-  meaning-some framed history (Ok (Some (Last name))) some = let none = last-event history name in cc
-  meaning-some framed history (Ok (Some (Values name from to))) some = let none = values-event history name from to in cc
-  meaning-some framed history (Ok (Some (Windows name))) some = let none = windows-event history name in cc
-  meaning-some framed history (Ok (Some ListAll)) some = cc
-
--- what a call answers
-abbrev answered : {T : Type 0} → T → Result T Status
-answered value = Ok value
+  meaning-some framed history (Ok (Some command)) some = command-some framed history command some
 
 -- A call that only reads adds nothing, where the line brings no event.
 pub Adds-reads : {T : Type 0} (history : History) (brought : Brought) (old new : Told) (result : Result T Status) →
@@ -229,22 +212,6 @@ Adds-reads history brought old new result none knows reads = record {
       (λ has image is. subst (λ h. Stands h image) (sym (history-still history brought (none has))) is)
       (Turns-reads (Stands history) (Stands history) old new result knows reads (λ has. has));
   within = λ stands. KeepsWithin-reads result knows reads;
-}
-
--- a step answered Ok, and the call whatever it answers, or the failure of the step is handed on
-pub Adds-answers : {S T : Type 0} (history : History) (brought : Brought) (old new : Told) (value : S) (result : Result T Status) →
-    Adds history brought old new (answered value) → Adds history brought old new result
-Adds-answers history brought old new value result adds = record {
-  turns = Turns-answers (Stands history) (StandsAround history brought) (Stands (history_after history brought)) old new value result adds.turns;
-  within = λ stands. KeepsWithin-answers result (adds.within stands);
-}
-
-pub Adds-failed : {S T : Type 0} (history : History) (brought : Brought) (old new : Told) (step : Result S Status) (result : Result T Status) →
-    IsErr result → Adds history brought old new step → Adds history brought old new result
-Adds-failed history brought old new step result failed adds = record {
-  turns = Turns-failed (Stands history) (StandsAround history brought) (Stands (history_after history brought)) (Stands (history_after history brought))
-      old new step result failed adds.turns;
-  within = λ stands. KeepsWithin-failed result failed (adds.within stands);
 }
 
 -- and so doesn't no call

@@ -1,13 +1,11 @@
 -- A line of a session, by what it brings.
-use Rattle.ss_program.proofs.Common.{◌⊎◌, ◌≡◌, ℕ, Bool, ◌<◌, ◌++◌, List, [], ◌∷◌, length, Option, Some, None, IsSome, Result, Ok, Err, refl, sym, ap, ◌∙◌}
-use Rattle.ss_program.proofs.Common.{subst, arith, append-nil, flat_map, IsTrue, OnOk, Event, Do, refuses, state, of_content, reads-none, KnowsNow}
-use Rattle.ss_program.proofs.Common.{shown-sealed, DiskView, Told, RecordsState, shown_by, said_line, Reply, TurnsHistory, StoreState, Stands, Amid, GoesAmid}
-use Rattle.ss_program.proofs.Common.{IsAmid, Owed, StagesBrought, TakesBrought, TakesNone, TakesTurn, amid, owed_by, with_text, IsOpen, Brought, History}
-use Rattle.ss_program.proofs.Common.{command_in, history_after, nothing, text_said, IsAlone, HoldsTalk, StandsAround, StandsWithin, StopsIn, appended}
-use Rattle.ss_program.proofs.Common.{after_line, after_lines, text_of, Talk, Turn, after_turn, silent, turn_brought, turn_of, Cursors, Sealing, Each, Shared}
-use Rattle.ss_program.proofs.Common.{Status, OutOfMemory}
+use Rattle.ss_program.proofs.Common.{◌⊎◌, ◌≡◌, ℕ, ◌<◌, ◌++◌, List, [], ◌∷◌, length, Option, Some, None, Result, Ok, Err, refl, sym, ap, ◌∙◌, subst, arith}
+use Rattle.ss_program.proofs.Common.{append-nil, flat_map, IsTrue, OnOk, of_content, reads-none, KnowsNow, shown-sealed, DiskView, Told, RecordsState, shown_by}
+use Rattle.ss_program.proofs.Common.{said_line, Reply, TurnsHistory, StoreState, Stands, Amid, GoesAmid, IsAmid, Owed, StagesBrought, TakesBrought, TakesNone}
+use Rattle.ss_program.proofs.Common.{TakesTurn, amid, owed_by, with_text, IsOpen, Brought, History, history_after, nothing, text_said, IsAlone, HoldsTalk}
+use Rattle.ss_program.proofs.Common.{StandsAround, StandsWithin, StopsIn, appended, after_line, after_lines, text_of, Talk, Turn, after_turn, silent}
+use Rattle.ss_program.proofs.Common.{turn_brought, turn_of, Cursors, Sealing, Each, Shared, Status, OutOfMemory, TakesStarved, Step, disk_verdict}
 use Rattle.ss_program.proofs.AmidLemmas.{GoesAmid-none, Takes-next, Takes-then, said-all}
-use Rattle.ss_program.proofs.AnswerLemmas.{event-some}
 use Rattle.ss_program.proofs.SealLemmas.{line-owed, line-stopped}
 use Rattle.ss_program.proofs.SessionLemmas.{StopsIn-more, after_lines-push, moments-more, text_of-one, text_of-push}
 use Rattle.ss_program.proofs.StagingLemmas.{Turns-looked}
@@ -272,18 +270,13 @@ module _ {was mid is : RecordsState} {owed between left : Owed} {held middle aft
   TakesBrought-next first second cursors =
       TakesTurn-next cursors (λ talk. turn_brought speaker talk (brought talk.history)) u result first (second cursors)
 
--- memory ran out at an event
-pub TakesBrought-starved : {was is : RecordsState} {owed left : Owed} {held after : Option (List ℕ)} {old new : Told} {u : Unit {0}}
-    (framed : Bool) (speaker : Option ℕ) (event : Event) → KnowsNow new → left.text ≡ [] → shown_by is new.content ≡ new.content →
-    ((history : History) → Stands history (shown_by was old.content) → IsSome (command_in framed history (Do event)).event) →
-    TakesNone (amid was owed held) (amid is left after) (Ok u) old new →
-    TakesBrought speaker (λ history. command_in framed history (Do event)) (amid was owed held) (amid is left after) (Err OutOfMemory) old new
-TakesBrought-starved framed speaker event knows none sealed accepted takes cursors =
-    TakesTurn-starved cursors (λ talk. turn_brought speaker talk (command_in framed talk.history (Do event))) knows none sealed
-    (λ here same stands. (
-      accepted here.history stands,
-      event-some speaker framed here.history event (refuses (state here.history) event) (accepted here.history stands),
-    )) takes
+-- memory ran out at a line, at which nothing was done
+pub step-starved : {was is : RecordsState} {owed : Owed} {held : Option (List ℕ)} {to : Cursors → Amid} {status : Status} {old mid new : DiskView} →
+    mid ≡ old → is ≡ was → Step (disk_verdict status) mid new (TakesStarved is (amid is owed held) to status) →
+    Step (disk_verdict status) old new (TakesStarved was (amid was owed held) to status)
+step-starved {was = was} {owed = owed} {held = held} {to = to} {status = status} {mid = mid} {new = new} still same starves =
+    subst (λ d. Step (disk_verdict status) d new (TakesStarved was (amid was owed held) to status)) still
+    (subst (λ r. Step (disk_verdict status) mid new (TakesStarved r (amid r owed held) to status)) same starves)
 
 -- where nothing is staged, what records show is the content
 pub shown-opened : (disk : DiskView) (store : StoreState) (result : Result (Unit {0}) Status) → OnOk result (IsOpen disk store) →

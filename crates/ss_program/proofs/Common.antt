@@ -102,8 +102,9 @@ pub use Rattle.ss_outside.specs.declared.source.Failed.{Failed}
 pub use Rattle.ss_power.specs.Power.{power_length}
 pub use Rattle.ss_program.specs.Amid.{Amid, AreOwed, GoesAmid, HasRoom, IsAmid, IsAtRest, IsReady, Takes, TakesNone, one_more, owed_by, with_text, Owed}
 pub use Rattle.ss_program.specs.Amid.{StagesBrought, TakesBrought, TakesTurn, amid, OfAmid, TakesBytes, TakesLast, TakesOrdered, StagesFramed, staged_replies}
-pub use Rattle.ss_program.specs.Answer.{IsOpen, IsServing, Adds, Replies, at_sink, SendsRows, AsksQuery, AppliesEvent, DoesCommand, Shows, TakesLine}
-pub use Rattle.ss_program.specs.Answer.{IsTextBrought, IsRowsText}
+pub use Rattle.ss_program.specs.Amid.{TakesStarved}
+pub use Rattle.ss_program.specs.Answer.{IsOpen, IsServing, Adds, at_sink, SendsRows, AsksQuery, AppliesEvent, DoesCommand, Shows}
+pub use Rattle.ss_program.specs.Answer.{IsTextBrought, IsRowsText, HasRows, question_command}
 pub use Rattle.ss_program.specs.Asked.{IsOrder, heard_of, rows_asked, IsAsked, NoneCloses, rows_asked_by, rows_asked_in}
 pub use Rattle.ss_program.specs.Certifying.{HasEvidence, FindsEvidence, IsSharp}
 pub use Rattle.ss_program.specs.Chained.{AreLinked, Ending, Extends, ExtendsAll, IsLeftBy, IsLink, Link, acked_in, acked_till, by_crash, by_itself, offered_in}
@@ -137,6 +138,7 @@ pub use Rattle.ss_program.specs.Talk.{plain, Talk, turn_of, Turn, after_turn, si
 pub use Rattle.ss_program.specs.Talk.{turn_in, turn_spoken, writing, event_turn, plain_over, turn_to, kept_framed, kept_offered, kept_turn, turn_said}
 pub use Rattle.ss_program.specs.Tally.{HasRun, IsSingle, Tallies, RunsAll}
 pub use Rattle.ss_program.specs.Words.{usage}
+pub use Rattle.ss_program.specs.declared.answer.Question.{Question}
 pub use Rattle.ss_program.specs.declared.running.TheConstants.{LONGEST_INPUT}
 pub use Rattle.ss_program.specs.declared.staging.Staged.{Staged}
 pub use Rattle.ss_program.specs.declared.status.Status.{Status}

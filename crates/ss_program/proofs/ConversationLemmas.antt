@@ -1,19 +1,19 @@
 -- What a line brings that asks for a command, whichever form the conversation has, and what lines leave of its history.
 use Rattle.ss_program.proofs.Common.{◌≡◌, ◌∙◌, ◌++◌, ℕ, List, [], ◌∷◌, Option, Some, None, Result, Ok, Err, Bool, true, false, refl, sym, ap, subst, append-nil}
 use Rattle.ss_program.proofs.Common.{codes, if◌then◌else◌, option_map, Form, Lines, Sessions, Frames, Follow, Event, Create, Value, Open, Close, Drop, Refusal}
-use Rattle.ss_program.proofs.Common.{◌>>=◌, meaning, name_of, unless_long, first_word, is_word, rest_of, words, IsSayable, meant-sayable, Command, Do, Ask}
-use Rattle.ss_program.proofs.Common.{Certify, Last, Values, Windows, SpellsFrame-frame_in, FrameState, IsValidFrame, frame_in, CanBeSaid, IsHistory, refuses}
-use Rattle.ss_program.proofs.Common.{state, due_in, Due, Next, Gap, Cursors, asked_of, close_of, form_of, next_of, open_of, said_of, spoken_of, Order, Spoken}
-use Rattle.ss_program.proofs.Common.{Nothing, Unaddressed, To, IsAsked, order_in, History, accepted_frame, brings, brings_in, command_brings, command_in}
-use Rattle.ss_program.proofs.Common.{due_brings, frame_brings, meaning_in, the_event, after_line, after_lines, Talk, is_framed, kept_spoken, meant_turn}
-use Rattle.ss_program.proofs.Common.{turn_brought, turn_in, turn_of, turn_spoken, writing}
-use Rattle.ss_command.specs.declared.command.Command.TheVariants.{Series as AskRows, List as ListAll}
+use Rattle.ss_program.proofs.Common.{◌>>=◌, meaning, name_of, unless_long, first_word, is_word, rest_of, words, IsSayable, meant-sayable, Command, Do}
+use Rattle.ss_program.proofs.Common.{SpellsFrame-frame_in, FrameState, IsValidFrame, frame_in, CanBeSaid, IsHistory, refuses, state, due_in, Due, Next, Gap}
+use Rattle.ss_program.proofs.Common.{Cursors, asked_of, close_of, form_of, next_of, open_of, said_of, spoken_of, Order, Spoken, Nothing, Unaddressed, To}
+use Rattle.ss_program.proofs.Common.{IsAsked, order_in, History, accepted_frame, brings, brings_in, command_brings, command_in, due_brings, frame_brings}
+use Rattle.ss_program.proofs.Common.{meaning_in, the_event, after_line, after_lines, Talk, is_framed, kept_spoken, meant_turn, turn_brought, turn_in, turn_of}
+use Rattle.ss_program.proofs.Common.{turn_spoken, writing, Turn, inl, inr}
 use Rattle.ss_replica.specs.declared.judging.Due.TheVariants.{Old as OldFrame}
 use Rattle.ss_program.proofs.CursorLemmas.{close-event, next-event, open-event}
 use Rattle.ss_program.proofs.HeardLemmas.{kept-heard, kept-to}
 use Rattle.ss_program.proofs.LawLemmas.{event-leaves, meaning-leaves, sayable-said}
 use Rattle.ss_catalog.specs.declared.refusal.Refusal.TheVariants as refusals
 use Rattle.ss_sessions.specs.declared.order.Order.TheVariants as orders
+use Rattle.ss_program.proofs.MeantLemmas.{event-or-silent}
 
 -- ---- a session's command is what a line by itself means
 
@@ -164,17 +164,11 @@ written-leaves talk (Close name t) None is said whole = event-leaves false talk.
 
 meant-leaves : (talk : Talk) (meant : Result (Option Command) Refusal) → ((command : Command) → meant ≡ Ok (Some command) → IsSayable command) →
     IsHistory talk.history → IsHistory (talk.history ++ the_event (meant_turn talk meant).event)
-meant-leaves talk (Err refusal) sayable whole = stays talk.history None refl whole
-meant-leaves talk (Ok None) sayable whole = stays talk.history None refl whole
-meant-leaves talk (Ok (Some (Do event))) sayable whole =
-    written-leaves talk event (refuses (state talk.history) event) refl (sayable-said event (sayable (Do event) refl)) whole
-meant-leaves talk (Ok (Some (Ask query))) sayable whole = stays talk.history None refl whole
-meant-leaves talk (Ok (Some (Certify query end))) sayable whole = stays talk.history None refl whole
-meant-leaves talk (Ok (Some (AskRows series))) sayable whole = stays talk.history None refl whole
-meant-leaves talk (Ok (Some (Last name))) sayable whole = stays talk.history None refl whole
-meant-leaves talk (Ok (Some (Values name from to))) sayable whole = stays talk.history None refl whole
-meant-leaves talk (Ok (Some (Windows name))) sayable whole = stays talk.history None refl whole
-meant-leaves talk (Ok (Some ListAll)) sayable whole = stays talk.history None refl whole
+meant-leaves talk meant sayable whole = elim (event-or-silent meant) [
+  | inl is ↦ subst (λ (m : Result (Option Command) Refusal). IsHistory (talk.history ++ the_event (meant_turn talk m).event)) (sym is.1)
+      (written-leaves talk is.0 (refuses (state talk.history) is.0) refl (sayable-said is.0 (sayable (Do is.0) is.1)) whole)
+  | inr none ↦ subst (λ (t : Turn). IsHistory (talk.history ++ the_event t.event)) (sym (none talk)) (stays talk.history None refl whole)
+]
 
 -- the event of a frame can be said
 frame-said : (piece : List ℕ) (frame : FrameState) → frame_in piece ≡ Some frame → CanBeSaid frame.event

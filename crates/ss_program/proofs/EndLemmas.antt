@@ -34,76 +34,67 @@ open-refuses (opening.BadSlot n) old new before after had has opens reads said =
 open-refuses (opening.BadStream id) old new before after had has opens reads said = refused-refuses before after old new reads
 open-refuses (opening.Changed slot) old new before after had has opens reads said = absurd opens
 
-Ends-refused : (error : OpenError) (found : Recovered) (line : List ℕ) → refusal_line found ≡ Some line → (old new : DiskView) (before after : Option (List ℕ)) (had has : ℕ) → new.tells ≡ old.tells →
-    new.faults ≡ old.faults → (IsTrue old.tells → OpensAs old.told.content (Err error)) →
-    (IsTrue old.tells → IsRefusedContent old.told.content → OnlyReads old.told new.told) → AsRefused error before after had has →
-    (IsTrue old.tells → refusal_line (recover old.told.content) ≡ Some line) → SaysLine line before after had has →
-    status_of_open error ≡ RefusedStore → Ends (over old before had) (over new after has) RefusedStore
-Ends-refused error found line is_found old new before after had has tells counted opens reads said is_line says status =
-    let refused = λ (told : IsTrue old.tells). subst (λ o. IsSome o) (sym (is_line told)) refl in
-    record {
-      known = λ w. cc;
-      disk = record {
-        tells = tells;
-        counted = counted;
-        told = λ told some.
-            subst (λ s. Refuses before after s old.told new.told) status
-            (open-refuses error old.told new.told before after had has (opens told) (reads told some) said);
-      };
-      sink = λ other. absurd (other refl);
-      refused = λ _ told. record { line = line; is_line = is_line told; said = says; unwritten = reads told (refused told) };
-      said = λ _. record { found = found; line = line; is_line = is_found; said = says };
-      firm = λ w. cc;
-    }
+module _ (T : Type 0) (error : OpenError) {old new : DiskView} {before after : Option (List ℕ)} {had has : ℕ} (tells : new.tells ≡ old.tells)
+    (counted : Counted (verdict_of_opening {T = T} (Err error)) old.faults new.faults) (opens : IsTrue old.tells → OpensAs old.told.content (Err error))
+    (reads : IsTrue old.tells → IsRefusedContent old.told.content → OnlyReads old.told new.told) (said : AsRefused error before after had has) where
+  Ends-refused : (found : Recovered) (line : List ℕ) → refusal_line found ≡ Some line →
+      (IsTrue old.tells → refusal_line (recover old.told.content) ≡ Some line) → SaysLine line before after had has → status_of_open error ≡ RefusedStore → new.faults ≡ old.faults →
+      Ends (over old before had) (over new after has) RefusedStore
+  Ends-refused found line is_found is_line says status still =
+      let refused = λ (told : IsTrue old.tells). subst (λ o. IsSome o) (sym (is_line told)) refl in
+      record {
+        known = λ w. cc;
+        disk = record {
+          tells = tells;
+          counted = still;
+          told = λ told some.
+              subst (λ s. Refuses before after s old.told new.told) status
+              (open-refuses error old.told new.told before after had has (opens told) (reads told some) said);
+        };
+        sink = λ other. absurd (other refl);
+        refused = λ _ told. record { line = line; is_line = is_line told; said = says; unwritten = reads told (refused told) };
+        said = λ _. record { found = found; line = line; is_line = is_found; said = says };
+        firm = λ w. cc;
+      }
+
+  -- no line is said, where the disk failed, or memory ran out, or a slot had changed
+  Ends-silent : Counted (disk_verdict (status_of_open error)) old.faults new.faults → (status_of_open error ≡ Usage → ⊥) →
+      (status_of_open error ≡ RefusedStore → ⊥) → Counted (sink_verdict (status_of_open error)) had has →
+      (status_of_open error ≡ RecordChanged → IsTrue old.tells → ⊥) → Ends (over old before had) (over new after has) (status_of_open error)
+  Ends-silent cause known other unsaid firm = record {
+    known = known;
+    disk = record {
+      tells = tells;
+      counted = cause;
+      told = λ told some. open-refuses error old.told new.told before after had has (opens told) (reads told some) said;
+    };
+    sink = λ _. unsaid;
+    refused = λ is. absurd (other is);
+    said = λ is. absurd (other is);
+    firm = firm;
+  }
 
 -- The store wasn't opened: nothing but the line of a refusal is said.
-pub Ends-unopened : (T : Type 0) (error : OpenError) (old new : DiskView) (before after : Option (List ℕ)) (had has : ℕ) → new.tells ≡ old.tells →
+pub Ends-unopened : (T : Type 0) (error : OpenError) {old new : DiskView} {before after : Option (List ℕ)} {had has : ℕ} → new.tells ≡ old.tells →
     Counted (verdict_of_opening {T = T} (Err error)) old.faults new.faults → (IsTrue old.tells → OpensAs old.told.content (Err error)) →
     (IsTrue old.tells → IsRefusedContent old.told.content → OnlyReads old.told new.told) → AsRefused error before after had has →
     Ends (over old before had) (over new after has) (status_of_open error)
-Ends-unopened T opening.Disk old new before after had has tells counted opens reads said = record {
-  known = λ w. cc;
-  disk = record {
-    tells = tells;
-    counted = counted;
-    told = λ told refused.
-        open-refuses opening.Disk old.told new.told before after had has (opens told) (reads told refused) said;
-  };
-  sink = λ _. said.1;
-  refused = λ w. cc;
-  said = λ w. cc;
-  firm = λ w. cc;
-}
-Ends-unopened T opening.OutOfMemory old new before after had has tells counted opens reads said = record {
-  known = λ w. cc;
-  disk = record {
-    tells = tells;
-    counted = counted;
-    told = λ told refused.
-        open-refuses opening.OutOfMemory old.told new.told before after had has (opens told) (reads told refused) said;
-  };
-  sink = λ _. said.1;
-  refused = λ w. cc;
-  said = λ w. cc;
-  firm = λ w. cc;
-}
-Ends-unopened T (opening.Changed slot) old new before after had has tells counted opens reads said = record {
-  known = λ w. cc;
-  disk = record { tells = tells; counted = counted; told = λ told. absurd (opens told) };
-  sink = λ _. said.1;
-  refused = λ w. cc;
-  said = λ w. cc;
-  firm = λ _ told. opens told;
-}
-Ends-unopened T opening.NotAStore old new before after had has tells counted opens reads said =
-    Ends-refused opening.NotAStore no_store _ refl old new before after had has tells counted opens reads said (λ told. ap (λ f. refusal_line f) (opens told)) said refl
-Ends-unopened T (opening.BadEntry n) old new before after had has tells counted opens reads said =
-    Ends-refused (opening.BadEntry n) (damaged_entry n) _ refl old new before after had has tells counted opens reads said (λ told. ap (λ f. refusal_line f) (opens told)) said refl
-Ends-unopened T (opening.BadSlot n) old new before after had has tells counted opens reads said =
-    Ends-refused (opening.BadSlot n) (damaged_slot n) _ refl old new before after had has tells counted opens reads said (λ told. ap (λ f. refusal_line f) (opens told)) said refl
-Ends-unopened T (opening.BadStream id) old new before after had has tells counted opens reads said =
-    Ends-refused (opening.BadStream id) (damaged_stream id) _ refl old new before after had has tells counted opens reads said
-    (λ told. ap (λ f. refusal_line f) (opens told)) said refl
+Ends-unopened T opening.Disk tells counted opens reads said =
+    Ends-silent T opening.Disk tells counted opens reads said counted (λ w. cc) (λ w. cc) said.1 (λ w. cc)
+Ends-unopened T opening.OutOfMemory tells counted opens reads said =
+    Ends-silent T opening.OutOfMemory tells counted opens reads said counted (λ w. cc) (λ w. cc) said.1 (λ w. cc)
+Ends-unopened T (opening.Changed slot) tells counted opens reads said =
+    Ends-silent T (opening.Changed slot) tells counted opens reads said counted (λ w. cc) (λ w. cc) said.1 (λ _ told. opens told)
+Ends-unopened T opening.NotAStore tells counted opens reads said =
+    Ends-refused T opening.NotAStore tells counted opens reads said no_store _ refl (λ told. ap (λ f. refusal_line f) (opens told)) said refl counted
+Ends-unopened T (opening.BadEntry n) tells counted opens reads said =
+    Ends-refused T (opening.BadEntry n) tells counted opens reads said (damaged_entry n) _ refl (λ told. ap (λ f. refusal_line f) (opens told)) said refl
+    counted
+Ends-unopened T (opening.BadSlot n) tells counted opens reads said =
+    Ends-refused T (opening.BadSlot n) tells counted opens reads said (damaged_slot n) _ refl (λ told. ap (λ f. refusal_line f) (opens told)) said refl counted
+Ends-unopened T (opening.BadStream id) tells counted opens reads said =
+    Ends-refused T (opening.BadStream id) tells counted opens reads said (damaged_stream id) _ refl (λ told. ap (λ f. refusal_line f) (opens told)) said refl
+    counted
 
 -- how a run ends whose store was opened
 serving-other : (tells : Bool) (status : Status) → EndsServing tells status →
@@ -129,10 +120,10 @@ Ends-starved disk held faults = record {
   firm = λ w. cc;
 }
 
-pub Ends-opened : {R Q : Told → Told → Type 0} (old mid new : DiskView) (before after : Option (List ℕ)) (had has : ℕ) (status : Status) →
+pub Ends-opened : {R Q : Told → Told → Type 0} {old mid new : DiskView} {before after : Option (List ℕ)} {had has : ℕ} (status : Status) →
     Step fine old mid R → (R old.told mid.told → (streams : List Stream) × Recovers streams old.told.content) → Step (disk_verdict status) mid new Q →
     EndsServing old.tells status → Counted (sink_verdict status) had has → Ends (over old before had) (over new after has) status
-Ends-opened old mid new before after had has status first found second ends counted =
+Ends-opened {old = old} status first found second ends counted =
     let other = serving-other old.tells status ends in
     record {
       known = other.0;

@@ -1,14 +1,13 @@
 -- What is written where frames are written, and what comes of it where it is followed.
-use Rattle.ss_program.proofs.Common.{◌≡◌, ◌∙◌, ◌++◌, ◌<◌, ◌^◌, ℕ, List, [], ◌∷◌, Option, Some, None, Result, Ok, Err, Bool, true, false, map, refl, sym, ap}
+use Rattle.ss_program.proofs.Common.{◌≡◌, ◌∙◌, ◌++◌, ◌<◌, ◌^◌, ℕ, List, [], ◌∷◌, Option, Some, None, Result, Ok, Bool, true, false, map, refl, sym, ap}
 use Rattle.ss_program.proofs.Common.{common_steps, append_assoc, arith, subst, All, flat_map, if◌then◌else◌, IfSome, flat_map-append, append-nil, All-cons}
 use Rattle.ss_program.proofs.Common.{All-head, All-nil, All-tail, Form, Lines, Sessions, Frames, Follow, event_name, is_name, step_number, Event, Create, Value}
-use Rattle.ss_program.proofs.Common.{Open, Close, Drop, Refusal, meant-sayable, meaning, IsSayable, IsStepOfNumber, Command, Do, Ask, Certify, Last, Values}
-use Rattle.ss_program.proofs.Common.{Windows, IsValidFrame-test, frame_in-spelling, pieces-frames, FrameState, IsValidFrame, frame_in, frame_spelled}
-use Rattle.ss_program.proofs.Common.{is_valid_frame, pieces, Happened, added, GoesOn-push, IsHistory, refuses, state, added_event, after_offer, after_offers}
-use Rattle.ss_program.proofs.Common.{due_in, next_offered, offered, offered_as, offers, event_frame, frame_of, step_of_event, Due, Next, reply_line, History}
-use Rattle.ss_program.proofs.Common.{accepted_frame, accepted_in, due_brings, frame_brings, text_said, the_event, unless_refused, accepted, after_line}
-use Rattle.ss_program.proofs.Common.{after_lines, text_of, Talk, begun, meant_turn, turn_in, turn_of, writing}
-use Rattle.ss_command.specs.declared.command.Command.TheVariants.{Series as AskRows, List as ListAll}
+use Rattle.ss_program.proofs.Common.{Open, Close, Drop, Refusal, meant-sayable, meaning, IsSayable, IsStepOfNumber, Command, Do, IsValidFrame-test}
+use Rattle.ss_program.proofs.Common.{frame_in-spelling, pieces-frames, FrameState, IsValidFrame, frame_in, frame_spelled, is_valid_frame, pieces, Happened}
+use Rattle.ss_program.proofs.Common.{added, GoesOn-push, IsHistory, refuses, state, added_event, after_offer, after_offers, due_in, next_offered, offered}
+use Rattle.ss_program.proofs.Common.{offered_as, offers, event_frame, frame_of, step_of_event, Due, Next, reply_line, History, accepted_frame, accepted_in}
+use Rattle.ss_program.proofs.Common.{due_brings, frame_brings, text_said, the_event, unless_refused, accepted, after_line, after_lines, text_of, Talk, begun}
+use Rattle.ss_program.proofs.Common.{meant_turn, turn_in, turn_of, writing, Turn, inl, inr}
 use Rattle.ss_replica.proofs.FramingLemmas.{checked-last}
 use Rattle.ss_replica.proofs.FrontLemmas.{due-frame}
 use Rattle.ss_replica.specs.Fronts.{drops_none}
@@ -17,6 +16,7 @@ use Rattle.ss_replica.specs.declared.judging.Due.TheVariants.{Old as OldFrame, G
 use Rattle.ss_program.specs.Followed.{frames_after, offer_reply}
 use Rattle.ss_program.proofs.ConversationLemmas.{talk-leaves}
 use Rattle.ss_program.proofs.SessionLemmas.{after_lines-accepted}
+use Rattle.ss_program.proofs.MeantLemmas.{event-or-silent}
 
 -- the frames of more events
 frames_after-append : (history : History) (es fs : List Happened) →
@@ -46,16 +46,11 @@ writing-frames talk (Drop name) None = (refl, tt)
 
 meant-frames : (talk : Talk) (meant : Result (Option Command) Refusal) →
     IsWritten talk (meant_turn talk meant).says (meant_turn talk meant).event
-meant-frames talk (Err refusal) = (refl, tt)
-meant-frames talk (Ok None) = (refl, tt)
-meant-frames talk (Ok (Some (Do event))) = writing-frames talk event (refuses (state talk.history) event)
-meant-frames talk (Ok (Some (Ask query))) = (refl, tt)
-meant-frames talk (Ok (Some (Certify query end))) = (refl, tt)
-meant-frames talk (Ok (Some (AskRows series))) = (refl, tt)
-meant-frames talk (Ok (Some (Last name))) = (refl, tt)
-meant-frames talk (Ok (Some (Values name from to))) = (refl, tt)
-meant-frames talk (Ok (Some (Windows name))) = (refl, tt)
-meant-frames talk (Ok (Some ListAll)) = (refl, tt)
+meant-frames talk meant = elim (event-or-silent meant) [
+  | inl is ↦ subst (λ (m : Result (Option Command) Refusal). IsWritten talk (meant_turn talk m).says (meant_turn talk m).event) (sym is.1)
+      (writing-frames talk is.0 (refuses (state talk.history) is.0))
+  | inr none ↦ subst (λ (t : Turn). IsWritten talk t.says t.event) (sym (none talk)) (refl, tt)
+]
 
 turn-frames : (form : Form) (talk : Talk) (line : List ℕ) → form ≡ Frames → IsWritten talk (turn_in form talk line).says (turn_in form talk line).event
 turn-frames Frames talk line is = meant-frames talk (meaning line)
@@ -166,17 +161,11 @@ writing-named talk event (Some frame) named = named
 
 meant-named : (talk : Talk) (meant : Result (Option Command) Refusal) → ((command : Command) → meant ≡ Ok (Some command) → IsSayable command) →
     IfSome (meant_turn talk meant).event IsNamed
-meant-named talk (Err refusal) sayable = tt
-meant-named talk (Ok None) sayable = tt
-meant-named talk (Ok (Some (Do event))) sayable =
-    writing-named talk event (accepted_frame (refuses (state talk.history) event) talk.history event) (sayable-named event (sayable (Do event) refl))
-meant-named talk (Ok (Some (Ask query))) sayable = tt
-meant-named talk (Ok (Some (Certify query end))) sayable = tt
-meant-named talk (Ok (Some (AskRows series))) sayable = tt
-meant-named talk (Ok (Some (Last name))) sayable = tt
-meant-named talk (Ok (Some (Values name from to))) sayable = tt
-meant-named talk (Ok (Some (Windows name))) sayable = tt
-meant-named talk (Ok (Some ListAll)) sayable = tt
+meant-named talk meant sayable = elim (event-or-silent meant) [
+  | inl is ↦ subst (λ (m : Result (Option Command) Refusal). IfSome (meant_turn talk m).event IsNamed) (sym is.1)
+      (writing-named talk is.0 (accepted_frame (refuses (state talk.history) is.0) talk.history is.0) (sayable-named is.0 (sayable (Do is.0) is.1)))
+  | inr none ↦ subst (λ (t : Turn). IfSome t.event IsNamed) (sym (none talk)) tt
+]
 
 turn-named : (form : Form) (talk : Talk) (line : List ℕ) → form ≡ Frames → IfSome (turn_in form talk line).event IsNamed
 turn-named Frames talk line is = meant-named talk (meaning line) (meant-sayable line)

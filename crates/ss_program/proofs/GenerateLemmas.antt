@@ -261,10 +261,10 @@ Generates-done used history seed count before after old new tally knows ran sent
     }
 
 -- What opening the store left comes before.
-pub Generates-opened : (used : Option ℕ) (history : History) (seed count : ℕ) (before after : Option (List ℕ)) (old mid new : Told) (status : Status) → LeavesOnly old mid
-    (StandsShort used history) →
+pub Generates-opened : {used : Option ℕ} {history : History} {seed count : ℕ} {before after : Option (List ℕ)} {old mid new : Told} {status : Status} →
+    LeavesOnly old mid (StandsShort used history) →
     Generates used history seed count before after mid new status → Generates used history seed count before after old new status
-Generates-opened used history seed count before after old mid new status opened run = record {
+Generates-opened {used = used} {history = history} {seed = seed} {count = count} {old = old} {mid = mid} {new = new} opened run = record {
   front = run.front;
   whole = run.whole;
   silent = run.silent;
@@ -277,10 +277,10 @@ Generates-opened used history seed count before after old mid new status opened 
 }
 
 -- the store wasn't opened
-pub Generates-unopened : (used : Option ℕ) (history : History) (seed count : ℕ) (before after : Option (List ℕ)) (had has : ℕ) (old new : Told) (error : OpenError) →
-    OpensAs old.content (Err error) → Stands history old.content → AsRefused error before after had has → KnowsNow new →
+pub Generates-unopened : (used : Option ℕ) (history : History) (seed count : ℕ) {before after : Option (List ℕ)} {old new : Told} (had has : ℕ)
+    (error : OpenError) → OpensAs old.content (Err error) → Stands history old.content → AsRefused error before after had has → KnowsNow new →
     LeavesOnly old new (StandsShort used history) → Generates used history seed count before after old new (status_of_open error)
-Generates-unopened used history seed count before after had has old new error opens stands said knows opened =
-    let un = unopened old.content (state history) before after had has error stands.state opens said in
+Generates-unopened used history seed count {before = before} {after = after} {old = old} {new = new} had has error opens stands said knows opened =
+    let un = unopened old.content (state history) had has error stands.state opens said in
     Generates-stop used history seed count before after old new (status_of_open error) un.1 (λ _. un.0) knows (0, un.0 ∙ sym (appended-nil before))
     (weaker old new (StandsShort used history) (StandsWithin (plain_over used history) (generated seed count)) (λ image is. ([], generated seed count, refl, is)) opened)

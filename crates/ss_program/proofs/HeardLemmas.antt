@@ -1,15 +1,15 @@
 -- What stays of a cursor whatever is said, and what a line of sessions brings by what is heard.
 use Rattle.ss_program.proofs.Common.{◌≡◌, ◌≢◌, ◌∙◌, ℕ, ◌+◌, ◌<◌, ◌-◌, List, [], ◌∷◌, length, map, take, drop, Option, Some, None, Result, Ok, Err, Bool, true}
-use Rattle.ss_program.proofs.Common.{common_steps, false, refl, sym, ap, subst, arith, inl, inr, cases_Bool, cond-false, cond-true, eq-eqb, eqb-true, leb-true}
-use Rattle.ss_program.proofs.Common.{ltb-true, drop-drop, drop-map, length-map, length-set, take-map, All-head, All-tail, cond_some, ◌==◌, ◌&&◌, if◌then◌else◌}
-use Rattle.ss_program.proofs.Common.{is_some, nat_le, nat_lt, option_map, Form, Lines, Sessions, Frames, Follow, Event, Refusal, is_comment, meaning, Command}
-use Rattle.ss_program.proofs.Common.{Do, Ask, Certify, Last, Values, Windows, FrameState, unless_long, first_word, rest_of, first_that_applies, refuses}
-use Rattle.ss_program.proofs.Common.{placed_of, Stream, state, stream_named, Placed, Cursor, Rows, Cursors, cursor_of, cursor_refusals, cursor_rows, flattened}
-use Rattle.ss_program.proofs.Common.{with_cursor, said_of, session_of, spoken_of, spoken_to, spoken_words, Order, Spoken, Nothing, Unaddressed, To, IsOrder}
-use Rattle.ss_program.proofs.Common.{NoneCloses, heard_of, rows_asked, rows_asked_by, rows_asked_in, Ordered, close_brings, closing, next_brings, open_brings}
-use Rattle.ss_program.proofs.Common.{opening, order_in, placed_rows, showing, unless_unopened, History, accepted_frame, only_replies, text_said, window_rows}
-use Rattle.ss_program.proofs.Common.{after_line, after_lines, Talk, Turn, begun, kept_spoken, meant_turn, turn_in, turn_of, turn_spoken, turn_to, writing}
-use Rattle.ss_command.specs.declared.command.Command.TheVariants.{Series as AskRows, List as ListAll}
+use Rattle.ss_program.proofs.Common.{false, refl, sym, ap, subst, arith, inl, inr, cases_Bool, cond-false, cond-true, eq-eqb, eqb-true, leb-true, ltb-true}
+use Rattle.ss_program.proofs.Common.{drop-drop, drop-map, length-map, length-set, take-map, All-head, All-tail, cond_some, ◌==◌, ◌&&◌, if◌then◌else◌, is_some}
+use Rattle.ss_program.proofs.Common.{nat_le, nat_lt, option_map, Form, Lines, Sessions, Frames, Follow, Event, Refusal, is_comment, meaning, Command}
+use Rattle.ss_program.proofs.Common.{FrameState, unless_long, first_word, rest_of, first_that_applies, refuses, placed_of, Stream, state, stream_named, Placed}
+use Rattle.ss_program.proofs.Common.{Cursor, Rows, Cursors, cursor_of, cursor_refusals, cursor_rows, flattened, with_cursor, said_of, session_of, spoken_of}
+use Rattle.ss_program.proofs.Common.{spoken_to, spoken_words, Order, Spoken, Nothing, Unaddressed, To, IsOrder, NoneCloses, heard_of, rows_asked, rows_asked_by}
+use Rattle.ss_program.proofs.Common.{rows_asked_in, Ordered, close_brings, closing, next_brings, open_brings, opening, order_in, placed_rows, showing}
+use Rattle.ss_program.proofs.Common.{unless_unopened, History, accepted_frame, only_replies, text_said, window_rows, after_line, after_lines, Talk, Turn, begun}
+use Rattle.ss_program.proofs.Common.{kept_spoken, meant_turn, turn_in, turn_of, turn_spoken, turn_to, writing}
+use Rattle.ss_codec.proofs.WindowBytes.{three_tests}
 use Rattle.ss_line.proofs.IndexLemmas.{slice_get-set_other}
 use Rattle.ss_model.specs.declared.types.Window.{Window}
 use Rattle.ss_report.specs.declared.reply.Reply.TheVariants.{Window as WindowRow}
@@ -19,6 +19,7 @@ use Rattle.ss_sessions.specs.declared.TheConstants.{ADDRESS, SESSIONS}
 use Rattle.ss_program.proofs.CursorLemmas.{cursor-stands, cursor_of-with, next-shown}
 use Rattle.ss_program.proofs.SessionLemmas.{after_lines-form}
 use Rattle.ss_sessions.specs.declared.order.Order.TheVariants as orders
+use Rattle.ss_program.proofs.MeantLemmas.{event-or-silent}
 
 -- ---- how many cursors there are
 
@@ -63,16 +64,11 @@ count-writing talk event None = refl
 count-writing talk event (Some frame) = refl
 
 count-meant : (talk : Talk) (meant : Result (Option Command) Refusal) → length (meant_turn talk meant).cursors ≡ length talk.cursors
-count-meant talk (Err refusal) = refl
-count-meant talk (Ok None) = refl
-count-meant talk (Ok (Some (Do event))) = count-writing talk event (accepted_frame (refuses (state talk.history) event) talk.history event)
-count-meant talk (Ok (Some (Ask query))) = refl
-count-meant talk (Ok (Some (Certify query end))) = refl
-count-meant talk (Ok (Some (AskRows series))) = refl
-count-meant talk (Ok (Some (Last name))) = refl
-count-meant talk (Ok (Some (Values name from to))) = refl
-count-meant talk (Ok (Some (Windows name))) = refl
-count-meant talk (Ok (Some ListAll)) = refl
+count-meant talk meant = elim (event-or-silent meant) [
+  | inl is ↦ subst (λ (m : Result (Option Command) Refusal). length (meant_turn talk m).cursors ≡ length talk.cursors) (sym is.1)
+      (count-writing talk is.0 (accepted_frame (refuses (state talk.history) is.0) talk.history is.0))
+  | inr none ↦ ap (λ (t : Turn). length t.cursors) (none talk)
+]
 
 count-in : (form : Form) (talk : Talk) (line : List ℕ) → length (turn_in form talk line).cursors ≡ length talk.cursors
 count-in (Lines framed) talk line = refl
@@ -95,9 +91,6 @@ kept-heard framed talk (Some line) spoken heard = let is : spoken_of line ≡ sp
 pub turn-heard : (framed : Bool) (talk : Talk) (line : List ℕ) (spoken : Spoken) → talk.form ≡ Sessions framed → heard_of line ≡ Some spoken →
     turn_of talk line ≡ turn_spoken framed talk spoken
 turn-heard framed talk line spoken form heard = ap (λ f. turn_in f talk line) form ∙ kept-heard framed talk (unless_long line) spoken heard
-
-three_tests : (a b c : Bool) → (a && b && c) ≡ true → (a ≡ true) × (b ≡ true) × (c ≡ true)
-three_tests a b c is = grind (arith, common_steps)
 
 -- the number of a session is below that of all
 session-below : (word : List ℕ) (session : ℕ) → session_of word ≡ Some session → session < SESSIONS

@@ -2,16 +2,15 @@
 use Rattle.ss_program.proofs.Common.{◌≡◌, ◌∙◌, ◌++◌, List, [], ◌∷◌, ℕ, ℤ, map, Option, Some, None, IsSome, true, Result, Ok, Err, refl, sym, ap, subst, Bool}
 use Rattle.ss_program.proofs.Common.{false, ◌≤ℤ◌, append-nil, Event, Create, Value, Open, Close, Drop, adds_up, is_guess, End, Kind, Query, Refusal, Series}
 use Rattle.ss_program.proofs.Common.{row_count, row_start, rows_of, MayBeTrue-answer, end_asked-answer, evidence_in, told, Evidence, meant-sayable, meaning}
-use Rattle.ss_program.proofs.Common.{IsSayable, Command, Do, Ask, Certify, Last, Values, Windows, answer-ends, answer-exact, answer-holds, answer-kind}
-use Rattle.ss_program.proofs.Common.{answer-known, IsHistory_push, IsState-state, row-answered, HasEnds, HoldsPresence, HoldsTruth, IsExactOutcome, IsOfKind}
-use Rattle.ss_program.proofs.Common.{interval_query, outcome_of, refuses_query, split_by, CanBeSaid, added, marked_of, values_of, IsHistory, refuses}
-use Rattle.ss_program.proofs.Common.{AnswersRow, refuses_series, state, true_presence, Outcome, Count, Sum, Min, Max, Has, Estimate, Presence, Reply, Answered}
-use Rattle.ss_program.proofs.Common.{SeriesHead, Row, IsSharp, Brought, History, accepted_in, command_in, meaning_in, brings, command_brings, history_after}
-use Rattle.ss_program.proofs.Common.{meaning_brings, nothing, refused, only_replies, unless_refused, plain_after, replies}
-use Rattle.ss_command.specs.declared.command.Command.TheVariants.{Series as AskRows, List as ListAll}
+use Rattle.ss_program.proofs.Common.{IsSayable, Command, Do, Ask, Certify, answer-ends, answer-exact, answer-holds, answer-kind, answer-known, IsHistory_push}
+use Rattle.ss_program.proofs.Common.{IsState-state, row-answered, HasEnds, HoldsPresence, HoldsTruth, IsExactOutcome, IsOfKind, interval_query, outcome_of}
+use Rattle.ss_program.proofs.Common.{refuses_query, split_by, CanBeSaid, added, marked_of, values_of, IsHistory, refuses, AnswersRow, refuses_series, state}
+use Rattle.ss_program.proofs.Common.{true_presence, Outcome, Count, Sum, Min, Max, Has, Estimate, Presence, Reply, Answered, SeriesHead, Row, IsSharp, Brought}
+use Rattle.ss_program.proofs.Common.{History, accepted_in, command_in, meaning_in, brings, command_brings, history_after, meaning_brings, nothing, refused}
+use Rattle.ss_program.proofs.Common.{only_replies, unless_refused, plain_after, replies, inl, inr}
+use Rattle.ss_command.specs.declared.command.Command.TheVariants.{Series as AskRows}
 use Rattle.ss_model.proofs.RowLemmas.{some-outcome}
-use Rattle.ss_program.proofs.AnswerLemmas.{ask-event, brings-answer_replies, certify-event, history-still, last-event, series-event, values-event}
-use Rattle.ss_program.proofs.AnswerLemmas.{windows-event}
+use Rattle.ss_program.proofs.AnswerLemmas.{brings-answer_replies, history-still, event-or-none}
 use Rattle.ss_program.proofs.CertifyLemmas.{brings-certified, evidence-known, evidence-right}
 use Rattle.ss_program.proofs.SeriesLemmas.{brings-series, series_rows-map}
 use Rattle.ss_program.proofs.SessionLemmas.{replies-append}
@@ -36,17 +35,11 @@ event-leaves framed history event (Some refusal) is said whole = still history (
 
 command-leaves : (framed : Bool) (history : History) (command : Command) → IsSayable command → IsHistory history →
     IsHistory (history_after history (command_in framed history command))
-command-leaves framed history (Do event) sayable whole =
-    event-leaves framed history event (refuses (state history) event) refl (sayable-said event sayable) whole
-command-leaves framed history (Ask query) sayable whole = still history (command_brings history (Ask query)) (ask-event history query) whole
-command-leaves framed history (Certify query end) sayable whole =
-    still history (command_brings history (Certify query end)) (certify-event history query end) whole
-command-leaves framed history (AskRows series) sayable whole = still history (command_brings history (AskRows series)) (series-event history series) whole
-command-leaves framed history (Last name) sayable whole = still history (command_brings history (Last name)) (last-event history name) whole
-command-leaves framed history (Values name from to) sayable whole =
-    still history (command_brings history (Values name from to)) (values-event history name from to) whole
-command-leaves framed history (Windows name) sayable whole = still history (command_brings history (Windows name)) (windows-event history name) whole
-command-leaves framed history ListAll sayable whole = still history (command_brings history ListAll) refl whole
+command-leaves framed history command sayable whole = elim (event-or-none command) [
+  | inl is ↦ subst (λ (k : Command). IsHistory (history_after history (command_in framed history k))) (sym is.1)
+      (event-leaves framed history is.0 (refuses (state history) is.0) refl (sayable-said is.0 (subst IsSayable is.1 sayable)) whole)
+  | inr none ↦ still history (command_in framed history command) (none framed history) whole
+]
 
 pub meaning-leaves : (framed : Bool) (history : History) (meant : Result (Option Command) Refusal) →
     ((command : Command) → meant ≡ Ok (Some command) → IsSayable command) → IsHistory history →

@@ -48,8 +48,8 @@ module _ {T : Type 0} (history : History) (brought : Brought) (old new : Told) (
       (both old new (StandsAround history brought) uses (adds.turns.any_moment none has.0) ((within-most n has.0).any_moment none has.1))
 
 -- opening a store keeps the history, and uses no more slots
-module _ {T E : Type 0} (history : History) (old new : Told) (result : Result T E) (turns : Turns (Stands history) (Stands history) (Stands history) old new result)
-    (within : KeepsWithin 0 result old new) where
+module _ {T E : Type 0} {history : History} {old new : Told} {result : Result T E}
+    (turns : Turns (Stands history) (Stands history) (Stands history) old new result) (within : KeepsWithin 0 result old new) where
   pub opened_left : (used : Option ℕ) → StandsShort used history old.content → OnOk result (StandsShort used history new.content)
   opened_left None has = on_ok_weaker result (λ (is : Stands history new.content). (is, tt)) (turns.content has.0)
   opened_left (Some n) has =

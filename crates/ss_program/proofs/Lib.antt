@@ -8,6 +8,7 @@ pub mod WrittenLemmas
 pub mod TakeLemmas
 pub mod TextLemmas
 pub mod AnswerLemmas
+pub mod MeantLemmas
 pub mod TakesLemmas
 pub mod RowLemmas
 pub mod NewestLemmas

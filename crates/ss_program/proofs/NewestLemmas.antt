@@ -1,11 +1,9 @@
 -- What `last` brings, by what the store tells of a stream.
-use Rattle.ss_program.proofs.Common.{◌≡◌, ◌∙◌, ℕ, ◌<◌, List, [], ◌∷◌, length, Option, Some, None, sym, ap, not, is_some, option_map, Refusal, Unknown, Last}
-use Rattle.ss_program.proofs.Common.{newest_in, newest_of, first_that_applies, Stream, state, stream_named, Newest, Refused, StoreIsIn, StoreState}
+use Rattle.ss_program.proofs.Common.{◌≡◌, ◌∙◌, ℕ, List, [], ◌∷◌, Some, None, sym, ap, Refusal, Last, newest_in, state, Newest, StoreIsIn, StoreState}
 use Rattle.ss_program.proofs.Common.{refuses_reading_held, Stands, AllAgree-recovered, refuses_reading_held-is, History, command_brings, newest_replies}
-use Rattle.ss_program.proofs.Common.{only_replies, refused, text_said, unless_refused}
+use Rattle.ss_program.proofs.Common.{only_replies, refused, unless_refused}
 use Rattle.ss_model.specs.Refusals.{refuses_reading}
 use Rattle.ss_report.specs.declared.reply.Reply.TheVariants.{Last as LastLine}
-use Rattle.ss_program.proofs.AnswerLemmas.{one_reply-some}
 
 -- a look that is refused brings its refusal
 pub brings-unlooked : (history : History) (name : List ℕ) (refusal : Refusal) → refuses_reading (state history) name ≡ Some refusal →
@@ -23,14 +21,3 @@ pub refuses_reading-kept : (store : StoreState) (image : List ℕ) (history : Hi
     Stands history image → refuses_reading (state history) name ≡ refuses_reading_held store.streams name
 refuses_reading-kept store image history name kept stands =
     sym (refuses_reading_held-is store.streams (state history) name (AllAgree-recovered store image (state history) kept stands.state).0)
-
--- either has one reply
-newest-some : (speaker : Option ℕ) (o : Option Stream) →
-    0 < length (text_said speaker (unless_refused (first_that_applies ((not (is_some o), Unknown) ∷ []))
-    (only_replies (newest_replies (option_map newest_of o)))))
-newest-some speaker None = one_reply-some speaker (Refused Unknown)
-newest-some speaker (Some s) = one_reply-some speaker (LastLine (newest_of s))
-
-pub last-some : (speaker : Option ℕ) (history : History) (name : List ℕ) → 0 < length (text_said speaker (command_brings history (Last name)))
-unfolding refuses_reading
-last-some speaker history name = newest-some speaker (stream_named name (state history))

@@ -9,10 +9,10 @@ use Rattle.ss_program.proofs.SendLemmas.{appended-nil}
 use Rattle.ss_store.specs.declared.error.OpenError.TheVariants as opening
 
 -- What opening the store left comes before what serving leaves.
-pub Serves-opened : (sealing : Sealing) (talk : Talk) (input : List ℕ) (left before after : Option (List ℕ)) (old mid new : Told) (status : Status) →
+pub Serves-opened : {sealing : Sealing} {talk : Talk} {input : List ℕ} {left before after : Option (List ℕ)} {old mid new : Told} {status : Status} →
     LeavesOnly old mid (HoldsTalk talk) → Serves sealing talk input left before after mid new status →
     Serves sealing talk input left before after old new status
-Serves-opened sealing talk input left before after old mid new status opened serves = record {
+Serves-opened {talk = talk} {input = input} {old = old} {mid = mid} {new = new} opened serves = record {
   report = serves.report;
   kept = serves.kept;
   any_moment = joined old mid new (StandsWithin talk (steps talk.form input))
@@ -27,11 +27,11 @@ unopened-other other one two (inl how) is = absurd (one (sym how ∙ is))
 unopened-other other one two (inr how) is = absurd (two (sym how ∙ is))
 
 -- the store wasn't opened, and nothing was said of it
-pub Serves-unopened : (sealing : Sealing) (talk : Talk) (input : List ℕ) (left before after : Option (List ℕ)) (old new : Told) (status : Status) →
-    ((status ≡ DiskFault) ⊎ (status ≡ OutOfMemory)) →
-    left ≡ Some input → after ≡ before → KnowsNow new → LeavesOnly old new (HoldsTalk talk) →
+pub Serves-unopened : {sealing : Sealing} {talk : Talk} {input : List ℕ} {left before after : Option (List ℕ)} {old new : Told} {status : Status} →
+    ((status ≡ DiskFault) ⊎ (status ≡ OutOfMemory)) → left ≡ Some input → after ≡ before → KnowsNow new → LeavesOnly old new (HoldsTalk talk) →
     Serves sealing talk input left before after old new status
-Serves-unopened sealing talk input left before after old new status how still same knows opened =
+Serves-unopened {sealing = sealing} {talk = talk} {input = input} {left = left} {before = before} {after = after} {old = old} {new = new} {status = status}
+    how still same knows opened =
     let held = same ∙ sym (appended-nil before) in
     record {
       report = record {
@@ -49,23 +49,24 @@ Serves-unopened sealing talk input left before after old new status how still sa
       whole = λ is. unopened-other Done (λ w. cc) (λ w. cc) how is;
     }
 
--- a content that stands for a history isn't refused
-pub Serves-refused : (sealing : Sealing) (talk : Talk) (input : List ℕ) (left before after : Option (List ℕ)) (had has : ℕ) (old new : Told)
+-- Nothing was said of a content that recovers to streams, where it wasn't opened, and the disk failed or memory ran out.
+unopened-how : (content : List ℕ) (streams : List Stream) {before after : Option (List ℕ)} (k l : ℕ) (error : OpenError) → Recovers streams content →
+    OpensAs content (Err error) → AsRefused error before after k l →
+    ((status_of_open error ≡ DiskFault) ⊎ (status_of_open error ≡ OutOfMemory)) × (after ≡ before)
+unopened-how content streams k l opening.Disk is opens said = (inl refl, said.0)
+unopened-how content streams k l opening.OutOfMemory is opens said = (inr refl, said.0)
+unopened-how content streams k l opening.NotAStore is opens said = let wrong : no_store ≡ recovers streams = sym opens ∙ is in cc
+unopened-how content streams k l (opening.BadEntry n) is opens said = let wrong : damaged_entry n ≡ recovers streams = sym opens ∙ is in cc
+unopened-how content streams k l (opening.BadSlot n) is opens said = let wrong : damaged_slot n ≡ recovers streams = sym opens ∙ is in cc
+unopened-how content streams k l (opening.BadStream id) is opens said = let wrong : damaged_stream id ≡ recovers streams = sym opens ∙ is in cc
+unopened-how content streams k l (opening.Changed slot) is opens said = absurd opens
+
+-- and what a run leaves
+pub Serves-refused : {sealing : Sealing} {talk : Talk} {input : List ℕ} {left before after : Option (List ℕ)} {old new : Told} (had has : ℕ)
     (error : OpenError) → OpensAs old.content (Err error) → Stands talk.history old.content → AsRefused error before after had has → left ≡ Some input →
     KnowsNow new → LeavesOnly old new (HoldsTalk talk) → Serves sealing talk input left before after old new (status_of_open error)
-Serves-refused sealing talk input left before after had has old new opening.Disk opens stands said still knows opened =
-    Serves-unopened sealing talk input left before after old new DiskFault (inl refl) still said.0 knows opened
-Serves-refused sealing talk input left before after had has old new opening.OutOfMemory opens stands said still knows opened =
-    Serves-unopened sealing talk input left before after old new OutOfMemory (inr refl) still said.0 knows opened
-Serves-refused sealing talk input left before after had has old new opening.NotAStore opens stands said still knows opened =
-    let wrong : no_store ≡ recovers (state talk.history) = sym opens ∙ stands.state in cc
-Serves-refused sealing talk input left before after had has old new (opening.BadEntry n) opens stands said still knows opened =
-    let wrong : damaged_entry n ≡ recovers (state talk.history) = sym opens ∙ stands.state in cc
-Serves-refused sealing talk input left before after had has old new (opening.BadSlot n) opens stands said still knows opened =
-    let wrong : damaged_slot n ≡ recovers (state talk.history) = sym opens ∙ stands.state in cc
-Serves-refused sealing talk input left before after had has old new (opening.BadStream id) opens stands said still knows opened =
-    let wrong : damaged_stream id ≡ recovers (state talk.history) = sym opens ∙ stands.state in cc
-Serves-refused sealing talk input left before after had has old new (opening.Changed slot) opens stands said still knows opened = absurd opens
+Serves-refused {talk = talk} {old = old} had has error opens stands said still knows opened =
+    let how = unopened-how old.content (state talk.history) had has error stands.state opens said in Serves-unopened how.0 still how.1 knows opened
 
 -- and what was read then: nothing
 pub unopened-status : (error : OpenError) → (status_of_open error ≡ Done → ⊥) × (status_of_open error ≡ InputLimit → ⊥)
@@ -82,15 +83,10 @@ Reads-none input left is =
     Reads-stop input left OutOfMemory (λ w. cc) (λ w. cc) (record { count = 0; few = omega arith; within = omega arith; others = is })
 
 -- Nothing was said of a store that isn't refused, and the run isn't done nor blames the sink, where it wasn't opened.
-pub unopened : (content : List ℕ) (streams : List Stream) (before after : Option (List ℕ)) (k l : ℕ) (error : OpenError) → Recovers streams content →
+pub unopened : (content : List ℕ) (streams : List Stream) {before after : Option (List ℕ)} (k l : ℕ) (error : OpenError) → Recovers streams content →
     OpensAs content (Err error) → AsRefused error before after k l → (after ≡ before) × (status_of_open error ≡ Done → ⊥)
-unopened content streams before after k l opening.Disk is opens said = (said.0, λ w. cc)
-unopened content streams before after k l opening.OutOfMemory is opens said = (said.0, λ w. cc)
-unopened content streams before after k l opening.NotAStore is opens said = let wrong : no_store ≡ recovers streams = sym opens ∙ is in cc
-unopened content streams before after k l (opening.BadEntry n) is opens said = let wrong : damaged_entry n ≡ recovers streams = sym opens ∙ is in cc
-unopened content streams before after k l (opening.BadSlot n) is opens said = let wrong : damaged_slot n ≡ recovers streams = sym opens ∙ is in cc
-unopened content streams before after k l (opening.BadStream id) is opens said = let wrong : damaged_stream id ≡ recovers streams = sym opens ∙ is in cc
-unopened content streams before after k l (opening.Changed slot) is opens said = absurd opens
+unopened content streams k l error is opens said =
+    let how = unopened-how content streams k l error is opens said in (how.1, unopened-other Done (λ w. cc) (λ w. cc) how.0)
 
 -- what is said of the streams to which the content recovers
 pub surveyed : (content : List ℕ) (streams : List Stream) (survey : Survey) → SurveysAs content (Ok survey) → Recovers streams content →

@@ -1,11 +1,14 @@
 -- What the cursor forms of a session do between two lines.
-use Rattle.ss_program.proofs.Common.{◌≡◌, ◌∙◌, ◌∷◌, [], List, ℕ, Option, Some, Result, Ok, Err, refl, sym, ap, subst, append-nil, on_ok_weaker, flat_map}
-use Rattle.ss_program.proofs.Common.{IsTrue, OnOk, shown, reads-none, KnowsNow, Told, Failed, RecordsState, shown_by, Reply, Cursors, Stands, Owed, TakesNone}
-use Rattle.ss_program.proofs.Common.{TakesOrdered, amid, owed_by, with_text, at_sink, Ordered, close_brings, next_brings, open_brings, Brought, History}
-use Rattle.ss_program.proofs.Common.{only_replies, text_said, NoneWait, said_line, Sends, Talk, turn_said, Status, OutOfMemory}
+use Rattle.ss_program.proofs.Common.{◌≡◌, ◌∙◌, ◌∷◌, [], List, ℕ, Option, Some, Result, Ok, Err, refl, sym, ap, subst, append-nil, on_ok_weaker, flat_map, OnOk}
+use Rattle.ss_program.proofs.Common.{shown, reads-none, KnowsNow, Told, Failed, RecordsState, shown_by, Reply, Cursors, Owed, TakesOrdered, amid, owed_by}
+use Rattle.ss_program.proofs.Common.{with_text, at_sink, Ordered, close_brings, next_brings, open_brings, Brought, only_replies, text_said, NoneWait, said_line}
+use Rattle.ss_program.proofs.Common.{Sends, Talk, turn_said, Status, OutOfMemory}
+use Rattle.ss_journal.proofs.TearLemmas.{on_ok}
 use Rattle.ss_program.specs.Opened.{OpensBrought}
-use Rattle.ss_program.proofs.BroughtLemmas.{TakesTurn-owed, TakesTurn-starved, TakesTurn-stopped, given, halted}
+use Rattle.ss_program.proofs.BroughtLemmas.{TakesTurn-owed, TakesTurn-stopped, given, halted}
+use Rattle.ss_program.proofs.AnswerLemmas.{Sends-at_sink}
 use Rattle.ss_program.proofs.PutLemmas.{TakesTurn-put}
+use Rattle.ss_program.proofs.TakesLemmas.{sink-memory, sink-ok}
 use Rattle.ss_program.proofs.CursorLemmas.{close-event, next-event, open-event, open-some}
 use Rattle.ss_program.proofs.StagingLemmas.{Turns-looked}
 
@@ -48,20 +51,6 @@ module _ (session : ℕ) (name : List ℕ) (was is : RecordsState) (waiting : Op
       (λ here. Turns-looked was is here.history old new (opens here).brought (halted {T = Reply} status) knows took.reads tt
       (λ stands. open-event here.history here.cursors session name))
 
--- memory ran out at it, after which all that waited was brought to the disk and sent
-pub TakesOpened-starved : {was is : RecordsState} {owed left : Owed} {held after : Option (List ℕ)} {old new : Told} {u : Unit {0}} (session : ℕ)
-    (name : List ℕ) (before : Cursors) → KnowsNow new → left.text ≡ [] → shown_by is new.content ≡ new.content →
-    ((history : History) → Stands history (shown_by was old.content) → IsTrue (open_brings history before session name).wants_memory) →
-    TakesNone (amid was owed held) (amid is left after) (Ok u) old new →
-    TakesOrdered session (λ history cursors. open_brings history cursors session name) (amid was owed held before) (amid is left after before)
-    (Err OutOfMemory) old new
-TakesOpened-starved session name before knows none sealed accepted takes =
-    TakesTurn-starved before (λ talk. turn_said (Some session) (open_brings talk.history talk.cursors session name)) knows none sealed
-    (λ here there stands. (
-      subst (λ cs. IsTrue (open_brings here.history cs session name).wants_memory) (sym there) (accepted here.history stands),
-      open-some here.history here.cursors session name,
-    )) takes
-
 -- the next rows of a cursor are shown, where nothing waits
 pub TakesShown : {was : RecordsState} (session count : ℕ) (waiting : Option (List ℕ)) (held after : Option (List ℕ)) (before left : Cursors) (disk : Told)
     (sent : Result (Unit {0}) Failed) → KnowsNow disk → NoneWait waiting → shown_by was disk.content ≡ disk.content →
@@ -69,14 +58,14 @@ pub TakesShown : {was : RecordsState} (session count : ℕ) (waiting : Option (L
     OnOk sent (left ≡ (next_brings before session count).cursors) →
     TakesOrdered session (λ history cursors. next_brings cursors session count) (amid was (owed_by waiting) held before)
     (amid was (owed_by waiting) after left) (at_sink sent) disk disk
-TakesShown session count waiting held after before left disk sent knows none sealed sends goes =
-    TakesTurn-put (λ talk. turn_said (Some session) (next_brings talk.cursors session count)) waiting held after before left disk knows none sealed
-    (text_said (Some session) (next_brings before session count).brought)
-    (λ here there. (
-      ap (λ (cs : Cursors). text_said (Some session) (next_brings cs session count).brought) there,
-      next-event here.cursors session count,
-    )) sent sends
-    (on_ok_weaker sent (λ is here there. is ∙ ap (λ (cs : Cursors). (next_brings cs session count).cursors) (sym there)) goes)
+TakesShown {was = was} session count waiting held after before left disk sent knows none sealed sends goes =
+    TakesTurn-put (λ talk. turn_said (Some session) (next_brings talk.cursors session count)) waiting held after before left disk disk knows none sealed
+    (reads-none disk) (λ here there. next-event here.cursors session count) (at_sink sent) (sink-memory sent) (on_ok (at_sink sent) sealed)
+    (λ here there stands.
+    subst (λ cs. Sends held after (text_said (Some session) (next_brings cs session count).brought) (at_sink sent)) (sym there)
+    (Sends-at_sink held after (text_said (Some session) (next_brings before session count).brought) sent sends))
+    (sink-ok _ sent (on_ok_weaker sent
+    (λ is here there. is ∙ ap (λ (cs : Cursors). (next_brings cs session count).cursors) (sym there)) goes))
 
 -- a cursor is closed, and the reply to that is owed
 pub TakesClosed : (session : ℕ) (was : RecordsState) (waiting : Option (List ℕ)) (held : Option (List ℕ)) (before after : Cursors) (disk : Told)

@@ -1,10 +1,9 @@
 -- What lines bring doesn't depend on how many slots the store's file used before.
 use Rattle.ss_program.proofs.Common.{◌≡◌, ◌∙◌, ℕ, ◌+◌, ◌-◌, ◌++◌, Bool, List, [], ◌∷◌, length, Option, Some, None, Result, Ok, Err, refl, ap, cond, nat_le}
-use Rattle.ss_program.proofs.Common.{Event, Refusal, meaning, unless_long, Command, Do, Ask, Certify, Last, Values, Windows, FrameState, Happened, refuses}
-use Rattle.ss_program.proofs.Common.{state, spoken_of, Order, Spoken, Nothing, Unaddressed, To, acks, accepted_frame, the_event, accepted, after_line, Talk}
-use Rattle.ss_program.proofs.Common.{Turn, after_turn, kept_spoken, meant_turn, turn_in, turn_of, turn_spoken, turn_to, writing, Form, Lines, Sessions, Frames}
-use Rattle.ss_program.proofs.Common.{Follow}
-use Rattle.ss_command.specs.declared.command.Command.TheVariants.{Series as AskRows, List as ListAll}
+use Rattle.ss_program.proofs.Common.{Event, Refusal, meaning, unless_long, Command, FrameState, Happened, refuses, state, spoken_of, Order, Spoken, Nothing}
+use Rattle.ss_program.proofs.Common.{Unaddressed, To, acks, accepted_frame, the_event, accepted, after_line, Talk, Turn, after_turn, kept_spoken, meant_turn}
+use Rattle.ss_program.proofs.Common.{turn_in, turn_of, turn_spoken, turn_to, writing, Form, Lines, Sessions, Frames, Follow, sym, subst, inl, inr}
+use Rattle.ss_program.proofs.MeantLemmas.{event-or-silent}
 
 -- the conversation over a file that used so many slots, where that is known
 abbrev pub over_slots : Option ℕ → Talk → Talk
@@ -31,16 +30,11 @@ module _ (used : Option ℕ) where
   writing-over talk event (Some frame) = refl
 
   meant-over : (talk : Talk) (meant : Result (Option Command) Refusal) → meant_turn (over_slots used talk) meant ≡ meant_turn talk meant
-  meant-over talk (Err refusal) = refl
-  meant-over talk (Ok None) = refl
-  meant-over talk (Ok (Some (Do event))) = writing-over talk event (accepted_frame (refuses (state talk.history) event) talk.history event)
-  meant-over talk (Ok (Some (Ask query))) = refl
-  meant-over talk (Ok (Some (Certify query end))) = refl
-  meant-over talk (Ok (Some (AskRows series))) = refl
-  meant-over talk (Ok (Some (Last name))) = refl
-  meant-over talk (Ok (Some (Values name from to))) = refl
-  meant-over talk (Ok (Some (Windows name))) = refl
-  meant-over talk (Ok (Some ListAll)) = refl
+  meant-over talk meant = elim (event-or-silent meant) [
+    | inl is ↦ subst (λ (m : Result (Option Command) Refusal). meant_turn (over_slots used talk) m ≡ meant_turn talk m) (sym is.1)
+        (writing-over talk is.0 (accepted_frame (refuses (state talk.history) is.0) talk.history is.0))
+    | inr none ↦ none (over_slots used talk) ∙ sym (none talk)
+  ]
 
   in-over : (form : Form) (talk : Talk) (line : List ℕ) → turn_in form (over_slots used talk) line ≡ turn_in form talk line
   in-over (Lines framed) talk line = refl

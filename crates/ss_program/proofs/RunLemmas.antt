@@ -1,15 +1,16 @@
 -- What a run leaves, by how it ends.
 use Rattle.ss_program.proofs.Common.{◌≡◌, ◌⊎◌, inl, inr, take_all, length-drop, ℕ, ◌+◌, ◌≤◌, ◌++◌, List, [], ◌∷◌, length, take, drop, Bool, true, IsTrue}
 use Rattle.ss_program.proofs.Common.{Option, Some, refl, sym, ap, ◌∙◌, subst, arith, take-add, append-nil, drop-drop, take-append-drop, joined, of_content}
-use Rattle.ss_program.proofs.Common.{KnowsNow, LeavesOnly, Told, Stands, Reports, Serves, Stopped, Took, steps_within, EndsWell, GoesOn, HoldsTalk, HasReplied}
-use Rattle.ss_program.proofs.Common.{HasTaken, SessionState, StandsWithin, StopsIn, appended, AppendsFront, after_lines, report, report_so_far, text_of, IsStop}
-use Rattle.ss_program.proofs.Common.{Talk, LONGEST_INPUT, Sealing, Status, Done, DiskFault, SourceFault, SinkFault, OutOfMemory, InputLimit, steps}
-use Rattle.ss_program.proofs.Common.{steps_so_far}
-use Rattle.ss_program.proofs.SendLemmas.{AppendsFront-all}
+use Rattle.ss_program.proofs.Common.{KnowsNow, LeavesOnly, Told, Stands, Reports, Serves, Stopped, Took, steps_within, EndsWell, GoesOn, HoldsTalk}
+use Rattle.ss_program.proofs.Common.{SessionState, StandsWithin, StopsIn, appended, AppendsFront, after_lines, report, report_so_far, text_of, IsStop, Talk}
+use Rattle.ss_program.proofs.Common.{LONGEST_INPUT, Sealing, Status, Done, DiskFault, SourceFault, SinkFault, OutOfMemory, InputLimit, steps, steps_so_far}
+use Rattle.ss_program.proofs.Common.{Form, History, StandsShort, NothingPending, begun_over, sealing_by, kept_so_far, no_cursors, NoneWait, ReadsPiece, Ok}
+use Rattle.ss_program.proofs.Common.{EndsSession, ServesInput}
+use Rattle.ss_program.proofs.SendLemmas.{AppendsFront-all, appended-nil}
 use Rattle.ss_program.proofs.SessionLemmas.{StopsAmong-front, StopsAmong-more, StopsIn-more, after_lines-accepted, front-report, moments-more}
 use Rattle.ss_program.proofs.TakeLemmas.{GoesOn-start, GoesOn-then, StopsIn-then}
 use Rattle.ss_program.proofs.ReadLemmas.{AreRead, AreRead-front, AreRead-took, Took-at, steps-read, stop-other}
-use Rattle.ss_program.proofs.StepsLemmas.{steps-all, steps-front}
+use Rattle.ss_program.proofs.StepsLemmas.{steps-all, steps-front, steps-none}
 use Rattle.ss_program.proofs.HoldsLemmas.{HoldsReported-done, HoldsReported-stop}
 
 -- so many bytes of the input were taken since a moment, and the lines that end in them are answered
@@ -20,29 +21,58 @@ pub record IsThrough (sealing : Sealing) (talk : Talk) (start now : Told) (sessi
     pub source : left ≡ Some (drop n input)
     pub on : GoesOn sealing talk start now session before held (take n input)
 
--- none were
-pub IsThrough-start : (sealing : Sealing) (talk : Talk) (disk : Told) (session : SessionState) (before left : Option (List ℕ)) (input : List ℕ) →
-    KnowsNow disk →
-    HasTaken sealing talk disk session [] → HasReplied talk before before [] → left ≡ Some input →
-    IsThrough sealing talk disk disk session before before left input 0
-IsThrough-start sealing talk disk session before left input knows at replied source = record {
-  within = omega arith;
-  source = source;
-  on = GoesOn-start sealing talk disk session before before [] knows at replied;
-}
+module _ {sealing : Sealing} {talk : Talk} {start mid now : Told} {first second : SessionState} {before held after old_left left : Option (List ℕ)}
+    {input : List ℕ} {n k : ℕ} where
+  -- and so many more
+  IsThrough-more : IsThrough sealing talk start mid first before held old_left input n → k ≤ length (drop n input) → left ≡ Some (drop k (drop n input)) →
+      GoesOn sealing talk mid now second before after (take n input ++ take k (drop n input)) →
+      IsThrough sealing talk start now second before after left input (n + k)
+  IsThrough-more through more source on = record {
+    within = omega (arith, through.within, more, length-drop n input);
+    source = source ∙ ap (λ bs. Some bs) (drop-drop k n input);
+    on = subst (λ bs. GoesOn sealing talk start now second before after bs) (sym (take-add n k input))
+        (GoesOn-then sealing talk start mid now first before held after (take n input) (take k (drop n input)) second through.on on);
+  }
 
--- and so many more
-pub IsThrough-more : (sealing : Sealing) (talk : Talk) (start mid now : Told) (first second : SessionState) (before held after old_left left : Option (List ℕ))
-    (input : List ℕ) (n k : ℕ) →
-    IsThrough sealing talk start mid first before held old_left input n → k ≤ length (drop n input) → left ≡ Some (drop k (drop n input)) →
-    GoesOn sealing talk mid now second before after (take n input ++ take k (drop n input)) →
-    IsThrough sealing talk start now second before after left input (n + k)
-IsThrough-more sealing talk start mid now first second before held after old_left left input n k through more source on = record {
-  within = omega (arith, through.within, more, length-drop n input);
-  source = source ∙ ap (λ bs. Some bs) (drop-drop k n input);
-  on = subst (λ bs. GoesOn sealing talk start now second before after bs) (sym (take-add n k input))
-      (GoesOn-then sealing talk start mid now first before held after (take n input) (take k (drop n input)) second through.on on);
-}
+-- the same of every input and history
+abbrev pub GoesThrough : Form → Sealing → Option (List ℕ) → SessionState → Option (List ℕ) → Option (List ℕ) → Option (List ℕ) → ℕ → Told → Told → Type 0
+GoesThrough form sealing left session before held rest n old now =
+    (input : List ℕ) → left ≡ Some input → NothingPending old → (used : Option ℕ) (history : History) → StandsShort used history old.content →
+    IsThrough sealing (begun_over used form history) old now session before held rest input n
+
+-- none were
+pub goes-start : (session : SessionState) {left before : Option (List ℕ)} {disk : Told} → KnowsNow disk → NoneWait session.waiting →
+    session.line ≡ kept_so_far session.form [] → session.cursors ≡ no_cursors →
+    GoesThrough session.form (sealing_by session.waiting) left session before before left 0 disk disk
+goes-start session {before = before} {disk = disk} knows unsaid line cursors input is none used history stands =
+    let talk = begun_over used session.form history in
+    let nothing = sym (steps-none session.form) in
+    record {
+      within = omega arith;
+      source = is;
+      on = GoesOn-start (sealing_by session.waiting) talk disk session before before [] knows
+          (record {
+            stands = subst (λ ls. HoldsTalk (after_lines talk ls) disk.content) nothing stands;
+            durable = none;
+            line = line;
+            unsaid = unsaid;
+            seals = refl;
+            form = refl;
+            cursors = cursors ∙ ap (λ ls. (after_lines talk ls).cursors) nothing;
+          })
+          (sym (appended-nil before) ∙ ap (λ ls. appended before (text_of talk ls)) nothing);
+    }
+
+module _ {form : Form} {sealing : Sealing} {left before held after old_left rest : Option (List ℕ)} {first second : SessionState} {n room k : ℕ}
+    {start mid now : Told} where
+  pub goes-more : GoesThrough form sealing left first before held old_left n start mid → ReadsPiece room first second old_left rest held after (Ok k) mid now →
+      ((bytes : List ℕ) → old_left ≡ Some bytes → (k ≤ length bytes) × (k ≡ 0 → bytes ≡ []) × (rest ≡ Some (drop k bytes))) →
+      GoesThrough form sealing left second before after rest (n + k) start now
+  goes-more through reads moves input is none used history stands =
+      let one = through input is none used history stands in
+      let move = moves (drop n input) one.source in
+      IsThrough-more one move.0 move.2
+      (reads.goes (drop n input) one.source sealing (begun_over used form history) before (take n input) one.on.at one.on.replied)
 
 -- all of the input was taken
 pub record IsAtEnd (sealing : Sealing) (talk : Talk) (start now : Told) (session : SessionState) (before held left : Option (List ℕ))
@@ -197,6 +227,19 @@ Serves-finish sealing {talk = talk} {start = start} {before = before} {left = le
 Serves-finish sealing {talk = talk} {start = start} {before = before} {left = left} {input = input} new after tells status told end
     (inr stop) done stops =
     Serves-stop sealing talk input left before after start new tells status told stop (HasStopped-end sealing new after status end (stops stop))
+
+pub goes-finish : {form : Form} {sealing : Sealing} {left before held after old_left rest : Option (List ℕ)} {session : SessionState} {n : ℕ}
+    {start mid new : Told} (tells : Bool) (status : Status) → IsTrue tells → (status ≡ Done) ⊎ IsStop tells status →
+    GoesThrough form sealing left session before held old_left n start mid → EndsSession session held after status mid new →
+    ((input : List ℕ) → left ≡ Some input → (length input ≤ n) × (length input ≤ LONGEST_INPUT) × (rest ≡ Some [])) →
+    (input : List ℕ) → left ≡ Some input → ServesInput form sealing input rest before after status start new
+goes-finish {form = form} {sealing = sealing} {before = before} {after = after} {rest = rest} {new = new} tells status told how through ends all
+    input is none used history stands =
+    let talk = begun_over used form history in
+    let last = all input is in
+    let end = IsThrough-end rest (through input is none used history stands) last.0 last.1 last.2 in
+    Serves-finish sealing new after tells status told end how (λ is_done. ends.done is_done sealing talk before input end.on.at end.on.replied)
+    (λ stop. ends.stops (stop-other tells status stop).0 sealing talk before input end.on.at end.on.replied)
 
 -- by which of the two statuses
 abbrev Partly : Status → Type 0 → Type 0 → Type 0

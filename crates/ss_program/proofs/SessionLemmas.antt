@@ -1,13 +1,12 @@
 -- How a session goes on with further lines, and where it stops. Of what a line brings this rests only on that an event is never silent.
 use Rattle.ss_program.proofs.Common.{Bool, false, Some, None, Ok, Err, Result, ◌≡◌, ℕ, ◌+◌, ◌<◌, ◌++◌, List, [], ◌∷◌, length, take, Option, IsSome, refl, sym}
 use Rattle.ss_program.proofs.Common.{ap, ◌∙◌, subst, append_assoc, take-append-add, flat_map, flat_map-append, append-nil, Form, Lines, Sessions, Frames}
-use Rattle.ss_program.proofs.Common.{Follow, Event, Create, Value, Open, Close, Drop, Refusal, meaning, Command, Do, Ask, Certify, Last, Values, Windows}
-use Rattle.ss_program.proofs.Common.{FrameState, frame_in, refuses, state, due_in, frame_of, Due, Next, Gap, unless_long, spoken_of, Order, Spoken, Nothing}
-use Rattle.ss_program.proofs.Common.{Unaddressed, To, reply_line, Reply, History, accepted_frame, brings, due_brings, frame_brings, history_after, text_said}
-use Rattle.ss_program.proofs.Common.{the_event, LeavesOnly, Told, weaker, HoldsTalk, StandsWithin, StopsAmong, StopsIn, appended, AppendsFront, accepted}
-use Rattle.ss_program.proofs.Common.{after_line, after_lines, plain_after, replies, report, report_so_far, text_of, Talk, kept_spoken, meant_turn, plain}
-use Rattle.ss_program.proofs.Common.{turn_in, turn_of, turn_spoken, turn_to, writing, Sealing, Status, steps_so_far}
-use Rattle.ss_command.specs.declared.command.Command.TheVariants.{Series as AskRows, List as ListAll}
+use Rattle.ss_program.proofs.Common.{Follow, Event, Create, Value, Open, Close, Drop, Refusal, meaning, Command, FrameState, frame_in, refuses, state, due_in}
+use Rattle.ss_program.proofs.Common.{frame_of, Due, Next, Gap, unless_long, spoken_of, Order, Spoken, Nothing, Unaddressed, To, reply_line, Reply, History}
+use Rattle.ss_program.proofs.Common.{accepted_frame, brings, due_brings, frame_brings, history_after, text_said, the_event, LeavesOnly, Told, weaker, HoldsTalk}
+use Rattle.ss_program.proofs.Common.{StandsWithin, StopsAmong, StopsIn, appended, AppendsFront, accepted, after_line, after_lines, plain_after, replies, report}
+use Rattle.ss_program.proofs.Common.{report_so_far, text_of, Talk, kept_spoken, meant_turn, plain, turn_in, turn_of, turn_spoken, turn_to, writing, Sealing}
+use Rattle.ss_program.proofs.Common.{Status, steps_so_far, Turn, inl, inr}
 use Rattle.ss_replica.specs.declared.judging.Due.TheVariants.{Old as OldFrame}
 use Rattle.ss_program.proofs.SpelledLemmas.{some-frame_spelled}
 use Rattle.ss_program.proofs.StepsLemmas.{steps-front}
@@ -15,6 +14,7 @@ use Rattle.ss_program.proofs.AnswerLemmas.{event-some, meaning-some}
 use Rattle.ss_program.proofs.CursorLemmas.{close-event, next-event, open-event}
 use Rattle.ss_program.proofs.SendLemmas.{AppendsFront-longer}
 use Rattle.ss_sessions.specs.declared.order.Order.TheVariants as orders
+use Rattle.ss_program.proofs.MeantLemmas.{event-or-silent}
 
 -- something is said to a line that brings an event
 to-some : (framed : Bool) (session : ℕ) (talk : Talk) (said : Result (Option Order) Refusal) → IsSome (turn_to framed session talk said).event →
@@ -48,16 +48,11 @@ written-some talk (Open name t) None some = some-frame_spelled (frame_of talk.hi
 written-some talk (Close name t) None some = some-frame_spelled (frame_of talk.history (Close name t)) (λ other is. cc)
 
 meant-some : (talk : Talk) (meant : Result (Option Command) Refusal) → IsSome (meant_turn talk meant).event → 0 < length (meant_turn talk meant).says
-meant-some talk (Err refusal) some = cc
-meant-some talk (Ok None) some = cc
-meant-some talk (Ok (Some (Do event))) some = written-some talk event (refuses (state talk.history) event) some
-meant-some talk (Ok (Some (Ask query))) some = cc
-meant-some talk (Ok (Some (Certify query end))) some = cc
-meant-some talk (Ok (Some (AskRows series))) some = cc
-meant-some talk (Ok (Some (Last name))) some = cc
-meant-some talk (Ok (Some (Values name from to))) some = cc
-meant-some talk (Ok (Some (Windows name))) some = cc
-meant-some talk (Ok (Some ListAll)) some = cc
+meant-some talk meant some = elim (event-or-silent meant) [
+  | inl is ↦ subst (λ (m : Result (Option Command) Refusal). IsSome (meant_turn talk m).event → 0 < length (meant_turn talk m).says) (sym is.1)
+      (written-some talk is.0 (refuses (state talk.history) is.0)) some
+  | inr none ↦ (let wrong = subst (λ (t : Turn). IsSome t.event) (none talk) some in cc)
+]
 
 -- and what is said to a frame that is the next
 due-some : (history : History) (frame : FrameState) (due : Due) → IsSome (due_brings history frame due).event →

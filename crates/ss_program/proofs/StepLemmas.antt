@@ -12,6 +12,9 @@ module _ {old mid new : DiskView} {v : Verdict} {R Q S : Told → Told → Type 
   }
 
 module _ {old new : DiskView} {v : Verdict} {R S : Told → Told → Type 0} where
-  -- what follows of a step at whose end the disk tells
+  -- what follows of a step at whose start the disk tells, or at whose end
+  pub step-given : Step v old new R → (IsTrue old.tells → R old.told new.told → S old.told new.told) → Step v old new S
+  step-given step gives = record { tells = step.tells; counted = step.counted; told = λ told. gives told (step.told told) }
+
   pub step-so : Step v old new R → (IsTrue new.tells → R old.told new.told → S old.told new.told) → Step v old new S
-  step-so step gives = record { tells = step.tells; counted = step.counted; told = λ told. gives (step.tells ∙ told) (step.told told) }
+  step-so step gives = step-given step (λ told. gives (step.tells ∙ told))

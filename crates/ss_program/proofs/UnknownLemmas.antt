@@ -1,11 +1,9 @@
 -- A stream that doesn't stand stands by no line but its create.
 use Rattle.ss_program.proofs.Common.{◌≡◌, ◌≢◌, ◌∙◌, ℕ, List, [], ◌∷◌, ◌++◌, false, Option, Some, None, Result, Ok, Err, refl, sym, ap, subst, inl, inr}
 use Rattle.ss_program.proofs.Common.{cases_Bool, All-head, All-tail, is_some, event_name, same_name, Event, Create, Value, Open, Close, Drop, Params, Query}
-use Rattle.ss_program.proofs.Common.{Refusal, Unknown, meaning, Command, Do, Ask, Certify, Last, Values, Windows, given_to-created, same_name-Decides}
-use Rattle.ss_program.proofs.Common.{same_name-same, added, marked_of, values_of, marked_values, stands, Stream, state, stepped, New, Brought, History}
-use Rattle.ss_program.proofs.Common.{accepted_in, brings, command_brings, history_after, meaning_brings, nothing, refused, unless_refused, NoneCreates}
-use Rattle.ss_program.proofs.Common.{plain_after}
-use Rattle.ss_command.specs.declared.command.Command.TheVariants.{Series as AskRows, List as ListAll}
+use Rattle.ss_program.proofs.Common.{Refusal, Unknown, meaning, Command, Do, Ask, given_to-created, same_name-Decides, same_name-same, added, marked_of}
+use Rattle.ss_program.proofs.Common.{values_of, marked_values, stands, Stream, state, stepped, New, Brought, History, accepted_in, brings, command_brings}
+use Rattle.ss_program.proofs.Common.{history_after, meaning_brings, nothing, refused, unless_refused, NoneCreates, plain_after}
 use Rattle.ss_model.proofs.DropLemmas.{refuses-drop, stream_named-dropped}
 use Rattle.ss_model.proofs.ReadLemmas.{stream_named-stepped}
 use Rattle.ss_model.proofs.StepLemmas.{state-push}
@@ -13,7 +11,7 @@ use Rattle.ss_model.specs.Answers.{refuses_query}
 use Rattle.ss_model.specs.Refusals.{refuses}
 use Rattle.ss_model.specs.Steps.{stepped_from}
 use Rattle.ss_program.proofs.SessionLemmas.{plain_after-append}
-use Rattle.ss_program.proofs.AnswerLemmas.{ask-event, brings-unanswered, certify-event, history-still, last-event, series-event, values-event, windows-event}
+use Rattle.ss_program.proofs.AnswerLemmas.{brings-unanswered, history-still, event-or-none}
 
 -- after this history no stream of the name stands
 abbrev IsUnknown : List ℕ → History → Type 0
@@ -55,21 +53,11 @@ unknown-event name history event (Some refusal) is spared unknown = unknown-stil
 
 unknown-command : (name : List ℕ) (history : History) (command : Command) → ((params : Params) → command ≢ Do (Create name params)) →
     IsUnknown name history → IsUnknown name (history_after history (command_brings history command))
-unknown-command name history (Do event) spared unknown =
-    unknown-event name history event (refuses (state history) event) refl (λ params is. spared params (ap Do is)) unknown
-unknown-command name history (Ask query) spared unknown =
-    unknown-still name history (command_brings history (Ask query)) (ask-event history query) unknown
-unknown-command name history (Certify query end) spared unknown =
-    unknown-still name history (command_brings history (Certify query end)) (certify-event history query end) unknown
-unknown-command name history (AskRows series) spared unknown =
-    unknown-still name history (command_brings history (AskRows series)) (series-event history series) unknown
-unknown-command name history (Last other) spared unknown =
-    unknown-still name history (command_brings history (Last other)) (last-event history other) unknown
-unknown-command name history (Values other from to) spared unknown =
-    unknown-still name history (command_brings history (Values other from to)) (values-event history other from to) unknown
-unknown-command name history (Windows other) spared unknown =
-    unknown-still name history (command_brings history (Windows other)) (windows-event history other) unknown
-unknown-command name history ListAll spared unknown = unknown-still name history (command_brings history ListAll) refl unknown
+unknown-command name history command spared unknown = elim (event-or-none command) [
+  | inl one ↦ subst (λ (k : Command). IsUnknown name (history_after history (command_brings history k))) (sym one.1)
+      (unknown-event name history one.0 (refuses (state history) one.0) refl (λ params is. spared params (one.1 ∙ ap Do is)) unknown)
+  | inr none ↦ unknown-still name history (command_brings history command) (none false history) unknown
+]
 
 unknown-meaning : (name : List ℕ) (history : History) (meant : Result (Option Command) Refusal) →
     ((params : Params) → meant ≢ Ok (Some (Do (Create name params)))) → IsUnknown name history →

@@ -1,5 +1,6 @@
 -- Between two lines of a session: what is true there, and what taking some lines does.
-use Rattle.std.specs.Prelude.{◌≡◌, ℕ, ◌+◌, Bool, true, ◌≤◌, ◌++◌, List, ◌∷◌, [], length, Option, Some, None, Result, IfOk, IfErr, OnOk, IsSome, ⊤}
+use Rattle.std.specs.Prelude.{◌≡◌, ℕ, ◌+◌, Bool, true, ◌≤◌, ◌++◌, List, ◌∷◌, [], length, Option, Some, None, Result, Err, IfOk, IfErr, OnOk}
+use Rattle.std.specs.Prelude.{IsSome, IsTrue, ◌<◌, ⊤}
 use Rattle.ss_catalog.specs.declared.event.Event.{Event}
 use Rattle.ss_command.specs.LineState.{Kept}
 use Rattle.ss_command.specs.declared.command.Command.TheVariants.{Do}
@@ -112,6 +113,12 @@ TakesBrought speaker brought from to result old new = (cursors : Cursors) →
 abbrev pub TakesOrdered : ℕ → (History → Cursors → Ordered) → Amid → Amid → Result Unit Status → Told → Told → Type 0
 TakesOrdered session ordered from to result old new =
     TakesTurn (λ talk. turn_said (Some session) (ordered talk.history talk.cursors)) from to result old new
+
+-- The run stops at a line, which may have any turn that wants memory after the histories that records show, and to which something is said.
+abbrev pub TakesStarved : RecordsState → (Cursors → Amid) → (Cursors → Amid) → Status → Told → Told → Type 0
+TakesStarved was from to status old new = (cursors : Cursors) (turn : Talk → Turn) →
+    ((here : Talk) → here.cursors ≡ cursors → Stands here.history (shown_by was old.content) →
+    IsTrue (turn here).wants_memory × (0 < length (turn here).says)) → TakesTurn turn (from cursors) (to cursors) (Err status) old new
 
 -- A line is taken in memory: the event that it brings, if any, comes after the history that records show, wholly or not at all, and
 -- its one reply is answered.

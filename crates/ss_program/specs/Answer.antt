@@ -1,16 +1,16 @@
--- What answering a line leaves.
-use Rattle.std.specs.Prelude.{◌≡◌, ℕ, ◌+◌, List, [], ◌∷◌, flat_map, map, slice_get, false, IsSome, IfOk, IfErr, IfSome, OnOk}
+-- What answering and showing leaves.
+use Rattle.std.specs.Prelude.{◌≡◌, ℕ, ◌+◌, List, [], ◌∷◌, flat_map, map, slice_get, false, IsSome, IfOk, IfErr, IfSome, OnOk, ⊤}
 use Rattle.std.specs.Prelude.{OnErr, Option, Some, Result, Ok, Err}
 use Rattle.ss_catalog.specs.declared.event.Event.{Event}
 use Rattle.ss_command.specs.declared.command.Command.{Command}
-use Rattle.ss_command.specs.declared.command.Command.TheVariants.{Do}
+use Rattle.ss_command.specs.declared.command.Command.TheVariants.{Do, Ask, Last}
 use Rattle.ss_line.specs.Line.{index_of}
 use Rattle.ss_line.specs.declared.entry.At.{At}
 use Rattle.ss_model.specs.Shown.{placed_of}
 use Rattle.ss_model.specs.State.{Stream, live, state, stream_numbered}
 use Rattle.ss_model.specs.declared.types.Placed.{Placed}
 use Rattle.ss_outside.specs.Crash.{OnlyReads}
-use Rattle.ss_outside.specs.Disk.{Between, DiskView, OfContent, Told}
+use Rattle.ss_outside.specs.Disk.{DiskView, OfContent, Told}
 use Rattle.ss_outside.specs.Step.{Step}
 use Rattle.ss_outside.specs.Verdict.{Counted}
 use Rattle.ss_outside.specs.declared.source.Failed.{Failed}
@@ -24,8 +24,10 @@ use Rattle.ss_store.specs.Recover.{Stands}
 use Rattle.ss_program.specs.Devices.{Devices}
 use Rattle.ss_program.specs.Line.{Brought, History, command_brings, history_after, text_said, window_rows}
 use Rattle.ss_program.specs.Progress.{StandsAround}
-use Rattle.ss_program.specs.Sent.{appended, Sends, StopsSaying}
-use Rattle.ss_program.specs.Status.{disk_verdict, ended, sink_verdict, IsShowStop, IsStop}
+use Rattle.ss_program.specs.Sent.{Sends}
+use Rattle.ss_program.specs.Status.{disk_verdict, ended, sink_verdict, IsShowStop}
+use Rattle.ss_program.specs.declared.answer.Question.{Question}
+use Rattle.ss_program.specs.declared.answer.Question.TheVariants as questions
 use Rattle.ss_program.specs.declared.status.Status.{Status}
 use Rattle.ss_program.specs.declared.status.Status.TheVariants.{OutOfMemory, SinkFault}
 
@@ -47,11 +49,6 @@ SendsRows speaker before after rows result = Sends before after (flat_map (said_
 abbrev pub at_sink : Result Unit Failed → Result Unit Status
 at_sink (Ok u) = Ok u
 at_sink (Err e) = Err SinkFault
-
--- what a line brings was said, or the run stops with it
-abbrev pub Replies : Option ℕ → Brought → Option (List ℕ) → Option (List ℕ) → Result Unit Status → Type 0
-Replies speaker brought before after (Ok u) = after ≡ appended before (text_said speaker brought)
-Replies speaker brought before after (Err status) = StopsSaying (text_said speaker brought) (IsSome brought.event) before after status
 
 -- What a line brings is added to the history that the disk stands for, wholly or not at all, also in a crash. No image uses more slots than
 -- the content did, or than the records that the history needs, and one.
@@ -75,7 +72,19 @@ pub record AppliesEvent (event : Event) (result : Result Reply Status) (old new 
   pub does : DoesCommand (λ history. command_brings history (Do event)) result old new
   pub accepted : (history : History) → Stands history old.content → OnErr result (IsSome (command_brings history (Do event)).event)
 
--- A query is asked, of what records show. Content and images stay.
+-- a command shows rows, which don't wait
+abbrev pub HasRows : Command → Type 0
+HasRows (Do event) = ⊥
+HasRows (Ask query) = ⊥
+HasRows (Last name) = ⊥
+HasRows command = ⊤
+
+-- the command by which something is asked that has one answer
+abbrev pub question_command : Question → Command
+question_command (questions.Query query) = Ask query
+question_command (questions.Newest name) = Last name
+
+-- A question is asked, of what records show. Content and images stay.
 pub record AsksQuery (was : RecordsState) (brought : History → Brought) (result : Result Reply Status) (old new : Told) : Type 0 where
   pub reply : (history : History) → Stands history (shown_by was old.content) → IfOk result (λ reply. (brought history).replies ≡ reply ∷ [])
   pub reads : OnlyReads old new
@@ -103,14 +112,3 @@ pub record Shows (text : History → List ℕ → Type 0) (old new : Devices) (s
   pub counted : Counted (sink_verdict (ended result)) old.faults new.faults
   pub opens : OnOk result (IsOpen new.disk store)
   pub status : IfErr result (IsShowStop old.disk.tells)
-
--- A line is answered: what it brings is added and replied, or the run stops at it. Where memory runs out, nothing was done.
-pub record TakesLine (speaker : Option ℕ) (brought : History → Brought) (old new : Devices) (store : StoreState) (result : Result Unit Status) : Type 0
-  where
-    pub adds : Step (disk_verdict (ended result)) old.disk new.disk (λ a b. (history : History) → Adds history (brought history) a b result)
-    pub untouched : ended result ≡ OutOfMemory → Between old.disk new.disk OnlyReads
-    pub replies : OfContent old.disk (λ content. (history : History) → Stands history content →
-        Replies speaker (brought history) old.held new.held result)
-    pub counted : Counted (sink_verdict (ended result)) old.faults new.faults
-    pub opens : OnOk result (IsOpen new.disk store)
-    pub status : IfErr result (IsStop old.disk.tells)

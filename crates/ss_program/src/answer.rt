@@ -1,4 +1,4 @@
-// One line: what it says is done, and what it brings is replied.
+// What is asked is answered, or shown in rows, and an event is applied.
 ghost use Rattle.std.specs.Prelude.{◌≡◌, ◌+◌, ◌≤◌, [], ◌∷◌, ℕ, List, drop, flat_map, length, take, Some, IsSome, IfErr, IfSome, OnOk};
 ghost use Rattle.ss_catalog.specs.Events.{IsInTime};
 ghost use Rattle.ss_command.specs.Printed.{IsCommandInTime};
@@ -11,14 +11,14 @@ ghost use Rattle.ss_outside.specs.Verdict.{Counted, verdict};
 ghost use Rattle.ss_report.specs.Text.{said_line};
 ghost use Rattle.ss_store.specs.Kept.{StoreIsIn, part_numbered};
 ghost use Rattle.ss_store.specs.Recover.{Stands};
-ghost use Rattle.ss_program.specs.Answer.{AppliesEvent, AsksQuery, IsOpen, IsRowsText, IsServing, IsTextBrought, ReadsRow, SendsRows, Shows, TakesLine};
-ghost use Rattle.ss_program.specs.Answer.{at_sink};
+ghost use Rattle.ss_program.specs.Answer.{AppliesEvent, AsksQuery, HasRows, IsOpen, IsRowsText, IsServing, IsTextBrought, ReadsRow, SendsRows, Shows};
+ghost use Rattle.ss_program.specs.Answer.{at_sink, question_command};
 ghost use Rattle.ss_program.specs.Devices.{over};
 ghost use Rattle.ss_program.specs.Line.{History, command_brings, stream_rows, text_said, value_rows, window_rows, IsSpeaker};
 ghost use Rattle.ss_program.specs.Sent.{Puts, Sends};
 ghost use Rattle.ss_program.specs.declared.status.Status.{Status};
 ghost use Rattle.ss_program.specs.Status.{disk_verdict, ended, IsApplyStop, IsDiskStop};
-ghost use Rattle.ss_command.specs.declared.command.Command.TheVariants.{Do, Ask, Last, Values, Windows, List as ListAll};
+ghost use Rattle.ss_command.specs.declared.command.Command.TheVariants.{Values, Windows, List as ListAll};
 
 use crate::certifying::show_certificate;
 use crate::sending::send;
@@ -160,57 +160,38 @@ fn list<K: Sink>(speaker: Option<u8>, store: &Store, sink: &mut K) -> Result<(),
     send_streams(speaker, store, count, sink)
 }
 
+/// What is asked that has one answer: a query, or how far a stream has come.
+#[derive(Clone, Copy, Debug, PartialEq, Eq)]
+pub enum Question {
+    Query(Query),
+    Newest(Name),
+}
+
 /// Asks the store, and answers the reply to it, by what the store shows.
-pub fn ask<D: Disk>(store: &mut Store, query: &Query, disk: &mut D) -> Result<Reply, Status>
+pub fn ask<D: Disk>(store: &mut Store, question: &Question, disk: &mut D) -> Result<Reply, Status>
     requires serves { IsServing (D.seen disk.old) store.old }
     ensures asks { Step (disk_verdict (ended result)) (D.seen disk.old) (D.seen disk.new)
-        (AsksQuery store.old.records (λ history. command_brings history (Ask query.now)) result) }
+        (AsksQuery store.old.records (λ history. command_brings history (question_command question.now)) result) }
     ensures serves { OnOk result (IsServing (D.seen disk.new) store.new) }
     ensures journal { OnOk result (store.new.records.journal ≡ store.old.records.journal) }
     ensures status { IfErr result (IsDiskStop (D.seen disk.old).tells) }
 {
-    match store.ask(disk, query) {
-        Ok(outcome) => Ok(Reply::Answered(outcome)),
-        Err(AskError::Refused(refusal)) => Ok(Reply::Refused(refusal)),
-        Err(AskError::Disk) => Err(Status::DiskFault),
-        Err(AskError::Changed { .. }) => Err(Status::RecordChanged),
-        Err(AskError::Stopped) => unreachable!(),
+    match question {
+        Question::Query(query) => match store.ask(disk, query) {
+            Ok(outcome) => Ok(Reply::Answered(outcome)),
+            Err(AskError::Refused(refusal)) => Ok(Reply::Refused(refusal)),
+            Err(AskError::Disk) => Err(Status::DiskFault),
+            Err(AskError::Changed { .. }) => Err(Status::RecordChanged),
+            Err(AskError::Stopped) => unreachable!(),
+        },
+        Question::Newest(name) => match store.newest(disk, name) {
+            Ok(newest) => Ok(Reply::Last(newest)),
+            Err(AskError::Refused(refusal)) => Ok(Reply::Refused(refusal)),
+            Err(AskError::Disk) => Err(Status::DiskFault),
+            Err(AskError::Changed { .. }) => Err(Status::RecordChanged),
+            Err(AskError::Stopped) => unreachable!(),
+        },
     }
-}
-
-/// Asks the store how far a stream has come, and answers the reply to it, by what the store shows.
-pub fn newest<D: Disk>(store: &mut Store, name: &Name, disk: &mut D) -> Result<Reply, Status>
-    requires serves { IsServing (D.seen disk.old) store.old }
-    ensures asks { Step (disk_verdict (ended result)) (D.seen disk.old) (D.seen disk.new)
-        (AsksQuery store.old.records (λ history. command_brings history (Last name.now)) result) }
-    ensures serves { OnOk result (IsServing (D.seen disk.new) store.new) }
-    ensures journal { OnOk result (store.new.records.journal ≡ store.old.records.journal) }
-    ensures status { IfErr result (IsDiskStop (D.seen disk.old).tells) }
-{
-    match store.newest(disk, name) {
-        Ok(newest) => Ok(Reply::Last(newest)),
-        Err(AskError::Refused(refusal)) => Ok(Reply::Refused(refusal)),
-        Err(AskError::Disk) => Err(Status::DiskFault),
-        Err(AskError::Changed { .. }) => Err(Status::RecordChanged),
-        Err(AskError::Stopped) => unreachable!(),
-    }
-}
-
-// Asks the store how far a stream has come, and replies what it answers.
-fn show_newest<D: Disk, K: Sink>(
-    speaker: Option<u8>,
-    store: &mut Store,
-    name: &Name,
-    disk: &mut D,
-    sink: &mut K,
-) -> Result<(), Status>
-    requires speaker { IsSpeaker speaker }
-    requires open { IsOpen (D.seen disk.old) store.old }
-    ensures { Shows (IsTextBrought speaker (Last name.now)) (over (D.seen disk.old) (K.held sink.old) (K.faults sink.old))
-        (over (D.seen disk.new) (K.held sink.new) (K.faults sink.new)) store.new result }
-{
-    let reply = newest(store, name, disk)?;
-    at_sink(send_reply(speaker, &reply, sink))
 }
 
 // Sends a row for each of some values of landmarks, oldest first.
@@ -259,23 +240,6 @@ fn show_values<K: Sink>(
     }
 }
 
-// Asks the store, and replies what it answers.
-fn show_answer<D: Disk, K: Sink>(
-    speaker: Option<u8>,
-    store: &mut Store,
-    query: &Query,
-    disk: &mut D,
-    sink: &mut K,
-) -> Result<(), Status>
-    requires speaker { IsSpeaker speaker }
-    requires open { IsOpen (D.seen disk.old) store.old }
-    ensures { Shows (IsTextBrought speaker (Ask query.now)) (over (D.seen disk.old) (K.held sink.old) (K.faults sink.old))
-        (over (D.seen disk.new) (K.held sink.new) (K.faults sink.new)) store.new result }
-{
-    let reply = ask(store, query, disk)?;
-    at_sink(send_reply(speaker, &reply, sink))
-}
-
 /// Applies an event, and answers the reply to it.
 pub fn apply<D: Disk>(store: &mut Store, event: &Event, disk: &mut D) -> Result<Reply, Status>
     requires in_time { IsInTime event.now }
@@ -296,26 +260,8 @@ pub fn apply<D: Disk>(store: &mut Store, event: &Event, disk: &mut D) -> Result<
     }
 }
 
-// Applies an event, and replies to it.
-fn take<D: Disk, K: Sink>(
-    speaker: Option<u8>,
-    store: &mut Store,
-    event: &Event,
-    disk: &mut D,
-    sink: &mut K,
-) -> Result<(), Status>
-    requires speaker { IsSpeaker speaker }
-    requires in_time { IsInTime event.now }
-    requires open { IsOpen (D.seen disk.old) store.old }
-    ensures { TakesLine speaker (λ history. command_brings history (Do event.now)) (over (D.seen disk.old) (K.held sink.old) (K.faults sink.old))
-        (over (D.seen disk.new) (K.held sink.new) (K.faults sink.new)) store.new result }
-{
-    let reply = apply(store, event, disk)?;
-    at_sink(send_reply(speaker, &reply, sink))
-}
-
-/// Does what a command says, and replies to it: to the session that says it, or to none.
-pub fn obey<D: Disk, K: Sink>(
+/// Shows the rows that a command asks for: to the session that says it, or to none.
+pub fn show<D: Disk, K: Sink>(
     speaker: Option<u8>,
     store: &mut Store,
     command: &Command,
@@ -324,22 +270,21 @@ pub fn obey<D: Disk, K: Sink>(
 ) -> Result<(), Status>
     requires speaker { IsSpeaker speaker }
     requires in_time { IsCommandInTime command.now }
+    requires rows { HasRows command.now }
     requires open { IsOpen (D.seen disk.old) store.old }
-    ensures { TakesLine speaker (λ history. command_brings history command.now) (over (D.seen disk.old) (K.held sink.old) (K.faults sink.old))
+    ensures { Shows (IsTextBrought speaker command.now) (over (D.seen disk.old) (K.held sink.old) (K.faults sink.old))
         (over (D.seen disk.new) (K.held sink.new) (K.faults sink.new)) store.new result }
 {
     match command {
-        Command::Do(event) => take(speaker, store, event, disk, sink),
-        Command::Ask(query) => show_answer(speaker, store, query, disk, sink),
         Command::Certify { query, end } => show_certificate(
             speaker, store, query, *end, disk, sink,
         ),
         Command::Series(series) => show_series(speaker, store, series, disk, sink),
-        Command::Last(name) => show_newest(speaker, store, name, disk, sink),
         Command::Values { name, from, to } => at_sink(show_values(
             speaker, store, name, *from, *to, sink,
         )),
         Command::Windows(name) => show_windows(speaker, store, name, disk, sink),
         Command::List => at_sink(list(speaker, store, sink)),
+        Command::Do(_) | Command::Ask(_) | Command::Last(_) => unreachable!(),
     }
 }

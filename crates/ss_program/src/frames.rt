@@ -13,7 +13,7 @@ ghost use Rattle.ss_program.specs.Talk.{event_turn, meant_turn};
 ghost use Rattle.ss_sessions.specs.Cursors.{Cursors};
 
 use crate::replies::Replies;
-use crate::staging::{flush, say, say_refusal, say_text, stage_framed, take_event};
+use crate::staging::{say, say_refusal, say_text, stage_framed, starve, take_event};
 use crate::status::Status;
 use ss_catalog::{Event, Refusal};
 use ss_command::{Command, LONGEST_LINE, parse};
@@ -53,10 +53,7 @@ fn write_event_frame<D: Disk, K: Sink>(
             },
         },
         Err(status) => match status {
-            Status::OutOfMemory => {
-                flush(store, waiting, disk, sink)?;
-                Err(Status::OutOfMemory)
-            }
+            Status::OutOfMemory => Err(starve(store, waiting, disk, sink)),
             _ => Err(status),
         },
     }

@@ -15,7 +15,7 @@ ghost use Rattle.ss_program.specs.Sent.{Puts, Sends};
 ghost use Rattle.ss_program.specs.Status.{disk_verdict, ended, sink_verdict, IsApplyStop, IsStop};
 ghost use Rattle.ss_program.specs.Tally.{IsSingle, RunsAll, Tallies};
 
-use crate::answer::{apply, ask, send_replies};
+use crate::answer::{Question, apply, ask, send_replies};
 use crate::refuse::refuse;
 use crate::sending::send;
 use crate::status::Status;
@@ -95,7 +95,7 @@ fn reply_to<D: Disk>(store: &mut Store, command: &Command, disk: &mut D) -> Resu
 {
     match command {
         Command::Do(event) => apply(store, event, disk),
-        Command::Ask(query) => ask(store, query, disk),
+        Command::Ask(query) => ask(store, &Question::Query(*query), disk),
         Command::Certify { .. }
         | Command::Series(_)
         | Command::Last(_)

@@ -18,7 +18,7 @@ use crate::answer::at_sink;
 use crate::cursors::{close_cursor, open_cursor, show_next};
 use crate::frames::{take_offered, write_line_frame};
 use crate::replies::Replies;
-use crate::staging::{flush, make_room, say, say_refusal, take_command};
+use crate::staging::{flush, make_room, say, say_refusal, starve, take_command};
 use crate::status::Status;
 use ss_arguments::Form;
 use ss_catalog::{Name, Refusal};
@@ -52,10 +52,7 @@ fn take_open<D: Disk, K: Sink>(
     match open_cursor(sessions, session, store, name, disk) {
         Ok(reply) => say(Some(session), store, waiting, &reply, disk, sink),
         Err(status) => match status {
-            Status::OutOfMemory => {
-                flush(store, waiting, disk, sink)?;
-                Err(Status::OutOfMemory)
-            }
+            Status::OutOfMemory => Err(starve(store, waiting, disk, sink)),
             _ => Err(status),
         },
     }

@@ -4,23 +4,23 @@ ghost use Rattle.std.specs.Prelude.{◌≡◌, ◌<◌, ◌≤◌, List, [], fla
 ghost use Rattle.ss_catalog.specs.Events.{IsInTime};
 ghost use Rattle.ss_catalog.specs.declared.refusal.Refusal.{Refusal};
 ghost use Rattle.ss_command.specs.Printed.{IsCommandInTime};
-ghost use Rattle.ss_command.specs.declared.command.Command.TheVariants.{Do, Ask, Last};
+ghost use Rattle.ss_command.specs.declared.command.Command.TheVariants.{Do};
 ghost use Rattle.ss_outside.specs.Step.{Step};
 ghost use Rattle.ss_outside.specs.Verdict.{Counted};
 ghost use Rattle.ss_report.specs.Text.{said_line};
-ghost use Rattle.ss_program.specs.Amid.{BringsEvent, HasRoom, IsReady, StagesBrought, StagesFramed, TakesBrought, TakesNone};
+ghost use Rattle.ss_program.specs.Amid.{BringsEvent, HasRoom, IsReady, StagesBrought, StagesFramed, TakesBrought, TakesNone, TakesStarved};
 ghost use Rattle.ss_program.specs.Amid.{amid, owed_by, staged_replies, with_text};
-ghost use Rattle.ss_program.specs.Answer.{IsOpen, IsServing};
+ghost use Rattle.ss_program.specs.Answer.{HasRows, IsOpen, IsServing, question_command};
 ghost use Rattle.ss_program.specs.Line.{History, command_brings, command_in, refused, IsSpeaker};
 ghost use Rattle.ss_program.specs.Progress.{NoneWait};
 ghost use Rattle.ss_program.specs.Status.{disk_verdict, ended, sink_verdict, IsApplyStop, IsShowStop, IsStop};
 
-use crate::answer::{ask, at_sink, newest, obey};
+use crate::answer::{Question, ask, at_sink, show};
 use crate::replies::{LONGEST_REPLY, Replies};
 use crate::sending::send;
 use crate::status::Status;
 use arrayvec::ArrayString;
-use ss_catalog::{Event, Name, Query, Refusal};
+use ss_catalog::{Event, Refusal};
 use ss_command::Command;
 use ss_frames::Frame;
 use ss_outside::{Disk, Sink};
@@ -74,6 +74,26 @@ pub fn flush<D: Disk, K: Sink>(
     match waiting {
         None => Ok(()),
         Some(replies) => send_waiting(store, replies, disk, sink),
+    }
+}
+
+/// Memory ran out at a line, at which nothing was done: all that waits is brought to the disk and sent, and the run stops.
+pub fn starve<D: Disk, K: Sink>(
+    store: &mut Store,
+    waiting: &mut Option<Replies>,
+    disk: &mut D,
+    sink: &mut K,
+) -> Status
+    requires { IsReady (D.seen disk.old) store.old waiting.old }
+    ensures takes { Step (disk_verdict result) (D.seen disk.old) (D.seen disk.new)
+        (TakesStarved store.old.records (amid store.old.records (owed_by waiting.old) (K.held sink.old))
+        (amid store.new.records (owed_by waiting.new) (K.held sink.new)) result) }
+    ensures status { IsStop (D.seen disk.old).tells result }
+    ensures counted { Counted (sink_verdict result) (K.faults sink.old) (K.faults sink.new) }
+{
+    match flush(store, waiting, disk, sink) {
+        Ok(()) => Status::OutOfMemory,
+        Err(status) => status,
     }
 }
 
@@ -298,21 +318,18 @@ pub fn take_event<D: Disk, K: Sink>(
     match stage_framed(framed, store, event, disk) {
         Ok(staged) => say_staged(speaker, store, waiting, &staged, disk, sink),
         Err(status) => match status {
-            Status::OutOfMemory => {
-                flush(store, waiting, disk, sink)?;
-                Err(Status::OutOfMemory)
-            }
+            Status::OutOfMemory => Err(starve(store, waiting, disk, sink)),
             _ => Err(status),
         },
     }
 }
 
-// Asks a query, and says its answer, by what the store shows.
-fn take_query<D: Disk, K: Sink>(
+// Asks a question, and says its answer, by what the store shows.
+fn take_question<D: Disk, K: Sink>(
     speaker: Option<u8>,
     store: &mut Store,
     waiting: &mut Option<Replies>,
-    query: &Query,
+    question: &Question,
     disk: &mut D,
     sink: &mut K,
 ) -> Result<(), Status>
@@ -320,36 +337,13 @@ fn take_query<D: Disk, K: Sink>(
     requires ready { IsReady (D.seen disk.old) store.old waiting.old }
     requires room { HasRoom waiting.old }
     ensures takes { Step (disk_verdict (ended result)) (D.seen disk.old) (D.seen disk.new)
-        (TakesBrought speaker (λ history. command_brings history (Ask query.now)) (amid store.old.records (owed_by waiting.old) (K.held sink.old))
+        (TakesBrought speaker (λ history. command_brings history (question_command question.now)) (amid store.old.records (owed_by waiting.old) (K.held sink.old))
         (amid store.new.records (owed_by waiting.new) (K.held sink.new)) result) }
     ensures ready { OnOk result (IsReady (D.seen disk.new) store.new waiting.new) }
     ensures status { IfErr result (IsStop (D.seen disk.old).tells) }
     ensures counted { Counted (sink_verdict (ended result)) (K.faults sink.old) (K.faults sink.new) }
 {
-    let reply = ask(store, query, disk)?;
-    say(speaker, store, waiting, &reply, disk, sink)
-}
-
-// Says how far a stream has come, and what is known of its newest value, by what the store shows.
-fn take_newest<D: Disk, K: Sink>(
-    speaker: Option<u8>,
-    store: &mut Store,
-    waiting: &mut Option<Replies>,
-    name: &Name,
-    disk: &mut D,
-    sink: &mut K,
-) -> Result<(), Status>
-    requires speaker { IsSpeaker speaker }
-    requires ready { IsReady (D.seen disk.old) store.old waiting.old }
-    requires room { HasRoom waiting.old }
-    ensures takes { Step (disk_verdict (ended result)) (D.seen disk.old) (D.seen disk.new)
-        (TakesBrought speaker (λ history. command_brings history (Last name.now)) (amid store.old.records (owed_by waiting.old) (K.held sink.old))
-        (amid store.new.records (owed_by waiting.new) (K.held sink.new)) result) }
-    ensures ready { OnOk result (IsReady (D.seen disk.new) store.new waiting.new) }
-    ensures status { IfErr result (IsStop (D.seen disk.old).tells) }
-    ensures counted { Counted (sink_verdict (ended result)) (K.faults sink.old) (K.faults sink.new) }
-{
-    let reply = newest(store, name, disk)?;
+    let reply = ask(store, question, disk)?;
     say(speaker, store, waiting, &reply, disk, sink)
 }
 
@@ -364,7 +358,7 @@ fn show_rows<D: Disk, K: Sink>(
 ) -> Result<(), Status>
     requires speaker { IsSpeaker speaker }
     requires in_time { IsCommandInTime command.now }
-    requires no_event { (history : History) → (command_brings history command.now).event ≡ None }
+    requires rows { HasRows command.now }
     requires ready { IsReady (D.seen disk.old) store.old waiting.old }
     ensures takes { Step (disk_verdict (ended result)) (D.seen disk.old) (D.seen disk.new)
         (TakesBrought speaker (λ history. command_brings history command.now) (amid store.old.records (owed_by waiting.old) (K.held sink.old))
@@ -374,7 +368,7 @@ fn show_rows<D: Disk, K: Sink>(
     ensures counted { Counted (sink_verdict (ended result)) (K.faults sink.old) (K.faults sink.new) }
 {
     flush(store, waiting, disk, sink)?;
-    obey(speaker, store, command, disk, sink)
+    show(speaker, store, command, disk, sink)
 }
 
 /// Does what a command says, and says what it brings.
@@ -400,8 +394,22 @@ pub fn take_command<D: Disk, K: Sink>(
 {
     match command {
         Command::Do(event) => take_event(framed, speaker, store, waiting, event, disk, sink),
-        Command::Ask(query) => take_query(speaker, store, waiting, query, disk, sink),
-        Command::Last(name) => take_newest(speaker, store, waiting, name, disk, sink),
+        Command::Ask(query) => take_question(
+            speaker,
+            store,
+            waiting,
+            &Question::Query(*query),
+            disk,
+            sink,
+        ),
+        Command::Last(name) => take_question(
+            speaker,
+            store,
+            waiting,
+            &Question::Newest(*name),
+            disk,
+            sink,
+        ),
         Command::Certify { .. }
         | Command::Series(_)
         | Command::Values { .. }

@@ -1,13 +1,14 @@
 use Rattle.ss_program.proofs.Common.{◌≡◌, ◌+◌, ◌∙◌, ◌++◌, ◌∷◌, [], Err, Ok, Result, Some, None, inl, refl, sym, ap, subst, false, ◌↔◌, IsTrue, event_name}
-use Rattle.ss_program.proofs.Common.{Event, Refusal, Do, added, refuses, live, state, Ack, reads-none, step-none, DiskView, Told, Step, fine, Reply, Refused}
-use Rattle.ss_program.proofs.Common.{KeepsWithin, StandsForEither, StoreState, refuses_held, Stands, ApplyError, Turns-answers, Turns-failed, Turns-same}
-use Rattle.ss_program.proofs.Common.{records_in-kept, KeepsWithin-answers, KeepsWithin-failed, KeepsWithin-reads, refuses-kept, said-kept, AppliesEvent, IsOpen}
-use Rattle.ss_program.proofs.Common.{Brought, History, command_brings, history_after, StandsAround, Status, DiskFault, OutOfMemory}
+use Rattle.ss_program.proofs.Common.{Event, Refusal, Do, added, refuses, live, state, Ack, reads-none, step-none, DiskView, Told, Reply, Refused, KeepsWithin}
+use Rattle.ss_program.proofs.Common.{StandsForEither, StoreState, refuses_held, Stands, ApplyError, Turns-answers, Turns-failed, Turns-same, records_in-kept}
+use Rattle.ss_program.proofs.Common.{KeepsWithin-answers, KeepsWithin-failed, KeepsWithin-reads, refuses-kept, said-kept, AppliesEvent, IsOpen, Brought}
+use Rattle.ss_program.proofs.Common.{History, command_brings, history_after, StandsAround, Status, DiskFault, OutOfMemory}
 use Rattle.ss_report.specs.declared.reply.Reply.TheVariants.{Done}
 use Rattle.ss_store.specs.Extents.{records_in}
 use Rattle.ss_program.proofs.AnswerLemmas.{Adds-applied, Adds-none, IsSome-accepted, Stands-only_replies, StoreIsIn-open, StoreIsIn-sealed, brings-accepted}
 use Rattle.ss_program.proofs.AnswerLemmas.{brings-refused, not_refused}
 use Rattle.ss_store.specs.declared.error.ApplyError.TheVariants as errors
+use Rattle.ss_program.proofs.StepLemmas.{step-given}
 use Rattle.ss_program.proofs.answer.apply.Goals as goal
 
 -- an event that the store doesn't refuse isn't refused by any history that its disk stands for
@@ -38,27 +39,23 @@ returns-in-Ok-clause-applies g c =
     let turns = c.in-Ok.ensures.history runs in
     let fits = accepted event c.args.store.now (g.D.Disk.seen c.args.disk.now) (Ok c.in-Ok.ack) c.requires.open applies.refused (λ r is. cc) in
     let result : Result Reply Status = Ok (Done c.in-Ok.ack) in
-    record {
-      tells = applies.step.tells;
-      counted = applies.step.counted;
-      told = λ told. record {
-        does = record {
-          adds = λ history. Adds-applied history event old new result (fits told history)
-              (Turns-answers (Stands history) (StandsForEither history event) (Stands (history ++ added event ∷ [])) old new c.in-Ok.ack result
-              (turns told history))
-              (λ stands. within-held c.args.store.now (g.D.Disk.seen c.args.disk.now) new result history c.requires.open told stands
-              (KeepsWithin-answers result (c.in-Ok.ensures.within runs told)));
-          reply = λ history stands.
-              let said = said-kept c.apply.new.self new.content (history ++ added event ∷ []) (event_name event)
-              (StoreIsIn-sealed c.apply.new.self new.content (c.in-Ok.ensures.sealed (applies.stops ∙ runs))
-              (applies.stands (applies.stops ∙ runs) (applies.step.tells ∙ told))) ((turns told history).content stands) in
-              ap (λ (b : Brought). b.replies) (brings-accepted false history event (fits told history stands))
-              ∙ ap (λ ack. Done ack ∷ []) (sym (applies.ack ∙ said));
-          untouched = λ memory. cc;
-        };
-        accepted = λ history stands. tt;
+    step-given applies.step (λ told stepped. record {
+      does = record {
+        adds = λ history. Adds-applied history event old new result (fits told history)
+            (Turns-answers (Stands history) (StandsForEither history event) (Stands (history ++ added event ∷ [])) old new c.in-Ok.ack result
+            (turns told history))
+            (λ stands. within-held c.args.store.now (g.D.Disk.seen c.args.disk.now) new result history c.requires.open told stands
+            (KeepsWithin-answers result (c.in-Ok.ensures.within runs told)));
+        reply = λ history stands.
+            let said = said-kept c.apply.new.self new.content (history ++ added event ∷ []) (event_name event)
+            (StoreIsIn-sealed c.apply.new.self new.content (c.in-Ok.ensures.sealed (applies.stops ∙ runs))
+            (applies.stands (applies.stops ∙ runs) (applies.step.tells ∙ told))) ((turns told history).content stands) in
+            ap (λ (b : Brought). b.replies) (brings-accepted false history event (fits told history stands))
+            ∙ ap (λ ack. Done ack ∷ []) (sym (applies.ack ∙ said));
+        untouched = λ memory. cc;
       };
-    }
+      accepted = λ history stands. tt;
+    })
 
 pub returns-in-Err-Refused-clause-applies : goal.returns-in-Err-Refused-clause-applies
 returns-in-Err-Refused-clause-applies g c =
@@ -66,15 +63,13 @@ returns-in-Err-Refused-clause-applies g c =
     let disk = g.D.Disk.seen c.args.disk.now in
     let r = c.in-Err-Refused.refusal in
     let still : c.apply.new.disk ≡ c.args.disk.now = rw c.in-Err-Refused.field-0-is at c.in-Err-Refused.ensures.uncalled in
-    let result : Result Reply Status = Ok (Refused r) in
     let refused : IsTrue disk.tells → (history : History) → Stands history disk.told.content → refuses (state history) event ≡ Some r =
     λ told history stands.
     refuses-kept c.args.store.now disk.told.content history event (StoreIsIn-open disk c.args.store.now c.requires.open told) stands
     ∙ ((c.in-Err-Refused.ensures.applies c.requires.open.serves.runs).refused r).0 (ap (λ e. Err e) c.in-Err-Refused.field-0-is) in
-    subst (λ d. Step fine disk (g.D.Disk.seen d) (AppliesEvent event result)) (sym still)
-    (step-none disk (AppliesEvent event result) (λ told. record {
+    rw still (step-none disk (AppliesEvent event (Ok (Refused r))) (λ told. record {
       does = record {
-        adds = λ history. Adds-none history (command_brings history (Do event)) disk.told result
+        adds = λ history. Adds-none history (command_brings history (Do event)) disk.told (Ok (Refused r))
             (λ stands. ap (λ (b : Brought). b.event) (brings-refused false history event r (refused told history stands)))
             (g.met.D.Disk.knows_now c.args.disk.now told);
         reply = λ history stands. ap (λ (b : Brought). b.replies) (brings-refused false history event r (refused told history stands));
@@ -90,8 +85,7 @@ returns-in-Err-OutOfMemory-clause-applies g c =
     let e = c.in-Err-OutOfMemory.field-0-is in
     let still : c.apply.new.disk ≡ c.args.disk.now = rw e at c.in-Err-OutOfMemory.ensures.uncalled in
     let result : Result Reply Status = Err OutOfMemory in
-    subst (λ d. Step fine disk (g.D.Disk.seen d) (AppliesEvent event result)) (sym still)
-    (step-none disk (AppliesEvent event result) (λ told. record {
+    rw still (step-none disk (AppliesEvent event result) (λ told. record {
       does = record {
         adds = λ history.
             let before = Stands history in
@@ -119,21 +113,17 @@ returns-in-Err-Disk-clause-applies g c =
     let fits = accepted event c.args.store.now (g.D.Disk.seen c.args.disk.now) (Err c.in-Err-Disk.field-0) c.requires.open applies.refused (λ r is. cc) in
     let result : Result Reply Status = Err DiskFault in
     let step = rw e at applies.step in
-    record {
-      tells = step.tells;
-      counted = step.counted;
-      told = λ told. record {
-        does = record {
-          adds = λ history.
-              let after = Stands (history ++ added event ∷ []) in
-              Adds-applied history event old new result (fits told history)
-              (Turns-failed (Stands history) (StandsForEither history event) after after old new (Err c.in-Err-Disk.field-0) result refl
-              (c.in-Err-Disk.ensures.history c.requires.open.serves.runs told history))
-              (λ stands. within-held c.args.store.now (g.D.Disk.seen c.args.disk.now) new result history c.requires.open told stands
-              (KeepsWithin-failed result refl (c.in-Err-Disk.ensures.within c.requires.open.serves.runs told)));
-          reply = λ history stands. tt;
-          untouched = λ memory. cc;
-        };
-        accepted = λ history stands. IsSome-accepted false history event (fits told history stands);
+    step-given step (λ told stepped. record {
+      does = record {
+        adds = λ history.
+            let after = Stands (history ++ added event ∷ []) in
+            Adds-applied history event old new result (fits told history)
+            (Turns-failed (Stands history) (StandsForEither history event) after after old new (Err c.in-Err-Disk.field-0) result refl
+            (c.in-Err-Disk.ensures.history c.requires.open.serves.runs told history))
+            (λ stands. within-held c.args.store.now (g.D.Disk.seen c.args.disk.now) new result history c.requires.open told stands
+            (KeepsWithin-failed result refl (c.in-Err-Disk.ensures.within c.requires.open.serves.runs told)));
+        reply = λ history stands. tt;
+        untouched = λ memory. cc;
       };
-    }
+      accepted = λ history stands. IsSome-accepted false history event (fits told history stands);
+    })

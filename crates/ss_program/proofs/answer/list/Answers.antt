@@ -1,13 +1,11 @@
-use Rattle.ss_program.proofs.Common.{◌≡◌, ◌∙◌, Err, sym, subst, rules, streams-kept, command_brings, text_said, Sends}
-use Rattle.ss_command.specs.declared.command.Command.TheVariants.{List as ListAll}
+use Rattle.ss_program.proofs.Common.{◌≡◌, ◌∙◌, Err, rules, streams-kept}
 use Rattle.ss_program.proofs.RowLemmas.{list-head, list-rows}
 use Rattle.ss_program.proofs.answer.list.Goals as goal
 
 pub returns-in_err-send_reply-clause-sends : goal.returns-in_err-send_reply-clause-sends
 returns-in_err-send_reply-clause-sends g c history content kept stands =
     let same : c.from_residual.result ≡ Err c.in_err-send_reply.field-0.0 = search rules in
-    subst (λ r. Sends (g.K.Sink.held c.args.sink.now) (g.K.Sink.held c.send_reply.new.sink) (text_said c.args.speaker (command_brings history ListAll)) r)
-    (sym same)
+    rw same
     (list-head c.args.speaker history (g.K.Sink.held c.args.sink.now) (g.K.Sink.held c.send_reply.new.sink) c.streams-count.result
     (c.streams-count.ensures ∙ streams-kept c.args.store.now content history kept stands) c.in_err-send_reply.ensures.sends)
 

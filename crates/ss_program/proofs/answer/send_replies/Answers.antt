@@ -1,5 +1,5 @@
-use Rattle.ss_program.proofs.Common.{◌≡◌, ◌∙◌, Err, length, take_all, refl, sym, ap, subst, rules, arith, slice_get_read, flat_map, Counted, failed, said_line}
-use Rattle.ss_program.proofs.Common.{appended, Puts}
+use Rattle.ss_program.proofs.Common.{◌≡◌, ◌∙◌, Err, length, take_all, refl, ap, subst, rules, arith, slice_get_read, flat_map, Counted, failed, said_line}
+use Rattle.ss_program.proofs.Common.{appended}
 use Rattle.ss_program.proofs.RowLemmas.{rows-less}
 use Rattle.ss_program.proofs.answer.send_replies.Goals as goal
 
@@ -12,7 +12,7 @@ returns-in_err-send_reply g c =
     let inv = c.loop-reply.invariant in
     let at = slice_get_read rows (length rows) c.loop-reply.reply-index c.reply-item.result refl (omega (arith, c.loop-reply-test.true)) c.reply-item.is in
     let same : c.from_residual.result ≡ Err c.in_err-send_reply.field-0.0 = search rules in
-    subst (λ r. Puts (flat_map (said_line c.args.speaker) rows) before (g.K.Sink.faults c.args.sink.now) after has r) (sym same) (record {
+    rw same (record {
       sends = rows-less c.args.speaker before (g.K.Sink.held c.loop-reply.sink) after rows c.loop-reply.reply-index c.reply-item.result at inv.held
           c.in_err-send_reply.ensures.sends;
       counted = subst (λ n. Counted failed n has) inv.faults c.in_err-send_reply.ensures.counted;

@@ -1,5 +1,4 @@
-use Rattle.ss_program.proofs.Common.{◌≡◌, ◌∙◌, Err, sym, subst, rules, arith, length-map, row_of, state, streams-kept, AllAgree-recovered, SendsRows}
-use Rattle.ss_program.proofs.Common.{stream_rows}
+use Rattle.ss_program.proofs.Common.{◌≡◌, ◌∙◌, Err, rules, arith, length-map, row_of, state, streams-kept, AllAgree-recovered, stream_rows}
 use Rattle.ss_report.specs.declared.reply.Reply.TheVariants.{Stream as StreamRow}
 use Rattle.ss_program.proofs.RowLemmas.{row-reply, rows-all, rows-less, rows-more}
 use Rattle.ss_program.proofs.answer.send_streams.Goals as goal
@@ -9,7 +8,7 @@ returns-in_err-send_reply-clause-sends g c history content kept stands =
     let both = AllAgree-recovered c.args.store.now content (state history) kept stands.state in
     let at = row-reply row_of (λ r. StreamRow r) (state history) c.loop-place.place c.stream.result (c.stream.ensures.row (state history) both.1 both.0) in
     let same : c.from_residual.result ≡ Err c.in_err-send_reply.field-0.0 = search rules in
-    subst (λ r. SendsRows c.args.speaker (g.K.Sink.held c.args.sink.now) (g.K.Sink.held c.send_reply.new.sink) (stream_rows (state history)) r) (sym same)
+    rw same
     (rows-less c.args.speaker (g.K.Sink.held c.args.sink.now) (g.K.Sink.held c.loop-place.sink) (g.K.Sink.held c.send_reply.new.sink) (stream_rows
     (state history))
     c.loop-place.place (StreamRow c.stream.result) at (c.loop-place.invariant.held history content kept stands) c.in_err-send_reply.ensures.sends)

@@ -1,7 +1,7 @@
-use Rattle.ss_program.proofs.Common.{◌≡◌, ◌∙◌, Err, IfSome, sym, subst, rules, arith, w64, said_line, part_numbered, SendsRows, appended, AppendsLess}
+use Rattle.ss_program.proofs.Common.{◌≡◌, ◌∙◌, Err, subst, rules, arith, w64, said_line, part_numbered, appended, AppendsLess}
 use mir.Val.{to_z, of_z}
 use Rattle.ss_report.specs.declared.reply.Reply.TheVariants.{Value as ValueRow}
-use Rattle.ss_program.proofs.ValuesLemmas.{rows_in, values-all, values-less, values-more}
+use Rattle.ss_program.proofs.ValuesLemmas.{values-all, values-less, values-more}
 use Rattle.ss_program.proofs.answer.send_values.Goals as goal
 
 pub returns-in_err-send_reply-clause-sends : goal.returns-in_err-send_reply-clause-sends
@@ -16,7 +16,7 @@ returns-in_err-send_reply-clause-sends g c =
     let less : AppendsLess held after (said_line c.args.speaker (ValueRow at value)) =
     subst (λ v. AppendsLess held after (said_line c.args.speaker (ValueRow at v))) is c.in_err-send_reply.ensures.sends in
     let same : c.from_residual.result ≡ Err c.in_err-send_reply.field-0.0 = search rules in
-    subst (λ r. IfSome part (λ p. SendsRows c.args.speaker before after (rows_in c.args.range p.landmarks.landmarks) r)) (sym same)
+    rw same
     (values-less c.args.speaker part (λ p. p.landmarks.landmarks) c.args.range c.loop-place.place (record { t = at; v = value }) before held after
     (omega arith) c.value-at.ensures c.loop-place.invariant.held less)
 

@@ -1,6 +1,5 @@
 use Rattle.ss_program.proofs.Common.{◌≡◌, ◌∙◌, Ok, Err, refl, sym, subst, rules, state, stream_numbered, reads-joined, step-then, OnlyReads, Step, Counted}
-use Rattle.ss_program.proofs.Common.{fine, verdict, part_numbered, Stands, windows-kept, IsRowsText, Shows, over, appended, AppendsLess, Sends, disk_verdict}
-use Rattle.ss_program.proofs.Common.{IsDiskStop}
+use Rattle.ss_program.proofs.Common.{fine, verdict, part_numbered, Stands, windows-kept, IsRowsText, Shows, over, appended, AppendsLess, Sends, IsDiskStop}
 use Rattle.ss_program.proofs.AnswerLemmas.{StoreIsIn-open}
 use Rattle.ss_program.proofs.RowLemmas.{none-sent, rows-after, rows-cut-sent, rows-end, rows-first, rows-step, rows-unread}
 use Rattle.ss_program.proofs.TakesLemmas.{Shows-sent, Shows-stopped, failed-err, sent-all, still}
@@ -27,21 +26,15 @@ returns-in_err-window g c =
     let new = g.D.Disk.seen c.read.new.disk in
     let before = g.K.Sink.held c.args.sink.now in
     let held = g.K.Sink.held c.loop-next.sink in
-    let had = g.K.Sink.faults c.args.sink.now in
-    let has = g.K.Sink.faults c.loop-next.sink in
-    let o = part_numbered c.args.id.0 c.args.store.now.streams in
-    let text = IsRowsText c.args.speaker c.args.id.0 in
     let status = c.in_err-window.field-0.0 in
     let inv = c.loop-next.invariant in
-    let at = rw c.in-Some.is at inv.at in
-    let reads : Step (disk_verdict status) old new OnlyReads =
-    step-then inv.reads c.in_err-window.ensures.reads (λ first second. reads-joined old.told mid.told new.told first second.reads) in
     let same : c.from_residual.result ≡ Err status = search rules in
-    subst (λ r. Shows text (over old before had) (over new held has) c.read.new.store r) (sym same)
-    (Shows-stopped text old new c.read.new.store before held had has status (subst (λ b. IsDiskStop b status) inv.reads.tells c.in_err-window.ensures.status)
-    reads
-    inv.faults (λ told history stands bytes is. subst (λ bs. AppendsLess before held bs) (sym is.2)
-    (rows-unread c.args.speaker o (λ part. part.line.entries) c.in-Some.at is.0 before held c.requires.stands at
+    rw same
+    (Shows-stopped (IsRowsText c.args.speaker c.args.id.0) status (subst (λ b. IsDiskStop b status) inv.reads.tells c.in_err-window.ensures.status)
+    (step-then inv.reads c.in_err-window.ensures.reads (λ first second. reads-joined old.told mid.told new.told first second.reads)) inv.faults
+    (λ told history stands bytes is. subst (λ bs. AppendsLess before held bs) (sym is.2)
+    (rows-unread c.args.speaker (part_numbered c.args.id.0 c.args.store.now.streams) (λ part. part.line.entries) c.in-Some.at is.0 before held
+    c.requires.stands (rw c.in-Some.is at inv.at)
     (windows-kept c.args.store.now old.told.content history c.args.id.0 is.0 (StoreIsIn-open old c.args.store.now c.requires.open told) stands is.1)
     (rw c.in-Some.is at (inv.held told history stands is.0 is.1)))))
 

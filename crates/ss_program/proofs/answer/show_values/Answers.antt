@@ -1,4 +1,4 @@
-use Rattle.ss_program.proofs.Common.{◌≡◌, Err, sym, subst, rules, Values, part_numbered, command_brings, text_said, Sends}
+use Rattle.ss_program.proofs.Common.{◌≡◌, Err, rules, Values, part_numbered, command_brings}
 use Rattle.ss_program.proofs.ValuesLemmas.{told-refused, told-values, values-head, values-refused, values-rows}
 use Rattle.ss_program.proofs.answer.show_values.Goals as goal
 
@@ -11,7 +11,7 @@ returns-in_err-send_reply-in-Ok-clause-sends g c history content kept stands =
     let before = g.K.Sink.held c.args.sink.now in
     let after = g.K.Sink.held c.send_reply-in-Ok.new.sink in
     let same : c.from_residual.result ≡ Err c.in_err-send_reply-in-Ok.field-0.0 = search rules in
-    subst (λ r. Sends before after (text_said c.args.speaker brought) r) (sym same)
+    rw same
     (values-head c.args.speaker (part_numbered range.id.0 store.streams) (λ p. p.landmarks.landmarks) c.args.from c.args.to range brought before after
     c.in-Ok.ensures.stands c.in-Ok.ensures.values
     (told-values store content history name c.args.from c.args.to kept stands range.id.0 c.in-Ok.ensures.accepted c.in-Ok.ensures.same)

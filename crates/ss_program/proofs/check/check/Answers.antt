@@ -7,9 +7,7 @@ use Rattle.ss_program.proofs.check.check.Goals as goal
 
 pub returns-in-Ok-send_survey-clause-ends : goal.returns-in-Ok-send_survey-clause-ends
 returns-in-Ok-send_survey-clause-ends g c =
-    let new = g.D.Disk.seen c.survey.new.disk in
-    Ends-opened (g.D.Disk.seen c.args.disk.now) new new (g.K.Sink.held c.args.sink.now) (g.K.Sink.held c.send_survey.new.sink) (g.K.Sink.faults c.args.sink.now)
-    (g.K.Sink.faults c.send_survey.new.sink) Done c.in-Ok.ensures.surveys (λ found. (found.surveys.0, found.surveys.1)) (still new) tt
+    Ends-opened Done c.in-Ok.ensures.surveys (λ found. (found.surveys.0, found.surveys.1)) (still (g.D.Disk.seen c.survey.new.disk)) tt
     c.in-Ok-send_survey.ensures.counted
 
 pub returns-in-Ok-send_survey-clause-checks : goal.returns-in-Ok-send_survey-clause-checks
@@ -31,9 +29,7 @@ returns-in-Ok-send_survey-clause-checks g c told =
 
 pub returns-in-Err-send_survey-clause-ends : goal.returns-in-Err-send_survey-clause-ends
 returns-in-Err-send_survey-clause-ends g c =
-    let new = g.D.Disk.seen c.survey.new.disk in
-    Ends-opened (g.D.Disk.seen c.args.disk.now) new new (g.K.Sink.held c.args.sink.now) (g.K.Sink.held c.send_survey.new.sink) (g.K.Sink.faults c.args.sink.now)
-    (g.K.Sink.faults c.send_survey.new.sink) SinkFault c.in-Ok.ensures.surveys (λ found. (found.surveys.0, found.surveys.1)) (still new) tt
+    Ends-opened SinkFault c.in-Ok.ensures.surveys (λ found. (found.surveys.0, found.surveys.1)) (still (g.D.Disk.seen c.survey.new.disk)) tt
     c.in-Err-send_survey.ensures.counted
 
 pub returns-in-Err-send_survey-clause-checks : goal.returns-in-Err-send_survey-clause-checks
@@ -51,12 +47,11 @@ returns-in-Err-send_survey-clause-checks g c told =
 
 pub returns-in-Err-clause-ends : goal.returns-in-Err-clause-ends
 returns-in-Err-clause-ends g c =
-    let old = g.D.Disk.seen c.args.disk.now in
     let surveys = c.in-Err.ensures.surveys in
     rw c.refuse.ensures.status
-    (Ends-unopened Survey c.in-Err.error old (g.D.Disk.seen c.survey.new.disk) (g.K.Sink.held c.args.sink.now) (g.K.Sink.held c.refuse.new.sink)
-    (g.K.Sink.faults c.args.sink.now) (g.K.Sink.faults c.refuse.new.sink) surveys.tells surveys.counted
-    (λ told. surveys-opens old.told.content c.in-Err.error (surveys.told told).surveys) (λ told refused. (surveys.told told).reads) c.refuse.ensures.says)
+    (Ends-unopened Survey c.in-Err.error surveys.tells surveys.counted
+    (λ told. surveys-opens (g.D.Disk.seen c.args.disk.now).told.content c.in-Err.error (surveys.told told).surveys)
+    (λ told refused. (surveys.told told).reads) c.refuse.ensures.says)
 
 pub returns-in-Err-clause-unfed : goal.returns-in-Err-clause-unfed
 returns-in-Err-clause-unfed g c = rw c.refuse.ensures.status (unfed-unopened c.in-Err.error _ _ _ _ c.refuse.ensures.says)
@@ -69,8 +64,6 @@ returns-in-Err-clause-checks g c told =
     record {
       unwritten = found.reads;
       says = λ streams is.
-          let un = unopened content streams before (g.K.Sink.held c.refuse.new.sink) (g.K.Sink.faults c.args.sink.now) (g.K.Sink.faults c.refuse.new.sink)
-          c.in-Err.error is
-          (surveys-opens content c.in-Err.error found.surveys) c.refuse.ensures.says in
+          let un = unopened content streams _ _ c.in-Err.error is (surveys-opens content c.in-Err.error found.surveys) c.refuse.ensures.says in
           rw c.refuse.ensures.status (record { front = (0, un.0 ∙ sym (appended-nil before)); whole = λ done. absurd (un.1 done); silent = λ _ _. un.0 });
     }

@@ -1,4 +1,4 @@
-use Rattle.ss_program.proofs.Common.{◌∙◌, ◌∷◌, [], Err, Ok, ap, refl, sym, Refused, state, cursor_of, refusal_of, Ordered}
+use Rattle.ss_program.proofs.Common.{◌∙◌, ◌∷◌, [], Err, Ok, ap, refl, sym, Refused, state, cursor_of, refusal_of, Ordered, step-as}
 use Rattle.ss_program.proofs.CursorLemmas.{open-opened, open-refused, open-wants_memory, unrefused-cursor}
 use Rattle.ss_sessions.specs.declared.error.CursorError.TheVariants.{Disk, OutOfMemory}
 use Rattle.ss_program.proofs.cursors.open_cursor.Goals as goal
@@ -9,19 +9,14 @@ returns-in-Ok-clause-opens g c =
     let session = c.args.session in
     let name = c.args.name.now in
     let opens = c.in-Ok.ensures.opens in
-    record {
-      tells = opens.tells;
-      counted = opens.counted;
-      told = λ told. record {
-        reply = λ history stands.
-            let all = opens.told told in
-            let none = unrefused-cursor (state history) name (cursor_of cursors session) (Ok c.in-Ok.count) (all.refused (state history) stands.state)
-            (λ r is. cc) in
-            open-opened history cursors session name c.open.new.self c.in-Ok.count none (all.opened (state history) stands.state) c.in-Ok.ensures.opened;
-        accepted = λ history stands. tt;
-        reads = (opens.told told).reads;
-      };
-    }
+    step-as opens (λ all. record {
+      reply = λ history stands.
+          let none = unrefused-cursor (state history) name (cursor_of cursors session) (Ok c.in-Ok.count) (all.refused (state history) stands.state)
+          (λ r is. cc) in
+          open-opened history cursors session name c.open.new.self c.in-Ok.count none (all.opened (state history) stands.state) c.in-Ok.ensures.opened;
+      accepted = λ history stands. tt;
+      reads = all.reads;
+    })
 
 pub returns-in-Err-Refused-clause-opens : goal.returns-in-Err-Refused-clause-opens
 returns-in-Err-Refused-clause-opens g c =
@@ -70,14 +65,10 @@ returns-in-Err-Disk-clause-opens g c =
     let session = c.args.session in
     let name = c.args.name.now in
     let opens = rw c.in-Err-Disk.field-0-is at c.in-Err-Disk.ensures.opens in
-    record {
-      tells = opens.tells;
-      counted = opens.counted;
-      told = λ told. record {
-        reply = λ history stands. tt;
-        accepted = λ history stands.
-            open-wants_memory history cursors session name (unrefused-cursor (state history) name (cursor_of cursors session) (Err Disk)
-            ((opens.told told).refused (state history) stands.state) (λ r is. cc));
-        reads = (opens.told told).reads;
-      };
-    }
+    step-as opens (λ stepped. record {
+      reply = λ history stands. tt;
+      accepted = λ history stands.
+          open-wants_memory history cursors session name (unrefused-cursor (state history) name (cursor_of cursors session) (Err Disk)
+          (stepped.refused (state history) stands.state) (λ r is. cc));
+      reads = stepped.reads;
+    })

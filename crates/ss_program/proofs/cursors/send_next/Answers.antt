@@ -1,5 +1,4 @@
-use Rattle.ss_program.proofs.Common.{◌≡◌, ◌∙◌, Err, IsSome, Some, ap, drop, refl, sym, subst, take, rules, arith, Window, cursor_of, with_cursor, SendsRows}
-use Rattle.ss_program.proofs.Common.{placed_rows}
+use Rattle.ss_program.proofs.Common.{◌≡◌, ◌∙◌, Err, IsSome, Some, ap, drop, refl, sym, subst, take, rules, arith, Window, cursor_of, with_cursor, placed_rows}
 use Rattle.ss_program.proofs.CursorLemmas.{fits-rows, next-left, next-none, next-rest, next-row, placed-all, with_cursor-same}
 use Rattle.ss_program.proofs.SendLemmas.{appended-nil}
 use Rattle.ss_program.proofs.RowLemmas.{rows-all, rows-less, rows-more}
@@ -33,8 +32,7 @@ returns-in_err-send_reply-clause-sends g c rows has =
     let at = next-row c.args.sessions.now c.args.session rows has c.loop-shown.sessions shown (inv.cursors rows has) c.args.count c.in-Some.row
     c.in-Some.ensures.next c.loop-shown-test.true in
     let same : c.from_residual.result ≡ Err c.in_err-send_reply.field-0.0 = search rules in
-    subst (λ r. SendsRows (Some c.args.session) (g.K.Sink.held c.args.sink.now) (g.K.Sink.held c.send_reply.new.sink)
-    (placed_rows (take c.args.count rows)) r) (sym same)
+    rw same
     (rows-less (Some c.args.session) (g.K.Sink.held c.args.sink.now) (g.K.Sink.held c.loop-shown.sink) (g.K.Sink.held c.send_reply.new.sink)
     (placed_rows (take c.args.count rows)) shown (Window c.in-Some.row) at (inv.held rows has) c.in_err-send_reply.ensures.sends)
 

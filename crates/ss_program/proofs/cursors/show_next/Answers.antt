@@ -1,5 +1,5 @@
 use Rattle.ss_program.proofs.Common.{◌≡◌, ◌∙◌, Err, List, ap, length, min, subst, sym, take, rules, Some, on_ok_weaker, flat_map, Placed, Counted, verdict}
-use Rattle.ss_program.proofs.Common.{said_line, Rows, cursor_of, with_cursor, Ordered, next_brings, placed_rows, text_said, AppendsLess, Puts, Sends, appended}
+use Rattle.ss_program.proofs.Common.{said_line, Rows, cursor_of, with_cursor, Ordered, placed_rows, text_said, AppendsLess, Sends, appended}
 use Rattle.ss_program.proofs.CursorLemmas.{a-cursor, next-shown, shown-least}
 use Rattle.ss_program.proofs.RowLemmas.{AppendsLess-head, Sends-head}
 use Rattle.ss_program.proofs.cursors.show_next.Goals as goal
@@ -15,8 +15,7 @@ returns-in_err-send_reply-clause-says g c =
     let least = shown-least has.0 count c.min-count.result (c.min-count.ensures ∙ ap (λ n. min count n) has.2) in
     let rows = take count has.0 in
     let same : c.from_residual.result ≡ Err c.in_err-send_reply.field-0.0 = search rules in
-    subst (λ r. Puts (text_said (Some session) (next_brings cursors session count).brought) held (g.K.Sink.faults c.args.sink.now) after
-    (g.K.Sink.faults c.send_reply-2.new.sink) r) (sym same) (record {
+    rw same (record {
       sends = subst (λ (o : Ordered). AppendsLess held after (text_said (Some session) o.brought)) (sym (next-shown cursors session count has.0 has.1))
           (AppendsLess-head (Some session) held after (Rows (length rows)) (placed_rows rows)
           (subst (λ n. AppendsLess held after (said_line (Some session) (Rows n))) least.1 c.in_err-send_reply.ensures.sends));

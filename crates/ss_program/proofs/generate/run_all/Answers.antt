@@ -1,5 +1,5 @@
 use Rattle.ss_program.proofs.Common.{◌≡◌, ℕ, Err, List, Option, length, map, sym, ap, subst, rules, arith, printed, Command, step-as, step-none, step-then}
-use Rattle.ss_program.proofs.Common.{NothingPending, Step, StandsShort, History, plain_after, disk_verdict, ended, RunsAll}
+use Rattle.ss_program.proofs.Common.{NothingPending, StandsShort, History, plain_after}
 use Rattle.ss_program.proofs.GenerateLemmas.{AreSingle, IsAt, IsAt-end, IsAt-more, IsAt-start, IsAt-stop, single-commands}
 use Rattle.ss_program.proofs.generate.run_all.Goals as goal
 
@@ -51,7 +51,7 @@ returns-in_err-reply-clause-runs g c =
     let new = then.told in
     let status = c.in_err-reply.field-0.0 in
     let same : c.from_residual.result ≡ Err status = search rules in
-    subst (λ r. Step (disk_verdict (ended r)) view then (RunsAll c.args.seed c.args.count r)) (sym same)
+    rw same
     (step-then c.loop-command.invariant.at c.in_err-reply.ensures.does (λ first does. record {
       ok = tt;
       stops = λ none used history stands.

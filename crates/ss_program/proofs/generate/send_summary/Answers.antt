@@ -1,11 +1,11 @@
-use Rattle.ss_program.proofs.Common.{◌≡◌, None, Err, sym, subst, rules, SendsRows, summary_lines, Sends}
+use Rattle.ss_program.proofs.Common.{◌≡◌, None, Err, subst, rules, SendsRows}
 use Rattle.ss_program.proofs.GenerateLemmas.{Sends-less, Sends-summary}
 use Rattle.ss_program.proofs.generate.send_summary.Goals as goal
 
 pub returns-in_err-send_counts-clause-sends : goal.returns-in_err-send_counts-clause-sends
 returns-in_err-send_counts-clause-sends g c lines all tallies =
     let same : c.from_residual.result ≡ Err c.in_err-send_counts.field-0.0 = search rules in
-    subst (λ r. Sends (g.K.Sink.held c.args.sink.now) (g.K.Sink.held c.send_counts.new.sink) (summary_lines c.args.seed c.args.count lines all) r) (sym same)
+    rw same
     (Sends-less (g.K.Sink.held c.args.sink.now) (g.K.Sink.held c.send_counts.new.sink) c.args.seed c.args.count lines all c.args.tally.now tallies
     c.in_err-send_counts.ensures.sends)
 

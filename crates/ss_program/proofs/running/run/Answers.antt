@@ -98,5 +98,5 @@ returns-in-Err-clause-serves g c form sealing asked status is input left told no
     let knows = g.met.D.Disk.knows_now c.args.disk.now told in
     by-number (λ s. Serves sealing (begun_over used form history) input (g.S.Source.left c.args.source.now) before before disk disk s) c.number-in-Err.result OutOfMemory
     c.number-in-Err.ensures
-    (Serves-unopened sealing (begun_over used form history) input (g.S.Source.left c.args.source.now) before before disk disk OutOfMemory (inr refl) left refl knows
+    (Serves-unopened (inr refl) left refl knows
     (at_start disk (StandsShort used history) knows (of_content disk (StandsShort used history) none stands))) status is

@@ -1,4 +1,4 @@
-use Rattle.ss_program.proofs.Common.{inr, refl, at_start, of_content, StandsShort, begun_over, OutOfMemory}
+use Rattle.ss_program.proofs.Common.{inr, refl, at_start, of_content, StandsShort, OutOfMemory}
 use Rattle.ss_program.proofs.EndLemmas.{Ends-starved}
 use Rattle.ss_program.proofs.OpeningLemmas.{Reads-none, Serves-unopened}
 use Rattle.ss_program.proofs.ReadLemmas.{most_read-some}
@@ -24,7 +24,5 @@ returns-in-Err-clause-reads g c input is = Reads-none input (g.S.Source.left c.a
 pub returns-in-Err-clause-serves : goal.returns-in-Err-clause-serves
 returns-in-Err-clause-serves g c input is told none used history stands =
     let disk = (g.D.Disk.seen c.args.disk.now).told in
-    let before = g.K.Sink.held c.args.sink.now in
     let knows = g.met.D.Disk.knows_now c.args.disk.now told in
-    Serves-unopened c.args.sealing (begun_over used c.args.form history) input (g.S.Source.left c.args.source.now) before before disk disk OutOfMemory
-    (inr refl) is refl knows (at_start disk (StandsShort used history) knows (of_content disk (StandsShort used history) none stands))
+    Serves-unopened (inr refl) is refl knows (at_start disk (StandsShort used history) knows (of_content disk (StandsShort used history) none stands))

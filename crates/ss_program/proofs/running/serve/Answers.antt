@@ -1,12 +1,9 @@
-use Rattle.ss_program.proofs.Common.{◌≡◌, ◌-◌, ◌+◌, if◌then◌else◌, List, ℕ, Option, Some, take, drop, refl, sym, ap, ◌∙◌, subst, arith, inl, inr, step-as}
-use Rattle.ss_program.proofs.Common.{step-none, step-then, NothingPending, RoseBy, StandsShort, History, Serves, HoldsTalk, sealing_by, appended, after_lines}
-use Rattle.ss_program.proofs.Common.{text_of, begun_over, InputLimit, SourceFault, rules, common_steps, Counted, source_verdict}
-use Rattle.ss_program.proofs.SendLemmas.{appended-nil}
+use Rattle.ss_program.proofs.Common.{◌-◌, ◌+◌, if◌then◌else◌, take, drop, refl, sym, ◌∙◌, subst, arith, inl, inr, step-as, step-none, step-then, RoseBy, Serves}
+use Rattle.ss_program.proofs.Common.{sealing_by, begun_over, InputLimit, SourceFault, rules, common_steps, Counted, source_verdict}
 use Rattle.ss_program.proofs.StepLemmas.{step-told}
-use Rattle.ss_program.proofs.RunLemmas.{HasStopped-piece, IsThrough, IsThrough-end, IsThrough-more, IsThrough-start, Serves-finish, Serves-part, Serves-stop}
+use Rattle.ss_program.proofs.RunLemmas.{HasStopped-piece, Serves-part, Serves-stop, GoesThrough, goes-start, goes-more, goes-finish}
 use Rattle.ss_program.proofs.ReadLemmas.{end-other, IsLeft-more, Moved-at, Moved-piece, Reads-end, Reads-limit, Reads-stop, left-none, length_of-none}
 use Rattle.ss_program.proofs.ReadLemmas.{stop-other}
-use Rattle.ss_program.proofs.StepsLemmas.{steps-none}
 use Rattle.ss_program.proofs.TakenLemmas.{RoseBy-more, RoseBy-none, TakesFew-end, TakesFew-limit, TakesFew-stop}
 use Rattle.ss_program.proofs.running.serve.Goals as goal
 
@@ -19,25 +16,10 @@ loop-done-init g c =
       fits = omega arith;
       rests = c.requires.front.rests;
       left = λ input is. record { within = omega arith; source = is };
-      through = step-none disk (λ old now. (input : List ℕ) → left ≡ Some input → NothingPending old → (used : Option ℕ) (history : History) →
-          StandsShort used history old.content →
-          IsThrough (sealing_by c.args.session.now.waiting) (begun_over used c.args.session.now.form history) old now c.args.session.now before before left input 0)
-          (λ told input is none used history stands.
-          IsThrough-start (sealing_by c.args.session.now.waiting) (begun_over used c.args.session.now.form history) disk.told c.args.session.now before left input
-          (g.met.D.Disk.knows_now c.args.disk.now told)
-          (record {
-            stands = subst (λ ls. HoldsTalk (after_lines (begun_over used c.args.session.now.form history) ls) disk.told.content)
-                (sym (steps-none c.args.session.now.form)) stands;
-            durable = none;
-            line = c.requires.front.line;
-            unsaid = c.requires.front.rests.unsaid;
-            seals = refl;
-            form = refl;
-            cursors = c.requires.front.cursors
-                ∙ ap (λ ls. (after_lines (begun_over used c.args.session.now.form history) ls).cursors) (sym (steps-none c.args.session.now.form));
-          })
-          (sym (appended-nil before)
-          ∙ ap (λ ls. appended before (text_of (begun_over used c.args.session.now.form history) ls)) (sym (steps-none c.args.session.now.form))) is);
+      through = step-none disk
+          (GoesThrough c.args.session.now.form (sealing_by c.args.session.now.waiting) left c.args.session.now before before left 0)
+          (λ told. goes-start c.args.session.now (g.met.D.Disk.knows_now c.args.disk.now told) c.requires.front.rests.unsaid c.requires.front.line
+          c.requires.front.cursors);
       taken = RoseBy-none (g.S.Source.taken c.args.source.now);
       source = refl;
       sink = refl;
@@ -45,9 +27,6 @@ loop-done-init g c =
 
 pub loop-done-preserved : goal.loop-done-preserved
 loop-done-preserved g c =
-    let old = (g.D.Disk.seen c.args.disk.now).told in
-    let mid = (g.D.Disk.seen c.loop-done.disk).told in
-    let new = (g.D.Disk.seen c.read_piece.new.disk).told in
     let inv = c.loop-done.invariant in
     let done = c.loop-done.done in
     let after_left = g.S.Source.left c.read_piece.new.source in
@@ -58,15 +37,7 @@ loop-done-preserved g c =
           let at = inv.left input is in
           let moves = c.in-Ok.ensures.feeds.moves (drop done input) at.source in
           IsLeft-more after_left input done c.in-Ok.count at.within moves.0 moves.2;
-      through = step-then inv.through c.in-Ok.ensures.reads (λ first second input is none used history stands.
-          let one = first input is none used history stands in
-          let rest = drop done input in
-          let moves = c.in-Ok.ensures.feeds.moves rest one.source in
-          IsThrough-more (sealing_by c.args.session.now.waiting) (begun_over used c.args.session.now.form history) old mid new c.loop-done.session
-          c.read_piece.new.session (g.K.Sink.held c.args.sink.now) (g.K.Sink.held c.loop-done.sink)
-          (g.K.Sink.held c.read_piece.new.sink) (g.S.Source.left c.loop-done.source) after_left input done c.in-Ok.count one moves.0 moves.2
-          (second.goes rest one.source (sealing_by c.args.session.now.waiting) (begun_over used c.args.session.now.form history) (g.K.Sink.held c.args.sink.now)
-          (take done input) one.on.at one.on.replied));
+      through = step-then inv.through c.in-Ok.ensures.reads (λ first second. goes-more first second c.in-Ok.ensures.feeds.moves);
       taken = RoseBy-more done c.in-Ok.count (g.S.Source.taken c.args.source.now) (g.S.Source.taken c.loop-done.source)
           (g.S.Source.taken c.read_piece.new.source) inv.taken c.in-Ok.ensures.feeds.count.2;
       source = c.in-Ok.ensures.feeds.counted ∙ inv.source;
@@ -142,40 +113,20 @@ returns-in-Ok-eq0-clause-reads g c input is =
 
 pub returns-in-Ok-eq0-clause-serves : goal.returns-in-Ok-eq0-clause-serves
 returns-in-Ok-eq0-clause-serves g c =
-    let old = (g.D.Disk.seen c.args.disk.now).told in
-    let mid = (g.D.Disk.seen c.loop-done.disk).told in
-    let reached = g.D.Disk.seen c.read_piece.new.disk in
-    let before = g.K.Sink.held c.args.sink.now in
     let n = c.loop-done.done in
     let k = c.in-Ok-eq0.field-0 in
     let left = g.S.Source.left c.read_piece.new.source in
     let inv = c.loop-done.invariant in
-    let read = step-then {S = λ a b. (input : List ℕ) → g.S.Source.left c.args.source.now ≡ Some input → NothingPending a →
-    (used : Option ℕ) (history : History) → StandsShort used history a.content →
-    IsThrough (sealing_by c.args.session.now.waiting) (begun_over used c.args.session.now.form history) a b c.read_piece.new.session
-    before (g.K.Sink.held c.read_piece.new.sink) left input (n + k)}
-    inv.through c.in-Ok-eq0.ensures.reads (λ first second input is none used history stands.
-    let one = first input is none used history stands in
-    let rest = drop n input in
-    let moves = c.in-Ok-eq0.ensures.feeds.moves rest one.source in
-    IsThrough-more (sealing_by c.args.session.now.waiting) (begun_over used c.args.session.now.form history) old mid reached.told c.loop-done.session
-    c.read_piece.new.session before (g.K.Sink.held c.loop-done.sink)
-    (g.K.Sink.held c.read_piece.new.sink) (g.S.Source.left c.loop-done.source) left input n k one moves.0 moves.2
-    (second.goes rest one.source (sealing_by c.args.session.now.waiting) (begun_over used c.args.session.now.form history) before
-    (take n input) one.on.at one.on.replied)) in
-    step-told read c.finish.ensures.ends (λ tells through ends input is none used history stands.
-    let at = inv.left input is in
-    let rest = drop n input in
-    let moves = c.in-Ok-eq0.ensures.feeds.moves rest at.source in
-    let empty = moves.1 c.in-Ok-eq0.field-0-test in
+    let moves = c.in-Ok-eq0.ensures.feeds.moves in
+    let read = step-then {S = GoesThrough c.args.session.now.form (sealing_by c.args.session.now.waiting) (g.S.Source.left c.args.source.now)
+    c.read_piece.new.session (g.K.Sink.held c.args.sink.now) (g.K.Sink.held c.read_piece.new.sink) left (n + k)}
+    inv.through c.in-Ok-eq0.ensures.reads (λ first second. goes-more first second moves) in
+    step-told read c.finish.ensures.ends (λ tells through ends.
+    goes-finish (g.D.Disk.seen c.read_piece.new.disk).tells c.finish.result tells c.finish.ensures.status through ends (λ input is.
+    let moved = moves (drop n input) (inv.left input is).source in
+    let empty = moved.1 c.in-Ok-eq0.field-0-test in
     let all = length_of-none input n empty in
-    let end = IsThrough-end left (through input is none used history stands) (omega (arith, all)) (omega (arith, all, inv.fits))
-    (left-none left rest k empty moves.2) in
-    let sealing = sealing_by c.args.session.now.waiting in
-    let talk = begun_over used c.args.session.now.form history in
-    Serves-finish sealing (g.D.Disk.seen c.finish.new.disk).told (g.K.Sink.held c.finish.new.sink) reached.tells c.finish.result tells end c.finish.ensures.status
-    (λ is_done. ends.done is_done sealing talk before input end.on.at end.on.replied)
-    (λ stop. ends.stops (stop-other reached.tells c.finish.result stop).0 sealing talk before input end.on.at end.on.replied))
+    (omega (arith, all), omega (arith, all, inv.fits), left-none left (drop n input) k empty moved.2)))
 
 pub returns-in-Err-clause-reads : goal.returns-in-Err-clause-reads
 returns-in-Err-clause-reads g c input is =
@@ -239,20 +190,13 @@ returns-in-Ok-true-clause-reads g c input is =
 
 pub returns-in-Ok-true-clause-serves : goal.returns-in-Ok-true-clause-serves
 returns-in-Ok-true-clause-serves g c =
-    let before = g.K.Sink.held c.args.sink.now in
-    step-told c.loop-done.invariant.through c.finish-in-Ok-true.ensures.ends (λ tells through finished input is none used history stands.
-    let one = through input is none used history stands in
-    let ends = c.in-Ok-true.ensures.ends (drop c.loop-done.done input) one.source c.in-Ok-true.field-0-test in
-    let all = length_of-none input c.loop-done.done ends.0 in
-    let end = IsThrough-end (g.S.Source.left c.is_at_end.new.source) one all (omega (arith, all, c.loop-done.invariant.fits)) ends.1 in
-    let sealing = sealing_by c.args.session.now.waiting in
-    let talk = begun_over used c.args.session.now.form history in
-    Serves-finish sealing (g.D.Disk.seen c.finish-in-Ok-true.new.disk).told (g.K.Sink.held c.finish-in-Ok-true.new.sink)
-    (g.D.Disk.seen c.loop-done.disk).tells
-    c.finish-in-Ok-true.result tells end c.finish-in-Ok-true.ensures.status
-    (λ is_done. finished.done is_done sealing talk before input end.on.at end.on.replied)
-    (λ stop. finished.stops (stop-other (g.D.Disk.seen c.loop-done.disk).tells c.finish-in-Ok-true.result stop).0 sealing talk before input end.on.at
-    end.on.replied))
+    let n = c.loop-done.done in
+    let inv = c.loop-done.invariant in
+    step-told inv.through c.finish-in-Ok-true.ensures.ends (λ tells through ends.
+    goes-finish (g.D.Disk.seen c.loop-done.disk).tells c.finish-in-Ok-true.result tells c.finish-in-Ok-true.ensures.status through ends (λ input is.
+    let ended = c.in-Ok-true.ensures.ends (drop n input) (inv.left input is).source c.in-Ok-true.field-0-test in
+    let all = length_of-none input n ended.0 in
+    (all, omega (arith, all, inv.fits), ended.1)))
 
 pub returns-in-Ok-false-clause-reads : goal.returns-in-Ok-false-clause-reads
 returns-in-Ok-false-clause-reads g c input is =

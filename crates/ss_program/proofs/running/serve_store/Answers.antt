@@ -1,4 +1,5 @@
-use Rattle.ss_program.proofs.Common.{◌∙◌, inr, refl, subst, StoreState, Serves, status_of_open, sealing_by, begun_over, EndsServing, OutOfMemory, arith, rules, common_steps}
+use Rattle.ss_program.proofs.Common.{◌∙◌, inr, refl, subst, StoreState, Serves, status_of_open, begun_over, EndsServing, OutOfMemory, arith, rules}
+use Rattle.ss_program.proofs.Common.{common_steps}
 use Rattle.ss_program.proofs.TakesLemmas.{still}
 use Rattle.ss_program.proofs.EndLemmas.{Ends-opened, Ends-unopened, judged-refused, unfed-unopened}
 use Rattle.ss_program.proofs.LeftLemmas.{opened_left, opened_moments}
@@ -15,11 +16,8 @@ serve-requires-clause-front g c = record {
 
 pub returns-in-Ok-start-clause-ends : goal.returns-in-Ok-start-clause-ends
 returns-in-Ok-start-clause-ends g c =
-    Ends-opened (g.D.Disk.seen c.args.disk.now) (g.D.Disk.seen c.open.new.disk) (g.D.Disk.seen c.serve.new.disk) (g.K.Sink.held c.args.sink.now)
-    (g.K.Sink.held c.serve.new.sink) (g.K.Sink.faults c.args.sink.now) (g.K.Sink.faults c.serve.new.sink) c.serve.result c.in-Ok.ensures.opens
-    (λ opened. (opened.opens.0, opened.opens.1)) c.serve.ensures.serves (subst (λ b. EndsServing b c.serve.result) c.in-Ok.ensures.opens.tells
-    c.serve.ensures.known)
-    c.serve.ensures.sink
+    Ends-opened c.serve.result c.in-Ok.ensures.opens (λ opened. (opened.opens.0, opened.opens.1)) c.serve.ensures.serves
+    (subst (λ b. EndsServing b c.serve.result) c.in-Ok.ensures.opens.tells c.serve.ensures.known) c.serve.ensures.sink
 
 pub returns-in-Ok-start-clause-serves : goal.returns-in-Ok-start-clause-serves
 returns-in-Ok-start-clause-serves g c input is told none used history stands =
@@ -34,10 +32,8 @@ returns-in-Ok-start-clause-serves g c input is told none used history stands =
     let new = (g.D.Disk.seen c.serve.new.disk).told in
     subst (λ f. Serves c.args.sealing (begun_over used f history) input left before after old new c.serve.result) c.in-Ok-start.ensures.form.0
     (subst (λ s. Serves s (begun_over used session.form history) input left before after old new c.serve.result) c.in-Ok-start.ensures.sealing.0
-    (Serves-opened (sealing_by session.waiting) (begun_over used session.form history) input left before after old (g.D.Disk.seen c.open.new.disk).told new
-    c.serve.result (opened_moments history old (g.D.Disk.seen c.open.new.disk).told _ opened within used none stands)
-    (c.serve.ensures.serves.told (opens.tells ∙ told) input is (opened.durable none) used history
-    (opened_left history old (g.D.Disk.seen c.open.new.disk).told _ opened within used stands))))
+    (Serves-opened (opened_moments opened within used none stands)
+    (c.serve.ensures.serves.told (opens.tells ∙ told) input is (opened.durable none) used history (opened_left opened within used stands))))
 
 pub returns-in-Ok-start-clause-feeds : goal.returns-in-Ok-start-clause-feeds
 returns-in-Ok-start-clause-feeds g c = record {
@@ -49,11 +45,7 @@ returns-in-Ok-start-clause-feeds g c = record {
 -- there was no memory for a session
 pub returns-in-Err-start-clause-ends : goal.returns-in-Err-start-clause-ends
 returns-in-Err-start-clause-ends g c =
-    let mid = g.D.Disk.seen c.open.new.disk in
-    let held = g.K.Sink.held c.args.sink.now in
-    let faults = g.K.Sink.faults c.args.sink.now in
-    Ends-opened (g.D.Disk.seen c.args.disk.now) mid mid held held faults faults OutOfMemory c.in-Ok.ensures.opens
-    (λ opened. (opened.opens.0, opened.opens.1)) (still mid) tt refl
+    Ends-opened OutOfMemory c.in-Ok.ensures.opens (λ opened. (opened.opens.0, opened.opens.1)) (still (g.D.Disk.seen c.open.new.disk)) tt refl
 
 pub returns-in-Err-start-clause-feeds : goal.returns-in-Err-start-clause-feeds
 returns-in-Err-start-clause-feeds g c =
@@ -66,20 +58,15 @@ returns-in-Err-start-clause-reads g c input is = Reads-none input (g.S.Source.le
 pub returns-in-Err-start-clause-serves : goal.returns-in-Err-start-clause-serves
 returns-in-Err-start-clause-serves g c input is told none used history stands =
     let opens = c.in-Ok.ensures.opens in
-    let before = g.K.Sink.held c.args.sink.now in
-    Serves-unopened c.args.sealing (begun_over used c.args.form history) input (g.S.Source.left c.args.source.now) before before (g.D.Disk.seen c.args.disk.now).told
-    (g.D.Disk.seen c.open.new.disk).told OutOfMemory (inr refl) is refl (g.met.D.Disk.knows_now c.open.new.disk (opens.tells ∙ told))
-    (opened_moments history (g.D.Disk.seen c.args.disk.now).told (g.D.Disk.seen c.open.new.disk).told _ ((opens.told told).history history)
-    (opens.told told).within used none stands)
+    Serves-unopened (inr refl) is refl (g.met.D.Disk.knows_now c.open.new.disk (opens.tells ∙ told))
+    (opened_moments ((opens.told told).history history) (opens.told told).within used none stands)
 
 pub returns-in-Err-clause-ends : goal.returns-in-Err-clause-ends
 returns-in-Err-clause-ends g c =
-    let old = g.D.Disk.seen c.args.disk.now in
     let opens = c.in-Err.ensures.opens in
     rw c.refuse.ensures.status
-    (Ends-unopened StoreState c.in-Err.error old (g.D.Disk.seen c.open.new.disk) (g.K.Sink.held c.args.sink.now) (g.K.Sink.held c.refuse.new.sink)
-    (g.K.Sink.faults c.args.sink.now) (g.K.Sink.faults c.refuse.new.sink) opens.tells opens.counted (λ told. (opens.told told).opens)
-    (λ told refused. (opens.told told).judged (judged-refused old.told.content refused)) c.refuse.ensures.says)
+    (Ends-unopened StoreState c.in-Err.error opens.tells opens.counted (λ told. (opens.told told).opens)
+    (λ told refused. (opens.told told).judged (judged-refused (g.D.Disk.seen c.args.disk.now).told.content refused)) c.refuse.ensures.says)
 
 pub returns-in-Err-clause-feeds : goal.returns-in-Err-clause-feeds
 returns-in-Err-clause-feeds g c =
@@ -93,10 +80,6 @@ pub returns-in-Err-clause-serves : goal.returns-in-Err-clause-serves
 returns-in-Err-clause-serves g c input is told none used history stands =
     let opens = c.in-Err.ensures.opens in
     rw c.refuse.ensures.status
-    (Serves-refused c.args.sealing (begun_over used c.args.form history) input (g.S.Source.left c.args.source.now) (g.K.Sink.held c.args.sink.now)
-    (g.K.Sink.held c.refuse.new.sink)
-    (g.K.Sink.faults c.args.sink.now) (g.K.Sink.faults c.refuse.new.sink) (g.D.Disk.seen c.args.disk.now).told (g.D.Disk.seen c.open.new.disk).told
-    c.in-Err.error
-    (opens.told told).opens stands.0 c.refuse.ensures.says is (g.met.D.Disk.knows_now c.open.new.disk (opens.tells ∙ told))
-    (opened_moments history (g.D.Disk.seen c.args.disk.now).told (g.D.Disk.seen c.open.new.disk).told _ ((opens.told told).history history)
-    (opens.told told).within used none stands))
+    (Serves-refused {talk = begun_over used c.args.form history} _ _ c.in-Err.error (opens.told told).opens stands.0 c.refuse.ensures.says is
+    (g.met.D.Disk.knows_now c.open.new.disk (opens.tells ∙ told))
+    (opened_moments ((opens.told told).history history) (opens.told told).within used none stands))

@@ -1,11 +1,10 @@
 use Rattle.ss_program.proofs.Common.{◌≡◌, ◌∙◌, ◌<◌, Ok, Err, None, refl, sym, ap, subst, rules, arith, flat_map, IsTrue, row_count, whole_query, Series}
-use Rattle.ss_program.proofs.Common.{refuses_series, state, reads-joined, step-then, OnlyReads, DiskView, Step, Counted, fine, verdict, said_line, Row}
-use Rattle.ss_program.proofs.Common.{refuses_query_held, StoreState, Stands, IsOpen, Shows, over, History, series_rows, appended, AppendsLess, Sends}
-use Rattle.ss_program.proofs.Common.{IsSeriesText, disk_verdict, IsDiskStop}
+use Rattle.ss_program.proofs.Common.{refuses_series, state, reads-joined, step-then, DiskView, said_line, refuses_query_held, StoreState, Stands, IsOpen}
+use Rattle.ss_program.proofs.Common.{History, series_rows, IsDiskStop}
 use Rattle.ss_program.proofs.AnswerLemmas.{StoreIsIn-open, refuses_query-kept}
 use Rattle.ss_program.proofs.SendLemmas.{appended-nil}
 use Rattle.ss_program.proofs.SeriesLemmas.{row-cut, row-end, row-sent, row-taken_held, row-unread}
-use Rattle.ss_program.proofs.TakesLemmas.{Shows-sent, Shows-stopped, failed-err, less-sent, sends-less, sent-all, still}
+use Rattle.ss_program.proofs.TakesLemmas.{sent-all, still, Said-sent, Said-cut, Said-stopped}
 use Rattle.ss_program.proofs.series.send_rows.Goals as goal
 
 -- no history for which the content stands refuses the series
@@ -36,57 +35,39 @@ returns-in_err-outcome g c =
     let old = g.D.Disk.seen c.args.disk.now in
     let mid = g.D.Disk.seen c.loop-row.disk in
     let new = g.D.Disk.seen c.answer_query.new.disk in
-    let before = g.K.Sink.held c.args.sink.now in
-    let held = g.K.Sink.held c.loop-row.sink in
-    let had = g.K.Sink.faults c.args.sink.now in
-    let has = g.K.Sink.faults c.loop-row.sink in
     let series = c.args.series.now in
-    let text = IsSeriesText c.args.speaker series in
     let status = c.in_err-outcome.field-0.0 in
     let inv = c.loop-row.invariant in
     let inside : c.loop-row.row < row_count series = subst (λ n. c.loop-row.row < n) c.rows-row-end.ensures c.loop-row-test.true in
-    let reads : Step (disk_verdict status) old new OnlyReads =
-    step-then inv.reads c.in_err-outcome.ensures.answers (λ first second. reads-joined old.told mid.told new.told first second.reads) in
     let same : c.from_residual.result ≡ Err status = search rules in
-    subst (λ r. Shows text (over old before had) (over new held has) c.answer_query.new.store r) (sym same)
-    (Shows-stopped text old new c.answer_query.new.store before held had has status
-    (subst (λ b. IsDiskStop b status) inv.reads.tells c.in_err-outcome.ensures.status) reads inv.faults
-    (λ told history stands bytes is. subst (λ bs. AppendsLess before held bs) (sym is)
-    (row-unread (state history) series (unrefused c.args.store.now old series c.requires.open c.requires.taken told history stands) c.args.speaker
-    c.loop-row.row before held
-    inside (inv.held told history stands))))
+    rw same
+    (Said-stopped (λ history. flat_map (said_line c.args.speaker) (series_rows (state history) series)) status
+    (subst (λ b. IsDiskStop b status) inv.reads.tells c.in_err-outcome.ensures.status)
+    (step-then inv.reads c.in_err-outcome.ensures.answers (λ first second. reads-joined old.told mid.told new.told first second.reads)) inv.faults
+    (λ told history stands.
+    row-unread (state history) series (unrefused c.args.store.now old series c.requires.open c.requires.taken told history stands) c.args.speaker
+    c.loop-row.row (g.K.Sink.held c.args.sink.now) (g.K.Sink.held c.loop-row.sink) inside (inv.held told history stands)))
 
 pub returns-in_err-at_sink : goal.returns-in_err-at_sink
 returns-in_err-at_sink g c =
     let old = g.D.Disk.seen c.args.disk.now in
     let mid = g.D.Disk.seen c.loop-row.disk in
     let new = g.D.Disk.seen c.answer_query.new.disk in
-    let before = g.K.Sink.held c.args.sink.now in
-    let held = g.K.Sink.held c.loop-row.sink in
-    let after = g.K.Sink.held c.send_reply.new.sink in
-    let had = g.K.Sink.faults c.args.sink.now in
-    let has = g.K.Sink.faults c.send_reply.new.sink in
     let series = c.args.series.now in
-    let text = IsSeriesText c.args.speaker series in
-    let sent = c.send_reply.result in
+    let status = c.in_err-at_sink.field-0.0 in
     let inv = c.loop-row.invariant in
     let answered = c.in_ok-outcome.ensures in
-    let outcome = c.in_ok-outcome.outcome in
     let inside : c.loop-row.row < row_count series = subst (λ n. c.loop-row.row < n) c.rows-row-end.ensures c.loop-row-test.true in
-    let failed = failed-err sent c.in_err-at_sink.field-0.0 c.in_err-at_sink.ensures in
-    let reads : Step fine old new OnlyReads =
-    step-then inv.reads answered.answers (λ first second. reads-joined old.told mid.told new.told first second.reads) in
-    let same : c.from_residual-in_err-at_sink.result ≡ Err c.in_err-at_sink.field-0.0 = search rules in
-    subst (λ r. Shows text (over old before had) (over new after has) c.answer_query.new.store r) (sym (same ∙ c.in_err-at_sink.ensures))
-    (Shows-sent text old new c.answer_query.new.store before after had has sent reads answered.open
-    (subst (λ n. Counted (verdict sent) n has) inv.faults c.send_reply.ensures.counted)
-    (λ told history stands bytes is. subst (λ bs. Sends before after bs sent) (sym is)
-    (sends-less before after (flat_map (said_line c.args.speaker) (series_rows (state history) series)) sent failed
-    (row-cut (state history) series (unrefused c.args.store.now old series c.requires.open c.requires.taken told history stands) c.args.speaker c.loop-row.row
-    c.row-query.result outcome before held after inside c.row-query.ensures
+    let same : c.from_residual-in_err-at_sink.result ≡ Err status = search rules in
+    rw (same, ← inv.faults)
+    (Said-cut (λ history. flat_map (said_line c.args.speaker) (series_rows (state history) series)) c.send_reply.result status c.in_err-at_sink.ensures
+    (step-then inv.reads answered.answers (λ first second. reads-joined old.told mid.told new.told first second.reads)) answered.open c.send_reply.ensures
+    (λ told history stands less.
+    row-cut (state history) series (unrefused c.args.store.now old series c.requires.open c.requires.taken told history stands) c.args.speaker c.loop-row.row
+    c.row-query.result c.in_ok-outcome.outcome (g.K.Sink.held c.args.sink.now) (g.K.Sink.held c.loop-row.sink) (g.K.Sink.held c.send_reply.new.sink) inside
+    c.row-query.ensures
     ((answered.answers.told (inv.reads.tells ∙ told)).answer history (subst (Stands history) (sym (inv.reads.told told).same.content) stands))
-    (inv.held told history stands)
-    (less-sent held after (said_line c.args.speaker (Row c.row-query.result.from outcome)) sent failed c.send_reply.ensures.sends)))))
+    (inv.held told history stands) less))
 
 pub loop-row-preserved : goal.loop-row-preserved
 loop-row-preserved g c =
@@ -117,12 +98,8 @@ returns g c =
     let old = g.D.Disk.seen c.args.disk.now in
     let series = c.args.series.now in
     let inv = c.loop-row.invariant in
-    let before = g.K.Sink.held c.args.sink.now in
-    let held = g.K.Sink.held c.loop-row.sink in
     let last : c.loop-row.row ≡ row_count series = omega (arith, c.rows-row-end.ensures) in
-    Shows-sent (IsSeriesText c.args.speaker series) old (g.D.Disk.seen c.loop-row.disk) c.loop-row.store before held (g.K.Sink.faults c.args.sink.now)
-    (g.K.Sink.faults c.loop-row.sink) (Ok tt) inv.reads inv.is_open inv.faults
-    (λ told history stands bytes is. subst (λ bs. held ≡ appended before bs) (sym is)
-    (row-end (state history) series (unrefused c.args.store.now old series c.requires.open c.requires.taken told history stands) c.args.speaker c.loop-row.row
-    before held
-    last (inv.held told history stands)))
+    Said-sent (λ history. flat_map (said_line c.args.speaker) (series_rows (state history) series)) (Ok tt) inv.reads inv.is_open inv.faults
+    (λ told history stands.
+    row-end (state history) series (unrefused c.args.store.now old series c.requires.open c.requires.taken told history stands) c.args.speaker c.loop-row.row
+    (g.K.Sink.held c.args.sink.now) (g.K.Sink.held c.loop-row.sink) last (inv.held told history stands))

@@ -1,10 +1,9 @@
 use Rattle.ss_program.proofs.Common.{◌≡◌, ◌∙◌, Err, refl, sym, ap, subst, rules, append-nil, flat_map, whole_query, state, Counted, said_line, Refused}
-use Rattle.ss_program.proofs.Common.{SeriesHead, refuses_query_held, IsTextBrought, Shows, over, command_brings, series_rows, text_said, appended, AppendsLess}
-use Rattle.ss_program.proofs.Common.{Sends, ended, sink_verdict}
+use Rattle.ss_program.proofs.Common.{SeriesHead, refuses_query_held, command_brings, series_rows, text_said, appended, AppendsLess, Sends, ended, sink_verdict}
 use Rattle.ss_command.specs.declared.command.Command.TheVariants.{Series as AskRows}
 use Rattle.ss_program.proofs.AnswerLemmas.{StoreIsIn-open, refuses_query-kept}
 use Rattle.ss_program.proofs.SeriesLemmas.{brings-refused_series, series-head, series-sent}
-use Rattle.ss_program.proofs.TakesLemmas.{Shows-reply, Shows-sent, failed-err, less-sent, sends-less, sent-all, still}
+use Rattle.ss_program.proofs.TakesLemmas.{sent-all, still, Said-cut, Said-reply}
 use Rattle.ss_program.proofs.series.show_series.Goals as goal
 
 pub returns-in-Some : goal.returns-in-Some
@@ -14,12 +13,9 @@ returns-in-Some g c =
     let disk = g.D.Disk.seen c.args.disk.now in
     let judged = c.in-Some.ensures ∙ ap (λ q. refuses_query_held store.streams q) c.whole_query.ensures in
     rw c.at_sink.ensures
-    (Shows-reply c.args.speaker (IsTextBrought c.args.speaker (AskRows series)) disk disk store (g.K.Sink.held c.args.sink.now) (g.K.Sink.held
-    c.send_reply.new.sink)
-    (g.K.Sink.faults c.args.sink.now) (g.K.Sink.faults c.send_reply.new.sink) (Refused c.in-Some.refusal) c.send_reply.result (still disk) c.requires.open
-    c.send_reply.ensures
-    (λ told history stands bytes is. is
-    ∙ ap (λ b. text_said c.args.speaker b) (brings-refused_series history series c.in-Some.refusal
+    (Said-reply (λ history. text_said c.args.speaker (command_brings history (AskRows series))) c.send_reply.result (still disk) c.requires.open
+    c.send_reply.ensures (λ told history stands.
+    ap (λ b. text_said c.args.speaker b) (brings-refused_series history series c.in-Some.refusal
     (refuses_query-kept store disk.told.content history (whole_query series) (StoreIsIn-open disk store c.requires.open told) stands ∙ sym judged))
     ∙ append-nil (said_line c.args.speaker (Refused c.in-Some.refusal))))
 
@@ -31,20 +27,14 @@ returns-in_err-at_sink g c =
     let judged = c.in_default.ensures ∙ ap (λ q. refuses_query_held store.streams q) c.whole_query.ensures in
     let before = g.K.Sink.held c.args.sink.now in
     let after = g.K.Sink.held c.send_reply-2.new.sink in
-    let had = g.K.Sink.faults c.args.sink.now in
-    let has = g.K.Sink.faults c.send_reply-2.new.sink in
-    let sent = c.send_reply-2.result in
-    let text = IsTextBrought c.args.speaker (AskRows series) in
-    let failed = failed-err sent c.in_err-at_sink.field-0.0 c.in_err-at_sink.ensures in
-    let same : c.from_residual.result ≡ Err c.in_err-at_sink.field-0.0 = search rules in
-    subst (λ r. Shows text (over disk before had) (over disk after has) store r) (sym (same ∙ c.in_err-at_sink.ensures))
-    (Shows-sent text disk disk store before after had has sent (still disk) c.requires.open c.send_reply-2.ensures.counted
-    (λ told history stands bytes is. subst (λ bs. Sends before after bs sent) (sym is)
-    (sends-less before after (text_said c.args.speaker (command_brings history (AskRows series))) sent failed
-    (series-head c.args.speaker history series before after
+    let status = c.in_err-at_sink.field-0.0 in
+    let same : c.from_residual.result ≡ Err status = search rules in
+    rw same
+    (Said-cut (λ history. text_said c.args.speaker (command_brings history (AskRows series))) c.send_reply-2.result status c.in_err-at_sink.ensures
+    (still disk) c.requires.open c.send_reply-2.ensures (λ told history stands less.
+    series-head c.args.speaker history series before after
     (refuses_query-kept store disk.told.content history (whole_query series) (StoreIsIn-open disk store c.requires.open told) stands ∙ sym judged)
-    (subst (λ n. AppendsLess before after (said_line c.args.speaker (SeriesHead series.kind n))) c.rows.ensures
-    (less-sent before after (said_line c.args.speaker (SeriesHead series.kind c.rows.result)) sent failed c.send_reply-2.ensures.sends))))))
+    (subst (λ n. AppendsLess before after (said_line c.args.speaker (SeriesHead series.kind n))) c.rows.ensures less)))
 
 pub returns : goal.returns
 returns g c =

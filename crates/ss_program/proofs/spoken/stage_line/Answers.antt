@@ -1,19 +1,14 @@
-use Rattle.ss_program.proofs.Common.{◌≡◌, Err, sym, subst, rules, option_copied, step-as, step-then, Step, TakesTurn, amid, owed_by, disk_verdict, ended}
-use Rattle.ss_program.proofs.Common.{kept_turn}
+use Rattle.ss_program.proofs.Common.{◌≡◌, Err, rules, option_copied, step-as, step-then, kept_turn}
 use Rattle.ss_program.proofs.BroughtLemmas.{TakesTurn-next, TakesTurn-unsealed}
 use Rattle.ss_program.proofs.spoken.stage_line.Goals as goal
 
 pub returns-in_err-make_room-clause-takes : goal.returns-in_err-make_room-clause-takes
 returns-in_err-make_room-clause-takes g c =
-    let old = g.D.Disk.seen c.args.disk.now in
-    let new = g.D.Disk.seen c.make_room.new.disk in
     let cursors = c.args.sessions.now in
-    let from = amid c.args.store.now.records (owed_by c.args.waiting.now) (g.K.Sink.held c.args.sink.now) cursors in
-    let to = amid c.make_room.new.store.records (owed_by c.make_room.new.waiting) (g.K.Sink.held c.make_room.new.sink) cursors in
     let turn = kept_turn c.args.form (option_copied c.args.line) in
     let status = c.in_err-make_room.field-0.0 in
     let same : c.from_residual.result ≡ Err status = search rules in
-    subst (λ r. Step (disk_verdict (ended r)) old new (TakesTurn turn from to r)) (sym same)
+    rw same
     (step-as c.in_err-make_room.ensures.takes (λ takes. TakesTurn-unsealed cursors turn status takes))
 
 pub returns-clause-takes : goal.returns-clause-takes

@@ -1,5 +1,5 @@
-use Rattle.ss_program.proofs.Common.{◌≡◌, Err, Some, sym, subst, rules, shown-sealed, step-as, Step, Cursors, TakesOrdered, amid, owed_by, at_sink, next_brings}
-use Rattle.ss_program.proofs.Common.{History, disk_verdict, ended, Talk, turn_said}
+use Rattle.ss_program.proofs.Common.{◌≡◌, Err, Some, rules, shown-sealed, step-as, Cursors, TakesOrdered, amid, owed_by, at_sink, next_brings, History, Talk}
+use Rattle.ss_program.proofs.Common.{turn_said}
 use Rattle.ss_program.proofs.BroughtLemmas.{TakesTurn-next, TakesTurn-unsealed}
 use Rattle.ss_program.proofs.OrderLemmas.{TakesShown}
 use Rattle.ss_program.proofs.SealLemmas.{step-sink}
@@ -8,22 +8,16 @@ use Rattle.ss_program.proofs.spoken.take_next.Goals as goal
 
 pub returns-in_err-flush-clause-takes : goal.returns-in_err-flush-clause-takes
 returns-in_err-flush-clause-takes g c =
-    let old = g.D.Disk.seen c.args.disk.now in
-    let new = g.D.Disk.seen c.flush.new.disk in
     let session = c.args.session in
     let before = c.args.sessions.now in
-    let brought = λ (history : History) (cursors : Cursors). next_brings cursors session c.args.count in
-    let from = amid c.args.store.now.records (owed_by c.args.waiting.now) (g.K.Sink.held c.args.sink.now) before in
-    let to = amid c.flush.new.store.records (owed_by c.flush.new.waiting) (g.K.Sink.held c.flush.new.sink) before in
     let status = c.in_err-flush.field-0.0 in
     let same : c.from_residual.result ≡ Err status = search rules in
-    subst (λ r. Step (disk_verdict (ended r)) old new (TakesOrdered session brought from to r)) (sym same)
+    rw same
     (step-as c.in_err-flush.ensures.takes (λ takes.
     TakesTurn-unsealed before (λ (talk : Talk). turn_said (Some session) (next_brings talk.cursors session c.args.count)) status takes))
 
 pub returns-clause-takes : goal.returns-clause-takes
 returns-clause-takes g c =
-    let old = g.D.Disk.seen c.args.disk.now in
     let mid = g.D.Disk.seen c.flush.new.disk in
     let session = c.args.session in
     let count = c.args.count in

@@ -1,26 +1,20 @@
-use Rattle.ss_program.proofs.Common.{◌∙◌, Some, subst, shown-sealed, TakesNone, amid, owed_by, at_sink, Sends}
+use Rattle.ss_program.proofs.Common.{Some, subst, shown-sealed, TakesNone, amid, owed_by, at_sink, Sends}
 use Rattle.ss_program.proofs.SealLemmas.{TakesNone-sent, TakesNone-unsealed, shared-sent, step-sink}
+use Rattle.ss_program.proofs.StepLemmas.{step-so}
 use Rattle.ss_program.proofs.staging.send_waiting.Goals as goal
 
 pub returns-in-Err-clause-takes : goal.returns-in-Err-clause-takes
 returns-in-Err-clause-takes g c =
-    let old = (g.D.Disk.seen c.args.disk.now).told in
-    let new = (g.D.Disk.seen c.seal.new.disk).told in
-    let seals = c.in-Err.ensures.seals in
-    let held = g.K.Sink.held c.args.sink.now in
     let owed = owed_by (Some c.args.waiting.now) in
-    record {
-      tells = seals.tells;
-      counted = seals.counted;
-      told = λ told. TakesNone-unsealed c.args.store.now.records c.seal.new.self.records owed owed held old new c.in-Err.field-0
-          (g.met.D.Disk.knows_now c.seal.new.disk (seals.tells ∙ told)) (seals.told told).history tt;
-    }
+    step-so c.in-Err.ensures.seals (λ told seals.
+    TakesNone-unsealed c.args.store.now.records c.seal.new.self.records owed owed (g.K.Sink.held c.args.sink.now)
+    (g.D.Disk.seen c.args.disk.now).told (g.D.Disk.seen c.seal.new.disk).told c.in-Err.field-0 (g.met.D.Disk.knows_now c.seal.new.disk told)
+    seals.history tt)
 
 pub returns-in-Ok-clause-takes : goal.returns-in-Ok-clause-takes
 returns-in-Ok-clause-takes g c =
     let old = (g.D.Disk.seen c.args.disk.now).told in
     let new = (g.D.Disk.seen c.seal.new.disk).told in
-    let seals = c.in-Ok.ensures.seals in
     let is = c.seal.new.self.records in
     let held = g.K.Sink.held c.args.sink.now in
     let after = g.K.Sink.held c.send.new.sink in
@@ -29,10 +23,7 @@ returns-in-Ok-clause-takes g c =
     let owes = owed_by (Some c.clear.new.self) in
     let same = shown-sealed is.journal new.content c.in-Ok.ensures.sealed.sealed in
     rw c.at_sink-sent.ensures
-    (step-sink {S = TakesNone (amid was owed held) (amid is owes after) (at_sink c.send.result)} c.send.result (record {
-      tells = seals.tells;
-      counted = seals.counted;
-      told = λ told. TakesNone-sent was is owed owes held after old new c.in-Ok.field-0 c.send.result
-          (g.met.D.Disk.knows_now c.seal.new.disk (seals.tells ∙ told)) same (seals.told told).history c.clear.ensures shared-sent
-          (λ bytes less. tt) (subst (λ t. Sends held after t c.send.result) c.as_slice.ensures c.send.ensures.sends);
-    }))
+    (step-sink {S = TakesNone (amid was owed held) (amid is owes after) (at_sink c.send.result)} c.send.result
+    (step-so c.in-Ok.ensures.seals (λ told seals.
+    TakesNone-sent was is owed owes held after old new c.in-Ok.field-0 c.send.result (g.met.D.Disk.knows_now c.seal.new.disk told) same seals.history
+    c.clear.ensures shared-sent (λ bytes less. tt) (subst (λ t. Sends held after t c.send.result) c.as_slice.ensures c.send.ensures.sends))))

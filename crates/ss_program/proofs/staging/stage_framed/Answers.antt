@@ -1,8 +1,9 @@
 use Rattle.ss_program.proofs.Common.{◌≡◌, ◌∙◌, ◌++◌, ◌∷◌, [], true, false, None, Err, Ok, Result, sym, ap, subst, rules, IsTrue, Do, added, refuses, state}
-use Rattle.ss_program.proofs.Common.{Step, shown_by, Reply, AllAgree-recovered, Stands, StagesFramed, Brought, History, accepted_frame, command_brings}
-use Rattle.ss_program.proofs.Common.{command_in, history_after, disk_verdict, ended, Staged, Status}
+use Rattle.ss_program.proofs.Common.{shown_by, Reply, AllAgree-recovered, Stands, Brought, History, accepted_frame, command_brings, command_in, history_after}
+use Rattle.ss_program.proofs.Common.{Staged, Status, step-as}
 use Rattle.ss_program.proofs.AnswerLemmas.{brings-accepted}
 use Rattle.ss_program.proofs.FrameLemmas.{Turns-answered, frame-done, frame-other, replies-framed, same-event}
+use Rattle.ss_program.proofs.StepLemmas.{step-given}
 use Rattle.ss_program.proofs.staging.stage_framed.Goals.{in-Done, in_default, in_default-via-in-Done+else-framed, in_default-via-in_default}
 use Rattle.ss_program.proofs.staging.stage_framed.Goals as goal
 
@@ -19,16 +20,12 @@ returns-in_err-reply-clause-stages g c =
     let stages = c.in_err-reply.ensures.stages in
     let before : Result Reply Status = Err status in
     let after : Result Staged Status = Err status in
-    subst (λ r. Step (disk_verdict (ended r)) old new (StagesFramed framed event was is r)) (sym same) (record {
-      tells = stages.tells;
-      counted = stages.counted;
-      told = λ told. record {
-        turns = λ history. Turns-answered was is history old.told new.told (command_brings history (Do event)).event
-            (command_in framed history (Do event)).event before after (same-event framed history event) (λ X has. tt) ((stages.told told).turns history);
-        replies = λ history stands. tt;
-        frame = λ says history stands. tt;
-      };
-    })
+    rw same (step-as stages (λ stepped. record {
+      turns = λ history. Turns-answered was is history old.told new.told (command_brings history (Do event)).event
+          (command_in framed history (Do event)).event before after (same-event framed history event) (λ X has. tt) (stepped.turns history);
+      replies = λ history stands. tt;
+      frame = λ says history stands. tt;
+    }))
 
 -- the frame of an event that is acknowledged
 found : (g : _) → (c : goal.Joined-reply g) → c.args.framed ≡ true → IsTrue (g.D.Disk.seen c.args.disk.now).tells → (history : History) →
@@ -79,14 +76,10 @@ returns-clause-stages g c =
     let stages = c.in_ok-reply.ensures.stages in
     let before : Result Reply Status = Ok reply in
     let after : Result Staged Status = Ok (record { reply = reply; frame = c.match-reply.frame }) in
-    record {
-      tells = stages.tells;
-      counted = stages.counted;
-      told = λ told. record {
-        turns = λ history. Turns-answered was is history old.told new.told (command_brings history (Do event)).event
-            (command_in framed history (Do event)).event before after (same-event framed history event) (λ X has. has) ((stages.told told).turns history);
-        replies = λ history stands. replies-framed framed history event (refuses (state history) event) reply c.match-reply.frame
-            ((stages.told told).reply history stands) (λ says. found g c says told history stands) (none g c);
-        frame = λ says history stands. found g c says told history stands;
-      };
-    }
+    step-given stages (λ told stepped. record {
+      turns = λ history. Turns-answered was is history old.told new.told (command_brings history (Do event)).event
+          (command_in framed history (Do event)).event before after (same-event framed history event) (λ X has. has) (stepped.turns history);
+      replies = λ history stands. replies-framed framed history event (refuses (state history) event) reply c.match-reply.frame
+          (stepped.reply history stands) (λ says. found g c says told history stands) (none g c);
+      frame = λ says history stands. found g c says told history stands;
+    })

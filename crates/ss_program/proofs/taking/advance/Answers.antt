@@ -1,5 +1,5 @@
-use Rattle.ss_program.proofs.Common.{◌≡◌, ◌++◌, Ok, Err, take, ap, sym, ◌∙◌, subst, rules, option_copied, TellsStep, under_way, step-as, step-none, Step}
-use Rattle.ss_program.proofs.Common.{GoesAmid, TakesBytes, amid, owed_by, disk_verdict, ended, kept_so_far, kept_step, steps_so_far}
+use Rattle.ss_program.proofs.Common.{◌≡◌, ◌++◌, Ok, Err, take, ap, sym, ◌∙◌, subst, rules, option_copied, TellsStep, under_way, step-as, step-none, GoesAmid}
+use Rattle.ss_program.proofs.Common.{TakesBytes, amid, owed_by, ended, kept_so_far, kept_step, steps_so_far}
 use Rattle.ss_program.proofs.AmidLemmas.{GoesAmid-none}
 use Rattle.ss_program.proofs.InputLemmas.{Stops-piece, Takes-kept, advance-told}
 use Rattle.ss_program.proofs.taking.advance.Goals as goal
@@ -31,13 +31,10 @@ returns-in_err-stage_line-in-Some-clause-takes g c =
     let piece = c.args.piece.now in
     let count = c.feed-count.result.0 in
     let o = option_copied c.line_of.result in
-    let from = amid c.args.store.now.records (owed_by c.args.waiting.now) (g.K.Sink.held c.args.sink.now) c.args.sessions.now in
     let after = g.K.Sink.held c.stage_line.new.sink in
-    let to = amid c.stage_line.new.store.records (owed_by c.stage_line.new.waiting) after c.stage_line.new.sessions in
     let status = c.in_err-stage_line-in-Some.field-0.0 in
     let same : c.from_residual.result ≡ Err status = search rules in
-    subst (λ r. Step (disk_verdict (ended r)) old new (TakesBytes (λ count. take count piece) piece c.args.reader.now.form (under_way c.args.reader.now)
-    (under_way c.feed-count.new.self) from to r)) (sym same)
+    rw same
     (step-as c.in_err-stage_line-in-Some.ensures.takes (λ takes. record {
       goes = tt;
       stops = λ sealing talk before input form line is.

@@ -1,5 +1,5 @@
 use Rattle.ss_program.proofs.Common.{◌≡◌, ◌++◌, Err, take, take_all, refl, sym, subst, ◌∙◌, arith, rules, append-nil, under_way, step-as, step-none, step-then}
-use Rattle.ss_program.proofs.Common.{Step, GoesAmid, OfAmid, TakesBytes, amid, owed_by, disk_verdict, ended, kept_so_far, steps_so_far}
+use Rattle.ss_program.proofs.Common.{GoesAmid, OfAmid, amid, owed_by, kept_so_far, steps_so_far}
 use Rattle.ss_program.proofs.SendLemmas.{fits_more}
 use Rattle.ss_program.proofs.InputLemmas.{OfAmid-more, OfAmid-stops}
 use Rattle.ss_program.proofs.AmidLemmas.{GoesAmid-none}
@@ -50,13 +50,11 @@ returns-in_err-done-clause-takes g c =
     let mid = g.D.Disk.seen c.loop-done.disk in
     let new = g.D.Disk.seen c.advance.new.disk in
     let line = under_way c.args.reader.now in
-    let next = under_way c.advance.new.reader in
     let from = amid c.args.store.now.records (owed_by c.args.waiting.now) (g.K.Sink.held c.args.sink.now) c.args.sessions.now in
     let after = g.K.Sink.held c.advance.new.sink in
-    let to = amid c.advance.new.store.records (owed_by c.advance.new.waiting) after c.advance.new.sessions in
     let status = c.in_err-done.field-0.0 in
     let same : c.from_residual.result ≡ Err status = search rules in
-    subst (λ r. Step (disk_verdict (ended r)) old new (TakesBytes (λ _. piece) piece c.args.reader.now.form line next from to r)) (sym same)
+    rw same
     (step-then inv.on c.in_err-done.ensures.takes (λ first second. record {
       goes = tt;
       stops = OfAmid-stops c.args.reader.now.form c.loop-done.reader.form inv.form line (under_way c.loop-done.reader) from

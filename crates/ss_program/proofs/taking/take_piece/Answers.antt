@@ -1,6 +1,5 @@
-use Rattle.ss_program.proofs.Common.{◌≡◌, Err, sym, subst, rules, under_way, shown-sealed, step-as, step-then, Step, TakesPiece, amid, owed_by, disk_verdict}
-use Rattle.ss_program.proofs.Common.{ended}
-use Rattle.ss_program.proofs.InputLemmas.{TakesPiece-sealed, TakesPiece-stopped, session_of}
+use Rattle.ss_program.proofs.Common.{◌≡◌, Err, rules, under_way, shown-sealed, step-as, step-then, amid, owed_by}
+use Rattle.ss_program.proofs.InputLemmas.{TakesPiece-sealed, TakesPiece-stopped}
 use Rattle.ss_program.proofs.BroughtLemmas.{shown-opened}
 use Rattle.ss_program.proofs.taking.take_piece.Goals as goal
 
@@ -17,8 +16,7 @@ returns-in_err-take_lines-clause-takes g c =
     let next = under_way c.take_lines.new.reader in
     let status = c.in_err-take_lines.field-0.0 in
     let same : c.from_residual.result ≡ Err status = search rules in
-    subst (λ r. Step (disk_verdict (ended r)) old new (TakesPiece (λ _. piece) piece (session_of c.args.reader.now.form c.args.sessions.now store line c.args.waiting.now)
-    (session_of c.args.reader.now.form c.take_lines.new.sessions is next c.take_lines.new.waiting) held after r)) (sym same)
+    rw same
     (step-as c.in_err-take_lines.ensures.takes (λ takes. TakesPiece-stopped c.args.reader.now.form c.args.sessions.now store line c.args.waiting.now held old.told
     (shown-sealed store.records.journal old.told.content c.requires.sealed) c.take_lines.new.sessions is next c.take_lines.new.waiting
     after piece new.told status takes.stops))
