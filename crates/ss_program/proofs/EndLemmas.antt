@@ -38,7 +38,8 @@ module _ (T : Type 0) (error : OpenError) {old new : DiskView} {before after : O
     (counted : Counted (verdict_of_opening {T = T} (Err error)) old.faults new.faults) (opens : IsTrue old.tells → OpensAs old.told.content (Err error))
     (reads : IsTrue old.tells → IsRefusedContent old.told.content → OnlyReads old.told new.told) (said : AsRefused error before after had has) where
   Ends-refused : (found : Recovered) (line : List ℕ) → refusal_line found ≡ Some line →
-      (IsTrue old.tells → refusal_line (recover old.told.content) ≡ Some line) → SaysLine line before after had has → status_of_open error ≡ RefusedStore → new.faults ≡ old.faults →
+      (IsTrue old.tells → refusal_line (recover old.told.content) ≡ Some line) → SaysLine line before after had has →
+      status_of_open error ≡ RefusedStore → new.faults ≡ old.faults →
       Ends (over old before had) (over new after has) RefusedStore
   Ends-refused found line is_found is_line says status still =
       let refused = λ (told : IsTrue old.tells). subst (λ o. IsSome o) (sym (is_line told)) refl in
