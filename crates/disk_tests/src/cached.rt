@@ -10,8 +10,9 @@ mod rows;
 mod staged;
 
 use crate::journal::files::{File, bytes_of, disk_of};
+use crate::journal::runs;
 use crate::passing::pass;
-use crate::reading::read;
+use crate::reading::{open, read};
 use ss_journal::{Journal, JournalError, MOST_SLOTS, PAGE_SLOTS, Put, SLOT_SIZE, Txn};
 use ss_outside::{Disk, Failed, MemDisk};
 use ss_records::Records;
@@ -21,22 +22,23 @@ use std::test::Fail;
 // A slot, and the byte that fills it.
 type Fill = (u32, u8);
 
-// One put, if it fits the extent.
-fn txn_of(fill: Fill, extent: u32) -> Option<Txn>
+// The put, if there is one and it fits the extent.
+fn txn_of(fill: Option<Fill>, extent: u32) -> Option<Txn>
     ensures { IfSome result (λ txn. IsTxn txn.items × IsTrue (slots_fit txn.items extent)) }
 {
-    if fill.0 >= MOST_SLOTS || fill.0 > extent {
+    let (slot, byte) = fill?;
+    if slot >= MOST_SLOTS || slot > extent {
         return None;
     }
     let mut txn = Txn::new();
     txn.push(Put {
-        slot: fill.0,
-        bytes: [fill.1; SLOT_SIZE],
+        slot,
+        bytes: [byte; SLOT_SIZE],
     });
     Some(txn)
 }
 
-fn put<D: Disk>(records: &mut Records, disk: &mut D, fill: Fill) -> Result<(), Failed>
+fn put<D: Disk>(records: &mut Records, disk: &mut D, fill: Option<Fill>) -> Result<(), Failed>
     requires settled { AreAtRest records.old }
     requires one_disk { OfContent (D.seen disk.old) (AreKept records.old) }
     ensures settled { OnOk result (AreAtRest records.new) }
@@ -48,7 +50,7 @@ fn put<D: Disk>(records: &mut Records, disk: &mut D, fill: Fill) -> Result<(), F
     }
 }
 
-fn commit<D: Disk>(journal: &mut Journal, disk: &mut D, fill: Fill) -> Result<(), Failed>
+fn commit<D: Disk>(journal: &mut Journal, disk: &mut D, fill: Option<Fill>) -> Result<(), Failed>
     requires settled { IsSettled journal.old }
     requires one_disk { OfContent (D.seen disk.old) (IsKept journal.old) }
     ensures settled { OnOk result (IsSettled journal.new) }
@@ -56,8 +58,7 @@ fn commit<D: Disk>(journal: &mut Journal, disk: &mut D, fill: Fill) -> Result<()
 {
     match txn_of(fill, journal.extent()) {
         Some(txn) => {
-            journal.make_room(disk)?;
-            journal.stage(&txn);
+            runs::stage(journal, disk, &txn)?;
             journal.seal(disk)
         }
         None => Ok(()),
@@ -68,18 +69,9 @@ fn settled<D: Disk>(alloc: Global, disk: &mut D) -> Result<Records, JournalError
     ensures settled { IfOk result AreAtRest }
     ensures one_disk { OfContent (D.seen disk.new) (λ content. IfOk result (λ records. AreKept records content)) }
 {
-    let mut records = Records::open(alloc, disk)?;
+    let mut records = open(alloc, disk)?;
     records.settle(disk)?;
     Ok(records)
-}
-
-fn settled_journal<D: Disk>(alloc: Global, disk: &mut D) -> Result<Journal, JournalError>
-    ensures settled { IfOk result (λ journal. IsSettled journal) }
-    ensures one_disk { OfContent (D.seen disk.new) (λ content. IfOk result (λ journal. IsKept journal content)) }
-{
-    let mut journal = Journal::open(alloc, disk)?;
-    journal.settle(disk)?;
-    Ok(journal)
 }
 
 // How many slots the file has: 70 pages, and a page of ten slots.
@@ -108,7 +100,7 @@ fn is_same<D: Disk>(
     journal: &mut Journal,
     other: &mut D,
     slot: u32,
-) -> Result<bool, Failed>
+) -> Result<bool, JournalError>
     requires slot { slot < MOST_SLOTS }
     requires settled { AreAtRest records.old × IsSettled journal.old }
     requires one_disk { OfContent (D.seen disk.old) (AreKept records.old) }
@@ -122,15 +114,25 @@ fn is_same<D: Disk>(
     Ok(first == second)
 }
 
-// The same after a put into it.
+// What is put by step number k, which is about this slot: each third step puts.
+fn fill_at(k: u32, slot: u32) -> Option<Fill> {
+    if k % 3 == 0 {
+        Some((slot, (k % 256) as u8))
+    } else {
+        None
+    }
+}
+
+// Whether the slot reads the same after the put.
 fn is_same_after<D: Disk>(
     records: &mut Records,
     disk: &mut D,
     journal: &mut Journal,
     other: &mut D,
-    fill: Fill,
-) -> Result<bool, Failed>
-    requires slot { fill.0 < MOST_SLOTS }
+    slot: u32,
+    fill: Option<Fill>,
+) -> Result<bool, JournalError>
+    requires slot { slot < MOST_SLOTS }
     requires settled { AreAtRest records.old × IsSettled journal.old }
     requires one_disk { OfContent (D.seen disk.old) (AreKept records.old) }
     requires other_disk { OfContent (D.seen other.old) (IsKept journal.old) }
@@ -140,31 +142,7 @@ fn is_same_after<D: Disk>(
 {
     put(records, disk, fill)?;
     commit(journal, other, fill)?;
-    is_same(records, disk, journal, other, fill.0)
-}
-
-// Each third step puts first.
-fn takes<D: Disk>(
-    records: &mut Records,
-    disk: &mut D,
-    journal: &mut Journal,
-    other: &mut D,
-    k: u32,
-) -> Result<bool, Failed>
-    requires step { k < 300 }
-    requires settled { AreAtRest records.old × IsSettled journal.old }
-    requires one_disk { OfContent (D.seen disk.old) (AreKept records.old) }
-    requires other_disk { OfContent (D.seen other.old) (IsKept journal.old) }
-    ensures settled { OnOk result (AreAtRest records.new × IsSettled journal.new) }
-    ensures one_disk { OfContent (D.seen disk.new) (λ content. OnOk result (AreKept records.new content)) }
-    ensures other_disk { OfContent (D.seen other.new) (λ content. OnOk result (IsKept journal.new content)) }
-{
-    let slot = slot_at(k);
-    if k % 3 == 0 {
-        is_same_after(records, disk, journal, other, (slot, (k % 256) as u8))
-    } else {
-        is_same(records, disk, journal, other, slot)
-    }
+    is_same(records, disk, journal, other, slot)
 }
 
 // The first step at which another byte is read.
@@ -173,13 +151,14 @@ fn first_other<D: Disk>(
     disk: &mut D,
     journal: &mut Journal,
     other: &mut D,
-) -> Result<Option<usize>, Failed>
+) -> Result<Option<usize>, JournalError>
     requires settled { AreAtRest records.old × IsSettled journal.old }
     requires one_disk { OfContent (D.seen disk.old) (AreKept records.old) }
     requires other_disk { OfContent (D.seen other.old) (IsKept journal.old) }
 {
     for k in 0..300u32 {
-        if !takes(records, disk, journal, other, k)? {
+        let slot = slot_at(k);
+        if !is_same_after(records, disk, journal, other, slot, fill_at(k, slot))? {
             return Ok(Some(k as usize));
         }
     }
@@ -192,8 +171,8 @@ fn first_apart<D: Disk>(
     other: &mut D,
 ) -> Result<Option<usize>, JournalError> {
     let mut records = settled(alloc, disk)?;
-    let mut journal = settled_journal(alloc, other)?;
-    Ok(first_other(&mut records, disk, &mut journal, other)?)
+    let mut journal = runs::settled(alloc, other)?;
+    first_other(&mut records, disk, &mut journal, other)
 }
 
 // The same over two files of these bytes, or 300 if they differ at the end.
@@ -223,7 +202,7 @@ fn read_firsts<D: Disk>(
     records: &mut Records,
     disk: &mut D,
     pages: (u32, u32),
-) -> Result<(), Failed>
+) -> Result<(), JournalError>
     requires most { pages.1 ≤ 70 }
     requires running { IsRunning records.old.journal }
     requires one_disk { OfContent (D.seen disk.old) (AreKept records.old) }
@@ -237,7 +216,11 @@ fn read_firsts<D: Disk>(
 }
 
 // How many calls of the disk that takes.
-fn calls_of(records: &mut Records, disk: &mut MemDisk, pages: (u32, u32)) -> Result<u64, Failed>
+fn calls_of(
+    records: &mut Records,
+    disk: &mut MemDisk,
+    pages: (u32, u32),
+) -> Result<u64, JournalError>
     requires most { pages.1 ≤ 70 }
     requires running { IsRunning records.old.journal }
     requires one_disk { OfContent (view_of disk.old) (AreKept records.old) }
@@ -262,7 +245,10 @@ const ROUNDS: [((u32, u32), u64); 7] = [
     ((64, 65), 1),
 ];
 
-fn first_wrong_round(records: &mut Records, disk: &mut MemDisk) -> Result<Option<usize>, Failed>
+fn first_wrong_round(
+    records: &mut Records,
+    disk: &mut MemDisk,
+) -> Result<Option<usize>, JournalError>
     requires running { IsRunning records.old.journal }
     requires one_disk { OfContent (view_of disk.old) (AreKept records.old) }
 {
@@ -277,7 +263,7 @@ fn first_wrong_round(records: &mut Records, disk: &mut MemDisk) -> Result<Option
 
 fn first_wrong_of(alloc: Global, disk: &mut MemDisk) -> Result<Option<usize>, JournalError> {
     let mut records = settled(alloc, disk)?;
-    Ok(first_wrong_round(&mut records, disk)?)
+    first_wrong_round(&mut records, disk)
 }
 
 fn first_round(alloc: Global) -> Result<Option<usize>, JournalError> {

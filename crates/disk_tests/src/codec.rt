@@ -277,10 +277,15 @@ fn text_of(alloc: Global, record: &Record) -> Result<String, AllocError> {
     }
 }
 
+fn has_text(alloc: Global, record: &Record, text: &str) -> Result<bool, AllocError> {
+    let said = text_of(alloc, record)?;
+    Ok(said.as_str() == text)
+}
+
 // Whether a row's slot has the record of its text, and is how this is spelled.
 fn is_so(alloc: Global, row: &Row) -> Result<bool, AllocError> {
     match read(&slot(row.bytes)) {
-        Some((record, true)) => Ok(text_of(alloc, &record)?.as_str() == row.text),
+        Some((record, true)) => has_text(alloc, &record, row.text),
         _ => Ok(false),
     }
 }

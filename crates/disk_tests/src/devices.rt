@@ -46,8 +46,15 @@ fn gives_in_pieces(alloc: Global, length: usize, piece: usize) -> Result<bool, J
     requires length { length ≤ 10 }
 {
     let mut source = source_of(alloc, &BYTES[..length], piece)?;
-    let mut steady = SteadySource::new(BYTES[..length].to_vec(alloc)?, piece);
-    Ok(gives(&mut source, length)? && gives(&mut steady, length)?)
+    gives(&mut source, length)
+}
+
+fn gives_steadily(alloc: Global, length: usize, piece: usize) -> Result<bool, JournalError>
+    requires piece { 0 < piece }
+    requires length { length ≤ 10 }
+{
+    let mut source = SteadySource::new(BYTES[..length].to_vec(alloc)?, piece);
+    gives(&mut source, length)
 }
 
 // The first length and piece, of three pieces for each of ten lengths, with which not all is given in order.
@@ -58,7 +65,8 @@ fn first_wrong(alloc: Global) -> Result<Option<usize>, JournalError> {
             1 => 3,
             _ => 4096,
         };
-        if !gives_in_pieces(alloc, 1 + n / 3, piece)? {
+        let length = 1 + n / 3;
+        if !gives_in_pieces(alloc, length, piece)? || !gives_steadily(alloc, length, piece)? {
             return Ok(Some(n));
         }
     }

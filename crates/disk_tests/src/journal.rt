@@ -4,5 +4,5 @@ pub mod files;
 mod groups;
 mod opening;
 mod pages;
-mod runs;
+pub mod runs;
 mod stops;

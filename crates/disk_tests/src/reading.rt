@@ -1,18 +1,16 @@
-// Reading a slot of records, where nothing is counted.
-ghost use Rattle.std.specs.Prelude.{◌≡◌, ◌<◌, OnOk};
+// Opening records, and reading a slot of them, where nothing is counted. What a step of the disk means for them is said here once.
+ghost use Rattle.std.specs.Prelude.{◌≡◌, ◌<◌, IfOk, OnOk};
 ghost use Rattle.ss_outside.specs.Disk.{OfContent};
-ghost use Rattle.ss_outside.specs.Step.{Step};
-ghost use Rattle.ss_outside.specs.Verdict.{verdict};
-ghost use Rattle.ss_journal.specs.Kept.{IsRunning};
+ghost use Rattle.ss_journal.specs.Kept.{IsRunning, IsSealed};
 ghost use Rattle.ss_journal.specs.declared.format.TheConstants.{MOST_SLOTS};
-ghost use Rattle.ss_records.specs.Calls.{ReadsRecord};
 ghost use Rattle.ss_records.specs.Kept.{AreKept};
 ghost use Rattle.ss_steps.specs.Steps.{IsFresh};
 
-use ss_journal::SLOT_SIZE;
+use ss_journal::{JournalError, SLOT_SIZE};
 use ss_outside::{Disk, Failed};
 use ss_records::Records;
 use ss_steps::Steps;
+use std::alloc::Global;
 use std::marker::Brand;
 use std::sync::ledger::{Blank, Ledger};
 
@@ -26,14 +24,23 @@ fn read_with<D: Disk, L: Ledger>(
     requires running { IsRunning records.old.journal }
     requires slot { slot < MOST_SLOTS }
     requires one_disk { OfContent (D.seen disk.old) (AreKept records.old) }
-    ensures reads { Step (verdict result) (D.seen disk.old) (D.seen disk.new) (ReadsRecord records.old records.new slot result) }
+    ensures one_disk { OfContent (D.seen disk.new) (λ content. OnOk result (AreKept records.new content)) }
     ensures journal { OnOk result (records.new.journal ≡ records.old.journal) }
     ensures live { records.new.live ≡ records.old.live }
 {
     records.read(disk, slot, &mut Steps::<L>::new(blank))
 }
 
-// The bytes of a slot.
+/// Opens records.
+pub fn open<D: Disk>(alloc: Global, disk: &mut D) -> Result<Records, JournalError>
+    ensures running { IfOk result (λ records. IsRunning records.journal) }
+    ensures sealed { IfOk result (λ records. IsSealed records.journal) }
+    ensures one_disk { OfContent (D.seen disk.new) (λ content. IfOk result (λ records. AreKept records content)) }
+{
+    Records::open(alloc, disk)
+}
+
+/// The bytes of a slot.
 pub fn read<D: Disk>(
     records: &mut Records,
     disk: &mut D,
@@ -42,7 +49,7 @@ pub fn read<D: Disk>(
     requires running { IsRunning records.old.journal }
     requires slot { slot < MOST_SLOTS }
     requires one_disk { OfContent (D.seen disk.old) (AreKept records.old) }
-    ensures reads { Step (verdict result) (D.seen disk.old) (D.seen disk.new) (ReadsRecord records.old records.new slot result) }
+    ensures one_disk { OfContent (D.seen disk.new) (λ content. OnOk result (AreKept records.new content)) }
     ensures journal { OnOk result (records.new.journal ≡ records.old.journal) }
     ensures live { records.new.live ≡ records.old.live }
 {

@@ -7,7 +7,7 @@ ghost use Rattle.ss_records.specs.Kept.{AreAtRest, AreKept};
 
 use crate::journal::files::{File, Map, disk_of, disk_with};
 use crate::passing::{pass, pass_if};
-use crate::reading::read;
+use crate::reading::{open, read};
 use ss_journal::{JournalError, Put, SLOT_SIZE, Txn};
 use ss_outside::{Disk, Failed, MemDisk};
 use ss_records::Records;
@@ -114,7 +114,7 @@ fn first_wrong_step<D: Disk>(
 }
 
 fn first_wrong<D: Disk>(alloc: Global, disk: &mut D) -> Result<Option<usize>, JournalError> {
-    let mut records = Records::open(alloc, disk)?;
+    let mut records = open(alloc, disk)?;
     first_wrong_step(&mut records, disk)
 }
 
@@ -131,7 +131,7 @@ fn is_left<D: Disk>(records: &mut Records, disk: &mut D, slot: u8, byte: u8) -> 
 
 // The same after opening again.
 fn is_found<D: Disk>(alloc: Global, disk: &mut D, slot: u8, byte: u8) -> bool {
-    match Records::open(alloc, disk) {
+    match open(alloc, disk) {
         Ok(mut records) => is_left(&mut records, disk, slot, byte),
         Err(_) => false,
     }
@@ -166,7 +166,7 @@ const OPENINGS: [Opening; 5] = [
 ];
 
 fn opens_with<D: Disk>(alloc: Global, disk: &mut D, seen: Seen) -> Result<bool, JournalError> {
-    let records = Records::open(alloc, disk)?;
+    let records = open(alloc, disk)?;
     Ok(is_seen(&records, seen))
 }
 

@@ -2,13 +2,13 @@
 ghost use Rattle.std.specs.Prelude.{◌≡◌, ◌<◌, OnOk};
 ghost use Rattle.ss_outside.specs.Disk.{OfContent};
 ghost use Rattle.ss_outside.specs.MemDisk.{view_of};
-ghost use Rattle.ss_journal.specs.Kept.{IsRunning};
+ghost use Rattle.ss_journal.specs.Kept.{IsRunning, IsSealed};
 ghost use Rattle.ss_records.specs.Kept.{AreAtRest, AreKept};
 
 use super::{Fill, put};
 use crate::journal::files::{File, bytes_of, disk_of};
 use crate::passing::{pass, pass_if};
-use crate::reading::read;
+use crate::reading::{open, read};
 use ss_journal::{JournalError, MOST_SLOTS, SLOT_SIZE};
 use ss_outside::{Failed, MemDisk};
 use ss_records::Records;
@@ -78,7 +78,7 @@ const ROWS: [Row; 5] = [
 ];
 
 // Whether a slot reads as the row says, by so many calls.
-pub fn is_seen(records: &mut Records, disk: &mut MemDisk, seen: Seen) -> Result<bool, Failed>
+pub fn is_seen(records: &mut Records, disk: &mut MemDisk, seen: Seen) -> Result<bool, JournalError>
     requires running { IsRunning records.old.journal }
     requires one_disk { OfContent (view_of disk.old) (AreKept records.old) }
     ensures journal { OnOk result (records.new.journal ≡ records.old.journal) }
@@ -90,19 +90,21 @@ pub fn is_seen(records: &mut Records, disk: &mut MemDisk, seen: Seen) -> Result<
     Ok(bytes == [byte; SLOT_SIZE] && disk.calls().wrapping_sub(before) == calls)
 }
 
-fn takes(records: &mut Records, disk: &mut MemDisk, step: Step) -> Result<bool, Failed>
+fn takes(records: &mut Records, disk: &mut MemDisk, step: Step) -> Result<bool, JournalError>
     requires settled { AreAtRest records.old }
     requires one_disk { OfContent (view_of disk.old) (AreKept records.old) }
     ensures settled { OnOk result (AreAtRest records.new) }
     ensures one_disk { OfContent (view_of disk.new) (λ content. OnOk result (AreKept records.new content)) }
 {
-    if let Some(fill) = step.0 {
-        put(records, disk, fill)?;
-    }
+    put(records, disk, step.0)?;
     is_seen(records, disk, step.1)
 }
 
-pub fn are_seen(records: &mut Records, disk: &mut MemDisk, seen: &[Seen]) -> Result<bool, Failed>
+pub fn are_seen(
+    records: &mut Records,
+    disk: &mut MemDisk,
+    seen: &[Seen],
+) -> Result<bool, JournalError>
     requires running { IsRunning records.old.journal }
     requires one_disk { OfContent (view_of disk.old) (AreKept records.old) }
     ensures journal { OnOk result (records.new.journal ≡ records.old.journal) }
@@ -115,7 +117,11 @@ pub fn are_seen(records: &mut Records, disk: &mut MemDisk, seen: &[Seen]) -> Res
     Ok(all)
 }
 
-fn are_taken(records: &mut Records, disk: &mut MemDisk, steps: &[Step]) -> Result<bool, Failed>
+fn are_taken(
+    records: &mut Records,
+    disk: &mut MemDisk,
+    steps: &[Step],
+) -> Result<bool, JournalError>
     requires settled { AreAtRest records.old }
     requires one_disk { OfContent (view_of disk.old) (AreKept records.old) }
 {
@@ -127,11 +133,19 @@ fn are_taken(records: &mut Records, disk: &mut MemDisk, steps: &[Step]) -> Resul
     Ok(true)
 }
 
-fn goes(alloc: Global, disk: &mut MemDisk, row: &Row) -> Result<bool, JournalError> {
-    let mut records = Records::open(alloc, disk)?;
-    let seen = are_seen(&mut records, disk, row.2)?;
+fn goes_on(records: &mut Records, disk: &mut MemDisk, row: &Row) -> Result<bool, JournalError>
+    requires running { IsRunning records.old.journal }
+    requires sealed { IsSealed records.old.journal }
+    requires one_disk { OfContent (view_of disk.old) (AreKept records.old) }
+{
+    let seen = are_seen(records, disk, row.2)?;
     records.settle(disk)?;
-    Ok(seen && are_taken(&mut records, disk, row.3)?)
+    Ok(seen && are_taken(records, disk, row.3)?)
+}
+
+fn goes(alloc: Global, disk: &mut MemDisk, row: &Row) -> Result<bool, JournalError> {
+    let mut records = open(alloc, disk)?;
+    goes_on(&mut records, disk, row)
 }
 
 fn is_so(alloc: Global, bytes: &[u8], row: &Row) -> Result<bool, JournalError> {
@@ -169,16 +183,27 @@ fn fail_next(alloc: Global, records: &Records, disk: &mut MemDisk) -> Result<(),
 }
 
 // Whether a read fails then.
+fn read_fails(
+    alloc: Global,
+    records: &mut Records,
+    disk: &mut MemDisk,
+) -> Result<bool, JournalError>
+    requires running { IsRunning records.old.journal }
+    requires one_disk { OfContent (view_of disk.old) (AreKept records.old) }
+{
+    fail_next(alloc, records, disk)?;
+    Ok(matches!(read(records, disk, 0), Err(Failed)))
+}
+
 fn fails(alloc: Global, disk: &mut MemDisk) -> Result<bool, JournalError> {
-    let mut records = Records::open(alloc, disk)?;
-    fail_next(alloc, &records, disk)?;
-    Ok(matches!(read(&mut records, disk, 0), Err(Failed)))
+    let mut records = open(alloc, disk)?;
+    read_fails(alloc, &mut records, disk)
 }
 
 // Whether the same slot is read by one call after it.
 fn is_read_again(alloc: Global, disk: &mut MemDisk) -> Result<bool, JournalError> {
-    let mut records = Records::open(alloc, disk)?;
-    Ok(is_seen(&mut records, disk, ((0, 3), 1))?)
+    let mut records = open(alloc, disk)?;
+    is_seen(&mut records, disk, ((0, 3), 1))
 }
 
 fn recovers(alloc: Global) -> Result<bool, JournalError> {

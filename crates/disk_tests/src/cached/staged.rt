@@ -9,6 +9,7 @@ use super::rows::{Seen, are_seen, is_seen};
 use super::{Fill, settled, txn_of};
 use crate::journal::files::{File, bytes_of, disk_of};
 use crate::passing::pass;
+use crate::reading::open;
 use ss_journal::JournalError;
 use ss_outside::{Failed, MemDisk};
 use ss_records::Records;
@@ -108,13 +109,13 @@ fn stage(records: &mut Records, disk: &mut MemDisk, fill: Fill) -> Result<(), Fa
     ensures one_disk { OfContent (view_of disk.new) (λ content. OnOk result (AreKept records.new content)) }
 {
     records.make_room(disk)?;
-    if let Some(txn) = txn_of(fill, records.extent()) {
+    if let Some(txn) = txn_of(Some(fill), records.extent()) {
         records.stage(&txn);
     }
     Ok(())
 }
 
-fn stages(records: &mut Records, disk: &mut MemDisk, fill: Fill) -> Result<bool, Failed>
+fn stages(records: &mut Records, disk: &mut MemDisk, fill: Fill) -> Result<bool, JournalError>
     requires settled { IsSettled records.old.journal }
     requires one_disk { OfContent (view_of disk.old) (AreKept records.old) }
     ensures settled { OnOk result (IsSettled records.new.journal) }
@@ -125,7 +126,7 @@ fn stages(records: &mut Records, disk: &mut MemDisk, fill: Fill) -> Result<bool,
     Ok(disk.calls() == before)
 }
 
-fn seals(records: &mut Records, disk: &mut MemDisk, calls: u64) -> Result<bool, Failed>
+fn seals(records: &mut Records, disk: &mut MemDisk, calls: u64) -> Result<bool, JournalError>
     requires settled { IsSettled records.old.journal }
     requires one_disk { OfContent (view_of disk.old) (AreKept records.old) }
     ensures settled { OnOk result (IsSettled records.new.journal) }
@@ -136,7 +137,7 @@ fn seals(records: &mut Records, disk: &mut MemDisk, calls: u64) -> Result<bool, 
     Ok(disk.calls().wrapping_sub(before) == calls)
 }
 
-fn takes(records: &mut Records, disk: &mut MemDisk, step: Step) -> Result<bool, Failed>
+fn takes(records: &mut Records, disk: &mut MemDisk, step: Step) -> Result<bool, JournalError>
     requires settled { IsSettled records.old.journal }
     requires one_disk { OfContent (view_of disk.old) (AreKept records.old) }
     ensures settled { OnOk result (IsSettled records.new.journal) }
@@ -149,7 +150,11 @@ fn takes(records: &mut Records, disk: &mut MemDisk, step: Step) -> Result<bool, 
     }
 }
 
-fn are_taken(records: &mut Records, disk: &mut MemDisk, steps: &[Step]) -> Result<bool, Failed>
+fn are_taken(
+    records: &mut Records,
+    disk: &mut MemDisk,
+    steps: &[Step],
+) -> Result<bool, JournalError>
     requires settled { IsSettled records.old.journal }
     requires one_disk { OfContent (view_of disk.old) (AreKept records.old) }
 {
@@ -163,12 +168,12 @@ fn are_taken(records: &mut Records, disk: &mut MemDisk, steps: &[Step]) -> Resul
 
 fn goes(alloc: Global, disk: &mut MemDisk, steps: &[Step]) -> Result<bool, JournalError> {
     let mut records = settled(alloc, disk)?;
-    Ok(are_taken(&mut records, disk, steps)?)
+    are_taken(&mut records, disk, steps)
 }
 
 fn is_found(alloc: Global, disk: &mut MemDisk, seen: &[Seen]) -> Result<bool, JournalError> {
-    let mut records = Records::open(alloc, disk)?;
-    Ok(are_seen(&mut records, disk, seen)?)
+    let mut records = open(alloc, disk)?;
+    are_seen(&mut records, disk, seen)
 }
 
 fn is_so(alloc: Global, disk: &mut MemDisk, row: &Row) -> Result<bool, JournalError> {

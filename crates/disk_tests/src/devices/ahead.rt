@@ -39,15 +39,22 @@ fn sync(disk: &mut MemDisk) -> Result<(), Failed>
     disk.sync()
 }
 
-fn put_two(alloc: Global) -> Result<bool, AllocError> {
+fn put_two(sink: &mut MemSink) -> Result<bool, AllocError> {
+    sink.reserve(2)?;
+    let put = put_listed(sink, &[1, 2]);
+    Ok(put == Ok(2) && sink.short() == 0)
+}
+
+fn put_two_steadily(sink: &mut SteadySink) -> Result<bool, AllocError> {
+    sink.reserve(2)?;
+    let put = put_steadily(sink, &[1, 2]);
+    Ok(put == Ok(2) && sink.short() == 0)
+}
+
+fn put_in_both(alloc: Global) -> bool {
     let mut sink = MemSink::new(alloc);
     let mut steady = SteadySink::new(alloc);
-    sink.reserve(2)?;
-    steady.reserve(2)?;
-    let put = put_listed(&mut sink, &[1, 2]);
-    let steadily = put_steadily(&mut steady, &[1, 2]);
-    let short = sink.short().max(steady.short());
-    Ok(put == Ok(2) && steadily == Ok(2) && short == 0)
+    put_two(&mut sink).unwrap_or(true) && put_two_steadily(&mut steady).unwrap_or(true)
 }
 
 fn write_one(alloc: Global) -> Result<bool, AllocError> {
@@ -66,9 +73,7 @@ fn sync_one(alloc: Global) -> Result<bool, AllocError> {
 
 // Passes with and without memory: run it with each allocation failing in turn.
 fn goes(alloc: Global) -> bool {
-    put_two(alloc).unwrap_or(true)
-        && write_one(alloc).unwrap_or(true)
-        && sync_one(alloc).unwrap_or(true)
+    put_in_both(alloc) && write_one(alloc).unwrap_or(true) && sync_one(alloc).unwrap_or(true)
 }
 
 #[test]

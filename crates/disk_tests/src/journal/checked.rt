@@ -1,6 +1,6 @@
 // Checked stores: which files become such, and what of damage they tell.
 use super::files::{File, disk_of, disk_with};
-use super::runs::{run, settled};
+use super::runs::{opened, run, settled};
 use crate::passing::{pass, pass_if};
 use ss_journal::{Journal, JournalError, Page, SLOT_SIZE, is_plain, make_checked};
 use ss_outside::{Disk, MemDisk};
@@ -66,7 +66,7 @@ fn last_of(bytes: &[u8; SLOT_SIZE]) -> [u8; 4] {
 
 // Those of the first slot, as they are read.
 fn last_bytes<D: Disk>(alloc: Global, disk: &mut D) -> Result<[u8; 4], JournalError> {
-    let mut journal = Journal::open(alloc, disk)?;
+    let mut journal = opened(alloc, disk)?;
     let bytes = journal.read(disk, 0)?;
     Ok(last_of(&bytes))
 }
@@ -135,7 +135,7 @@ fn a_bit_of_a_checked_slot_is_told(rt: HostRuntime) -> Result<(), Fail> {
 
 // The first page.
 fn page_of<D: Disk>(alloc: Global, disk: &mut D) -> Result<Page, JournalError> {
-    let mut journal = Journal::open(alloc, disk)?;
+    let mut journal = opened(alloc, disk)?;
     Ok(journal.read_page(disk, 0)?)
 }
 

@@ -1,6 +1,7 @@
 // Groups of transactions, which are staged in memory and come to the disk together.
 ghost use Rattle.std.specs.Prelude.{◌≤◌, IfOk, IfSome, IsTrue, OnOk};
 ghost use Rattle.ss_outside.specs.Disk.{OfContent};
+ghost use Rattle.ss_outside.specs.MemDisk.{view_of};
 ghost use Rattle.ss_journal.specs.Kept.{IsKept, IsSettled};
 ghost use Rattle.ss_journal.specs.Puts.{slots_fit, IsTxn};
 
@@ -116,7 +117,25 @@ fn take<D: Disk>(journal: &mut Journal, disk: &mut D, row: &Row, k: u32) -> Resu
     Ok(())
 }
 
-// A journal with the first transactions of a row.
+// Takes the first transactions of a row.
+fn take_first<D: Disk>(
+    journal: &mut Journal,
+    disk: &mut D,
+    row: &Row,
+    count: u32,
+) -> Result<(), JournalError>
+    requires settled { IsSettled journal.old }
+    requires one_disk { OfContent (D.seen disk.old) (IsKept journal.old) }
+    ensures settled { OnOk result (IsSettled journal.new) }
+    ensures one_disk { OfContent (D.seen disk.new) (λ content. OnOk result (IsKept journal.new content)) }
+{
+    for k in 0..count {
+        take(journal, disk, row, k)?;
+    }
+    Ok(())
+}
+
+// A journal with them.
 fn staged<D: Disk>(
     alloc: Global,
     disk: &mut D,
@@ -127,29 +146,47 @@ fn staged<D: Disk>(
     ensures one_disk { OfContent (D.seen disk.new) (λ content. IfOk result (λ journal. IsKept journal content)) }
 {
     let mut journal = settled(alloc, disk)?;
-    for k in 0..count {
-        take(&mut journal, disk, row, k)?;
-    }
+    take_first(&mut journal, disk, row, count)?;
     Ok(journal)
+}
+
+fn seal<D: Disk>(journal: &mut Journal, disk: &mut D) -> Result<(), JournalError>
+    requires settled { IsSettled journal.old }
+    requires one_disk { OfContent (D.seen disk.old) (IsKept journal.old) }
+    ensures settled { OnOk result (IsSettled journal.new) }
+    ensures one_disk { OfContent (D.seen disk.new) (λ content. OnOk result (IsKept journal.new content)) }
+{
+    journal.seal(disk)?;
+    Ok(())
 }
 
 // Stages and seals a group.
 fn group<D: Disk>(alloc: Global, disk: &mut D, row: &Row) -> Result<(), JournalError> {
     let mut journal = staged(alloc, disk, row, row.1.saturating_add(row.2))?;
-    journal.seal(disk)?;
-    Ok(())
+    seal(&mut journal, disk)
 }
 
-// Whether the journal shows the map of a group before and after it is sealed.
+// Whether the journal shows a map before and after it is sealed.
+fn shows_map<D: Disk>(
+    journal: &mut Journal,
+    disk: &mut D,
+    map: Map<'_>,
+) -> Result<bool, JournalError>
+    requires settled { IsSettled journal.old }
+    requires one_disk { OfContent (D.seen disk.old) (IsKept journal.old) }
+{
+    let before = has(journal, disk, map)?;
+    seal(journal, disk)?;
+    let after = has(journal, disk, map)?;
+    Ok(before && after)
+}
+
+// Whether it shows the map of a group then.
 fn shows<D: Disk>(alloc: Global, disk: &mut D, row: &Row) -> Result<bool, JournalError> {
     let count = row.1.saturating_add(row.2);
     let bytes = bytes_after(row.0, count);
-    let map = &bytes[..used_after(row.0, count)];
     let mut journal = staged(alloc, disk, row, count)?;
-    let before = has(&mut journal, disk, map)?;
-    journal.seal(disk)?;
-    let after = has(&mut journal, disk, map)?;
-    Ok(before && after)
+    shows_map(&mut journal, disk, &bytes[..used_after(row.0, count)])
 }
 
 fn shows_its_map(alloc: Global, bytes: &[u8], row: &Row) -> Result<bool, JournalError> {
@@ -259,12 +296,23 @@ fn groups_are_stopped_at_each_call(rt: HostRuntime) -> Result<(), Fail> {
 }
 
 // How many syncs the sealing of such a group takes.
+fn syncs_to_seal(journal: &mut Journal, disk: &mut MemDisk) -> Result<u64, JournalError>
+    requires settled { IsSettled journal.old }
+    requires one_disk { OfContent (view_of disk.old) (IsKept journal.old) }
+{
+    let before = disk.syncs();
+    seal(journal, disk)?;
+    Ok(disk.syncs().saturating_sub(before))
+}
+
+fn syncs_on(alloc: Global, disk: &mut MemDisk, row: &Row) -> Result<u64, JournalError> {
+    let mut journal = staged(alloc, disk, row, row.1.saturating_add(row.2))?;
+    syncs_to_seal(&mut journal, disk)
+}
+
 fn syncs_of(alloc: Global, bytes: &[u8], row: &Row) -> Result<u64, JournalError> {
     let mut disk = disk_of(alloc, bytes)?;
-    let mut journal = staged(alloc, &mut disk, row, row.1.saturating_add(row.2))?;
-    let before = disk.syncs();
-    journal.seal(&mut disk)?;
-    Ok(disk.syncs().saturating_sub(before))
+    syncs_on(alloc, &mut disk, row)
 }
 
 fn first_slow(alloc: Global) -> Result<Option<usize>, JournalError> {

@@ -4,7 +4,7 @@ ghost use Rattle.ss_outside.specs.Disk.{OfContent};
 ghost use Rattle.ss_journal.specs.Kept.{IsKept, IsRunning};
 
 use super::files::{File, Map, byte_at, bytes_of, disk_of};
-use super::runs::settled;
+use super::runs::{opened, settled};
 use crate::passing::pass;
 use ss_journal::{Journal, JournalError, MOST_PAGES, PAGE_SLOTS, Page, SLOT_SIZE};
 use ss_outside::{Disk, MemDisk};
@@ -95,7 +95,7 @@ fn was_page<D: Disk>(
 ) -> Result<bool, JournalError>
     requires { page < MOST_PAGES }
 {
-    let mut journal = Journal::open(alloc, disk)?;
+    let mut journal = opened(alloc, disk)?;
     is_page(&mut journal, disk, page, map)
 }
 
@@ -117,7 +117,7 @@ fn stays_page<D: Disk>(
 fn calls_of(alloc: Global, disk: &mut MemDisk, page: u32) -> Result<u64, JournalError>
     requires { page < MOST_PAGES }
 {
-    let mut journal = Journal::open(alloc, disk)?;
+    let mut journal = opened(alloc, disk)?;
     let before = disk.calls();
     journal.read_page(disk, page)?;
     Ok(disk.calls().wrapping_sub(before))

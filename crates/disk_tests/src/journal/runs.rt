@@ -1,7 +1,7 @@
 // Runs of a journal, as rows of a table.
 ghost use Rattle.std.specs.Prelude.{◌≡◌, ◌<◌, IfOk, IsTrue, OnOk};
 ghost use Rattle.ss_outside.specs.Disk.{OfContent};
-ghost use Rattle.ss_journal.specs.Kept.{IsKept, IsSealed, IsSettled};
+ghost use Rattle.ss_journal.specs.Kept.{IsKept, IsRunning, IsSealed, IsSettled};
 ghost use Rattle.ss_journal.specs.Puts.{slots_fit, IsTxn};
 
 use super::files::{File, Map};
@@ -23,13 +23,22 @@ pub fn put_of(slot: u32, byte: u8) -> Put
     }
 }
 
+// Opens a journal. What a step of the disk means for it is said here once.
+pub fn opened<D: Disk>(alloc: Global, disk: &mut D) -> Result<Journal, JournalError>
+    ensures running { IfOk result (λ journal. IsRunning journal) }
+    ensures sealed { IfOk result (λ journal. IsSealed journal) }
+    ensures one_disk { OfContent (D.seen disk.new) (λ content. IfOk result (λ journal. IsKept journal content)) }
+{
+    Journal::open(alloc, disk)
+}
+
 // A journal that is opened and settled.
 pub fn settled<D: Disk>(alloc: Global, disk: &mut D) -> Result<Journal, JournalError>
     ensures settled { IfOk result (λ journal. IsSettled journal) }
     ensures sealed { IfOk result (λ journal. IsSealed journal) }
     ensures one_disk { OfContent (D.seen disk.new) (λ content. IfOk result (λ journal. IsKept journal content)) }
 {
-    let mut journal = Journal::open(alloc, disk)?;
+    let mut journal = opened(alloc, disk)?;
     journal.settle(disk)?;
     Ok(journal)
 }
