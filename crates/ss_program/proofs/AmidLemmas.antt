@@ -1,7 +1,7 @@
 -- Between two lines of a session: how it begins, how it goes on, and where a run stops.
 use Rattle.ss_program.proofs.Common.{◌≡◌, ℕ, ◌≤◌, ◌++◌, List, [], ◌∷◌, length, Option, Some, None, Result, Ok, Err, OnOk, refl, sym, ap, ◌∙◌, subst}
 use Rattle.ss_program.proofs.Common.{common_steps, append_assoc, arith, append-nil, length-append, at_start, joined, of_content, weaker, KnowsNow, LeavesOnly}
-use Rattle.ss_program.proofs.Common.{DiskView, NothingPending, Told, shown_by, Cursors, Amid, AreOwed, GoesAmid, HasRoom, IsAmid, IsAtRest, Takes, TakesNone}
+use Rattle.ss_program.proofs.Common.{DiskView, NothingPending, Told, shown_by, Cursors, Amid, AreOwed, GoesAmid, IsAmid, IsAtRest, Takes, TakesNone}
 use Rattle.ss_program.proofs.Common.{one_more, owed_by, IsOpen, NoneWait, SessionState, StandsBeyond, StandsWithin, StopsIn, sealing_by, HoldsTalk, appended}
 use Rattle.ss_program.proofs.Common.{after_lines, text_of, Talk, Sealing, Each, Shared, Status}
 use Rattle.ss_program.proofs.SessionLemmas.{after_lines-append, moments-more, text_of-append}
@@ -31,10 +31,6 @@ pub IsAtRest-ok : (result : Result (Unit {0}) Status) (disk : DiskView) (session
     OnOk result (NoneWait session.waiting) → OnOk result (IsAtRest disk session)
 IsAtRest-ok (Ok u) disk session can_be_called none = record { is_open = can_be_called; unsaid = none }
 IsAtRest-ok (Err status) disk session can_be_called none = tt
-
-pub HasRoom-none : (waiting : Option (List ℕ)) → NoneWait waiting → HasRoom waiting
-HasRoom-none None none = tt
-HasRoom-none (Some replies) none = let short = ap (λ (r : List ℕ). length r) none in omega (arith, short)
 
 -- an image of some first lines of the rest is one of some first lines of all
 StandsWithin-out : (talk : Talk) (out rest : List (List ℕ)) (image : List ℕ) → StandsWithin (after_lines talk out) rest image →
