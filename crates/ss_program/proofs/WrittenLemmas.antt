@@ -4,7 +4,7 @@ use Rattle.ss_program.proofs.Common.{common_steps, Windows, FrameState, IsHistor
 use Rattle.ss_program.proofs.Common.{AllAgree-recovered, StoreIsIn, StoreState, Stands, Amid, Owed, TakesTurn, amid, History, due_brings, event_in}
 use Rattle.ss_program.proofs.Common.{frame_brings, after_lines, Talk, Turn, event_turn, meant_turn, silent, turn_brought, Status}
 use Rattle.ss_command.specs.declared.command.Command.TheVariants.{Series as AskRows, List as ListAll}
-use Rattle.ss_recover.specs.Held.{AllAgree}
+use Rattle.ss_parts.specs.Held.{AllAgree}
 
 -- a command that asks for an event brings its frame
 pub meant-event : (talk : Talk) (command : Command) (event : Event) → Some event ≡ event_in command →

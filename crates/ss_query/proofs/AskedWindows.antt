@@ -20,8 +20,8 @@ use Rattle.ss_outside.specs.Crash.{OnlyReads}
 use Rattle.ss_outside.specs.Disk.{DiskView, OfContent, Told}
 use Rattle.ss_outside.specs.Step.{Step}
 use Rattle.ss_outside.specs.Verdict.{IfChanged, fine}
-use Rattle.ss_recover.specs.Held.{entries_of, span_held, span_of, window_record}
-use Rattle.ss_recover.specs.declared.parts.StreamParts.{StreamParts}
+use Rattle.ss_parts.specs.Held.{entries_of, span_held, span_of, window_record}
+use Rattle.ss_parts.specs.declared.parts.StreamParts.{StreamParts}
 use Rattle.ss_journal.specs.Kept.{JournalState, shown}
 use Rattle.ss_records.specs.Kept.{AreKept, RecordsState, shown_by}
 use Rattle.ss_query.specs.Answered.{BeginsAt, IsSeenAs, SeesEntry, SeesStream}

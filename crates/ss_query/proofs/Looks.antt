@@ -11,7 +11,7 @@ use Rattle.ss_line.specs.Line.{IsLine, LineState, entry_at, index_of, place_at}
 use Rattle.ss_line.specs.declared.entry.At.{At}
 use Rattle.ss_line.specs.declared.entry.Entry.{Entry}
 use Rattle.ss_line.proofs.Places.{none-first, place_at-seam}
-use Rattle.ss_recover.specs.declared.parts.StreamParts.{StreamParts}
+use Rattle.ss_parts.specs.declared.parts.StreamParts.{StreamParts}
 use Rattle.ss_query.specs.Answered.{BeginsNear, begun_in}
 use Rattle.ss_query.specs.declared.asking.Seen.{Seen}
 use Rattle.ss_query.proofs.NextWindow.{IsWalkedTo, after, moved-here, next-here, rest-here}

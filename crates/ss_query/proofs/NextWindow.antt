@@ -26,8 +26,8 @@ use Rattle.ss_model.specs.State.{Stream}
 use Rattle.ss_model.specs.declared.types.Window.{Window}
 use Rattle.ss_model.specs.Interval.{is_apart}
 use Rattle.ss_model.specs.Marks.{lies_free}
-use Rattle.ss_recover.specs.Held.{entries_of, marks_held, records_held, span_held, span_of, stream_record, times_held, times_of, window_record}
-use Rattle.ss_recover.specs.declared.parts.StreamParts.{StreamParts}
+use Rattle.ss_parts.specs.Held.{entries_of, marks_held, records_held, span_held, span_of, stream_record, times_held, times_of, window_record}
+use Rattle.ss_parts.specs.declared.parts.StreamParts.{StreamParts}
 use Rattle.ss_summary.specs.declared.summary.TheConstants.{GREATEST_COUNT}
 use Rattle.ss_query.specs.Answered.{window_slots_of}
 use Rattle.ss_query.specs.Asked.{Follows, HasCuts, HasRoom, marks_seen, seen_after, seen_with}

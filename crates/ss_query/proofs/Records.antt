@@ -15,8 +15,8 @@ use Rattle.ss_line.specs.declared.entry.Entry.{Entry}
 use Rattle.ss_summary.specs.Figures.{Figures}
 use Rattle.ss_model.specs.Marks.{lies_free}
 use Rattle.ss_model.specs.declared.types.Window.{Window}
-use Rattle.ss_recover.specs.Held.{occupied, span_held, span_of, window_record}
-use Rattle.ss_recover.proofs.WholeSlots.{HasWholeSlots-StandsFor, occupied-same}
+use Rattle.ss_parts.specs.Held.{occupied, span_held, span_of, window_record}
+use Rattle.ss_parts.proofs.WholeMaps.{HasWholeSlots-StandsFor, occupied-same}
 use Rattle.ss_query.specs.Slots.{HasRecords}
 
 -- the order of the records says nothing

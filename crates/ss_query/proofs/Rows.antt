@@ -20,8 +20,8 @@ use Rattle.ss_model.specs.declared.outcome.Outcome.TheVariants.{Count, Has, Sum}
 use Rattle.ss_model.specs.declared.outcome.Presence.TheVariants.{Absent, Maybe, Present}
 use Rattle.ss_model.specs.declared.types.Window.{Window}
 use Rattle.ss_records.specs.Kept.{AreKept, RecordsState}
-use Rattle.ss_recover.specs.Held.{entries_of}
-use Rattle.ss_recover.specs.declared.parts.StreamParts.{StreamParts}
+use Rattle.ss_parts.specs.Held.{entries_of}
+use Rattle.ss_parts.specs.declared.parts.StreamParts.{StreamParts}
 use Rattle.ss_summary.specs.Figures.{Figures}
 use Rattle.ss_summary.specs.Filters.{bit_of, filter_of, has, union}
 use Rattle.ss_query.specs.Answered.{AnswersStream, BeginsAt, BeginsNear, IsAnswered, IsSeenAs, SeesStream, begun_in, window_slots_of}

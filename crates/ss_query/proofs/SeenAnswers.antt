@@ -8,7 +8,7 @@ use Rattle.ss_outside.specs.Disk.{DiskView}
 use Rattle.ss_outside.specs.Step.{Step}
 use Rattle.ss_outside.specs.Verdict.{UnlessFailed, fine}
 use Rattle.ss_records.specs.Kept.{AreKept, RecordsState}
-use Rattle.ss_recover.specs.declared.parts.StreamParts.{StreamParts}
+use Rattle.ss_parts.specs.declared.parts.StreamParts.{StreamParts}
 use Rattle.ss_query.specs.Answered.{AnswersStream, IsAnswered, IsSeenAs, SeesStream}
 use Rattle.ss_query.specs.Asked.{outcome_seen, seen_of}
 use Rattle.ss_query.specs.Reading.{verdict_of_read}

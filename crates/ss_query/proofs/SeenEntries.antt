@@ -12,8 +12,8 @@ use Rattle.ss_outside.specs.Disk.{DiskView}
 use Rattle.ss_outside.specs.Step.{Step}
 use Rattle.ss_outside.specs.Verdict.{UnlessFailed, changed, fine}
 use Rattle.ss_records.specs.Kept.{AreKept, RecordsState}
-use Rattle.ss_recover.specs.Held.{span_held, span_of}
-use Rattle.ss_recover.specs.declared.parts.StreamParts.{StreamParts}
+use Rattle.ss_parts.specs.Held.{span_held, span_of}
+use Rattle.ss_parts.specs.declared.parts.StreamParts.{StreamParts}
 use Rattle.ss_summary.specs.Figures.{Figures}
 use Rattle.ss_query.specs.Answered.{IsSeenAs, SeesEntry}
 use Rattle.ss_query.specs.Asked.{Follows, seen_after, seen_with}

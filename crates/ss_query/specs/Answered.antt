@@ -14,8 +14,8 @@ use Rattle.ss_model.specs.Marks.{lies_free}
 use Rattle.ss_model.specs.State.{Stream}
 use Rattle.ss_model.specs.declared.outcome.Outcome.{Outcome}
 use Rattle.ss_model.specs.declared.types.Window.{Window}
-use Rattle.ss_recover.specs.Held.{entries_of, span_held, span_of, times_held, times_of, window_record}
-use Rattle.ss_recover.specs.declared.parts.StreamParts.{StreamParts}
+use Rattle.ss_parts.specs.Held.{entries_of, span_held, span_of, times_held, times_of, window_record}
+use Rattle.ss_parts.specs.declared.parts.StreamParts.{StreamParts}
 use Rattle.ss_query.specs.Asked.{Follows, seen_after, seen_of}
 use Rattle.ss_query.specs.Held.{IsHeldIn}
 use Rattle.ss_query.specs.Slots.{HasRecords}

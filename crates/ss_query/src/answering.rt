@@ -14,8 +14,8 @@ ghost use Rattle.ss_query.specs.Reading.{KeepsRecords, verdict_of_read};
 use crate::{Outcome, ReadError, outcome_seen, see_from};
 use ss_catalog::Query;
 use ss_outside::Disk;
+use ss_parts::StreamParts;
 use ss_records::Records;
-use ss_recover::StreamParts;
 use ss_steps::Steps;
 use std::sync::ledger::Ledger;
 

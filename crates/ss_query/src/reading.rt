@@ -9,7 +9,7 @@ ghost use Rattle.ss_records.specs.Kept.{AreKept};
 ghost use Rattle.ss_codec.specs.declared.record.Record.{Record};
 ghost use Rattle.ss_model.specs.Marks.{lies_free};
 ghost use Rattle.ss_model.specs.declared.types.Window.{Window};
-ghost use Rattle.ss_recover.specs.Held.{span_held, span_of, times_held, times_of, window_record};
+ghost use Rattle.ss_parts.specs.Held.{span_held, span_of, times_held, times_of, window_record};
 ghost use Rattle.ss_query.specs.Reading.{IsWindowOf, KeepsRecords, ReadsWindow, verdict_of_read};
 
 use crate::ReadError;
@@ -18,8 +18,8 @@ use ss_codec::{Record, decode};
 use ss_line::Entry;
 use ss_model::Window;
 use ss_outside::Disk;
+use ss_parts::{StreamParts, lies_free};
 use ss_records::Records;
-use ss_recover::{StreamParts, lies_free};
 use ss_steps::Steps;
 use ss_summary::Summary;
 use std::sync::ledger::Ledger;

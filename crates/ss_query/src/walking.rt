@@ -17,8 +17,8 @@ use ss_catalog::Query;
 use ss_line::{At, Entry};
 use ss_model::Window;
 use ss_outside::Disk;
+use ss_parts::StreamParts;
 use ss_records::Records;
-use ss_recover::StreamParts;
 use ss_steps::Steps;
 use std::sync::ledger::Ledger;
 

@@ -46,10 +46,10 @@ pub use Rattle.ss_recover.specs.Conditions.{has_new_name, has_one_record, has_pl
 pub use Rattle.ss_recover.specs.Conditions.{tile, tile_from, times_rise}
 pub use Rattle.ss_recover.specs.Doomed.{doomed_among, doomed_slots, GoInTurn, is_doomed, is_of, is_own, may_go, records_beside, without_numbered}
 pub use Rattle.ss_recover.specs.Gathered.{AreFound, AreFoundBelow, AreGathered, below, FindsOut, GathersAs, IsLowestBad, SpellsNone}
-pub use Rattle.ss_recover.specs.Held.{Agrees, all_value_records, AllAgree, AreHeld, AreWhole, AreWholeBeside, EndByLast, entries_of, HasWholeSlots, in_slots}
-pub use Rattle.ss_recover.specs.Held.{IsRecord, landmark_record, landmark_records, mark_slots, marks_held, occupied, records_held, RiseToLast, slots_held}
-pub use Rattle.ss_recover.specs.Held.{span_held, span_of, stream_record, TileFrom, times_held, times_of, TimesRise, value_records, values_said, window_record}
-pub use Rattle.ss_recover.specs.Held.{window_slots, windows_held}
+pub use Rattle.ss_parts.specs.Held.{Agrees, all_value_records, AllAgree, AreHeld, AreWhole, AreWholeBeside, EndByLast, entries_of, HasWholeSlots, in_slots}
+pub use Rattle.ss_parts.specs.Held.{IsRecord, landmark_record, landmark_records, mark_slots, marks_held, occupied, records_held, RiseToLast, slots_held}
+pub use Rattle.ss_parts.specs.Held.{span_held, span_of, stream_record, TileFrom, times_held, times_of, TimesRise, value_records, values_said, window_record}
+pub use Rattle.ss_parts.specs.Held.{window_slots, windows_held}
 pub use Rattle.ss_recover.specs.Marked.{are_marks, has_all_values, has_said, is_closed_before, is_next_landmark, is_next_value, landmarks_in, landmarks_made}
 pub use Rattle.ss_recover.specs.Marked.{Marked, marked_by, marked_on, marked_with, nothing_marked}
 pub use Rattle.ss_recover.specs.Order.{found_key, key_of, place_of, Rises, stream_of}
@@ -68,7 +68,7 @@ pub use Rattle.ss_recover.specs.declared.gathering.Gathered.{Gathered}
 pub use Rattle.ss_recover.specs.declared.marking.Last.{Last}
 pub use Rattle.ss_recover.specs.declared.marking.Seen.{Seen}
 pub use Rattle.ss_recover.specs.declared.parts.Parts.{Parts}
-pub use Rattle.ss_recover.specs.declared.parts.StreamParts.{StreamParts}
+pub use Rattle.ss_parts.specs.declared.parts.StreamParts.{StreamParts}
 pub use Rattle.ss_recover.specs.declared.recover_error.RecoverError.{RecoverError}
 pub use Rattle.ss_recover.specs.declared.recover_error.RecoverError.TheVariants.{BadSlot, BadStream, Disk, OutOfMemory}
 pub use Rattle.ss_recover.specs.declared.walking.Walk.{Walk}

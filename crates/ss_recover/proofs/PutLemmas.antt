@@ -10,10 +10,7 @@ use Rattle.ss_recover.proofs.Lists.{all_weaker, range-above, range-below, range-
 use Rattle.ss_recover.proofs.Permutations.{IsPermutation-filter}
 use Rattle.std.specs.Str.{bytes_eq}
 use Rattle.ss_codec.specs.Record.{is_valid, spelling}
-
--- the slots of a list that aren't zeros, each with what it spells
-abbrev pub filled : (ℕ → List ℕ) → List ℕ → List (ℕ × Option Record)
-filled bytes slots = map (λ slot. (slot, decoded (bytes slot))) (filter (λ slot. not (are_zeros (bytes slot))) slots)
+use Rattle.ss_parts.proofs.WholeMaps.{filled, filled-same}
 
 pub filled-append : (bytes : ℕ → List ℕ) (xs ys : List ℕ) → filled bytes (xs ++ ys) ≡ filled bytes xs ++ filled bytes ys
 filled-append bytes xs ys =
@@ -26,19 +23,6 @@ filled-live bytes slot slots live = rw live refl
 
 pub filled-zeros : (bytes : ℕ → List ℕ) (slot : ℕ) (slots : List ℕ) → are_zeros (bytes slot) ≡ true → filled bytes (slot ∷ slots) ≡ filled bytes slots
 filled-zeros bytes slot slots zeros = rw zeros refl
-
-filled-cons : (bytes : ℕ → List ℕ) (slot : ℕ) (slots : List ℕ) → filled bytes (slot ∷ slots)
-    ≡ cond (not (are_zeros (bytes slot))) ((slot, decoded (bytes slot)) ∷ filled bytes slots) (filled bytes slots)
-filled-cons bytes slot slots = elim (cases_Bool (are_zeros (bytes slot))) [ inl zeros ↦ rw zeros refl | inr live ↦ rw live refl ]
-
--- maps that have the same bytes in each slot of a list
-pub filled-same : (first second : ℕ → List ℕ) (slots : List ℕ) → AllByRecursion (λ slot. first slot ≡ second slot) slots →
-    filled first slots ≡ filled second slots
-filled-same first second [] same = refl
-filled-same first second (slot ∷ slots) same =
-    filled-cons first slot slots ∙ ap (λ b. cond (not (are_zeros b)) ((slot, decoded b) ∷ filled first slots) (filled first slots)) same.0
-    ∙ ap (λ l. cond (not (are_zeros (second slot))) ((slot, decoded (second slot)) ∷ l) l) (filled-same first second slots same.1)
-    ∙ sym (filled-cons second slot slots)
 
 -- a put leaves the slots beside its own
 filled-with_put : (put : Put) (bytes : ℕ → List ℕ) (slots : List ℕ) → AllByRecursion (λ slot. nat_eq slot put.slot ≡ false) slots →

@@ -8,7 +8,7 @@ use Rattle.ss_records.specs.Live.{is_live, AreBelow, AreLiveBelow}
 use Rattle.ss_codec.specs.Decoded.{decoded}
 use Rattle.ss_codec.specs.declared.record.Record.TheVariants.{Free}
 use Rattle.ss_recover.specs.Carried.{spelled}
-use Rattle.ss_recover.specs.Held.{occupied}
+use Rattle.ss_parts.specs.Held.{occupied}
 use Rattle.ss_recover.specs.Parts.{lowest_bad_slot}
 use Rattle.ss_recover.specs.Usable.{IsUsable, in_slot}
 use Rattle.ss_recover.specs.declared.found.Found.{Found}

@@ -3,7 +3,6 @@ pub mod Carried
 pub mod Marked
 pub mod Conditions
 pub mod Parts
-pub mod Held
 pub mod Doomed
 pub mod Rebuilt
 pub mod Usable

@@ -8,7 +8,7 @@ use Rattle.ss_records.specs.Kept.{AreKept, RecordsState}
 use Rattle.ss_codec.specs.declared.record.Record.{Record}
 use Rattle.ss_model.specs.State.{Stream}
 use Rattle.ss_recover.specs.Doomed.{GoInTurn, doomed_slots}
-use Rattle.ss_recover.specs.Held.{AreHeldBeside, occupied, records_held}
+use Rattle.ss_parts.specs.Held.{AreHeldBeside, occupied, records_held}
 use Rattle.ss_recover.specs.Parts.{carried, bad_slot, bad_stream, carries}
 use Rattle.ss_recover.specs.declared.parts.Parts.{Parts}
 use Rattle.ss_recover.specs.declared.recover_error.RecoverError.{RecoverError}

@@ -16,7 +16,7 @@ use Rattle.ss_model.specs.declared.types.Window.{Window}
 use Rattle.ss_recover.specs.Carried.{is_dropped, is_mark_of, streams_created, window_of}
 use Rattle.ss_recover.specs.Conditions.{has_one_record, has_place, has_new_name, keep_own_step, keep_step, tile, times_rise}
 use Rattle.ss_recover.specs.Doomed.{is_doomed, is_own}
-use Rattle.ss_recover.specs.Held.{AllAgree, records_held}
+use Rattle.ss_parts.specs.Held.{AllAgree, records_held}
 use Rattle.ss_recover.specs.Marked.{are_marks, landmarks_made}
 use Rattle.ss_recover.specs.Order.{Rises, stream_of}
 use Rattle.ss_recover.specs.Usable.{in_slot, slots_found, without_slots}

@@ -25,14 +25,14 @@ use Rattle.ss_model.specs.Marks.{later, latest_of}
 use Rattle.ss_model.specs.State.{Created}
 use Rattle.ss_model.specs.Windows.{newest_time}
 use Rattle.ss_model.specs.declared.types.Window.{Window}
-use Rattle.ss_recover.specs.Held.{span_held, span_of, times_held, times_of}
+use Rattle.ss_parts.specs.Held.{span_held, span_of, times_held, times_of}
 use Rattle.ss_recover.specs.Marked.{landmarks_made}
 use Rattle.ss_recover.specs.Order.{Rises, stream_of}
 use Rattle.ss_recover.specs.Runs.{has_sound_values_within, is_run, marks_in, may_stand, windows_in}
 use Rattle.ss_recover.specs.Usable.{IsUsable, slots_found, without_slots}
 use Rattle.ss_recover.specs.declared.found.Found.{Found}
 use Rattle.ss_recover.specs.declared.parts.Parts.{Parts}
-use Rattle.ss_recover.specs.declared.parts.StreamParts.{StreamParts}
+use Rattle.ss_parts.specs.declared.parts.StreamParts.{StreamParts}
 use Rattle.ss_recover.specs.declared.marking.Last.{Last}
 use Rattle.ss_recover.specs.declared.marking.Marks.{Marks}
 use Rattle.ss_recover.specs.declared.marking.Seen.{Seen}

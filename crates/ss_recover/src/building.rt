@@ -6,11 +6,12 @@ ghost use Rattle.ss_recover.specs.Order.{stream_of};
 ghost use Rattle.ss_recover.specs.Shown.{BuildsAs};
 ghost use Rattle.ss_recover.specs.Usable.{IsUsable};
 
+use crate::RecoverError;
 use crate::found::Found;
 use crate::marking::{are_marks, later, marks_of};
 use crate::windows::{keep_step, lie_free, tile, times_rise, windows_of};
-use crate::{RecoverError, StreamParts};
 use ss_catalog::{Name, Params, StreamId};
+use ss_parts::StreamParts;
 use ss_steps::Steps;
 use ss_target::Target;
 use std::alloc::Global;

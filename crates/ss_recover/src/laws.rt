@@ -12,9 +12,9 @@ ghost use Rattle.ss_model.specs.Standing.{IsState};
 ghost use Rattle.ss_codec.specs.declared.record.Record.TheVariants as records;
 ghost use Rattle.ss_model.specs.State.{Created, Stream};
 ghost use Rattle.ss_recover.specs.Doomed.{may_go, records_beside, without_numbered};
-ghost use Rattle.ss_recover.specs.Held.{AreHeld, HasWholeSlots, IsRecord, occupied};
+ghost use Rattle.ss_parts.specs.Held.{AreHeld, HasWholeSlots, IsRecord, occupied};
 ghost use Rattle.ss_recover.specs.Parts.{carried, carries};
-ghost use Rattle.ss_recover.specs.declared.parts.StreamParts.{StreamParts};
+ghost use Rattle.ss_parts.specs.declared.parts.StreamParts.{StreamParts};
 
 /// The map of an image has whole slots, and no more of them than a file can have.
 pub fn images_have_whole_slots()

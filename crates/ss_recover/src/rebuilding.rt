@@ -3,7 +3,7 @@ ghost use Rattle.std.specs.Prelude.{◌≡◌, IfOk};
 ghost use Rattle.ss_outside.specs.Disk.{OfContent};
 ghost use Rattle.ss_outside.specs.Step.{Step};
 ghost use Rattle.ss_journal.specs.Kept.{IsKept, IsRunning, IsSealed};
-ghost use Rattle.ss_recover.specs.Held.{AreWholeBeside};
+ghost use Rattle.ss_parts.specs.Held.{AreWholeBeside};
 ghost use Rattle.ss_recover.specs.Rebuilt.{Rebuilds, verdict_of_rebuild};
 
 use crate::gathering::gather;

@@ -12,9 +12,10 @@ ghost use Rattle.ss_recover.specs.declared.recover_error.RecoverError.TheVariant
 
 use crate::building::build;
 use crate::found::Found;
-use crate::{Parts, RecoverError, StreamParts};
+use crate::{Parts, RecoverError};
 use ss_catalog::{Catalog, MOST_STREAMS, Name, StreamId};
 use ss_codec::Record;
+use ss_parts::StreamParts;
 use ss_steps::Steps;
 use std::alloc::Global;
 use std::sync::ledger::{Blank, Ledger};

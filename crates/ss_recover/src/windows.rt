@@ -15,12 +15,13 @@ ghost use Rattle.ss_recover.specs.Shown.{AreWindowsOf, Grows, IsInside, is_after
 ghost use Rattle.ss_recover.specs.Usable.{IsUsable, without_slots};
 ghost use Rattle.ss_recover.specs.declared.recover_error.RecoverError.TheVariants.{OutOfMemory};
 
+use crate::RecoverError;
 use crate::found::Found;
-use crate::{RecoverError, lies_free};
 use ss_codec::Record;
 use ss_landmarks::Landmarks;
 use ss_line::{Entry, Line};
 use ss_model::Window;
+use ss_parts::lies_free;
 use ss_steps::Steps;
 use ss_target::Target;
 use std::alloc::Global;

@@ -17,8 +17,8 @@ use Rattle.ss_model.specs.Steps.{ack_of}
 use Rattle.ss_model.specs.declared.types.Ack.{Ack}
 use Rattle.ss_model.proofs.HistoryLemmas.{GoesOn-push, IsState-state}
 use Rattle.ss_records.specs.Kept.{shown_by}
-use Rattle.ss_recover.specs.Held.{AllAgree}
-use Rattle.ss_recover.specs.declared.parts.StreamParts.{StreamParts}
+use Rattle.ss_parts.specs.Held.{AllAgree}
+use Rattle.ss_parts.specs.declared.parts.StreamParts.{StreamParts}
 use Rattle.ss_store.specs.Applied.{Applies}
 use Rattle.ss_store.specs.Calls.{AddsEvent, StandsForEither, Turns}
 use Rattle.ss_store.specs.Causes.{said_of_held}

@@ -6,7 +6,7 @@ use Rattle.ss_catalog.specs.declared.event.Event.{Event}
 use Rattle.ss_catalog.specs.declared.refusal.Refusal.{Refusal}
 use Rattle.ss_model.specs.History.{Happened}
 use Rattle.ss_model.specs.declared.types.Ack.{Ack}
-use Rattle.ss_recover.specs.declared.parts.StreamParts.{StreamParts}
+use Rattle.ss_parts.specs.declared.parts.StreamParts.{StreamParts}
 use Rattle.ss_store.specs.Applied.{Applies}
 use Rattle.ss_store.specs.Calls.{Turns}
 use Rattle.ss_store.specs.Events.{events_held}

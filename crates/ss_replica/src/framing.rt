@@ -3,7 +3,7 @@ ghost use Rattle.std.specs.Prelude.{◌≡◌, ◌++◌, List, [], ◌∷◌};
 ghost use Rattle.ss_model.specs.History.{Happened, added};
 ghost use Rattle.ss_model.specs.Refusals.{IsHistory};
 ghost use Rattle.ss_model.specs.State.{state};
-ghost use Rattle.ss_recover.specs.Held.{AllAgree};
+ghost use Rattle.ss_parts.specs.Held.{AllAgree};
 ghost use Rattle.ss_replica.specs.Own.{event_frame};
 
 use crate::numbers::{event_name, events_named, step_of};

@@ -4,7 +4,7 @@ ghost use Rattle.ss_catalog.specs.Events.{event_name};
 ghost use Rattle.ss_model.specs.History.{Happened};
 ghost use Rattle.ss_model.specs.Refusals.{IsHistory};
 ghost use Rattle.ss_model.specs.State.{state};
-ghost use Rattle.ss_recover.specs.Held.{AllAgree};
+ghost use Rattle.ss_parts.specs.Held.{AllAgree};
 ghost use Rattle.ss_store.specs.Kept.{part_named};
 ghost use Rattle.ss_replica.specs.Held.{due_held, events_named};
 ghost use Rattle.ss_replica.specs.Offers.{due_after, due_in};

@@ -13,7 +13,7 @@ use Rattle.ss_outside.specs.Disk.{DiskView, OfContent}
 use Rattle.ss_outside.specs.Verdict.{Verdict, OnFine, fine, refused, no_memory, stopped, failed, changed}
 use Rattle.ss_query.proofs.NextWindow.{Contains-slot}
 use Rattle.ss_query.specs.Answered.{window_slots_of}
-use Rattle.ss_recover.specs.declared.parts.StreamParts.{StreamParts}
+use Rattle.ss_parts.specs.declared.parts.StreamParts.{StreamParts}
 use Rattle.ss_store.specs.Applied.{Looks}
 use Rattle.ss_store.specs.Errors.{stopped_after}
 use Rattle.ss_store.specs.Kept.{SomeAgree, StoreIsKept, StoreState}

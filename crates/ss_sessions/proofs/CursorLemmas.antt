@@ -7,8 +7,8 @@ use Rattle.ss_catalog.specs.declared.refusal.Refusal.TheVariants as refusals
 use Rattle.ss_model.specs.Refusals.{first_that_applies}
 use Rattle.ss_model.specs.State.{Stream, stream_named, stream_numbered}
 use Rattle.ss_model.specs.declared.types.Placed.{Placed}
-use Rattle.ss_recover.specs.Held.{AllAgree}
-use Rattle.ss_recover.specs.declared.parts.StreamParts.{StreamParts}
+use Rattle.ss_parts.specs.Held.{AllAgree}
+use Rattle.ss_parts.specs.declared.parts.StreamParts.{StreamParts}
 use Rattle.ss_store.proofs.HeldCounts.{SomeAgree-named}
 use Rattle.ss_store.specs.Kept.{SomeAgree, part_named}
 use Rattle.ss_sessions.specs.Cursors.{Cursors, cursor_of, cursor_refusals, cursor_rows, opened, refuses_cursor, with_cursor}

@@ -10,7 +10,7 @@ use Rattle.ss_store.proofs.Common.{live_slots, HasRecords}
 use Rattle.std.proofs.Common.{slice_get}
 use Rattle.std.proofs.lemmas.List.{set-set}
 use Rattle.ss_journal.proofs.RedoLemmas.{StandsFor-parts}
-use Rattle.ss_recover.specs.Held.{AreHeld}
+use Rattle.ss_parts.specs.Held.{AreHeld}
 use Rattle.ss_recover.proofs.WholeSlots.{carried-same}
 use Rattle.ss_store.specs.Recover.{recover}
 use Rattle.ss_store.proofs.OneOfMany.{IsPermutation-parted, map-set_same, remove-set, slice_get-set, slice_get-zip, zip-set}

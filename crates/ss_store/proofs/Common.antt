@@ -124,16 +124,16 @@ pub use Rattle.ss_recover.proofs.Marks.{length-all_value_records, length-landmar
 pub use Rattle.ss_recover.proofs.MarksSoFar.{latest_of-last}
 pub use Rattle.ss_recover.proofs.Permutations.{IsPermutation-same, IsPermutation-turn}
 pub use Rattle.ss_recover.proofs.PutLemmas.{occupied-freed}
-pub use Rattle.ss_recover.proofs.WholeSlots.{HasWholeSlots-StandsFor}
+pub use Rattle.ss_parts.proofs.WholeMaps.{HasWholeSlots-StandsFor}
 pub use Rattle.ss_recover.specs.Carried.{spelled}
 pub use Rattle.ss_recover.specs.Conditions.{is_sound}
 pub use Rattle.ss_recover.specs.Doomed.{GoInTurn, is_of, records_beside, without_numbered}
-pub use Rattle.ss_recover.specs.Held.{Agrees, AllAgree, AreWhole, AreWholeBeside, EndByLast, IsRecord, RiseToLast, TileFrom, TimesRise, all_value_records}
-pub use Rattle.ss_recover.specs.Held.{entries_of, in_slots, landmark_record, landmark_records, mark_slots, marks_held, occupied, records_held, slots_held}
-pub use Rattle.ss_recover.specs.Held.{span_held, span_of, stream_record, times_held, times_of, value_records, window_record, window_slots, windows_held}
+pub use Rattle.ss_parts.specs.Held.{Agrees, AllAgree, AreWhole, AreWholeBeside, EndByLast, IsRecord, RiseToLast, TileFrom, TimesRise, all_value_records}
+pub use Rattle.ss_parts.specs.Held.{entries_of, in_slots, landmark_record, landmark_records, mark_slots, marks_held, occupied, records_held, slots_held}
+pub use Rattle.ss_parts.specs.Held.{span_held, span_of, stream_record, times_held, times_of, value_records, window_record, window_slots, windows_held}
 pub use Rattle.ss_recover.specs.Parts.{carried, carries}
 pub use Rattle.ss_recover.specs.declared.parts.Parts.{Parts}
-pub use Rattle.ss_recover.specs.declared.parts.StreamParts.{StreamParts}
+pub use Rattle.ss_parts.specs.declared.parts.StreamParts.{StreamParts}
 pub use Rattle.ss_query.proofs.Places.{entries_in, index-once, index_of-first, index_of-next, none-first, read-once, slice_get-entry}
 pub use Rattle.ss_query.proofs.Records.{HasRecords-permutation, zip-held}
 pub use Rattle.ss_query.specs.Answered.{BeginsNear, window_slots_of}

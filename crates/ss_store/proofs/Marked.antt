@@ -13,7 +13,7 @@ use Rattle.std.proofs.Common.{is_some, max}
 use Rattle.std.proofs.Common.{append-nil}
 use Rattle.ss_codec.specs.declared.record.Record.TheVariants as records
 use Rattle.ss_model.proofs.StreamLemmas.{IsStream-closed, IsStream-marked, IsStream-opened, newest-past}
-use Rattle.ss_recover.specs.Held.{values_said}
+use Rattle.ss_parts.specs.Held.{values_said}
 use Rattle.ss_recover.proofs.Marks.{all_value_records-append, landmark_records-append, value_records-append}
 use Rattle.ss_store.specs.declared.marking.Mark.TheVariants.{Value}
 use Rattle.ss_store.proofs.OpenMarks.{AllEndBy-can, HasOpen, HasOpen-can, change-has, closes, count-has, later-last, latest_of-after, newest-open, one-passed}

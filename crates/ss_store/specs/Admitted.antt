@@ -8,8 +8,8 @@ use Rattle.ss_windowing.specs.declared.decay.TheConstants.{MOST_VALUES}
 use Rattle.ss_model.specs.Marks.{has_open}
 use Rattle.ss_model.specs.Refusals.{is_past}
 use Rattle.ss_model.specs.State.{next_number}
-use Rattle.ss_recover.specs.Held.{entries_of, mark_slots, slots_held}
-use Rattle.ss_recover.specs.declared.parts.StreamParts.{StreamParts}
+use Rattle.ss_parts.specs.Held.{entries_of, mark_slots, slots_held}
+use Rattle.ss_parts.specs.declared.parts.StreamParts.{StreamParts}
 use Rattle.ss_store.specs.Held.{values_held}
 use Rattle.ss_store.specs.Kept.{StoreState, has_all_numbers, numbers_held, part_named}
 use Rattle.ss_store.specs.Marking.{CanMark, IsItsSlot, mark_refusal, slots_used}

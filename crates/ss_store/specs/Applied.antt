@@ -25,8 +25,8 @@ use Rattle.ss_model.specs.State.{Stream, state, stream_named, stream_numbered, v
 use Rattle.ss_model.specs.declared.outcome.Outcome.{Outcome}
 use Rattle.ss_model.specs.declared.types.Ack.{Ack}
 use Rattle.ss_model.specs.declared.types.Placed.{Placed}
-use Rattle.ss_recover.specs.Held.{entries_of, slots_held}
-use Rattle.ss_recover.specs.declared.parts.StreamParts.{StreamParts}
+use Rattle.ss_parts.specs.Held.{entries_of, slots_held}
+use Rattle.ss_parts.specs.declared.parts.StreamParts.{StreamParts}
 use Rattle.ss_records.specs.Kept.{RecordsState, shown_by}
 use Rattle.ss_store.specs.Calls.{KeepsHistory, KeepsState, KeepsWithin, SealsHistory, StaysWithin, StepsState, TurnsShown}
 use Rattle.ss_store.specs.Causes.{OpensAs, said_of_held}

@@ -23,8 +23,8 @@ use Rattle.ss_model.specs.Standing.{IsState}
 use Rattle.ss_model.specs.State.{Stream}
 use Rattle.ss_model.specs.Steps.{with_plain_value}
 use Rattle.ss_model.specs.declared.types.Window.{Window}
-use Rattle.ss_recover.specs.Held.{AllAgree, EndByLast, entries_of, mark_slots, slots_held, span_held, span_of, times_held, times_of, window_record}
-use Rattle.ss_recover.specs.declared.parts.StreamParts.{StreamParts}
+use Rattle.ss_parts.specs.Held.{AllAgree, EndByLast, entries_of, mark_slots, slots_held, span_held, span_of, times_held, times_of, window_record}
+use Rattle.ss_parts.specs.declared.parts.StreamParts.{StreamParts}
 use Rattle.ss_store.specs.Calls.{KeepsWithin, Turns, TurnsShown}
 use Rattle.ss_query.specs.Reading.{IsRead, verdict_of_read}
 use Rattle.ss_store.specs.Held.{IsHalfway, IsOrdered, IsPartlyJoined, values_held, with_single}

@@ -9,7 +9,7 @@ use Rattle.ss_codec.specs.declared.record.Record.{Record}
 use Rattle.ss_model.specs.ClosedState.{closed_state}
 use Rattle.ss_model.specs.State.{Stream}
 use Rattle.ss_recover.specs.Doomed.{GoInTurn}
-use Rattle.ss_recover.specs.Held.{occupied}
+use Rattle.ss_parts.specs.Held.{occupied}
 use Rattle.ss_recover.specs.Parts.{carried, carries}
 use Rattle.ss_store.specs.Calls.{Turns, TurnsShown}
 use Rattle.ss_store.specs.Recover.{Recovers}

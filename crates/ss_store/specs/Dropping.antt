@@ -13,9 +13,9 @@ use Rattle.ss_model.specs.ClosedState.{closed_state}
 use Rattle.ss_model.specs.State.{Stream}
 use Rattle.ss_query.specs.Slots.{HasRecords}
 use Rattle.ss_recover.specs.Doomed.{is_of, records_beside, without_numbered}
-use Rattle.ss_recover.specs.Held.{Agrees, entries_of, mark_slots, occupied, records_held}
+use Rattle.ss_parts.specs.Held.{Agrees, entries_of, mark_slots, occupied, records_held}
 use Rattle.ss_recover.specs.Parts.{carried, carries}
-use Rattle.ss_recover.specs.declared.parts.StreamParts.{StreamParts}
+use Rattle.ss_parts.specs.declared.parts.StreamParts.{StreamParts}
 use Rattle.ss_store.specs.Calls.{TurnsShown}
 use Rattle.ss_store.specs.Recover.{Recovers}
 

@@ -1,6 +1,6 @@
 -- How many slots a store uses over calls in a row.
 use Rattle.std.specs.Prelude.{◌≡◌, ◌+◌, ◌≤◌, max, ℕ, List, [], ◌∷◌, length, flat_map}
-use Rattle.ss_recover.specs.Held.{slots_held}
+use Rattle.ss_parts.specs.Held.{slots_held}
 use Rattle.ss_store.specs.Kept.{StoreState}
 
 -- how many records a store holds

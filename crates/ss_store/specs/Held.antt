@@ -8,8 +8,8 @@ use Rattle.ss_target.specs.Rule.{rule_of}
 use Rattle.ss_model.specs.State.{Stream, values_in}
 use Rattle.ss_model.specs.Steps.{single_window}
 use Rattle.ss_model.specs.declared.types.Window.{Window}
-use Rattle.ss_recover.specs.Held.{RiseToLast, TileFrom, entries_of}
-use Rattle.ss_recover.specs.declared.parts.StreamParts.{StreamParts}
+use Rattle.ss_parts.specs.Held.{RiseToLast, TileFrom, entries_of}
+use Rattle.ss_parts.specs.declared.parts.StreamParts.{StreamParts}
 use Rattle.ss_query.specs.Held.{IsHeldIn}
 use Rattle.ss_store.specs.declared.held.HeldStream.{HeldStream}
 

@@ -12,8 +12,8 @@ use Rattle.ss_schedule.specs.declared.index.Index.{Index}
 use Rattle.ss_schedule.specs.declared.pair.Pair.{Pair}
 use Rattle.ss_model.specs.Marks.{has_open}
 use Rattle.ss_model.specs.Refusals.{is_past}
-use Rattle.ss_recover.specs.Held.{entries_of}
-use Rattle.ss_recover.specs.declared.parts.StreamParts.{StreamParts}
+use Rattle.ss_parts.specs.Held.{entries_of}
+use Rattle.ss_parts.specs.declared.parts.StreamParts.{StreamParts}
 use Rattle.ss_store.specs.Changing.{HoldsUntil, KeepsWhole, NoneAreDue}
 use Rattle.ss_store.specs.Held.{IsOrdered, values_held}
 use Rattle.ss_store.specs.declared.held.HeldStream.{HeldStream}

@@ -8,7 +8,7 @@ use Rattle.ss_model.specs.Joins.{JoinsDue}
 use Rattle.ss_target.specs.Rule.{Rule, may_be_one, rule_of}
 use Rattle.ss_model.specs.State.{Stream, values_in}
 use Rattle.ss_model.specs.declared.types.Window.{Window}
-use Rattle.ss_recover.specs.declared.parts.StreamParts.{StreamParts}
+use Rattle.ss_parts.specs.declared.parts.StreamParts.{StreamParts}
 use Rattle.ss_store.specs.Held.{with_windows}
 use Rattle.ss_query.specs.Held.{IsHeldIn}
 

@@ -24,8 +24,8 @@ use Rattle.ss_model.specs.Standing.{IsState}
 use Rattle.ss_model.specs.State.{Stream}
 use Rattle.ss_model.specs.declared.types.TheConstants.{MOST_RECORDS}
 use Rattle.ss_model.specs.declared.types.StreamRow.{StreamRow}
-use Rattle.ss_recover.specs.Held.{AllAgree, AreWhole, Agrees, entries_of, records_held, slots_held}
-use Rattle.ss_recover.specs.declared.parts.StreamParts.{StreamParts}
+use Rattle.ss_parts.specs.Held.{AllAgree, AreWhole, Agrees, entries_of, records_held, slots_held}
+use Rattle.ss_parts.specs.declared.parts.StreamParts.{StreamParts}
 use Rattle.ss_store.specs.Held.{values_held}
 use Rattle.ss_query.specs.Slots.{HasRecords}
 

@@ -15,7 +15,7 @@ use Rattle.ss_records.specs.Live.{lowest_free}
 use Rattle.ss_model.specs.Marks.{has_open, with_closed, with_marked, with_opened}
 use Rattle.ss_model.specs.Refusals.{first_that_applies, is_before, is_past}
 use Rattle.ss_model.specs.State.{Stream}
-use Rattle.ss_recover.specs.declared.parts.StreamParts.{StreamParts}
+use Rattle.ss_parts.specs.declared.parts.StreamParts.{StreamParts}
 use Rattle.ss_query.specs.Held.{IsHeldIn}
 use Rattle.ss_store.specs.Kept.{is_early_held}
 use Rattle.ss_store.specs.declared.marking.Mark.{Mark}

@@ -18,7 +18,7 @@ use Rattle.ss_model.specs.State.{Stream}
 use Rattle.ss_model.specs.Windows.{time_of_last}
 use Rattle.ss_model.specs.declared.newest.Newest.{Newest}
 use Rattle.ss_records.specs.Kept.{RecordsState, shown_by}
-use Rattle.ss_recover.specs.declared.parts.StreamParts.{StreamParts}
+use Rattle.ss_parts.specs.declared.parts.StreamParts.{StreamParts}
 use Rattle.ss_store.specs.Kept.{part_named}
 use Rattle.ss_store.specs.Recover.{Recovers, Stands}
 use Rattle.ss_store.specs.declared.error.AskError.{AskError}

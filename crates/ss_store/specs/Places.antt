@@ -1,6 +1,6 @@
 -- Where the stream of a name stands among those that are held.
 use Rattle.std.specs.Prelude.{◌≡◌, ◌<◌, ℕ, List, length, slice_get, Option, Some, None}
-use Rattle.ss_recover.specs.declared.parts.StreamParts.{StreamParts}
+use Rattle.ss_parts.specs.declared.parts.StreamParts.{StreamParts}
 use Rattle.ss_store.specs.Kept.{part_named}
 
 -- its place, or none exactly where no stream has the name

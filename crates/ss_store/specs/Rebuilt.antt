@@ -6,9 +6,9 @@ use Rattle.ss_records.specs.Kept.{AreKept, RecordsState}
 use Rattle.ss_codec.specs.declared.record.Record.{Record}
 use Rattle.ss_model.specs.Standing.{IsState}
 use Rattle.ss_model.specs.State.{Stream}
-use Rattle.ss_recover.specs.Held.{AllAgree, records_held}
+use Rattle.ss_parts.specs.Held.{AllAgree, records_held}
 use Rattle.ss_recover.specs.declared.parts.Parts.{Parts}
-use Rattle.ss_recover.specs.declared.parts.StreamParts.{StreamParts}
+use Rattle.ss_parts.specs.declared.parts.StreamParts.{StreamParts}
 use Rattle.ss_store.specs.Causes.{OpensAs}
 use Rattle.ss_store.specs.Clearing.{HasDoomed}
 use Rattle.ss_query.specs.Slots.{HasRecords}

@@ -8,8 +8,8 @@ use Rattle.ss_model.specs.Standing.{IsState}
 use Rattle.ss_model.specs.State.{Stream}
 use Rattle.ss_query.specs.Reading.{verdict_of_read}
 use Rattle.ss_query.specs.declared.read_error.ReadError.{ReadError}
-use Rattle.ss_recover.specs.Held.{AllAgree}
-use Rattle.ss_recover.specs.declared.parts.StreamParts.{StreamParts}
+use Rattle.ss_parts.specs.Held.{AllAgree}
+use Rattle.ss_parts.specs.declared.parts.StreamParts.{StreamParts}
 use Rattle.ss_store.specs.Calls.{KeepsWithin, Turns}
 use Rattle.ss_store.specs.Rebuilt.{HasRebuilt, HasRebuiltBeside}
 use Rattle.ss_store.specs.Recover.{Recovers}

@@ -6,7 +6,7 @@ ghost use Rattle.ss_outside.specs.Verdict.{IsFirm};
 ghost use Rattle.ss_journal.specs.Kept.{IsSettled};
 ghost use Rattle.ss_records.specs.Kept.{AreKept};
 ghost use Rattle.ss_records.specs.Live.{lowest_free};
-ghost use Rattle.ss_recover.specs.Held.{entries_of, slots_held};
+ghost use Rattle.ss_parts.specs.Held.{entries_of, slots_held};
 ghost use Rattle.ss_store.specs.Calls.{StagesAtCost};
 ghost use Rattle.ss_store.specs.Changing.{ChangedIsHeld, NoneAreDue, PutsValue, TakesValue};
 ghost use Rattle.ss_query.specs.Reading.{verdict_of_read};

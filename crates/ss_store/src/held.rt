@@ -1,6 +1,6 @@
 // One stream of a store.
 use ss_line::At;
-use ss_recover::StreamParts;
+use ss_parts::StreamParts;
 use ss_schedule::Index;
 
 /// A stream as the store holds it: what its records say, and when its windows are joined and where they stand by time.
@@ -11,7 +11,7 @@ pub struct HeldStream {
 }
 
 impl HeldStream {
-    ghost use Rattle.ss_recover.specs.Held.{RiseToLast};
+    ghost use Rattle.ss_parts.specs.Held.{RiseToLast};
     ghost use Rattle.ss_query.specs.Answered.{BeginsAt, BeginsNear};
     ghost use Rattle.ss_store.specs.Indexed.{IsTimed};
 

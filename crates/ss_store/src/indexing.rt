@@ -2,14 +2,14 @@
 ghost use Rattle.std.specs.Prelude.{◌≡◌, ◌+◌, ◌<◌, ℕ, All, IfOk, OnOk, [], length, map, take};
 ghost use Rattle.ss_line.specs.Line.{StandsIn, index_of};
 ghost use Rattle.ss_schedule.specs.Keyed.{FollowUpTo, HasPlaces, IsKeyed};
-ghost use Rattle.ss_recover.specs.Held.{TimesRise, entries_of};
+ghost use Rattle.ss_parts.specs.Held.{TimesRise, entries_of};
 ghost use Rattle.ss_store.specs.Held.{IsOrdered, held_parts, values_held};
 ghost use Rattle.ss_store.specs.Indexed.{IsKeyedAt, IsKeyedFor, IsTimed};
 
 use crate::closing::values_held;
 use crate::held::HeldStream;
 use ss_line::{At, Line};
-use ss_recover::StreamParts;
+use ss_parts::StreamParts;
 use ss_schedule::Index;
 use ss_steps::Steps;
 use std::alloc::{AllocError, Global};

@@ -11,7 +11,7 @@ ghost use Rattle.ss_codec.specs.declared.record.Record.TheVariants.{Free};
 ghost use Rattle.ss_landmarks.specs.Landmark.{all_values};
 ghost use Rattle.ss_landmarks.specs.Landmarks.{AreKnown};
 ghost use Rattle.ss_model.specs.Marks.{later};
-ghost use Rattle.ss_recover.specs.Held.{mark_slots, slots_held};
+ghost use Rattle.ss_parts.specs.Held.{mark_slots, slots_held};
 ghost use Rattle.ss_store.specs.Calls.{StagesAtCost};
 ghost use Rattle.ss_store.specs.Changing.{CanTakeMark, HasSameWindows, HasRoomFor, HasTakenMark, KeepsWhole, TakesMark};
 ghost use Rattle.ss_store.specs.Marking.{CanMark, FitsMark, landmarks_after, mark_record, slots_after, slots_used, start_open, value_slots_after, values_open};
@@ -24,8 +24,8 @@ use ss_catalog::LAST_TIME;
 use ss_codec::Record;
 use ss_landmarks::{Landmarks, MOST_LANDMARK_SLOTS};
 use ss_outside::{Disk, Failed};
+use ss_parts::StreamParts;
 use ss_records::Records;
-use ss_recover::StreamParts;
 use std::alloc::AllocError;
 
 /// What the landmarks of a stream take at a time: one more opens, the open one takes a value, or it closes.

@@ -7,7 +7,7 @@ ghost use Rattle.ss_store.specs.Kept.{has_all_numbers, numbers_held, part_number
 
 use crate::held::HeldStream;
 use ss_catalog::{LAST_STREAM, MOST_STREAMS, StreamId};
-use ss_recover::StreamParts;
+use ss_parts::StreamParts;
 
 // The place of the stream of a number, from 0: by halves, since numbers rise in order of creation.
 pub fn place_of(streams: &[HeldStream], id: StreamId) -> usize

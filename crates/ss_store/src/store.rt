@@ -18,8 +18,8 @@ mod values;
 use crate::held::HeldStream;
 use crate::place::place_of;
 use ss_catalog::{Catalog, StreamId};
+use ss_parts::StreamParts;
 use ss_records::Records;
-use ss_recover::StreamParts;
 use std::marker::Model;
 pub use values::ValueRange;
 
@@ -54,7 +54,7 @@ impl Store {
     ghost use Rattle.std.specs.Prelude.{◌≡◌, ◌≤◌, ◌<◌, ◌↔◌, false, nat_le, length, flat_map, slice_get, Some, IsTrue, IsNone, IsSome, IfSome};
     ghost use Rattle.ss_records.specs.Live.{lowest_free};
     ghost use Rattle.ss_model.specs.declared.types.TheConstants.{MOST_RECORDS};
-    ghost use Rattle.ss_recover.specs.Held.{slots_held};
+    ghost use Rattle.ss_parts.specs.Held.{slots_held};
     ghost use Rattle.ss_store.specs.Kept.{part_numbered};
 
     // The slot for one more record, if there is one.

@@ -15,7 +15,7 @@ use ss_landmarks::Landmarks;
 use ss_line::Line;
 use ss_model::Ack;
 use ss_outside::{Disk, Failed};
-use ss_recover::StreamParts;
+use ss_parts::StreamParts;
 use ss_schedule::Index;
 use ss_target::Target;
 use std::alloc::AllocError;

@@ -27,7 +27,7 @@ impl Store {
     ghost use Rattle.ss_model.specs.History.{Happened, events_of};
     ghost use Rattle.ss_model.specs.Refusals.{IsHistory};
     ghost use Rattle.ss_model.specs.State.{state};
-    ghost use Rattle.ss_recover.specs.Held.{AllAgree};
+    ghost use Rattle.ss_parts.specs.Held.{AllAgree};
     ghost use Rattle.ss_store.specs.Events.{events_held};
     ghost use Rattle.ss_store.specs.Kept.{part_numbered};
 

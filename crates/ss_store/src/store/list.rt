@@ -14,7 +14,7 @@ impl Store {
     ghost use Rattle.ss_model.specs.Shown.{row_of};
     ghost use Rattle.ss_model.specs.Standing.{IsState};
     ghost use Rattle.ss_model.specs.State.{Stream};
-    ghost use Rattle.ss_recover.specs.Held.{AllAgree};
+    ghost use Rattle.ss_parts.specs.Held.{AllAgree};
     ghost use Rattle.ss_store.specs.Kept.{part_named, part_numbered, row_of_held};
     ghost use Rattle.ss_steps.specs.Steps.{IsFresh};
 

@@ -10,7 +10,7 @@ use crate::marking::{Mark, reserve};
 use ss_catalog::{LAST_TIME, Name, Refusal};
 use ss_model::Ack;
 use ss_outside::{Disk, Failed};
-use ss_recover::StreamParts;
+use ss_parts::StreamParts;
 use ss_steps::Steps;
 use std::sync::ledger::{Blank, Ledger};
 
@@ -41,7 +41,7 @@ impl Store {
     ghost use Rattle.ss_outside.specs.Verdict.{IfUndone, OnFailed};
     ghost use Rattle.ss_catalog.specs.declared.refusal.Refusal.{Refusal};
     ghost use Rattle.ss_model.specs.Marks.{has_open};
-    ghost use Rattle.ss_recover.specs.Held.{slots_held};
+    ghost use Rattle.ss_parts.specs.Held.{slots_held};
     ghost use Rattle.ss_store.specs.Admitted.{IsMarker};
     ghost use Rattle.ss_store.specs.Applied.{Applies};
     ghost use Rattle.ss_store.specs.Calls.{CostsEvent};

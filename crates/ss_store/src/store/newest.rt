@@ -12,7 +12,7 @@ use ss_landmarks::Landmarks;
 use ss_line::At;
 use ss_model::{Known, Newest};
 use ss_outside::Disk;
-use ss_recover::StreamParts;
+use ss_parts::StreamParts;
 use ss_steps::Steps;
 use std::marker::Brand;
 use std::sync::ledger::{Blank, Ledger};

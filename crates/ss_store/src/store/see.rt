@@ -10,7 +10,7 @@ ghost use Rattle.ss_query.specs.Answered.{SeesStream, begun_in, window_slots_of}
 ghost use Rattle.ss_query.specs.Asked.{HasCuts, IsFewMarked};
 ghost use Rattle.ss_query.specs.Reading.{KeepsRecords, verdict_of_read};
 ghost use Rattle.ss_records.specs.Kept.{AreKept};
-ghost use Rattle.ss_recover.specs.Held.{RiseToLast};
+ghost use Rattle.ss_parts.specs.Held.{RiseToLast};
 ghost use Rattle.ss_store.specs.Indexed.{IsTimed};
 
 use super::Store;

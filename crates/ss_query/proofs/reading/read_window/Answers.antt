@@ -1,7 +1,7 @@
 use Rattle.std.proofs.Common.{Some, ap, sym, true, false, ◌≡◌, ◌∙◌}
 use Rattle.ss_codec.specs.Decoded.{decoded}
 use Rattle.ss_outside.proofs.StepLemmas.{step-as}
-use Rattle.ss_recover.specs.Held.{window_record}
+use Rattle.ss_parts.specs.Held.{window_record}
 use Rattle.ss_query.proofs.Records.{HasRecords-spelled, lies_free-read}
 use Rattle.ss_query.proofs.reading.read_window.Goals.{in_default-via-in-Some+else-is_free, in_default-via-in_default}
 use Rattle.ss_query.proofs.reading.read_window.Goals as goal

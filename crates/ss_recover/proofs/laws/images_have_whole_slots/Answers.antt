@@ -1,4 +1,4 @@
-use Rattle.ss_recover.proofs.WholeSlots.{HasWholeSlots-StandsFor}
+use Rattle.ss_parts.proofs.WholeMaps.{HasWholeSlots-StandsFor}
 use Rattle.ss_recover.proofs.laws.images_have_whole_slots.Goals as goal
 
 pub returns : goal.returns

@@ -1,4 +1,5 @@
-use Rattle.ss_recover.proofs.WholeSlots.{carried-same, occupied-same}
+use Rattle.ss_recover.proofs.WholeSlots.{carried-same}
+use Rattle.ss_parts.proofs.WholeMaps.{occupied-same}
 use Rattle.ss_recover.proofs.laws.same_maps_carry_the_same.Goals as goal
 
 pub returns-clause-occupied : goal.returns-clause-occupied

@@ -5,7 +5,7 @@ use Rattle.ss_outside.proofs.StepLemmas.{step-verdict}
 use Rattle.ss_recover.proofs.GatherLemmas.{AreLiveOver-read, few-gathered, IsKept-read, slots-gathered, verdict-told}
 use Rattle.ss_recover.proofs.InOrder.{Rises-in_order}
 use Rattle.ss_recover.proofs.RebuiltParts.{rebuilds, refuses-found, walk-verdict, whole-from_walk}
-use Rattle.ss_recover.proofs.WholeSlots.{HasWholeSlots-StandsFor}
+use Rattle.ss_parts.proofs.WholeMaps.{HasWholeSlots-StandsFor}
 use Rattle.ss_recover.proofs.rebuilding.rebuild.Goals as goal
 
 pub returns-in_err-read-clause-rebuilds : goal.returns-in_err-read-clause-rebuilds

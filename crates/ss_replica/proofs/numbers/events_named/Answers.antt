@@ -1,7 +1,7 @@
 use Rattle.std.proofs.Common.{◌≡◌, ◌∙◌, ◌+◌, length, sym, subst}
 use Rattle.std.specs.Prelude.{IfSome}
 use Rattle.ss_model.specs.History.{events_of}
-use Rattle.ss_recover.specs.declared.parts.StreamParts.{StreamParts}
+use Rattle.ss_parts.specs.declared.parts.StreamParts.{StreamParts}
 use Rattle.ss_store.specs.Kept.{part_named}
 use Rattle.ss_store.proofs.AskedStreams.{named-found, named-missing}
 use Rattle.ss_replica.proofs.HeldLemmas.{own-found, own-missing}

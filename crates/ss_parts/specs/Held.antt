@@ -24,7 +24,7 @@ use Rattle.ss_model.specs.Closed.{last_position}
 use Rattle.ss_model.specs.Standing.{IsState}
 use Rattle.ss_model.specs.State.{Stream, last_time}
 use Rattle.ss_model.specs.declared.types.Window.{Window}
-use Rattle.ss_recover.specs.declared.parts.StreamParts.{StreamParts}
+use Rattle.ss_parts.specs.declared.parts.StreamParts.{StreamParts}
 
 -- the entries of a stream's line, oldest first
 abbrev pub entries_of : StreamParts → List Entry
