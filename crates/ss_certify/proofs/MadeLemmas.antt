@@ -21,7 +21,7 @@ use Rattle.ss_query.proofs.NearSums.{held-near, held-three}
 use Rattle.ss_query.specs.declared.asking.Seen.{Seen}
 use Rattle.ss_query.specs.declared.cut.Cut.{Cut}
 use Rattle.ss_certify.specs.Checked.{Certifies, inside_of, outside_of}
-use Rattle.ss_certify.specs.Evidence.{AllCertify, IsEvidence, base_of, cuts_of, end_asked, part_of, parts_of}
+use Rattle.ss_certify.specs.Evidence.{AllCertify, IsEvidence, base_of, cuts_of, end_asked, certified_part, certified_sum}
 use Rattle.ss_certify.specs.Fill.{Fills, RiseBetween, fill}
 use Rattle.ss_certify.specs.Made.{attaining, certificate_of, certificate_with, evidence_of, inside_sum}
 use Rattle.ss_certify.specs.Runs.{HaveValues, values_of_runs}
@@ -161,16 +161,16 @@ total-inside_of kind end cut is =
 
 -- so each adds what its window adds to the end
 module _ (kind : Kind) (end : End) (share : Option Cut → ℤ) (none : share None ≡ pos 0)
-    (some : (cut : Cut) → IsCut cut → part_of kind (certificate_of kind end cut) ≡ share (Some cut)) where
+    (some : (cut : Cut) → IsCut cut → certified_part kind (certificate_of kind end cut) ≡ share (Some cut)) where
   parts-listed : (left right : Option Cut) → IfSome left IsCut → IfSome right IsCut
-      → parts_of kind (map (certificate_of kind end) (listed left right)) ≡ (share left +ℤ share right)
+      → certified_sum kind (map (certificate_of kind end) (listed left right)) ≡ (share left +ℤ share right)
   parts-listed None None first second = omega (arith, ints)
   parts-listed None (Some b) first second = let one = some b second in omega (arith, ints)
   parts-listed (Some a) None first second = let one = some a first in omega (arith, ints)
   parts-listed (Some a) (Some b) first second = let one = some a first in let other = some b second in omega (arith, ints)
 
 asked-evidence_of : (kind : Kind) (end : End) (seen : Seen) → adds_up kind ≡ true → HasCuts seen
-    → end_asked end (outcome_seen kind seen) ≡ Some (base_of kind seen +ℤ parts_of kind (map (certificate_of kind end) (cuts_of seen)))
+    → end_asked end (outcome_seen kind seen) ≡ Some (base_of kind seen +ℤ certified_sum kind (map (certificate_of kind end) (cuts_of seen)))
 asked-evidence_of Count Lo seen adds has =
     let parts = parts-listed Count Lo (λ cut. pos (counts_of cut).0) refl (λ cut is. refl) seen.left seen.right has.left has.right in
     ap Some (omega (arith, ints))
@@ -208,7 +208,7 @@ map-listed f (Some a) None = refl
 map-listed f (Some a) (Some b) = refl
 
 parts-each : (kind : Kind) (f : Cut → Cert) (left right : Option Cut)
-    → parts_of kind (map f (listed left right)) ≡ (parts_of kind (map f (listed left None)) +ℤ parts_of kind (map f (listed right None)))
+    → certified_sum kind (map f (listed left right)) ≡ (certified_sum kind (map f (listed left None)) +ℤ certified_sum kind (map f (listed right None)))
 parts-each kind f None None = refl
 parts-each kind f None (Some b) = omega (arith, ints)
 parts-each kind f (Some a) None = omega (arith, ints)
@@ -217,8 +217,8 @@ parts-each kind f (Some a) (Some b) = omega (arith, ints)
 -- so it makes the evidence
 pub computed-evidence : (kind : Kind) (end : End) (seen : Seen) (base left right : ℤ) (none first both : List Cert)
     → IsNear base → IsNear left → IsNear right → base ≡ base_of kind seen
-    → left ≡ parts_of kind (map (certificate_of kind end) (listed seen.left None))
-    → right ≡ parts_of kind (map (certificate_of kind end) (listed seen.right None))
+    → left ≡ certified_sum kind (map (certificate_of kind end) (listed seen.left None))
+    → right ≡ certified_sum kind (map (certificate_of kind end) (listed seen.right None))
     → none ≡ [] → first ≡ none ++ map (certificate_of kind end) (listed seen.left None)
     → both ≡ first ++ map (certificate_of kind end) (listed seen.right None)
     → ◌≡◌ {A = Evidence}
@@ -231,8 +231,8 @@ computed-evidence kind end seen base left right none first both base_near left_n
     let items : both ≡ map f (listed seen.left seen.right) =
     both_is ∙ ap (λ certs. certs ++ new) (first_is ∙ ap (λ certs. certs ++ old) none_is) ∙ map-listed f seen.left seen.right in
     let parts = parts-each kind f seen.left seen.right in
-    let sum : ((base +ℤ left) +ℤ right) ≡ (base_of kind seen +ℤ parts_of kind (map f (cuts_of seen))) = omega (arith, ints) in
+    let sum : ((base +ℤ left) +ℤ right) ≡ (base_of kind seen +ℤ certified_sum kind (map f (cuts_of seen))) = omega (arith, ints) in
     let answer = held-three base left right base_near left_near right_near ∙ sum in
     let known = held-near base base_near ∙ base_is in
     let made : ℤ → ℤ → List Cert → Evidence = λ a b certs. record { answer = a; base = b; certs = record { items = certs } } in
-    ap₂ (λ a b. made a b both) answer known ∙ ap (made (base_of kind seen +ℤ parts_of kind (map f (cuts_of seen))) (base_of kind seen)) items
+    ap₂ (λ a b. made a b both) answer known ∙ ap (made (base_of kind seen +ℤ certified_sum kind (map f (cuts_of seen))) (base_of kind seen)) items

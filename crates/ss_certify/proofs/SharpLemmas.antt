@@ -42,7 +42,7 @@ use Rattle.ss_model.proofs.SplitLemmas.{IsSplit-window}
 pub use Rattle.ss_model.proofs.RisingLemmas.{All-named}
 use Rattle.ss_summary.specs.Figures.{IsPossible}
 use Rattle.ss_certify.specs.Checked.{Certifies, inside_of, outside_of}
-use Rattle.ss_certify.specs.Evidence.{AllCertify, IsEvidence, base_of, cuts_of, end_asked, parts_of}
+use Rattle.ss_certify.specs.Evidence.{AllCertify, IsEvidence, base_of, cuts_of, end_asked, certified_sum}
 use Rattle.ss_certify.specs.declared.evidence.Cert.{Cert}
 use Rattle.ss_certify.specs.declared.evidence.Evidence.{Evidence}
 use Rattle.ss_certify.proofs.BetweenLemmas.{between-first, between-last}
@@ -84,7 +84,7 @@ AllFit-certifies (cut ∷ cuts) (c ∷ certs) split certify =
 
 -- what the certificates add to what is known is what these values are in number, or in sum
 pub parts_of-Count : (cuts : List Cut) (certs : List Cert) → AllCertify cuts certs
-    → parts_of kinds.Count certs ≡ pos (count_inside (map sides_of certs))
+    → certified_sum kinds.Count certs ≡ pos (count_inside (map sides_of certs))
 parts_of-Count [] [] certify = refl
 parts_of-Count [] (c ∷ certs) certify = absurd certify
 parts_of-Count (cut ∷ cuts) [] certify = absurd certify
@@ -93,7 +93,7 @@ parts_of-Count (cut ∷ cuts) (c ∷ certs) certify =
     let rest = parts_of-Count cuts certs certify.1 in
     omega (arith, ints, certify.0.inside_count)
 
-pub parts_of-Sum : (certs : List Cert) → parts_of kinds.Sum certs ≡ sum_inside (map sides_of certs)
+pub parts_of-Sum : (certs : List Cert) → certified_sum kinds.Sum certs ≡ sum_inside (map sides_of certs)
 parts_of-Sum [] = refl
 parts_of-Sum (c ∷ certs) = ap (λ z. total (inside_of c) +ℤ z) (parts_of-Sum certs)
 
@@ -198,10 +198,10 @@ module _ (streams : List Stream) (query : Query) (s : Stream) (end : End) (w : E
   seen = seen_of query.kind query.from query.to s
 
   module _ (is : IsStream s) where
-    adds-up : (kind : Kind) → query.kind ≡ kind → w.answer ≡ (base_of kind seen +ℤ parts_of kind w.certs.items)
+    adds-up : (kind : Kind) → query.kind ≡ kind → w.answer ≡ (base_of kind seen +ℤ certified_sum kind w.certs.items)
     adds-up kind same =
-        evidence.adds_up ∙ ap (λ z. z +ℤ parts_of query.kind w.certs.items) evidence.base
-        ∙ ap (λ k. base_of k seen +ℤ parts_of k w.certs.items) same
+        evidence.adds_up ∙ ap (λ z. z +ℤ certified_sum query.kind w.certs.items) evidence.base
+        ∙ ap (λ k. base_of k seen +ℤ certified_sum k w.certs.items) same
 
     fit : AllFit (split_windows (is_free s.landmarks) query.from query.to s.windows) (map sides_of w.certs.items)
     fit = AllFit-seen_of query.kind query.from query.to s is w.certs.items evidence.certificates

@@ -30,18 +30,18 @@ base_of kinds.CountGuess seen = pos 0
 base_of kinds.SumGuess seen = pos 0
 
 -- what the values of a certificate in the range add to it
-abbrev pub part_of : Kind → Cert → ℤ
-part_of kinds.Count c = pos c.x
-part_of kinds.Sum c = total (inside_of c)
-part_of kinds.Min c = pos 0
-part_of kinds.Max c = pos 0
-part_of (kinds.Has value) c = pos 0
-part_of kinds.CountGuess c = pos 0
-part_of kinds.SumGuess c = pos 0
+abbrev pub certified_part : Kind → Cert → ℤ
+certified_part kinds.Count c = pos c.x
+certified_part kinds.Sum c = total (inside_of c)
+certified_part kinds.Min c = pos 0
+certified_part kinds.Max c = pos 0
+certified_part (kinds.Has value) c = pos 0
+certified_part kinds.CountGuess c = pos 0
+certified_part kinds.SumGuess c = pos 0
 
 -- the same of some certificates
-abbrev pub parts_of : Kind → List Cert → ℤ
-parts_of kind certs = total (map (part_of kind) certs)
+abbrev pub certified_sum : Kind → List Cert → ℤ
+certified_sum kind certs = total (map (certified_part kind) certs)
 
 -- an end of an answer, as a number; none of an answer that isn't a count or a sum
 abbrev pub end_asked : End → Outcome → Option ℤ
@@ -66,7 +66,7 @@ pub record IsEvidence (kind : Kind) (end : End) (seen : Seen) (w : Evidence) : T
   pub certificates : AllCertify (cuts_of seen) w.certs.items
   pub base : w.base ≡ base_of kind seen
   -- what is known exactly and the values that the certificates have in the range add up to the answer
-  pub adds_up : w.answer ≡ (w.base +ℤ parts_of kind w.certs.items)
+  pub adds_up : w.answer ≡ (w.base +ℤ certified_sum kind w.certs.items)
   -- which is the end that was asked for
   pub asked : end_asked end (outcome_seen kind seen) ≡ Some w.answer
 

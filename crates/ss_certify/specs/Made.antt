@@ -8,7 +8,7 @@ use Rattle.ss_catalog.specs.declared.query.Kind.{Kind}
 use Rattle.ss_catalog.specs.declared.query.Kind.TheVariants.{Sum}
 use Rattle.ss_query.specs.declared.asking.Seen.{Seen}
 use Rattle.ss_query.specs.declared.cut.Cut.{Cut}
-use Rattle.ss_certify.specs.Evidence.{base_of, cuts_of, parts_of}
+use Rattle.ss_certify.specs.Evidence.{base_of, cuts_of, certified_sum}
 use Rattle.ss_certify.specs.Fill.{fill}
 use Rattle.ss_certify.specs.declared.evidence.Cert.{Cert}
 use Rattle.ss_certify.specs.declared.evidence.Evidence.{Evidence}
@@ -48,7 +48,7 @@ evidence_of kind end seen =
     let base = base_of kind seen in
     let certs = map (certificate_of kind end) (cuts_of seen) in
     record {
-      answer = base +ℤ parts_of kind certs;
+      answer = base +ℤ certified_sum kind certs;
       base = base;
       certs = record { items = certs };
     }

@@ -3,7 +3,7 @@ ghost use Rattle.std.specs.Prelude.{◌≡◌, ◌^◌, ◌<◌, ◌≤◌, pos,
 ghost use Rattle.ss_summary.specs.declared.summary.TheConstants.{GREATEST_COUNT};
 ghost use Rattle.std.specs.Option.{option_map_or};
 ghost use Rattle.ss_query.specs.Asked.{IsFewMarked, IsNear};
-ghost use Rattle.ss_certify.specs.Evidence.{base_of, part_of};
+ghost use Rattle.ss_certify.specs.Evidence.{base_of, certified_part};
 ghost use Rattle.ss_certify.specs.Checked.{HasFewInside};
 ghost use Rattle.ss_summary.specs.Figures.{Figures};
 
@@ -51,7 +51,7 @@ pub fn base(seen: &Seen, kind: Kind) -> i128
 /// What the values of a certificate in the range add to that.
 pub fn part(kind: Kind, cert: &Cert) -> i128
     requires { HasFewInside cert.now }
-    ensures value { result ≡ part_of kind cert.now }
+    ensures value { result ≡ certified_part kind cert.now }
     ensures near { unsigned_abs result ≤ 2 ^ 104 }
 {
     match kind {

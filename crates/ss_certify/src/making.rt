@@ -5,7 +5,7 @@ ghost use Rattle.ss_bounds.specs.Extremes.{listed};
 ghost use Rattle.ss_bounds.specs.Parted.{CanBeParted};
 ghost use Rattle.ss_query.specs.Asked.{IsFewMarked, IsNear};
 ghost use Rattle.ss_certify.specs.Checked.{HasFewInside};
-ghost use Rattle.ss_certify.specs.Evidence.{parts_of};
+ghost use Rattle.ss_certify.specs.Evidence.{certified_sum};
 ghost use Rattle.ss_certify.specs.Made.{attaining, certificate_of, certificate_with, evidence_of, inside_sum};
 
 use crate::base::{base, part};
@@ -75,7 +75,7 @@ fn add(certs: &mut ArrayVec<Cert, 2>, cut: Option<Cut>, kind: Kind, end: End) ->
     requires { array_vec_len certs.old < 2 }
     ensures items { certs.new.items ≡ certs.old.items ++ map (certificate_of kind end) (listed cut None) }
     ensures len { array_vec_len certs.new ≤ array_vec_len certs.old + 1 }
-    ensures value { result ≡ parts_of kind (map (certificate_of kind end) (listed cut None)) }
+    ensures value { result ≡ certified_sum kind (map (certificate_of kind end) (listed cut None)) }
     ensures near { IsNear result }
 {
     match cut {

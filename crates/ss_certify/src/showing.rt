@@ -2,7 +2,7 @@
 ghost use Rattle.std.specs.Prelude.{◌≡◌, ◌↔◌, ◌≤◌, ◌^◌, ◌+ℤ◌, [], ◌∷◌, All, IsTrue, length, Some, unsigned_abs};
 ghost use Rattle.ss_bounds.specs.Extremes.{listed};
 ghost use Rattle.ss_query.specs.Asked.{IsFewMarked, outcome_seen};
-ghost use Rattle.ss_certify.specs.Evidence.{AllCertify, IsEvidence, base_of, end_asked, parts_of};
+ghost use Rattle.ss_certify.specs.Evidence.{AllCertify, IsEvidence, base_of, end_asked, certified_sum};
 ghost use Rattle.ss_certify.specs.Checked.{HasFewInside};
 
 use crate::base::{base, part};
@@ -49,7 +49,7 @@ fn all_certify(left: Option<Cut>, right: Option<Cut>, certs: &[Cert]) -> bool
 fn parts(kind: Kind, certs: &[Cert]) -> i128
     requires few { length certs.now ≤ 2 }
     requires each { All HasFewInside certs.now }
-    ensures value { result ≡ parts_of kind certs.now }
+    ensures value { result ≡ certified_sum kind certs.now }
     ensures near { unsigned_abs result ≤ 2 ^ 105 }
 {
     match certs {
@@ -63,7 +63,7 @@ fn parts(kind: Kind, certs: &[Cert]) -> i128
 fn adds_up(seen: &Seen, kind: Kind, w: &Evidence) -> bool
     requires marked { IsFewMarked seen.now.marked }
     requires each { All HasFewInside w.now.certs.items }
-    ensures { IsTrue result ↔ ((w.now.base ≡ base_of kind seen.now) × (w.now.answer ≡ (w.now.base +ℤ parts_of kind w.now.certs.items))) }
+    ensures { IsTrue result ↔ ((w.now.base ≡ base_of kind seen.now) × (w.now.answer ≡ (w.now.base +ℤ certified_sum kind w.now.certs.items))) }
 {
     let base = base(seen, kind);
     w.base == base && w.answer == base + parts(kind, w.certs.as_slice())

@@ -1,4 +1,4 @@
--- Values that are moved to other times are as many in a range as there are times in it, and their windows are the same, filters included.
+-- Values that are moved_to_times to other times are as many in a range as there are times in it, and their windows are the same, filters included.
 use Rattle.std.specs.Prelude.{◌≡◌, ℕ, zero, suc, ◌+◌, ◌-◌, Bool, ℤ, pos, ◌+ℤ◌, List, [], ◌∷◌, length, get_or, map, take, drop, All, Some}
 use Rattle.std.specs.Int.{int_min, int_max}
 use Rattle.std.proofs.Common.{ap, arith, inl, inr, refl, sym, ◌∙◌, subst}
@@ -25,7 +25,7 @@ use Rattle.ss_model.proofs.PieceLemmas.{AreOf-windows}
 use Rattle.ss_model.proofs.Rises.{boundaries-same}
 use Rattle.ss_contents.specs.Attained.{MayBeTrue, truth_of_kind}
 use Rattle.ss_contents.specs.Contents.{AreContents, Contents, IsSayableValue, Like, contents_of, count_in, own_windows, unfiltered_windows}
-use Rattle.ss_contents.specs.Moved.{AreKeptAlike, MayBeCounted, at_times_of, moved}
+use Rattle.ss_contents.specs.Moved.{AreKeptAlike, MayBeCounted, at_times_of, moved_to_times}
 use Rattle.ss_contents.proofs.ContentsLemmas.{AreContents-named}
 use Rattle.ss_contents.proofs.PieceLemmas.{AreOf-alike, cons-same}
 use Rattle.ss_contents.proofs.StepLemmas.{boundaries-others}
@@ -175,7 +175,7 @@ module _ (c d : Contents) (sound : AreContents c) (other : AreContents d) (like 
   as_many : length c.plain ≡ length d.plain
   as_many = sym like.number
 
-  pub AreContents-moved : AreContents (moved c d)
+  pub AreContents-moved : AreContents (moved_to_times c d)
   AreContents-moved = record {
     target = sound.target;
     few = omega (arith, length-at_times_of c.plain d.plain as_many, sound.few);
@@ -204,7 +204,7 @@ module _ (c d : Contents) (sound : AreContents c) (other : AreContents d) (like 
   boundaries-cut : (n : ℕ) → boundaries (rule_of c.params) (time_at d.plain) n ≡ boundaries (rule_of c.params) (time_at c.plain) n
   boundaries-cut n = boundaries-others (is_free c.landmarks) 0 (rule_of c.params) c.plain d.plain others-of sound.rising others-rise n
 
-  windows-moved : own_windows (moved c d) ≡ own_windows c
+  windows-moved : own_windows (moved_to_times c d) ≡ own_windows c
   windows-moved =
       let rule = rule_of c.params in
       let n = length c.plain in
@@ -223,10 +223,10 @@ module _ (c d : Contents) (sound : AreContents c) (other : AreContents d) (like 
       ∙ like.windows in
       number ∙ stretches-at_times_of 1 bs c.plain d.plain as_many others
 
-  pub AreKeptAlike-moved : AreKeptAlike (moved c d) c
+  pub AreKeptAlike-moved : AreKeptAlike (moved_to_times c d) c
   AreKeptAlike-moved = record { params = refl; landmarks = refl; windows = windows-moved }
 
-  pub count_in-moved : (from to : ℕ) → count_in from to (moved c d) ≡ count_in from to d
+  pub count_in-moved : (from to : ℕ) → count_in from to (moved_to_times c d) ≡ count_in from to d
   count_in-moved from to =
       let marked = asked from to (marked_values c.landmarks) in
       let those = asked from to (marked_values d.landmarks) in
@@ -249,7 +249,7 @@ MayBeCounted-true streams query n kind may history s whole is found =
     let at = may history s whole is found in
     let sound = AreContents-named history query.name s whole (ap (stream_named query.name) is ∙ found) in
     record {
-      contents = moved c at.contents;
+      contents = moved_to_times c at.contents;
       sound = AreContents-moved c at.contents sound at.sound at.like;
       kept = AreKeptAlike-moved c at.contents sound at.sound at.like;
       counts = count_in-moved c at.contents sound at.sound at.like query.from query.to

@@ -11,7 +11,7 @@ use Rattle.ss_model.specs.Refusals.{IsHistory}
 use Rattle.ss_model.specs.State.{Stream, state, stream_named}
 use Rattle.ss_model.specs.declared.types.Window.{Window}
 use Rattle.ss_contents.specs.Contents.{AreContents, Contents, contents_of, count_in, own_windows}
-use Rattle.ss_contents.specs.Moved.{AreKeptAlike, HasCount, MayBeCounted, at_times_of, moved}
+use Rattle.ss_contents.specs.Moved.{AreKeptAlike, HasCount, MayBeCounted, at_times_of, moved_to_times}
 use Rattle.ss_contents.specs.Rebuilt.{rebuilt}
 use Rattle.ss_contents.specs.Sides.{Sides}
 
@@ -40,23 +40,23 @@ three = record { inside = pos 5 ∷ negsuc 2 ∷ pos 8 ∷ []; outside = pos 1 �
 abbrev others : List Sides
 others = record { inside = negsuc 2 ∷ negsuc 1 ∷ []; outside = pos 8 ∷ pos 8 ∷ [] } ∷ []
 
-plain-moved : (moved readings (rebuilt 10 25 others readings)).plain
+plain-moved : (moved_to_times readings (rebuilt 10 25 others readings)).plain
     ≡ (10, pos 5, New) ∷ (11, negsuc 2, New) ∷ (26, pos 8, New) ∷ (40, pos 1, New) ∷ (50, pos 9, New) ∷ (60, pos 2, New) ∷ (70, pos 7, New) ∷ []
 unfolding window_index
 plain-moved = refl
 
 has-others : map (λ (c : Contents). map (λ (w : Window). has w.summary.filter (negsuc 1)) (own_windows c))
-    (readings ∷ rebuilt 10 25 others readings ∷ moved readings (rebuilt 10 25 others readings) ∷ [])
+    (readings ∷ rebuilt 10 25 others readings ∷ moved_to_times readings (rebuilt 10 25 others readings) ∷ [])
     ≡ (false ∷ false ∷ false ∷ []) ∷ (true ∷ false ∷ false ∷ []) ∷ (false ∷ false ∷ false ∷ []) ∷ []
 unfolding window_index bit_of filter_of union has
 has-others = refl
 
-windows-moved : map own_windows (moved readings (rebuilt 10 25 one readings) ∷ moved readings (rebuilt 10 25 three readings) ∷ [])
+windows-moved : map own_windows (moved_to_times readings (rebuilt 10 25 one readings) ∷ moved_to_times readings (rebuilt 10 25 three readings) ∷ [])
     ≡ own_windows readings ∷ own_windows readings ∷ []
 unfolding window_index
 windows-moved = refl
 
-counts-moved : map (count_in 10 25) (moved readings (rebuilt 10 25 one readings) ∷ readings ∷ moved readings (rebuilt 10 25 three readings) ∷ [])
+counts-moved : map (count_in 10 25) (moved_to_times readings (rebuilt 10 25 one readings) ∷ readings ∷ moved_to_times readings (rebuilt 10 25 three readings) ∷ [])
     ≡ 1 ∷ 2 ∷ 3 ∷ []
 unfolding window_index
 counts-moved = refl
@@ -69,11 +69,11 @@ windows-minutes : map (λ (w : Window). w.summary.count) (own_windows minutes) �
 unfolding window_index
 windows-minutes = refl
 
-windows-moved_in_minutes : own_windows (moved minutes (rebuilt 10 25 three minutes)) ≡ own_windows minutes
+windows-moved_in_minutes : own_windows (moved_to_times minutes (rebuilt 10 25 three minutes)) ≡ own_windows minutes
 unfolding window_index
 windows-moved_in_minutes = refl
 
-counts-moved_in_minutes : count_in 10 25 (moved minutes (rebuilt 10 25 three minutes)) ≡ 3
+counts-moved_in_minutes : count_in 10 25 (moved_to_times minutes (rebuilt 10 25 three minutes)) ≡ 3
 unfolding window_index
 counts-moved_in_minutes = refl
 

@@ -14,8 +14,8 @@ at_times_of (p ∷ ps) [] = []
 at_times_of (p ∷ ps) (o ∷ others) = (o.0, p.1, p.2) ∷ at_times_of ps others
 
 -- contents with their values, in their order, at the times of others
-abbrev pub moved : Contents → Contents → Contents
-moved c d = record { params = c.params; plain = at_times_of c.plain d.plain; landmarks = c.landmarks }
+abbrev pub moved_to_times : Contents → Contents → Contents
+moved_to_times c d = record { params = c.params; plain = at_times_of c.plain d.plain; landmarks = c.landmarks }
 
 -- nothing at all that a store keeps tells two contents apart: their windows have the same filters too
 pub record AreKeptAlike (c d : Contents) : Type 0 where

@@ -29,7 +29,7 @@ use Rattle.ss_frames.specs.Frame.{
   FrameState,
   IsValidFrame,
   SpellsFrame,
-  checked,
+  checked_frame,
   content,
   event_in,
   frame_fields,
@@ -234,7 +234,7 @@ SpellsFrame-frame_in bytes f found =
 
 -- what passes both tests is answered
 found : (x f : FrameState) (bytes : List ℕ) → x ≡ f → bytes ≡ frame_spelled f → is_valid_frame f.number f.event ≡ true
-    → cond (bytes_eq (frame_spelled x) bytes) (checked x) None ≡ Some f
+    → cond (bytes_eq (frame_spelled x) bytes) (checked_frame x) None ≡ Some f
 found x f bytes is spelled valid =
     let same = (bytes_eq-Decides (frame_spelled x) bytes).1 (ap frame_spelled is ∙ sym spelled) in
     let test : is_valid_frame x.number x.event ≡ true = subst (λ (g : FrameState). is_valid_frame g.number g.event ≡ true) (sym is) valid in
@@ -285,7 +285,7 @@ event_name-event_in bytes =
     (cond-name (slice_index bytes 0 == 4) _ _ (name_in bytes) refl refl)))
 
 -- and none is valid whose name is none
-pub checked-unnamed : (bytes : List ℕ) → is_name (name_in bytes) ≡ false → checked (frame_read bytes) ≡ None
+pub checked-unnamed : (bytes : List ℕ) → is_name (name_in bytes) ≡ false → checked_frame (frame_read bytes) ≡ None
 checked-unnamed bytes unnamed =
     let x = frame_read bytes in
     let no : is_valid_frame x.number x.event ≡ false = false_from_ne_true _ (λ test.
@@ -304,7 +304,7 @@ unnamed-none word found is none = unnamed-by (is_name word) word (sym is ∙ non
 pub is_name-long : (word : List ℕ) → 32 < length word → is_name word ≡ false
 is_name-long word long = false_from_ne_true (is_name word) (λ named. let short = length-is_name word named in omega arith)
 
-pub checked-long : (bytes : List ℕ) → length bytes ≡ 64 → 32 < slice_index bytes 2 → checked (frame_read bytes) ≡ None
+pub checked-long : (bytes : List ℕ) → length bytes ≡ 64 → 32 < slice_index bytes 2 → checked_frame (frame_read bytes) ≡ None
 checked-long bytes long more =
     let size = length-take (slice_index bytes 2) (drop 16 bytes) in
     let rest = length-drop 16 bytes in
@@ -315,16 +315,16 @@ cond-none : (b : Bool) (o : Option FrameState) → o ≡ None → cond b o None 
 cond-none true o none = none
 cond-none false o none = refl
 
-pub frame_in-unread : (bytes : List ℕ) → checked (frame_read bytes) ≡ None → frame_in bytes ≡ None
+pub frame_in-unread : (bytes : List ℕ) → checked_frame (frame_read bytes) ≡ None → frame_in bytes ≡ None
 unfolding frame_in
-frame_in-unread bytes none = cond-none (bytes_eq (frame_spelled (frame_read bytes)) bytes) (checked (frame_read bytes)) none
+frame_in-unread bytes none = cond-none (bytes_eq (frame_spelled (frame_read bytes)) bytes) (checked_frame (frame_read bytes)) none
 
 -- nor is what is spelled in another way
 checked-some : (b : Bool) (x f : FrameState) → cond b (Some x) None ≡ Some f → x ≡ f
 checked-some true x f is = cc
 checked-some false x f is = absurd cc
 
-pub none-spelled : (bytes : List ℕ) (frame : FrameState) → checked (frame_read bytes) ≡ Some frame → bytes_eq (frame_spelled frame) bytes ≡ false
+pub none-spelled : (bytes : List ℕ) (frame : FrameState) → checked_frame (frame_read bytes) ≡ Some frame → bytes_eq (frame_spelled frame) bytes ≡ false
     → (f : FrameState) → ¬ SpellsFrame bytes f
 unfolding frame_in
 none-spelled bytes frame read other f spells =

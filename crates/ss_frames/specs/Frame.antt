@@ -122,9 +122,9 @@ abbrev pub frame_read : List ℕ → FrameState
 frame_read bytes = record { number = number_at 8 bytes 8; event = event_in bytes }
 
 -- the frame, if it is valid
-abbrev pub checked : FrameState → Option FrameState
-checked f = if is_valid_frame f.number f.event then Some f else None
+abbrev pub checked_frame : FrameState → Option FrameState
+checked_frame f = if is_valid_frame f.number f.event then Some f else None
 
 -- the valid frame whose spelling the bytes are, if they are that of one
 unfoldable pub frame_in : List ℕ → Option FrameState
-frame_in bytes = if bytes_eq (frame_spelled (frame_read bytes)) bytes then checked (frame_read bytes) else None
+frame_in bytes = if bytes_eq (frame_spelled (frame_read bytes)) bytes then checked_frame (frame_read bytes) else None

@@ -1,6 +1,6 @@
 // Frames, read.
 ghost use Rattle.std.specs.Prelude.{◌≡◌, IfSome, IfNone};
-ghost use Rattle.ss_frames.specs.Frame.{FrameState, SpellsFrame, checked, event_in, frame_in, frame_read, name_in};
+ghost use Rattle.ss_frames.specs.Frame.{FrameState, SpellsFrame, checked_frame, event_in, frame_in, frame_read, name_in};
 
 use crate::encoding::encode_frame;
 use crate::frame::{CLOSE, CONTENT, CREATE, FRAME_SIZE, Frame, NAME, NUMBER, OPEN, STEP, VALUE};
@@ -38,7 +38,7 @@ fn event_in(bytes: &[u8; FRAME_SIZE], name: Name) -> Event
 
 // The one frame whose spelling the bytes can be, if it is a valid one.
 fn frame_read(bytes: &[u8; FRAME_SIZE]) -> Option<Frame>
-    ensures { result ≡ checked (frame_read bytes.now) }
+    ensures { result ≡ checked_frame (frame_read bytes.now) }
 {
     let length = usize::from(bytes[2]);
     if length > LONGEST_NAME {

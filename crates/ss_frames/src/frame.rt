@@ -100,12 +100,12 @@ fn is_valid_frame(number: u64, event: &Event) -> bool
 
 impl Frame {
     ghost use Rattle.std.specs.Prelude.{◌≡◌, ◌↔◌, IsSome};
-    ghost use Rattle.ss_frames.specs.Frame.{FrameState, IsValidFrame, checked};
+    ghost use Rattle.ss_frames.specs.Frame.{FrameState, IsValidFrame, checked_frame};
 
     /// The frame of an event with its number, if it is a valid one.
     pub fn of(number: u64, event: Event) -> Option<Frame>
         ensures valid { IsSome result ↔ IsValidFrame number event }
-        ensures exact { result ≡ checked (record { number = number; event = event }) }
+        ensures exact { result ≡ checked_frame (record { number = number; event = event }) }
     {
         if is_valid_frame(number, &event) {
             Some(Frame { number, event })

@@ -12,7 +12,7 @@ use Rattle.ss_line.specs.declared.entry.At.{At}
 use Rattle.ss_line.specs.declared.entry.Entry.{Entry}
 use Rattle.ss_line.specs.declared.chain.Chain.{Chain}
 use Rattle.ss_line.specs.Line.{LineState, StandsIn, is_at, index_of, place_at, place_before}
-use Rattle.ss_line.specs.Chain.{entry_in, behind_in, before_in, Links, GivesBack, WritesEntry}
+use Rattle.ss_line.specs.Chain.{node_entry, behind_in, before_in, Links, GivesBack, WritesEntry}
 use Rattle.ss_line.specs.Held.{IsHeld}
 use Rattle.ss_line.proofs.IndexLemmas.{counted, entry_there, place_at-index, not_placed, not_before, one_index, place_at-differ, place_before-differ}
 use Rattle.ss_line.proofs.IndexLemmas.{nothing, place_at-set, place_before-set}
@@ -122,13 +122,13 @@ module _ (line : LineState) (old : Chain) (len : ℕ) (held : IsHeld line old le
     abbrev pub with_entry : List (At × Entry)
     with_entry = set line.entries (index_of line.entries at) (at, entry)
 
-    kept-set : (k : ℕ) (e : At × Entry) → slice_get with_entry k ≡ Some e → entry_in new e.0 ≡ Some e.1
+    kept-set : (k : ℕ) (e : At × Entry) → slice_get with_entry k ≡ Some e → node_entry new e.0 ≡ Some e.1
     kept-set k e is =
         elim (cases_eq k index) [
           | inl here ↦ (
               let same : (at, entry) ≡ e = (let there = slice_get-set_same line.entries index (at, entry) stands in
               let read = ap (slice_get with_entry) here in cc) in
-              subst (λ (e : At × Entry). entry_in new e.0 ≡ Some e.1) same writes.there)
+              subst (λ (e : At × Entry). node_entry new e.0 ≡ Some e.1) same writes.there)
           | inr other ↦ (
               let was = sym (slice_get-set_other line.entries index k (at, entry) other) ∙ is in
               writes.entries e.0 (λ same. absurd (other (one_index (is_at at) line.entries k index e _ was (entry_there line.entries at stands).1

@@ -12,7 +12,7 @@ use Rattle.ss_line.specs.declared.entry.Entry.{Entry}
 use Rattle.ss_line.specs.declared.chain.Node.{Node}
 use Rattle.ss_line.specs.declared.chain.Chain.{Chain}
 use Rattle.ss_line.specs.Line.{LineState, IsLine, StandsIn, is_at, index_of, entry_at, place_at, place_before}
-use Rattle.ss_line.specs.Chain.{HasNoPlace, IsWithin, entry_in, behind_in, before_in, Links}
+use Rattle.ss_line.specs.Chain.{HasNoPlace, HasNode, node_entry, behind_in, before_in, Links}
 use Rattle.ss_line.specs.Held.{IsHeld, entries_from, line_of}
 use Rattle.ss_line.proofs.PlaceLemmas.{StandsIn-place_at}
 use Rattle.ss_line.proofs.IndexLemmas.{counted, entry_there, place_at-index, place_at-past}
@@ -42,7 +42,7 @@ from_node nodes n at entry behind rest (Some node) kept linked later =
 
 -- the entries that are met are those that are linked
 entries_from-linked : (chain : Chain) (entries : List (At × Entry)) →
-    ((k : ℕ) (entry : At × Entry) → slice_get entries k ≡ Some entry → entry_in chain entry.0 ≡ Some entry.1) →
+    ((k : ℕ) (entry : At × Entry) → slice_get entries k ≡ Some entry → node_entry chain entry.0 ≡ Some entry.1) →
     ((k : ℕ) → k < length entries → behind_in chain (place_at entries k) ≡ place_at entries (suc k)) →
     entries_from chain.nodes.items (length entries) (place_at entries 0) ≡ entries
 entries_from-linked chain [] kept linked = refl
@@ -102,7 +102,7 @@ module _ (line : LineState) (chain : Chain) (len : ℕ) (held : IsHeld line chai
   apart at = omega (arith, held.once at, one-le (nat_lt at.0 (length chain.nodes.items)))
 
   -- each place in the line has a node
-  pub within-stands : (at : At) → StandsIn line.entries at → IsWithin chain at
+  pub within-stands : (at : At) → StandsIn line.entries at → HasNode chain at
   within-stands at stands =
       elim (cases_lt at.0 (length chain.nodes.items)) [
         | inl lt ↦ lt
@@ -117,16 +117,16 @@ module _ (line : LineState) (chain : Chain) (len : ℕ) (held : IsHeld line chai
             )))
       ]
 
-  pub within-place_at : (k : ℕ) (o : Option At) → o ≡ place_at line.entries k → IfSome o (IsWithin chain)
+  pub within-place_at : (k : ℕ) (o : Option At) → o ≡ place_at line.entries k → IfSome o (HasNode chain)
   within-place_at k None is = tt
   within-place_at k (Some at) is = within-stands at (StandsIn-place_at line.entries k at (sym is))
 
-  pub within-place_before : (k : ℕ) (o : Option At) → o ≡ place_before line.entries k → IfSome o (IsWithin chain)
+  pub within-place_before : (k : ℕ) (o : Option At) → o ≡ place_before line.entries k → IfSome o (HasNode chain)
   within-place_before zero o is = rw is tt
   within-place_before (suc k) o is = within-place_at k o is
 
   -- so has each free place
-  pub within-free : (k : ℕ) (o : Option At) → o ≡ slice_get held.frees k → IfSome o (IsWithin chain)
+  pub within-free : (k : ℕ) (o : Option At) → o ≡ slice_get held.frees k → IfSome o (HasNode chain)
   within-free k None is = tt
   within-free k (Some at) is =
       elim (cases_lt at.0 (length chain.nodes.items)) [

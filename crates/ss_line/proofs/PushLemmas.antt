@@ -11,7 +11,7 @@ use Rattle.ss_line.specs.declared.entry.At.{At}
 use Rattle.ss_line.specs.declared.entry.Entry.{Entry}
 use Rattle.ss_line.specs.declared.chain.Chain.{Chain}
 use Rattle.ss_line.specs.Line.{LineState, StandsIn, is_at, place_before}
-use Rattle.ss_line.specs.Chain.{IsWithin, entry_in, behind_in, before_in, Links, TakesPlace}
+use Rattle.ss_line.specs.Chain.{HasNode, node_entry, behind_in, before_in, Links, TakesPlace}
 use Rattle.ss_line.specs.Held.{IsHeld}
 use Rattle.ss_line.proofs.IndexLemmas.{counted, entry_there, place_at-past, not_placed, not_before, place_at-differ, place_before-differ}
 use Rattle.ss_line.proofs.IndexLemmas.{slice_get-append_below, slice_get-append_last, place_at-push_below, place_at-push_last, place_at-push_past}
@@ -45,7 +45,7 @@ below_next k n =
     ]
 
 -- a place that has a node keeps it
-within-more : (old new : Chain) (o : Option At) → length old.nodes.items ≤ length new.nodes.items → IfSome o (IsWithin old) → IfSome o (IsWithin new)
+within-more : (old new : Chain) (o : Option At) → length old.nodes.items ≤ length new.nodes.items → IfSome o (HasNode old) → IfSome o (HasNode new)
 within-more old new None more within = tt
 within-more old new (Some at) more within = omega (arith, more, within)
 
@@ -147,7 +147,7 @@ module _ (line : LineState) (old : Chain) (len : ℕ) (held : IsHeld line old le
     pub place-last : new.last ≡ place_before line.entries (length line.entries)
     place-last = takes.before None (λ is. absurd (cc)) ∙ last-held line old len held
 
-    pub within-last : IfSome new.last (IsWithin new)
+    pub within-last : IfSome new.last (HasNode new)
     within-last = within-more old new new.last IsTaken-place.more (within-place_before line old len held (length line.entries) new.last place-last)
 
     module _ (linked ended : Chain) (joins : Links new (place_before line.entries (length line.entries)) (Some at) linked)
@@ -186,7 +186,7 @@ module _ (line : LineState) (old : Chain) (len : ℕ) (held : IsHeld line old le
               | inr past ↦ (
                   let here : k ≡ n = omega (arith, past, more, slice_get_within _ k e is) in
                   let same : (at, entry) ≡ e = (let there = slice_get-append_last line.entries (at, entry) k here in cc) in
-                  subst (λ (e : At × Entry). entry_in ended e.0 ≡ Some e.1) same (ends.entries at ∙ joins.entries at ∙ takes.there))
+                  subst (λ (e : At × Entry). node_entry ended e.0 ≡ Some e.1) same (ends.entries at ∙ joins.entries at ∙ takes.there))
             ];
             behind = λ k le. elim (cases_lt k n) [
               | inl lt ↦ ap (behind_in ended) (place_before-push line.entries (at, entry) k (omega (arith, lt))) ∙

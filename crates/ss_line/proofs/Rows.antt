@@ -8,7 +8,7 @@ use Rattle.ss_line.specs.declared.chain.Node.{Node}
 use Rattle.ss_line.specs.declared.chain.Chain.{Chain}
 use Rattle.ss_line.specs.declared.line.TheConstants.{MOST_PLACES}
 use Rattle.ss_line.specs.Line.{IsLine, LineState, is_at, index_of, entry_at, place_at, place_before}
-use Rattle.ss_line.specs.Chain.{entry_in, behind_in, before_in}
+use Rattle.ss_line.specs.Chain.{node_entry, behind_in, before_in}
 use Rattle.ss_line.specs.Held.{entries_from}
 
 abbrev place : ℕ → At
@@ -62,7 +62,7 @@ pub entries_from-end : entries_from nodes 9 (Some (place 1)) ≡ (place 1, windo
 entries_from-end = refl
 
 module _ (chain : Chain) (are : chain.nodes.items ≡ nodes) where
-  pub entry_in-second : entry_in chain (place 0) ≡ Some (window 5 6)
+  pub entry_in-second : node_entry chain (place 0) ≡ Some (window 5 6)
   entry_in-second = ap (λ (ns : List Node). option_and_then (λ (n : Node). Some n.entry) (slice_get ns 0)) are
 
   pub behind_in-first : behind_in chain (Some (place 2)) ≡ Some (place 0)

@@ -13,12 +13,12 @@ pub record HasNoPlace (chain : Chain) : Type 0 where
   pub free : chain.free ≡ None
 
 -- the place has a node
-abbrev pub IsWithin : Chain → At → Type 0
-IsWithin chain at = at.0 < length chain.nodes.items
+abbrev pub HasNode : Chain → At → Type 0
+HasNode chain at = at.0 < length chain.nodes.items
 
 -- the entry that is kept at a place
-abbrev pub entry_in : Chain → At → Option Entry
-entry_in chain at = option_and_then (λ node. Some node.entry) (slice_get chain.nodes.items at.0)
+abbrev pub node_entry : Chain → At → Option Entry
+node_entry chain at = option_and_then (λ node. Some node.entry) (slice_get chain.nodes.items at.0)
 
 -- the place behind a place, or that at the front
 abbrev pub behind_in : Chain → Option At → Option At
@@ -40,7 +40,7 @@ pub record LinksBehind (old : Chain) (at behind : Option At) (new : Chain) : Typ
   pub there : behind_in new at ≡ behind
   pub others : (other : Option At) → other ≢ at → behind_in new other ≡ behind_in old other
   pub before : (other : Option At) → before_in new other ≡ before_in old other
-  pub entries : (other : At) → entry_in new other ≡ entry_in old other
+  pub entries : (other : At) → node_entry new other ≡ node_entry old other
   pub free : new.free ≡ old.free
   pub size : KeepsSize old new
 
@@ -49,7 +49,7 @@ pub record LinksBefore (old : Chain) (at before : Option At) (new : Chain) : Typ
   pub there : before_in new at ≡ before
   pub others : (other : Option At) → other ≢ at → before_in new other ≡ before_in old other
   pub behind : (other : Option At) → behind_in new other ≡ behind_in old other
-  pub entries : (other : At) → entry_in new other ≡ entry_in old other
+  pub entries : (other : At) → node_entry new other ≡ node_entry old other
   pub free : new.free ≡ old.free
   pub size : KeepsSize old new
 
@@ -59,14 +59,14 @@ pub record Links (old : Chain) (before behind : Option At) (new : Chain) : Type 
   pub before_there : before_in new behind ≡ before
   pub behind_others : (other : Option At) → other ≢ before → behind_in new other ≡ behind_in old other
   pub before_others : (other : Option At) → other ≢ behind → before_in new other ≡ before_in old other
-  pub entries : (other : At) → entry_in new other ≡ entry_in old other
+  pub entries : (other : At) → node_entry new other ≡ node_entry old other
   pub free : new.free ≡ old.free
   pub size : KeepsSize old new
 
 -- the entry is kept at the place that was the next free one, or at a new one, and all other places stay
 pub record TakesPlace (old : Chain) (entry : Entry) (at : At) (new : Chain) : Type 0 where
-  pub there : entry_in new at ≡ Some entry
-  pub entries : (other : At) → other ≢ at → entry_in new other ≡ entry_in old other
+  pub there : node_entry new at ≡ Some entry
+  pub entries : (other : At) → other ≢ at → node_entry new other ≡ node_entry old other
   pub behind : (other : Option At) → other ≢ Some at → behind_in new other ≡ behind_in old other
   pub before : (other : Option At) → other ≢ Some at → before_in new other ≡ before_in old other
   pub place : MatchOption old.free (at.0 ≡ length old.nodes.items) (λ free. at ≡ free)
@@ -79,14 +79,14 @@ pub record GivesBack (old : Chain) (at : At) (new : Chain) : Type 0 where
   pub there : behind_in new (Some at) ≡ old.free
   pub behind : (other : Option At) → other ≢ Some at → behind_in new other ≡ behind_in old other
   pub before : (other : Option At) → before_in new other ≡ before_in old other
-  pub entries : (other : At) → entry_in new other ≡ entry_in old other
+  pub entries : (other : At) → node_entry new other ≡ node_entry old other
   pub free : new.free ≡ Some at
   pub size : KeepsSize old new
 
 -- the entry is kept at the place, and all else stays
 pub record WritesEntry (old : Chain) (at : At) (entry : Entry) (new : Chain) : Type 0 where
-  pub there : entry_in new at ≡ Some entry
-  pub entries : (other : At) → other ≢ at → entry_in new other ≡ entry_in old other
+  pub there : node_entry new at ≡ Some entry
+  pub entries : (other : At) → other ≢ at → node_entry new other ≡ node_entry old other
   pub behind : (other : Option At) → behind_in new other ≡ behind_in old other
   pub before : (other : Option At) → before_in new other ≡ before_in old other
   pub free : new.free ≡ old.free

@@ -8,7 +8,7 @@ use Rattle.ss_line.specs.declared.chain.Node.{Node}
 use Rattle.ss_line.specs.declared.chain.Chain.{Chain}
 use Rattle.ss_line.specs.declared.line.TheConstants.{MOST_PLACES}
 use Rattle.ss_line.specs.Line.{LineState, is_at, place_at, place_before}
-use Rattle.ss_line.specs.Chain.{entry_in, behind_in, before_in}
+use Rattle.ss_line.specs.Chain.{node_entry, behind_in, before_in}
 
 -- the entries that are met from a place on, at most so many
 abbrev pub entries_from : List Node → ℕ → Option At → List (At × Entry)
@@ -30,7 +30,7 @@ pub record IsHeld (line : LineState) (chain : Chain) (len : ℕ) : Type 0 where
   -- none of its entries is missing
   pub whole : length line.entries ≡ len
   -- each place in the line keeps its entry
-  pub kept : (k : ℕ) (entry : At × Entry) → slice_get line.entries k ≡ Some entry → entry_in chain entry.0 ≡ Some entry.1
+  pub kept : (k : ℕ) (entry : At × Entry) → slice_get line.entries k ≡ Some entry → node_entry chain entry.0 ≡ Some entry.1
   -- behind each place is that of the next entry, and the line begins with that of the first
   pub behind : (k : ℕ) → k ≤ length line.entries → behind_in chain (place_before line.entries k) ≡ place_at line.entries k
   -- before each place is that of the entry before, and the line ends with that of the last

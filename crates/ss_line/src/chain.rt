@@ -1,6 +1,6 @@
 // The nodes that hold a line, linked in its order, and the list of the free ones.
 ghost use Rattle.std.specs.Prelude.{◌≡◌, ◌<◌, ◌≤◌, ◌⊎◌, IfSome, IsSome, length, vec_len, vec_capacity};
-ghost use Rattle.ss_line.specs.Chain.{HasNoPlace, IsWithin, LinksBehind, LinksBefore, Links, TakesPlace, GivesBack, WritesEntry};
+ghost use Rattle.ss_line.specs.Chain.{HasNoPlace, HasNode, LinksBehind, LinksBefore, Links, TakesPlace, GivesBack, WritesEntry};
 
 use crate::{At, Entry, MOST_PLACES};
 use std::alloc::Global;
@@ -40,7 +40,7 @@ impl Chain {
 
     // The place behind this one is that; where this is none, the line begins with that.
     fn link_behind(&mut self, at: Option<At>, behind: Option<At>)
-        requires { IfSome at (IsWithin self.old) }
+        requires { IfSome at (HasNode self.old) }
         ensures { LinksBehind self.old at behind self.new }
     {
         match at {
@@ -51,7 +51,7 @@ impl Chain {
 
     // The place before this one is that; where this is none, the line ends with that.
     fn link_before(&mut self, at: Option<At>, before: Option<At>)
-        requires { IfSome at (IsWithin self.old) }
+        requires { IfSome at (HasNode self.old) }
         ensures { LinksBefore self.old at before self.new }
     {
         match at {
@@ -62,8 +62,8 @@ impl Chain {
 
     // Makes two places neighbours; none is an end of the line.
     pub fn join(&mut self, before: Option<At>, behind: Option<At>)
-        requires before { IfSome before (IsWithin self.old) }
-        requires behind { IfSome behind (IsWithin self.old) }
+        requires before { IfSome before (HasNode self.old) }
+        requires behind { IfSome behind (HasNode self.old) }
         ensures { Links self.old before behind self.new }
     {
         self.link_behind(before, behind);
@@ -72,7 +72,7 @@ impl Chain {
 
     // Puts an entry at the free place that is given next, or at a new one, and gives the place.
     pub fn take_place(&mut self, entry: Entry) -> At
-        requires free { IfSome self.old.free (IsWithin self.old) }
+        requires free { IfSome self.old.free (HasNode self.old) }
         requires room { IsSome self.old.free ⊎ (vec_len self.old.nodes < vec_capacity self.old.nodes) }
         requires few { vec_len self.old.nodes ≤ MOST_PLACES }
         ensures { TakesPlace self.old entry result self.new }
@@ -100,7 +100,7 @@ impl Chain {
 
     // Makes a place the free one that is given next.
     pub fn give_back(&mut self, at: At)
-        requires { IsWithin self.old at }
+        requires { HasNode self.old at }
         ensures { GivesBack self.old at self.new }
     {
         self.nodes[at.0 as usize].behind = self.free;
@@ -109,7 +109,7 @@ impl Chain {
 
     // Puts an entry in place of the one that is kept at a place.
     pub fn write(&mut self, at: At, entry: Entry)
-        requires { IsWithin self.old at }
+        requires { HasNode self.old at }
         ensures { WritesEntry self.old at entry self.new }
     {
         self.nodes[at.0 as usize].entry = entry;

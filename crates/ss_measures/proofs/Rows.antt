@@ -12,7 +12,7 @@ use Rattle.ss_catalog.specs.declared.event.Event.TheVariants as events
 use Rattle.ss_catalog.specs.declared.query.Kind.TheVariants as kinds
 use Rattle.ss_catalog.specs.declared.series.Series.{Series}
 use Rattle.ss_measures.specs.Ages.{cuts, length_at, open_at, values_since}
-use Rattle.ss_measures.specs.Parts.{IsCountWithin, IsExtremeWithin, IsSumWithin, count_of, greatest_of, least_of, of_rows, sum_of}
+use Rattle.ss_measures.specs.Parts.{IsCountWithin, IsExtremeWithin, IsSumWithin, answered_count, answered_greatest, answered_least, of_rows, answered_sum}
 use Rattle.ss_measures.specs.Sizes.{HoldsAtMost, NeedsAtMost, TakesAtMost, UsesFewSlots}
 use Rattle.ss_model.specs.History.{Happened, added}
 use Rattle.ss_model.specs.State.{Stream, live, records_of, state}
@@ -94,7 +94,7 @@ eight =
 abbrev fours : Stream
 fours = record { number = 0; name = []; params = power 1 0 1 4; windows = windows (without_step (power_length 1 0 1 4)) eight; landmarks = [] }
 
-count-fours : count_of fours 15 55 ≡ (2, 6)
+count-fours : answered_count fours 15 55 ≡ (2, 6)
 unfolding power_length window_index
 count-fours = refl
 
@@ -206,36 +206,36 @@ abbrev one : Stream
 one = record { number = 0; name = []; params = exp 2 1 1; windows = their_windows; landmarks = [] }
 
 -- the range 15 to 45 has one to three of the first window's values, 5, 3, 8 and 1, and its two parts leave two more open
-count-range : count_of one 15 45 ≡ (1, 3)
+count-range : answered_count one 15 45 ≡ (1, 3)
 unfolding window_index
 count-range = refl
 
-count-parts : sum_of_counts (count_of one 15 25 ∷ count_of one 26 45 ∷ []) ≡ (1, 5)
+count-parts : sum_of_counts (answered_count one 15 25 ∷ answered_count one 26 45 ∷ []) ≡ (1, 5)
 unfolding window_index
 count-parts = refl
 
-sum-range : sum_of one 15 45 ≡ (pos 1, pos 16)
+sum-range : answered_sum one 15 45 ≡ (pos 1, pos 16)
 unfolding window_index sum_interval
 sum-range = refl
 
-sum-parts : sum_of_sums (sum_of one 15 25 ∷ sum_of one 26 45 ∷ []) ≡ (pos 1, pos 31)
+sum-parts : sum_of_sums (answered_sum one 15 25 ∷ answered_sum one 26 45 ∷ []) ≡ (pos 1, pos 31)
 unfolding window_index sum_interval
 sum-parts = refl
 
 -- the first window lies whole in 10 to 45, and both its halves may have each of its values
-least-range : least_of one 10 45 ≡ Sure (pos 1) (pos 1)
+least-range : answered_least one 10 45 ≡ Sure (pos 1) (pos 1)
 unfolding window_index
 least-range = refl
 
-least-parts : least_of_all (least_of one 10 25 ∷ least_of one 26 45 ∷ []) ≡ Sure (pos 1) (pos 8)
+least-parts : least_of_all (answered_least one 10 25 ∷ answered_least one 26 45 ∷ []) ≡ Sure (pos 1) (pos 8)
 unfolding window_index
 least-parts = refl
 
-greatest-range : greatest_of one 10 45 ≡ Sure (pos 8) (pos 8)
+greatest-range : answered_greatest one 10 45 ≡ Sure (pos 8) (pos 8)
 unfolding window_index
 greatest-range = refl
 
-greatest-parts : greatest_of_all (greatest_of one 10 25 ∷ greatest_of one 26 45 ∷ []) ≡ Sure (pos 1) (pos 8)
+greatest-parts : greatest_of_all (answered_greatest one 10 25 ∷ answered_greatest one 26 45 ∷ []) ≡ Sure (pos 1) (pos 8)
 unfolding window_index
 greatest-parts = refl
 
@@ -243,7 +243,7 @@ greatest-parts = refl
 abbrev in_rows : Series
 in_rows = record { name = []; kind = kinds.Count; from = 15; to = 45; step = 11 }
 
-count-rows : of_rows (count_of one) in_rows ≡ (0, 2) ∷ (0, 2) ∷ (1, 3) ∷ []
+count-rows : of_rows (answered_count one) in_rows ≡ (0, 2) ∷ (0, 2) ∷ (1, 3) ∷ []
 unfolding window_index numbers_from
 count-rows = refl
 

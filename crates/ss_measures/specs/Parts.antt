@@ -10,17 +10,17 @@ use Rattle.ss_model.specs.Marks.{marked_values}
 use Rattle.ss_model.specs.State.{Stream}
 
 -- what a stream answers of the times from..=to: the interval of their count, of their sum, of the least and of the greatest
-abbrev pub count_of : Stream → ℕ → ℕ → ℕ × ℕ
-count_of s from to = interval_of_count (is_free s.landmarks) from to s.windows (marked_values s.landmarks)
+abbrev pub answered_count : Stream → ℕ → ℕ → ℕ × ℕ
+answered_count s from to = interval_of_count (is_free s.landmarks) from to s.windows (marked_values s.landmarks)
 
-abbrev pub sum_of : Stream → ℕ → ℕ → ℤ × ℤ
-sum_of s from to = interval_of_sum (is_free s.landmarks) from to s.windows (marked_values s.landmarks)
+abbrev pub answered_sum : Stream → ℕ → ℕ → ℤ × ℤ
+answered_sum s from to = interval_of_sum (is_free s.landmarks) from to s.windows (marked_values s.landmarks)
 
-abbrev pub least_of : Stream → ℕ → ℕ → Extreme
-least_of s from to = interval_of_least (is_free s.landmarks) from to s.windows (marked_values s.landmarks)
+abbrev pub answered_least : Stream → ℕ → ℕ → Extreme
+answered_least s from to = interval_of_least (is_free s.landmarks) from to s.windows (marked_values s.landmarks)
 
-abbrev pub greatest_of : Stream → ℕ → ℕ → Extreme
-greatest_of s from to = interval_of_greatest (is_free s.landmarks) from to s.windows (marked_values s.landmarks)
+abbrev pub answered_greatest : Stream → ℕ → ℕ → Extreme
+answered_greatest s from to = interval_of_greatest (is_free s.landmarks) from to s.windows (marked_values s.landmarks)
 
 -- an answer of each row of a series
 abbrev pub of_rows : {X : Type 0} → (ℕ → ℕ → X) → Series → List X

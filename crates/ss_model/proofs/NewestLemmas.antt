@@ -3,7 +3,7 @@ use Rattle.ss_model.proofs.Common.{◌≡◌, ◌∙◌, ℕ, suc, ◌+◌, ◌-
 use Rattle.ss_model.proofs.Common.{Some, None, inl, inr, ◌≤ℤ◌, All, Contains, nat_le, nat_lt, option_map, filter, cases_Bool, nat_tests, ints, clamps}
 use Rattle.ss_model.proofs.Common.{append-nil, take-append-drop, All-append, All-cons, All-head, All-nil, Landmark, LandmarkValue, all_values, AreLandmarks}
 use Rattle.ss_model.proofs.Common.{Point, greatest, least, summary_of, time_at_end, boundaries, later, latest_of, marked_values, newer, HoldsNewest, IsNewest}
-use Rattle.ss_model.proofs.Common.{LiesWithin, kept_point, RiseAtFree, same_name, Happened, landmarks_of, marked_of, values_of, newest_in, newest_of}
+use Rattle.ss_model.proofs.Common.{NewestLiesWithin, kept_point, RiseAtFree, same_name, Happened, landmarks_of, marked_of, values_of, newest_in, newest_of}
 use Rattle.ss_model.proofs.Common.{IsHistory, IsStream, Created, Stream, standing, stream_after, stream_named, Newest, is_free, Rule, rule_of, stretches}
 use Rattle.ss_model.proofs.Common.{time_at, time_of_last, windows, Known, Window}
 use Rattle.std.proofs.Common.{ℤ}
@@ -150,7 +150,7 @@ All-earlier xs first last order all k d below = let early = all k d below in ome
 
 abbrev HoldsKnown : Option Known → List Point → Type 0
 HoldsKnown None values = values ≡ []
-HoldsKnown (Some known) values = LiesWithin known.at known.lo known.hi values
+HoldsKnown (Some known) values = NewestLiesWithin known.at known.lo known.hi values
 
 known-windows : (free : ℕ → Bool) (rule : Rule) (plain : List Point) → RiseAtFree free 0 plain →
     HoldsKnown (option_map known_in (newest_window (windows rule plain))) plain
@@ -178,8 +178,8 @@ known-values (x ∷ xs) (Some y) rising last =
 known-newer : (a b : Option Known) (xs ys : List Point) → HoldsKnown a xs → HoldsKnown b ys → HoldsKnown (newer a b) (xs ++ ys)
 known-newer None b xs ys first second = subst (λ (front : List Point). HoldsKnown b (front ++ ys)) (sym first) second
 known-newer (Some k) None xs ys first second =
-    subst (λ (back : List Point). LiesWithin k.at k.lo k.hi (xs ++ back)) (sym second)
-    (subst (LiesWithin k.at k.lo k.hi) (sym (append-nil xs)) first)
+    subst (λ (back : List Point). NewestLiesWithin k.at k.lo k.hi (xs ++ back)) (sym second)
+    (subst (NewestLiesWithin k.at k.lo k.hi) (sym (append-nil xs)) first)
 known-newer (Some k) (Some other) xs ys first second = elim (cases_Bool (nat_lt other.at k.at)) [
   | inl early ↦
       (let before : other.at < k.at = grind (arith, nat_tests) in

@@ -1,5 +1,5 @@
 -- Rows of when what is told of the newest value of a stream is true: what each part of it says.
-use Rattle.ss_model.proofs.Common.{ℤ, ◌≤ℤ◌, All, Contains, Option, refl, Point, New, HoldsNewest, IsNewest, LiesWithin, kept_point, Nothing, Time}
+use Rattle.ss_model.proofs.Common.{ℤ, ◌≤ℤ◌, All, Contains, Option, refl, Point, New, HoldsNewest, IsNewest, NewestLiesWithin, kept_point, Nothing, Time}
 use Rattle.std.specs.Prelude.{◌≡◌, ℕ, ◌≤◌, pos, List, [], Some, None}
 use Rattle.ss_model.specs.declared.newest.Newest.TheVariants.{Value}
 
@@ -12,7 +12,7 @@ module _ {p : Point} {values : List Point} (newest : IsNewest p values) where
   newest-latest = newest.latest
 
 -- the newest of some values lies within what is told
-module _ {at : ℕ} {lo hi : ℤ} {values : List Point} (lies : LiesWithin at lo hi values) where
+module _ {at : ℕ} {lo hi : ℤ} {values : List Point} (lies : NewestLiesWithin at lo hi values) where
   within-newest : IsNewest lies.value values
   within-newest = lies.newest
 
@@ -44,7 +44,7 @@ module _ {t at : ℕ} {lo hi : ℤ} {last : Option ℕ} {values : List Point} wh
   value-last : HoldsNewest (Value t at lo hi) last values → last ≡ Some t
   value-last holds = holds.0
 
-  value-within : HoldsNewest (Value t at lo hi) last values → LiesWithin at lo hi values
+  value-within : HoldsNewest (Value t at lo hi) last values → NewestLiesWithin at lo hi values
   value-within holds = holds.1
 
 -- a value of a landmark as a point

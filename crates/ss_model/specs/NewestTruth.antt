@@ -11,7 +11,7 @@ pub record IsNewest (p : Point) (values : List Point) : Type 0 where
   pub latest : All (λ (q : Point). q.0 ≤ p.0) values
 
 -- the newest of some values has this time, and lies from one value to another
-pub record LiesWithin (at : ℕ) (lo hi : ℤ) (values : List Point) : Type 0 where
+pub record NewestLiesWithin (at : ℕ) (lo hi : ℤ) (values : List Point) : Type 0 where
   pub value : Point
   pub newest : IsNewest value values
   pub time : value.0 ≡ at
@@ -22,7 +22,7 @@ pub record LiesWithin (at : ℕ) (lo hi : ℤ) (values : List Point) : Type 0 wh
 abbrev pub HoldsNewest : Newest → Option ℕ → List Point → Type 0
 HoldsNewest Nothing last values = (last ≡ None) × (values ≡ [])
 HoldsNewest (Time t) last values = (last ≡ Some t) × (values ≡ [])
-HoldsNewest (Value t at lo hi) last values = (last ≡ Some t) × LiesWithin at lo hi values
+HoldsNewest (Value t at lo hi) last values = (last ≡ Some t) × NewestLiesWithin at lo hi values
 
 -- a value of a landmark as a point. It counts as new.
 abbrev pub kept_point : LandmarkValue → Point

@@ -2,13 +2,13 @@
 use Rattle.ss_program.proofs.Common.{◌≡◌, ◌⊎◌, ◌∙◌, ℕ, ℤ, List, [], ◌∷◌, ◌++◌, length, Option, Some, None, Result, Ok, Err, refl, sym, ap, ap₂, subst, inl, inr}
 use Rattle.ss_program.proofs.Common.{arith, common_steps, ◌+ℤ◌, All, false, flat_map, map, option_map, pos, length-map, map-append, All-head, All-tail, listed}
 use Rattle.ss_program.proofs.Common.{event_name, row_query, row_start, rows_of, row_count, whole_query, Event, End, Kind, Query, Refusal, Series, evidence_in}
-use Rattle.ss_program.proofs.Common.{base_of, parts_of, certificate_of, evidence_of, Evidence, meant-sayable, meaning, IsSayable, takes_value, Command, Do, Ask}
+use Rattle.ss_program.proofs.Common.{base_of, certified_sum, certificate_of, evidence_of, Evidence, meant-sayable, meaning, IsSayable, takes_value, Command, Do, Ask}
 use Rattle.ss_program.proofs.Common.{Certify, Last, Values, Windows, is_free, history-old, state-old, answer_of, refuses_query, added, marked_values, newest_in}
 use Rattle.ss_program.proofs.Common.{refuses_values, as_old, unfiltered_stream, unfiltered_window, IsHistory, refuses, refuses_reading, refuses_series, Stream}
 use Rattle.ss_program.proofs.Common.{state, stream_named, ack_of, Outcome, Has, Presence, Maybe, Ack, seen_count, seen_of, seen_sum, Seen, Cut, reply_line}
 use Rattle.ss_program.proofs.Common.{Reply, Refused, SeriesHead, WindowsHead, ListHead, Recovers, Stands, recovers, Brought, History, answer_replies, brings}
 use Rattle.ss_program.proofs.Common.{certified, command_brings, history_after, line_text, meaning_brings, newest_replies, only_replies, row_shown, series_rows}
-use Rattle.ss_program.proofs.Common.{stream_rows, text_brought, the_event, unless_refused, values_shown, windows_shown, plain_after, text_of, plain}
+use Rattle.ss_program.proofs.Common.{stream_rows, text_brought, the_event, unless_refused, values_shown, windows_shown, plain_after, text_of, plain_talk}
 use Rattle.ss_command.specs.declared.command.Command.TheVariants.{Series as AskRows, List as ListAll}
 use Rattle.ss_model.specs.Answers.{outcome_of}
 use Rattle.ss_report.specs.declared.reply.Reply.TheVariants.{Done}
@@ -43,7 +43,7 @@ evidence-alike : (kind : Kind) (end : End) (one other : Seen) → AreSeenAlike o
 evidence-alike kind end one other alike =
     let made = λ (base : ℤ) (cuts : List Cut).
     (let w : Evidence = record {
-      answer = base +ℤ parts_of kind (map (certificate_of kind end) cuts);
+      answer = base +ℤ certified_sum kind (map (certificate_of kind end) cuts);
       base = base;
       certs = record { items = map (certificate_of kind end) cuts };
     } in w) in
@@ -122,29 +122,29 @@ unvalued kind none v is = grind (arith, common_steps)
 said-command : (one other : History) (command : Command) → HaveSameEvents one other → IsSayable command →
     ((query : Query) (v : ℤ) → command ≡ Ask query → query.kind ≡ kinds.Has v → ⊥) →
     text_brought (command_brings one command) ≡ text_brought (command_brings other command)
-said-command one other (Do event) same sayable plain = ap text_brought (event-alike one other event same)
-said-command one other (Ask query) same sayable plain =
+said-command one other (Do event) same sayable plain_talk = ap text_brought (event-alike one other event same)
+said-command one other (Ask query) same sayable plain_talk =
     said-alike (λ streams. refuses_query streams query) (λ streams. answer_replies (outcome_of streams query)) (λ streams. refuses_query-old streams query)
-    (λ streams. ap (λ o. flat_map reply_line (answer_replies o)) (outcome-old streams query (λ v is. plain query v refl is))) one other same
-said-command one other (Certify query end) same sayable plain =
+    (λ streams. ap (λ o. flat_map reply_line (answer_replies o)) (outcome-old streams query (λ v is. plain_talk query v refl is))) one other same
+said-command one other (Certify query end) same sayable plain_talk =
     said-alike (λ streams. refuses_query streams query) (λ streams. certified (evidence_in streams query end)) (λ streams. refuses_query-old streams query)
     (λ streams. ap (λ w. flat_map reply_line (certified w)) (evidence-old streams query end)) one other same
-said-command one other (AskRows series) same sayable plain =
+said-command one other (AskRows series) same sayable plain_talk =
     said-alike (λ streams. refuses_series streams series) (λ streams. SeriesHead series.kind (row_count series) ∷ series_rows streams series)
     (λ streams. refuses_query-old streams (whole_query series))
     (λ streams. ap (λ (rows : List Reply). flat_map reply_line (SeriesHead series.kind (row_count series) ∷ rows))
     (series-old streams series (rows_of series) (unvalued series.kind sayable.2))) one other same
-said-command one other (Last name) same sayable plain =
+said-command one other (Last name) same sayable plain_talk =
     said-alike (λ streams. refuses_reading streams name) (λ streams. newest_replies (newest_in streams name)) (λ streams. refuses_reading-old streams name)
     (λ streams. ap (λ told. flat_map reply_line (newest_replies told)) (newest-alike streams name)) one other same
-said-command one other (Values name from to) same sayable plain =
+said-command one other (Values name from to) same sayable plain_talk =
     said-alike (λ streams. refuses_values streams name from to) (λ streams. values_shown from to (stream_named name streams))
     (λ streams. refuses_values-old streams name from to)
     (λ streams. ap (flat_map reply_line) (read-old (values_shown from to) (λ s. refl) name streams)) one other same
-said-command one other (Windows name) same sayable plain =
+said-command one other (Windows name) same sayable plain_talk =
     said-alike (λ streams. refuses_reading streams name) (λ streams. windows_shown (stream_named name streams))
     (λ streams. refuses_reading-old streams name) (λ streams. windows-old name streams) one other same
-said-command one other ListAll same sayable plain =
+said-command one other ListAll same sayable plain_talk =
     origins-alike (λ streams. flat_map reply_line (ListHead (length streams) ∷ stream_rows streams)) list-old one other same
 
 brought-command : (one other : History) (command : Command) → HaveSameEvents one other →
@@ -159,10 +159,10 @@ said-meaning : (one other : History) (meant : Result (Option Command) Refusal) �
     ((command : Command) → meant ≡ Ok (Some command) → IsSayable command) →
     ((query : Query) (v : ℤ) → meant ≡ Ok (Some (Ask query)) → query.kind ≡ kinds.Has v → ⊥) →
     text_brought (meaning_brings one meant) ≡ text_brought (meaning_brings other meant)
-said-meaning one other (Err refusal) same sayable plain = refl
-said-meaning one other (Ok None) same sayable plain = refl
-said-meaning one other (Ok (Some command)) same sayable plain =
-    said-command one other command same (sayable command refl) (λ query v is. plain query v (ap (λ c. Ok (Some c)) is))
+said-meaning one other (Err refusal) same sayable plain_talk = refl
+said-meaning one other (Ok None) same sayable plain_talk = refl
+said-meaning one other (Ok (Some command)) same sayable plain_talk =
+    said-command one other command same (sayable command refl) (λ query v is. plain_talk query v (ap (λ c. Ok (Some c)) is))
 
 brought-meaning : (one other : History) (meant : Result (Option Command) Refusal) → HaveSameEvents one other →
     (meaning_brings one meant).event ≡ (meaning_brings other meant).event
@@ -171,8 +171,8 @@ brought-meaning one other (Ok None) same = refl
 brought-meaning one other (Ok (Some command)) same = brought-command one other command same
 
 pub line-said : (one other : History) (line : List ℕ) → HaveSameEvents one other → (AsksPresence line → ⊥) → line_text one line ≡ line_text other line
-line-said one other line same plain =
-    said-meaning one other (meaning line) same (meant-sayable line) (λ query v is has. plain (query, v, is, has))
+line-said one other line same plain_talk =
+    said-meaning one other (meaning line) same (meant-sayable line) (λ query v is has. plain_talk (query, v, is, has))
 
 pub line-brought : (one other : History) (line : List ℕ) → HaveSameEvents one other → (brings one line).event ≡ (brings other line).event
 line-brought one other line same = brought-meaning one other (meaning line) same
@@ -195,7 +195,7 @@ lines-after one other (line ∷ ls) same =
     lines-after (history_after one (brings one line)) (history_after other (brings other line)) ls (line-after one other line same)
 
 pub lines-said : (one other : History) (ls : List (List ℕ)) → HaveSameEvents one other → All (λ line. AsksPresence line → ⊥) ls →
-    text_of (plain one) ls ≡ text_of (plain other) ls
+    text_of (plain_talk one) ls ≡ text_of (plain_talk other) ls
 lines-said one other [] same spared = refl
 lines-said one other (line ∷ ls) same spared =
     let P = λ (l : List ℕ). AsksPresence l → ⊥ in

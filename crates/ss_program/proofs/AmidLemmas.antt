@@ -1,8 +1,8 @@
 -- Between two lines of a session: how it begins, how it goes on, and where a run stops.
 use Rattle.ss_program.proofs.Common.{◌≡◌, ℕ, ◌≤◌, ◌++◌, List, [], ◌∷◌, length, Option, Some, None, Result, Ok, Err, OnOk, refl, sym, ap, ◌∙◌, subst}
 use Rattle.ss_program.proofs.Common.{common_steps, append_assoc, arith, append-nil, length-append, at_start, joined, of_content, weaker, KnowsNow, LeavesOnly}
-use Rattle.ss_program.proofs.Common.{DiskView, NothingPending, Told, shown_by, Cursors, Amid, AreOwed, GoesAmid, IsAmid, IsAtRest, Takes, TakesNone}
-use Rattle.ss_program.proofs.Common.{one_more, owed_by, IsOpen, NoneWait, SessionState, StandsBeyond, StandsWithin, StopsIn, sealing_by, HoldsTalk, appended}
+use Rattle.ss_program.proofs.Common.{DiskView, NothingPending, Told, shown_by, Cursors, Amid, AreOwed, GoesAmid, IsAmid, IsAtRest, TakesFurther, TakesNone}
+use Rattle.ss_program.proofs.Common.{one_line_more, owed_by, IsOpen, NoneWait, SessionState, StandsBeyond, StandsWithin, StopsIn, sealing_by, HoldsTalk, appended}
 use Rattle.ss_program.proofs.Common.{after_lines, text_of, Talk, Sealing, Each, Shared, Status}
 use Rattle.ss_program.proofs.SessionLemmas.{after_lines-append, moments-more, text_of-append}
 
@@ -20,7 +20,7 @@ owed-nothing (Some replies) none = none
 
 -- one line more is
 pub AreOwed-more : (sealing : Sealing) (lines : Option ℕ) (ls : List (List ℕ)) (line : List ℕ) → AreOwed sealing lines ls →
-    AreOwed sealing (one_more lines) (ls ++ line ∷ [])
+    AreOwed sealing (one_line_more lines) (ls ++ line ∷ [])
 AreOwed-more Each None ls line few = few
 AreOwed-more Each (Some n) ls line few = omega (arith, few, length-append ls (line ∷ []))
 AreOwed-more Shared None ls line few = tt
@@ -116,8 +116,8 @@ said-all sealing talk ls before at disk none is =
 module _ {sealing : Sealing} {talk : Talk} {ls : List (List ℕ)} {before : Option (List ℕ)} {from mid to : Amid} {old between new : Told} where
   -- lines are taken, and then others
   pub Takes-then : {more mores : List (List ℕ)} {u : Unit {0}} (result : Result (Unit {0}) Status) →
-      Takes sealing talk ls more before from mid (Ok u) old between → Takes sealing talk (ls ++ more) mores before mid to result between new →
-      Takes sealing talk ls (more ++ mores) before from to result old new
+      TakesFurther sealing talk ls more before from mid (Ok u) old between → TakesFurther sealing talk (ls ++ more) mores before mid to result between new →
+      TakesFurther sealing talk ls (more ++ mores) before from to result old new
   Takes-then {more = more} {mores = mores} (Ok u) first second = record {
     goes = λ at.
         let one = first.goes at in
@@ -135,11 +135,11 @@ module _ {sealing : Sealing} {talk : Talk} {ls : List (List ℕ)} {before : Opti
 
   -- or others alone
   pub Takes-next : {mores : List (List ℕ)} {u : Unit {0}} (result : Result (Unit {0}) Status) →
-      Takes sealing talk ls [] before from mid (Ok u) old between → Takes sealing talk ls mores before mid to result between new →
-      Takes sealing talk ls mores before from to result old new
+      TakesFurther sealing talk ls [] before from mid (Ok u) old between → TakesFurther sealing talk ls mores before mid to result between new →
+      TakesFurther sealing talk ls mores before from to result old new
   Takes-next {mores = mores} result first second =
       Takes-then {more = []} {mores = mores} result first
-      (subst (λ l. Takes sealing talk l mores before mid to result between new) (sym (append-nil ls)) second)
+      (subst (λ l. TakesFurther sealing talk l mores before mid to result between new) (sym (append-nil ls)) second)
 
 -- none are taken
 pub TakesNone-still : (at : Cursors → Amid) (disk : Told) (u : Unit {0}) → KnowsNow disk → TakesNone at at (Ok u) disk disk

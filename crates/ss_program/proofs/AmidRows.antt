@@ -1,6 +1,6 @@
 -- What each field says of where a run stopped and of what is owed, and bounds that are false just past them.
 use Rattle.ss_program.proofs.Common.{◌≡◌, ℕ, ◌+◌, ◌<◌, ◌≤◌, ◌++◌, List, [], ◌∷◌, length, take, Option, Some, None, refl, arith, IsTrue, false, IsSealed}
-use Rattle.ss_program.proofs.Common.{DiskView, OfContent, Told, StoreIsKept, StoreState, AreOwed, IsReady, owed_by, with_text, IsOpen, IsServing, HoldsAcked}
+use Rattle.ss_program.proofs.Common.{DiskView, OfContent, Told, StoreIsKept, StoreState, AreOwed, IsReadyToServe, owed_by, with_text, IsOpen, IsServing, HoldsAcked}
 use Rattle.ss_program.proofs.Common.{HoldsBy, steps_within, HoldsTalk, BeginsWithWant, HasTaken, NoneWait, SessionState, StandsBeyond, StopsAmong, sealing_by}
 use Rattle.ss_program.proofs.Common.{appended, after_lines, text_of, Talk, turn_of, Sealing, Each, Shared, Status, OutOfMemory, steps}
 
@@ -106,8 +106,8 @@ module _ (disk : DiskView) (store : StoreState) where
   open-sealed is = is.sealed
 
   -- between two lines nothing is staged where each event is sealed by itself
-  ready-serves : (waiting : Option (List ℕ)) → IsReady disk store waiting → IsServing disk store
+  ready-serves : (waiting : Option (List ℕ)) → IsReadyToServe disk store waiting → IsServing disk store
   ready-serves waiting is = is.serves
 
-  ready-sealed : IsReady disk store None → IsSealed store.records.journal
+  ready-sealed : IsReadyToServe disk store None → IsSealed store.records.journal
   ready-sealed is = is.staged

@@ -1,7 +1,7 @@
 -- Worked rows of certificates, each computed from a history.
 use Rattle.ss_program.proofs.Common.{◌≡◌, ◌++◌, [], ◌∷◌, refl, ℕ, List, Some, Ok, codes, map, pos, negsuc, flat_map, Create, Value, exp, End, Query}
 use Rattle.ss_program.proofs.Common.{evidence_in, IsEvidence, end_asked, Evidence, lines, Happened, added, Stream, stream_named, OnlyReads, Told, seen_of}
-use Rattle.ss_program.proofs.Common.{Recovers, FindsEvidence, IsSharp, History, accepted, report, plain}
+use Rattle.ss_program.proofs.Common.{Recovers, FindsEvidence, IsSharp, History, accepted, report, plain_talk}
 use Rattle.std.specs.Fmt.{digits}
 use Rattle.ss_bounds.specs.Attained.{greatest_sum_at, least_sum_at}
 use Rattle.ss_bounds.specs.Split.{sum_interval}
@@ -34,7 +34,7 @@ certifies =
     ∷ codes "certify a count hi 10 25" ∷ codes "certify x sum lo 5 4" ∷ codes "certify a sum lo 5 4" ∷ codes "certify a max lo 5 4"
     ∷ codes "certify a sum lo 5 x" ∷ codes "certify a! sum lo 5 4" ∷ [])
 
-report-certifies : report (plain readings) certifies
+report-certifies : report (plain_talk readings) certifies
     ≡ text (codes "certify -5 0 1" ∷ codes "inside 1 4 2 -3*1 -2*1" ∷ codes "outside 1 4 2 8*2"
     ∷ codes "certify 25 0 2" ∷ codes "inside 1 4 2 8*2" ∷ codes "outside 1 4 2 -3*1 -2*1" ∷ codes "inside 5 6 1 9*1" ∷ codes "outside 5 6 1 2*1"
     ∷ codes "certify 4 4 0"
@@ -45,7 +45,7 @@ unfolding ended_lines unended meaning words is_number number_of number_up_to sig
 report-certifies = refl
 
 -- they add no event
-accepted-certifies : accepted (plain readings) (lines certifies) ≡ []
+accepted-certifies : accepted (plain_talk readings) (lines certifies) ≡ []
 unfolding ended_lines unended meaning words is_number number_of number_up_to signed_of is_name state refuses_query outcome_of sum_interval window_index
     least_sum_at greatest_sum_at fill
 accepted-certifies = refl

@@ -3,8 +3,8 @@ use Rattle.ss_program.proofs.Common.{◌≡◌, ◌∙◌, ◌⊎◌, ℕ, ◌+�
 use Rattle.ss_program.proofs.Common.{subst, append_assoc, arith, inl, inr, append-nil, max, Form, Mode, Serve, Check, Gen, Sealing, Each, nothing_pending-same}
 use Rattle.ss_program.proofs.Common.{read_leaves, reads-none, KnowsNow, OnlyReads, DiskView, NothingPending, Told, WhereTold, Stands, StandsShort, UsesAtMost}
 use Rattle.ss_program.proofs.Common.{most_needed, length-uses, UsesAtMost-more, StandsShortForFirst, acks, AreLinked, Ending, Extends, ExtendsAll, IsLeftBy}
-use Rattle.ss_program.proofs.Common.{IsLink, Link, acked_in, acked_till, by_crash, by_itself, offered_in, Generates, generated, History, Serves, accepted}
-use Rattle.ss_program.proofs.Common.{steps, Talk, begun, begun_over, plain, Status, Done, Usage, RefusedStore, DiskFault, SourceFault, SinkFault, OutOfMemory}
+use Rattle.ss_program.proofs.Common.{IsLink, Link, acked_in, acked_till, by_crash, by_itself, offered_in, Generates, generated_lines, History, Serves, accepted}
+use Rattle.ss_program.proofs.Common.{steps, Talk, begun, begun_over, plain_talk, Status, Done, Usage, RefusedStore, DiskFault, SourceFault, SinkFault, OutOfMemory}
 use Rattle.ss_program.proofs.Common.{InputLimit, RecordChanged}
 use Rattle.ss_journal.specs.declared.format.TheConstants.{FIRST_SLOT, MOST_SLOTS, SLOT_SIZE}
 use Rattle.ss_program.proofs.HeldLemmas.{StandsShortForFirst-within}
@@ -123,12 +123,12 @@ done-or OutOfMemory = inr (λ is. cc)
 done-or InputLimit = inr (λ is. cc)
 done-or RecordChanged = inr (λ is. cc)
 
--- a run over a generated file
+-- a run over a generated_lines file
 generate-goes : {D : Type 0} (used : Option ℕ) (link : Link D) (seed count : ℕ) (ending : Ending) (history : History) (old new : Told) →
     Generates used history seed count (Some link.had) (Some link.has) old new link.status → IsLeftBy ending old new link.image →
     Goes used (as_of link (Some (Gen seed count)) ending) history
 generate-goes used link seed count by_itself history old new generates left =
-    let events = accepted (plain history) (generated seed count) in
+    let events = accepted (plain_talk history) (generated_lines seed count) in
     elim (done-or link.status) [
       | inl done ↦ (
         history ++ take (length events) events,
@@ -159,7 +159,7 @@ generate-goes used link seed count by_itself history old new generates left =
     ]
 generate-goes used link seed count by_crash history old new generates left =
     let some = generates.any_moment.each link.image left in (
-      history ++ take some.0 (accepted (plain history) (generated seed count)),
+      history ++ take some.0 (accepted (plain_talk history) (generated_lines seed count)),
       record {
         j = some.0;
         is = refl;

@@ -2,7 +2,7 @@
 use Rattle.ss_program.proofs.Common.{◌≡◌, ◌⊎◌, ◌∙◌, ◌≤◌, ◌++◌, ℕ, List, [], ◌∷◌, length, take, zero, suc, ap, arith, inl, inr, lit≤, refl, subst, false, Some}
 use Rattle.ss_program.proofs.Common.{None, codes, flat_map, pos, negsuc, Lines, Serve, Check, Gen, Each, Create, Value, exp, Happened, added, KnowsNow}
 use Rattle.ss_program.proofs.Common.{DiskView, WhereTold, Stands-unformed, Stands, AreLinked, Extends, Link, accepted_of, acked_of, acked_till, by_crash}
-use Rattle.ss_program.proofs.Common.{by_itself, offered_in, generated, History, accepted, plain, Done, DiskFault}
+use Rattle.ss_program.proofs.Common.{by_itself, offered_in, generated_lines, History, accepted, plain_talk, Done, DiskFault}
 use Rattle.std.specs.Fmt.{digits}
 use Rattle.ss_catalog.specs.Names.{is_name}
 use Rattle.ss_command.specs.Grammar.{meaning}
@@ -32,7 +32,7 @@ first_input = flat_map (λ line. line ++ 10 ∷ []) (codes "create a exp 2 1 1" 
 abbrev second_input : List ℕ
 second_input = codes "append a 20 -3" ++ 10 ∷ []
 
--- the events of a run are those of its input, or of the generated file
+-- the events of a run are those of its input, or of the generated_lines file
 accepted-first : accepted_of (Some (Serve (Lines false) Each)) first_input [] ≡ created ∷ ten ∷ []
 unfolding ended_lines unended meaning words is_number number_of number_up_to signed_of is_name state refuses window_index
 accepted-first = refl
@@ -52,7 +52,7 @@ accepted-none : accepted_of None first_input [] ≡ []
 accepted-none = refl
 
 accepted-generated : (seed count : ℕ) (history : History) →
-    accepted_of (Some (Gen seed count)) first_input history ≡ accepted (plain history) (generated seed count)
+    accepted_of (Some (Gen seed count)) first_input history ≡ accepted (plain_talk history) (generated_lines seed count)
 accepted-generated seed count history = refl
 
 -- with the last byte of its reply an event is acknowledged, where there is an input

@@ -40,7 +40,7 @@ pub use Rattle.ss_catalog.specs.declared.refusal.Refusal.TheVariants.{Unknown, R
 pub use Rattle.ss_catalog.specs.declared.series.Series.{Series}
 pub use Rattle.ss_certify.proofs.SharpLemmas.{All-named, HasCuts-seen_of, MayBeTrue-answer, end_asked-answer}
 pub use Rattle.ss_certify.specs.Called.{evidence_in, ChecksEvidence}
-pub use Rattle.ss_certify.specs.Evidence.{base_of, parts_of, IsEvidence, end_asked}
+pub use Rattle.ss_certify.specs.Evidence.{base_of, certified_sum, IsEvidence, end_asked}
 pub use Rattle.ss_certify.specs.Made.{certificate_of, evidence_of}
 pub use Rattle.ss_certify.specs.Told.{head_of, side_of, told}
 pub use Rattle.ss_certify.specs.declared.evidence.Evidence.{Evidence}
@@ -100,7 +100,7 @@ pub use Rattle.ss_outside.specs.Step.{Step}
 pub use Rattle.ss_outside.specs.Verdict.{Counted, Rose, fine, Verdict, verdict, failed}
 pub use Rattle.ss_outside.specs.declared.source.Failed.{Failed}
 pub use Rattle.ss_power.specs.Power.{power_length}
-pub use Rattle.ss_program.specs.Amid.{Amid, AreOwed, GoesAmid, HasRoom, IsAmid, IsAtRest, IsReady, Takes, TakesNone, one_more, owed_by, with_text, Owed}
+pub use Rattle.ss_program.specs.Amid.{Amid, AreOwed, GoesAmid, HasRoomForReply, IsAmid, IsAtRest, IsReadyToServe, TakesFurther, TakesNone, one_line_more, owed_by, with_text, Owed}
 pub use Rattle.ss_program.specs.Amid.{StagesBrought, TakesBrought, TakesTurn, amid, OfAmid, TakesBytes, TakesLast, TakesOrdered, StagesFramed, staged_replies}
 pub use Rattle.ss_program.specs.Amid.{TakesStarved}
 pub use Rattle.ss_program.specs.Answer.{IsOpen, IsServing, Adds, at_sink, SendsRows, AsksQuery, AppliesEvent, DoesCommand, Shows}
@@ -110,23 +110,23 @@ pub use Rattle.ss_program.specs.Certifying.{HasEvidence, FindsEvidence, IsSharp}
 pub use Rattle.ss_program.specs.Chained.{AreLinked, Ending, Extends, ExtendsAll, IsLeftBy, IsLink, Link, acked_in, acked_till, by_crash, by_itself, offered_in}
 pub use Rattle.ss_program.specs.Chained.{accepted_of, acked_of}
 pub use Rattle.ss_program.specs.Checked.{ChecksStore, survey_line, Checks}
-pub use Rattle.ss_program.specs.Cursor.{order_in, Ordered, close_brings, closing, leaves_cursors, next_brings, open_brings, opening, placed_rows, showing}
+pub use Rattle.ss_program.specs.Cursor.{order_in, Ordered, close_brings, closes_cursor, leaves_cursors, next_brings, open_brings, opens_cursor, placed_rows, showing}
 pub use Rattle.ss_program.specs.Cursor.{unless_unopened, order_brings}
 pub use Rattle.ss_program.specs.Devices.{Devices, over}
 pub use Rattle.ss_program.specs.Ending.{Completes, Ends, HasNumbers, IsRefusedContent, IsUnfed, Refuses, served_by, Feeds, Rejects, Unfed, serving, Serving}
-pub use Rattle.ss_program.specs.Generated.{Generates, generated, StandsForAll, StandsForGenerated, summary, first_lines, is_done, is_refused, last_six}
+pub use Rattle.ss_program.specs.Generated.{Generates, generated_lines, StandsForAll, StandsForGenerated, summary, first_lines, is_done, is_refused, last_six}
 pub use Rattle.ss_program.specs.Generated.{summary_lines, GeneratesFrom}
 pub use Rattle.ss_program.specs.Held.{HoldsAcked, StandsShortForFirst, acks, StandsForFirst}
 pub use Rattle.ss_program.specs.Line.{Brought, History, answer_replies, brings, certified, command_brings, history_after, line_text, meaning_brings}
 pub use Rattle.ss_program.specs.Line.{newest_replies, only_replies, row_shown, series_rows, stream_rows, text_brought, the_event, unless_refused, values_shown}
 pub use Rattle.ss_program.specs.Line.{windows_shown, accepted_in, command_in, framed_replies, brings_in, kept_in, meaning_in, refused, text_said, window_rows}
-pub use Rattle.ss_program.specs.Line.{nothing, accepted_frame, due_brings, frame_brings, frame_replies, value_rows, IsSpeaker, event_in}
+pub use Rattle.ss_program.specs.Line.{nothing, accepted_frame, due_brings, frame_brings, frame_replies, value_rows, IsSpeaker, event_asked}
 pub use Rattle.ss_program.specs.Needed.{needed}
 pub use Rattle.ss_program.specs.Outcome.{HoldsBy, steps_within, Serves, TakesFew, NotBegun, Reads, Reports, Stopped, Took, HoldsReported, Moved, ReadsPiece}
 pub use Rattle.ss_program.specs.Outcome.{ServesInput}
 pub use Rattle.ss_program.specs.Progress.{NoneWait, SessionState, StandsBeyond, StandsWithin, StopsIn, sealing_by, HoldsTalk, BeginsWithWant, HasTaken}
 pub use Rattle.ss_program.specs.Progress.{StopsAmong, StandsAround, IsAlone, EndsSession, HasReplied, TakesPiece, EndsWell, GoesOn}
-pub use Rattle.ss_program.specs.Reading.{StepState, TellsStep, most_read, under_way}
+pub use Rattle.ss_program.specs.Reading.{StepState, TellsStep, most_read, step_under_way}
 pub use Rattle.ss_program.specs.Refused.{AsRefused, refusal_line, status_of_open, SaysRefusal, RefusesStore}
 pub use Rattle.ss_program.specs.Sent.{appended, AppendsLess, Sends, SaysLine, AppendsFront, StopsSaying, Puts}
 pub use Rattle.ss_program.specs.Series.{AnswersQuery, IsSeriesText}
@@ -134,7 +134,7 @@ pub use Rattle.ss_program.specs.Session.{plain_after, text_of, after_lines, afte
 pub use Rattle.ss_program.specs.Status.{IsApplyStop, IsDiskStop, IsShowStop, IsStop, EndsAs, EndsServing, disk_verdict, exit_number, sink_verdict}
 pub use Rattle.ss_program.specs.Status.{source_verdict, ended}
 pub use Rattle.ss_program.specs.Steps.{steps, kept_so_far, kept_step, steps_so_far, is_in_pieces}
-pub use Rattle.ss_program.specs.Talk.{plain, Talk, turn_of, Turn, after_turn, silent, turn_brought, begun, begun_over, is_framed, kept_spoken, meant_turn}
+pub use Rattle.ss_program.specs.Talk.{plain_talk, Talk, turn_of, Turn, after_turn, silent, turn_brought, begun, begun_over, is_framed, kept_spoken, meant_turn}
 pub use Rattle.ss_program.specs.Talk.{turn_in, turn_spoken, writing, event_turn, plain_over, turn_to, kept_framed, kept_offered, kept_turn, turn_said}
 pub use Rattle.ss_program.specs.Tally.{HasRun, IsSingle, Tallies, RunsAll}
 pub use Rattle.ss_program.specs.Words.{usage}
@@ -156,9 +156,9 @@ pub use Rattle.ss_report.specs.Text.{reply_line, said_line, answer_kind, answer_
 pub use Rattle.ss_report.specs.declared.reply.Reply.{Reply}
 pub use Rattle.ss_report.specs.declared.reply.Reply.TheVariants.{Refused, SeriesHead, WindowsHead, ListHead, Answered, Cursor, Window, Rows, Row, ValuesHead}
 pub use Rattle.ss_report.specs.declared.reply.Reply.TheVariants.{CertifyHead, Side, Closed, Framed}
-pub use Rattle.ss_sessions.specs.Cursors.{Cursors, cursor_of, cursor_rows, flattened, opened, with_cursor, no_cursors, cursor_refusals}
+pub use Rattle.ss_sessions.specs.Cursors.{Cursors, cursor_of, cursor_rows, flattened, cursor_opened, with_cursor, no_cursors, cursor_refusals}
 pub use Rattle.ss_sessions.specs.Errors.{refusal_of}
-pub use Rattle.ss_sessions.specs.Grammar.{asked_of, close_of, form_of, next_of, open_of, said_of, spoken_of, session_of, spoken_to, spoken_words}
+pub use Rattle.ss_sessions.specs.Grammar.{asked_of, cursor_close_of, cursor_form_of, cursor_next_of, cursor_open_of, order_said, spoken_of, session_of, spoken_to, spoken_words}
 pub use Rattle.ss_sessions.specs.declared.order.Order.{Order}
 pub use Rattle.ss_sessions.specs.declared.order.Spoken.{Spoken}
 pub use Rattle.ss_sessions.specs.declared.order.Spoken.TheVariants.{Nothing, Unaddressed, To}

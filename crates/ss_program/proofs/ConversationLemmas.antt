@@ -3,7 +3,7 @@ use Rattle.ss_program.proofs.Common.{◌≡◌, ◌∙◌, ◌++◌, ℕ, List, 
 use Rattle.ss_program.proofs.Common.{codes, if◌then◌else◌, option_map, Form, Lines, Sessions, Frames, Follow, Event, Create, Value, Open, Close, Drop, Refusal}
 use Rattle.ss_program.proofs.Common.{◌>>=◌, meaning, name_of, unless_long, first_word, is_word, rest_of, words, IsSayable, meant-sayable, Command, Do}
 use Rattle.ss_program.proofs.Common.{SpellsFrame-frame_in, FrameState, IsValidFrame, frame_in, CanBeSaid, IsHistory, refuses, state, due_in, Due, Next, Gap}
-use Rattle.ss_program.proofs.Common.{Cursors, asked_of, close_of, form_of, next_of, open_of, said_of, spoken_of, Order, Spoken, Nothing, Unaddressed, To}
+use Rattle.ss_program.proofs.Common.{Cursors, asked_of, cursor_close_of, cursor_form_of, cursor_next_of, cursor_open_of, order_said, spoken_of, Order, Spoken, Nothing, Unaddressed, To}
 use Rattle.ss_program.proofs.Common.{IsAsked, order_in, History, accepted_frame, brings, brings_in, command_brings, command_in, due_brings, frame_brings}
 use Rattle.ss_program.proofs.Common.{meaning_in, the_event, after_line, after_lines, Talk, is_framed, kept_spoken, meant_turn, turn_brought, turn_in, turn_of}
 use Rattle.ss_program.proofs.Common.{turn_spoken, writing, Turn, inl, inr}
@@ -23,17 +23,17 @@ uncommanded : {N : Type 0} (read : Result N Refusal) (make : N → Order) (comma
 uncommanded (Err refusal) make command other is = cc
 uncommanded (Ok n) make command other is = other n (let same : make n ≡ orders.Command command = cc in same)
 
-open-uncommanded : (rest : List (List ℕ)) (command : Command) → open_of rest ≡ Ok (orders.Command command) → ⊥
+open-uncommanded : (rest : List (List ℕ)) (command : Command) → cursor_open_of rest ≡ Ok (orders.Command command) → ⊥
 open-uncommanded [] command is = cc
 open-uncommanded (name ∷ []) command is = uncommanded (name_of name) (λ stream. orders.Open stream) command (λ n same. cc) is
 open-uncommanded (name ∷ more ∷ rest) command is = cc
 
-next-uncommanded : (rest : List (List ℕ)) (command : Command) → next_of rest ≡ Ok (orders.Command command) → ⊥
+next-uncommanded : (rest : List (List ℕ)) (command : Command) → cursor_next_of rest ≡ Ok (orders.Command command) → ⊥
 next-uncommanded [] command is = cc
 next-uncommanded (count ∷ []) command is = uncommanded (asked_of count) (λ rows. orders.Next rows) command (λ n same. cc) is
 next-uncommanded (count ∷ more ∷ rest) command is = cc
 
-close-uncommanded : (rest : List (List ℕ)) (command : Command) → close_of rest ≡ Ok (orders.Command command) → ⊥
+close-uncommanded : (rest : List (List ℕ)) (command : Command) → cursor_close_of rest ≡ Ok (orders.Command command) → ⊥
 close-uncommanded [] command is = cc
 close-uncommanded (more ∷ rest) command is = cc
 
@@ -44,10 +44,10 @@ none-of false true c x y z order first second third is = second is
 none-of false false true x y z order first second third is = third is
 none-of false false false x y z order first second third is = cc
 
-form-uncommanded : (ws : List (List ℕ)) (command : Command) → form_of ws ≡ Ok (orders.Command command) → ⊥
+form-uncommanded : (ws : List (List ℕ)) (command : Command) → cursor_form_of ws ≡ Ok (orders.Command command) → ⊥
 form-uncommanded [] command is = cc
 form-uncommanded (verb ∷ rest) command is =
-    none-of (is_word verb (codes "open")) (is_word verb (codes "next")) (is_word verb (codes "close")) (open_of rest) (next_of rest) (close_of rest)
+    none-of (is_word verb (codes "open")) (is_word verb (codes "next")) (is_word verb (codes "close")) (cursor_open_of rest) (cursor_next_of rest) (cursor_close_of rest)
     (orders.Command command) (open-uncommanded rest command) (next-uncommanded rest command) (close-uncommanded rest command) is
 
 said-choice : (cursor : Bool) (formed : Result Order Refusal) (meant : Result (Option Command) Refusal) (command : Command) →
@@ -60,9 +60,9 @@ said-choice false formed (Err refusal) command other is = cc
 said-choice false formed (Ok None) command other is = cc
 said-choice false formed (Ok (Some c)) command other is = cc
 
-said-command : (rest : List ℕ) (command : Command) → said_of rest ≡ Ok (Some (orders.Command command)) → meaning rest ≡ Ok (Some command)
+said-command : (rest : List ℕ) (command : Command) → order_said rest ≡ Ok (Some (orders.Command command)) → meaning rest ≡ Ok (Some command)
 said-command rest command is =
-    said-choice (is_word (first_word rest) (codes "cursor")) (form_of (words (rest_of rest))) (meaning rest) command
+    said-choice (is_word (first_word rest) (codes "cursor")) (cursor_form_of (words (rest_of rest))) (meaning rest) command
     (form-uncommanded (words (rest_of rest)) command) is
 
 -- so what it brings is what a plain line of the same meaning would
@@ -127,7 +127,7 @@ order-leaves framed history cursors session orders.Close means whole =
     stays history (order_in framed history cursors session orders.Close).brought.event (close-event cursors session) whole
 
 spoken-leaves : (framed : Bool) (talk : Talk) (spoken : Spoken) →
-    ((session : ℕ) (said : Result (Option Order) Refusal) → spoken ≡ To session said → (rest : List ℕ) × (said_of rest ≡ said)) →
+    ((session : ℕ) (said : Result (Option Order) Refusal) → spoken ≡ To session said → (rest : List ℕ) × (order_said rest ≡ said)) →
     IsHistory talk.history → IsHistory (talk.history ++ the_event (turn_spoken framed talk spoken).event)
 spoken-leaves framed talk Nothing says whole = stays talk.history None refl whole
 spoken-leaves framed talk Unaddressed says whole = stays talk.history None refl whole

@@ -1,9 +1,9 @@
--- Cursors: what a session's cursor is after it was changed, and what opening one brings.
+-- Cursors: what a session's cursor is after it was changed, and what opens_cursor one brings.
 use Rattle.ss_program.proofs.Common.{◌≡◌, ◌↔◌, ◌∙◌, ℕ, zero, suc, ◌<◌, Bool, true, false, List, [], ◌∷◌, length, Option, Some, None, Result, Err, refl, sym, ap}
 use Rattle.ss_program.proofs.Common.{inl, inr, IsTrue, IfSome, subst, ◌+◌, ◌≤◌, min, take, take_all, drop, arith, length-append, length-map, cases_lt}
 use Rattle.ss_program.proofs.Common.{slice_get_cases, slice_get_within, slice_get, is_some, not, option_map, slice_set, Refusal, first_that_applies, stands}
 use Rattle.ss_program.proofs.Common.{placed_of, Stream, state, stream_named, Placed, Reply, Cursor, Refused, Window, Cursors, cursor_of, cursor_rows, flattened}
-use Rattle.ss_program.proofs.Common.{opened, with_cursor, refusal_of, Ordered, close_brings, closing, leaves_cursors, next_brings, open_brings, opening}
+use Rattle.ss_program.proofs.Common.{cursor_opened, with_cursor, refusal_of, Ordered, close_brings, closes_cursor, leaves_cursors, next_brings, open_brings, opens_cursor}
 use Rattle.ss_program.proofs.Common.{placed_rows, showing, unless_unopened, History, only_replies, refused, text_said, said_line}
 use Rattle.ss_sessions.specs.Cursors.{refuses_cursor}
 use Rattle.ss_sessions.specs.Opened.{HasOpened}
@@ -68,7 +68,7 @@ reasons-stands : (o : Option Stream) (busy : Bool) → reasons (is_some o) busy 
 reasons-stands None busy none = cc
 reasons-stands (Some s) busy none = (s, refl)
 
--- it isn't, where the answer to its opening isn't a refusal
+-- it isn't, where the answer to its opens_cursor isn't a refusal
 pub unrefused-cursor : (streams : List Stream) (name : List ℕ) (cursor : Option (List Placed)) (result : Result ℕ CursorError) →
     ((r : CursorRefusal) → (result ≡ Err (errors.Refused r)) ↔ (refuses_cursor streams name cursor ≡ Some (refusal_of r))) →
     ((r : CursorRefusal) → result ≡ Err (errors.Refused r) → ⊥) → refuses_cursor streams name cursor ≡ None
@@ -82,19 +82,19 @@ pub cursor-stands : (streams : List Stream) (name : List ℕ) (cursor : Option (
 unfolding refuses_cursor
 cursor-stands streams name cursor none = reasons-stands (stream_named name streams) (is_some cursor) none
 
--- ---- what opening a cursor brings
+-- ---- what opens_cursor a cursor brings
 
 module _ (history : History) (cursors : Cursors) (session : ℕ) (name : List ℕ) where
   -- the refusal, where it is refused
   pub open-refused : (refusal : Refusal) → refuses_cursor (state history) name (cursor_of cursors session) ≡ Some refusal →
       open_brings history cursors session name ≡ leaves_cursors cursors (refused refusal)
-  open-refused refusal is = ap (λ r. unless_unopened r cursors (opening cursors session (stream_named name (state history)))) is
+  open-refused refusal is = ap (λ r. unless_unopened r cursors (opens_cursor cursors session (stream_named name (state history)))) is
 
   -- and otherwise a cursor over the stream
   open-brings : (s : Stream) → refuses_cursor (state history) name (cursor_of cursors session) ≡ None → stream_named name (state history) ≡ Some s →
-      open_brings history cursors session name ≡ opening cursors session (Some s)
+      open_brings history cursors session name ≡ opens_cursor cursors session (Some s)
   open-brings s none is =
-      ap (λ r. unless_unopened r cursors (opening cursors session (stream_named name (state history)))) none ∙ ap (λ o. opening cursors session o) is
+      ap (λ r. unless_unopened r cursors (opens_cursor cursors session (stream_named name (state history)))) none ∙ ap (λ o. opens_cursor cursors session o) is
 
   -- one that isn't refused is over a stream that stands
   pub open-wants_memory : refuses_cursor (state history) name (cursor_of cursors session) ≡ None →
@@ -105,7 +105,7 @@ module _ (history : History) (cursors : Cursors) (session : ℕ) (name : List �
 
   -- the rows are its windows
   pub open-opened : (after : Cursors) (count : ℕ) → refuses_cursor (state history) name (cursor_of cursors session) ≡ None →
-      opened cursors session name (state history) ≡ Some after → HasOpened session cursors after count →
+      cursor_opened cursors session name (state history) ≡ Some after → HasOpened session cursors after count →
       ((open_brings history cursors session name).brought.replies ≡ Cursor count ∷ []) × ((open_brings history cursors session name).cursors ≡ after)
   open-opened after count none is has =
       let s = cursor-stands (state history) name (cursor_of cursors session) none in
@@ -125,7 +125,7 @@ one-some : (session : ℕ) (reply : Reply) → 0 < length (text_said (Some sessi
 one-some session reply = omega (arith, said_line-some (Some session) reply, length-append (said_line (Some session) reply) [])
 
 opening-some : (cursors : Cursors) (session : ℕ) (o : Option Stream) (busy : Bool) →
-    0 < length (text_said (Some session) (unless_unopened (reasons (is_some o) busy) cursors (opening cursors session o)).brought)
+    0 < length (text_said (Some session) (unless_unopened (reasons (is_some o) busy) cursors (opens_cursor cursors session o)).brought)
 opening-some cursors session None busy = one-some session (Refused refusals.Unknown)
 opening-some cursors session (Some s) true = one-some session (Refused refusals.Busy)
 opening-some cursors session (Some s) false = one-some session (Cursor (length s.windows))
@@ -137,7 +137,7 @@ open-some history cursors session name = opening-some cursors session (stream_na
 
 -- a cursor form adds no event
 unopened-event : (refusal : Option Refusal) (cursors : Cursors) (session : ℕ) (o : Option Stream) →
-    (unless_unopened refusal cursors (opening cursors session o)).brought.event ≡ None
+    (unless_unopened refusal cursors (opens_cursor cursors session o)).brought.event ≡ None
 unopened-event None cursors session None = refl
 unopened-event None cursors session (Some s) = refl
 unopened-event (Some refusal) cursors session o = refl
@@ -153,7 +153,7 @@ showing-event cursors session count (Some rows) = refl
 pub next-event : (cursors : Cursors) (session count : ℕ) → (next_brings cursors session count).brought.event ≡ None
 next-event cursors session count = showing-event cursors session count (cursor_of cursors session)
 
-closing-event : (cursors : Cursors) (session : ℕ) (o : Option (List Placed)) → (closing cursors session o).brought.event ≡ None
+closing-event : (cursors : Cursors) (session : ℕ) (o : Option (List Placed)) → (closes_cursor cursors session o).brought.event ≡ None
 closing-event cursors session None = refl
 closing-event cursors session (Some rows) = refl
 

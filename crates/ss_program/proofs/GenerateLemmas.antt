@@ -1,11 +1,11 @@
--- A session over a generated file: what was answered so far, what is counted of it, and how it ends.
+-- A session over a generated_lines file: what was answered so far, what is counted of it, and how it ends.
 use Rattle.ss_program.proofs.Common.{◌⊎◌, inl, inr, ◌≡◌, ℕ, zero, suc, ◌+◌, ◌++◌, List, [], ◌∷◌, length, map, take, Bool, true, false, cond, Option, None, Ok}
 use Rattle.ss_program.proofs.Common.{Err, Result, refl, sym, ap, ◌∙◌, subst, append_assoc, arith, count_by, ⊤, flat_map, append-nil, length-append, map-append}
 use Rattle.ss_program.proofs.Common.{take-append-le, take-append-add, IsSayable, printed, Command, at_start, joined, now, of_content, weaker, KnowsNow}
 use Rattle.ss_program.proofs.Common.{LeavesOnly, NothingPending, Told, reply_line, Reply, state, OpensAs, Stands, StandsShort, OpenError, Adds, SendsRows}
-use Rattle.ss_program.proofs.Common.{Generates, StandsForAll, StandsForGenerated, generated, first_lines, is_done, is_refused, last_six, summary, summary_lines}
+use Rattle.ss_program.proofs.Common.{Generates, StandsForAll, StandsForGenerated, generated_lines, first_lines, is_done, is_refused, last_six, summary, summary_lines}
 use Rattle.ss_program.proofs.Common.{Brought, History, brings, command_brings, history_after, meaning_brings, StandsShortForFirst, HoldsTalk, StandsWithin}
-use Rattle.ss_program.proofs.Common.{AsRefused, status_of_open, appended, AppendsFront, AppendsLess, Sends, after_lines, plain_after, replies, plain}
+use Rattle.ss_program.proofs.Common.{AsRefused, status_of_open, appended, AppendsFront, AppendsLess, Sends, after_lines, plain_after, replies, plain_talk}
 use Rattle.ss_program.proofs.Common.{plain_over, HasRun, IsSingle, Tallies, Status, Done, SinkFault, Failed}
 use Rattle.ss_command.proofs.PrintLemmas.{meaning-printed}
 use Rattle.ss_generator.specs.Commands.{commands, of_round, of_rounds, opening, queries}
@@ -57,7 +57,7 @@ HasRun-start used history disk tally knows none stands tallies = record {
       (of_content disk (StandsWithin (plain_over used history) []) none (StandsWithin-all (plain_over used history) [] disk.content stands));
 }
 
--- the history after plain lines, whatever is asked of the file
+-- the history after plain_talk lines, whatever is asked of the file
 plain_over-history : (used : Option ℕ) (history : History) (ls : List (List ℕ)) → (after_lines (plain_over used history) ls).history ≡ plain_after history ls
 plain_over-history used history [] = refl
 plain_over-history used history (line ∷ ls) = plain_over-history used (history_after history (brings history line)) ls
@@ -156,10 +156,10 @@ pub IsAt-stop : {T : Type 0} (used : Option ℕ) (history : History) (seed count
     (result : Result T Status)
     (at : IsAt used history seed count left old mid tally) → left ≡ command ∷ rest → IsSayable command →
     Adds (plain_after history (map printed at.done)) (command_brings (plain_after history (map printed at.done)) command) mid new result →
-    LeavesOnly old new (StandsWithin (plain_over used history) (generated seed count))
+    LeavesOnly old new (StandsWithin (plain_over used history) (generated_lines seed count))
 IsAt-stop used history seed count left rest command old mid new tally result at next sayable adds =
     let ls = map printed at.done in
-    let all : generated seed count ≡ (ls ++ printed command ∷ []) ++ map printed rest =
+    let all : generated_lines seed count ≡ (ls ++ printed command ∷ []) ++ map printed rest =
     ap (λ cs. map printed cs) (at.all ∙ ap (λ cs. at.done ++ cs) next) ∙ map-append printed at.done (command ∷ rest)
     ∙ sym (append_assoc ls (printed command ∷ []) (map printed rest)) in
     subst (λ l. LeavesOnly old new (StandsWithin (plain_over used history) l)) (sym all)
@@ -169,7 +169,7 @@ IsAt-stop used history seed count left rest command old mid new tally result at 
 -- all commands were done
 pub IsAt-end : (used : Option ℕ) (history : History) (seed count : ℕ) (left : List Command) (old new : Told) (tally : Tally) → IsAt used history seed count left old new tally →
     left ≡ [] →
-    HasRun used history (generated seed count) old new tally
+    HasRun used history (generated_lines seed count) old new tally
 IsAt-end used history seed count left old new tally at none =
     subst (λ cs. HasRun used history (map printed cs) old new tally) (sym (at.all ∙ ap (λ cs. at.done ++ cs) none ∙ append-nil at.done)) at.ran
 
@@ -217,19 +217,19 @@ Sends-less before after seed count lines all tally tallies less =
     (subst (λ bs. AppendsLess before after bs) (counts-tallied seed count lines all tally tallies) less)
 
 -- an image of the history after some first lines of the file
-pub StandsForGenerated-within : (used : Option ℕ) (history : History) (seed count : ℕ) (image : List ℕ) → StandsWithin (plain_over used history) (generated seed count) image →
+pub StandsForGenerated-within : (used : Option ℕ) (history : History) (seed count : ℕ) (image : List ℕ) → StandsWithin (plain_over used history) (generated_lines seed count) image →
     StandsForGenerated used history seed count image
 StandsForGenerated-within used history seed count image within =
-    subst (λ events. StandsShortForFirst used history events image) (accepted-over used (plain history) (generated seed count))
-    (StandsShortForFirst-within (plain_over used history) (generated seed count) image within)
+    subst (λ events. StandsShortForFirst used history events image) (accepted-over used (plain_talk history) (generated_lines seed count))
+    (StandsShortForFirst-within (plain_over used history) (generated_lines seed count) image within)
 
 -- the run stopped at a command, or before the first, or the sink failed at the summary
 pub Generates-stop : (used : Option ℕ) (history : History) (seed count : ℕ) (before after : Option (List ℕ)) (old new : Told) (status : Status) →
     (status ≡ Done → ⊥) →
     ((status ≡ SinkFault → ⊥) → after ≡ before) → KnowsNow new → AppendsFront before after (summary history seed count) →
-    LeavesOnly old new (StandsWithin (plain_over used history) (generated seed count)) → Generates used history seed count before after old new status
+    LeavesOnly old new (StandsWithin (plain_over used history) (generated_lines seed count)) → Generates used history seed count before after old new status
 Generates-stop used history seed count before after old new status going silent knows front run =
-    let weak = weaker old new (StandsWithin (plain_over used history) (generated seed count)) (StandsForGenerated used history seed count)
+    let weak = weaker old new (StandsWithin (plain_over used history) (generated_lines seed count)) (StandsForGenerated used history seed count)
     (StandsForGenerated-within used history seed count) run in
     record {
       front = front;
@@ -243,12 +243,12 @@ Generates-stop used history seed count before after old new status going silent 
 
 -- all commands were done, and the summary was sent
 pub Generates-done : (used : Option ℕ) (history : History) (seed count : ℕ) (before after : Option (List ℕ)) (old new : Told) (tally : Tally) → KnowsNow new →
-    HasRun used history (generated seed count) old new tally → after ≡ appended before (summary history seed count) →
+    HasRun used history (generated_lines seed count) old new tally → after ≡ appended before (summary history seed count) →
     Generates used history seed count before after old new Done
 Generates-done used history seed count before after old new tally knows ran sent =
-    let weak = weaker old new (StandsWithin (plain_over used history) (generated seed count)) (StandsForGenerated used history seed count)
+    let weak = weaker old new (StandsWithin (plain_over used history) (generated_lines seed count)) (StandsForGenerated used history seed count)
     (StandsForGenerated-within used history seed count) ran.any_moment in
-    let all : StandsForAll used history seed count new.content = subst (λ h. StandsShort used h new.content) (after_lines-accepted (plain history) (generated seed count))
+    let all : StandsForAll used history seed count new.content = subst (λ h. StandsShort used h new.content) (after_lines-accepted (plain_talk history) (generated_lines seed count))
     ran.stands in
     record {
       front = AppendsFront-all before after (summary history seed count) sent;
@@ -270,7 +270,7 @@ Generates-opened {used = used} {history = history} {seed = seed} {count = count}
   silent = run.silent;
   any_moment = joined old mid new (StandsForGenerated used history seed count)
       (weaker old mid (StandsShort used history) (StandsForGenerated used history seed count)
-      (λ image is. StandsForGenerated-within used history seed count image ([], generated seed count, refl, is)) opened) run.any_moment;
+      (λ image is. StandsForGenerated-within used history seed count image ([], generated_lines seed count, refl, is)) opened) run.any_moment;
   kept = run.kept;
   done = run.done;
   all = run.all;
@@ -283,4 +283,4 @@ pub Generates-unopened : (used : Option ℕ) (history : History) (seed count : �
 Generates-unopened used history seed count {before = before} {after = after} {old = old} {new = new} had has error opens stands said knows opened =
     let un = unopened old.content (state history) had has error stands.state opens said in
     Generates-stop used history seed count before after old new (status_of_open error) un.1 (λ _. un.0) knows (0, un.0 ∙ sym (appended-nil before))
-    (weaker old new (StandsShort used history) (StandsWithin (plain_over used history) (generated seed count)) (λ image is. ([], generated seed count, refl, is)) opened)
+    (weaker old new (StandsShort used history) (StandsWithin (plain_over used history) (generated_lines seed count)) (λ image is. ([], generated_lines seed count, refl, is)) opened)

@@ -4,9 +4,9 @@ use Rattle.ss_program.proofs.Common.{false, refl, sym, ap, subst, arith, inl, in
 use Rattle.ss_program.proofs.Common.{drop-drop, drop-map, length-map, length-set, take-map, All-head, All-tail, cond_some, ◌==◌, ◌&&◌, if◌then◌else◌, is_some}
 use Rattle.ss_program.proofs.Common.{nat_le, nat_lt, option_map, Form, Lines, Sessions, Frames, Follow, Event, Refusal, is_comment, meaning, Command}
 use Rattle.ss_program.proofs.Common.{FrameState, unless_long, first_word, rest_of, first_that_applies, refuses, placed_of, Stream, state, stream_named, Placed}
-use Rattle.ss_program.proofs.Common.{Cursor, Rows, Cursors, cursor_of, cursor_refusals, cursor_rows, flattened, with_cursor, said_of, session_of, spoken_of}
+use Rattle.ss_program.proofs.Common.{Cursor, Rows, Cursors, cursor_of, cursor_refusals, cursor_rows, flattened, with_cursor, order_said, session_of, spoken_of}
 use Rattle.ss_program.proofs.Common.{spoken_to, spoken_words, Order, Spoken, Nothing, Unaddressed, To, IsOrder, NoneCloses, heard_of, rows_asked, rows_asked_by}
-use Rattle.ss_program.proofs.Common.{rows_asked_in, Ordered, close_brings, closing, next_brings, open_brings, opening, order_in, placed_rows, showing}
+use Rattle.ss_program.proofs.Common.{rows_asked_in, Ordered, close_brings, closes_cursor, next_brings, open_brings, opens_cursor, order_in, placed_rows, showing}
 use Rattle.ss_program.proofs.Common.{unless_unopened, History, accepted_frame, only_replies, text_said, window_rows, after_line, after_lines, Talk, Turn, begun}
 use Rattle.ss_program.proofs.Common.{kept_spoken, meant_turn, turn_in, turn_of, turn_spoken, turn_to, writing}
 use Rattle.ss_codec.proofs.WindowBytes.{three_tests}
@@ -24,7 +24,7 @@ use Rattle.ss_program.proofs.MeantLemmas.{event-or-silent}
 -- ---- how many cursors there are
 
 count-opening : (refusal : Option Refusal) (cursors : Cursors) (session : ℕ) (o : Option Stream) →
-    length (unless_unopened refusal cursors (opening cursors session o)).cursors ≡ length cursors
+    length (unless_unopened refusal cursors (opens_cursor cursors session o)).cursors ≡ length cursors
 count-opening (Some r) cursors session o = refl
 count-opening None cursors session None = refl
 count-opening None cursors session (Some s) = length-set cursors session (Some (cursor_rows s))
@@ -33,7 +33,7 @@ count-showing : (cursors : Cursors) (session count : ℕ) (o : Option (List Plac
 count-showing cursors session count None = refl
 count-showing cursors session count (Some rows) = length-set cursors session (Some (drop count rows))
 
-count-closing : (cursors : Cursors) (session : ℕ) (o : Option (List Placed)) → length (closing cursors session o).cursors ≡ length cursors
+count-closing : (cursors : Cursors) (session : ℕ) (o : Option (List Placed)) → length (closes_cursor cursors session o).cursors ≡ length cursors
 count-closing cursors session None = refl
 count-closing cursors session (Some rows) = length-set cursors session None
 
@@ -107,31 +107,31 @@ session-below (a ∷ b ∷ c ∷ cs) session is = cc
 
 -- what is said to a session is the rest of a line
 addressed : (o : Option ℕ) (rest : List ℕ) (session : ℕ) (said : Result (Option Order) Refusal) → spoken_to o rest ≡ To session said →
-    (o ≡ Some session) × (said_of rest ≡ said)
+    (o ≡ Some session) × (order_said rest ≡ said)
 addressed None rest session said is = cc
 addressed (Some other) rest session said is = (cc, cc)
 
 words-to : (word rest : List ℕ) (session : ℕ) (said : Result (Option Order) Refusal) → spoken_words word rest ≡ To session said →
-    (session < SESSIONS) × (said_of rest ≡ said)
+    (session < SESSIONS) × (order_said rest ≡ said)
 words-to [] rest session said is = cc
 words-to (b ∷ bs) rest session said is =
     let it = addressed (session_of (b ∷ bs)) rest session said is in
     (session-below (b ∷ bs) session it.0, it.1)
 
 comment-to : (comment : Bool) (word rest : List ℕ) (session : ℕ) (said : Result (Option Order) Refusal) →
-    (if comment then Nothing else spoken_words word rest) ≡ To session said → (session < SESSIONS) × (said_of rest ≡ said)
+    (if comment then Nothing else spoken_words word rest) ≡ To session said → (session < SESSIONS) × (order_said rest ≡ said)
 comment-to true word rest session said is = cc
 comment-to false word rest session said is = words-to word rest session said is
 
 pub kept-to : (line : Option (List ℕ)) (session : ℕ) (said : Result (Option Order) Refusal) → option_map spoken_of line ≡ Some (To session said) →
-    (session < SESSIONS) × ((rest : List ℕ) × (said_of rest ≡ said))
+    (session < SESSIONS) × ((rest : List ℕ) × (order_said rest ≡ said))
 kept-to None session said is = cc
 kept-to (Some line) session said is =
     let spoken : spoken_of line ≡ To session said = cc in
     let it = comment-to (is_comment line) (first_word line) (rest_of line) session said spoken in
     (it.0, (rest_of line, it.1))
 
--- ---- a cursor stays that of its opening
+-- ---- a cursor stays that of its opens_cursor
 
 module _ (session : ℕ) (rows : List Placed) (cursors : Cursors) (has : cursor_of cursors session ≡ Some rows) where
   -- while another session's is opened, shown or closed
@@ -141,7 +141,7 @@ module _ (session : ℕ) (rows : List Placed) (cursors : Cursors) (has : cursor_
       ap flattened (slice_get-set_other cursors other session cursor (λ same. let yes = eq-eqb other session (sym same) in cc)) ∙ has
 
   opening-other : (other : ℕ) (refusal : Option Refusal) (o : Option Stream) → other == session ≡ false →
-      cursor_of (unless_unopened refusal cursors (opening cursors other o)).cursors session ≡ Some rows
+      cursor_of (unless_unopened refusal cursors (opens_cursor cursors other o)).cursors session ≡ Some rows
   opening-other other (Some r) o apart = has
   opening-other other None None apart = has
   opening-other other None (Some s) apart = cursor_of-other other (Some (cursor_rows s)) apart
@@ -151,13 +151,13 @@ module _ (session : ℕ) (rows : List Placed) (cursors : Cursors) (has : cursor_
   showing-other other count None apart = has
   showing-other other count (Some shown) apart = cursor_of-other other (Some (drop count shown)) apart
 
-  closing-other : (other : ℕ) (o : Option (List Placed)) → other == session ≡ false → cursor_of (closing cursors other o).cursors session ≡ Some rows
+  closing-other : (other : ℕ) (o : Option (List Placed)) → other == session ≡ false → cursor_of (closes_cursor cursors other o).cursors session ≡ Some rows
   closing-other other None apart = has
   closing-other other (Some shown) apart = cursor_of-other other None apart
 
   -- and its session opens none beside it
   opening-busy : (o : Option Stream) →
-      (unless_unopened (first_that_applies (cursor_refusals (is_some o) (Some rows))) cursors (opening cursors session o)).cursors ≡ cursors
+      (unless_unopened (first_that_applies (cursor_refusals (is_some o) (Some rows))) cursors (opens_cursor cursors session o)).cursors ≡ cursors
   opening-busy None = refl
   opening-busy (Some s) = refl
 
@@ -165,7 +165,7 @@ module _ (session : ℕ) (rows : List Placed) (cursors : Cursors) (has : cursor_
   unfolding refuses_cursor
   open-own history name =
       ap (λ c. cursor_of (unless_unopened (refuses_cursor (state history) name c) cursors
-      (opening cursors session (stream_named name (state history)))).cursors session) has
+      (opens_cursor cursors session (stream_named name (state history)))).cursors session) has
       ∙ ap (λ cs. cursor_of cs session) (opening-busy (stream_named name (state history))) ∙ has
 
   open-keeps : (history : History) (other : ℕ) (name : List ℕ) → cursor_of (open_brings history cursors other name).cursors session ≡ Some rows
@@ -260,12 +260,12 @@ opened-over history cursors session name inside none =
     let s = cursor-stands (state history) name (cursor_of cursors session) none in (
       s.0,
       s.1,
-      ap (λ r. cursor_of (unless_unopened r cursors (opening cursors session (stream_named name (state history)))).cursors session) none
-          ∙ ap (λ o. cursor_of (opening cursors session o).cursors session) s.1
+      ap (λ r. cursor_of (unless_unopened r cursors (opens_cursor cursors session (stream_named name (state history)))).cursors session) none
+          ∙ ap (λ o. cursor_of (opens_cursor cursors session o).cursors session) s.1
           ∙ cursor_of-with_cursor cursors session (Some (cursor_rows s.0)) inside,
     )
 
--- the reply to its opening
+-- the reply to its opens_cursor
 pub cursor-opens : (framed : Bool) (talk : Talk) (line name : List ℕ) (session : ℕ) → talk.form ≡ Sessions framed → IsOrder session (orders.Open name) line →
     refuses_cursor (state talk.history) name (cursor_of talk.cursors session) ≡ None →
     (s : Stream) × (stream_named name (state talk.history) ≡ Some s)
@@ -276,8 +276,8 @@ cursor-opens framed talk line name session form opens none =
       s.1,
       ap (λ (t : Turn). t.says) (turn-heard framed talk line (To session (Ok (Some (orders.Open name)))) form opens)
           ∙ ap (λ r. text_said (Some session)
-          (unless_unopened r talk.cursors (opening talk.cursors session (stream_named name (state talk.history)))).brought) none
-          ∙ ap (λ o. text_said (Some session) (opening talk.cursors session o).brought) s.1,
+          (unless_unopened r talk.cursors (opens_cursor talk.cursors session (stream_named name (state talk.history)))).brought) none
+          ∙ ap (λ o. text_said (Some session) (opens_cursor talk.cursors session o).brought) s.1,
     )
 
 pub cursor-shows : (framed : Bool) (talk : Talk) (between : List (List ℕ)) (start line name : List ℕ) (session count : ℕ) → talk.form ≡ Sessions framed →

@@ -1,7 +1,7 @@
 -- Lines of a session and the bytes of its input.
 use Rattle.ss_program.proofs.Common.{◌≡◌, ℕ, ◌+◌, ◌-◌, ◌++◌, List, [], ◌∷◌, length, take, drop, Option, Some, None, Result, Ok, Err, refl, sym, ap, ◌∙◌, subst}
 use Rattle.ss_program.proofs.Common.{append_assoc, take-add, append-nil, take-append-drop, OnOk, meaning, Ended, Kept, kept, unless_long, Told, RecordsState}
-use Rattle.ss_program.proofs.Common.{shown_by, StoreState, Amid, GoesAmid, IsAmid, OfAmid, Owed, Takes, TakesBytes, TakesLast, TakesNone, TakesTurn, amid}
+use Rattle.ss_program.proofs.Common.{shown_by, StoreState, Amid, GoesAmid, IsAmid, OfAmid, Owed, TakesFurther, TakesBytes, TakesLast, TakesNone, TakesTurn, amid}
 use Rattle.ss_program.proofs.Common.{owed_by, EndsSession, HasReplied, HasTaken, HoldsTalk, NoneWait, SessionState, StopsIn, TakesPiece, after_lines, Brought}
 use Rattle.ss_program.proofs.Common.{Talk, kept_framed, kept_offered, kept_spoken, kept_turn, meant_turn, turn_brought, turn_in, turn_of, Cursors, Form, Lines}
 use Rattle.ss_program.proofs.Common.{Sessions, Frames, Follow, Sealing, Status, Done, StepState, TellsStep, kept_so_far, kept_step, steps, steps_so_far}
@@ -31,7 +31,7 @@ turn-kept Follow talk o step same is =
 -- a step is taken as it is kept
 pub Takes-kept : {from to : Amid} {result : Result (Unit {0}) Status} {old new : Told} (form : Form) (o : Option (List ℕ)) (step : List ℕ) →
     TakesTurn (kept_turn form o) from to result old new → o ≡ kept_step form step → (sealing : Sealing) (talk : Talk) (ls : List (List ℕ))
-    (before : Option (List ℕ)) → form ≡ talk.form → Takes sealing talk ls (step ∷ []) before from to result old new
+    (before : Option (List ℕ)) → form ≡ talk.form → TakesFurther sealing talk ls (step ∷ []) before from to result old new
 Takes-kept form o step takes is sealing talk ls before same =
     takes sealing talk ls before step (turn-kept form (after_lines talk ls) o step (same ∙ sym (after_lines-form talk ls)) is)
 
@@ -223,7 +223,7 @@ module _ (form : Form) (line : Kept) {from to : Amid} {old new : Told} where
   pub TakesLast-line : (result : Result (Unit {0}) Status) → ((sealing : Sealing) (talk : Talk) (before : Option (List ℕ)) (input : List ℕ) →
       form ≡ talk.form → line ≡ kept_so_far talk.form input →
       (last : List ℕ) × (steps talk.form input ≡ steps_so_far talk.form input ++ last ∷ [])
-      × Takes sealing talk (steps_so_far talk.form input) (last ∷ []) before from to result old new) →
+      × TakesFurther sealing talk (steps_so_far talk.form input) (last ∷ []) before from to result old new) →
       TakesLast form line from to result old new
   TakesLast-line (Ok u) takes = record {
     goes = λ sealing talk before input same is at.

@@ -1,6 +1,6 @@
 -- Worked rows of names whose stream was dropped, and of those that are created, computed.
 use Rattle.ss_program.proofs.Common.{◌≡◌, ◌++◌, [], ◌∷◌, refl, ℕ, List, None, Some, codes, false, flat_map, map, pos, negsuc, Sessions, Create, Value, Drop}
-use Rattle.ss_program.proofs.Common.{exp, lines, Do, Windows, Happened, added, values_of, New, needed, accepted, report, begun, plain}
+use Rattle.ss_program.proofs.Common.{exp, lines, Do, Windows, Happened, added, values_of, New, needed, accepted, report, begun, plain_talk}
 use Rattle.ss_model.specs.Answers.{outcome_of}
 use Rattle.std.specs.Fmt.{digits}
 use Rattle.ss_catalog.specs.Names.{is_name}
@@ -47,7 +47,7 @@ commands =
     ∷ codes "query a sum 5 4" ∷ codes "certify a sum lo 5 4" ∷ codes "series a sum 5 4 1" ∷ codes "windows a" ∷ codes "last a"
     ∷ codes "values a 5 4" ∷ codes "append a 5 x" ∷ codes "append a" ∷ codes "append a! 5 1" ∷ [])
 
-report-commands : report (plain history) commands
+report-commands : report (plain_talk history) commands
     ≡ text (codes "ok 0 0" ∷ codes "refused UNKNOWN" ∷ codes "refused UNKNOWN" ∷ codes "refused UNKNOWN" ∷ codes "refused UNKNOWN"
     ∷ codes "refused UNKNOWN" ∷ codes "refused UNKNOWN" ∷ codes "refused UNKNOWN" ∷ codes "refused UNKNOWN" ∷ codes "refused UNKNOWN"
     ∷ codes "refused UNKNOWN" ∷ codes "refused NUMBER" ∷ codes "refused SYNTAX" ∷ codes "refused NAME" ∷ [])
@@ -55,7 +55,7 @@ unfolding ended_lines unended meaning words is_number number_of number_up_to sig
     outcome_of window_index digits
 report-commands = refl
 
-accepted-commands : accepted (plain history) (lines commands) ≡ added (Drop (codes "a")) ∷ []
+accepted-commands : accepted (plain_talk history) (lines commands) ≡ added (Drop (codes "a")) ∷ []
 unfolding ended_lines unended meaning words is_number number_of number_up_to signed_of is_name state refuses refuses_query refuses_reading refuses_values
     outcome_of window_index
 accepted-commands = refl

@@ -1,5 +1,5 @@
 -- Worked rows of `last` and of `values`, as a session reports them.
-use Rattle.ss_program.proofs.Common.{◌≡◌, ◌++◌, [], ◌∷◌, refl, ℕ, List, codes, flat_map, report, plain}
+use Rattle.ss_program.proofs.Common.{◌≡◌, ◌++◌, [], ◌∷◌, refl, ℕ, List, codes, flat_map, report, plain_talk}
 use Rattle.std.specs.Fmt.{digits}
 use Rattle.ss_catalog.specs.Names.{is_name}
 use Rattle.ss_command.specs.Grammar.{meaning}
@@ -17,7 +17,7 @@ abbrev text : List (List ℕ) → List ℕ
 text ls = flat_map (λ line. line ++ 10 ∷ []) ls
 
 -- no last time; that of a landmark; a value that a landmark keeps; one that a window keeps alone; and each refusal
-report-last : report (plain [])
+report-last : report (plain_talk [])
     (text (codes "create e exp 2 1 1" ∷ codes "last e" ∷ codes "landmark e open 5" ∷ codes "last e" ∷ codes "append e 5 -1" ∷ codes "last e"
     ∷ codes "landmark e close 9" ∷ codes "last e" ∷ codes "append e 10 3" ∷ codes "last e" ∷ codes "landmark e open 20" ∷ codes "last e"
     ∷ codes "last f" ∷ codes "last e!" ∷ codes "last e 1" ∷ codes "last" ∷ codes "drop e" ∷ codes "create e exp 2 1 1" ∷ codes "last e" ∷ []))
@@ -29,7 +29,7 @@ unfolding ended_lines unended meaning words is_number number_of number_up_to sig
 report-last = refl
 
 -- a newest window of several values, and then a newer value in a landmark
-report-windows : report (plain [])
+report-windows : report (plain_talk [])
     (text (codes "create d power 1 0 1 4" ∷ codes "append d 10 4" ∷ codes "append d 11 4" ∷ codes "append d 12 6" ∷ codes "append d 13 5"
     ∷ codes "last d" ∷ codes "append d 14 9" ∷ codes "last d" ∷ codes "append d 15 8" ∷ codes "last d" ∷ codes "landmark d open 20" ∷ codes "last d"
     ∷ codes "append d 20 7" ∷ codes "last d" ∷ []))
@@ -40,7 +40,7 @@ unfolding ended_lines unended meaning words is_number number_of number_up_to sig
 report-windows = refl
 
 -- values of two landmarks, in all, in some and in no range, and each refusal
-report-values : report (plain [])
+report-values : report (plain_talk [])
     (text (codes "create b exp 2 1 1" ∷ codes "append b 1 9" ∷ codes "landmark b open 10" ∷ codes "append b 10 7" ∷ codes "append b 12 -7"
     ∷ codes "landmark b close 15" ∷ codes "append b 16 9" ∷ codes "landmark b open 20" ∷ codes "append b 25 0" ∷ codes "values b 0 100"
     ∷ codes "values b 11 24" ∷ codes "values b 12 12" ∷ codes "values b 13 19" ∷ codes "values b 5 4" ∷ codes "values f 5 4"

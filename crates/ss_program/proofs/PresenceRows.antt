@@ -1,6 +1,6 @@
 -- Worked rows of queries for a value, each computed from a history.
 use Rattle.ss_program.proofs.Common.{◌≡◌, ◌++◌, [], ◌∷◌, refl, ℕ, ℤ, true, false, List, codes, map, pos, negsuc, flat_map, Create, Value, exp, lines, Happened}
-use Rattle.ss_program.proofs.Common.{marked_of, values_of, true_presence, New, Old, Origin, accepted, report, plain}
+use Rattle.ss_program.proofs.Common.{marked_of, values_of, true_presence, New, Old, Origin, accepted, report, plain_talk}
 use Rattle.std.specs.Fmt.{digits}
 use Rattle.ss_catalog.specs.Names.{is_name}
 use Rattle.ss_command.specs.Grammar.{meaning}
@@ -32,7 +32,7 @@ presences =
     ∷ codes "query a has 7 0 65" ∷ codes "query a has 7 70 70" ∷ codes "query x has 8 5 4" ∷ codes "query a has 8 5 4" ∷ codes "query a has 5 4"
     ∷ codes "query a has x 4 5" ∷ codes "query a! has 8 4 5" ∷ [])
 
-report-presences : report (plain (readings New)) presences
+report-presences : report (plain_talk (readings New)) presences
     ≡ text (codes "has present" ∷ codes "has maybe" ∷ codes "has absent" ∷ codes "has maybe" ∷ codes "has absent" ∷ codes "has present"
     ∷ codes "refused UNKNOWN" ∷ codes "refused RANGE" ∷ codes "refused SYNTAX" ∷ codes "refused NUMBER" ∷ codes "refused NAME" ∷ [])
 unfolding ended_lines unended meaning words is_number number_of number_up_to signed_of is_name state refuses_query outcome_of window_index
@@ -40,13 +40,13 @@ unfolding ended_lines unended meaning words is_number number_of number_up_to sig
 report-presences = refl
 
 -- they add no event
-accepted-presences : accepted (plain (readings New)) (lines presences) ≡ []
+accepted-presences : accepted (plain_talk (readings New)) (lines presences) ≡ []
 unfolding ended_lines unended meaning words is_number number_of number_up_to signed_of is_name state refuses_query outcome_of window_index
     bit_of filter_of has union
 accepted-presences = refl
 
 -- 5 and 300 in one window: 238 has the bit of 5, and 239 one of its own
-report-one_bit : report (plain [])
+report-one_bit : report (plain_talk [])
     (text (codes "create u power 1 0 1 2" ∷ codes "append u 1 5" ∷ codes "append u 2 300" ∷ codes "query u has 238 1 2"
     ∷ codes "query u has 239 1 2" ∷ []))
     ≡ text (codes "ok 0 0" ∷ codes "ok 1 1" ∷ codes "ok 2 1" ∷ codes "has maybe" ∷ codes "has absent" ∷ [])
@@ -55,7 +55,7 @@ unfolding ended_lines unended meaning words is_number number_of number_up_to sig
 report-one_bit = refl
 
 -- of old values the least and the greatest of a window alone are known, also where a new one is joined to them; then of new ones alone
-report-old : report (plain (readings Old))
+report-old : report (plain_talk (readings Old))
     (text (codes "query a has 8 10 40" ∷ codes "query a has 4 10 40" ∷ codes "query a has 100 10 40" ∷ codes "append a 80 100"
     ∷ codes "append a 90 200" ∷ codes "query a has 50 70 80" ∷ codes "query a has 101 70 80" ∷ codes "query a has 50 90 90" ∷ []))
     ≡ text (codes "has present" ∷ codes "has maybe" ∷ codes "has absent" ∷ codes "ok 8 4" ∷ codes "ok 9 4" ∷ codes "has maybe"

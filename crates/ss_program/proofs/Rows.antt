@@ -4,7 +4,7 @@ use Rattle.ss_program.proofs.Common.{map, pos, negsuc, flat_map, All-cons, All-n
 use Rattle.ss_program.proofs.Common.{added, no_store, damaged_entry, damaged_slot, damaged_stream, recovers, Count, Sum, Min, Max, Answered}
 use Rattle.ss_power.specs.Power.{power_length}
 use Rattle.ss_program.proofs.Common.{Refused, ListHead, survey_line, summary_lines, acks, Lines, steps_within, refusal_line, status_of_open, NoneCreates}
-use Rattle.ss_program.proofs.Common.{accepted, plain_after, report, exit_number, plain, turn_of, usage, no_cursors, LONGEST_INPUT, Done, Usage, RefusedStore}
+use Rattle.ss_program.proofs.Common.{accepted, plain_after, report, exit_number, plain_talk, turn_of, usage, no_cursors, LONGEST_INPUT, Done, Usage, RefusedStore}
 use Rattle.ss_program.proofs.Common.{DiskFault, SourceFault, SinkFault, OutOfMemory, InputLimit, RecordChanged}
 use Rattle.std.specs.Fmt.{digits}
 use Rattle.ss_catalog.specs.Names.{is_name}
@@ -35,7 +35,7 @@ readings =
     text (codes "create a exp 2 1 1" ∷ codes "append a 10 5" ∷ codes "append a 20 -3" ∷ codes "append a 30 8" ∷ codes "append a 40 1"
     ∷ codes "append a 50 9" ∷ codes "append a 60 2" ∷ codes "append a 70 7" ∷ codes "windows a" ∷ codes "list" ∷ [])
 
-report-readings : report (plain []) readings
+report-readings : report (plain_talk []) readings
     ≡ text (codes "ok 0 0" ∷ codes "ok 1 1" ∷ codes "ok 2 2" ∷ codes "ok 3 2" ∷ codes "ok 4 3" ∷ codes "ok 5 3" ∷ codes "ok 6 4"
     ∷ codes "ok 7 3"
     ∷ codes "windows 3" ∷ codes "1 4 4 11 -3 8 10 40" ∷ codes "5 6 2 11 2 9 50 60" ∷ codes "7 7 1 7 7 7 70 70"
@@ -49,7 +49,7 @@ history = map added (
     Create (codes "a") (exp 2 1 1) ∷ Value (codes "a") 10 (pos 5) ∷ Value (codes "a") 20 (negsuc 2) ∷ Value (codes "a") 30 (pos 8)
     ∷ Value (codes "a") 40 (pos 1) ∷ Value (codes "a") 50 (pos 9) ∷ Value (codes "a") 60 (pos 2) ∷ Value (codes "a") 70 (pos 7) ∷ [])
 
-accepted-readings : accepted (plain []) (lines readings) ≡ history
+accepted-readings : accepted (plain_talk []) (lines readings) ≡ history
 unfolding ended_lines unended meaning words is_number number_of number_up_to signed_of is_name state refuses refuses_reading window_index
 accepted-readings = refl
 
@@ -60,7 +60,7 @@ mistakes =
     ∷ codes "append a 70 1" ∷ codes "windows" ∷ codes "windows x" ∷ [] ∷ codes "# note" ∷ codes "create b exp 2 1 4" ∷ [])
     ++ codes "append a 80 -1"
 
-report-mistakes : report (plain history) mistakes
+report-mistakes : report (plain_talk history) mistakes
     ≡ text (codes "refused EXISTS" ∷ codes "refused PARAM" ∷ codes "refused UNKNOWN" ∷ codes "refused NUMBER" ∷ codes "refused NAME"
     ∷ codes "refused TIME" ∷ codes "refused SYNTAX" ∷ codes "refused UNKNOWN" ∷ codes "ok 0 0" ∷ codes "ok 8 4" ∷ [])
 unfolding ended_lines unended meaning words is_number number_of number_up_to signed_of is_name state refuses refuses_reading window_index digits
@@ -71,17 +71,17 @@ unfolding ended_lines unended meaning words is_number number_of number_up_to sig
 after_lines-mistakes = refl
 
 -- what a line brings after that history: an event may want memory, and a refused one and a query don't
-turn-append : turn_of (plain history) (codes "append a 80 1")
+turn-append : turn_of (plain_talk history) (codes "append a 80 1")
     ≡ record { says = codes "ok 8 4" ++ 10 ∷ []; event = Some (Value (codes "a") 80 (pos 1)); cursors = no_cursors; wants_memory = true }
 unfolding meaning words is_number number_of number_up_to signed_of is_name state refuses window_index digits
 turn-append = refl
 
-turn-refused : turn_of (plain history) (codes "append a 70 1")
+turn-refused : turn_of (plain_talk history) (codes "append a 70 1")
     ≡ record { says = codes "refused TIME" ++ 10 ∷ []; event = None; cursors = no_cursors; wants_memory = false }
 unfolding meaning words is_number number_of number_up_to signed_of is_name state refuses window_index
 turn-refused = refl
 
-turn-query : turn_of (plain history) (codes "query a count 10 40")
+turn-query : turn_of (plain_talk history) (codes "query a count 10 40")
     ≡ record { says = codes "count 4 4" ++ 10 ∷ []; event = None; cursors = no_cursors; wants_memory = false }
 unfolding meaning words is_number number_of number_up_to signed_of is_name state refuses_query outcome_of sum_interval window_index digits
 turn-query = refl
@@ -92,14 +92,14 @@ drops =
     text (codes "drop a" ∷ codes "list" ∷ codes "drop a" ∷ codes "query a count 0 100" ∷ codes "windows a" ∷ codes "append a 80 1"
     ∷ codes "create a exp 2 1 1" ∷ codes "append a 5 1" ∷ codes "query a count 0 100" ∷ codes "drop a b" ∷ codes "drop a!" ∷ [])
 
-report-drops : report (plain history) drops
+report-drops : report (plain_talk history) drops
     ≡ text (codes "ok 0 0" ∷ codes "list 0" ∷ codes "refused UNKNOWN" ∷ codes "refused UNKNOWN" ∷ codes "refused UNKNOWN" ∷ codes "refused UNKNOWN"
     ∷ codes "ok 0 0" ∷ codes "ok 1 1" ∷ codes "count 1 1" ∷ codes "refused SYNTAX" ∷ codes "refused NAME" ∷ [])
 unfolding ended_lines unended meaning words is_number number_of number_up_to signed_of is_name state refuses refuses_query refuses_reading outcome_of
     window_index digits
 report-drops = refl
 
-accepted-drops : accepted (plain history) (lines drops) ≡ map added (Drop (codes "a") ∷ Create (codes "a") (exp 2 1 1) ∷ Value (codes "a") 5 (pos 1) ∷ [])
+accepted-drops : accepted (plain_talk history) (lines drops) ≡ map added (Drop (codes "a") ∷ Create (codes "a") (exp 2 1 1) ∷ Value (codes "a") 5 (pos 1) ∷ [])
 unfolding ended_lines unended meaning words is_number number_of number_up_to signed_of is_name state refuses refuses_query refuses_reading outcome_of
     window_index
 accepted-drops = refl
@@ -143,7 +143,7 @@ queries =
     ∷ codes "query a count 25 55" ∷ codes "query a sum 25 55" ∷ codes "query a min 25 55" ∷ codes "query a max 25 55"
     ∷ codes "query a sum 5 4" ∷ codes "query x sum 5 4" ∷ codes "query a mean 5 4" ∷ codes "query a sum 5 x" ∷ codes "query a! sum 5 4" ∷ [])
 
-report-queries : report (plain history) queries
+report-queries : report (plain_talk history) queries
     ≡ text (codes "count 4 4" ∷ codes "sum 29 29" ∷ codes "max 9 9" ∷ codes "min none"
     ∷ codes "count 1 3" ∷ codes "sum -5 16" ∷ codes "min -3 8" ∷ codes "min -3 8 maybe-none" ∷ codes "count 0 2"
     ∷ codes "count 2 4" ∷ codes "sum -3 25" ∷ codes "min -3 8" ∷ codes "max 2 9"
@@ -152,7 +152,7 @@ unfolding ended_lines unended meaning words is_number number_of number_up_to sig
 report-queries = refl
 
 -- they add no event
-accepted-queries : accepted (plain history) (lines queries) ≡ []
+accepted-queries : accepted (plain_talk history) (lines queries) ≡ []
 unfolding ended_lines unended meaning words is_number number_of number_up_to signed_of is_name state refuses_query outcome_of sum_interval window_index
 accepted-queries = refl
 
@@ -162,7 +162,7 @@ close_times =
     text (codes "create d power 1 0 1 4" ∷ codes "append d 10 4" ∷ codes "append d 11 4" ∷ codes "append d 12 6" ∷ codes "append d 13 6"
     ∷ codes "query d count 10 11" ∷ codes "query d sum 10 11" ∷ [])
 
-report-close_times : report (plain []) close_times
+report-close_times : report (plain_talk []) close_times
     ≡ text (codes "ok 0 0" ∷ codes "ok 1 1" ∷ codes "ok 2 1" ∷ codes "ok 3 1" ∷ codes "ok 4 1" ∷ codes "count 2 2" ∷ codes "sum 8 12" ∷ [])
 unfolding ended_lines unended meaning words is_number number_of number_up_to signed_of is_name state refuses refuses_query outcome_of sum_interval
     power_length window_index digits
@@ -178,24 +178,24 @@ unfolding ended_lines unended
 steps_within-end = refl
 
 -- each reply to the readings has 7 bytes: an event is acknowledged with the last of them
-acks-none : acks (plain []) (lines readings) 6 ≡ 0
+acks-none : acks (plain_talk []) (lines readings) 6 ≡ 0
 unfolding ended_lines unended meaning words is_number number_of number_up_to signed_of is_name state refuses refuses_reading window_index digits
 acks-none = refl
 
-acks-some : acks (plain []) (lines readings) 20 ≡ 2
+acks-some : acks (plain_talk []) (lines readings) 20 ≡ 2
 unfolding ended_lines unended meaning words is_number number_of number_up_to signed_of is_name state refuses refuses_reading window_index digits
 acks-some = refl
 
-acks-all : acks (plain []) (lines readings) 56 ≡ 8
+acks-all : acks (plain_talk []) (lines readings) 56 ≡ 8
 unfolding ended_lines unended meaning words is_number number_of number_up_to signed_of is_name state refuses refuses_reading window_index digits
 acks-all = refl
 
 -- what is shown after them acknowledges no further event, and refused lines acknowledge none
-acks-shown : acks (plain []) (lines readings) 100 ≡ 8
+acks-shown : acks (plain_talk []) (lines readings) 100 ≡ 8
 unfolding ended_lines unended meaning words is_number number_of number_up_to signed_of is_name state refuses refuses_reading window_index digits
 acks-shown = refl
 
-acks-refused : acks (plain history) (lines mistakes) 120 ≡ 0
+acks-refused : acks (plain_talk history) (lines mistakes) 120 ≡ 0
 unfolding ended_lines unended meaning words is_number number_of number_up_to signed_of is_name state refuses refuses_reading window_index digits
 acks-refused = refl
 

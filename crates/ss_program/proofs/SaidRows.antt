@@ -1,6 +1,6 @@
 -- Worked rows of what is said to sessions, and the numbers of its rules.
 use Rattle.ss_program.proofs.Common.{◌*◌, ◌≡◌, ◌+◌, ◌^◌, ◌++◌, [], ◌∷◌, arith, lit≤, refl, ℕ, List, Some, None, codes, flat_map, length, map, pos, negsuc}
-use Rattle.ss_program.proofs.Common.{Create, Value, exp, Happened, added, HasRoom, IsSpeaker, brings, text_said, Each, Shared, most_read}
+use Rattle.ss_program.proofs.Common.{Create, Value, exp, Happened, added, HasRoomForReply, IsSpeaker, brings, text_said, Each, Shared, most_read}
 use Rattle.std.specs.Fmt.{digits}
 use Rattle.ss_catalog.specs.Names.{is_name}
 use Rattle.ss_command.specs.Grammar.{meaning}
@@ -18,13 +18,13 @@ most_waiting : MOST_WAITING_BYTES ≡ 2 ^ 16
 most_waiting = refl
 
 -- one more can wait behind 65,016 bytes of replies, and not behind one byte more; and always where none waits
-room-last : (replies : List ℕ) → length replies ≡ 65016 → HasRoom (Some replies)
+room-last : (replies : List ℕ) → length replies ≡ 65016 → HasRoomForReply (Some replies)
 room-last replies long = omega (arith, long)
 
-room-past : (replies : List ℕ) → length replies ≡ 65017 → HasRoom (Some replies) → ⊥
+room-past : (replies : List ℕ) → length replies ≡ 65017 → HasRoomForReply (Some replies) → ⊥
 room-past replies long room = omega (arith, long, room)
 
-room-none : HasRoom None
+room-none : HasRoomForReply None
 room-none = tt
 
 -- how much one read of the input takes at the most: in batches what may share a seal

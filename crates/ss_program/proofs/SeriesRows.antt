@@ -1,7 +1,7 @@
 -- Worked rows of series, each computed from a history.
 use Rattle.ss_program.proofs.Common.{◌≡◌, ◌++◌, [], ◌∷◌, refl, ℕ, List, Some, Ok, codes, map, pos, negsuc, flat_map, Create, Value, exp, Query}
 use Rattle.ss_catalog.specs.Series.{numbers_from}
-use Rattle.ss_program.proofs.Common.{lines, Happened, added, Outcome, OnlyReads, Told, Stands, History, AnswersQuery, accepted, report, plain}
+use Rattle.ss_program.proofs.Common.{lines, Happened, added, Outcome, OnlyReads, Told, Stands, History, AnswersQuery, accepted, report, plain_talk}
 use Rattle.std.specs.Fmt.{digits}
 use Rattle.ss_bounds.specs.Split.{sum_interval}
 use Rattle.ss_catalog.specs.Names.{is_name}
@@ -30,7 +30,7 @@ series =
     ∷ codes "series x sum 5 4 1" ∷ codes "series a sum 5 4 1" ∷ codes "series a mean 5 4 1" ∷ codes "series a! sum 0 100000 1"
     ∷ codes "series a! sum 0 99999 1" ∷ [])
 
-report-series : report (plain readings) series
+report-series : report (plain_talk readings) series
     ≡ text (codes "series 3" ∷ codes "10 -5 16" ∷ codes "35 -3 25" ∷ codes "60 9 16"
     ∷ codes "series 3" ∷ codes "0 8 8" ∷ codes "50 9 9" ∷ codes "100 none"
     ∷ codes "series 2" ∷ codes "15 -3 8 maybe-none" ∷ codes "16 -3 8 maybe-none" ∷ codes "series 1" ∷ codes "10 1 1"
@@ -40,7 +40,7 @@ unfolding ended_lines unended meaning words is_number number_of number_up_to sig
 report-series = refl
 
 -- they add no event
-accepted-series : accepted (plain readings) (lines series) ≡ []
+accepted-series : accepted (plain_talk readings) (lines series) ≡ []
 unfolding ended_lines unended meaning words is_number number_of number_up_to signed_of is_name state refuses_query outcome_of sum_interval window_index
     numbers_from
 accepted-series = refl

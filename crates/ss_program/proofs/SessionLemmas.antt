@@ -5,7 +5,7 @@ use Rattle.ss_program.proofs.Common.{Follow, Event, Create, Value, Open, Close, 
 use Rattle.ss_program.proofs.Common.{frame_of, Due, Next, Gap, unless_long, spoken_of, Order, Spoken, Nothing, Unaddressed, To, reply_line, Reply, History}
 use Rattle.ss_program.proofs.Common.{accepted_frame, brings, due_brings, frame_brings, history_after, text_said, the_event, LeavesOnly, Told, weaker, HoldsTalk}
 use Rattle.ss_program.proofs.Common.{StandsWithin, StopsAmong, StopsIn, appended, AppendsFront, accepted, after_line, after_lines, plain_after, replies, report}
-use Rattle.ss_program.proofs.Common.{report_so_far, text_of, Talk, kept_spoken, meant_turn, plain, turn_in, turn_of, turn_spoken, turn_to, writing, Sealing}
+use Rattle.ss_program.proofs.Common.{report_so_far, text_of, Talk, kept_spoken, meant_turn, plain_talk, turn_in, turn_of, turn_spoken, turn_to, writing, Sealing}
 use Rattle.ss_program.proofs.Common.{Status, steps_so_far, Turn, inl, inr}
 use Rattle.ss_replica.specs.declared.judging.Due.TheVariants.{Old as OldFrame}
 use Rattle.ss_program.proofs.SpelledLemmas.{some-frame_spelled}
@@ -111,7 +111,7 @@ pub text_of-push : (talk : Talk) (ls : List (List ℕ)) (l : List ℕ) →
 text_of-push talk ls l =
     text_of-append talk ls (l ∷ []) ∙ ap (λ (text : List ℕ). text_of talk ls ++ text) (text_of-one (after_lines talk ls) l)
 
--- the history after more plain lines, and after one more
+-- the history after more plain_talk lines, and after one more
 pub plain_after-append : (history : History) (ls ms : List (List ℕ)) → plain_after history (ls ++ ms) ≡ plain_after (plain_after history ls) ms
 plain_after-append history [] ms = refl
 plain_after-append history (l ∷ ls) ms = plain_after-append (history_after history (brings history l)) ls ms
@@ -120,7 +120,7 @@ pub plain_after-push : (history : History) (ls : List (List ℕ)) (line : List �
     plain_after history (ls ++ line ∷ []) ≡ history_after (plain_after history ls) (brings (plain_after history ls) line)
 plain_after-push history ls line = plain_after-append history ls (line ∷ [])
 
--- the replies to more plain lines, and their text
+-- the replies to more plain_talk lines, and their text
 pub replies-append : (history : History) (ls ms : List (List ℕ)) →
     replies history (ls ++ ms) ≡ replies history ls ++ replies (plain_after history ls) ms
 replies-append history [] ms = refl
@@ -129,7 +129,7 @@ replies-append history (l ∷ ls) ms =
     ap (λ (rs : List Reply). (brings history l).replies ++ rs) (replies-append then ls ms)
     ∙ sym (append_assoc (brings history l).replies (replies then ls) (replies (plain_after then ls) ms))
 
-pub text_of-replies : (history : History) (ls : List (List ℕ)) → text_of (plain history) ls ≡ flat_map reply_line (replies history ls)
+pub text_of-replies : (history : History) (ls : List (List ℕ)) → text_of (plain_talk history) ls ≡ flat_map reply_line (replies history ls)
 text_of-replies history [] = refl
 text_of-replies history (l ∷ ls) =
     let then = history_after history (brings history l) in

@@ -1,5 +1,5 @@
 -- Worked rows of streams whose windows cross no boundary of the clock, each computed from its lines.
-use Rattle.ss_program.proofs.Common.{◌≡◌, ◌++◌, [], ◌∷◌, refl, ℕ, List, codes, flat_map, report, plain}
+use Rattle.ss_program.proofs.Common.{◌≡◌, ◌++◌, [], ◌∷◌, refl, ℕ, List, codes, flat_map, report, plain_talk}
 use Rattle.ss_power.specs.Power.{power_length}
 use Rattle.ss_catalog.specs.Series.{numbers_from}
 use Rattle.ss_windowing.specs.Windowing.{window_index}
@@ -20,7 +20,7 @@ abbrev text : List (List ℕ) → List ℕ
 text ls = flat_map (λ line. line ++ 10 ∷ []) ls
 
 -- within minutes 5 to 6 stay apart at the seventh value, and each minute of a series is one number
-report-minutes : report (plain []) (text (
+report-minutes : report (plain_talk []) (text (
     codes "create a exp 2 1 1 within 60" ∷ codes "append a 10 5" ∷ codes "append a 20 -3" ∷ codes "append a 30 8" ∷ codes "append a 40 1"
     ∷ codes "append a 50 9" ∷ codes "append a 60 2" ∷ codes "append a 70 7" ∷ codes "windows a" ∷ codes "list"
     ∷ codes "series a sum 0 119 60" ∷ codes "query a sum 40 59" ∷ []))
@@ -33,7 +33,7 @@ unfolding ended_lines unended meaning words is_number number_of number_up_to sig
 report-minutes = refl
 
 -- a landmark over a boundary, whose value is told one by one, and each ten on both sides of it is one number
-report-tens : report (plain []) (text (
+report-tens : report (plain_talk []) (text (
     codes "create p power 1 0 1 4 within 10" ∷ codes "append p 7 1" ∷ codes "append p 8 2" ∷ codes "landmark p open 9" ∷ codes "append p 9 100"
     ∷ codes "landmark p close 10" ∷ codes "append p 11 3" ∷ codes "append p 12 4" ∷ codes "append p 19 5" ∷ codes "append p 20 6"
     ∷ codes "append p 21 7" ∷ codes "windows p" ∷ codes "query p sum 0 9" ∷ codes "query p sum 10 19" ∷ codes "last p" ∷ codes "values p 0 99"
@@ -47,7 +47,7 @@ unfolding ended_lines unended meaning words is_number number_of number_up_to sig
 report-tens = refl
 
 -- each refusal of a step, and steps that are taken
-report-refused : report (plain []) (text (
+report-refused : report (plain_talk []) (text (
     codes "create a exp 2 1 1 within 0" ∷ codes "create a exp 2 1 1 within 4294967296" ∷ codes "create a exp 2 1 1 within -1"
     ∷ codes "create a exp 1 1 1 within 5" ∷ codes "create a! exp 2 1 1 within 0" ∷ codes "create a! exp 2 1 1 within x"
     ∷ codes "create a exp 2 1 1 within" ∷ codes "create a exp 2 1 1 inside 5" ∷ codes "create a exp 2 1 1 within 5 5"

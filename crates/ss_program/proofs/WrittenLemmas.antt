@@ -1,13 +1,13 @@
 -- What frames bring that are written of lines, and what frames bring that are offered.
 use Rattle.ss_program.proofs.Common.{◌≡◌, ◌∙◌, List, ℕ, Option, Some, None, Result, Ok, Err, sym, ap, Event, Command, Do, Ask, Certify, Last, Values, arith}
 use Rattle.ss_program.proofs.Common.{common_steps, Windows, FrameState, IsHistory, state, Told, RecordsState, shown_by, due_in, Due, Cursors}
-use Rattle.ss_program.proofs.Common.{AllAgree-recovered, StoreIsIn, StoreState, Stands, Amid, Owed, TakesTurn, amid, History, due_brings, event_in}
+use Rattle.ss_program.proofs.Common.{AllAgree-recovered, StoreIsIn, StoreState, Stands, Amid, Owed, TakesTurn, amid, History, due_brings, event_asked}
 use Rattle.ss_program.proofs.Common.{frame_brings, after_lines, Talk, Turn, event_turn, meant_turn, silent, turn_brought, Status}
 use Rattle.ss_command.specs.declared.command.Command.TheVariants.{Series as AskRows, List as ListAll}
 use Rattle.ss_parts.specs.Held.{AllAgree}
 
 -- a command that asks for an event brings its frame
-pub meant-event : (talk : Talk) (command : Command) (event : Event) → Some event ≡ event_in command →
+pub meant-event : (talk : Talk) (command : Command) (event : Event) → Some event ≡ event_asked command →
     meant_turn talk (Ok (Some command)) ≡ event_turn talk event
 meant-event talk (Do other) event is = let same : other ≡ event = cc in ap (event_turn talk) same
 meant-event talk (Ask query) event is = cc
@@ -19,7 +19,7 @@ meant-event talk (Windows name) event is = cc
 meant-event talk ListAll event is = cc
 
 -- and any other brings nothing
-pub meant-none : (talk : Talk) (command : Command) → None ≡ event_in command → meant_turn talk (Ok (Some command)) ≡ silent talk
+pub meant-none : (talk : Talk) (command : Command) → None ≡ event_asked command → meant_turn talk (Ok (Some command)) ≡ silent talk
 meant-none talk command is = grind (arith, common_steps)
 
 -- a line is taken by any name of its turn

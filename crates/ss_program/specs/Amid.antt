@@ -42,13 +42,13 @@ abbrev pub owed_by : Option (List ℕ) → Owed
 owed_by None = record { text = []; lines = Some 0 }
 owed_by (Some replies) = record { text = replies; lines = None }
 
-abbrev pub one_more : Option ℕ → Option ℕ
-one_more None = None
-one_more (Some n) = Some (n + 1)
+abbrev pub one_line_more : Option ℕ → Option ℕ
+one_line_more None = None
+one_line_more (Some n) = Some (n + 1)
 
 -- a line was done, to which this is said
 abbrev pub with_text : Owed → List ℕ → Owed
-with_text owed text = record { text = owed.text ++ text; lines = one_more owed.lines }
+with_text owed text = record { text = owed.text ++ text; lines = one_line_more owed.lines }
 
 -- so many lines are these
 abbrev pub AreOwed : Sealing → Option ℕ → List (List ℕ) → Type 0
@@ -88,7 +88,7 @@ pub record GoesAmid (sealing : Sealing) (talk : Talk) (ls : List (List ℕ)) (be
   pub any_moment : LeavesOnly old new (StandsWithin talk ls)
 
 -- Further lines of a conversation are taken, from between two lines on to between two lines, or the run stops among them.
-pub record Takes (sealing : Sealing) (talk : Talk) (ls more : List (List ℕ)) (before : Option (List ℕ)) (from to : Amid) (result : Result Unit Status)
+pub record TakesFurther (sealing : Sealing) (talk : Talk) (ls more : List (List ℕ)) (before : Option (List ℕ)) (from to : Amid) (result : Result Unit Status)
     (old new : Told) : Type 0 where
   pub goes : OnOk result (IsAmid sealing talk ls before from old → GoesAmid sealing talk (ls ++ more) before to old new)
   pub stops : IfErr result (λ status. IsAmid sealing talk ls before from old → StopsIn sealing talk (ls ++ more) old new before to.held status)
@@ -96,13 +96,13 @@ pub record Takes (sealing : Sealing) (talk : Talk) (ls more : List (List ℕ)) (
 -- no line more is taken, in any conversation, whatever cursors there are
 abbrev pub TakesNone : (Cursors → Amid) → (Cursors → Amid) → Result Unit Status → Told → Told → Type 0
 TakesNone from to result old new = (cursors : Cursors) (sealing : Sealing) (talk : Talk) (ls : List (List ℕ)) (before : Option (List ℕ)) →
-    Takes sealing talk ls [] before (from cursors) (to cursors) result old new
+    TakesFurther sealing talk ls [] before (from cursors) (to cursors) result old new
 
 -- a line is taken that has this turn
 abbrev pub TakesTurn : (Talk → Turn) → Amid → Amid → Result Unit Status → Told → Told → Type 0
 TakesTurn turn from to result old new =
     (sealing : Sealing) (talk : Talk) (ls : List (List ℕ)) (before : Option (List ℕ)) (line : List ℕ) →
-    turn_of (after_lines talk ls) line ≡ turn (after_lines talk ls) → Takes sealing talk ls (line ∷ []) before from to result old new
+    turn_of (after_lines talk ls) line ≡ turn (after_lines talk ls) → TakesFurther sealing talk ls (line ∷ []) before from to result old new
 
 -- or one that brings this after the history, said to a session or to none, whatever cursors there are
 abbrev pub TakesBrought : Option ℕ → (History → Brought) → (Cursors → Amid) → (Cursors → Amid) → Result Unit Status → Told → Told → Type 0
@@ -156,7 +156,7 @@ abbrev pub NoneStaged : Option (List ℕ) → StoreState → Type 0
 NoneStaged None store = IsSealed store.records.journal
 NoneStaged (Some replies) store = ⊤
 
-pub record IsReady (disk : DiskView) (store : StoreState) (waiting : Option (List ℕ)) : Type 0 where
+pub record IsReadyToServe (disk : DiskView) (store : StoreState) (waiting : Option (List ℕ)) : Type 0 where
   pub serves : IsServing disk store
   pub staged : NoneStaged waiting store
 
@@ -172,9 +172,9 @@ pub record IsAtFront (disk : DiskView) (session : SessionState) : Type 0 where
   pub cursors : session.cursors ≡ no_cursors
 
 -- one reply more can wait
-abbrev pub HasRoom : Option (List ℕ) → Type 0
-HasRoom None = ⊤
-HasRoom (Some replies) = length replies + LONGEST_REPLY ≤ MOST_WAITING_BYTES
+abbrev pub HasRoomForReply : Option (List ℕ) → Type 0
+HasRoomForReply None = ⊤
+HasRoomForReply (Some replies) = length replies + LONGEST_REPLY ≤ MOST_WAITING_BYTES
 
 -- what a call says between two lines of an input of this form, of which these bytes were taken
 abbrev pub OfAmid : Form → Kept → Amid → Told → (Sealing → Talk → Option (List ℕ) → List ℕ → Type 0) → Type 0

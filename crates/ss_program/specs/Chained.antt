@@ -7,14 +7,14 @@ use Rattle.ss_arguments.specs.declared.mode.Sealing.{Sealing}
 use Rattle.ss_arguments.specs.declared.mode.Sealing.TheVariants.{Each}
 use Rattle.ss_model.specs.History.{Happened}
 use Rattle.ss_outside.specs.Disk.{DiskView, NothingPending, Told}
-use Rattle.ss_program.specs.Generated.{generated}
+use Rattle.ss_program.specs.Generated.{generated_lines}
 use Rattle.ss_program.specs.Held.{acks}
 use Rattle.ss_program.specs.Line.{History}
 use Rattle.ss_program.specs.Promises.{ChecksBy, GeneratesBy, ServesBy}
 use Rattle.ss_program.specs.Session.{accepted}
 use Rattle.ss_program.specs.Status.{exit_number}
 use Rattle.ss_program.specs.Steps.{steps}
-use Rattle.ss_program.specs.Talk.{begun, plain}
+use Rattle.ss_program.specs.Talk.{begun, plain_talk}
 use Rattle.ss_program.specs.declared.status.Status.{Status}
 use Rattle.ss_program.specs.declared.status.Status.TheVariants.{Done, OutOfMemory}
 
@@ -66,11 +66,11 @@ abbrev pub AreLinked : {D : Type 0} → (D → DiskView) → List (Link D) → L
 AreLinked seen [] first last = last ≡ first
 AreLinked seen (link ∷ links) first last = IsLink seen link first × AreLinked seen links link.image last
 
--- the events that are accepted in a run after a history: those of its input, or of the generated file
+-- the events that are accepted in a run after a history: those of its input, or of the generated_lines file
 abbrev pub accepted_of : Option Mode → List ℕ → History → List Happened
 accepted_of (Some (Serve form sealing)) input history = accepted (begun form history) (steps form input)
 accepted_of (Some Check) input history = []
-accepted_of (Some (Gen seed count)) input history = accepted (plain history) (generated seed count)
+accepted_of (Some (Gen seed count)) input history = accepted (plain_talk history) (generated_lines seed count)
 accepted_of None input history = []
 
 -- how many of them are acknowledged by so many bytes to the sink: none by itself where there is no input

@@ -22,9 +22,9 @@ abbrev pub leaves_cursors : Cursors → Brought → Ordered
 leaves_cursors cursors brought = record { brought = brought; cursors = cursors; wants_memory = is_some brought.event }
 
 -- a cursor is opened over a stream: the reply says how many rows it has; nothing of a stream that doesn't stand
-abbrev pub opening : Cursors → ℕ → Option Stream → Ordered
-opening cursors session None = leaves_cursors cursors nothing
-opening cursors session (Some s) = record {
+abbrev pub opens_cursor : Cursors → ℕ → Option Stream → Ordered
+opens_cursor cursors session None = leaves_cursors cursors nothing
+opens_cursor cursors session (Some s) = record {
   brought = only_replies (Cursor (length s.windows) ∷ []);
   cursors = with_cursor cursors session (Some (cursor_rows s));
   wants_memory = true;
@@ -35,10 +35,10 @@ abbrev pub unless_unopened : Option Refusal → Cursors → Ordered → Ordered
 unless_unopened None cursors ordered = ordered
 unless_unopened (Some refusal) cursors ordered = leaves_cursors cursors (refused refusal)
 
--- what opening a cursor brings
+-- what opens_cursor a cursor brings
 abbrev pub open_brings : History → Cursors → ℕ → List ℕ → Ordered
 open_brings history cursors session name =
-    unless_unopened (refuses_cursor (state history) name (cursor_of cursors session)) cursors (opening cursors session (stream_named name (state history)))
+    unless_unopened (refuses_cursor (state history) name (cursor_of cursors session)) cursors (opens_cursor cursors session (stream_named name (state history)))
 
 -- the rows of a cursor, as those of `windows`
 abbrev pub placed_rows : List Placed → List Reply
@@ -58,17 +58,17 @@ abbrev pub next_brings : Cursors → ℕ → ℕ → Ordered
 next_brings cursors session count = showing cursors session count (cursor_of cursors session)
 
 -- a cursor is closed
-abbrev pub closing : Cursors → ℕ → Option (List Placed) → Ordered
-closing cursors session None = leaves_cursors cursors (refused NoCursor)
-closing cursors session (Some rows) = record {
+abbrev pub closes_cursor : Cursors → ℕ → Option (List Placed) → Ordered
+closes_cursor cursors session None = leaves_cursors cursors (refused NoCursor)
+closes_cursor cursors session (Some rows) = record {
   brought = only_replies (Closed ∷ []);
   cursors = with_cursor cursors session None;
   wants_memory = false;
 }
 
--- what closing a cursor brings
+-- what closes_cursor a cursor brings
 abbrev pub close_brings : Cursors → ℕ → Ordered
-close_brings cursors session = closing cursors session (cursor_of cursors session)
+close_brings cursors session = closes_cursor cursors session (cursor_of cursors session)
 
 -- what an order of a session brings, where frames are said or not
 abbrev pub order_in : Bool → History → Cursors → ℕ → Order → Ordered

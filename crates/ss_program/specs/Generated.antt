@@ -1,4 +1,4 @@
--- A generated command file: its lines, and what is said of a session over them.
+-- A generated_lines command file: its lines, and what is said of a session over them.
 use Rattle.std.specs.Prelude.{◌≡◌, ℕ, ◌-◌, Bool, true, false, List, [], ◌∷◌, ◌++◌, codes, drop, flat_map, length, map, count_by, Option}
 use Rattle.std.specs.Fmt.{decimal}
 use Rattle.ss_command.specs.Printed.{printed}
@@ -14,13 +14,13 @@ use Rattle.ss_program.specs.Held.{StandsShortForFirst}
 use Rattle.ss_program.specs.Line.{History}
 use Rattle.ss_program.specs.Sent.{appended, AppendsFront}
 use Rattle.ss_program.specs.Session.{accepted, replies}
-use Rattle.ss_program.specs.Talk.{plain}
+use Rattle.ss_program.specs.Talk.{plain_talk}
 use Rattle.ss_program.specs.declared.status.Status.{Status}
 use Rattle.ss_program.specs.declared.status.Status.TheVariants.{Done, SinkFault}
 
 -- the lines of the file
-abbrev pub generated : ℕ → ℕ → List (List ℕ)
-generated seed count = map printed (commands seed count)
+abbrev pub generated_lines : ℕ → ℕ → List (List ℕ)
+generated_lines seed count = map printed (commands seed count)
 
 -- whether a reply says that an event was accepted, and whether it says that a command was refused
 abbrev pub is_done : Reply → Bool
@@ -91,15 +91,15 @@ summary_lines seed count lines all =
 -- the summary of a session over the file, after a history
 abbrev pub summary : History → ℕ → ℕ → List ℕ
 summary history seed count =
-    summary_lines seed count (length (generated seed count)) (replies history (generated seed count))
+    summary_lines seed count (length (generated_lines seed count)) (replies history (generated_lines seed count))
 
 -- the image stands for the history and some first of the events that are accepted of the file, and is no longer than these allow
 abbrev pub StandsForGenerated : Option ℕ → History → ℕ → ℕ → List ℕ → Type 0
-StandsForGenerated used history seed count image = StandsShortForFirst used history (accepted (plain history) (generated seed count)) image
+StandsForGenerated used history seed count image = StandsShortForFirst used history (accepted (plain_talk history) (generated_lines seed count)) image
 
 -- the image stands for the history and all of them
 abbrev pub StandsForAll : Option ℕ → History → ℕ → ℕ → List ℕ → Type 0
-StandsForAll used history seed count image = StandsShort used (history ++ accepted (plain history) (generated seed count)) image
+StandsForAll used history seed count image = StandsShort used (history ++ accepted (plain_talk history) (generated_lines seed count)) image
 
 -- What a run over the file leaves. The sink's new bytes are a front of the summary, and all of it where the run is done; there are
 -- none where it stopped at a command. A crash at any moment leaves the history and some first of the accepted events, and so does

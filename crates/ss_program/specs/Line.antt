@@ -62,15 +62,15 @@ unless_refused None brought = brought
 unless_refused (Some refusal) brought = refused refusal
 
 -- the event that a command asks for, if it asks for one
-abbrev pub event_in : Command → Option Event
-event_in (Do event) = Some event
-event_in (Ask query) = None
-event_in (Certify query end) = None
-event_in (AskRows series) = None
-event_in (Last name) = None
-event_in (Values name from to) = None
-event_in (Windows name) = None
-event_in ListAll = None
+abbrev pub event_asked : Command → Option Event
+event_asked (Do event) = Some event
+event_asked (Ask query) = None
+event_asked (Certify query end) = None
+event_asked (AskRows series) = None
+event_asked (Last name) = None
+event_asked (Values name from to) = None
+event_asked (Windows name) = None
+event_asked ListAll = None
 
 -- the frame of an event that comes after a history, where the event isn't refused
 abbrev pub accepted_frame : Option Refusal → History → Event → Option FrameState

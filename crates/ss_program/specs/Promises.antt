@@ -16,8 +16,8 @@ use Rattle.ss_program.specs.Status.{EndsAs}
 use Rattle.ss_program.specs.declared.status.Status.{Status}
 
 -- How a run ends that answers this number, by what its arguments ask for: for a mode, or for none.
-abbrev pub EndsBy : Option Mode → Devices → Devices → ℕ → Type 0
-EndsBy mode old new number = IsSome mode → (status : Status) → EndsAs number status → Ends old new status
+abbrev pub FinishesBy : Option Mode → Devices → Devices → ℕ → Type 0
+FinishesBy mode old new number = IsSome mode → (status : Status) → EndsAs number status → Ends old new status
 
 abbrev pub RejectsBy : Option Mode → Devices → Devices → ℕ → Type 0
 RejectsBy mode old new number = mode ≡ None → (status : Status) → EndsAs number status → Rejects old new status

@@ -32,12 +32,12 @@ step_state form (cuts.Lines lines) = record { form = form; step = lines.line; en
 step_state form (cuts.Pieces pieces) = record { form = form; step = Some pieces.bytes; ended = pieces.ended }
 
 -- what is kept of the step that is under way: nothing yet, where the last one has ended
-abbrev pub under_way : StepState → Kept
-under_way s = if s.ended then Some [] else s.step
+abbrev pub step_under_way : StepState → Kept
+step_under_way s = if s.ended then Some [] else s.step
 
 -- a reader that has taken this input: it keeps what stands behind the last step
-abbrev pub HasRead : List ℕ → StepState → Type 0
-HasRead input s = under_way s ≡ kept_so_far s.form input
+abbrev pub HasReadSteps : List ℕ → StepState → Type 0
+HasReadSteps input s = step_under_way s ≡ kept_so_far s.form input
 
 -- what a reader answers where the steps grew from the first list to the second: nothing where they did not, and otherwise that one
 -- more step ended, which it has

@@ -8,7 +8,7 @@ use Rattle.ss_report.specs.declared.reply.Reply.{Reply}
 use Rattle.ss_model.specs.History.{Happened}
 use Rattle.ss_program.specs.Line.{History, brings, history_after, the_event}
 use Rattle.ss_program.specs.Steps.{steps, steps_so_far}
-use Rattle.ss_program.specs.Talk.{Talk, after_turn, plain, turn_of}
+use Rattle.ss_program.specs.Talk.{Talk, after_turn, plain_talk, turn_of}
 
 -- the conversation after a line
 abbrev pub after_line : Talk → List ℕ → Talk
@@ -37,11 +37,11 @@ report talk input = text_of talk (steps talk.form input)
 abbrev pub report_so_far : Talk → List ℕ → List ℕ
 report_so_far talk input = text_of talk (steps_so_far talk.form input)
 
--- the history after some plain lines
+-- the history after some plain_talk lines
 abbrev pub plain_after : History → List (List ℕ) → History
-plain_after history ls = (after_lines (plain history) ls).history
+plain_after history ls = (after_lines (plain_talk history) ls).history
 
--- the replies to some plain lines
+-- the replies to some plain_talk lines
 abbrev pub replies : History → List (List ℕ) → List Reply
 replies history [] = []
 replies history (line ∷ ls) = (brings history line).replies ++ replies (history_after history (brings history line)) ls

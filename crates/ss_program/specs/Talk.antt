@@ -42,12 +42,12 @@ begun_over used form history = record { form = form; history = history; cursors 
 abbrev pub begun : Form → History → Talk
 begun form history = begun_over None form history
 
--- one of plain lines
+-- one of plain_talk lines
 abbrev pub plain_over : Option ℕ → History → Talk
 plain_over used history = begun_over used (Lines false) history
 
-abbrev pub plain : History → Talk
-plain history = plain_over None history
+abbrev pub plain_talk : History → Talk
+plain_talk history = plain_over None history
 
 -- what a line brings: the text that is said, the event that it adds, or none, the cursors after it, and whether it may want memory
 pub record Turn : Type 0 where

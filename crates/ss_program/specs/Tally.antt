@@ -1,4 +1,4 @@
--- What is counted of a session over a generated file.
+-- What is counted of a session over a generated_lines file.
 use Rattle.std.specs.Prelude.{◌≡◌, ℕ, List, length, count_by, IfOk, OnErr, Option, Result, ⊤}
 use Rattle.ss_command.specs.declared.command.Command.{Command}
 use Rattle.ss_command.specs.declared.command.Command.TheVariants as commands
@@ -6,7 +6,7 @@ use Rattle.ss_outside.specs.Crash.{LeavesOnly}
 use Rattle.ss_outside.specs.Disk.{NothingPending, Told}
 use Rattle.ss_report.specs.declared.reply.Reply.{Reply}
 use Rattle.ss_store.specs.Uses.{StandsShort}
-use Rattle.ss_program.specs.Generated.{generated, is_done, is_refused, last_six}
+use Rattle.ss_program.specs.Generated.{generated_lines, is_done, is_refused, last_six}
 use Rattle.ss_program.specs.Line.{History}
 use Rattle.ss_program.specs.Progress.{StandsWithin}
 use Rattle.ss_program.specs.Session.{plain_after, replies}
@@ -43,6 +43,6 @@ pub record HasRun (used : Option ℕ) (history : History) (ls : List (List ℕ))
 -- All commands of the file were done, and the replies to them counted, or the run stopped at one of them.
 pub record RunsAll (seed count : ℕ) (result : Result Tally Status) (old new : Told) : Type 0 where
   pub ok : IfOk result (λ tally. NothingPending old → (used : Option ℕ) (history : History) →
-      StandsShort used history old.content → HasRun used history (generated seed count) old new tally)
+      StandsShort used history old.content → HasRun used history (generated_lines seed count) old new tally)
   pub stops : OnErr result (NothingPending old → (used : Option ℕ) (history : History) → StandsShort used history old.content →
-      LeavesOnly old new (StandsWithin (plain_over used history) (generated seed count)))
+      LeavesOnly old new (StandsWithin (plain_over used history) (generated_lines seed count)))

@@ -6,8 +6,8 @@ ghost use Rattle.ss_command.specs.Printed.{IsCommandInTime};
 ghost use Rattle.ss_frames.specs.Frame.{frame_in};
 ghost use Rattle.ss_outside.specs.Step.{Step};
 ghost use Rattle.ss_outside.specs.Verdict.{Counted};
-ghost use Rattle.ss_program.specs.Amid.{HasRoom, IsReady, TakesBrought, TakesTurn, amid, owed_by};
-ghost use Rattle.ss_program.specs.Line.{event_in, frame_brings};
+ghost use Rattle.ss_program.specs.Amid.{HasRoomForReply, IsReadyToServe, TakesBrought, TakesTurn, amid, owed_by};
+ghost use Rattle.ss_program.specs.Line.{event_asked, frame_brings};
 ghost use Rattle.ss_program.specs.Status.{disk_verdict, ended, sink_verdict, IsStop};
 ghost use Rattle.ss_program.specs.Talk.{event_turn, meant_turn};
 ghost use Rattle.ss_sessions.specs.Cursors.{Cursors};
@@ -32,12 +32,12 @@ fn write_event_frame<D: Disk, K: Sink>(
     sink: &mut K,
 ) -> Result<(), Status>
     requires in_time { IsInTime event.now }
-    requires ready { IsReady (D.seen disk.old) store.old waiting.old }
-    requires room { HasRoom waiting.old }
+    requires ready { IsReadyToServe (D.seen disk.old) store.old waiting.old }
+    requires room { HasRoomForReply waiting.old }
     ensures takes { (cursors : Cursors) → Step (disk_verdict (ended result)) (D.seen disk.old) (D.seen disk.new)
         (TakesTurn (λ talk. event_turn talk event.now) (amid store.old.records (owed_by waiting.old) (K.held sink.old) cursors)
         (amid store.new.records (owed_by waiting.new) (K.held sink.new) cursors) result) }
-    ensures ready { OnOk result (IsReady (D.seen disk.new) store.new waiting.new) }
+    ensures ready { OnOk result (IsReadyToServe (D.seen disk.new) store.new waiting.new) }
     ensures status { IfErr result (IsStop (D.seen disk.old).tells) }
     ensures counted { Counted (sink_verdict (ended result)) (K.faults sink.old) (K.faults sink.new) }
 {
@@ -62,7 +62,7 @@ fn write_event_frame<D: Disk, K: Sink>(
 // The event that a command asks for, if it asks for one.
 fn event_of(command: &Command) -> Option<Event>
     requires { IsCommandInTime command.now }
-    ensures event { result ≡ event_in command.now }
+    ensures event { result ≡ event_asked command.now }
     ensures time { IfSome result IsInTime }
 {
     match command {
@@ -86,12 +86,12 @@ pub fn write_line_frame<D: Disk, K: Sink>(
     sink: &mut K,
 ) -> Result<(), Status>
     requires short { length line.now ≤ LONGEST_LINE }
-    requires ready { IsReady (D.seen disk.old) store.old waiting.old }
-    requires room { HasRoom waiting.old }
+    requires ready { IsReadyToServe (D.seen disk.old) store.old waiting.old }
+    requires room { HasRoomForReply waiting.old }
     ensures takes { (cursors : Cursors) → Step (disk_verdict (ended result)) (D.seen disk.old) (D.seen disk.new)
         (TakesTurn (λ talk. meant_turn talk (meaning line.now)) (amid store.old.records (owed_by waiting.old) (K.held sink.old) cursors)
         (amid store.new.records (owed_by waiting.new) (K.held sink.new) cursors) result) }
-    ensures ready { OnOk result (IsReady (D.seen disk.new) store.new waiting.new) }
+    ensures ready { OnOk result (IsReadyToServe (D.seen disk.new) store.new waiting.new) }
     ensures status { IfErr result (IsStop (D.seen disk.old).tells) }
     ensures counted { Counted (sink_verdict (ended result)) (K.faults sink.old) (K.faults sink.new) }
 {
@@ -113,12 +113,12 @@ fn offer_frame<D: Disk, K: Sink>(
     disk: &mut D,
     sink: &mut K,
 ) -> Result<(), Status>
-    requires ready { IsReady (D.seen disk.old) store.old waiting.old }
-    requires room { HasRoom waiting.old }
+    requires ready { IsReadyToServe (D.seen disk.old) store.old waiting.old }
+    requires room { HasRoomForReply waiting.old }
     ensures takes { Step (disk_verdict (ended result)) (D.seen disk.old) (D.seen disk.new)
         (TakesBrought None (λ history. frame_brings history (Some frame.now)) (amid store.old.records (owed_by waiting.old) (K.held sink.old))
         (amid store.new.records (owed_by waiting.new) (K.held sink.new)) result) }
-    ensures ready { OnOk result (IsReady (D.seen disk.new) store.new waiting.new) }
+    ensures ready { OnOk result (IsReadyToServe (D.seen disk.new) store.new waiting.new) }
     ensures status { IfErr result (IsStop (D.seen disk.old).tells) }
     ensures counted { Counted (sink_verdict (ended result)) (K.faults sink.old) (K.faults sink.new) }
 {
@@ -137,12 +137,12 @@ pub fn take_offered<D: Disk, K: Sink>(
     disk: &mut D,
     sink: &mut K,
 ) -> Result<(), Status>
-    requires ready { IsReady (D.seen disk.old) store.old waiting.old }
-    requires room { HasRoom waiting.old }
+    requires ready { IsReadyToServe (D.seen disk.old) store.old waiting.old }
+    requires room { HasRoomForReply waiting.old }
     ensures takes { Step (disk_verdict (ended result)) (D.seen disk.old) (D.seen disk.new)
         (TakesBrought None (λ history. frame_brings history (frame_in piece.now)) (amid store.old.records (owed_by waiting.old) (K.held sink.old))
         (amid store.new.records (owed_by waiting.new) (K.held sink.new)) result) }
-    ensures ready { OnOk result (IsReady (D.seen disk.new) store.new waiting.new) }
+    ensures ready { OnOk result (IsReadyToServe (D.seen disk.new) store.new waiting.new) }
     ensures status { IfErr result (IsStop (D.seen disk.old).tells) }
     ensures counted { Counted (sink_verdict (ended result)) (K.faults sink.old) (K.faults sink.new) }
 {

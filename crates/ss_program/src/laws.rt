@@ -35,7 +35,7 @@ ghost use Rattle.ss_summary.specs.Points.{Point};
 ghost use Rattle.ss_program.specs.Certifying.{IsSharp};
 ghost use Rattle.ss_program.specs.Line.{History, value_rows};
 ghost use Rattle.ss_program.specs.Session.{NoneCreates, plain_after, replies, text_of};
-ghost use Rattle.ss_program.specs.Talk.{plain};
+ghost use Rattle.ss_program.specs.Talk.{plain_talk};
 
 /// After a history the lines of a session leave one: each event that they add can be said, and isn't refused.
 pub fn sessions_leave_a_history()
@@ -44,7 +44,7 @@ pub fn sessions_leave_a_history()
 
 /// What is said to plain lines is the text of the replies to them, in their order.
 pub fn reports_are_replies()
-    ensures { (history : History) (ls : List (List ℕ)) → text_of (plain history) ls ≡ flat_map reply_line (replies history ls) }
+    ensures { (history : History) (ls : List (List ℕ)) → text_of (plain_talk history) ls ≡ flat_map reply_line (replies history ls) }
 {}
 
 /// Each line of a session that asks a query which isn't refused then has one reply, in its place among the others: an answer to

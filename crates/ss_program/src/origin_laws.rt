@@ -13,7 +13,7 @@ ghost use Rattle.ss_store.specs.Recover.{Recovers, Stands};
 ghost use Rattle.ss_program.specs.Alike.{AsksPresence, HaveSameEvents};
 ghost use Rattle.ss_program.specs.Line.{History, brings, line_text};
 ghost use Rattle.ss_program.specs.Session.{plain_after, text_of};
-ghost use Rattle.ss_program.specs.Talk.{plain};
+ghost use Rattle.ss_program.specs.Talk.{plain_talk};
 
 /// To plain lines a store that took its values without filters says of them what one with filters says, but for whether a value is
 /// there: this may then be `maybe` where the other knows it.
@@ -29,7 +29,7 @@ pub fn old_values_change_answers_to_has_alone()
     // So it is for lines in a row.
     ensures after { (one other : History) (ls : List (List ℕ)) → HaveSameEvents one other → HaveSameEvents (plain_after one ls) (plain_after other ls) }
     ensures report { (one other : History) (ls : List (List ℕ)) → HaveSameEvents one other → All (λ line. AsksPresence line → ⊥) ls →
-        text_of (plain one) ls ≡ text_of (plain other) ls }
+        text_of (plain_talk one) ls ≡ text_of (plain_talk other) ls }
     // Of whether a value is there, that of old values is what is said of new ones, or `maybe`.
     ensures presence { (history : History) (query : Query) (value : ℤ) (known : Presence) → query.kind ≡ kinds.Has value →
         outcome_of (state (map as_old history)) query ≡ Some (Has known) →

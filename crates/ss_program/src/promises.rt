@@ -19,7 +19,7 @@ ghost use Rattle.ss_program.specs.Generated.{summary};
 ghost use Rattle.ss_program.specs.Held.{StandsForFirst, acks};
 ghost use Rattle.ss_program.specs.Line.{History};
 ghost use Rattle.ss_program.specs.Outcome.{steps_within};
-ghost use Rattle.ss_program.specs.Promises.{BeginsOver, ChecksBy, EndsBy, GeneratesBy, RejectsBy, ServesBy};
+ghost use Rattle.ss_program.specs.Promises.{BeginsOver, ChecksBy, FinishesBy, GeneratesBy, RejectsBy, ServesBy};
 ghost use Rattle.ss_program.specs.Sent.{appended};
 ghost use Rattle.ss_program.specs.Session.{accepted, report, report_so_far};
 ghost use Rattle.ss_program.specs.Status.{EndsAs};
@@ -106,19 +106,19 @@ pub fn checks_and_generated_files_are_told<D: Disk>(old: &D, new: &D)
 pub fn statuses_have_their_causes<D: Disk>(old: &D, new: &D)
     // A store that is no store or is damaged is never written, and no reply is made of it; 3 comes only of such a store.
     ensures refused { (mode : Option Mode) (held holds : Option (List ℕ)) (faults faulted number : ℕ) →
-        EndsBy mode (over (D.seen old.now) held faults) (over (D.seen new.now) holds faulted) number → IsSome mode →
+        FinishesBy mode (over (D.seen old.now) held faults) (over (D.seen new.now) holds faulted) number → IsSome mode →
         EndsAs number Status.RefusedStore → IsTrue (D.seen old.now).tells → IsRefusedContent (D.seen old.now).told.content }
     ensures refused_unwritten { (mode : Option Mode) (held holds : Option (List ℕ)) (faults faulted number : ℕ) →
-        EndsBy mode (over (D.seen old.now) held faults) (over (D.seen new.now) holds faulted) number → IsSome mode →
+        FinishesBy mode (over (D.seen old.now) held faults) (over (D.seen new.now) holds faulted) number → IsSome mode →
         (status : Status) → EndsAs number status → IsTrue (D.seen old.now).tells → IsRefusedContent (D.seen old.now).told.content →
         OnlyReads (D.seen old.now).told (D.seen new.now).told }
     // 2 comes only of arguments that aren't known.
     ensures usage { (mode : Option Mode) (held holds : Option (List ℕ)) (faults faulted number : ℕ) →
-        EndsBy mode (over (D.seen old.now) held faults) (over (D.seen new.now) holds faulted) number →
+        FinishesBy mode (over (D.seen old.now) held faults) (over (D.seen new.now) holds faulted) number →
         EndsAs number Status.Usage → mode ≡ None }
     // 4 and 6 come only of a fault of the disk and of the sink, and 9 never of a disk that tells what it holds.
     ensures faults { (mode : Option Mode) (held holds : Option (List ℕ)) (faults faulted number : ℕ) →
-        EndsBy mode (over (D.seen old.now) held faults) (over (D.seen new.now) holds faulted) number →
+        FinishesBy mode (over (D.seen old.now) held faults) (over (D.seen new.now) holds faulted) number →
         RejectsBy mode (over (D.seen old.now) held faults) (over (D.seen new.now) holds faulted) number →
         (EndsAs number Status.DiskFault → Rose (D.seen old.now).faults (D.seen new.now).faults)
         × (EndsAs number Status.SinkFault → Rose faults faulted)

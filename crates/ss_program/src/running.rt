@@ -38,7 +38,7 @@ ghost use Rattle.ss_program.specs.Generated.{GeneratesFrom};
 ghost use Rattle.ss_program.specs.Line.{History};
 ghost use Rattle.ss_program.specs.Outcome.{FeedsPiece, Reads, ReadsPiece, ServesInput, TakesFew};
 ghost use Rattle.ss_program.specs.Progress.{sealing_by};
-ghost use Rattle.ss_program.specs.Promises.{ChecksBy, EndsBy, GeneratesBy, RejectsBy, ServesBy};
+ghost use Rattle.ss_program.specs.Promises.{ChecksBy, FinishesBy, GeneratesBy, RejectsBy, ServesBy};
 ghost use Rattle.ss_arguments.specs.declared.mode.Form.{Form};
 ghost use Rattle.ss_arguments.specs.declared.mode.Sealing.{Sealing};
 ghost use Rattle.ss_program.specs.Status.{EndsAs, EndsServing, disk_verdict, ended, sink_verdict, source_verdict, IsStop};
@@ -247,7 +247,7 @@ pub fn run<D: Disk, S: Source, K: Sink>(
 
     // Arguments that are known, whatever they ask for: which device is blamed, and what becomes of a store that is refused. No fault
     // of a device is passed over, and none is blamed without one.
-    ensures ends { EndsBy (mode_of (words_of words.now))
+    ensures ends { FinishesBy (mode_of (words_of words.now))
         (over (D.seen disk.old) (K.held sink.old) (K.faults sink.old)) (over (D.seen disk.new) (K.held sink.new) (K.faults sink.new)) result }
     // No more bytes are taken than a run may take, of a source that tells none too.
     ensures source { (status : Status) → EndsAs result status →

@@ -32,11 +32,11 @@ pub struct Session {
 
 impl Model for Session {
     ghost use Rattle.ss_program.specs.Progress.{SessionState};
-    ghost use Rattle.ss_program.specs.Reading.{under_way};
+    ghost use Rattle.ss_program.specs.Reading.{step_under_way};
 
     ghost Value = { SessionState };
 
-    ghost view = { λ s. record { form = s.reader.form; store = s.store; line = under_way s.reader; cursors = s.sessions; waiting = s.waiting } };
+    ghost view = { λ s. record { form = s.reader.form; store = s.store; line = step_under_way s.reader; cursors = s.sessions; waiting = s.waiting } };
 }
 
 impl Session {

@@ -8,7 +8,7 @@ ghost use Rattle.ss_sessions.specs.Cursors.{Cursors};
 ghost use Rattle.ss_sessions.specs.Grammar.{spoken_of};
 ghost use Rattle.ss_sessions.specs.Said.{IsOrderInTime};
 ghost use Rattle.ss_sessions.specs.declared.TheConstants.{SESSIONS};
-ghost use Rattle.ss_program.specs.Amid.{HasRoom, IsReady, TakesBrought, TakesOrdered, TakesTurn, amid, owed_by};
+ghost use Rattle.ss_program.specs.Amid.{HasRoomForReply, IsReadyToServe, TakesBrought, TakesOrdered, TakesTurn, amid, owed_by};
 ghost use Rattle.ss_program.specs.Cursor.{close_brings, next_brings, open_brings, order_in};
 ghost use Rattle.ss_program.specs.Line.{meaning_in};
 ghost use Rattle.ss_program.specs.Status.{disk_verdict, ended, sink_verdict, IsStop};
@@ -39,13 +39,13 @@ fn take_open<D: Disk, K: Sink>(
     sink: &mut K,
 ) -> Result<(), Status>
     requires session { session < SESSIONS }
-    requires ready { IsReady (D.seen disk.old) store.old waiting.old }
-    requires room { HasRoom waiting.old }
+    requires ready { IsReadyToServe (D.seen disk.old) store.old waiting.old }
+    requires room { HasRoomForReply waiting.old }
     ensures takes { Step (disk_verdict (ended result)) (D.seen disk.old) (D.seen disk.new)
         (TakesOrdered session (λ history cursors. open_brings history cursors session name.now)
         (amid store.old.records (owed_by waiting.old) (K.held sink.old) sessions.old)
         (amid store.new.records (owed_by waiting.new) (K.held sink.new) sessions.new) result) }
-    ensures ready { OnOk result (IsReady (D.seen disk.new) store.new waiting.new) }
+    ensures ready { OnOk result (IsReadyToServe (D.seen disk.new) store.new waiting.new) }
     ensures status { IfErr result (IsStop (D.seen disk.old).tells) }
     ensures counted { Counted (sink_verdict (ended result)) (K.faults sink.old) (K.faults sink.new) }
 {
@@ -69,12 +69,12 @@ fn take_next<D: Disk, K: Sink>(
     sink: &mut K,
 ) -> Result<(), Status>
     requires session { session < SESSIONS }
-    requires ready { IsReady (D.seen disk.old) store.old waiting.old }
+    requires ready { IsReadyToServe (D.seen disk.old) store.old waiting.old }
     ensures takes { Step (disk_verdict (ended result)) (D.seen disk.old) (D.seen disk.new)
         (TakesOrdered session (λ history cursors. next_brings cursors session count)
         (amid store.old.records (owed_by waiting.old) (K.held sink.old) sessions.old)
         (amid store.new.records (owed_by waiting.new) (K.held sink.new) sessions.new) result) }
-    ensures ready { OnOk result (IsReady (D.seen disk.new) store.new waiting.new) }
+    ensures ready { OnOk result (IsReadyToServe (D.seen disk.new) store.new waiting.new) }
     ensures status { IfErr result (IsStop (D.seen disk.old).tells) }
     ensures counted { Counted (sink_verdict (ended result)) (K.faults sink.old) (K.faults sink.new) }
 {
@@ -92,13 +92,13 @@ fn take_close<D: Disk, K: Sink>(
     sink: &mut K,
 ) -> Result<(), Status>
     requires session { session < SESSIONS }
-    requires ready { IsReady (D.seen disk.old) store.old waiting.old }
-    requires room { HasRoom waiting.old }
+    requires ready { IsReadyToServe (D.seen disk.old) store.old waiting.old }
+    requires room { HasRoomForReply waiting.old }
     ensures takes { Step (disk_verdict (ended result)) (D.seen disk.old) (D.seen disk.new)
         (TakesOrdered session (λ history cursors. close_brings cursors session)
         (amid store.old.records (owed_by waiting.old) (K.held sink.old) sessions.old)
         (amid store.new.records (owed_by waiting.new) (K.held sink.new) sessions.new) result) }
-    ensures ready { OnOk result (IsReady (D.seen disk.new) store.new waiting.new) }
+    ensures ready { OnOk result (IsReadyToServe (D.seen disk.new) store.new waiting.new) }
     ensures status { IfErr result (IsStop (D.seen disk.old).tells) }
     ensures counted { Counted (sink_verdict (ended result)) (K.faults sink.old) (K.faults sink.new) }
 {
@@ -119,13 +119,13 @@ fn take_order<D: Disk, K: Sink>(
 ) -> Result<(), Status>
     requires session { session < SESSIONS }
     requires in_time { IsOrderInTime order.now }
-    requires ready { IsReady (D.seen disk.old) store.old waiting.old }
-    requires room { HasRoom waiting.old }
+    requires ready { IsReadyToServe (D.seen disk.old) store.old waiting.old }
+    requires room { HasRoomForReply waiting.old }
     ensures takes { Step (disk_verdict (ended result)) (D.seen disk.old) (D.seen disk.new)
         (TakesOrdered session (λ history cursors. order_in framed history cursors session order.now)
         (amid store.old.records (owed_by waiting.old) (K.held sink.old) sessions.old)
         (amid store.new.records (owed_by waiting.new) (K.held sink.new) sessions.new) result) }
-    ensures ready { OnOk result (IsReady (D.seen disk.new) store.new waiting.new) }
+    ensures ready { OnOk result (IsReadyToServe (D.seen disk.new) store.new waiting.new) }
     ensures status { IfErr result (IsStop (D.seen disk.old).tells) }
     ensures counted { Counted (sink_verdict (ended result)) (K.faults sink.old) (K.faults sink.new) }
 {
@@ -152,12 +152,12 @@ fn take_said<D: Disk, K: Sink>(
 ) -> Result<(), Status>
     requires session { session < SESSIONS }
     requires in_time { IfOk said (λ order. IfSome order IsOrderInTime) }
-    requires ready { IsReady (D.seen disk.old) store.old waiting.old }
-    requires room { HasRoom waiting.old }
+    requires ready { IsReadyToServe (D.seen disk.old) store.old waiting.old }
+    requires room { HasRoomForReply waiting.old }
     ensures takes { Step (disk_verdict (ended result)) (D.seen disk.old) (D.seen disk.new) (TakesTurn (λ talk. turn_to framed session talk said)
         (amid store.old.records (owed_by waiting.old) (K.held sink.old) sessions.old)
         (amid store.new.records (owed_by waiting.new) (K.held sink.new) sessions.new) result) }
-    ensures ready { OnOk result (IsReady (D.seen disk.new) store.new waiting.new) }
+    ensures ready { OnOk result (IsReadyToServe (D.seen disk.new) store.new waiting.new) }
     ensures status { IfErr result (IsStop (D.seen disk.old).tells) }
     ensures counted { Counted (sink_verdict (ended result)) (K.faults sink.old) (K.faults sink.new) }
 {
@@ -181,12 +181,12 @@ fn take_spoken<D: Disk, K: Sink>(
     sink: &mut K,
 ) -> Result<(), Status>
     requires short { length line.now ≤ LONGEST_LINE }
-    requires ready { IsReady (D.seen disk.old) store.old waiting.old }
-    requires room { HasRoom waiting.old }
+    requires ready { IsReadyToServe (D.seen disk.old) store.old waiting.old }
+    requires room { HasRoomForReply waiting.old }
     ensures takes { Step (disk_verdict (ended result)) (D.seen disk.old) (D.seen disk.new) (TakesTurn (λ talk. turn_spoken framed talk (spoken_of line.now))
         (amid store.old.records (owed_by waiting.old) (K.held sink.old) sessions.old)
         (amid store.new.records (owed_by waiting.new) (K.held sink.new) sessions.new) result) }
-    ensures ready { OnOk result (IsReady (D.seen disk.new) store.new waiting.new) }
+    ensures ready { OnOk result (IsReadyToServe (D.seen disk.new) store.new waiting.new) }
     ensures status { IfErr result (IsStop (D.seen disk.old).tells) }
     ensures counted { Counted (sink_verdict (ended result)) (K.faults sink.old) (K.faults sink.new) }
 {
@@ -209,12 +209,12 @@ fn take_plain<D: Disk, K: Sink>(
     sink: &mut K,
 ) -> Result<(), Status>
     requires short { length line.now ≤ LONGEST_LINE }
-    requires ready { IsReady (D.seen disk.old) store.old waiting.old }
-    requires room { HasRoom waiting.old }
+    requires ready { IsReadyToServe (D.seen disk.old) store.old waiting.old }
+    requires room { HasRoomForReply waiting.old }
     ensures takes { Step (disk_verdict (ended result)) (D.seen disk.old) (D.seen disk.new)
         (TakesBrought None (λ history. meaning_in framed history (meaning line.now)) (amid store.old.records (owed_by waiting.old) (K.held sink.old))
         (amid store.new.records (owed_by waiting.new) (K.held sink.new)) result) }
-    ensures ready { OnOk result (IsReady (D.seen disk.new) store.new waiting.new) }
+    ensures ready { OnOk result (IsReadyToServe (D.seen disk.new) store.new waiting.new) }
     ensures status { IfErr result (IsStop (D.seen disk.old).tells) }
     ensures counted { Counted (sink_verdict (ended result)) (K.faults sink.old) (K.faults sink.new) }
 {
@@ -233,12 +233,12 @@ fn take_long<D: Disk, K: Sink>(
     disk: &mut D,
     sink: &mut K,
 ) -> Result<(), Status>
-    requires ready { IsReady (D.seen disk.old) store.old waiting.old }
-    requires room { HasRoom waiting.old }
+    requires ready { IsReadyToServe (D.seen disk.old) store.old waiting.old }
+    requires room { HasRoomForReply waiting.old }
     ensures takes { (cursors : Cursors) → Step (disk_verdict (ended result)) (D.seen disk.old) (D.seen disk.new) (TakesTurn (kept_turn form None)
         (amid store.old.records (owed_by waiting.old) (K.held sink.old) cursors)
         (amid store.new.records (owed_by waiting.new) (K.held sink.new) cursors) result) }
-    ensures ready { OnOk result (IsReady (D.seen disk.new) store.new waiting.new) }
+    ensures ready { OnOk result (IsReadyToServe (D.seen disk.new) store.new waiting.new) }
     ensures status { IfErr result (IsStop (D.seen disk.old).tells) }
     ensures counted { Counted (sink_verdict (ended result)) (K.faults sink.old) (K.faults sink.new) }
 {
@@ -261,12 +261,12 @@ fn take_line<D: Disk, K: Sink>(
     sink: &mut K,
 ) -> Result<(), Status>
     requires short { IfSome (option_copied line) (λ bytes. length bytes ≤ LONGEST_LINE) }
-    requires ready { IsReady (D.seen disk.old) store.old waiting.old }
-    requires room { HasRoom waiting.old }
+    requires ready { IsReadyToServe (D.seen disk.old) store.old waiting.old }
+    requires room { HasRoomForReply waiting.old }
     ensures takes { Step (disk_verdict (ended result)) (D.seen disk.old) (D.seen disk.new) (TakesTurn (kept_turn form (option_copied line.entry))
         (amid store.old.records (owed_by waiting.old) (K.held sink.old) sessions.old)
         (amid store.new.records (owed_by waiting.new) (K.held sink.new) sessions.new) result) }
-    ensures ready { OnOk result (IsReady (D.seen disk.new) store.new waiting.new) }
+    ensures ready { OnOk result (IsReadyToServe (D.seen disk.new) store.new waiting.new) }
     ensures status { IfErr result (IsStop (D.seen disk.old).tells) }
     ensures counted { Counted (sink_verdict (ended result)) (K.faults sink.old) (K.faults sink.new) }
 {
@@ -294,11 +294,11 @@ pub fn stage_line<D: Disk, K: Sink>(
     sink: &mut K,
 ) -> Result<(), Status>
     requires short { IfSome (option_copied line) (λ bytes. length bytes ≤ LONGEST_LINE) }
-    requires ready { IsReady (D.seen disk.old) store.old waiting.old }
+    requires ready { IsReadyToServe (D.seen disk.old) store.old waiting.old }
     ensures takes { Step (disk_verdict (ended result)) (D.seen disk.old) (D.seen disk.new) (TakesTurn (kept_turn form (option_copied line.entry))
         (amid store.old.records (owed_by waiting.old) (K.held sink.old) sessions.old)
         (amid store.new.records (owed_by waiting.new) (K.held sink.new) sessions.new) result) }
-    ensures ready { OnOk result (IsReady (D.seen disk.new) store.new waiting.new) }
+    ensures ready { OnOk result (IsReadyToServe (D.seen disk.new) store.new waiting.new) }
     ensures status { IfErr result (IsStop (D.seen disk.old).tells) }
     ensures counted { Counted (sink_verdict (ended result)) (K.faults sink.old) (K.faults sink.new) }
 {

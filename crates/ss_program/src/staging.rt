@@ -8,7 +8,7 @@ ghost use Rattle.ss_command.specs.declared.command.Command.TheVariants.{Do};
 ghost use Rattle.ss_outside.specs.Step.{Step};
 ghost use Rattle.ss_outside.specs.Verdict.{Counted};
 ghost use Rattle.ss_report.specs.Text.{said_line};
-ghost use Rattle.ss_program.specs.Amid.{BringsEvent, HasRoom, IsReady, StagesBrought, StagesFramed, TakesBrought, TakesNone, TakesStarved};
+ghost use Rattle.ss_program.specs.Amid.{BringsEvent, HasRoomForReply, IsReadyToServe, StagesBrought, StagesFramed, TakesBrought, TakesNone, TakesStarved};
 ghost use Rattle.ss_program.specs.Amid.{amid, owed_by, staged_replies, with_text};
 ghost use Rattle.ss_program.specs.Answer.{HasRows, IsOpen, IsServing, question_command};
 ghost use Rattle.ss_program.specs.Line.{History, command_brings, command_in, refused, IsSpeaker};
@@ -62,7 +62,7 @@ pub fn flush<D: Disk, K: Sink>(
     disk: &mut D,
     sink: &mut K,
 ) -> Result<(), Status>
-    requires { IsReady (D.seen disk.old) store.old waiting.old }
+    requires { IsReadyToServe (D.seen disk.old) store.old waiting.old }
     ensures takes { Step (disk_verdict (ended result)) (D.seen disk.old) (D.seen disk.new)
         (TakesNone (amid store.old.records (owed_by waiting.old) (K.held sink.old))
         (amid store.new.records (owed_by waiting.new) (K.held sink.new)) result) }
@@ -84,7 +84,7 @@ pub fn starve<D: Disk, K: Sink>(
     disk: &mut D,
     sink: &mut K,
 ) -> Status
-    requires { IsReady (D.seen disk.old) store.old waiting.old }
+    requires { IsReadyToServe (D.seen disk.old) store.old waiting.old }
     ensures takes { Step (disk_verdict result) (D.seen disk.old) (D.seen disk.new)
         (TakesStarved store.old.records (amid store.old.records (owed_by waiting.old) (K.held sink.old))
         (amid store.new.records (owed_by waiting.new) (K.held sink.new)) result) }
@@ -99,7 +99,7 @@ pub fn starve<D: Disk, K: Sink>(
 
 // Whether one more reply can wait.
 fn has_room(waiting: &Option<Replies>) -> bool
-    ensures { IsTrue result → HasRoom waiting.now }
+    ensures { IsTrue result → HasRoomForReply waiting.now }
 {
     match waiting {
         None => true,
@@ -114,12 +114,12 @@ pub fn make_room<D: Disk, K: Sink>(
     disk: &mut D,
     sink: &mut K,
 ) -> Result<(), Status>
-    requires { IsReady (D.seen disk.old) store.old waiting.old }
+    requires { IsReadyToServe (D.seen disk.old) store.old waiting.old }
     ensures takes { Step (disk_verdict (ended result)) (D.seen disk.old) (D.seen disk.new)
         (TakesNone (amid store.old.records (owed_by waiting.old) (K.held sink.old))
         (amid store.new.records (owed_by waiting.new) (K.held sink.new)) result) }
-    ensures ready { OnOk result (IsReady (D.seen disk.new) store.new waiting.new) }
-    ensures room { OnOk result (HasRoom waiting.new) }
+    ensures ready { OnOk result (IsReadyToServe (D.seen disk.new) store.new waiting.new) }
+    ensures room { OnOk result (HasRoomForReply waiting.new) }
     ensures status { IfErr result (IsShowStop (D.seen disk.old).tells) }
     ensures counted { Counted (sink_verdict (ended result)) (K.faults sink.old) (K.faults sink.new) }
 {
@@ -162,11 +162,11 @@ pub fn say_text<D: Disk, K: Sink>(
     requires some { 0 < length text.now }
     requires short { length text.now ≤ LONGEST_REPLY }
     requires serves { IsServing (D.seen disk.old) store.old }
-    requires room { HasRoom waiting.old }
+    requires room { HasRoomForReply waiting.old }
     ensures takes { Step (disk_verdict (ended result)) (D.seen disk.old) (D.seen disk.new)
         (TakesNone (amid store.old.records (with_text (owed_by waiting.old) text.now) (K.held sink.old))
         (amid store.new.records (owed_by waiting.new) (K.held sink.new)) result) }
-    ensures ready { OnOk result (IsReady (D.seen disk.new) store.new waiting.new) }
+    ensures ready { OnOk result (IsReadyToServe (D.seen disk.new) store.new waiting.new) }
     ensures status { IfErr result (IsShowStop (D.seen disk.old).tells) }
     ensures counted { Counted (sink_verdict (ended result)) (K.faults sink.old) (K.faults sink.new) }
 {
@@ -190,11 +190,11 @@ pub fn say<D: Disk, K: Sink>(
 ) -> Result<(), Status>
     requires speaker { IsSpeaker speaker }
     requires serves { IsServing (D.seen disk.old) store.old }
-    requires room { HasRoom waiting.old }
+    requires room { HasRoomForReply waiting.old }
     ensures takes { Step (disk_verdict (ended result)) (D.seen disk.old) (D.seen disk.new)
         (TakesNone (amid store.old.records (with_text (owed_by waiting.old) (said_line speaker reply.now)) (K.held sink.old))
         (amid store.new.records (owed_by waiting.new) (K.held sink.new)) result) }
-    ensures ready { OnOk result (IsReady (D.seen disk.new) store.new waiting.new) }
+    ensures ready { OnOk result (IsReadyToServe (D.seen disk.new) store.new waiting.new) }
     ensures status { IfErr result (IsShowStop (D.seen disk.old).tells) }
     ensures counted { Counted (sink_verdict (ended result)) (K.faults sink.old) (K.faults sink.new) }
 {
@@ -272,11 +272,11 @@ fn say_staged<D: Disk, K: Sink>(
 ) -> Result<(), Status>
     requires speaker { IsSpeaker speaker }
     requires serves { IsServing (D.seen disk.old) store.old }
-    requires room { HasRoom waiting.old }
+    requires room { HasRoomForReply waiting.old }
     ensures takes { Step (disk_verdict (ended result)) (D.seen disk.old) (D.seen disk.new)
         (TakesNone (amid store.old.records (with_text (owed_by waiting.old) (flat_map (said_line speaker) (staged_replies staged.now))) (K.held sink.old))
         (amid store.new.records (owed_by waiting.new) (K.held sink.new)) result) }
-    ensures ready { OnOk result (IsReady (D.seen disk.new) store.new waiting.new) }
+    ensures ready { OnOk result (IsReadyToServe (D.seen disk.new) store.new waiting.new) }
     ensures status { IfErr result (IsShowStop (D.seen disk.old).tells) }
     ensures counted { Counted (sink_verdict (ended result)) (K.faults sink.old) (K.faults sink.new) }
 {
@@ -306,12 +306,12 @@ pub fn take_event<D: Disk, K: Sink>(
 ) -> Result<(), Status>
     requires speaker { IsSpeaker speaker }
     requires in_time { IsInTime event.now }
-    requires ready { IsReady (D.seen disk.old) store.old waiting.old }
-    requires room { HasRoom waiting.old }
+    requires ready { IsReadyToServe (D.seen disk.old) store.old waiting.old }
+    requires room { HasRoomForReply waiting.old }
     ensures takes { Step (disk_verdict (ended result)) (D.seen disk.old) (D.seen disk.new)
         (TakesBrought speaker (λ history. command_in framed history (Do event.now)) (amid store.old.records (owed_by waiting.old) (K.held sink.old))
         (amid store.new.records (owed_by waiting.new) (K.held sink.new)) result) }
-    ensures ready { OnOk result (IsReady (D.seen disk.new) store.new waiting.new) }
+    ensures ready { OnOk result (IsReadyToServe (D.seen disk.new) store.new waiting.new) }
     ensures status { IfErr result (IsStop (D.seen disk.old).tells) }
     ensures counted { Counted (sink_verdict (ended result)) (K.faults sink.old) (K.faults sink.new) }
 {
@@ -334,12 +334,12 @@ fn take_question<D: Disk, K: Sink>(
     sink: &mut K,
 ) -> Result<(), Status>
     requires speaker { IsSpeaker speaker }
-    requires ready { IsReady (D.seen disk.old) store.old waiting.old }
-    requires room { HasRoom waiting.old }
+    requires ready { IsReadyToServe (D.seen disk.old) store.old waiting.old }
+    requires room { HasRoomForReply waiting.old }
     ensures takes { Step (disk_verdict (ended result)) (D.seen disk.old) (D.seen disk.new)
         (TakesBrought speaker (λ history. command_brings history (question_command question.now)) (amid store.old.records (owed_by waiting.old) (K.held sink.old))
         (amid store.new.records (owed_by waiting.new) (K.held sink.new)) result) }
-    ensures ready { OnOk result (IsReady (D.seen disk.new) store.new waiting.new) }
+    ensures ready { OnOk result (IsReadyToServe (D.seen disk.new) store.new waiting.new) }
     ensures status { IfErr result (IsStop (D.seen disk.old).tells) }
     ensures counted { Counted (sink_verdict (ended result)) (K.faults sink.old) (K.faults sink.new) }
 {
@@ -359,11 +359,11 @@ fn show_rows<D: Disk, K: Sink>(
     requires speaker { IsSpeaker speaker }
     requires in_time { IsCommandInTime command.now }
     requires rows { HasRows command.now }
-    requires ready { IsReady (D.seen disk.old) store.old waiting.old }
+    requires ready { IsReadyToServe (D.seen disk.old) store.old waiting.old }
     ensures takes { Step (disk_verdict (ended result)) (D.seen disk.old) (D.seen disk.new)
         (TakesBrought speaker (λ history. command_brings history command.now) (amid store.old.records (owed_by waiting.old) (K.held sink.old))
         (amid store.new.records (owed_by waiting.new) (K.held sink.new)) result) }
-    ensures ready { OnOk result (IsReady (D.seen disk.new) store.new waiting.new) }
+    ensures ready { OnOk result (IsReadyToServe (D.seen disk.new) store.new waiting.new) }
     ensures status { IfErr result (IsStop (D.seen disk.old).tells) }
     ensures counted { Counted (sink_verdict (ended result)) (K.faults sink.old) (K.faults sink.new) }
 {
@@ -383,12 +383,12 @@ pub fn take_command<D: Disk, K: Sink>(
 ) -> Result<(), Status>
     requires speaker { IsSpeaker speaker }
     requires in_time { IsCommandInTime command.now }
-    requires ready { IsReady (D.seen disk.old) store.old waiting.old }
-    requires room { HasRoom waiting.old }
+    requires ready { IsReadyToServe (D.seen disk.old) store.old waiting.old }
+    requires room { HasRoomForReply waiting.old }
     ensures takes { Step (disk_verdict (ended result)) (D.seen disk.old) (D.seen disk.new)
         (TakesBrought speaker (λ history. command_in framed history command.now) (amid store.old.records (owed_by waiting.old) (K.held sink.old))
         (amid store.new.records (owed_by waiting.new) (K.held sink.new)) result) }
-    ensures ready { OnOk result (IsReady (D.seen disk.new) store.new waiting.new) }
+    ensures ready { OnOk result (IsReadyToServe (D.seen disk.new) store.new waiting.new) }
     ensures status { IfErr result (IsStop (D.seen disk.old).tells) }
     ensures counted { Counted (sink_verdict (ended result)) (K.faults sink.old) (K.faults sink.new) }
 {
@@ -428,12 +428,12 @@ pub fn say_refusal<D: Disk, K: Sink>(
     sink: &mut K,
 ) -> Result<(), Status>
     requires speaker { IsSpeaker speaker }
-    requires ready { IsReady (D.seen disk.old) store.old waiting.old }
-    requires room { HasRoom waiting.old }
+    requires ready { IsReadyToServe (D.seen disk.old) store.old waiting.old }
+    requires room { HasRoomForReply waiting.old }
     ensures takes { Step (disk_verdict (ended result)) (D.seen disk.old) (D.seen disk.new)
         (TakesBrought speaker (λ history. refused refusal) (amid store.old.records (owed_by waiting.old) (K.held sink.old))
         (amid store.new.records (owed_by waiting.new) (K.held sink.new)) result) }
-    ensures ready { OnOk result (IsReady (D.seen disk.new) store.new waiting.new) }
+    ensures ready { OnOk result (IsReadyToServe (D.seen disk.new) store.new waiting.new) }
     ensures status { IfErr result (IsStop (D.seen disk.old).tells) }
     ensures counted { Counted (sink_verdict (ended result)) (K.faults sink.old) (K.faults sink.new) }
 {

@@ -35,13 +35,13 @@ impl Model for StepReader {
 impl StepReader {
     ghost use Rattle.std.specs.Prelude.{◌≡◌, ◌++◌, ◌<◌, ◌≤◌, ◌↔◌, ℕ, List, [], length, take, true, is_some, Some, IsSome, IfSome};
     ghost use Rattle.ss_command.specs.declared.TheConstants.{LONGEST_LINE};
-    ghost use Rattle.ss_program.specs.Reading.{HasRead, TellsStep, under_way};
+    ghost use Rattle.ss_program.specs.Reading.{HasReadSteps, TellsStep, step_under_way};
     ghost use Rattle.ss_program.specs.Steps.{steps, steps_so_far};
 
     /// A reader at the front of an input.
     pub fn new(form: Form) -> StepReader
         ensures form { result.form ≡ form }
-        ensures taken { HasRead [] result }
+        ensures taken { HasReadSteps [] result }
     {
         let cut = match form {
             Form::Lines { .. } | Form::Sessions { .. } | Form::Frames => {
@@ -68,8 +68,8 @@ impl StepReader {
         ensures whole { IfSome result.1 (λ ended. ended ≡ Ended.Whole ↔ IsSome self.new.step) }
         ensures short { IfSome result.1 (λ _. IfSome self.new.step (λ bytes. length bytes ≤ LONGEST_LINE)) }
         // Whatever the pieces were, the steps are those of the input.
-        ensures taken { (input : List ℕ) → HasRead input self.old → HasRead (input ++ take result.0 piece.now) self.new }
-        ensures steps { (input : List ℕ) → HasRead input self.old →
+        ensures taken { (input : List ℕ) → HasReadSteps input self.old → HasReadSteps (input ++ take result.0 piece.now) self.new }
+        ensures steps { (input : List ℕ) → HasReadSteps input self.old →
             TellsStep (steps_so_far self.old.form input) (steps_so_far self.old.form (input ++ take result.0 piece.now)) result.1 self.new }
     {
         match &mut self.cut {
@@ -87,7 +87,7 @@ impl StepReader {
         ensures state { self.new.ended ≡ is_some result }
         ensures whole { IfSome result (λ ended. ended ≡ Ended.Whole ↔ IsSome self.new.step) }
         ensures short { IfSome result (λ _. IfSome self.new.step (λ bytes. length bytes ≤ LONGEST_LINE)) }
-        ensures steps { (input : List ℕ) → HasRead input self.old →
+        ensures steps { (input : List ℕ) → HasReadSteps input self.old →
             TellsStep (steps_so_far self.old.form input) (steps self.old.form input) result self.new }
     {
         match &mut self.cut {

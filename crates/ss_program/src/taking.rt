@@ -3,10 +3,10 @@ ghost use Rattle.std.specs.Prelude.{◌≡◌, ◌⊎◌, ◌↔◌, ◌<◌, �
 ghost use Rattle.std.specs.Option.{option_copied};
 ghost use Rattle.ss_outside.specs.Step.{Step};
 ghost use Rattle.ss_outside.specs.Verdict.{Counted};
-ghost use Rattle.ss_program.specs.Amid.{IsReady, TakesBytes, TakesLast, amid, owed_by};
+ghost use Rattle.ss_program.specs.Amid.{IsReadyToServe, TakesBytes, TakesLast, amid, owed_by};
 ghost use Rattle.ss_program.specs.Answer.{IsOpen};
 ghost use Rattle.ss_program.specs.Progress.{EndsSession, NoneWait, TakesPiece};
-ghost use Rattle.ss_program.specs.Reading.{under_way};
+ghost use Rattle.ss_program.specs.Reading.{step_under_way};
 ghost use Rattle.ss_program.specs.Status.{disk_verdict, ended, sink_verdict, IsStop};
 
 use crate::replies::Replies;
@@ -42,13 +42,13 @@ fn advance<D: Disk, K: Sink>(
     sink: &mut K,
 ) -> Result<usize, Status>
     requires some { 0 < length piece.now }
-    requires ready { IsReady (D.seen disk.old) store.old waiting.old }
+    requires ready { IsReadyToServe (D.seen disk.old) store.old waiting.old }
     ensures takes { Step (disk_verdict (ended result)) (D.seen disk.old) (D.seen disk.new)
-        (TakesBytes (λ count. take count piece.now) piece.now reader.old.form (under_way reader.old) (under_way reader.new)
+        (TakesBytes (λ count. take count piece.now) piece.now reader.old.form (step_under_way reader.old) (step_under_way reader.new)
         (amid store.old.records (owed_by waiting.old) (K.held sink.old) sessions.old)
         (amid store.new.records (owed_by waiting.new) (K.held sink.new) sessions.new) result) }
     ensures count { IfOk result (λ count. (0 < count) × (count ≤ length piece.now)) }
-    ensures ready { OnOk result (IsReady (D.seen disk.new) store.new waiting.new) }
+    ensures ready { OnOk result (IsReadyToServe (D.seen disk.new) store.new waiting.new) }
     ensures status { IfErr result (IsStop (D.seen disk.old).tells) }
     ensures form { reader.new.form ≡ reader.old.form }
     ensures counted { Counted (sink_verdict (ended result)) (K.faults sink.old) (K.faults sink.new) }
@@ -81,12 +81,12 @@ fn take_lines<D: Disk, K: Sink>(
     disk: &mut D,
     sink: &mut K,
 ) -> Result<(), Status>
-    requires { IsReady (D.seen disk.old) store.old waiting.old }
+    requires { IsReadyToServe (D.seen disk.old) store.old waiting.old }
     ensures takes { Step (disk_verdict (ended result)) (D.seen disk.old) (D.seen disk.new)
-        (TakesBytes (λ _. piece.now) piece.now reader.old.form (under_way reader.old) (under_way reader.new)
+        (TakesBytes (λ _. piece.now) piece.now reader.old.form (step_under_way reader.old) (step_under_way reader.new)
         (amid store.old.records (owed_by waiting.old) (K.held sink.old) sessions.old)
         (amid store.new.records (owed_by waiting.new) (K.held sink.new) sessions.new) result) }
-    ensures ready { OnOk result (IsReady (D.seen disk.new) store.new waiting.new) }
+    ensures ready { OnOk result (IsReadyToServe (D.seen disk.new) store.new waiting.new) }
     ensures status { IfErr result (IsStop (D.seen disk.old).tells) }
     ensures form { reader.new.form ≡ reader.old.form }
     ensures counted { Counted (sink_verdict (ended result)) (K.faults sink.old) (K.faults sink.new) }
@@ -111,8 +111,8 @@ pub fn take_piece<D: Disk, K: Sink>(
 ) -> Result<(), Status>
     requires { IsOpen (D.seen disk.old) store.old }
     ensures takes { Step (disk_verdict (ended result)) (D.seen disk.old) (D.seen disk.new) (TakesPiece (λ _. piece.now) piece.now
-        (record { form = reader.old.form; store = store.old; line = under_way reader.old; cursors = sessions.old; waiting = waiting.old })
-        (record { form = reader.old.form; store = store.new; line = under_way reader.new; cursors = sessions.new; waiting = waiting.new })
+        (record { form = reader.old.form; store = store.old; line = step_under_way reader.old; cursors = sessions.old; waiting = waiting.old })
+        (record { form = reader.old.form; store = store.new; line = step_under_way reader.new; cursors = sessions.new; waiting = waiting.new })
         (K.held sink.old) (K.held sink.new) result) }
     ensures open { OnOk result (IsOpen (D.seen disk.new) store.new) }
     ensures none { OnOk result (NoneWait waiting.new) }
@@ -133,11 +133,11 @@ fn take_last<D: Disk, K: Sink>(
     disk: &mut D,
     sink: &mut K,
 ) -> Result<(), Status>
-    requires { IsReady (D.seen disk.old) store.old waiting.old }
+    requires { IsReadyToServe (D.seen disk.old) store.old waiting.old }
     ensures takes { Step (disk_verdict (ended result)) (D.seen disk.old) (D.seen disk.new)
-        (TakesLast reader.old.form (under_way reader.old) (amid store.old.records (owed_by waiting.old) (K.held sink.old) sessions.old)
+        (TakesLast reader.old.form (step_under_way reader.old) (amid store.old.records (owed_by waiting.old) (K.held sink.old) sessions.old)
         (amid store.new.records (owed_by waiting.new) (K.held sink.new) sessions.new) result) }
-    ensures ready { OnOk result (IsReady (D.seen disk.new) store.new waiting.new) }
+    ensures ready { OnOk result (IsReadyToServe (D.seen disk.new) store.new waiting.new) }
     ensures status { IfErr result (IsStop (D.seen disk.old).tells) }
     ensures form { reader.new.form ≡ reader.old.form }
     ensures counted { Counted (sink_verdict (ended result)) (K.faults sink.old) (K.faults sink.new) }
@@ -165,9 +165,9 @@ fn end_lines<D: Disk, K: Sink>(
     disk: &mut D,
     sink: &mut K,
 ) -> Result<(), Status>
-    requires { IsReady (D.seen disk.old) store.old waiting.old }
+    requires { IsReadyToServe (D.seen disk.old) store.old waiting.old }
     ensures takes { Step (disk_verdict (ended result)) (D.seen disk.old) (D.seen disk.new)
-        (TakesLast reader.old.form (under_way reader.old) (amid store.old.records (owed_by waiting.old) (K.held sink.old) sessions.old)
+        (TakesLast reader.old.form (step_under_way reader.old) (amid store.old.records (owed_by waiting.old) (K.held sink.old) sessions.old)
         (amid store.new.records (owed_by waiting.new) (K.held sink.new) sessions.new) result) }
     ensures open { OnOk result (IsOpen (D.seen disk.new) store.new) }
     ensures none { OnOk result (NoneWait waiting.new) }
@@ -190,7 +190,7 @@ pub fn finish_lines<D: Disk, K: Sink>(
 ) -> Status
     requires { IsOpen (D.seen disk.old) store.old }
     ensures ends { Step (disk_verdict result) (D.seen disk.old) (D.seen disk.new) (EndsSession
-        (record { form = reader.old.form; store = store.old; line = under_way reader.old; cursors = sessions.old; waiting = waiting.old })
+        (record { form = reader.old.form; store = store.old; line = step_under_way reader.old; cursors = sessions.old; waiting = waiting.old })
         (K.held sink.old) (K.held sink.new) result) }
     ensures status { (result ≡ Status.Done) ⊎ IsStop (D.seen disk.old).tells result }
     ensures form { reader.new.form ≡ reader.old.form }

@@ -5,7 +5,7 @@ use Rattle.std.proofs.lemmas.Bool.{eq-eqb, ne_eqb, eqb-true, eqb-false, cases_eq
 use Rattle.std.proofs.lemmas.List.{get_or-set_same, get_or-set_other}
 use Rattle.std.proofs.lemmas.Nat.Bits.{bit_at_set_same, bit_at_set_other, bit_at_clear_same, bit_at_clear_other, bit_at-trailing_ones, bit_at_ones}
 use Rattle.std.specs.Int.{bit_at, bit_not, trailing_ones}
-use Rattle.ss_records.specs.Bits.{is_set, is_full}
+use Rattle.ss_records.specs.Bits.{is_set, is_full_word}
 
 -- a bit as a number
 abbrev pub digit : Bool → ℕ
@@ -69,7 +69,7 @@ is_set-within words n i lt =
     rw (div, rest) refl
 
 -- the lowest bit of word n that isn't set, and those below it
-module _ (words : List ℕ) (n place : ℕ) (fits : get_or words n 0 < 2 ^ 64) (room : is_full (get_or words n 0) ≡ false) where
+module _ (words : List ℕ) (n place : ℕ) (fits : get_or words n 0 < 2 ^ 64) (room : is_full_word (get_or words n 0) ≡ false) where
   not_full : get_or words n 0 + 1 < 2 ^ 64
   not_full = let other : get_or words n 0 ≢ 2 ^ 64 - 1 = eqb-false _ _ room in omega (arith, fits, other)
 
@@ -91,7 +91,7 @@ module _ (words : List ℕ) (n place : ℕ) (fits : get_or words n 0 < 2 ^ 64) (
         ∙ ap (λ (bit : ℕ). nat_eq bit 1) (ones.2 (j - 64 * n) before)
 
 -- every bit of a full word
-pub is_set-full : (words : List ℕ) (j : ℕ) → is_full (get_or words (j / 64) 0) ≡ true → is_set words j ≡ true
+pub is_set-full : (words : List ℕ) (j : ℕ) → is_full_word (get_or words (j / 64) 0) ≡ true → is_set words j ≡ true
 is_set-full words j full =
     let word : get_or words (j / 64) 0 ≡ 2 ^ 64 - 1 = eqb-true _ _ full in
     ap (λ (w : ℕ). nat_eq (bit_at w (j % 64)) 1) word ∙ ap (λ (bit : ℕ). nat_eq bit 1) (bit_at_ones 64 (j % 64) (omega arith))

@@ -27,7 +27,7 @@ use Rattle.ss_journal.proofs.PutLemmas.{AreSlots-rise}
 use Rattle.ss_journal.proofs.RedoLemmas.{StandsFor-from, StandsFor-same}
 use Rattle.ss_journal.proofs.ShownLemmas.{shown-sealed}
 use Rattle.ss_records.specs.Calls.{AppliesPuts, MakesRoomFor, OpensRecords, ReadsLive, ReadsRecord, SealsRecords, SettlesRecords, StagesPuts}
-use Rattle.ss_records.specs.Live.{are_zeros, is_live, live_after, AreBelow, AreLiveBelow, AreLiveIn}
+use Rattle.ss_records.specs.Live.{are_zeros, is_live, live_after, LiveLieBelow, AreLiveBelow, AreLiveIn}
 use Rattle.ss_records.specs.Kept.{uncached, AreKept, AreLiveOver, AreSound, RecordsState}
 use Rattle.ss_records.specs.Pages.{cached_slot, ArePages, IsPage}
 use Rattle.ss_records.proofs.PageLemmas.{cached_slot-is, ArePages-kept, ArePages-none, ArePages-promoted, ArePages-same}
@@ -120,7 +120,7 @@ on_err_always (Err error) is = is
 
 -- from the extent on every slot is zeros, and none is live
 pub AreLiveIn-below : (journal : JournalState) (live : List Bool) (content : List ℕ) (found : SlotMap) → IsKept journal content
-    → StandsFor (shown journal content) found → AreBelow journal.extent live → AreLiveBelow journal.extent live found.bytes → AreLiveIn live found.bytes
+    → StandsFor (shown journal content) found → LiveLieBelow journal.extent live → AreLiveBelow journal.extent live found.bytes → AreLiveIn live found.bytes
 AreLiveIn-below journal live content found kept is bounded are slot lt = elim (cases_lt slot journal.extent) [
   | inl used ↦ are slot used
   | inr past ↦ false_from_ne_true (is_live live slot) (λ lives. absurd (omega (arith, bounded.below slot lives, past)))
@@ -128,7 +128,7 @@ AreLiveIn-below journal live content found kept is bounded are slot lt = elim (c
 ]
 
 -- records over a journal are kept where their live slots are those of its map
-pub AreKept-uncached : (journal : JournalState) (live : List Bool) (content : List ℕ) → IsKept journal content → AreBelow journal.extent live
+pub AreKept-uncached : (journal : JournalState) (live : List Bool) (content : List ℕ) → IsKept journal content → LiveLieBelow journal.extent live
     → AreLiveOver journal live content → AreKept (uncached journal live) content
 AreKept-uncached journal live content is bounded are = record {
   journal = is;
@@ -156,7 +156,7 @@ module _ (journal : JournalState) where
     reads = reads-joined old mid new before.reads read.reads;
   }
 
-  pub ReadTo-all : (n : ℕ) (live : List Bool) (old new : Told) → IsKept journal old.content → journal.extent ≡ n → AreBelow n live
+  pub ReadTo-all : (n : ℕ) (live : List Bool) (old new : Told) → IsKept journal old.content → journal.extent ≡ n → LiveLieBelow n live
       → ReadTo journal n live old new → ReadsLive journal (Ok live) old new
   ReadTo-all n live old new kept all bounded before = record {
     live = λ found is. AreLiveIn-below journal live old.content found kept is (rw all bounded) (rw all (before.are found is));

@@ -1,7 +1,7 @@
 -- Worked rows: four slots, of which the first and the third are live; and cached pages.
 use Rattle.std.proofs.Common.{◌≡◌, ℕ, ◌*◌, true, false, Bool, List, [], ◌∷◌, ◌++◌, replicate, Some, None, refl}
 use Rattle.ss_journal.specs.declared.format.TheConstants.{PAGE_SIZE}
-use Rattle.ss_records.specs.Bits.{is_set, is_full}
+use Rattle.ss_records.specs.Bits.{is_set, is_full_word}
 use Rattle.ss_records.specs.Live.{are_zeros, is_live, live_count, lowest_free, live_after}
 use Rattle.ss_records.specs.Pages.{cached_slot, page_numbers}
 use Rattle.ss_records.specs.declared.pages.TheConstants.{MOST_CACHED}
@@ -42,7 +42,7 @@ is_set-other = refl
 pub is_set-second : is_set (2 ∷ 1 ∷ []) 64 ≡ true
 is_set-second = refl
 
-pub is_full-all : is_full 0xffff_ffff_ffff_ffff ≡ true
+pub is_full-all : is_full_word 0xffff_ffff_ffff_ffff ≡ true
 is_full-all = refl
 
 -- of page 2 the second slot, which is slot 65, holds sevens

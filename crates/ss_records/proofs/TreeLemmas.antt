@@ -8,7 +8,7 @@ use Rattle.std.proofs.lemmas.List.Sums.{position_or_len_is, sum_by-le, sum_by-se
 use Rattle.std.proofs.lemmas.Nat.Bits.{bit_at-zero}
 use Rattle.std.specs.List.{position, position_or_len}
 use Rattle.std.specs.Int.{bit_at}
-use Rattle.ss_records.specs.Bits.{is_set, is_full}
+use Rattle.ss_records.specs.Bits.{is_set, is_full_word}
 use Rattle.ss_records.specs.Tree.{members, MarksFullWords, IsTree, FullBefore, IsFirstClear}
 use Rattle.ss_records.proofs.BitLemmas.{digit, is_set-full}
 
@@ -35,7 +35,7 @@ module _ (upper lower : List ℕ) (over : MarksFullWords upper lower) (place : �
   pub first-word : place < length lower
   first-word = omega (arith, over.words, first.below)
 
-  pub first-room : is_full (get_or lower place 0) ≡ false
+  pub first-room : is_full_word (get_or lower place 0) ≡ false
   first-room = sym (over.full place first-word) ∙ first.clear
 
   pub first-full : FullBefore place lower
@@ -68,14 +68,14 @@ position-some low place below is =
 -- a bit of the lower words is put, and the bit over its word tells whether it is full
 module _ (upper lower new-upper new-lower : List ℕ) (over : MarksFullWords upper lower) (k : ℕ) (full : Bool) where
   pub MarksFullWords-put : length new-lower ≡ length lower → length new-upper ≡ length upper
-      → ((n : ℕ) → n ≢ k / 64 → get_or new-lower n 0 ≡ get_or lower n 0) → full ≡ is_full (get_or new-lower (k / 64) 0)
+      → ((n : ℕ) → n ≢ k / 64 → get_or new-lower n 0 ≡ get_or lower n 0) → full ≡ is_full_word (get_or new-lower (k / 64) 0)
       → ((j : ℕ) → is_set new-upper j ≡ cond (nat_eq j (k / 64)) full (is_set upper j)) → MarksFullWords new-upper new-lower
   MarksFullWords-put same-lower same-upper others is bits = record {
     words = omega (arith, same-lower, same-upper, over.words);
     full = λ word lt. elim (cases_eq word (k / 64)) [
-      | inl here ↦ bits word ∙ cond-true (nat_eq word (k / 64)) _ _ (eq-eqb word (k / 64) here) ∙ is ∙ ap (λ (n : ℕ). is_full (get_or new-lower n 0)) (sym here)
+      | inl here ↦ bits word ∙ cond-true (nat_eq word (k / 64)) _ _ (eq-eqb word (k / 64) here) ∙ is ∙ ap (λ (n : ℕ). is_full_word (get_or new-lower n 0)) (sym here)
       | inr other ↦ bits word ∙ cond-false (nat_eq word (k / 64)) _ _ (ne_eqb word (k / 64) other) ∙ over.full word (omega (arith, lt, same-lower))
-          ∙ ap is_full (sym (others word other))
+          ∙ ap is_full_word (sym (others word other))
     ];
   }
 
@@ -127,7 +127,7 @@ is_set-zeros n k = ap (λ (w : ℕ). nat_eq (bit_at w (k % 64)) 1) (get_or-zeros
 MarksFullWords-zeros : (n : ℕ) → MarksFullWords (zero_words n) (zero_words (64 * n))
 MarksFullWords-zeros n = record {
   words = omega (arith, length-zeros n, length-zeros (64 * n));
-  full = λ word lt. is_set-zeros n word ∙ sym (ap is_full (get_or-zeros (64 * n) word));
+  full = λ word lt. is_set-zeros n word ∙ sym (ap is_full_word (get_or-zeros (64 * n) word));
 }
 
 pub IsTree-zeros : (n : ℕ) → n ≤ 4 → IsTree (zero_words (4096 * n)) (zero_words (64 * n)) (zero_words n)

@@ -34,6 +34,6 @@ abbrev pub AreLiveBelow : ℕ → List Bool → (ℕ → List ℕ) → Type 0
 AreLiveBelow slot live map = (k : ℕ) → k < slot → is_live live k ≡ not (are_zeros (map k))
 
 -- the list tells of each slot that a file can have, and each live one lies below the extent
-pub record AreBelow (extent : ℕ) (live : List Bool) : Type 0 where
+pub record LiveLieBelow (extent : ℕ) (live : List Bool) : Type 0 where
   pub slots : length live ≡ MOST_SLOTS
   pub below : (slot : ℕ) → is_live live slot ≡ true → slot < extent

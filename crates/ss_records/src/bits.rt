@@ -1,7 +1,7 @@
 // Bits in words of 64.
 ghost use Rattle.std.specs.Prelude.{◌≡◌, ◌≢◌, ◌+◌, ◌*◌, ◌/◌, ◌^◌, ◌<◌, ◌≤◌, ◌==◌, ℕ, false, true, length, slice_index, if◌then◌else◌};
 ghost use Rattle.std.specs.Int.{bit_at};
-ghost use Rattle.ss_records.specs.Bits.{is_set, is_full};
+ghost use Rattle.ss_records.specs.Bits.{is_set, is_full_word};
 
 // Whether bit `k` is set.
 pub fn has_bit(words: &[u64], k: usize) -> bool
@@ -26,7 +26,7 @@ pub fn put_bit(words: &mut Vec<u64>, k: usize, to: bool) -> bool
     ensures len { length words.new.items ≡ length words.old.items }
     ensures bits { (j : ℕ) → is_set words.new.items j ≡ (if j == k then to else is_set words.old.items j) }
     ensures others { (n : ℕ) → n ≢ k / 64 → slice_index words.new.items n ≡ slice_index words.old.items n }
-    ensures full { result ≡ is_full (slice_index words.new.items (k / 64)) }
+    ensures full { result ≡ is_full_word (slice_index words.new.items (k / 64)) }
 {
     let word = with_bit(words[k / 64], k % 64, to);
     words[k / 64] = word;
@@ -37,7 +37,7 @@ pub fn put_bit(words: &mut Vec<u64>, k: usize, to: bool) -> bool
 pub fn first_clear(words: &[u64], n: usize) -> usize
     requires word { n < length words.now }
     requires fits { 64 * length words.now < 2 ^ 64 }
-    requires room { is_full (slice_index words.now n) ≡ false }
+    requires room { is_full_word (slice_index words.now n) ≡ false }
     ensures from { 64 * n ≤ result }
     ensures within { result < 64 * n + 64 }
     ensures clear { is_set words.now result ≡ false }

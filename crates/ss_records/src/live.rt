@@ -5,7 +5,7 @@ ghost use Rattle.ss_outside.specs.Step.{Step};
 ghost use Rattle.ss_journal.specs.Calls.{verdict_of_open};
 ghost use Rattle.ss_journal.specs.Kept.{IsKept, IsRunning, OpensMapAs};
 ghost use Rattle.ss_records.specs.Calls.{ReadsLive};
-ghost use Rattle.ss_records.specs.Live.{are_zeros, live_after, AreBelow, AreLiveBelow};
+ghost use Rattle.ss_records.specs.Live.{are_zeros, live_after, LiveLieBelow, AreLiveBelow};
 ghost use Rattle.ss_records.specs.Pages.{IsPage};
 
 use crate::slot_set::SlotSet;
@@ -24,8 +24,8 @@ pub fn are_zeros(bytes: &[u8]) -> bool
 fn note_page(live: &mut SlotSet, from: u32, to: u32, page: &mut Page)
     requires first { from % PAGE_SLOTS ≡ 0 }
     requires within { from ≤ to × to ≤ from + PAGE_SLOTS × to ≤ MOST_SLOTS }
-    requires bounded { AreBelow from live.old }
-    ensures bounded { AreBelow to live.new }
+    requires bounded { LiveLieBelow from live.old }
+    ensures bounded { LiveLieBelow to live.new }
     ensures live { (map : ℕ → List ℕ) → IsPage map (from / PAGE_SLOTS) page.old →
         AreLiveBelow from live.old map → AreLiveBelow to live.new map }
 {
@@ -46,7 +46,7 @@ pub fn read_live<D: Disk>(
     ensures live { Step (verdict_of_open result) (D.seen disk.old) (D.seen disk.new) (ReadsLive journal.old result) }
     // It fails only where the disk does or the memory runs out, and neither says anything of a content.
     ensures refused { (content : List ℕ) → IfErr result (λ error. OpensMapAs content (Err error)) }
-    ensures bounded { IfOk result (AreBelow journal.old.extent) }
+    ensures bounded { IfOk result (LiveLieBelow journal.old.extent) }
     ensures journal { OnOk result (journal.new ≡ journal.old) }
 {
     let mut live = SlotSet::new(alloc)?;

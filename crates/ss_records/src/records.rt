@@ -43,7 +43,7 @@ impl Records {
     ghost use Rattle.ss_journal.specs.Kept.{HasStopped, IsKept, IsRunning, IsSealed, IsSettled};
     ghost use Rattle.ss_journal.specs.declared.format.TheConstants.{ENTRIES};
     ghost use Rattle.ss_records.specs.Calls.{AppliesPuts, MakesRoomFor, OpensRecords, ReadsRecord, SealsRecords, SettlesRecords, StagesPuts};
-    ghost use Rattle.ss_records.specs.Live.{is_live, live_count, lowest_free, live_after, AreBelow};
+    ghost use Rattle.ss_records.specs.Live.{is_live, live_count, lowest_free, live_after, LiveLieBelow};
     ghost use Rattle.ss_records.specs.Pages.{cached_slot, page_numbers, Recalls};
     ghost use Rattle.ss_records.specs.Kept.{uncached, AreKept, AreLiveOver, AreSound};
 
@@ -51,7 +51,7 @@ impl Records {
     /// are: who read them says so. It takes memory for the index of cached pages.
     pub fn over(alloc: Global, journal: Journal, live: SlotSet) -> Result<Records, AllocError>
         // Each live slot lies below the extent.
-        requires bounded { AreBelow journal.extent live }
+        requires bounded { LiveLieBelow journal.extent live }
         ensures over { IfOk result (λ records. records ≡ uncached journal live) }
         ensures kept { (content : List ℕ) → IsKept journal content → AreLiveOver journal live content → IfOk result (λ records. AreKept records content) }
     {

@@ -3,7 +3,7 @@ ghost use Rattle.std.specs.Prelude.{◌≡◌, ◌+◌, ◌-◌, ◌*◌, ◌^�
 ghost use Rattle.std.specs.Prelude.{if◌then◌else◌};
 ghost use Rattle.std.specs.List.{position, position_or_len, slice_index_or};
 ghost use Rattle.ss_journal.specs.declared.format.TheConstants.{MOST_SLOTS};
-ghost use Rattle.ss_records.specs.Bits.{is_full};
+ghost use Rattle.ss_records.specs.Bits.{is_full_word};
 ghost use Rattle.ss_records.specs.Tree.{members, IsTree, FullBefore};
 
 use crate::bits::{first_clear, has_bit, put_bit};
@@ -122,7 +122,7 @@ fn counted(count: u32, was_in: bool, is_in: bool) -> u32
 fn first_under(low: &[u64], middle: &[u64], top: &[u64], n: usize) -> usize
     requires tree { IsTree low.now middle.now top.now }
     requires word { n < length top.now }
-    requires room { is_full (slice_index top.now n) ≡ false }
+    requires room { is_full_word (slice_index top.now n) ≡ false }
     requires full { FullBefore n top.now }
     ensures below { result < 64 * length low.now }
     ensures first { result ≡ position_or_len not (members low.now) }

@@ -39,7 +39,7 @@ pub use Rattle.ss_model.specs.declared.types.Window.{Window}
 pub use Rattle.ss_outside.specs.Verdict.{Counted, failed, fine, no_memory, refused, Verdict}
 pub use Rattle.ss_records.proofs.LiveLemmas.{is_live-below, is_live-set, replicate-are_zeros}
 pub use Rattle.ss_records.specs.Kept.{AreKept, AreLiveOver, RecordsState}
-pub use Rattle.ss_records.specs.Live.{are_zeros, AreBelow, AreLiveBelow, is_live}
+pub use Rattle.ss_records.specs.Live.{are_zeros, LiveLieBelow, AreLiveBelow, is_live}
 pub use Rattle.ss_recover.specs.Carried.{created_by, in_order, is_drop_of, is_dropped, is_mark_of, marks_carried, put_in_order, stands_by, stream_number}
 pub use Rattle.ss_recover.specs.Carried.{streams_created, streams_standing, window_of, windows_carried}
 pub use Rattle.ss_recover.specs.Conditions.{has_new_name, has_one_record, has_place, has_sound_values, is_named_before, keep_own_step, keep_step, stands_sound}
@@ -62,7 +62,7 @@ pub use Rattle.ss_recover.specs.Shown.{AddsName, AreMade, AreWindowsOf, all_clos
 pub use Rattle.ss_recover.specs.Shown.{HasTakenDropped, HasTakenStanding, head_found, is_after, is_landmark, is_value, is_window, IsHeldOf, IsInside}
 pub use Rattle.ss_recover.specs.Shown.{IsNextRun, marks_shown, MarksShown, may_add, may_open, MayClose, MayCome, names_in, PutsDropped, PutsStanding, seen_next}
 pub use Rattle.ss_recover.specs.Shown.{TakesAs, with_closing, with_found}
-pub use Rattle.ss_recover.specs.Usable.{HasValidTimes, in_slot, IsUsable, slots_found, without_slots}
+pub use Rattle.ss_recover.specs.Usable.{HasValidTimes, with_slot, IsUsable, slots_found, without_slots}
 pub use Rattle.ss_recover.specs.declared.found.Found.{Found}
 pub use Rattle.ss_recover.specs.declared.gathering.Gathered.{Gathered}
 pub use Rattle.ss_recover.specs.declared.marking.Last.{Last}

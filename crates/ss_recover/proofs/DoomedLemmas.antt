@@ -1,7 +1,7 @@
 -- The records of dropped streams among those that were found: they are of no stream that stands, and may go in turn.
 use Rattle.ss_recover.proofs.Common.{[], ◌++◌, ◌+◌, ◌<◌, ◌==◌, ◌∙◌, ◌∷◌, ◌≡◌, ◌≤◌, AllByRecursion, and_parts, ap, ap₂, are_zeros, AreSlotsOf, arith, Bool}
 use Rattle.ss_recover.proofs.Common.{cases_Bool, cond-true, count_by, Created, created_by, doomed_among, doomed_found, doomed_slots, each-behind, eq-eqb}
-use Rattle.ss_recover.proofs.Common.{eqb-true, false, false_from_ne_true, filter, filter-map, filter_map-append, Found, GoInTurn, in_slot, inl, inr, is_doomed}
+use Rattle.ss_recover.proofs.Common.{eqb-true, false, false_from_ne_true, filter, filter-map, filter_map-append, Found, GoInTurn, with_slot, inl, inr, is_doomed}
 use Rattle.ss_recover.proofs.Common.{is_drop_of, is_dropped, is_of, is_own, IsPermutation, IsPermutation-map, IsPermutation-sym, IsPermutation-trans, List}
 use Rattle.ss_recover.proofs.Common.{list_any, list_any-append, list_any-IsPermutation, map, map-append, map-id, map-map, may_go, ne_eqb, None, not}
 use Rattle.ss_recover.proofs.Common.{not_from_false, occupied, Option, option_map_or, or_cases, or_from, or_left, or_right, range_with_len, Record}
@@ -72,19 +72,19 @@ dropped-doomed own us r doomed = go r (and_parts _ _ doomed).1
     go records.Free gone = absurd (true≢false (sym gone))
     go _ gone = gone
 
-pub beside-found : (all : List Found) → records_beside (map in_slot all) ≡ without_slots all
+pub beside-found : (all : List Found) → records_beside (map with_slot all) ≡ without_slots all
 beside-found [] = refl
 beside-found (f ∷ fs) = ap (λ l. f.holds ∷ l) (beside-found fs)
 
-pub first-in_slot : (all : List Found) → map (λ (e : ℕ × Option Record). e.0) (map in_slot all) ≡ slots_found all
+pub first-in_slot : (all : List Found) → map (λ (e : ℕ × Option Record). e.0) (map with_slot all) ≡ slots_found all
 first-in_slot [] = refl
 first-in_slot (f ∷ fs) = ap (λ l. f.slot ∷ l) (first-in_slot fs)
 
 -- those among the slots that are those of the records
-pub doomed_among-found : (own : Bool) (all : List Found) → doomed_among own (map in_slot all) ≡ map in_slot (doomed_found own all)
+pub doomed_among-found : (own : Bool) (all : List Found) → doomed_among own (map with_slot all) ≡ map with_slot (doomed_found own all)
 doomed_among-found own all =
-    filter-map (λ (e : ℕ × Option Record). option_map_or (is_doomed own (records_beside (map in_slot all))) e.1 false) in_slot all
-    ∙ ap (λ us. map in_slot (filter (λ (f : Found). is_doomed own us f.holds) all)) (beside-found all)
+    filter-map (λ (e : ℕ × Option Record). option_map_or (is_doomed own (records_beside (map with_slot all))) e.1 false) with_slot all
+    ∙ ap (λ us. map with_slot (filter (λ (f : Found). is_doomed own us f.holds) all)) (beside-found all)
 
 pub without_slots-doomed : (own : Bool) (all : List Found) →
     without_slots (doomed_found own all) ≡ filter (is_doomed own (without_slots all)) (without_slots all)
@@ -146,11 +146,11 @@ record GoesLast (others : List Record) (f : Found) : Type 0 where
   apart : IsNoneAmong others f.holds
 
 beside-parts : (fs : List Found) (others : List (ℕ × Option Record)) →
-    records_beside (map in_slot fs ++ others) ≡ without_slots fs ++ records_beside others
-beside-parts fs others = filter_map-append (λ (e : ℕ × Option Record). e.1) (map in_slot fs) others ∙ ap (λ l. l ++ records_beside others) (beside-found fs)
+    records_beside (map with_slot fs ++ others) ≡ without_slots fs ++ records_beside others
+beside-parts fs others = filter_map-append (λ (e : ℕ × Option Record). e.1) (map with_slot fs) others ∙ ap (λ l. l ++ records_beside others) (beside-found fs)
 
 heads-go : (fs : List Found) (others : List (ℕ × Option Record)) → AllByRecursion (GoesLast (records_beside others)) fs →
-    AllByRecursion (λ (f : Found). count (stream_of f.holds) (without_slots fs) ≤ 1) fs → GoInTurn (map in_slot fs) others
+    AllByRecursion (λ (f : Found). count (stream_of f.holds) (without_slots fs) ≤ 1) fs → GoInTurn (map with_slot fs) others
 heads-go [] others last few = tt
 heads-go (f ∷ fs) others last few = (
   goes f.holds last.0.own last.0.gone last.0.apart few.0,
@@ -163,14 +163,14 @@ heads-go (f ∷ fs) others last few = (
         (all_weaker _ _ (λ g is. is.own) fs last.1)
 
     goes : (r : Record) → is_own r ≡ true → stands_by r ≡ None → IsNoneAmong (records_beside others) r → count (stream_of r) (r ∷ without_slots fs) ≤ 1 →
-        may_go r (records_beside (map in_slot fs ++ others)) ≡ true
+        may_go r (records_beside (map with_slot fs ++ others)) ≡ true
     goes records.Free own gone apart few = absurd (true≢false (sym own))
     goes (records.Stream id name params false) own gone apart few = absurd (cc)
     goes (records.Stream id name params true) own gone apart few =
         let c : Created = record { number = id; name = name; params = params } in
         let one : digit (id == id) ≡ 1 = cond-true _ _ _ (eq-eqb id id refl) in
         let none : count id (without_slots fs) ≡ 0 = omega (arith, one, few, numbered-cons id (Some c) (streams_created (without_slots fs))) in
-        not_from_false (list_any (is_of id) (records_beside (map in_slot fs ++ others)))
+        not_from_false (list_any (is_of id) (records_beside (map with_slot fs ++ others)))
         (ap (list_any (is_of id)) (beside-parts fs others) ∙ list_any-append (is_of id) (without_slots fs) (records_beside others)
         ∙ or_from _ _ (none-of id (without_slots fs) owns none) apart)
     goes _ own gone apart few = absurd (true≢false (sym own))
@@ -178,19 +178,19 @@ heads-go (f ∷ fs) others last few = (
 -- those of windows, landmarks and values go before them
 others-go : (us : List Record) (fs heads : List Found) (others : List (ℕ × Option Record)) →
     AllByRecursion (λ (f : Found). is_doomed false us f.holds ≡ true) fs → ((n : ℕ) → is_dropped n us ≡ true → is_dropped n (without_slots heads) ≡ true) →
-    GoInTurn (map in_slot heads) others → GoInTurn (map in_slot (fs ++ heads)) others
+    GoInTurn (map with_slot heads) others → GoInTurn (map with_slot (fs ++ heads)) others
 others-go us [] heads others doomed kept last = last
 others-go us (f ∷ fs) heads others doomed kept last =
     (goes f.holds doomed.0, others-go us fs heads others doomed.1 kept last)
   where
-    gone : (n : ℕ) → is_dropped n us ≡ true → is_dropped n (records_beside (map in_slot (fs ++ heads) ++ others)) ≡ true
+    gone : (n : ℕ) → is_dropped n us ≡ true → is_dropped n (records_beside (map with_slot (fs ++ heads) ++ others)) ≡ true
     gone n is =
         let test = is_drop_of n in
         ap (list_any test) (beside-parts (fs ++ heads) others) ∙ list_any-append test (without_slots (fs ++ heads)) (records_beside others) ∙ or_left _ _
         (ap (list_any test) (map-append (λ (g : Found). g.holds) fs heads) ∙ list_any-append test (without_slots fs) (without_slots heads)
         ∙ or_right _ _ (kept n is))
 
-    goes : (r : Record) → is_doomed false us r ≡ true → may_go r (records_beside (map in_slot (fs ++ heads) ++ others)) ≡ true
+    goes : (r : Record) → is_doomed false us r ≡ true → may_go r (records_beside (map with_slot (fs ++ heads) ++ others)) ≡ true
     goes records.Free doomed = absurd (true≢false (sym doomed))
     goes (records.Stream id name params dropped) doomed = absurd (true≢false (sym doomed))
     goes r doomed = gone (stream_of r) (dropped-doomed false us r doomed)
@@ -221,7 +221,7 @@ drops-doomed us n gone _ is = absurd (true≢false (sym is))
 pub doomed-go : (all : List Found) (others : List (ℕ × Option Record)) → AllByRecursion (IsSoundOf (without_slots all)) (without_slots all) →
     AllByRecursion (IsGone (without_slots all)) (without_slots all) →
     ((n : ℕ) → is_dropped n (without_slots all) ≡ true → list_any (is_of n) (records_beside others) ≡ false) →
-    GoInTurn (map in_slot (doomed_found false all ++ doomed_found true all)) others
+    GoInTurn (map with_slot (doomed_found false all ++ doomed_found true all)) others
 doomed-go all others sound gone apart =
     let us = without_slots all in
     let heads = doomed_found true all in
@@ -262,7 +262,7 @@ map-Rise key [] rise = tt
 map-Rise key (x ∷ xs) rise = (map-all _ key xs rise.0, map-Rise key xs rise.1)
 
 -- the slots of what is found rise
-pub Rise-found : (all : List Found) (found : SlotMap) → map in_slot all ≡ occupied found → Rise (λ (f : Found). f.slot) all
+pub Rise-found : (all : List Found) (found : SlotMap) → map with_slot all ≡ occupied found → Rise (λ (f : Found). f.slot) all
 Rise-found all found is =
     let live = filter (λ slot. not (are_zeros (found.bytes slot))) (range_with_len 0 found.extent) in
     let same : slots_found all ≡ live = sym (first-in_slot all) ∙ ap (map (λ (e : ℕ × Option Record). e.0)) is
@@ -281,10 +281,10 @@ slots-in_order own slots all sorted are moved rise =
     (map-Rise (λ (f : Found). f.slot) here (Rise-filter (λ (f : Found). f.slot) (λ (f : Found). is_doomed own (without_slots all) f.holds) all rise))
 
 -- and are those that a map has
-pub doomed_slots-found : (all : List Found) (found : SlotMap) → map in_slot all ≡ occupied found →
+pub doomed_slots-found : (all : List Found) (found : SlotMap) → map with_slot all ≡ occupied found →
     slots_found (doomed_found false all) ++ slots_found (doomed_found true all) ≡ doomed_slots (occupied found)
 doomed_slots-found all found is =
     ap₂ (λ (a b : List ℕ). a ++ b) (one false) (one true) ∙ ap doomed_slots is
   where
-    one : (own : Bool) → slots_found (doomed_found own all) ≡ map (λ e. e.0) (doomed_among own (map in_slot all))
+    one : (own : Bool) → slots_found (doomed_found own all) ≡ map (λ e. e.0) (doomed_among own (map with_slot all))
     one own = sym (ap (map (λ (e : ℕ × Option Record). e.0)) (doomed_among-found own all) ∙ first-in_slot (doomed_found own all))

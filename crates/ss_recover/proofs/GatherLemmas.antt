@@ -1,8 +1,8 @@
 -- The slots that were read, and one more.
-use Rattle.ss_recover.proofs.Common.{[], ◌++◌, ◌+◌, ◌-◌, ◌<◌, ◌^◌, ◌∙◌, ◌∷◌, ◌≡◌, ◌≢◌, ◌≤◌, All, All-push, ap, append-nil, ap₂, are_zeros, AreBelow}
+use Rattle.ss_recover.proofs.Common.{[], ◌++◌, ◌+◌, ◌-◌, ◌<◌, ◌^◌, ◌∙◌, ◌∷◌, ◌≡◌, ◌≢◌, ◌≤◌, All, All-push, ap, append-nil, ap₂, are_zeros, LiveLieBelow}
 use Rattle.ss_recover.proofs.Common.{AreFoundBelow, AreGathered, AreLiveBelow, AreLiveOver, arith, BadSlot, BadStream, below, Bool, cases_lt, cond, cond-false}
 use Rattle.ss_recover.proofs.Common.{cond-true, count_by-le-length, Disk, eq-eqb, Err, false, false_from_ne_true, filter, filter-append, Found, Free, Gathered}
-use Rattle.ss_recover.proofs.Common.{get_or, get_or-map-range_with_len, in_slot, inl, inr, is_live, is_live-below, is_live-set, is_none, IsKept, IsLowestBad}
+use Rattle.ss_recover.proofs.Common.{get_or, get_or-map-range_with_len, with_slot, inl, inr, is_live, is_live-below, is_live-set, is_none, IsKept, IsLowestBad}
 use Rattle.ss_recover.proofs.Common.{IsSealed, IsUsable, JournalState, length, length-filter, length-map, length-map-range_with_len, length-range_with_len}
 use Rattle.ss_recover.proofs.Common.{length-set, List, lowest_bad_slot, lt-ltb, map, map-append, ne_eqb, None, not, Option, OutOfMemory, position_or_len}
 use Rattle.ss_recover.proofs.Common.{position_or_len_is, range_with_len, Record, RecoverError, refl, replicate, SameMap-refl, set, shown, SlotMap, Some}
@@ -47,7 +47,7 @@ slots-more live slots slot is =
     go false ks same = same ∙ sym (append-nil ks)
 
 -- no slot is live from there on
-pub not_live : (slot : ℕ) (live : List Bool) → AreBelow slot live → is_live live slot ≡ false
+pub not_live : (slot : ℕ) (live : List Bool) → LiveLieBelow slot live → is_live live slot ≡ false
 not_live slot live bounded = false_from_ne_true (is_live live slot) (λ is. absurd (omega (arith, bounded.below slot is)))
 
 -- there are at most as many records as slots
@@ -121,7 +121,7 @@ module _ (slot : ℕ) (read new : Gathered) (f : Found) (added : new.all.items �
         ap (λ (fs : List Found). map (λ g. g.slot) fs) added ∙ map-append (λ (g : Found). g.slot) read.all.items (f ∷ [])
         ∙ ap₂ (λ (a : List ℕ) (k : ℕ). a ++ k ∷ []) gathered.slots same ∙ sym (slots-now read.live slot within)
         ∙ ap (λ (l : List Bool). filter (is_live l) (range_with_len 0 (slot + 1))) (sym noted);
-    bounded = subst (AreBelow (slot + 1)) (sym noted) (record {
+    bounded = subst (LiveLieBelow (slot + 1)) (sym noted) (record {
       slots = length-set read.live slot true ∙ gathered.bounded.slots;
       below = λ k is. elim (cases_lt slot k) [
         | inl past ↦ (let lives : is_live read.live k ≡ true = sym (is_live-other read.live slot within k (λ here. omega (arith, here, past))) ∙ is in
@@ -136,7 +136,7 @@ module _ (slot : ℕ) (read new : Gathered) (f : Found) (added : new.all.items �
   AreFoundBelow-live found live is before = record {
     are = record {
       occupied_by =
-          ap (map in_slot) added ∙ map-append in_slot read.all.items (f ∷ []) ∙ ap₂ (λ a b. a ++ b ∷ []) before.are.occupied_by (λ i. (same i, sym is i))
+          ap (map with_slot) added ∙ map-append with_slot read.all.items (f ∷ []) ∙ ap₂ (λ a b. a ++ b ∷ []) before.are.occupied_by (λ i. (same i, sym is i))
           ∙ sym (ap (filled found.bytes) (range-more slot) ∙ filled-append found.bytes (range_with_len 0 slot) (slot ∷ [])
           ∙ ap (λ l. filled found.bytes (range_with_len 0 slot) ++ l) (filled-live found.bytes slot [] live));
       spelled_all = below-more (λ k. decoded (found.bytes k) ≢ None) slot before.are.spelled_all (λ none. cc);

@@ -2,7 +2,7 @@
 use Rattle.ss_recover.proofs.Common.{[], ◌++◌, ◌+◌, ◌-◌, ◌<◌, ◌∙◌, ◌∷◌, ◌≡◌, ◌≢◌, ◌≤◌, Agrees, All, All-from_recursion, All-nil, AllAgree, AllByRecursion}
 use Rattle.ss_recover.proofs.Common.{AllEndBy, AllEndBy-later, ap, ap₂, AreFound, AreKnown, AreWholeBeside, arith, bad_slot, bad_stream, BadSlot, BadStream}
 use Rattle.ss_recover.proofs.Common.{Bool, carries, Disk, doomed_found, EndByLast, ends-latest, EndsBy, entries_of, Entry, Err, false, filter, filter_map, fine}
-use Rattle.ss_recover.proofs.Common.{firsts-zip, flat_map, Found, found_key, Free, GathersAs, HasWholeSlots, IfOk, in_order, in_slot, is_live, is_none}
+use Rattle.ss_recover.proofs.Common.{firsts-zip, flat_map, Found, found_key, Free, GathersAs, HasWholeSlots, IfOk, in_order, with_slot, is_live, is_none}
 use Rattle.ss_recover.proofs.Common.{IsDistinct, IsLowestUnsound, IsPermutation, IsPermutation-append_left, IsPermutation-map, IsPermutation-sym}
 use Rattle.ss_recover.proofs.Common.{IsPermutation-trans, IsStream, IsStrictlyIncreasing, IsUsable, judged, key_of, Landmark, last_time, later, latest_of}
 use Rattle.ss_recover.proofs.Common.{length, length-map, List, list_any, lowest_bad_slot, lowest_bad_stream, map, map-append, MatchOption, max, MOST_VALUES}
@@ -90,7 +90,7 @@ unfolding spelled
 made-found found all whole are Y f free =
     filter_map-filled f free found.bytes (range_with_len 0 found.extent) (zeros_are_free found whole)
     ∙ ap (λ (es : List (ℕ × Option Record)). filter_map f (records_in (map (λ e. e.1) es))) (sym are.occupied_by)
-    ∙ ap (filter_map f) (sym (beside-seconds (map in_slot all)) ∙ beside-found all)
+    ∙ ap (filter_map f) (sym (beside-seconds (map with_slot all)) ∙ beside-found all)
 
 -- every slot spells a record
 no-none : (os : ℕ → Option Record) (a n : ℕ) → ((k : ℕ) → a ≤ k → k < a + n → os k ≢ None) → list_any is_none (map os (range_with_len a n)) ≡ false
@@ -132,7 +132,7 @@ rebuilds found all sorted (Ok parts) whole are usable order moved walks =
     (slots-in_order true built.heads all sorted built.of_heads moved rise) in
     record {
       streams = streams;
-      doomed = map in_slot items;
+      doomed = map with_slot items;
       carried =
           carried-streams found streams (no-bad-slot found are.spelled_all)
           (lowest-made (records_in (spelled found)) (without_slots all) (made-found found all whole are)
@@ -140,7 +140,7 @@ rebuilds found all sorted (Ok parts) whole are usable order moved walks =
           (streams_are streams rs built.state (have_those parts streams all sorted built order moved rs (made-found found all whole are)));
       held = record {
         each = built.each;
-        records = subst (IsPermutation (map in_slot items ++ flat_map records_held (zip parts.streams.items streams))) are.occupied_by
+        records = subst (IsPermutation (map with_slot items ++ flat_map records_held (zip parts.streams.items streams))) are.occupied_by
             (all-held parts streams all sorted built order moved);
         state = built.state;
       };
@@ -239,12 +239,12 @@ whole-from_walk live all sorted (Ok parts) slots moved walks =
     (subst (IsPermutation (built.others ++ built.heads)) (sym (map-append (λ (f : Found). f.slot) (doomed_found false sorted) (doomed_found true sorted)))
     (IsPermutation-append built.others (slots_found (doomed_found false sorted)) built.heads (slots_found (doomed_found true sorted))
     built.of_others.are built.of_heads.are)) in
-    let both : map first (map in_slot items ++ flat_map records_held (zip ps ss)) ≡ slots_found items ++ own =
-    map-append first (map in_slot items) (flat_map records_held (zip ps ss)) ∙ ap₂ ◌++◌ (first-in_slot items) (slots-agree ps ss built.each) in
+    let both : map first (map with_slot items ++ flat_map records_held (zip ps ss)) ≡ slots_found items ++ own =
+    map-append first (map with_slot items) (flat_map records_held (zip ps ss)) ∙ ap₂ ◌++◌ (first-in_slot items) (slots-agree ps ss built.each) in
     let held : IsPermutation (parts.doomed.items ++ own) (slots_found sorted) = IsPermutation-trans _ _ _
     (IsPermutation-append_left own parts.doomed.items (slots_found items) slots_doomed) (subst (λ l. IsPermutation l (slots_found sorted)) both
-    (subst (IsPermutation (map first (map in_slot items ++ flat_map records_held (zip ps ss)))) (first-in_slot sorted)
-    (IsPermutation-map first (map in_slot items ++ flat_map records_held (zip ps ss)) (map in_slot sorted) built.records))) in
+    (subst (IsPermutation (map first (map with_slot items ++ flat_map records_held (zip ps ss)))) (first-in_slot sorted)
+    (IsPermutation-map first (map with_slot items ++ flat_map records_held (zip ps ss)) (map with_slot sorted) built.records))) in
     let few = built.state.few in
     record {
       few = omega (

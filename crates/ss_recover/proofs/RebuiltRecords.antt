@@ -2,7 +2,7 @@
 -- map carries is a state.
 use Rattle.ss_recover.proofs.Common.{[], ◌++◌, ◌==◌, ◌∙◌, ◌∷◌, ◌≡◌, ◌≤◌, All-from_recursion, All-permutation, AllByRecursion, ap, ap₂, AreBuilt, arith, Bool}
 use Rattle.ss_recover.proofs.Common.{carries, cons_option, count_by-le-length, doomed_found, each-behind, each-front, false, filter, filter_map}
-use Rattle.ss_recover.proofs.Common.{filter_map-append, flat_map, Found, found_key, Free, GoInTurn, in_order, in_slot, is_doomed, is_drop_of, is_dropped, is_of}
+use Rattle.ss_recover.proofs.Common.{filter_map-append, flat_map, Found, found_key, Free, GoInTurn, in_order, with_slot, is_doomed, is_drop_of, is_dropped, is_of}
 use Rattle.ss_recover.proofs.Common.{is_sound_in_order, IsPermutation, IsPermutation-append_left, IsPermutation-append_right, IsPermutation-map}
 use Rattle.ss_recover.proofs.Common.{IsPermutation-sym, IsPermutation-trans, IsState, IsUsable, key_of, length, length-filter, length_permutation, List}
 use Rattle.ss_recover.proofs.Common.{list_any, list_any-IsPermutation, lowest_bad_slot, lowest_bad_stream, map, MOST_RECORDS, MOST_SLOTS, ne_eqb, None, Option}
@@ -89,11 +89,11 @@ module _ (parts : Parts) (streams : List Stream) (all sorted : List Found) (buil
       IsPermutation-append (doomed_found false all) (doomed_found false sorted) (doomed_found true all) (doomed_found true sorted)
       (doomed_found-moved false all sorted moved) (doomed_found-moved true all sorted moved)
 
-  pub all-held : IsPermutation (map in_slot doomed ++ held) (map in_slot all)
+  pub all-held : IsPermutation (map with_slot doomed ++ held) (map with_slot all)
   all-held =
       let there = doomed_found false sorted ++ doomed_found true sorted in
-      IsPermutation-trans _ _ _ (IsPermutation-append_left held (map in_slot doomed) (map in_slot there) (IsPermutation-map in_slot doomed there doomed-moved))
-      (IsPermutation-trans _ _ _ built.records (IsPermutation-map in_slot sorted all (IsPermutation-sym all sorted moved)))
+      IsPermutation-trans _ _ _ (IsPermutation-append_left held (map with_slot doomed) (map with_slot there) (IsPermutation-map with_slot doomed there doomed-moved))
+      (IsPermutation-trans _ _ _ built.records (IsPermutation-map with_slot sorted all (IsPermutation-sym all sorted moved)))
 
   records-held : records_beside held ≡ records_of_streams streams
   records-held = beside-seconds held ∙ ap records_in (second-held parts.streams.items streams built.each) ∙ records_in-Some (records_of_streams streams)
@@ -103,9 +103,9 @@ module _ (parts : Parts) (streams : List Stream) (all sorted : List Found) (buil
       IsPermutation-trans _ _ _
       (IsPermutation-append_right (without_slots doomed) (all_walked streams) (records_of_streams streams) (IsPermutation-all_walked streams))
       (subst (IsPermutation (without_slots doomed ++ records_of_streams streams)) (beside-found all)
-      (subst (λ l. IsPermutation l (records_beside (map in_slot all)))
-      (filter_map-append (λ (e : ℕ × Option Record). e.1) (map in_slot doomed) held ∙ ap₂ ◌++◌ (beside-found doomed) records-held)
-      (IsPermutation-filter_map (λ (e : ℕ × Option Record). e.1) (map in_slot doomed ++ held) (map in_slot all) all-held)))
+      (subst (λ l. IsPermutation l (records_beside (map with_slot all)))
+      (filter_map-append (λ (e : ℕ × Option Record). e.1) (map with_slot doomed) held ∙ ap₂ ◌++◌ (beside-found doomed) records-held)
+      (IsPermutation-filter_map (λ (e : ℕ × Option Record). e.1) (map with_slot doomed ++ held) (map with_slot all) all-held)))
 
   dropped_each : AllByRecursion (λ r. is_dropped (stream_of r) us ≡ true) (without_slots doomed)
   dropped_each =
@@ -124,7 +124,7 @@ module _ (parts : Parts) (streams : List Stream) (all sorted : List Found) (buil
       (all_walked streams) (all-all_walked (λ k. is_dropped k us ≡ false) streams
       (kept_each us (without_slots doomed) streams sound_each all-walked_too dropped_each)))
 
-  pub in_turn-built : GoInTurn (map in_slot doomed) held
+  pub in_turn-built : GoInTurn (map with_slot doomed) held
   in_turn-built = doomed-go all held sound_each (each-IsGone us sound_each) none_held
 
   -- records of which is made what is made of those that were found have those of the streams

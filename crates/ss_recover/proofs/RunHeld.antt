@@ -1,7 +1,7 @@
 -- The streams of runs that are done: what is held agrees with streams that their records are of.
 use Rattle.ss_recover.proofs.Common.{[], ◌++◌, ◌+◌, ◌<◌, ◌∙◌, ◌∷◌, ◌≡◌, Agrees, all_value_records, AllAgree, AllByRecursion, ap, append-nil, append_assoc, ap₂}
 use Rattle.ss_recover.proofs.Common.{Bool, cond, created_by, false, filter, filter-append, filter-map, filter_map, flat_map, Found, found_by, head_found}
-use Rattle.ss_recover.proofs.Common.{in_slot, in_slots, is_dropped, is_landmark, is_mark_of, is_run, is_value, is_window, IsHeldOf, IsPermutation}
+use Rattle.ss_recover.proofs.Common.{with_slot, in_slots, is_dropped, is_landmark, is_mark_of, is_run, is_value, is_window, IsHeldOf, IsPermutation}
 use Rattle.ss_recover.proofs.Common.{IsPermutation-cons, IsPermutation-map, IsPermutation-middle, IsPermutation-refl, IsPermutation-trans, IsUsable, Landmark}
 use Rattle.ss_recover.proofs.Common.{landmark_record, landmark_records, landmarks_made, LandmarkValue, later, latest_of, List, map, map-append, map-map}
 use Rattle.ss_recover.proofs.Common.{newest_time, Option, place_of, Record, records_held, refl, Rises, slots_found, Some, Stream, stream_of, stream_record}
@@ -37,14 +37,14 @@ values-marks number n (l ∷ ls) =
     ∙ ap₂ ◌++◌ (values-values number n 1 l.values) (values-marks number (n + 1) ls)
 
 -- the records that were found, each in its slot
-slots-records : (all : List Found) → in_slots (slots_found all) (without_slots all) ≡ map in_slot all
+slots-records : (all : List Found) → in_slots (slots_found all) (without_slots all) ≡ map with_slot all
 slots-records [] = refl
-slots-records (f ∷ fs) = ap (λ l. in_slot f ∷ l) (slots-records fs)
+slots-records (f ∷ fs) = ap (λ l. with_slot f ∷ l) (slots-records fs)
 
 -- Parts agree with streams, and their records are those so far.
 pub record AreHeldSoFar (parts : List StreamParts) (streams : List Stream) (all : List Found) : Type 0 where
   pub each : AllAgree parts streams
-  pub records : IsPermutation (flat_map records_held (zip parts streams)) (map in_slot all)
+  pub records : IsPermutation (flat_map records_held (zip parts streams)) (map with_slot all)
 
 -- lists that agree, with one more of each
 pub AllAgree-push : (parts : List StreamParts) (streams : List Stream) (part : StreamParts) (s : Stream) → AllAgree parts streams → Agrees part s →
@@ -198,7 +198,7 @@ module _ (front : List Record) (all : List Found) (n : ℕ) (part : StreamParts)
       ∙ filter-append p (marks_of held.head.number 1 (landmarks_made ms)) (map (window_record held.head.number) ws)
       ∙ ap (λ l. filter p (marks_of held.head.number 1 (landmarks_made ms)) ++ l) (of-windows p b held.head.number ws is)
 
-  windows-held : windows_held (part, done_stream) ≡ map in_slot (head_found held.slot held.head ∷ found_by is_window held.rest)
+  windows-held : windows_held (part, done_stream) ≡ map with_slot (head_found held.slot held.head ∷ found_by is_window held.rest)
   windows-held =
       ap₂ (λ (slot : ℕ) l. (slot, Some (stream_record done_stream)) ∷ l) held.in_slot
       (ap₂ (λ (a : List ℕ) (b : List (Option Record)). zip a b) held.kept.entries (sym (map-map Some (window_record held.head.number) ws)
@@ -206,36 +206,36 @@ module _ (front : List Record) (all : List Found) (n : ℕ) (part : StreamParts)
       ∙ ap (λ l. l ++ map (window_record held.head.number) ws) (no-windows held.head.number 1 (landmarks_made ms)))))
       ∙ slots-records (found_by is_window held.rest))
 
-  landmarks-held : in_slots part.landmarks.slots (landmark_records held.head.number 1 (landmarks_made ms)) ≡ map in_slot (found_by is_landmark held.rest)
+  landmarks-held : in_slots part.landmarks.slots (landmark_records held.head.number 1 (landmarks_made ms)) ≡ map with_slot (found_by is_landmark held.rest)
   landmarks-held =
       ap₂ in_slots held.kept.slots (sym (of-kind is_landmark false (λ w. refl) ∙ append-nil _ ∙ landmarks-marks held.head.number 1 (landmarks_made ms)))
       ∙ slots-records (found_by is_landmark held.rest)
 
-  values-held : in_slots part.landmarks.value_slots (all_value_records held.head.number 1 (landmarks_made ms)) ≡ map in_slot (found_by is_value held.rest)
+  values-held : in_slots part.landmarks.value_slots (all_value_records held.head.number 1 (landmarks_made ms)) ≡ map with_slot (found_by is_value held.rest)
   values-held =
       ap₂ in_slots held.kept.value_slots (sym (of-kind is_value false (λ w. refl) ∙ append-nil _ ∙ values-marks held.head.number 1 (landmarks_made ms)))
       ∙ slots-records (found_by is_value held.rest)
 
   -- they are those that are held, in another order
-  pub done-held : IsPermutation (records_held (part, done_stream)) (map in_slot all)
+  pub done-held : IsPermutation (records_held (part, done_stream)) (map with_slot all)
   done-held =
       let h = head_found held.slot held.head in
       let fs = found_by is_window held.rest in
       let us = found_by is_landmark held.rest ++ found_by is_value held.rest in
       let moved : IsPermutation (h ∷ (fs ++ us)) all =
       subst (IsPermutation (h ∷ (fs ++ us))) (sym held.split) (IsPermutation-cons h (fs ++ us) held.rest (parts-found held.rest usable-rest alone)) in
-      let parts : records_held (part, done_stream) ≡ map in_slot (h ∷ (fs ++ us)) =
-      ap₂ ◌++◌ windows-held (ap₂ ◌++◌ landmarks-held values-held ∙ sym (map-append in_slot (found_by is_landmark held.rest) (found_by is_value held.rest)))
-      ∙ sym (map-append in_slot (h ∷ fs) us) in
-      subst (λ l. IsPermutation l (map in_slot all)) (sym parts) (IsPermutation-map in_slot (h ∷ (fs ++ us)) all moved)
+      let parts : records_held (part, done_stream) ≡ map with_slot (h ∷ (fs ++ us)) =
+      ap₂ ◌++◌ windows-held (ap₂ ◌++◌ landmarks-held values-held ∙ sym (map-append with_slot (found_by is_landmark held.rest) (found_by is_value held.rest)))
+      ∙ sym (map-append with_slot (h ∷ fs) us) in
+      subst (λ l. IsPermutation l (map with_slot all)) (sym parts) (IsPermutation-map with_slot (h ∷ (fs ++ us)) all moved)
 
   pub done-push : (parts : List StreamParts) (streams : List Stream) (before : List Found) → AreHeldSoFar parts streams before →
       AreHeldSoFar (parts ++ part ∷ []) (streams ++ done_stream ∷ []) (before ++ all)
   done-push parts streams before so_far = record {
     each = AllAgree-push parts streams part done_stream so_far.each done-agrees;
     records =
-        subst (λ l. IsPermutation l (map in_slot (before ++ all))) (sym (held-push parts streams part done_stream so_far.each))
-        (subst (IsPermutation (flat_map records_held (zip parts streams) ++ records_held (part, done_stream))) (sym (map-append in_slot before all))
-        (IsPermutation-append (flat_map records_held (zip parts streams)) (map in_slot before) (records_held (part, done_stream))
-        (map in_slot all) so_far.records done-held));
+        subst (λ l. IsPermutation l (map with_slot (before ++ all))) (sym (held-push parts streams part done_stream so_far.each))
+        (subst (IsPermutation (flat_map records_held (zip parts streams) ++ records_held (part, done_stream))) (sym (map-append with_slot before all))
+        (IsPermutation-append (flat_map records_held (zip parts streams)) (map with_slot before) (records_held (part, done_stream))
+        (map with_slot all) so_far.records done-held));
   }

@@ -2,7 +2,7 @@
 use Rattle.ss_recover.proofs.Common.{[], ◌&&◌, ◌++◌, ◌+◌, ◌<◌, ◌==◌, ◌∙◌, ◌∷◌, ◌≡◌, ◌≤◌, ◌⊎◌, All, AllAgree, AllByRecursion, and_parts, ap, append-nil}
 use Rattle.ss_recover.proofs.Common.{append_assoc, ap₂, AreBuilt, arith, BadSlot, BadStream, Bool, cond, count_by-le-length, Disk, doomed_found, drop}
 use Rattle.ss_recover.proofs.Common.{drop-append_seam, drop-drop, each-behind, EndsWalk, eq-eqb, Err, false, filter, flat_map, Found, found_key, HasNothing}
-use Rattle.ss_recover.proofs.Common.{HasTakenDropped, HasTakenStanding, IfErr, IfOk, if◌then◌else◌, in_slot, inl, inr, is_doomed, is_dropped, is_own, is_run}
+use Rattle.ss_recover.proofs.Common.{HasTakenDropped, HasTakenStanding, IfErr, IfOk, if◌then◌else◌, with_slot, inl, inr, is_doomed, is_dropped, is_own, is_run}
 use Rattle.ss_recover.proofs.Common.{is_sound_in_order, IsLowestUnsound, IsNextRun, IsPermutation, IsPermutation-append_right, IsPermutation-map}
 use Rattle.ss_recover.proofs.Common.{IsPermutation-trans, IsUsable, length, length-filter, length-map, List, list_any, list_any-append, map, map-append}
 use Rattle.ss_recover.proofs.Common.{MOST_RECORDS, names_in, not, not-true, Ok, or_left, or_right, OutOfMemory, Parts, place_of, Record, records_held}
@@ -274,9 +274,9 @@ AreBuilt-done walk parts all done ends usable few =
     record {
       each = subst (λ ps. AllAgree ps done.streams) (sym ends.streams) done.held.each;
       records =
-          subst (λ (ps : List StreamParts). IsPermutation (map in_slot doomed ++ flat_map records_held (zip ps done.streams)) (map in_slot all))
-          (sym ends.streams) (IsPermutation-trans _ _ _ (IsPermutation-append_right (map in_slot doomed) held (map in_slot kept) done.held.records)
-          (subst (λ l. IsPermutation l (map in_slot all)) (map-append in_slot doomed kept) (IsPermutation-map in_slot (doomed ++ kept) all split)));
+          subst (λ (ps : List StreamParts). IsPermutation (map with_slot doomed ++ flat_map records_held (zip ps done.streams)) (map with_slot all))
+          (sym ends.streams) (IsPermutation-trans _ _ _ (IsPermutation-append_right (map with_slot doomed) held (map with_slot kept) done.held.records)
+          (subst (λ l. IsPermutation l (map with_slot all)) (map-append with_slot doomed kept) (IsPermutation-map with_slot (doomed ++ kept) all split)));
       state =
           IsState-walked (filter (stands_in us) us) done.streams done.standing.walked (omega (
             arith,

@@ -4,13 +4,13 @@ use Rattle.std.specs.List.{range_with_len}
 use Rattle.ss_outside.specs.Crash.{OnlyReads}
 use Rattle.ss_outside.specs.Disk.{Told}
 use Rattle.ss_journal.specs.Redo.{SlotMap, StandsFor}
-use Rattle.ss_records.specs.Live.{is_live, AreBelow, AreLiveBelow}
+use Rattle.ss_records.specs.Live.{is_live, LiveLieBelow, AreLiveBelow}
 use Rattle.ss_codec.specs.Decoded.{decoded}
 use Rattle.ss_codec.specs.declared.record.Record.TheVariants.{Free}
 use Rattle.ss_recover.specs.Carried.{spelled}
 use Rattle.ss_parts.specs.Held.{occupied}
 use Rattle.ss_recover.specs.Parts.{lowest_bad_slot}
-use Rattle.ss_recover.specs.Usable.{IsUsable, in_slot}
+use Rattle.ss_recover.specs.Usable.{IsUsable, with_slot}
 use Rattle.ss_recover.specs.declared.found.Found.{Found}
 use Rattle.ss_recover.specs.declared.gathering.Gathered.{Gathered}
 use Rattle.ss_recover.specs.declared.recover_error.RecoverError.{RecoverError}
@@ -22,7 +22,7 @@ SpellsNone bytes = (decoded bytes ≡ None) ⊎ (decoded bytes ≡ Some Free)
 
 -- the records are those of the slots that aren't zeros, in the order of the slots, and each of these spells one
 pub record AreFound (all : List Found) (found : SlotMap) : Type 0 where
-  pub occupied_by : map in_slot all ≡ occupied found
+  pub occupied_by : map with_slot all ≡ occupied found
   pub spelled_all : (slot : ℕ) → slot < found.extent → decoded (found.bytes slot) ≢ None
 
 -- the slots below one of a map, and none of those from there on
@@ -33,7 +33,7 @@ below slot found = record { bytes = found.bytes; extent = slot }
 pub record AreGathered (slot : ℕ) (read : Gathered) : Type 0 where
   pub usable : All (λ (f : Found). IsUsable f.holds) read.all.items
   pub slots : map (λ (f : Found). f.slot) read.all.items ≡ filter (is_live read.live) (range_with_len 0 slot)
-  pub bounded : AreBelow slot read.live
+  pub bounded : LiveLieBelow slot read.live
 
 -- The same, of a map.
 pub record AreFoundBelow (slot : ℕ) (read : Gathered) (found : SlotMap) : Type 0 where

@@ -19,7 +19,7 @@ use Rattle.ss_recover.specs.Doomed.{is_doomed, is_own}
 use Rattle.ss_parts.specs.Held.{AllAgree, records_held}
 use Rattle.ss_recover.specs.Marked.{are_marks, landmarks_made}
 use Rattle.ss_recover.specs.Order.{Rises, stream_of}
-use Rattle.ss_recover.specs.Usable.{in_slot, slots_found, without_slots}
+use Rattle.ss_recover.specs.Usable.{with_slot, slots_found, without_slots}
 use Rattle.ss_recover.specs.declared.found.Found.{Found}
 use Rattle.ss_recover.specs.declared.parts.Parts.{Parts}
 use Rattle.ss_recover.specs.declared.recover_error.RecoverError.{RecoverError}
@@ -83,8 +83,8 @@ pub record AreSlotsOf (slots : List ℕ) (found : List Found) : Type 0 where
 -- conditions.
 pub record AreBuilt (parts : Parts) (streams : List Streams.Stream) (all : List Found) : Type 0 where
   pub each : AllAgree parts.streams.items streams
-  pub records : IsPermutation (map in_slot (doomed_found false all ++ doomed_found true all) ++ flat_map records_held (zip parts.streams.items streams))
-      (map in_slot all)
+  pub records : IsPermutation (map with_slot (doomed_found false all ++ doomed_found true all) ++ flat_map records_held (zip parts.streams.items streams))
+      (map with_slot all)
   pub state : IsState streams
   pub sound : AllByRecursion (λ r. is_sound_in_order (without_slots all) (stream_of r) ≡ true) (without_slots all)
   pub others : List ℕ

@@ -25,8 +25,8 @@ IsUsable (Landmark id number values start finish) = (1 ≤ number) × (number < 
 IsUsable (Value id number index t v) = (1 ≤ number) × (number < 2 ^ 32) × (index < 2 ^ 32) × (t ≤ LATEST_TIME) × FitsSigned w64 v
 
 -- a record with its slot, as slots have them
-abbrev pub in_slot : Found → ℕ × Option Record
-in_slot f = (f.slot, Some f.holds)
+abbrev pub with_slot : Found → ℕ × Option Record
+with_slot f = (f.slot, Some f.holds)
 
 -- the records without their slots, and the slots without their records
 abbrev pub without_slots : List Found → List Record

@@ -22,7 +22,7 @@ use Rattle.ss_model.proofs.HistoryLemmas.{IsState-state}
 use Rattle.ss_model.proofs.NameLemmas.{same_name-Decides}
 use Rattle.ss_model.proofs.ReadLemmas.{All-state}
 use Rattle.ss_model.proofs.StepLemmas.{CanAppend-refuses, CanCloseAt-refuses, CanCreate-refuses, CanOpenAt-refuses}
-use Rattle.ss_replica.specs.Fronts.{AreAlike, drops_none}
+use Rattle.ss_replica.specs.Fronts.{AreAlikeStreams, drops_none}
 use Rattle.ss_replica.specs.Own.{counted, own}
 use Rattle.ss_replica.proofs.OwnLemmas.{counts, own-none, own-some}
 
@@ -105,7 +105,7 @@ module _ (history other : List Happened) (name : List ℕ) (whole : IsHistory hi
       ap (first_params s.params) (sym (own-some history name s whole is) ∙ same ∙ own-some other name u whole_other its)
 
   -- streams that own the same are alike
-  pub alike-own : (s u : Stream) → stream_named name (state history) ≡ Some s → stream_named name (state other) ≡ Some u → AreAlike s u
+  pub alike-own : (s u : Stream) → stream_named name (state history) ≡ Some s → stream_named name (state other) ≡ Some u → AreAlikeStreams s u
   alike-own s u is its =
       let first = IsOwn-named history name s whole is in
       let second = IsOwn-named other name u whole_other its in
@@ -123,7 +123,7 @@ abbrev pub FoundAlike : Option Stream → Option Stream → Type 0
 FoundAlike None None = ⊤
 FoundAlike None (Some u) = ⊥
 FoundAlike (Some s) None = ⊥
-FoundAlike (Some s) (Some u) = AreAlike s u
+FoundAlike (Some s) (Some u) = AreAlikeStreams s u
 
 module _ (history other : List Happened) (name : List ℕ) (whole : IsHistory history) (whole_other : IsHistory other)
     (same : own history name ≡ own other name) where
@@ -150,7 +150,7 @@ some-alike None (Some u) alike = absurd alike
 some-alike (Some s) None alike = absurd alike
 some-alike (Some s) (Some u) alike = refl
 
-test-alike : (test : Stream → Bool) → ((s u : Stream) → AreAlike s u → test s ≡ test u) → (o p : Option Stream) → FoundAlike o p →
+test-alike : (test : Stream → Bool) → ((s u : Stream) → AreAlikeStreams s u → test s ≡ test u) → (o p : Option Stream) → FoundAlike o p →
     option_map_or test o false ≡ option_map_or test p false
 test-alike test keeps None None alike = refl
 test-alike test keeps None (Some u) alike = absurd alike
@@ -184,19 +184,19 @@ room-none true false true p q x r known first second is = cc
 room-none true true c p q x r known first second is = cc
 room-none false b c p q x r known first second is = cc
 
-early-alike : (t : ℕ) (s u : Stream) → AreAlike s u → is_early s t ≡ is_early u t
+early-alike : (t : ℕ) (s u : Stream) → AreAlikeStreams s u → is_early s t ≡ is_early u t
 early-alike t s u alike = rw (alike.windows, alike.landmarks) refl
 
-most-alike : (s u : Stream) → AreAlike s u → has_most_values s ≡ has_most_values u
+most-alike : (s u : Stream) → AreAlikeStreams s u → has_most_values s ≡ has_most_values u
 most-alike s u alike = rw (alike.windows, alike.landmarks) refl
 
-past-alike : (t : ℕ) (s u : Stream) → AreAlike s u → is_past (last_time s) t ≡ is_past (last_time u) t
+past-alike : (t : ℕ) (s u : Stream) → AreAlikeStreams s u → is_past (last_time s) t ≡ is_past (last_time u) t
 past-alike t s u alike = rw (alike.windows, alike.landmarks) refl
 
-before-alike : (t : ℕ) (s u : Stream) → AreAlike s u → is_before (last_time s) t ≡ is_before (last_time u) t
+before-alike : (t : ℕ) (s u : Stream) → AreAlikeStreams s u → is_before (last_time s) t ≡ is_before (last_time u) t
 before-alike t s u alike = rw (alike.windows, alike.landmarks) refl
 
-open-alike : (s u : Stream) → AreAlike s u → has_open s.landmarks ≡ has_open u.landmarks
+open-alike : (s u : Stream) → AreAlikeStreams s u → has_open s.landmarks ≡ has_open u.landmarks
 open-alike s u alike = ap has_open alike.landmarks
 
 -- what isn't refused of a stream is refused of one that is alike for room alone

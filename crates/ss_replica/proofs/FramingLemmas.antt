@@ -8,7 +8,7 @@ use Rattle.ss_catalog.specs.Params.{step_number}
 use Rattle.ss_catalog.specs.declared.event.Event.{Event}
 use Rattle.ss_catalog.specs.declared.event.Event.TheVariants.{Create, Value, Open, Close, Drop}
 use Rattle.ss_codec.proofs.RecordLemmas.{test-small}
-use Rattle.ss_frames.specs.Frame.{FrameState, IsValidFrame, checked, is_valid_frame}
+use Rattle.ss_frames.specs.Frame.{FrameState, IsValidFrame, checked_frame, is_valid_frame}
 use Rattle.ss_frames.proofs.FrameLemmas.{test-IsValidFrame}
 use Rattle.ss_model.specs.History.{Happened, added}
 use Rattle.ss_model.specs.Refusals.{IsHistory}
@@ -32,13 +32,13 @@ two-owned history event whole last =
     let was = ap length (own-some history name changed.was on.before changed.found_was) in
     omega (arith, is, was, length-append (own history name) (counted New event ∷ []))
 
-checked-valid : (f : FrameState) → IsValidFrame f.number f.event → checked f ≡ Some f
+checked-valid : (f : FrameState) → IsValidFrame f.number f.event → checked_frame f ≡ Some f
 checked-valid f valid = cond-true (is_valid_frame f.number f.event) (Some f) None (test-IsValidFrame f.number f.event valid)
 
 -- so it is the one that its event has
 pub checked-last : (history : List Happened) (event : Event) → IsHistory (history ++ added event ∷ []) → is_name (event_name event) ≡ true →
     step_of_event event < 2 ^ 32 → length (own (history ++ added event ∷ []) (event_name event)) < 2 ^ 64 →
-    checked (frame_of history event) ≡ event_frame history event
+    checked_frame (frame_of history event) ≡ event_frame history event
 unfolding is_valid_frame
 checked-last history (Create name params) whole named small few =
     let can = CanCreate-refuses (state history) name params (GoesOn-push history (added (Create name params)) whole).accepted in

@@ -62,7 +62,7 @@ abbrev pub AreFronts : List Happened → List Happened → Type 0
 AreFronts history primary = (name : List ℕ) → IsTrue (stands name (state history)) → IsFront (own history name) (own primary name)
 
 -- two streams have the same name, parameters, windows and landmarks. Their numbers may differ.
-pub record AreAlike (s other : Stream) : Type 0 where
+pub record AreAlikeStreams (s other : Stream) : Type 0 where
   pub name : s.name ≡ other.name
   pub params : s.params ≡ other.params
   pub windows : s.windows ≡ other.windows
@@ -74,4 +74,4 @@ pub record IsOfFront (primary : List Happened) (name : List ℕ) (s : Stream) : 
   pub is_front : IsFront front primary
   pub stream : Stream
   pub stands : stream_named name (state front) ≡ Some stream
-  pub alike : AreAlike s stream
+  pub alike : AreAlikeStreams s stream

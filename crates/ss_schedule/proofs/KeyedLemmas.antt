@@ -15,7 +15,7 @@ use Rattle.ss_windowing.specs.declared.decay.TheConstants.{MOST_VALUES}
 use Rattle.ss_windowing.proofs.WindowingLemmas.{fits-one_window}
 use Rattle.ss_schedule.specs.Held.{fit_of}
 use Rattle.ss_schedule.specs.Keyed.{AreBelow, AreInStep, TileUpTo, FollowUpTo, IsFirstKey, IsKeyOf, IsKeyed, PutsKey, ScheduleState, key_at, merge_rule}
-use Rattle.ss_schedule.specs.Pairs.{AreSideBySide, IsPairIn, IsSpan, NoPairFits, joined_entry, may_join, pair_at, pair_among, pair_of}
+use Rattle.ss_schedule.specs.Pairs.{AreSideBySide, IsPairIn, IsSpan, NoPairFits, joined_entry, pair_may_join, pair_at, pair_among, pair_of}
 use Rattle.ss_schedule.specs.declared.pair.Pair.{Pair}
 use Rattle.ss_schedule.proofs.PairLemmas.{pair_at-within, pair_among-absent, pair_among-here}
 use Rattle.ss_schedule.proofs.JoinLemmas.{entry-left, entry-right, stands-left, stands-right}
@@ -90,7 +90,7 @@ unfit-false len l r n full order unfit =
     elim (cases_Bool (fits len l r n)) [ inl is ↦ absurd (unfit ((fits-one_window len l r n full order).0 is)) | inr is ↦ is ]
 
 may_join-before : (rule : Rule) (n : ℕ) (pair : Pair) (key : Option (At × ℕ)) → ArePositive rule.lengths → IsSpan n pair → n ≤ MOST_VALUES →
-    IsKeyOf rule n (Some pair) key → n < fit_of key → may_join rule n pair ≡ false
+    IsKeyOf rule n (Some pair) key → n < fit_of key → pair_may_join rule n pair ≡ false
 may_join-before rule n pair key full span few is less =
     elim (cases_Bool (in_step rule.step pair.t_first pair.t_last)) [
       | inl together ↦ (
@@ -100,7 +100,7 @@ may_join-before rule n pair key full span few is less =
     ]
 
 NoPairFits-behind : (rule : Rule) (n : ℕ) (e : At × Entry) (entries : List (At × Entry)) → AreApart (e ∷ entries) →
-    ((at : At) (pair : Pair) → pair_among e entries at ≡ Some pair → may_join rule n pair ≡ false) → NoPairFits rule n (e ∷ entries)
+    ((at : At) (pair : Pair) → pair_among e entries at ≡ Some pair → pair_may_join rule n pair ≡ false) → NoPairFits rule n (e ∷ entries)
 NoPairFits-behind rule n e [] apart none = tt
 NoPairFits-behind rule n e (x ∷ xs) apart none = (
   none x.0 (pair_of e x) (pair_among-here e x.0 x.1 xs),
@@ -115,7 +115,7 @@ NoPairFits-behind rule n e (x ∷ xs) apart none = (
 )
 
 pub NoPairFits-all : (rule : Rule) (n : ℕ) (entries : List (At × Entry)) → AreApart entries →
-    ((at : At) (pair : Pair) → pair_at entries at ≡ Some pair → may_join rule n pair ≡ false) → NoPairFits rule n entries
+    ((at : At) (pair : Pair) → pair_at entries at ≡ Some pair → pair_may_join rule n pair ≡ false) → NoPairFits rule n entries
 NoPairFits-all rule n [] apart none = tt
 NoPairFits-all rule n (e ∷ es) apart none = NoPairFits-behind rule n e es apart none
 
@@ -132,26 +132,26 @@ NoPairFits-keyed n entries schedule full apart keyed past =
 -- the next count
 NoPairFits-at_behind : (rule : Rule) (n : ℕ) (e : At × Entry) (entries : List (At × Entry)) (at : At) (pair : Pair) →
     NoPairFits rule n (e ∷ entries) →
-    pair_among e entries at ≡ Some pair → may_join rule n pair ≡ false
+    pair_among e entries at ≡ Some pair → pair_may_join rule n pair ≡ false
 NoPairFits-at_behind rule n e [] at pair none is = absurd (cc)
 NoPairFits-at_behind rule n e (x ∷ xs) at pair none is =
     elim (cases_Bool (is_at at x)) [
       | inl here ↦ (
           let same : Some (pair_of e x) ≡ Some pair = rw here at is in
           let one : pair_of e x ≡ pair = cc in
-          subst (λ (p : Pair). may_join rule n p ≡ false) one none.0)
+          subst (λ (p : Pair). pair_may_join rule n p ≡ false) one none.0)
       | inr later ↦ (let rest : pair_among x xs at ≡ Some pair = rw later at is in NoPairFits-at_behind rule n x xs at pair none.1 rest)
     ]
 
 NoPairFits-at : (rule : Rule) (n : ℕ) (entries : List (At × Entry)) (at : At) (pair : Pair) → NoPairFits rule n entries →
     pair_at entries at ≡ Some pair →
-    may_join rule n pair ≡ false
+    pair_may_join rule n pair ≡ false
 NoPairFits-at rule n [] at pair none is = absurd (cc)
 NoPairFits-at rule n (e ∷ es) at pair none is = NoPairFits-at_behind rule n e es at pair none is
 
 -- a pair that lies in one step and in one target window may be one
 IsTrue-may_join : (rule : Rule) (n : ℕ) (pair : Pair) → ArePositive rule.lengths → IsSpan n pair → AreInStep rule pair →
-    Fits rule.lengths pair.first pair.last n → may_join rule n pair ≡ true
+    Fits rule.lengths pair.first pair.last n → pair_may_join rule n pair ≡ true
 IsTrue-may_join rule n pair full span together fit =
     let lies = (fits-one_window rule.lengths pair.first pair.last n full span.order).1 fit in rw (together, lies) refl
 
@@ -341,7 +341,7 @@ module _ (entries : List (At × Entry)) (apart : AreApart entries) (at : At) (pa
 -- a key that is at most n is of a pair that fits at n
 pub fits-by : (rule : Rule) (n fit : ℕ) (pair : Pair) (key : At × ℕ) → ArePositive rule.lengths → IsSpan n pair → fit ≤ n → key.1 ≡ fit →
     IsFirstKey rule n pair key →
-    may_join rule n pair ≡ true
+    pair_may_join rule n pair ≡ true
 fits-by rule n fit pair key full span le same is =
     let reached = is.first.reached in
     let now : key.1 ≡ n = omega arith in

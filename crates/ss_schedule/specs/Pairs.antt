@@ -28,14 +28,14 @@ pub record IsSpan (n : ℕ) (pair : Pair) : Type 0 where
   pub taken : pair.last ≤ n
 
 -- whether a pair may be one window at n
-abbrev pub may_join : Rule → ℕ → Pair → Bool
-may_join rule n pair = may_be_one rule pair.first pair.last n pair.t_first pair.t_last
+abbrev pub pair_may_join : Rule → ℕ → Pair → Bool
+pair_may_join rule n pair = may_be_one rule pair.first pair.last n pair.t_first pair.t_last
 
 -- of two neighbours none may be one window at n
 abbrev pub NoPairFits : Rule → ℕ → List (At × Entry) → Type 0
 NoPairFits rule n [] = ⊤
 NoPairFits rule n (entry ∷ []) = ⊤
-NoPairFits rule n (left ∷ right ∷ entries) = (may_join rule n (pair_of left right) ≡ false) × NoPairFits rule n (right ∷ entries)
+NoPairFits rule n (left ∷ right ∷ entries) = (pair_may_join rule n (pair_of left right) ≡ false) × NoPairFits rule n (right ∷ entries)
 
 -- two entries stand side by side in a line, and no entry before them has a place of theirs
 pub record AreSideBySide (entries : List (At × Entry)) (left right : At) : Type 0 where

@@ -24,7 +24,7 @@ impl Index {
     ghost use Rattle.ss_line.specs.declared.line.TheConstants.{MOST_PLACES};
     ghost use Rattle.ss_windowing.specs.declared.decay.TheConstants.{MOST_VALUES};
     ghost use Rattle.ss_schedule.specs.Keyed.{FollowUpTo, HasPlaces, IsKeyed, merge_rule};
-    ghost use Rattle.ss_schedule.specs.Pairs.{AreSideBySide, IsPairIn, NoPairFits, joined_entry, may_join};
+    ghost use Rattle.ss_schedule.specs.Pairs.{AreSideBySide, IsPairIn, NoPairFits, joined_entry, pair_may_join};
 
     /// The index of a line without windows, with no room.
     pub fn new(alloc: Global, target: Target) -> Index
@@ -123,7 +123,7 @@ impl Index {
     pub fn due<L: Ledger>(&self, line: &Line, n: u64, steps: &mut Steps<L>) -> Option<Pair>
         requires { IsKeyed n line.now.entries self.now.schedule }
         ensures pair { IfSome result (IsPairIn line.now.entries) }
-        ensures due { IfSome result (λ pair. may_join (merge_rule self.now.schedule) n pair ≡ true) }
+        ensures due { IfSome result (λ pair. pair_may_join (merge_rule self.now.schedule) n pair ≡ true) }
         ensures none { IfNone result (NoPairFits (merge_rule self.now.schedule) n line.now.entries) }
         ensures looks { MatchOption result (steps.new ≡ steps.old) (λ _. steps.new ≤ steps.old + 2) }
     {
@@ -141,7 +141,7 @@ impl Index {
         steps: &mut Steps<L>,
     )
         requires neighbours { IsPairIn line.old.entries pair }
-        requires due { may_join (merge_rule self.old.schedule) n pair ≡ true }
+        requires due { pair_may_join (merge_rule self.old.schedule) n pair ≡ true }
         requires keyed { IsKeyed n line.old.entries self.old.schedule }
         ensures joined { (it : AreSideBySide line.old.entries pair.left pair.right)
             → line.new.entries ≡ it.before ++ (pair.left, joined_entry it.window it.next) ∷ it.rest }

@@ -37,7 +37,7 @@ impl Schedule {
     ghost use Rattle.ss_schedule.specs.declared.pair.Pair.{Pair};
     ghost use Rattle.ss_schedule.specs.Held.{fit_of};
     ghost use Rattle.ss_schedule.specs.Keyed.{FollowUpTo, IsKeyOf, IsKeyed, PutsKey, key_at, merge_rule};
-    ghost use Rattle.ss_schedule.specs.Pairs.{AreSideBySide, IsPairIn, IsSpan, NoPairFits, joined_entry, may_join};
+    ghost use Rattle.ss_schedule.specs.Pairs.{AreSideBySide, IsPairIn, IsSpan, NoPairFits, joined_entry, pair_may_join};
 
     /// A schedule for this target, keyed for no entries, with no room.
     pub fn new(alloc: Global, target: Target) -> Schedule
@@ -116,7 +116,7 @@ impl Schedule {
     pub fn due<L: Ledger>(&self, line: &Line, n: u64, steps: &mut Steps<L>) -> Option<Pair>
         requires { IsKeyed n line.now.entries self.now }
         ensures pair { IfSome result (IsPairIn line.now.entries) }
-        ensures fits { IfSome result (λ pair. may_join (merge_rule self.now) n pair ≡ true) }
+        ensures fits { IfSome result (λ pair. pair_may_join (merge_rule self.now) n pair ≡ true) }
         ensures none { IfNone result (NoPairFits (merge_rule self.now) n line.now.entries) }
         ensures looks { MatchOption result (steps.new ≡ steps.old) (λ _. steps.new ≤ steps.old + 2) }
     {
@@ -138,7 +138,7 @@ impl Schedule {
     /// the right one, which is cut out of the line, and the keys follow. At most 6 looks at the line.
     pub fn merged<L: Ledger>(&mut self, line: &mut Line, pair: Pair, n: u64, steps: &mut Steps<L>)
         requires neighbours { IsPairIn line.old.entries pair }
-        requires fits { may_join (merge_rule self.old) n pair ≡ true }
+        requires fits { pair_may_join (merge_rule self.old) n pair ≡ true }
         requires keyed { IsKeyed n line.old.entries self.old }
         ensures joined { (it : AreSideBySide line.old.entries pair.left pair.right)
             → line.new.entries ≡ it.before ++ (pair.left, joined_entry it.window it.next) ∷ it.rest }

@@ -11,7 +11,7 @@ use Rattle.ss_parts.specs.Held.{AllAgree}
 use Rattle.ss_parts.specs.declared.parts.StreamParts.{StreamParts}
 use Rattle.ss_store.proofs.HeldCounts.{SomeAgree-named}
 use Rattle.ss_store.specs.Kept.{SomeAgree, part_named}
-use Rattle.ss_sessions.specs.Cursors.{Cursors, cursor_of, cursor_refusals, cursor_rows, opened, refuses_cursor, with_cursor}
+use Rattle.ss_sessions.specs.Cursors.{Cursors, cursor_of, cursor_refusals, cursor_rows, cursor_opened, refuses_cursor, with_cursor}
 use Rattle.ss_sessions.specs.Errors.{refusal_of}
 use Rattle.ss_sessions.specs.Opened.{refuses_cursor_held}
 use Rattle.ss_sessions.specs.declared.error.CursorError.{CursorError}
@@ -96,7 +96,7 @@ refuses_cursor-held parts streams name cursor agree =
 -- the rows of the stream that is found by its name
 pub opened-alike : (before cursors : Cursors) (session : ℕ) (name : List ℕ) (number : ℕ) (streams : List Stream) (rows : List Placed) (s : Stream) →
     cursors ≡ before → stream_named name streams ≡ Some s → stream_numbered number streams ≡ Some s →
-    option_map cursor_rows (stream_numbered number streams) ≡ Some rows → opened before session name streams ≡ Some (slice_set cursors session (Some rows))
+    option_map cursor_rows (stream_numbered number streams) ≡ Some rows → cursor_opened before session name streams ≡ Some (slice_set cursors session (Some rows))
 opened-alike before cursors session name number streams rows s same named numbered copied =
     let its : option_map cursor_rows (Some s) ≡ Some rows = subst (λ o. option_map cursor_rows o ≡ Some rows) numbered copied in
     let one : cursor_rows s ≡ rows = cc in

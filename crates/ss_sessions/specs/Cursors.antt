@@ -34,9 +34,9 @@ with_cursor cursors session cursor = slice_set cursors session cursor
 abbrev pub cursor_rows : Stream → List Placed
 cursor_rows s = map placed_of s.windows
 
--- the cursors once a session has opened one over the stream of a name, where that stands
-abbrev pub opened : Cursors → ℕ → List ℕ → List Stream → Option Cursors
-opened cursors session name streams = option_map (λ s. with_cursor cursors session (Some (cursor_rows s))) (stream_named name streams)
+-- the cursors once a session has cursor_opened one over the stream of a name, where that stands
+abbrev pub cursor_opened : Cursors → ℕ → List ℕ → List Stream → Option Cursors
+cursor_opened cursors session name streams = option_map (λ s. with_cursor cursors session (Some (cursor_rows s))) (stream_named name streams)
 
 -- the refusals of a cursor in the order of their numbers, each with whether it applies
 abbrev pub cursor_refusals : Bool → Option (List Placed) → List (Bool × Refusal)

@@ -20,37 +20,37 @@ asked_of word = do
   if nat_lt 0 count then Ok count else Err Number
 
 -- `cursor open NAME`, from NAME on
-abbrev pub open_of : List (List ℕ) → Result Order Refusal
-open_of (name ∷ []) = do
+abbrev pub cursor_open_of : List (List ℕ) → Result Order Refusal
+cursor_open_of (name ∷ []) = do
   stream ← name_of name
   Ok (orders.Open stream)
-open_of _ = Err Syntax
+cursor_open_of _ = Err Syntax
 
 -- `cursor next C`, from C on
-abbrev pub next_of : List (List ℕ) → Result Order Refusal
-next_of (count ∷ []) = do
+abbrev pub cursor_next_of : List (List ℕ) → Result Order Refusal
+cursor_next_of (count ∷ []) = do
   rows ← asked_of count
   Ok (orders.Next rows)
-next_of _ = Err Syntax
+cursor_next_of _ = Err Syntax
 
 -- `cursor close`, with nothing after it
-abbrev pub close_of : List (List ℕ) → Result Order Refusal
-close_of [] = Ok orders.Close
-close_of _ = Err Syntax
+abbrev pub cursor_close_of : List (List ℕ) → Result Order Refusal
+cursor_close_of [] = Ok orders.Close
+cursor_close_of _ = Err Syntax
 
 -- the cursor forms, from the word after `cursor` on
-abbrev pub form_of : List (List ℕ) → Result Order Refusal
-form_of (verb ∷ rest) =
-    if is_word verb (codes "open") then open_of rest
-    else (if is_word verb (codes "next") then next_of rest
-    else (if is_word verb (codes "close") then close_of rest
+abbrev pub cursor_form_of : List (List ℕ) → Result Order Refusal
+cursor_form_of (verb ∷ rest) =
+    if is_word verb (codes "open") then cursor_open_of rest
+    else (if is_word verb (codes "next") then cursor_next_of rest
+    else (if is_word verb (codes "close") then cursor_close_of rest
     else Err Syntax))
-form_of [] = Err Syntax
+cursor_form_of [] = Err Syntax
 
 -- what a session says: a cursor form where its first word is `cursor`, and otherwise what a line by itself may say
-abbrev pub said_of : List ℕ → Result (Option Order) Refusal
-said_of rest = if is_word (first_word rest) (codes "cursor") then (do
-  order ← form_of (words (rest_of rest))
+abbrev pub order_said : List ℕ → Result (Option Order) Refusal
+order_said rest = if is_word (first_word rest) (codes "cursor") then (do
+  order ← cursor_form_of (words (rest_of rest))
   Ok (Some order))
     else (do
       command ← meaning rest
@@ -65,7 +65,7 @@ session_of _ = None
 -- what is said to a session, or to none
 abbrev pub spoken_to : Option ℕ → List ℕ → Spoken
 spoken_to None rest = Unaddressed
-spoken_to (Some session) rest = To session (said_of rest)
+spoken_to (Some session) rest = To session (order_said rest)
 
 -- what a line says that has this first word, or none, and this rest
 abbrev pub spoken_words : List ℕ → List ℕ → Spoken

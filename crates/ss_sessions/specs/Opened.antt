@@ -13,7 +13,7 @@ use Rattle.ss_records.specs.Kept.{RecordsState, shown_by}
 use Rattle.ss_parts.specs.declared.parts.StreamParts.{StreamParts}
 use Rattle.ss_store.specs.Kept.{StoreState, part_named, part_numbered}
 use Rattle.ss_store.specs.Recover.{Recovers}
-use Rattle.ss_sessions.specs.Cursors.{Cursors, cursor_of, cursor_refusals, cursor_rows, opened, refuses_cursor, with_cursor}
+use Rattle.ss_sessions.specs.Cursors.{Cursors, cursor_of, cursor_refusals, cursor_rows, cursor_opened, refuses_cursor, with_cursor}
 use Rattle.ss_sessions.specs.Errors.{refusal_of}
 use Rattle.ss_sessions.specs.declared.error.CursorError.{CursorError}
 use Rattle.ss_sessions.specs.declared.error.CursorError.TheVariants.{Refused}
@@ -45,11 +45,11 @@ pub record CopiesRows (number : ℕ) (store : StoreState) (result : Result (List
       IfOk result (λ rows. option_map cursor_rows (stream_numbered number streams) ≡ Some rows)
   pub reads : OnlyReads old new
 
--- A cursor is opened, over what records show. Content and images stay.
+-- A cursor is cursor_opened, over what records show. Content and images stay.
 pub record OpensCursor (was : RecordsState) (session : ℕ) (name : List ℕ) (before after : Cursors) (result : Result ℕ CursorError)
     (old new : Told) : Type 0 where
   -- its rows are the windows of the stream in the state that they show
-  pub opened : (streams : List Stream) → Recovers streams (shown_by was old.content) → OnOk result (opened before session name streams ≡ Some after)
+  pub cursor_opened : (streams : List Stream) → Recovers streams (shown_by was old.content) → OnOk result (cursor_opened before session name streams ≡ Some after)
   -- each refusal exactly where it applies in that state
   pub refused : (streams : List Stream) → Recovers streams (shown_by was old.content) → (r : CursorRefusal) →
       (result ≡ Err (Refused r)) ↔ (refuses_cursor streams name (cursor_of before session) ≡ Some (refusal_of r))

@@ -3,7 +3,7 @@ ghost use Rattle.std.specs.Prelude.{◌≡◌, ◌<◌, ◌≤◌, length, IfOk,
 ghost use Rattle.ss_command.specs.Grammar.{is_comment, or_number};
 ghost use Rattle.ss_fields.specs.Words.{number_up_to};
 ghost use Rattle.ss_command.specs.declared.TheConstants.{LONGEST_LINE};
-ghost use Rattle.ss_sessions.specs.Grammar.{asked_of, close_of, form_of, next_of, open_of, said_of, session_of, spoken_of};
+ghost use Rattle.ss_sessions.specs.Grammar.{asked_of, cursor_close_of, cursor_form_of, cursor_next_of, cursor_open_of, order_said, session_of, spoken_of};
 ghost use Rattle.ss_sessions.specs.declared.TheConstants.{MOST_ASKED};
 ghost use Rattle.ss_sessions.specs.Said.{IsOrderInTime, IsSpokenInTime};
 
@@ -39,7 +39,7 @@ fn read_asked(word: &[u8]) -> Result<u32, Refusal>
 
 // Reads `cursor open NAME`, from NAME on.
 fn open(mut words: Words) -> Result<Order, Refusal>
-    ensures meaning { result ≡ open_of words.entry }
+    ensures meaning { result ≡ cursor_open_of words.entry }
     ensures time { IfOk result IsOrderInTime }
 {
     let name = words.word()?;
@@ -52,7 +52,7 @@ fn open(mut words: Words) -> Result<Order, Refusal>
 
 // Reads `cursor next C`, from C on.
 fn next(mut words: Words) -> Result<Order, Refusal>
-    ensures meaning { result ≡ next_of words.entry }
+    ensures meaning { result ≡ cursor_next_of words.entry }
     ensures time { IfOk result IsOrderInTime }
 {
     let count = words.word()?;
@@ -63,7 +63,7 @@ fn next(mut words: Words) -> Result<Order, Refusal>
 
 // Reads `cursor close`, with nothing after it.
 fn close(words: Words) -> Result<Order, Refusal>
-    ensures meaning { result ≡ close_of words.entry }
+    ensures meaning { result ≡ cursor_close_of words.entry }
     ensures time { IfOk result IsOrderInTime }
 {
     words.end()?;
@@ -72,7 +72,7 @@ fn close(words: Words) -> Result<Order, Refusal>
 
 // Reads a cursor form, from the word after `cursor` on.
 fn form(mut words: Words) -> Result<Order, Refusal>
-    ensures meaning { result ≡ form_of words.entry }
+    ensures meaning { result ≡ cursor_form_of words.entry }
     ensures time { IfOk result IsOrderInTime }
 {
     let verb = words.word()?;
@@ -90,7 +90,7 @@ fn form(mut words: Words) -> Result<Order, Refusal>
 // Reads what is said to a session.
 fn said(rest: &[u8]) -> Result<Option<Order>, Refusal>
     requires { length rest.now ≤ LONGEST_LINE }
-    ensures meaning { result ≡ said_of rest.now }
+    ensures meaning { result ≡ order_said rest.now }
     ensures time { IfOk result (λ said. IfSome said IsOrderInTime) }
 {
     let (word, forms) = cut_first(rest);

@@ -153,7 +153,7 @@ pub use Rattle.ss_store.specs.Clearing.{ClearsSlots, HasDoomed, StagesChange, St
 pub use Rattle.ss_store.specs.Dropping.{IsHeldBeside, RecoversWithOrWithout, StagesDrop, dropped_record, slots_in_turn}
 pub use Rattle.ss_store.specs.Errors.{apply_of_fault, ask_of_fault, verdict_of_apply, verdict_of_ask, verdict_of_opening}
 pub use Rattle.ss_store.specs.Events.{events_held, is_closed, mark_events}
-pub use Rattle.ss_store.specs.Extents.{AllGrowLittle, GrowsLittle, records_in}
+pub use Rattle.ss_store.specs.Extents.{AllGrowLittle, GrowsLittle, records_held_in}
 pub use Rattle.ss_store.specs.Held.{IsHalfway, IsOrdered, IsPartlyJoined, IsSameStream, ends_held, held_parts, values_held, with_single}
 pub use Rattle.ss_store.specs.Held.{with_windows}
 pub use Rattle.ss_store.specs.declared.held.HeldStream.{HeldStream}

@@ -2,7 +2,7 @@
 use Rattle.ss_store.proofs.Common.{◌≡◌, ◌+◌, ◌*◌, ◌<◌, ◌≤◌, ℕ, List, [], ◌∷◌, Ok, ap, arith, length, cond_both, if◌then◌else◌, max}
 use Rattle.ss_store.proofs.Common.{DiskView, Told, Verdict, Event, HasSealed, entries, is_good, puts_of, is_born, is_unborn, slots_in, IsSealed, JournalState}
 use Rattle.ss_store.proofs.Common.{SlotMap, StandsFor, bad_entry, blank_map, changed, not_a_store, stands, MOST_SLOTS, Happened, live}
-use Rattle.ss_store.proofs.Common.{state, Ack, shown_by, Applies, Looks, OpensStore, AllGrowLittle, GrowsLittle, records_in, StoreIsKept, StoreState, Stands}
+use Rattle.ss_store.proofs.Common.{state, Ack, shown_by, Applies, Looks, OpensStore, AllGrowLittle, GrowsLittle, records_held_in, StoreIsKept, StoreState, Stands}
 use Rattle.ss_store.proofs.Common.{UsesAtMost}
 use Rattle.ss_outside.specs.Verdict as verdicts
 use Rattle.ss_outside.specs.Verdict.{OnFine}
@@ -61,7 +61,7 @@ GrowsLittle-looked verdicts.failed old new before after looks = tt
 GrowsLittle-looked (verdicts.changed slot) old new before after looks = tt
 
 pub records_in-kept : (store : StoreState) (content : List ℕ) (history : List Happened) → StoreIsKept store content →
-    Stands history (shown_by store.records content) → records_in store ≡ live (state history)
+    Stands history (shown_by store.records content) → records_held_in store ≡ live (state history)
 records_in-kept store content history kept is =
     let agree = (AllAgree-recovered store (shown_by store.records content) (state history) kept.shown is.state).0 in
     length-slots store.streams (state history) agree

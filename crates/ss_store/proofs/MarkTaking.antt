@@ -7,7 +7,7 @@ use Rattle.ss_store.proofs.Common.{Applies}
 use Rattle.ss_store.proofs.Common.{leaves_no_value, is_plain_value, StagesAtCost, KeepsWhole, values_held, IsHeldIn, IsSound, same_name}
 use Rattle.ss_store.proofs.Common.{StoreIsIn, StoreIsKept, StoreState, of_part, refuses_held, without_spare, CanMark, FitsMark, IsInOpen, IsItsSlot, event_of}
 use Rattle.ss_store.proofs.Common.{slots_used, with_mark, Disk, Mark}
-use Rattle.ss_store.specs.Changing.{CanTakeMark, HasRoomFor, HasSameWindows, TakesMark}
+use Rattle.ss_store.specs.Changing.{CanTakeMark, HasNoLessRoom, HasSameWindows, TakesMark}
 use Rattle.ss_store.specs.declared.marking.Mark.TheVariants as marks
 use Rattle.ss_query.specs.declared.read_error.ReadError.TheVariants as fault
 use Rattle.ss_store.proofs.IndexedStreams.{parts-read, stored}
@@ -57,7 +57,7 @@ pub taking-mark : (held : List HeldStream) {records : RecordsState} {stopped : B
     OfContent disk (StoreIsKept view) → IsSound (stored held records stopped) catalog → view.stopped ≡ false →
     IsMarker view name t mark place slot → refuses_held view.streams (event_of name t mark) ≡ None → t ≤ LAST_TIME →
     (IsInOpen mark → of_part name view.streams (λ part. has_open part.landmarks.landmarks) ≡ true) → stream ≡ get_or held place stream →
-    HasRoomFor stream.part.landmarks marks → IsTakingMark (stored held records stopped) catalog name t mark place slot stream.part marks disk
+    HasNoLessRoom stream.part.landmarks marks → IsTakingMark (stored held records stopped) catalog name t mark place slot stream.part marks disk
 taking-mark held {records} {stopped} {name = name} {t = t} {mark = mark} {place = place} {slot = slot} {stream = stream} {marks = marks} disk same
     one_disk sound runs marker none early begun read room =
     let its = subst (λ (s : StoreState). IsMarker s name t mark place slot) (sym same) marker in

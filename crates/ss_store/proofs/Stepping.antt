@@ -3,7 +3,7 @@ use Rattle.ss_store.proofs.Common.{◌≡◌, ◌⊎◌, ◌+◌, ℕ, List, [],
 use Rattle.ss_store.proofs.Common.{◌↔◌, of_content, KnowsNow, DiskView, Told, IfUndone, Event, Refusal, New, CanBeSaid, Happened, added, refuses, Stream}
 use Rattle.ss_store.proofs.Common.{live, state, stepped, state-push, Ack, StandsFor, RecordsState, shown_by, RecoversToEither, StagesEvent, StandsForEither}
 use Rattle.ss_store.proofs.Common.{StaysWithin, StepsState, TurnsShown, Applies, verdict_of_apply, StoreIsKept, StoreState, refuses_held, ApplyError}
-use Rattle.ss_store.proofs.Common.{Recovers, Stands, IsShort, StandsShort, records_in}
+use Rattle.ss_store.proofs.Common.{Recovers, Stands, IsShort, StandsShort, records_held_in}
 use Rattle.std.specs.Prelude.{IsTrue}
 use Rattle.ss_outside.proofs.CrashLemmas.{at_start}
 use Rattle.ss_model.proofs.HistoryLemmas.{IsHistory_push}
@@ -136,22 +136,22 @@ module _ {X : Type 0} (event : Event) (old new : StoreState) (seen : X → DiskV
       subst (λ (d : X). StagesEvent {T = Ack} event old.records new.records (Err e) (seen was).told (seen d).told) (sym same)
       (StagesEvent-uncalled event old.records new.records (seen was).told e knows)
 
-  few : StoreIsKept old (seen was).told.content → (history : List Happened) → Stands history shown → live (state history) ≡ records_in old
+  few : StoreIsKept old (seen was).told.content → (history : List Happened) → Stands history shown → live (state history) ≡ records_held_in old
   few kept history stands = sym (records_in-kept old (seen was).told.content history kept stands)
 
   pub StagesEvent-applied : (result : Result Ack ApplyError) → Applies event old new (seen was) (seen is) result → CanBeSaid event →
-      StaysWithin (records_in old + 1) old.records new.records result (seen was).told (seen is).told →
+      StaysWithin (records_held_in old + 1) old.records new.records result (seen was).told (seen is).told →
       IfUndone (verdict_of_apply result) (is ≡ was) → IsTrue (seen was).tells → KnowsNow (seen was).told → StoreIsKept old (seen was).told.content →
       StagesEvent event old.records new.records result (seen was).told (seen is).told
   StagesEvent-applied (Ok ack) applied said within same told knows kept =
       StagesEvent-accepted event old.records new.records (seen was).told (seen is).told (Ok ack) said
-      (none-recovered (Ok ack) kept applied.refused (λ r wrong. cc)) (applied.step.told told) (records_in old) (few kept) within
+      (none-recovered (Ok ack) kept applied.refused (λ r wrong. cc)) (applied.step.told told) (records_held_in old) (few kept) within
   StagesEvent-applied (Err apply.Disk) applied said within same told knows kept =
       StagesEvent-accepted event old.records new.records (seen was).told (seen is).told (Err apply.Disk) said
-      (none-recovered (Err apply.Disk) kept applied.refused (λ r wrong. cc)) (applied.step.told told) (records_in old) (few kept) within
+      (none-recovered (Err apply.Disk) kept applied.refused (λ r wrong. cc)) (applied.step.told told) (records_held_in old) (few kept) within
   StagesEvent-applied (Err (apply.Changed slot)) applied said within same told knows kept =
       StagesEvent-accepted event old.records new.records (seen was).told (seen is).told (Err (apply.Changed slot)) said
-      (none-recovered (Err (apply.Changed slot)) kept applied.refused (λ r wrong. cc)) (applied.step.told told) (records_in old) (few kept) within
+      (none-recovered (Err (apply.Changed slot)) kept applied.refused (λ r wrong. cc)) (applied.step.told told) (records_held_in old) (few kept) within
   StagesEvent-applied (Err (apply.Refused r)) applied said within same told knows kept = unchanged (apply.Refused r) knows same
   StagesEvent-applied (Err apply.Stopped) applied said within same told knows kept = unchanged apply.Stopped knows same
   StagesEvent-applied (Err apply.OutOfMemory) applied said within same told knows kept = unchanged apply.OutOfMemory knows same

@@ -158,7 +158,7 @@ pub record HasSameWindows (part now : StreamParts) : Type 0 where
   pub line : now.line ≡ part.line
 
 -- landmarks that hold the same, and have room for no less
-pub record HasRoomFor (was now : LandmarksState) : Type 0 where
+pub record HasNoLessRoom (was now : LandmarksState) : Type 0 where
   pub landmarks : now.landmarks ≡ was.landmarks
   pub slots : now.slots ≡ was.slots
   pub value_slots : now.value_slots ≡ was.value_slots

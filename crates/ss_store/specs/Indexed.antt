@@ -7,7 +7,7 @@ use Rattle.ss_target.specs.Rule.{rule_of}
 use Rattle.ss_target.specs.Targets.{params_of}
 use Rattle.ss_windowing.specs.declared.decay.TheConstants.{MOST_VALUES}
 use Rattle.ss_schedule.specs.Keyed.{HasPlaces, IsKeyed}
-use Rattle.ss_schedule.specs.Pairs.{IsPairIn, may_join}
+use Rattle.ss_schedule.specs.Pairs.{IsPairIn, pair_may_join}
 use Rattle.ss_schedule.specs.declared.index.Index.{Index}
 use Rattle.ss_schedule.specs.declared.pair.Pair.{Pair}
 use Rattle.ss_model.specs.Marks.{has_open}
@@ -71,4 +71,4 @@ pub record IsDuePair (held : HeldStream) (pair : Pair) : Type 0 where
   pub ordered : IsOrdered held.part
   pub keyed : IsKeyedFor held
   pub stands : IsPairIn held.part.line.entries pair
-  pub due : may_join (rule_of (params_of held.part.target)) (values_held (entries_of held.part)) pair ≡ true
+  pub due : pair_may_join (rule_of (params_of held.part.target)) (values_held (entries_of held.part)) pair ≡ true

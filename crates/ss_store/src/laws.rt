@@ -25,7 +25,7 @@ ghost use Rattle.ss_model.specs.Standing.{IsStream};
 ghost use Rattle.ss_model.specs.declared.types.Ack.{Ack};
 ghost use Rattle.ss_store.specs.Applied.{Applies, Looks, OpensStore};
 ghost use Rattle.ss_store.specs.Asked.{refuses_query_held};
-ghost use Rattle.ss_store.specs.Extents.{AllGrowLittle, GrowsLittle, records_in};
+ghost use Rattle.ss_store.specs.Extents.{AllGrowLittle, GrowsLittle, records_held_in};
 ghost use Rattle.ss_store.specs.Held.{ends_held, values_held};
 ghost use Rattle.ss_store.specs.Joining.{NoEntriesAreDue};
 ghost use Rattle.ss_store.specs.Kept.{SomeAgree, StoreIsKept, StoreState, part_named, part_numbered, refuses_held};
@@ -121,7 +121,7 @@ pub fn calls_grow_little<D: Disk>()
         OnFine v (GrowsLittle old new) }
     // the records that are held are those that the history needs which is shown
     ensures held { (store : StoreState) (content : List ℕ) (history : List Happened) → StoreIsKept store content →
-        Stands history (shown_by store.records content) → records_in store ≡ live (state history) }
+        Stands history (shown_by store.records content) → records_held_in store ≡ live (state history) }
 {}
 
 /// A file never shrinks, but calls in a row, from an opening on, leave it no longer than it was, or than the most records that were

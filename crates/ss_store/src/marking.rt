@@ -13,7 +13,7 @@ ghost use Rattle.ss_landmarks.specs.Landmarks.{AreKnown};
 ghost use Rattle.ss_model.specs.Marks.{later};
 ghost use Rattle.ss_parts.specs.Held.{mark_slots, slots_held};
 ghost use Rattle.ss_store.specs.Calls.{StagesAtCost};
-ghost use Rattle.ss_store.specs.Changing.{CanTakeMark, HasSameWindows, HasRoomFor, HasTakenMark, KeepsWhole, TakesMark};
+ghost use Rattle.ss_store.specs.Changing.{CanTakeMark, HasSameWindows, HasNoLessRoom, HasTakenMark, KeepsWhole, TakesMark};
 ghost use Rattle.ss_store.specs.Marking.{CanMark, FitsMark, landmarks_after, mark_record, slots_after, slots_used, start_open, value_slots_after, values_open};
 ghost use Rattle.ss_store.specs.Slots.{AreSomeLive};
 
@@ -91,7 +91,7 @@ pub fn reserve(landmarks: &mut Landmarks) -> Result<(), AllocError>
     requires values { length (all_values landmarks.old.landmarks) < MOST_LANDMARK_SLOTS }
     ensures room { OnOk result (1 ≤ landmarks.new.room) }
     ensures value_room { OnOk result (1 ≤ landmarks.new.value_room) }
-    ensures grown { HasRoomFor landmarks.old landmarks.new }
+    ensures grown { HasNoLessRoom landmarks.old landmarks.new }
 {
     let reserved = landmarks.reserve();
     let _count = landmarks.count();

@@ -20,7 +20,7 @@ impl Store {
     ghost use Rattle.ss_store.specs.Applied.{Applies};
     ghost use Rattle.ss_store.specs.Calls.{CostsEvent};
     ghost use Rattle.ss_store.specs.Errors.{verdict_of_apply};
-    ghost use Rattle.ss_store.specs.Extents.{records_in};
+    ghost use Rattle.ss_store.specs.Extents.{records_held_in};
     ghost use Rattle.ss_store.specs.Kept.{StoreIsKept, of_part, refuses_held};
     ghost use Rattle.ss_store.specs.Places.{IsPlaceOf};
     ghost use Rattle.ss_steps.specs.Steps.{IsFresh};
@@ -74,7 +74,7 @@ impl Store {
         requires one_disk { OfContent (D.seen disk.old) (StoreIsKept self.old) }
         ensures applies { Applies (Value name.now t v) self.old self.new (D.seen disk.old) (D.seen disk.new) result }
         ensures costs { Between (D.seen disk.old) (D.seen disk.new)
-            (CostsEvent (records_in self.old) self.old.records self.new.records result) }
+            (CostsEvent (records_held_in self.old) self.old.records self.new.records result) }
         ensures running { result ≢ Err ApplyError.Stopped }
         ensures uncalled { IfUndone (verdict_of_apply result) (disk.new ≡ disk.old) }
     {

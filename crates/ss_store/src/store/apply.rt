@@ -22,7 +22,7 @@ impl Store {
     ghost use Rattle.ss_store.specs.Calls.{AddsEvent, CostsEvent, KeepsWithin, StagesEvent, StaysWithin, SyncsToApply};
     ghost use Rattle.ss_store.specs.Calls.{SyncsToStage};
     ghost use Rattle.ss_store.specs.Errors.{verdict_of_apply};
-    ghost use Rattle.ss_store.specs.Extents.{records_in};
+    ghost use Rattle.ss_store.specs.Extents.{records_held_in};
     ghost use Rattle.ss_store.specs.Kept.{StoreIsKept, is_of_landmark, of_part, without_spare};
     ghost use Rattle.ss_store.specs.Places.{IsPlaceOf};
 
@@ -40,10 +40,10 @@ impl Store {
         ensures applies { self.old.stopped ≡ false → Applies event.now self.old self.new (D.seen disk.old) (D.seen disk.new) result }
         ensures sealed { self.new.stopped ≡ false → IsSealed self.new.records.journal }
         // No image uses more slots than were used before, or than the records need that were held then and one.
-        ensures within { self.old.stopped ≡ false → Between (D.seen disk.old) (D.seen disk.new) (KeepsWithin (records_in self.old + 1) result) }
+        ensures within { self.old.stopped ≡ false → Between (D.seen disk.old) (D.seen disk.new) (KeepsWithin (records_held_in self.old + 1) result) }
         // Two syncs, and four more at most for each time that the entries are used up.
         ensures syncs { self.old.stopped ≡ false →
-            Between (D.seen disk.old) (D.seen disk.new) (SyncsToApply (records_in self.old + 2) self.old.records) }
+            Between (D.seen disk.old) (D.seen disk.new) (SyncsToApply (records_held_in self.old + 2) self.old.records) }
         // The event is added to the history that the disk stands for, wholly or not at all, also in a crash.
         ensures history { self.old.stopped ≡ false → Between (D.seen disk.old) (D.seen disk.new) (AddsEvent event.now result) }
         ensures uncalled { IfUndone (verdict_of_apply result) (disk.new ≡ disk.old) }
@@ -68,10 +68,10 @@ impl Store {
         ensures history { self.old.stopped ≡ false →
             Between (D.seen disk.old) (D.seen disk.new) (StagesEvent event.now self.old.records self.new.records result) }
         ensures within { self.old.stopped ≡ false → Between (D.seen disk.old) (D.seen disk.new)
-            (StaysWithin (records_in self.old + 1) self.old.records self.new.records result) }
+            (StaysWithin (records_held_in self.old + 1) self.old.records self.new.records result) }
         // Room is made only where the entries are used up, by four syncs each time at most.
         ensures syncs { self.old.stopped ≡ false → Between (D.seen disk.old) (D.seen disk.new)
-            (SyncsToStage (records_in self.old + 2) self.old.records self.new.records result) }
+            (SyncsToStage (records_held_in self.old + 2) self.old.records self.new.records result) }
         // An event of landmarks that fails leaves the streams as they were, but for the room to spare.
         ensures failed { is_of_landmark self.old.streams event.now ≡ true →
             OnFailed (verdict_of_apply result) (map without_spare self.new.streams ≡ map without_spare self.old.streams) }
@@ -91,7 +91,7 @@ impl Store {
         ensures said { CanBeSaid event.now }
         ensures applies { Applies event.now self.old self.new (D.seen disk.old) (D.seen disk.new) result }
         ensures costs { Between (D.seen disk.old) (D.seen disk.new)
-            (CostsEvent (records_in self.old) self.old.records self.new.records result) }
+            (CostsEvent (records_held_in self.old) self.old.records self.new.records result) }
         ensures failed { is_of_landmark self.old.streams event.now ≡ true →
             OnFailed (verdict_of_apply result) (map without_spare self.new.streams ≡ map without_spare self.old.streams) }
         ensures running { result ≢ Err ApplyError.Stopped }

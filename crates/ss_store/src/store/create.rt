@@ -69,7 +69,7 @@ impl Store {
     ghost use Rattle.ss_store.specs.Applied.{Applies};
     ghost use Rattle.ss_store.specs.Calls.{CostsEvent};
     ghost use Rattle.ss_store.specs.Errors.{verdict_of_apply};
-    ghost use Rattle.ss_store.specs.Extents.{records_in};
+    ghost use Rattle.ss_store.specs.Extents.{records_held_in};
     ghost use Rattle.ss_store.specs.Kept.{StoreIsKept, refuses_held};
 
     // The target, the number and the slot of a stream that is created, or why it isn't.
@@ -106,7 +106,7 @@ impl Store {
         requires one_disk { OfContent (D.seen disk.old) (StoreIsKept self.old) }
         ensures applies { Applies (Create name params) self.old self.new (D.seen disk.old) (D.seen disk.new) result }
         ensures costs { Between (D.seen disk.old) (D.seen disk.new)
-            (CostsEvent (records_in self.old) self.old.records self.new.records result) }
+            (CostsEvent (records_held_in self.old) self.old.records self.new.records result) }
         ensures running { result ≢ Err ApplyError.Stopped }
         ensures uncalled { IfUndone (verdict_of_apply result) (disk.new ≡ disk.old) }
     {

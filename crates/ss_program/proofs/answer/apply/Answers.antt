@@ -4,7 +4,7 @@ use Rattle.ss_program.proofs.Common.{StandsForEither, StoreState, refuses_held, 
 use Rattle.ss_program.proofs.Common.{KeepsWithin-answers, KeepsWithin-failed, KeepsWithin-reads, refuses-kept, said-kept, AppliesEvent, IsOpen, Brought}
 use Rattle.ss_program.proofs.Common.{History, command_brings, history_after, StandsAround, Status, DiskFault, OutOfMemory}
 use Rattle.ss_report.specs.declared.reply.Reply.TheVariants.{Done}
-use Rattle.ss_store.specs.Extents.{records_in}
+use Rattle.ss_store.specs.Extents.{records_held_in}
 use Rattle.ss_program.proofs.AnswerLemmas.{Adds-applied, Adds-none, IsSome-accepted, Stands-only_replies, StoreIsIn-open, StoreIsIn-sealed, brings-accepted}
 use Rattle.ss_program.proofs.AnswerLemmas.{brings-refused, not_refused}
 use Rattle.ss_store.specs.declared.error.ApplyError.TheVariants as errors
@@ -22,7 +22,7 @@ accepted event store disk result opens refused other told history stands =
 
 -- the records that the store holds are those that each history needs for which its disk stands
 within-held : (store : StoreState) (disk : DiskView) (new : Told) (result : Result Reply Status) (history : History) → IsOpen disk store →
-    IsTrue disk.tells → Stands history disk.told.content → KeepsWithin (records_in store + 1) result disk.told new →
+    IsTrue disk.tells → Stands history disk.told.content → KeepsWithin (records_held_in store + 1) result disk.told new →
     KeepsWithin (live (state history) + 1) result disk.told new
 within-held store disk new result history opens told stands within =
     subst (λ n. KeepsWithin (n + 1) result disk.told new)

@@ -1,4 +1,4 @@
-use Rattle.ss_program.proofs.Common.{length, refl, sym, generated, replies, SinkFault}
+use Rattle.ss_program.proofs.Common.{length, refl, sym, generated_lines, replies, SinkFault}
 use Rattle.ss_program.proofs.AnswerLemmas.{IsStop-apply}
 use Rattle.ss_program.proofs.EndLemmas.{unfed-stop}
 use Rattle.ss_program.proofs.GenerateLemmas.{Generates-done, Generates-stop}
@@ -12,7 +12,7 @@ pub returns-in-Ok-send_summary-clause-generates : goal.returns-in-Ok-send_summar
 returns-in-Ok-send_summary-clause-generates g c =
     let old = (g.D.Disk.seen c.args.disk.now).told in
     let new = (g.D.Disk.seen c.run_all.new.disk).told in
-    let ls = generated c.args.seed c.args.count in
+    let ls = generated_lines c.args.seed c.args.count in
     step-so c.in-Ok.ensures.runs (λ tells runs none used history stands.
     let ran = runs.ok none used history stands in
     Generates-done used history c.args.seed c.args.count (g.K.Sink.held c.args.sink.now) (g.K.Sink.held c.send_summary.new.sink) old new c.in-Ok.tally
@@ -22,7 +22,7 @@ pub returns-in-Err-send_summary-clause-generates : goal.returns-in-Err-send_summ
 returns-in-Err-send_summary-clause-generates g c =
     let old = (g.D.Disk.seen c.args.disk.now).told in
     let new = (g.D.Disk.seen c.run_all.new.disk).told in
-    let ls = generated c.args.seed c.args.count in
+    let ls = generated_lines c.args.seed c.args.count in
     step-so c.in-Ok.ensures.runs (λ tells runs none used history stands.
     let ran = runs.ok none used history stands in
     let less = c.in-Err-send_summary.ensures.sends (length ls) (replies history ls) ran.tallied in

@@ -1,4 +1,4 @@
-use Rattle.ss_program.proofs.Common.{under_way, shown-sealed, step-as}
+use Rattle.ss_program.proofs.Common.{step_under_way, shown-sealed, step-as}
 use Rattle.ss_program.proofs.InputLemmas.{EndsSession-done, EndsSession-stopped}
 use Rattle.ss_program.proofs.StopLemmas.{going-stop}
 use Rattle.ss_program.proofs.taking.finish_lines.Goals as goal
@@ -9,7 +9,7 @@ returns-in-Ok-clause-ends g c =
     let new = (g.D.Disk.seen c.end_lines.new.disk).told in
     let store = c.args.store.now in
     let is = c.end_lines.new.store.records in
-    step-as c.in-Ok.ensures.takes (λ takes. EndsSession-done c.args.reader.now.form c.args.sessions.now store (under_way c.args.reader.now)
+    step-as c.in-Ok.ensures.takes (λ takes. EndsSession-done c.args.reader.now.form c.args.sessions.now store (step_under_way c.args.reader.now)
     c.args.waiting.now (g.K.Sink.held c.args.sink.now) old
     (shown-sealed store.records.journal old.content c.requires.sealed) c.end_lines.new.sessions is c.end_lines.new.waiting
     (g.K.Sink.held c.end_lines.new.sink) new
@@ -21,7 +21,7 @@ returns-in-Err-clause-ends g c =
     let old = view.told in
     let new = (g.D.Disk.seen c.end_lines.new.disk).told in
     let store = c.args.store.now in
-    step-as c.in-Err.ensures.takes (λ takes. EndsSession-stopped c.args.reader.now.form c.args.sessions.now store (under_way c.args.reader.now)
+    step-as c.in-Err.ensures.takes (λ takes. EndsSession-stopped c.args.reader.now.form c.args.sessions.now store (step_under_way c.args.reader.now)
     c.args.waiting.now (g.K.Sink.held c.args.sink.now) old
     (shown-sealed store.records.journal old.content c.requires.sealed) c.end_lines.new.sessions c.end_lines.new.store.records c.end_lines.new.waiting
     (g.K.Sink.held c.end_lines.new.sink) new c.in-Err.status (going-stop view.tells c.in-Err.status c.in-Err.ensures.status) takes)

@@ -1,4 +1,4 @@
-use Rattle.ss_program.proofs.Common.{◌≡◌, ◌++◌, Err, take, take_all, refl, sym, subst, ◌∙◌, arith, rules, append-nil, under_way, step-as, step-none, step-then}
+use Rattle.ss_program.proofs.Common.{◌≡◌, ◌++◌, Err, take, take_all, refl, sym, subst, ◌∙◌, arith, rules, append-nil, step_under_way, step-as, step-none, step-then}
 use Rattle.ss_program.proofs.Common.{GoesAmid, OfAmid, amid, owed_by, kept_so_far, steps_so_far}
 use Rattle.ss_program.proofs.SendLemmas.{fits_more}
 use Rattle.ss_program.proofs.InputLemmas.{OfAmid-more, OfAmid-stops}
@@ -8,7 +8,7 @@ use Rattle.ss_program.proofs.taking.take_lines.Goals as goal
 pub loop-done-init : goal.loop-done-init
 loop-done-init g c =
     let disk = g.D.Disk.seen c.args.disk.now in
-    let line = under_way c.args.reader.now in
+    let line = step_under_way c.args.reader.now in
     let at = amid c.args.store.now.records (owed_by c.args.waiting.now) (g.K.Sink.held c.args.sink.now) c.args.sessions.now in
     record {
       fits = omega arith;
@@ -31,7 +31,7 @@ loop-done-preserved g c =
       fits = fits_more piece done count inv.fits c.in_ok-done.ensures.count.1;
       ready = c.in_ok-done.ensures.ready;
       on = step-then inv.on c.in_ok-done.ensures.takes (λ first second.
-          OfAmid-more c.args.reader.now.form c.loop-done.reader.form inv.form (under_way c.args.reader.now) (under_way c.loop-done.reader) (under_way c.advance.new.reader)
+          OfAmid-more c.args.reader.now.form c.loop-done.reader.form inv.form (step_under_way c.args.reader.now) (step_under_way c.loop-done.reader) (step_under_way c.advance.new.reader)
           (amid c.args.store.now.records (owed_by c.args.waiting.now) (g.K.Sink.held c.args.sink.now) c.args.sessions.now)
           (amid c.loop-done.store.records (owed_by c.loop-done.waiting) (g.K.Sink.held c.loop-done.sink) c.loop-done.sessions)
           (amid c.advance.new.store.records (owed_by c.advance.new.waiting) (g.K.Sink.held c.advance.new.sink) c.advance.new.sessions)
@@ -49,7 +49,7 @@ returns-in_err-done-clause-takes g c =
     let old = g.D.Disk.seen c.args.disk.now in
     let mid = g.D.Disk.seen c.loop-done.disk in
     let new = g.D.Disk.seen c.advance.new.disk in
-    let line = under_way c.args.reader.now in
+    let line = step_under_way c.args.reader.now in
     let from = amid c.args.store.now.records (owed_by c.args.waiting.now) (g.K.Sink.held c.args.sink.now) c.args.sessions.now in
     let after = g.K.Sink.held c.advance.new.sink in
     let status = c.in_err-done.field-0.0 in
@@ -57,7 +57,7 @@ returns-in_err-done-clause-takes g c =
     rw same
     (step-then inv.on c.in_err-done.ensures.takes (λ first second. record {
       goes = tt;
-      stops = OfAmid-stops c.args.reader.now.form c.loop-done.reader.form inv.form line (under_way c.loop-done.reader) from
+      stops = OfAmid-stops c.args.reader.now.form c.loop-done.reader.form inv.form line (step_under_way c.loop-done.reader) from
           (amid c.loop-done.store.records (owed_by c.loop-done.waiting) (g.K.Sink.held c.loop-done.sink) c.loop-done.sessions)
           after status old.told mid.told new.told piece done first second.stops;
     }))
@@ -71,7 +71,7 @@ returns-clause-takes g c =
     let at = amid c.loop-done.store.records (owed_by c.loop-done.waiting) (g.K.Sink.held c.loop-done.sink) c.loop-done.sessions in
     step-as c.loop-done.invariant.on (λ on. record {
       goes = λ sealing talk before input form line is.
-          subst (λ bs. (under_way c.loop-done.reader ≡ kept_so_far talk.form (input ++ bs)) × GoesAmid sealing talk (steps_so_far talk.form (input ++ bs)) before at old mid)
+          subst (λ bs. (step_under_way c.loop-done.reader ≡ kept_so_far talk.form (input ++ bs)) × GoesAmid sealing talk (steps_so_far talk.form (input ++ bs)) before at old mid)
           (take_all done piece (omega (arith, c.loop-done-test.false)))
           (on sealing talk before input form line is);
       stops = tt;

@@ -1,4 +1,4 @@
-use Rattle.ss_program.proofs.Common.{◌≡◌, Err, rules, under_way, shown-sealed, step-as, step-then, amid, owed_by}
+use Rattle.ss_program.proofs.Common.{◌≡◌, Err, rules, step_under_way, shown-sealed, step-as, step-then, amid, owed_by}
 use Rattle.ss_program.proofs.InputLemmas.{TakesPiece-sealed, TakesPiece-stopped}
 use Rattle.ss_program.proofs.BroughtLemmas.{shown-opened}
 use Rattle.ss_program.proofs.taking.take_piece.Goals as goal
@@ -12,8 +12,8 @@ returns-in_err-take_lines-clause-takes g c =
     let is = c.take_lines.new.store in
     let held = g.K.Sink.held c.args.sink.now in
     let after = g.K.Sink.held c.take_lines.new.sink in
-    let line = under_way c.args.reader.now in
-    let next = under_way c.take_lines.new.reader in
+    let line = step_under_way c.args.reader.now in
+    let next = step_under_way c.take_lines.new.reader in
     let status = c.in_err-take_lines.field-0.0 in
     let same : c.from_residual.result ≡ Err status = search rules in
     rw same
@@ -30,7 +30,7 @@ returns-clause-takes g c =
     let mid = amid c.take_lines.new.store.records (owed_by c.take_lines.new.waiting) (g.K.Sink.held c.take_lines.new.sink) in
     let is = c.flush.new.store in
     step-then c.in_ok-take_lines.ensures.takes c.flush.ensures.takes (λ first second.
-    TakesPiece-sealed c.args.reader.now.form c.args.sessions.now store (under_way c.args.reader.now) c.args.waiting.now (g.K.Sink.held c.args.sink.now) old
-    (shown-sealed store.records.journal old.content c.requires.sealed) c.take_lines.new.sessions is (under_way c.take_lines.new.reader) c.flush.new.waiting
+    TakesPiece-sealed c.args.reader.now.form c.args.sessions.now store (step_under_way c.args.reader.now) c.args.waiting.now (g.K.Sink.held c.args.sink.now) old
+    (shown-sealed store.records.journal old.content c.requires.sealed) c.take_lines.new.sessions is (step_under_way c.take_lines.new.reader) c.flush.new.waiting
     (g.K.Sink.held c.flush.new.sink) c.args.piece.now view.told mid between c.flush.result first second
     (shown-opened view is c.flush.result c.flush.ensures.open) c.flush.ensures.none)

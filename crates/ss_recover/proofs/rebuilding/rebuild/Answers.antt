@@ -1,4 +1,4 @@
-use Rattle.ss_recover.proofs.Common.{◌∙◌, All, All-permutation, ap, AreBelow, AreFound, AreWholeBeside, arith, Counted, Err, err_from_is_err_and, Found}
+use Rattle.ss_recover.proofs.Common.{◌∙◌, All, All-permutation, ap, LiveLieBelow, AreFound, AreWholeBeside, arith, Counted, Err, err_from_is_err_and, Found}
 use Rattle.ss_recover.proofs.Common.{found_key, IsUsable, JournalState, length, length_permutation, List, Ok, RecordsState, refl, Rises, step-from, subst, sym}
 use Rattle.ss_recover.proofs.Common.{WalksAs}
 use Rattle.ss_outside.proofs.StepLemmas.{step-verdict}
@@ -77,7 +77,7 @@ returns-clause-journal g c = ap (λ (r : RecordsState). r.journal) c.in_ok-recor
 
 pub over-requires : goal.over-requires
 over-requires g c = record {
-  bounded = subst (λ (j : JournalState). AreBelow j.extent c.in_ok-read.read.live) (sym c.in_ok-read.ensures.journal) c.in_ok-read.ensures.gathered.bounded;
+  bounded = subst (λ (j : JournalState). LiveLieBelow j.extent c.in_ok-read.read.live) (sym c.in_ok-read.ensures.journal) c.in_ok-read.ensures.gathered.bounded;
 }
 
 pub streams_of-requires-clause-usable : goal.streams_of-requires-clause-usable

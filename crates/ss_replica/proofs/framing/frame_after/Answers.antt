@@ -1,6 +1,6 @@
 use Rattle.std.proofs.Common.{◌≡◌, ◌∙◌, ◌++◌, [], ◌∷◌, ◌^◌, ◌<◌, ℕ, true, length, ap, subst, rules}
 use Rattle.ss_catalog.specs.Names.{is_name}
-use Rattle.ss_frames.specs.Frame.{checked}
+use Rattle.ss_frames.specs.Frame.{checked_frame}
 use Rattle.ss_model.specs.History.{added}
 use Rattle.ss_replica.specs.Own.{own}
 use Rattle.ss_replica.proofs.FramingLemmas.{checked-last}
@@ -15,5 +15,5 @@ returns c history whole agree =
     let few : c.events_named.result < 2 ^ 64 = search rules in
     let fits : c.step_of-step.result < 2 ^ 32 = search rules in
     let small = subst (λ n. n < 2 ^ 32) c.step_of-step.ensures fits in
-    c.of.ensures.exact ∙ ap (λ (n : ℕ). checked (record { number = n; event = event })) number
+    c.of.ensures.exact ∙ ap (λ (n : ℕ). checked_frame (record { number = n; event = event })) number
     ∙ checked-last history event whole named small (subst (λ n. n < 2 ^ 64) number few)

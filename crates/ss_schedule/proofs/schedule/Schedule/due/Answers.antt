@@ -3,7 +3,7 @@ use Rattle.ss_line.specs.declared.entry.At.{At}
 use Rattle.ss_target.specs.Targets.{lengths-positive}
 use Rattle.ss_schedule.specs.Held.{fit_of}
 use Rattle.ss_schedule.specs.Keyed.{ScheduleState, key_at, merge_rule}
-use Rattle.ss_schedule.specs.Pairs.{may_join}
+use Rattle.ss_schedule.specs.Pairs.{pair_may_join}
 use Rattle.ss_schedule.proofs.KeyedLemmas.{IsPairIn-read, IsPairOfKey-keyed, NoPairFits-keyed, fits-by, read-is, split-stands}
 use Rattle.ss_schedule.proofs.schedule.Schedule.due.Goals as goal
 
@@ -42,7 +42,7 @@ returns-clause-fits g c =
     let some = c.in_ok-right.ensures.some in
     let key = ap (λ (s : ScheduleState). key_at s.keys c.in_ok-right.right) (sym c.self.view_is) ∙ some.2 in
     let it = IsPairOfKey-keyed c.args.n c.args.line.now.entries c.args.self.now c.in_ok-right.right c.in_ok-right.left some.0 c.requires key in
-    ap (may_join (merge_rule c.args.self.now) c.args.n)
+    ap (pair_may_join (merge_rule c.args.self.now) c.args.n)
     (read-is c.args.line.now.entries c.len-len.ensures.line.apart c.in_ok-right.right it.pair it.split c.in_ok-right.left c.get-window.result
     c.get-next.result it.key.left c.get-window.ensures.entry c.get-next.ensures.entry)
     ∙ fits-by (merge_rule c.args.self.now) c.args.n some.0 it.pair (c.in_ok-right.left, some.0) (lengths-positive c.args.self.now.target)

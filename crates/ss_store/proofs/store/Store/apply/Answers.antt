@@ -1,4 +1,4 @@
-use Rattle.ss_store.proofs.Common.{◌∙◌, ◌+◌, ◌++◌, ◌∷◌, [], Err, Ok, arith, refl, sym, err_from_is_err_and, added, StandsForEither, Stands, records_in}
+use Rattle.ss_store.proofs.Common.{◌∙◌, ◌+◌, ◌++◌, ◌∷◌, [], Err, Ok, arith, refl, sym, err_from_is_err_and, added, StandsForEither, Stands, records_held_in}
 use Rattle.ss_store.proofs.Calls.{Turns-answers, Turns-failed}
 use Rattle.ss_store.proofs.Sealed.{AddsEvent-sealed, AddsEvent-unsealed, Applies-sealed, Applies-unsealed}
 use Rattle.ss_store.proofs.Within.{KeepsWithin-not_sealed, KeepsWithin-rest, StaysWithin-answers, StaysWithin-failed, StaysWithin-then}
@@ -51,7 +51,7 @@ pub returns-in-Ok-clause-within : goal.returns-in-Ok-clause-within
 returns-in-Ok-clause-within g c runs told =
     let then = (c.in_ok-ack.ensures.applies runs).step.tells ∙ told in
     KeepsWithin-rest (Ok c.in_ok-ack.ack) (c.requires.sealed runs) c.in-Ok.ensures.sealed.sealed
-    (StaysWithin-then {first = records_in c.args.self.now + 1} {second = 0} (Ok c.in_ok-ack.ack) (g.met.D.Disk.knows_now c.stage.new.disk then)
+    (StaysWithin-then {first = records_held_in c.args.self.now + 1} {second = 0} (Ok c.in_ok-ack.ack) (g.met.D.Disk.knows_now c.stage.new.disk then)
     (omega arith) (omega arith) (c.in_ok-ack.ensures.within runs told)
     (StaysWithin-answers (Ok c.in_ok-ack.ack) (omega arith) (c.in-Ok.ensures.seals.told then).within))
 
@@ -59,6 +59,6 @@ pub returns-in-Err-clause-within : goal.returns-in-Err-clause-within
 returns-in-Err-clause-within g c runs told =
     let then = (c.in_ok-ack.ensures.applies runs).step.tells ∙ told in
     KeepsWithin-rest {is = c.seal.new.self.records} _ (c.requires.sealed runs) tt
-    (StaysWithin-then {first = records_in c.args.self.now + 1} {second = 0} _ (g.met.D.Disk.knows_now c.stage.new.disk then)
+    (StaysWithin-then {first = records_held_in c.args.self.now + 1} {second = 0} _ (g.met.D.Disk.knows_now c.stage.new.disk then)
     (omega arith) (omega arith) (c.in_ok-ack.ensures.within runs told)
     (StaysWithin-failed _ refl (omega arith) (c.in-Err.ensures.seals.told then).within))
