@@ -11,10 +11,56 @@ use std::num::NonZeroUsize;
 // How many pages are cached at most.
 pub const MOST_CACHED: usize = 64;
 
+// A page in a place of its own, so that the cache moves the place and not 4,096 bytes.
+#[derive(Drop)]
+struct Placed {
+    page: Box<Page>,
+}
+
+impl Model for Placed {
+    ghost use Rattle.std.specs.Prelude.{ℕ, List};
+
+    ghost Value = { List ℕ };
+
+    ghost view = { λ s. s.page.value };
+}
+
+impl Placed {
+    ghost use Rattle.std.specs.Prelude.{◌≡◌, ◌≢◌, ℕ, ◌<◌, IfOk};
+    ghost use Rattle.ss_journal.specs.Calls.{slot_in_page};
+
+    // Puts a page into a place. It takes memory.
+    fn of(alloc: Global, page: Page) -> Result<Placed, AllocError>
+        ensures { IfOk result (λ placed. placed ≡ page) }
+    {
+        let page = Box::new(alloc, page)?;
+        Ok(Placed { page })
+    }
+
+    // The bytes of slot number `k`.
+    fn slot(&mut self, k: u32) -> [u8; SLOT_SIZE]
+        requires slot { k < PAGE_SLOTS }
+        ensures value { result ≡ slot_in_page self.old k }
+        ensures same { self.new ≡ self.old }
+    {
+        self.page.slot(k)
+    }
+
+    // Writes slot number `k`.
+    fn put(&mut self, k: u32, bytes: &[u8; SLOT_SIZE])
+        requires slot { k < PAGE_SLOTS }
+        ensures written { slot_in_page self.new k ≡ bytes.now }
+        ensures others { (other : ℕ) → other < PAGE_SLOTS → other ≢ k → slot_in_page self.new other ≡ slot_in_page self.old other }
+    {
+        self.page.put(k, bytes)
+    }
+}
+
 // Pages, each by its number, the most recently used first.
 #[derive(Drop)]
 pub struct Pages {
-    cache: LruCache<u32, Page>,
+    cache: LruCache<u32, Placed>,
+    alloc: Global,
 }
 
 impl Model for Pages {
@@ -42,6 +88,7 @@ impl Pages {
         let cap = NonZeroUsize::new(MOST_CACHED).unwrap();
         Ok(Pages {
             cache: LruCache::new(alloc, cap)?,
+            alloc,
         })
     }
 
@@ -65,7 +112,9 @@ impl Pages {
         ensures pages { (self.new ≡ self.old) ⊎ (self.new ≡ put_entries nat_eq (lru_cache self.old MOST_CACHED) number page) }
         ensures few { length self.new ≤ MOST_CACHED }
     {
-        let _ = self.cache.put(number, page);
+        if let Ok(placed) = Placed::of(self.alloc, page) {
+            let _ = self.cache.put(number, placed);
+        }
         is_valid(&self.cache);
     }
 
@@ -99,7 +148,7 @@ impl Pages {
 }
 
 // What holds of every cache. It does nothing.
-fn is_valid(cache: &LruCache<u32, Page>)
+fn is_valid(cache: &LruCache<u32, Placed>)
     ensures { IsValid nat_eq cache.now }
 {
     let _ = cache.len();
