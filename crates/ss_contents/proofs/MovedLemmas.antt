@@ -1,4 +1,4 @@
--- Values that are moved_to_times to other times are as many in a range as there are times in it, and their windows are the same, filters included.
+-- Values that are moved to other times are as many in a range as there are times in it, and their windows are the same, filters included.
 use Rattle.std.specs.Prelude.{◌≡◌, ℕ, zero, suc, ◌+◌, ◌-◌, Bool, ℤ, pos, ◌+ℤ◌, List, [], ◌∷◌, length, get_or, map, take, drop, All, Some}
 use Rattle.std.specs.Int.{int_min, int_max}
 use Rattle.std.proofs.Common.{ap, arith, inl, inr, refl, sym, ◌∙◌, subst}

@@ -123,7 +123,7 @@ done-or OutOfMemory = inr (λ is. cc)
 done-or InputLimit = inr (λ is. cc)
 done-or RecordChanged = inr (λ is. cc)
 
--- a run over a generated_lines file
+-- a run over a generated file
 generate-goes : {D : Type 0} (used : Option ℕ) (link : Link D) (seed count : ℕ) (ending : Ending) (history : History) (old new : Told) →
     Generates used history seed count (Some link.had) (Some link.has) old new link.status → IsLeftBy ending old new link.image →
     Goes used (as_of link (Some (Gen seed count)) ending) history

@@ -32,7 +32,7 @@ first_input = flat_map (λ line. line ++ 10 ∷ []) (codes "create a exp 2 1 1" 
 abbrev second_input : List ℕ
 second_input = codes "append a 20 -3" ++ 10 ∷ []
 
--- the events of a run are those of its input, or of the generated_lines file
+-- the events of a run are those of its input, or of the generated file
 accepted-first : accepted_of (Some (Serve (Lines false) Each)) first_input [] ≡ created ∷ ten ∷ []
 unfolding ended_lines unended meaning words is_number number_of number_up_to signed_of is_name state refuses window_index
 accepted-first = refl

@@ -1,4 +1,4 @@
--- Cursors: what a session's cursor is after it was changed, and what opens_cursor one brings.
+-- Cursors: what a session's cursor is after it was changed, and what opening one brings.
 use Rattle.ss_program.proofs.Common.{◌≡◌, ◌↔◌, ◌∙◌, ℕ, zero, suc, ◌<◌, Bool, true, false, List, [], ◌∷◌, length, Option, Some, None, Result, Err, refl, sym, ap}
 use Rattle.ss_program.proofs.Common.{inl, inr, IsTrue, IfSome, subst, ◌+◌, ◌≤◌, min, take, take_all, drop, arith, length-append, length-map, cases_lt}
 use Rattle.ss_program.proofs.Common.{slice_get_cases, slice_get_within, slice_get, is_some, not, option_map, slice_set, Refusal, first_that_applies, stands}
@@ -68,7 +68,7 @@ reasons-stands : (o : Option Stream) (busy : Bool) → reasons (is_some o) busy 
 reasons-stands None busy none = cc
 reasons-stands (Some s) busy none = (s, refl)
 
--- it isn't, where the answer to its opens_cursor isn't a refusal
+-- it isn't, where the answer to its opening isn't a refusal
 pub unrefused-cursor : (streams : List Stream) (name : List ℕ) (cursor : Option (List Placed)) (result : Result ℕ CursorError) →
     ((r : CursorRefusal) → (result ≡ Err (errors.Refused r)) ↔ (refuses_cursor streams name cursor ≡ Some (refusal_of r))) →
     ((r : CursorRefusal) → result ≡ Err (errors.Refused r) → ⊥) → refuses_cursor streams name cursor ≡ None
@@ -82,7 +82,7 @@ pub cursor-stands : (streams : List Stream) (name : List ℕ) (cursor : Option (
 unfolding refuses_cursor
 cursor-stands streams name cursor none = reasons-stands (stream_named name streams) (is_some cursor) none
 
--- ---- what opens_cursor a cursor brings
+-- ---- what opening a cursor brings
 
 module _ (history : History) (cursors : Cursors) (session : ℕ) (name : List ℕ) where
   -- the refusal, where it is refused

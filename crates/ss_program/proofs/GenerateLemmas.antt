@@ -1,4 +1,4 @@
--- A session over a generated_lines file: what was answered so far, what is counted of it, and how it ends.
+-- A session over a generated file: what was answered so far, what is counted of it, and how it ends.
 use Rattle.ss_program.proofs.Common.{◌⊎◌, inl, inr, ◌≡◌, ℕ, zero, suc, ◌+◌, ◌++◌, List, [], ◌∷◌, length, map, take, Bool, true, false, cond, Option, None, Ok}
 use Rattle.ss_program.proofs.Common.{Err, Result, refl, sym, ap, ◌∙◌, subst, append_assoc, arith, count_by, ⊤, flat_map, append-nil, length-append, map-append}
 use Rattle.ss_program.proofs.Common.{take-append-le, take-append-add, IsSayable, printed, Command, at_start, joined, now, of_content, weaker, KnowsNow}
@@ -57,7 +57,7 @@ HasRun-start used history disk tally knows none stands tallies = record {
       (of_content disk (StandsWithin (plain_over used history) []) none (StandsWithin-all (plain_over used history) [] disk.content stands));
 }
 
--- the history after plain_talk lines, whatever is asked of the file
+-- the history after plain lines, whatever is asked of the file
 plain_over-history : (used : Option ℕ) (history : History) (ls : List (List ℕ)) → (after_lines (plain_over used history) ls).history ≡ plain_after history ls
 plain_over-history used history [] = refl
 plain_over-history used history (line ∷ ls) = plain_over-history used (history_after history (brings history line)) ls

@@ -131,7 +131,7 @@ kept-to (Some line) session said is =
     let it = comment-to (is_comment line) (first_word line) (rest_of line) session said spoken in
     (it.0, (rest_of line, it.1))
 
--- ---- a cursor stays that of its opens_cursor
+-- ---- a cursor stays that of its opening
 
 module _ (session : ℕ) (rows : List Placed) (cursors : Cursors) (has : cursor_of cursors session ≡ Some rows) where
   -- while another session's is opened, shown or closed
@@ -265,7 +265,7 @@ opened-over history cursors session name inside none =
           ∙ cursor_of-with_cursor cursors session (Some (cursor_rows s.0)) inside,
     )
 
--- the reply to its opens_cursor
+-- the reply to its opening
 pub cursor-opens : (framed : Bool) (talk : Talk) (line name : List ℕ) (session : ℕ) → talk.form ≡ Sessions framed → IsOrder session (orders.Open name) line →
     refuses_cursor (state talk.history) name (cursor_of talk.cursors session) ≡ None →
     (s : Stream) × (stream_named name (state talk.history) ≡ Some s)

@@ -111,7 +111,7 @@ pub text_of-push : (talk : Talk) (ls : List (List ℕ)) (l : List ℕ) →
 text_of-push talk ls l =
     text_of-append talk ls (l ∷ []) ∙ ap (λ (text : List ℕ). text_of talk ls ++ text) (text_of-one (after_lines talk ls) l)
 
--- the history after more plain_talk lines, and after one more
+-- the history after more plain lines, and after one more
 pub plain_after-append : (history : History) (ls ms : List (List ℕ)) → plain_after history (ls ++ ms) ≡ plain_after (plain_after history ls) ms
 plain_after-append history [] ms = refl
 plain_after-append history (l ∷ ls) ms = plain_after-append (history_after history (brings history l)) ls ms
@@ -120,7 +120,7 @@ pub plain_after-push : (history : History) (ls : List (List ℕ)) (line : List �
     plain_after history (ls ++ line ∷ []) ≡ history_after (plain_after history ls) (brings (plain_after history ls) line)
 plain_after-push history ls line = plain_after-append history ls (line ∷ [])
 
--- the replies to more plain_talk lines, and their text
+-- the replies to more plain lines, and their text
 pub replies-append : (history : History) (ls ms : List (List ℕ)) →
     replies history (ls ++ ms) ≡ replies history ls ++ replies (plain_after history ls) ms
 replies-append history [] ms = refl

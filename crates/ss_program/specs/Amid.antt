@@ -88,8 +88,8 @@ pub record GoesAmid (sealing : Sealing) (talk : Talk) (ls : List (List ℕ)) (be
   pub any_moment : LeavesOnly old new (StandsWithin talk ls)
 
 -- Further lines of a conversation are taken, from between two lines on to between two lines, or the run stops among them.
-pub record TakesFurther (sealing : Sealing) (talk : Talk) (ls more : List (List ℕ)) (before : Option (List ℕ)) (from to : Amid) (result : Result Unit Status)
-    (old new : Told) : Type 0 where
+pub record TakesFurther (sealing : Sealing) (talk : Talk) (ls more : List (List ℕ)) (before : Option (List ℕ)) (from to : Amid)
+    (result : Result Unit Status) (old new : Told) : Type 0 where
   pub goes : OnOk result (IsAmid sealing talk ls before from old → GoesAmid sealing talk (ls ++ more) before to old new)
   pub stops : IfErr result (λ status. IsAmid sealing talk ls before from old → StopsIn sealing talk (ls ++ more) old new before to.held status)
 

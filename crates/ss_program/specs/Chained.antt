@@ -66,7 +66,7 @@ abbrev pub AreLinked : {D : Type 0} → (D → DiskView) → List (Link D) → L
 AreLinked seen [] first last = last ≡ first
 AreLinked seen (link ∷ links) first last = IsLink seen link first × AreLinked seen links link.image last
 
--- the events that are accepted in a run after a history: those of its input, or of the generated_lines file
+-- the events that are accepted in a run after a history: those of its input, or of the generated file
 abbrev pub accepted_of : Option Mode → List ℕ → History → List Happened
 accepted_of (Some (Serve form sealing)) input history = accepted (begun form history) (steps form input)
 accepted_of (Some Check) input history = []

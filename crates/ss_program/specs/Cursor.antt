@@ -35,7 +35,7 @@ abbrev pub unless_unopened : Option Refusal → Cursors → Ordered → Ordered
 unless_unopened None cursors ordered = ordered
 unless_unopened (Some refusal) cursors ordered = leaves_cursors cursors (refused refusal)
 
--- what opens_cursor a cursor brings
+-- what opening a cursor brings
 abbrev pub open_brings : History → Cursors → ℕ → List ℕ → Ordered
 open_brings history cursors session name =
     unless_unopened (refuses_cursor (state history) name (cursor_of cursors session)) cursors (opens_cursor cursors session (stream_named name (state history)))
@@ -66,7 +66,7 @@ closes_cursor cursors session (Some rows) = record {
   wants_memory = false;
 }
 
--- what closes_cursor a cursor brings
+-- what closing a cursor brings
 abbrev pub close_brings : Cursors → ℕ → Ordered
 close_brings cursors session = closes_cursor cursors session (cursor_of cursors session)
 

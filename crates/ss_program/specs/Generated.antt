@@ -1,4 +1,4 @@
--- A generated_lines command file: its lines, and what is said of a session over them.
+-- A generated command file: its lines, and what is said of a session over them.
 use Rattle.std.specs.Prelude.{◌≡◌, ℕ, ◌-◌, Bool, true, false, List, [], ◌∷◌, ◌++◌, codes, drop, flat_map, length, map, count_by, Option}
 use Rattle.std.specs.Fmt.{decimal}
 use Rattle.ss_command.specs.Printed.{printed}

@@ -37,11 +37,11 @@ report talk input = text_of talk (steps talk.form input)
 abbrev pub report_so_far : Talk → List ℕ → List ℕ
 report_so_far talk input = text_of talk (steps_so_far talk.form input)
 
--- the history after some plain_talk lines
+-- the history after some plain lines
 abbrev pub plain_after : History → List (List ℕ) → History
 plain_after history ls = (after_lines (plain_talk history) ls).history
 
--- the replies to some plain_talk lines
+-- the replies to some plain lines
 abbrev pub replies : History → List (List ℕ) → List Reply
 replies history [] = []
 replies history (line ∷ ls) = (brings history line).replies ++ replies (history_after history (brings history line)) ls

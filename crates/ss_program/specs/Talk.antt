@@ -42,7 +42,7 @@ begun_over used form history = record { form = form; history = history; cursors 
 abbrev pub begun : Form → History → Talk
 begun form history = begun_over None form history
 
--- one of plain_talk lines
+-- one of plain lines
 abbrev pub plain_over : Option ℕ → History → Talk
 plain_over used history = begun_over used (Lines false) history
 

@@ -1,4 +1,4 @@
--- What is counted of a session over a generated_lines file.
+-- What is counted of a session over a generated file.
 use Rattle.std.specs.Prelude.{◌≡◌, ℕ, List, length, count_by, IfOk, OnErr, Option, Result, ⊤}
 use Rattle.ss_command.specs.declared.command.Command.{Command}
 use Rattle.ss_command.specs.declared.command.Command.TheVariants as commands

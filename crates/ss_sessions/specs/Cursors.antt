@@ -34,7 +34,7 @@ with_cursor cursors session cursor = slice_set cursors session cursor
 abbrev pub cursor_rows : Stream → List Placed
 cursor_rows s = map placed_of s.windows
 
--- the cursors once a session has cursor_opened one over the stream of a name, where that stands
+-- the cursors once a session has opened one over the stream of a name, where that stands
 abbrev pub cursor_opened : Cursors → ℕ → List ℕ → List Stream → Option Cursors
 cursor_opened cursors session name streams = option_map (λ s. with_cursor cursors session (Some (cursor_rows s))) (stream_named name streams)
 

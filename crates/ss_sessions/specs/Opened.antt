@@ -45,11 +45,12 @@ pub record CopiesRows (number : ℕ) (store : StoreState) (result : Result (List
       IfOk result (λ rows. option_map cursor_rows (stream_numbered number streams) ≡ Some rows)
   pub reads : OnlyReads old new
 
--- A cursor is cursor_opened, over what records show. Content and images stay.
+-- A cursor is opened, over what records show. Content and images stay.
 pub record OpensCursor (was : RecordsState) (session : ℕ) (name : List ℕ) (before after : Cursors) (result : Result ℕ CursorError)
     (old new : Told) : Type 0 where
   -- its rows are the windows of the stream in the state that they show
-  pub cursor_opened : (streams : List Stream) → Recovers streams (shown_by was old.content) → OnOk result (cursor_opened before session name streams ≡ Some after)
+  pub opened : (streams : List Stream) → Recovers streams (shown_by was old.content) →
+      OnOk result (cursor_opened before session name streams ≡ Some after)
   -- each refusal exactly where it applies in that state
   pub refused : (streams : List Stream) → Recovers streams (shown_by was old.content) → (r : CursorRefusal) →
       (result ≡ Err (Refused r)) ↔ (refuses_cursor streams name (cursor_of before session) ≡ Some (refusal_of r))
