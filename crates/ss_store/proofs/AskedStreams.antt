@@ -1,7 +1,7 @@
 -- A query to a store: its stream among all, and the refusals of queries.
-use Rattle.ss_store.proofs.Common.{◌≡◌, ◌∙◌, ℕ, Bool, List, [], ◌∷◌, refl, sym, subst, ap, Option, Some, None, Result, Ok, Err, IsTrue, is_some, nat_lt}
+use Rattle.ss_store.proofs.Common.{◌≡◌, ◌∙◌, Bool, List, [], ◌∷◌, refl, sym, ap, Option, Some, None, Result, Ok, Err, IsTrue, is_some, nat_lt}
 use Rattle.ss_store.proofs.Common.{option_map, DiskView, OfContent, Told, Step, IsFirm, fine, Query, Range, Unknown, StreamId, RecordsState, shown_by}
-use Rattle.ss_store.proofs.Common.{first_that_applies, Stream, stream_named, AllAgree, StreamParts, seen_of, IsHeldIn, verdict_of_read, Seen, ReadError, Sees}
+use Rattle.ss_store.proofs.Common.{first_that_applies, Stream, stream_named, AllAgree, StreamParts, seen_of, verdict_of_read, Seen, ReadError, Sees}
 use Rattle.ss_store.proofs.Common.{SomeAgree, StoreIsIn, StoreIsKept, StoreState, part_named, Recovers}
 use Rattle.ss_model.specs.Answers.{refuses_query}
 use Rattle.ss_query.specs.Answered.{IsSeenAs, SeesStream}

@@ -1,7 +1,7 @@
 -- What calls in a row make of what a disk stands for, also in a crash. In each lemma the disks are plain values: a caller
 -- strips the premise that the disk tells.
 use Rattle.ss_store.proofs.Common.{List, Ok, Result, subst, sym, ℕ, on_ok_weaker, IsErr, of_content, read_leaves, reads-none, nothing_pending-same, weaker}
-use Rattle.ss_store.proofs.Common.{KnowsNow, OnlyReads, NothingPending, Told, on_err, on_ok, LeavesOnly, CrashTriple, Turns}
+use Rattle.ss_store.proofs.Common.{KnowsNow, OnlyReads, NothingPending, Told, on_err, on_ok, OnOk, LeavesOnly, CrashTriple, Turns}
 use Rattle.ss_outside.proofs.CrashLemmas.{joined}
 
 -- Two calls in a row, of which the first answered Ok. A crash leaves what one in either of them leaves.

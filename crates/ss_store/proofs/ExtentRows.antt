@@ -1,5 +1,5 @@
 -- How many slots are used, and how long a file is, where the laws leave no room.
-use Rattle.ss_store.proofs.Common.{◌≡◌, ◌+◌, ◌<◌, ◌≤◌, ℕ, [], ◌∷◌, Ok, arith, false, length, refl, replicate, Told, slots_in, SlotMap, StandsFor, blank_map}
+use Rattle.ss_store.proofs.Common.{◌≡◌, ◌+◌, ◌≤◌, ℕ, [], ◌∷◌, Ok, arith, false, refl, replicate, Told, slots_in, SlotMap, StandsFor, blank_map}
 use Rattle.ss_store.proofs.Common.{stands, OpensStore, AllGrowLittle, GrowsLittle, Plain, StoreState}
 use Rattle.ss_journal.specs.Format.{is_born, is_unborn}
 use Rattle.ss_journal.specs.Redo.{redo}

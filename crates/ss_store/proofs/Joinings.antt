@@ -3,13 +3,14 @@ use Rattle.ss_store.proofs.Common.{◌≡◌, ◌∙◌, ◌⊎◌, ⊎_elim, �
 use Rattle.ss_store.proofs.Common.{Ok, Result, Contains, IsErr, map-append, Contains-append_right, on_ok_weaker, IsPermutation-sym, KnowsNow, OnlyReads, Told}
 use Rattle.ss_store.proofs.Common.{weaker, shown, on_err, RecordsState, shown_by, Record, Landmark, At, Entry, Figures, joined, Rule, rule_of, params_of}
 use Rattle.ss_store.proofs.Common.{lies_free, Stream, Window, entries_of, records_held, slots_held, span_held, span_of, window_record, times_held, times_of}
-use Rattle.ss_store.proofs.Common.{StreamParts, TurnsShown, IsRead, verdict_of_read, IfChanged, IsFirm, ChangedIsHeld, window_slots_of, IsPartlyJoined}
+use Rattle.ss_store.proofs.Common.{CrashTriple, StreamParts, TurnsShown, IsRead, verdict_of_read, IfChanged, IsFirm, ChangedIsHeld, window_slots_of, IsPartlyJoined}
 use Rattle.ss_store.proofs.Common.{values_held, with_windows, IsHeldIn, IsJoinedIn, AreSomeLive, LiveSlotsGo, HasRecords, ReadError, HasRecords-permutation, StaysOr}
 use Rattle.std.specs.Prelude.{IsTrue}
 use Rattle.ss_codec.specs.declared.record.Record.TheVariants as records
 use Rattle.ss_store.specs.Slots.{StagesTwo}
 use Rattle.ss_query.specs.declared.read_error.ReadError.TheVariants as fault
-use Rattle.ss_store.proofs.ShownCalls.{StaysOr-weaker, TurnsShown-failed, TurnsShown-reads, TurnsShown-then}
+use Rattle.ss_store.proofs.Calls.{CrashTriple-failed}
+use Rattle.ss_store.proofs.ShownCalls.{StaysOr-weaker, TurnsShown-reads, TurnsShown-then}
 use Rattle.ss_store.proofs.LiveSlots.{AreSomeLive-part, AreSomeLive-permutation, LiveSlotsGo-beside, LiveSlotsGo-permutation}
 use Rattle.ss_store.proofs.Pairs.{AreJoined, AreSlots, JoinsHeld, JoinsHeld-pair, SameButLine}
 
@@ -127,13 +128,12 @@ module _ (others : List (ℕ × Option Record)) (part new : StreamParts) (s : St
       (λ image left. left) (λ image left. left)
 
 -- where the records weren't read nothing was staged
-pub TurnsShown-not_read : {T E : Type 0} (others : List (ℕ × Option Record)) (part : StreamParts) (s : Stream) (Q : List ℕ → Type 0)
+pub TurnsShown-not_read : {T E : Type 0} (others : List (ℕ × Option Record)) (part : StreamParts) (s : Stream) (after : Type 0)
     (old_records new_records : RecordsState) (old new : Told) (result : Result T E) →
     IsErr result → KnowsNow old → OnlyReads old new →
-    TurnsShown old_records new_records (IsHeldIn others part s) (IsPartlyJoined others s) Q old new result
-TurnsShown-not_read others part s Q old_records new_records old new result failed knows reads =
-    TurnsShown-failed old_records new_records new_records (IsHeldIn others part s) (IsPartlyJoined others s) (IsHeldIn others part s) Q old new result result
-    failed
+    CrashTriple (IsHeldIn others part s (shown_by old_records old.content)) (StaysOr old (IsPartlyJoined others s)) after old new result
+TurnsShown-not_read others part s after old_records new_records old new result failed knows reads =
+    CrashTriple-failed _ _ after _ old new result result failed
     (TurnsShown-reads old_records new_records (IsHeldIn others part s) (IsPartlyJoined others s) old new result knows reads
     (on_err result (new_records.journal ≡ old_records.journal) failed))
 

@@ -1,5 +1,5 @@
 -- What a store holds, and the state of an image that has its records. What an image recovers to is a property of its map.
-use Rattle.ss_store.proofs.Common.{◌≡◌, ℕ, List, refl, sym, subst, ◌∙◌, Event, SlotMap, StandsFor, redo, stands, not_a_store, bad_entry, SameMap-refl}
+use Rattle.ss_store.proofs.Common.{◌≡◌, ℕ, List, refl, sym, subst, ◌∙◌, SlotMap, StandsFor, redo, stands, not_a_store, bad_entry, SameMap-refl}
 use Rattle.ss_store.proofs.Common.{StandsFor-from, Happened, IsState, Stream, state, AllAgree, StoreIsIn, StoreState, Recovers, Stands, recovered_from}
 use Rattle.ss_store.proofs.Common.{recovers}
 use Rattle.ss_journal.specs.Redo.{Redone}

@@ -1,6 +1,6 @@
 -- A call that adds an event of landmarks: what it turns the disk into, and what is held after it.
 use Rattle.ss_store.proofs.Common.{◌≡◌, ◌∙◌, ℕ, ℤ, ◌+◌, ◌-◌, ◌≤◌, Bool, List, [], ◌∷◌, ◌++◌, length, refl, ap, sym, subst, arith, length-append}
-use Rattle.ss_store.proofs.Common.{IsPermutation, Option, None, Some, MatchOption, inl, inr, ⊎_elim, IsTrue, Result, option_map, slice_index}
+use Rattle.ss_store.proofs.Common.{IsPermutation, Option, None, Some, MatchOption, ⊎_elim, IsTrue, Result, option_map, slice_index}
 use Rattle.ss_store.proofs.Common.{IsPermutation-refl, IsPermutation-sym, Told, LAST_TIME, is_valid, Record, IsValue-is_valid, Landmark, LandmarkValue}
 use Rattle.ss_store.proofs.Common.{all_values, closed_at, open_landmark, opened_at, with_value, AreKnown, CanClose, all_values-close, all_values-open}
 use Rattle.ss_store.proofs.Common.{all_values-take, CanBeSaid, later, with_closed, IsStream, Stream, Agrees, all_value_records, in_slots, landmark_record}

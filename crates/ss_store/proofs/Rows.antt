@@ -12,7 +12,6 @@ use Rattle.ss_catalog.specs.declared.event.Event.TheVariants as events
 use Rattle.ss_catalog.specs.Params.{power}
 use Rattle.ss_power.specs.Power.{power_length}
 use Rattle.ss_journal.specs.Checks.{entry_form, slot_form}
-use Rattle.ss_journal.specs.declared.kind.Kind.TheVariants.{Checked}
 use Rattle.ss_journal.specs.Format.{is_born, is_unborn, kind_of, magic}
 use Rattle.ss_journal.specs.Entries.{entries, entry_body, is_good, puts_of}
 use Rattle.ss_journal.specs.Redo.{redo}

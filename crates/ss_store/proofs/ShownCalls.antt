@@ -1,7 +1,7 @@
 -- What calls in a row make of what records show, of which some is staged, and what a seal makes of it. In each lemma the disks
 -- are plain values: a caller strips the premise that the disk tells.
 use Rattle.ss_store.proofs.Common.{◌≡◌, ◌⊎◌, ⊎_elim, inl, inr, ℕ, List, [], ◌∷◌, Err, Ok, Option, Result, length, refl, subst, sym, IsPermutation}
-use Rattle.ss_store.proofs.Common.{on_ok_weaker, IsErr, OnOk, now, read_leaves, nothing_pending-same, weaker, KnowsNow, LeavesOnly, OnlyReads, NothingPending}
+use Rattle.ss_store.proofs.Common.{on_ok_weaker, IsErr, OnOk, now, weaker, KnowsNow, LeavesOnly, OnlyReads, NothingPending}
 use Rattle.ss_store.proofs.Common.{Told, KeepsShown, IsSealed, JournalState, shown, SlotMap, StandsFor, changed, Put, SameMap-refl, StandsFor-also}
 use Rattle.ss_store.proofs.Common.{StandsFor-from, StandsFor-same, shown-sealed, on_err, on_ok, AreKept, RecordsState, shown_by, Record, occupied, HasRecords}
 use Rattle.ss_store.proofs.Common.{StandsLike, StaysOr, Turns, TurnsShown}

@@ -1,7 +1,7 @@
 -- How many slots a history allows, and images that use no more.
-use Rattle.ss_store.proofs.Common.{◌≡◌, ◌⊎◌, ◌+◌, ◌≤◌, ◌++◌, ⊎_elim, inl, inr, ℕ, List, [], ◌∷◌, None, Option, Result, Some, ap, append_assoc, arith, subst}
+use Rattle.ss_store.proofs.Common.{◌≡◌, ◌+◌, ◌≤◌, ◌++◌, ⊎_elim, inl, inr, ℕ, List, [], ◌∷◌, None, Option, Result, Some, ap, append_assoc, arith, subst}
 use Rattle.ss_store.proofs.Common.{sym, append-nil, on_ok_weaker, OnOk, max, weaker, LeavesOnly, NothingPending, Told, on_ok, SlotMap, StandsFor, Happened}
-use Rattle.ss_store.proofs.Common.{live, state, RecordsState, shown_by, StaysWithin, Stands, IsShort, StandsShort, UsesAtMost, most_needed, StaysOr}
+use Rattle.ss_store.proofs.Common.{live, state, RecordsState, shown_by, StaysWithin, IsShort, StandsShort, UsesAtMost, most_needed, StaysOr}
 use Rattle.ss_store.specs.Uses.{most_needed_from}
 use Rattle.ss_store.proofs.KeptStates.{Stands-of_map}
 use Rattle.ss_store.proofs.ShownCalls.{of_map-like}
@@ -62,7 +62,7 @@ module _ {T E : Type 0} (was is : RecordsState) (old new : Told) (result : Resul
   IsShort-staged None more short = on_ok result tt
   IsShort-staged (Some n) more short =
       on_ok_weaker result (λ (uses : IsShort (Some n) history (shown_by is new.content)). IsShort-more (Some n) history more (shown_by is new.content) uses)
-      ((within (max n (most_needed history + 1)) (allowed n)).content short)
+      ((within.turns (max n (most_needed history + 1)) (allowed n)).content short)
 
   -- what a crash leaves: an image like the content, or one that is no longer than is allowed
   pub moments-staged : (used : Option ℕ) (M L : List ℕ → Type 0) → NothingPending old → IsShort used history (shown_by was old.content) →
@@ -77,4 +77,4 @@ module _ {T E : Type 0} (was is : RecordsState) (old new : Told) (result : Resul
         | inl same ↦ of_content image (λ found stands. left.1.2 found (subst (λ (i : List ℕ). StandsFor i found) (sym same) stands))
         | inr uses ↦ of_moved image left.0 (of_map-like (UsesAtMost most) (UsesAtMost-of_map most) image (left.1.0, uses, left.1.2))
       ])
-      (both old new (StaysOr old M) (StaysOr old (UsesAtMost most)) run ((within most (allowed n)).any_moment none short))
+      (both old new (StaysOr old M) (StaysOr old (UsesAtMost most)) run ((within.turns most (allowed n)).any_moment none short))

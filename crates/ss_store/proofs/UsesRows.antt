@@ -131,10 +131,10 @@ module _ {T E : Type 0} (value : T) (old new : Told) where
     shows-two = subst (UsesAtMost 2) (sym shown) uses-two
 
     stays-three : shown_by is new.content ≡ three_slots → ⊥
-    stays-three then = uses-three (subst (UsesAtMost 2) then ((stays 2 (omega arith)).content shows-two))
+    stays-three then = uses-three (subst (UsesAtMost 2) then ((stays.turns 2 (omega arith)).content shows-two))
 
     stays-crash : NothingPending old → LeavesOnly old new (StandsLike (λ image. (image ≡ old.content) ⊎ UsesAtMost 2 image))
-    stays-crash none = (stays 2 (omega arith)).any_moment none shows-two
+    stays-crash none = (stays.turns 2 (omega arith)).any_moment none shows-two
 
 -- neither an opening nor a seal takes a slot, and no image that a crash leaves of them uses one more
 opens-within : (result : Result StoreState OpenError) (old new : Told) → OpensStore result old new → KeepsWithin 0 result old new

@@ -1,7 +1,7 @@
 -- A window that is read: its record among all, and the window that it is of.
 use Rattle.ss_store.proofs.Common.{◌≡◌, ℕ, zero, suc, Bool, true, IsTrue, List, [], ◌∷◌, ◌++◌, map, remove, refl, ap, sym, ◌∙◌, subst, None, Some, Option, Ok}
 use Rattle.ss_store.proofs.Common.{Err, slice_get, option_map, IfSome, list_all, and_parts, get_or_from_slice_get, none-some, same_Some, slice_get-map}
-use Rattle.ss_store.proofs.Common.{slice_get_within, Event, Record, entry_at, index_of, At, Entry, Figures, lengths_of, Happened, lies_free}
+use Rattle.ss_store.proofs.Common.{slice_get_within, Record, entry_at, index_of, At, Entry, Figures, lengths_of, Happened, lies_free}
 use Rattle.ss_store.proofs.Common.{IsReadWithinTarget, IsHistory, placed_of, Stream, state, stream_numbered, values_in, Placed, Window, Agrees, entries_of}
 use Rattle.ss_store.proofs.Common.{marks_held, records_held, span_held, span_of, times_held, times_of, window_record, windows_held, StreamParts, DiskView}
 use Rattle.ss_store.proofs.Common.{OfContent, Told, Step, IsFirm, fine, RecordsState, shown_by, IsRead, verdict_of_read, ReadError, ShowsWindow, StoreIsIn}

@@ -1,7 +1,7 @@
 -- How many slots calls in a row use, also in a crash. In each lemma the disks are plain values: a caller strips the premise that the disk tells.
 use Rattle.ss_store.proofs.Common.{◌≡◌, ◌≤◌, ⊎_elim, ℕ, List, Err, Ok, Result, arith, subst, sym, IsErr, OnOk, max, reads-none, weaker, KnowsNow, OnlyReads}
 use Rattle.ss_store.proofs.Common.{Told, KeepsMap, KeepsShown, IsSealed, SlotMap, StandsFor, SameMap-refl, StandsFor-also, StandsFor-from, StandsFor-same}
-use Rattle.ss_store.proofs.Common.{shown-sealed, on_ok, AreKept, RecordsState, shown_by, KeepsWithin, StaysWithin, Turns, TurnsShown, UsesAtMost, StaysOr}
+use Rattle.ss_store.proofs.Common.{shown-sealed, on_ok, AreKept, RecordsState, shown_by, KeepsWithin, StaysWithin, UsesAtMost, StaysOr}
 use Rattle.ss_store.proofs.Calls.{Turns-answers, Turns-failed, Turns-joined, Turns-reads}
 use Rattle.ss_store.proofs.Changes.{extent-kept}
 use Rattle.ss_store.proofs.ShownCalls.{IsOfMap, Turns-not_sealed, Turns-sealed, TurnsShown-answers, TurnsShown-failed, TurnsShown-kept}
@@ -43,30 +43,37 @@ module _ {S F T E : Type 0} {used more : ℕ} {was is : RecordsState} {old new :
   -- a step answered Ok, and the call answers whatever it answers
   pub StaysWithin-answers : {value : S} (result : Result T E) → used ≤ more → StaysWithin {T = S} {E = F} used was is (Ok value) old new →
       StaysWithin more was is result old new
-  StaysWithin-answers {value} result less stays n few =
-      TurnsShown-answers was is (UsesAtMost n) (UsesAtMost n) (UsesAtMost n) old new value result (stays n (omega (arith, less, few)))
+  StaysWithin-answers {value} result less stays = record {
+    turns = λ n few.
+        TurnsShown-answers was is (UsesAtMost n) (UsesAtMost n) (UsesAtMost n) old new value result (stays.turns n (omega (arith, less, few)));
+  }
 
   -- a step failed, and its failure is handed on
   pub StaysWithin-failed : {between : RecordsState} {step : Result S F} (result : Result T E) → IsErr result → used ≤ more →
       StaysWithin used was between step old new → StaysWithin more was is result old new
-  StaysWithin-failed {between} {step} result failed less stays n few =
-      TurnsShown-failed was between is (UsesAtMost n) (UsesAtMost n) (UsesAtMost n) (UsesAtMost n) old new step result failed
-      (stays n (omega (arith, less, few)))
+  StaysWithin-failed {between} {step} result failed less stays = record {
+    turns = λ n few.
+        TurnsShown-failed was between is (UsesAtMost n) (UsesAtMost n) (UsesAtMost n) (UsesAtMost n) old new step result failed
+        (stays.turns n (omega (arith, less, few)));
+  }
 
 -- one call after another
 pub StaysWithin-then : {S F T E : Type 0} {first second used : ℕ} {was between is : RecordsState} {old mid new : Told} {value : S} (result : Result T E) →
     KnowsNow mid → first ≤ used → second ≤ used → StaysWithin {T = S} {E = F} first was between (Ok value) old mid →
     StaysWithin second between is result mid new → StaysWithin used was is result old new
-StaysWithin-then {was = was} {between = between} {is = is} {old = old} {mid = mid} {new = new} {value = value} result knows less also one two n few =
-    let uses = UsesAtMost n in
-    TurnsShown-then was between is uses uses uses uses uses uses old mid new value result knows (one n (omega (arith, less, few)))
-    (two n (omega (arith, also, few))) (λ image left. left) (λ image left. left)
+StaysWithin-then {was = was} {between = between} {is = is} {old = old} {mid = mid} {new = new} {value = value} result knows less also one two = record {
+  turns = λ n few.
+      let uses = UsesAtMost n in
+      TurnsShown-then was between is uses uses uses uses uses uses old mid new value result knows (one.turns n (omega (arith, less, few)))
+      (two.turns n (omega (arith, also, few))) (λ image left. left) (λ image left. left);
+}
 
 -- a call that only reads
 pub StaysWithin-reads : {T E : Type 0} {used : ℕ} {was is : RecordsState} {old new : Told} (result : Result T E) → KnowsNow old → OnlyReads old new →
     OnOk result (is.journal ≡ was.journal) → StaysWithin used was is result old new
-StaysWithin-reads {was = was} {is = is} {old = old} {new = new} result knows reads same n few =
-    TurnsShown-reads was is (UsesAtMost n) (UsesAtMost n) old new result knows reads same
+StaysWithin-reads {was = was} {is = is} {old = old} {new = new} result knows reads same = record {
+  turns = λ n few. TurnsShown-reads was is (UsesAtMost n) (UsesAtMost n) old new result knows reads same;
+}
 
 -- no call
 pub StaysWithin-none : {T E : Type 0} {used : ℕ} {was is : RecordsState} {disk : Told} (result : Result T E) → KnowsNow disk →
@@ -76,20 +83,24 @@ StaysWithin-none {disk = disk} result knows same = StaysWithin-reads result know
 -- room is made, or what is staged is sealed
 pub StaysWithin-kept : {T E : Type 0} {used : ℕ} {was is : RecordsState} {old new : Told} (result : Result T E) → AreKept was old.content →
     KeepsShown was.journal is.journal old new result → StaysWithin used was is result old new
-StaysWithin-kept {was = was} {is = is} {old = old} {new = new} result kept keeps n few =
-    TurnsShown-kept was is (UsesAtMost n) old new result (UsesAtMost-of_map n) kept keeps
+StaysWithin-kept {was = was} {is = is} {old = old} {new = new} result kept keeps = record {
+  turns = λ n few. TurnsShown-kept was is (UsesAtMost n) old new result (UsesAtMost-of_map n) kept keeps;
+}
 
 -- room is made, and then puts are staged
 pub StaysWithin-staged : {S F T E : Type 0} {used : ℕ} {was is : RecordsState} {old mid : Told} {value : S} (between : RecordsState) (result : Result T E) →
     AreKept was old.content → AreKept is mid.content → is.journal.extent ≤ max was.journal.extent used →
     KeepsShown {T = S} {E = F} was.journal between.journal old mid (Ok value) → StaysWithin used was is result old mid
-StaysWithin-staged {F = F} {used = used} {was = was} {is = is} {old = old} {mid = mid} {value = value} between result kept then extent keeps n few =
-    let room = StaysWithin-kept {E = F} {used = used} {was = was} {is = between} {old = old} {new = mid} (Ok value) kept keeps n few in
-    record {
-      content = λ uses. on_ok result (UsesAtMost-kept n is mid.content then (omega (arith, extent, few, extent-uses n was old.content kept uses)));
-      any_moment = room.any_moment;
-      durable = λ none. on_ok result (room.durable none);
-    }
+StaysWithin-staged {F = F} {used = used} {was = was} {is = is} {old = old} {mid = mid} {value = value} between result kept then extent keeps = record {
+  turns = λ n few.
+      let stays = StaysWithin-kept {E = F} {used = used} {was = was} {is = between} {old = old} {new = mid} (Ok value) kept keeps in
+      let room = stays.turns n few in
+      record {
+        content = λ uses. on_ok result (UsesAtMost-kept n is mid.content then (omega (arith, extent, few, extent-uses n was old.content kept uses)));
+        any_moment = room.any_moment;
+        durable = λ none. on_ok result (room.durable none);
+      };
+}
 
 -- ---- and what comes to the disk
 
@@ -121,7 +132,7 @@ module _ {S F T E : Type 0} {used : ℕ} {was between : RecordsState} {old mid :
   KeepsWithin-not_sealed {step} result failed stays n few =
       let uses = UsesAtMost n in
       Turns-not_sealed was uses uses uses old at_rest (λ image has. has) (λ image has. has) (UsesAtMost-of_map n) between between uses mid mid step result
-      uses failed (stays n few)
+      uses failed (stays.turns n few)
 
   pub KeepsWithin-sealed : {new : Told} {value : S} (is : RecordsState) (result : Result T E) → KnowsNow mid → OnOk result (IsSealed is.journal) →
       StaysWithin {T = S} {E = F} used was between (Ok value) old mid → KeepsShown between.journal is.journal mid new result →
@@ -129,7 +140,7 @@ module _ {S F T E : Type 0} {used : ℕ} {was between : RecordsState} {old mid :
   KeepsWithin-sealed {new} {value} is result knows sealed stays keeps n few =
       let uses = UsesAtMost n in
       Turns-sealed was uses uses uses old at_rest (λ image has. has) (λ image has. has) (UsesAtMost-of_map n) between is uses mid new value result
-      (UsesAtMost-of_map n) (λ image has. has) knows sealed (stays n few) keeps
+      (UsesAtMost-of_map n) (λ image has. has) knows sealed (stays.turns n few) keeps
 
 -- what is shown where all is sealed is the content
 sealed-uses : {T E : Type 0} (n : ℕ) (is : RecordsState) (content : List ℕ) (result : Result T E) → OnOk result (IsSealed is.journal) →
@@ -141,7 +152,7 @@ sealed-uses n is content (Err e) sealed uses = tt
 pub KeepsWithin-rest : {T E : Type 0} {used : ℕ} {was is : RecordsState} {old new : Told} (result : Result T E) → IsSealed was.journal →
     OnOk result (IsSealed is.journal) → StaysWithin used was is result old new → KeepsWithin used result old new
 KeepsWithin-rest {was = was} {is = is} {old = old} {new = new} result at_rest sealed stays n few =
-    let turns = stays n few in
+    let turns = stays.turns n few in
     let uses = UsesAtMost n in
     let shown : uses old.content → uses (shown_by was old.content) = λ has. subst uses (sym (shown-sealed was.journal old.content at_rest)) has in
     record {

@@ -86,9 +86,8 @@ abbrev pub SealsHistory : {T E : Type 0} → RecordsState → RecordsState → R
 SealsHistory was is result old new = (history : List Happened) → TurnsHistory was is history (Stands history) history old new result
 
 -- A call that stages uses no more slots than so many, where no more were used, and none of the images does that a crash leaves.
-abbrev pub StaysWithin : {T E : Type 0} → ℕ → RecordsState → RecordsState → Result T E → Told → Told → Type 0
-StaysWithin used was is result old new =
-    (n : ℕ) → used ≤ n → TurnsShown was is (UsesAtMost n) (UsesAtMost n) (UsesAtMost n) old new result
+pub record StaysWithin {T E : Type 0} (used : ℕ) (was is : RecordsState) (result : Result T E) (old new : Told) : Type 0 where
+  pub turns : (n : ℕ) → used ≤ n → TurnsShown was is (UsesAtMost n) (UsesAtMost n) (UsesAtMost n) old new result
 
 -- and so does one that leaves nothing staged
 abbrev pub KeepsWithin : {T E : Type 0} → ℕ → Result T E → Told → Told → Type 0

@@ -1,5 +1,5 @@
 -- What a landmark takes: which event that is, what it makes of a stream, and which record it puts.
-use Rattle.std.specs.Prelude.{◌≡◌, ◌⊎◌, ℕ, ◌+◌, Bool, not, FitsSigned, List, [], ◌∷◌, ◌++◌, length, Option, Some, None, MatchOption, ⊤}
+use Rattle.std.specs.Prelude.{◌≡◌, ℕ, ◌+◌, Bool, not, FitsSigned, List, [], ◌∷◌, ◌++◌, length, Option, Some, None, MatchOption, ⊤}
 use Rattle.std.specs.Int.{w64}
 use Rattle.std.specs.Option.{option_map_or}
 use Rattle.ss_catalog.specs.declared.event.Event.{Event}
@@ -16,7 +16,6 @@ use Rattle.ss_model.specs.Marks.{has_open, with_closed, with_marked, with_opened
 use Rattle.ss_model.specs.Refusals.{first_that_applies, is_before, is_past}
 use Rattle.ss_model.specs.State.{Stream}
 use Rattle.ss_parts.specs.declared.parts.StreamParts.{StreamParts}
-use Rattle.ss_query.specs.Held.{IsHeldIn}
 use Rattle.ss_store.specs.Kept.{is_early_held}
 use Rattle.ss_store.specs.declared.marking.Mark.{Mark}
 use Rattle.ss_store.specs.declared.marking.Mark.TheVariants.{Open, Value, Close}

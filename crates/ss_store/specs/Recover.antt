@@ -1,6 +1,5 @@
 -- What an image stands for: the state that opening it gives.
 use Rattle.std.specs.Prelude.{◌≡◌, ℕ, List}
-use Rattle.ss_catalog.specs.declared.event.Event.{Event}
 use Rattle.ss_journal.specs.Redo.{Redone, redo, not_a_store, bad_entry, stands}
 use Rattle.ss_model.specs.History.{Happened}
 use Rattle.ss_model.specs.ClosedState.{closed_state}

@@ -10,5 +10,5 @@ push_window-requires-clause-later g c =
 pub returns-clause-timed : goal.returns-clause-timed
 returns-clause-timed g c =
     on_ok_weaker c.push_window.result
-    (IsTimed-next c.args.line.now.entries c.args.at c.get-t.result c.args.index.now.times c.push_window.new.index.times c.get-t.ensures.entry c.requires.timed)
+    (IsTimed-next c.args.line.now.entries c.args.at c.get-t.result c.args.index.now.times c.push_window.new.self.times c.get-t.ensures.entry c.requires.timed)
     c.push_window.ensures.noted

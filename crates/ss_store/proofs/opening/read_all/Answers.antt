@@ -1,4 +1,4 @@
-use Rattle.ss_store.proofs.Common.{subst, sym, List, Err, ℕ, err_from_is_err_and, reads-joined, step-then, IsKept, StandsFor, after-step}
+use Rattle.ss_store.proofs.Common.{subst, sym, List, ℕ, err_from_is_err_and, reads-joined, step-then, IsKept, StandsFor, after-step}
 use Rattle.ss_outside.proofs.StepLemmas.{step-verdict}
 use Rattle.ss_store.proofs.Opens.{IsRebuilt-from, OpensAs-journal, OpensAs-recover, StandsFor-kept, firm-journal, firm-recover, verdict-journal}
 use Rattle.ss_store.proofs.Opens.{verdict-recover}

@@ -1,5 +1,5 @@
 use Rattle.ss_store.proofs.Common.{refl, err_from_is_err_and, step-as, failed, fine, after-step, step-next, closed_stream, IsHeldIn, IsPartlyJoined}
-use Rattle.ss_store.proofs.Calls.{Turns-answers, Turns-failed}
+use Rattle.ss_store.proofs.Calls.{CrashTriple-failed, Turns-answers}
 use Rattle.ss_store.proofs.Joinings.{IsPartlyJoined-none}
 use Rattle.ss_store.proofs.Sealings.{IsHeldIn-of_map, IsPartlyJoined-closed, IsPartlyJoined-of_map, TurnsStream-not_sealed, TurnsStream-sealed}
 use Rattle.ss_store.proofs.Wholes.{KeepsAtRest-sealed}
@@ -32,7 +32,7 @@ returns-in_err-seal-clause-closes g c =
     (g.met.D.Disk.knows_now c.stage_joins.new.disk then) tt staged seals in
     record {
       turns = λ others s.
-          Turns-failed (IsHeldIn others part s) (IsPartlyJoined others s) (IsHeldIn others now (closed_stream s)) _ _ _ _ _ refl (all.turns others s);
+          CrashTriple-failed _ _ _ _ _ _ _ _ refl (all.turns others s);
       firm = all.firm;
       kept = tt;
       within = KeepsWithin-failed _ refl all.within;

@@ -7,7 +7,8 @@ use Rattle.ss_store.proofs.Pairs.{AreJoined, ArePair-read, AreSlots-joined, Join
 use Rattle.ss_store.proofs.Pairs.{StandsIn-right, joined_line, next_is, one_part, one_part-same}
 use Rattle.ss_store.proofs.KeyedWindows.{AreDue-pair}
 use Rattle.ss_store.proofs.Rising.{IsTimed-joined, IsTimed-seam, TimesRise-any, TimesRise-seam, rise-joined}
-use Rattle.ss_store.proofs.ShownCalls.{TurnsShown-answers, TurnsShown-failed}
+use Rattle.ss_store.proofs.Calls.{CrashTriple-failed}
+use Rattle.ss_store.proofs.ShownCalls.{TurnsShown-answers}
 use Rattle.ss_store.proofs.Spans.{TileFrom-joined, values_held-joined}
 use Rattle.ss_store.proofs.Costs.{StagesAtCost-after_read, StagesAtCost-answers, StagesAtCost-failed, StagesAtCost-reads}
 use Rattle.ss_store.proofs.held.HeldStream.join.Goals as goal
@@ -102,8 +103,7 @@ returns-in_err-stage_two-clause-joins g c =
     StagesAtCost-failed _ refl (omega arith) (omega arith) (StagesAtCost-after_read _ knows knows_read read.reads
     c.in_ok-read_joined.ensures.journal staged) (λ both. record {
       turns = λ others s.
-          TurnsShown-failed c.args.records.now c.stage_two.new.records c.stage_two.new.records (IsHeldIn others part s) (IsPartlyJoined others s)
-          (IsJoinedIn others new s) _ _ _ _ _ refl
+          CrashTriple-failed _ _ _ _ _ _ _ _ refl
           (TurnsShown-join others part new s w v same pair.joined c.args.records.now c.read_joined.new.records c.stage_two.new.records _ _ _
           c.in_ok-read_joined.field-0 _ knows knows_read read.reads c.in_ok-read_joined.ensures.journal read.joined both);
       firm = λ others s held. tt;

@@ -1,6 +1,6 @@
 use Rattle.ss_store.proofs.Common.{Some, arith, refl, subst, sym, err_from_is_err_and, step-as, DiskView, RecordsState, AllEndBy-later, entries_of}
-use Rattle.ss_store.proofs.Common.{StreamParts, IsOrdered, KeepsWhole, IsHeldIn, landmarks_after, slots_used, with_mark}
-use Rattle.ss_store.proofs.ShownCalls.{TurnsShown-answers, TurnsShown-failed}
+use Rattle.ss_store.proofs.Common.{StreamParts, IsOrdered, KeepsWhole, landmarks_after, slots_used}
+use Rattle.ss_store.proofs.Calls.{CrashTriple-answers, CrashTriple-failed}
 use Rattle.ss_store.proofs.Marked.{IsMarked}
 use Rattle.ss_store.proofs.MarkedCalls.{AreSomeLive-last, FitsMark-valid, IsAdding-is, IsLastSlot-is, IsMarked-marked_part, LiveSlotsGo-mark_added}
 use Rattle.ss_store.proofs.MarkedCalls.{LiveSlotsGo-mark_closed, Turns-added, Turns-closed, marked_part, slots_used-adding}
@@ -26,8 +26,9 @@ returns-in_err-stage_record-in-Open-clause-takes g c =
     rw (p.1, p.2)
     (step-as c.in_err-stage_record-in-Open.ensures.stages (λ made. StagesAtCost-failed _ refl (omega (arith, used)) (omega arith) made (λ added. record {
       turns = λ others s.
-          TurnsShown-failed _ _ _ (IsHeldIn others part s) (IsHeldIn others part s) (IsHeldIn others new (with_mark s t mark)) _ _ _ _ _ refl
-          (Turns-added part new slot t mark marked can.can can.accepted c.requires.time valid others s _ _ _ _ _ (IsAdding-is mark c.in-Open.is)
+          CrashTriple-failed _ _ _ _ _ _ _ _ refl
+          (Turns-added part new slot t mark marked can.can can.accepted c.requires.time valid others s
+          c.args.records.now c.stage_record.new.records _ _ _ (IsAdding-is mark c.in-Open.is)
           (rw written.value at added));
       firm = λ others s held. tt;
     })))
@@ -54,8 +55,9 @@ returns-in_err-stage_replaced-in-Close-clause-takes g c =
     rw (p.1, p.2)
     (step-as c.in_err-stage_replaced-in-Close.ensures.stages (λ made. StagesAtCost-failed _ refl (omega arith) (omega arith) made (λ closed. record {
       turns = λ others s.
-          TurnsShown-failed _ _ _ (IsHeldIn others part s) (IsHeldIn others part s) (IsHeldIn others new (with_mark s t mark)) _ _ _ _ _ refl
-          (Turns-closed part new slot t mark c.in-Close.is marked can.can can.accepted c.requires.time valid written.known last others s _ _ _ _ _
+          CrashTriple-failed _ _ _ _ _ _ _ _ refl
+          (Turns-closed part new slot t mark c.in-Close.is marked can.can can.accepted c.requires.time valid written.known last others s
+          c.args.records.now c.stage_replaced.new.records _ _ _
           (rw written.value at closed));
       firm = λ others s held. tt;
     })))
@@ -146,8 +148,9 @@ returns-clause-takes g c =
           rw (w.records-is, w.disk-is)
           (step-as w.in_ok-stage_record-in-Open.ensures.stages (λ made. StagesAtCost-answers _ (omega (arith, used)) (omega arith) made (λ added. record {
             turns = λ others s.
-                TurnsShown-answers _ _ (IsHeldIn others part s) (IsHeldIn others part s) (IsHeldIn others new (with_mark s t mark)) _ _ tt _
-                (Turns-added part new slot t mark (marked g c) can.can can.accepted c.requires.time valid others s _ _ _ _ _ (IsAdding-is mark w.in-Open.is)
+                CrashTriple-answers _ _ _ _ _ tt _
+                (Turns-added part new slot t mark (marked g c) can.can can.accepted c.requires.time valid others s
+                c.args.records.now w.stage_record.new.records _ _ _ (IsAdding-is mark w.in-Open.is)
                 (rw written.value at added));
             firm = λ others s held. tt;
           }))))
@@ -156,8 +159,9 @@ returns-clause-takes g c =
           rw (w.records-is, w.disk-is)
           (step-as w.in_ok-stage_replaced-in-Close.ensures.stages (λ made. StagesAtCost-answers _ (omega arith) (omega arith) made (λ closed. record {
             turns = λ others s.
-                TurnsShown-answers _ _ (IsHeldIn others part s) (IsHeldIn others part s) (IsHeldIn others new (with_mark s t mark)) _ _ tt _
-                (Turns-closed part new slot t mark w.in-Close.is (marked g c) can.can can.accepted c.requires.time valid written.known last others s _ _ _ _ _
+                CrashTriple-answers _ _ _ _ _ tt _
+                (Turns-closed part new slot t mark w.in-Close.is (marked g c) can.can can.accepted c.requires.time valid written.known last others s
+                c.args.records.now w.stage_replaced.new.records _ _ _
                 (rw written.value at closed));
             firm = λ others s held. tt;
           }))))

@@ -10,7 +10,8 @@ use Rattle.ss_target.specs.Targets.{lengths-positive}
 use Rattle.ss_store.proofs.Additions.{IsAdded, IsOrdered-added, LiveSlotsGo-added, TileFrom-added, TurnsShown-added, single_entry, values_held-added}
 use Rattle.ss_store.proofs.KeyedWindows.{FollowUpTo-take, FollowUpTo-tiles, NoPairFits-entries, take-all}
 use Rattle.ss_store.proofs.Rising.{IsTimed-added}
-use Rattle.ss_store.proofs.ShownCalls.{TurnsShown-answers, TurnsShown-failed}
+use Rattle.ss_store.proofs.Calls.{CrashTriple-failed}
+use Rattle.ss_store.proofs.ShownCalls.{TurnsShown-answers}
 use Rattle.ss_store.proofs.Costs.{StagesAtCost-answers, StagesAtCost-failed}
 use Rattle.ss_store.proofs.held.HeldStream.put_value.Goals as goal
 
@@ -50,8 +51,7 @@ returns-in_err-stage_record-clause-puts g c =
     rw (p.1, p.2)
     (step-as c.in_err-stage_record.ensures.stages (λ made. StagesAtCost-failed _ refl (omega arith) (omega arith) made (λ added. record {
       turns = λ others s.
-          TurnsShown-failed c.args.records.now c.stage_record.new.records c.stage_record.new.records (IsHeldIn others part s)
-          (IsHalfway others part s c.args.t c.args.v) (IsHeldIn others new (with_single s c.args.t c.args.v)) _ _ _ _ _ refl
+          CrashTriple-failed _ _ _ _ _ _ _ _ refl
           (TurnsShown-added part new c.args.slot c.args.t (added_part-added part c.args.slot c.args.t) c.args.v c.one.result single
           (assumption c.one.type_inv) can.room can.plain can.later others s c.args.records.now c.stage_record.new.records _ _ _
           (rw (c.values_held-position.ensures.value, c.number_of.ensures) at added));

@@ -1,9 +1,9 @@
 use Rattle.ss_store.proofs.Common.{◌∙◌, refl, sym, subst, arith, Ok, err_from_is_err_and, step-as, step-none, after-step, step-next, rule_of, params_of}
-use Rattle.ss_store.proofs.Common.{entries_of, slots_held, IsPartlyJoined, IsHeldIn, IsKeyed, IsJoinedIn, NoEntriesAreDue}
+use Rattle.ss_store.proofs.Common.{entries_of, slots_held, IsKeyed, NoEntriesAreDue}
 use Rattle.ss_store.proofs.KeyedWindows.{NoEntriesAreDue-pairs}
 use Rattle.ss_store.proofs.Closings.{IsSameStream-more, TurnsShown-closes}
 use Rattle.ss_store.proofs.LiveSlots.{AreSomeLive-go}
-use Rattle.ss_store.proofs.ShownCalls.{TurnsShown-failed}
+use Rattle.ss_store.proofs.Calls.{CrashTriple-failed}
 use Rattle.ss_store.proofs.Wholes.{JoinsWindows-more, JoinsWindows-none, StandsAfter-none, StandsAfter-then}
 use Rattle.ss_store.proofs.Costs.{StagesAtCost-answers, StagesAtCost-none, StagesAtCost-then}
 use Rattle.ss_store.proofs.held.HeldStream.stage_joins.Goals as goal
@@ -69,8 +69,7 @@ returns-in_err-join-clause-closes g c =
     let all = JoinsWindows-more _ knows before joins in
     record {
       turns = λ others s.
-          TurnsShown-failed c.args.records.now c.join.new.records c.join.new.records (IsHeldIn others part s) (IsPartlyJoined others s)
-          (IsJoinedIn others c.join.new.self.part s) _ _ _ _ _ refl (all.turns others s);
+          CrashTriple-failed _ _ _ _ _ _ _ _ refl (all.turns others s);
       firm = all.firm;
     })))
 

@@ -1,4 +1,4 @@
-use Rattle.ss_store.proofs.Common.{◌≡◌, err_from_is_err_and}
+use Rattle.ss_store.proofs.Common.{err_from_is_err_and}
 use Rattle.ss_store.specs.declared.error.AskError.TheVariants.{Refused}
 use Rattle.ss_store.proofs.AnsweredQueries.{answers-seen, error-same, none-same, runs-seen}
 use Rattle.ss_store.proofs.store.Store.ask.Goals as goal

@@ -1,4 +1,4 @@
-use Rattle.ss_store.proofs.Common.{◌≡◌, false, rules, true, w64, to_z, of_z, has_open, of_part}
+use Rattle.ss_store.proofs.Common.{◌≡◌, rules, true, w64, to_z, of_z, has_open, of_part}
 use Rattle.std.specs.Prelude.{FitsSigned}
 use Rattle.ss_store.proofs.store.Store.stage_event.Goals as goal
 
