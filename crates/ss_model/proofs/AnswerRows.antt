@@ -2,15 +2,16 @@
 use Rattle.ss_model.proofs.Common.{ℤ, Option, codes, arith, refl, ints, Create, Value, Open, Close, Drop, Params, exp, power, is_guess, Kind, Query, Refusal}
 use Rattle.ss_model.proofs.Common.{Unknown, Range, Sure, SplitFigures, is_free, New, Happened, added, HasEnds, HoldsTruth, IsExactOutcome, IsOfKind, IsExact}
 use Rattle.ss_model.proofs.Common.{split_windows, Stream, Outcome, Sum}
-use Rattle.std.specs.Prelude.{◌≡◌, ℕ, pos, negsuc, true, List, [], ◌∷◌, map, Some, None}
+use Rattle.std.specs.Prelude.{◌≡◌, ℕ, Bool, pos, negsuc, true, List, [], ◌∷◌, map, Some, None}
 use Rattle.ss_windowing.specs.Windowing.{window_index}
 use Rattle.ss_power.specs.Power.{power_length}
 use Rattle.ss_catalog.specs.declared.query.Kind.TheVariants as kinds
 use Rattle.ss_catalog.specs.declared.refusal.Refusal.TheVariants as refusal
 use Rattle.ss_bounds.specs.declared.extreme.Extreme.TheVariants.{Nothing, Maybe}
 use Rattle.ss_bounds.specs.Split.{sum_interval}
-use Rattle.ss_model.specs.Answers.{outcome_of, query_refusals, refuses_query}
-use Rattle.ss_model.specs.Refusals.{refusals}
+use Rattle.ss_model.specs.Answers.{outcome_of, refuses_query}
+use Rattle.ss_model.specs.Outline.{Outline}
+use Rattle.ss_model.specs.Refusals.{range_refusals, refusals}
 use Rattle.ss_model.specs.State.{state}
 use Rattle.ss_model.specs.declared.outcome.Outcome.TheVariants.{Count, Min, Max, Estimate}
 
@@ -185,27 +186,27 @@ exact-sure : IsExact (Sure (pos 1) (pos 2)) → pos 1 ≡ pos 2
 exact-sure exact = exact
 
 -- the order in which refusals are tested
-module _ (streams : List Stream) (name : List ℕ) (t : ℕ) where
-  order-create : (params : Params) → map (λ r. r.1) (refusals streams (Create name params)) ≡
+module _ (stream : Option Outline) (numbers : List ℕ) (records : ℕ) (name : List ℕ) (t : ℕ) where
+  order-create : (params : Params) → map (λ r. r.1) (refusals stream numbers records (Create name params)) ≡
       refusal.Param ∷ refusal.Exists ∷ refusal.Streams ∷ refusal.StoreFull ∷ []
   order-create params = refl
 
-  order-value : (v : ℤ) → map (λ r. r.1) (refusals streams (Value name t v)) ≡
+  order-value : (v : ℤ) → map (λ r. r.1) (refusals stream numbers records (Value name t v)) ≡
       refusal.Unknown ∷ refusal.Time ∷ refusal.StreamFull ∷ refusal.StoreFull ∷ []
   order-value v = refl
 
-  order-open : map (λ r. r.1) (refusals streams (Open name t)) ≡
+  order-open : map (λ r. r.1) (refusals stream numbers records (Open name t)) ≡
       refusal.Unknown ∷ refusal.Open ∷ refusal.Time ∷ refusal.StoreFull ∷ []
   order-open = refl
 
-  order-close : map (λ r. r.1) (refusals streams (Close name t)) ≡ refusal.Unknown ∷ refusal.NotOpen ∷ refusal.Time ∷ []
+  order-close : map (λ r. r.1) (refusals stream numbers records (Close name t)) ≡ refusal.Unknown ∷ refusal.NotOpen ∷ refusal.Time ∷ []
   order-close = refl
 
-  order-drop : map (λ r. r.1) (refusals streams (Drop name)) ≡ refusal.Unknown ∷ []
+  order-drop : map (λ r. r.1) (refusals stream numbers records (Drop name)) ≡ refusal.Unknown ∷ []
   order-drop = refl
 
-order-query : (streams : List Stream) (q : Query) → map (λ r. r.1) (query_refusals streams q) ≡ refusal.Unknown ∷ refusal.Range ∷ []
-order-query streams q = refl
+order-range : (known : Bool) (from to : ℕ) → map (λ r. r.1) (range_refusals known from to) ≡ refusal.Unknown ∷ refusal.Range ∷ []
+order-range known from to = refl
 
 exact-count : (lo hi : ℕ) → IsExactOutcome (Count lo hi) → lo ≡ hi
 exact-count lo hi exact = exact

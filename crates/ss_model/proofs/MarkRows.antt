@@ -1,7 +1,7 @@
 -- Worked rows of histories with landmarks, their states and refusals, each computed.
 use Rattle.ss_model.proofs.Common.{◌≡◌, ℕ, ◌+◌, ◌^◌, Bool, true, false, not, List, [], ◌∷◌, ◌++◌, map, take, refl, Some, None, pos, Option, Event, Create}
 use Rattle.ss_model.proofs.Common.{Value, Open, Close, exp, power, Refusal, Landmark, opened_at, filter_of, full, union, New, Old, landmarks_of, marked_of}
-use Rattle.ss_model.proofs.Common.{values_of, Happened, added, has_open, first_that_applies, is_before, of_named, stands, row_of, Stream, last_time, live}
+use Rattle.ss_model.proofs.Common.{values_of, Happened, added, has_open, first_that_applies, is_before, is_some, of_outline, outline_named, row_of, Stream, last_time, live}
 use Rattle.ss_model.proofs.Common.{ack_of, stepped, Window}
 use Rattle.std.proofs.Common.{codes}
 use Rattle.ss_power.specs.Power.{power_length}
@@ -179,5 +179,5 @@ applies-close false false false is = let wrong : None ≡ Some refusal.StoreFull
 refuses-close_room : (streams : List Stream) (name : List ℕ) (t : ℕ) → refuses streams (Close name t) ≡ Some refusal.StoreFull → ⊥
 unfolding refuses
 refuses-close_room streams name t is =
-    applies-close (not (stands name streams)) (of_named name streams (λ s. not (has_open s.landmarks)))
-    (of_named name streams (λ s. is_before (last_time s) t)) is
+    let stream = outline_named name streams in
+    applies-close (not (is_some stream)) (of_outline stream (λ s. not (has_open s.landmarks))) (of_outline stream (λ s. is_before s.last_time t)) is

@@ -1,5 +1,5 @@
 -- What is told of the newest value of a stream is true.
-use Rattle.ss_model.proofs.Common.{◌≡◌, ◌∙◌, ℕ, suc, ◌+◌, ◌-◌, ◌<◌, ◌≤◌, Bool, List, [], ◌∷◌, ◌++◌, length, map, take, drop, max, refl, sym, ap, subst, arith}
+use Rattle.ss_model.proofs.Common.{◌≡◌, ◌∙◌, ℕ, suc, ◌+◌, ◌-◌, ◌<◌, ◌≤◌, Bool, List, [], ◌∷◌, ◌++◌, length, map, take, drop, refl, sym, ap, subst, arith}
 use Rattle.ss_model.proofs.Common.{Some, None, inl, inr, ◌≤ℤ◌, All, Contains, nat_le, nat_lt, option_map, filter, cases_Bool, nat_tests, ints, clamps}
 use Rattle.ss_model.proofs.Common.{append-nil, take-append-drop, All-append, All-cons, All-head, All-nil, Landmark, LandmarkValue, all_values, AreLandmarks}
 use Rattle.ss_model.proofs.Common.{Point, greatest, least, summary_of, time_at_end, boundaries, later, latest_of, marked_values, newer, HoldsNewest, IsNewest}

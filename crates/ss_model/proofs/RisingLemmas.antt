@@ -4,7 +4,7 @@ use Rattle.ss_model.proofs.Common.{None, length, inl, inr, All, ◌==◌, option
 use Rattle.ss_model.proofs.Common.{Create, Value, Open, Close, Drop, is_free, Landmark, open_landmark, AreLandmarks, Point, Origin, Given, given_after}
 use Rattle.ss_model.proofs.Common.{given_to, is_for, landmarks_of, values_of, Happened, has_open, later, latest_of, with_closed, with_marked, with_opened}
 use Rattle.ss_model.proofs.Common.{IsHistory, is_before, is_early, is_opening, is_past, refuses, IsStream, rule_of, Created, Stream, standing, stream_after}
-use Rattle.ss_model.proofs.Common.{stream_named, last_time, RiseAtFree, time_of_last}
+use Rattle.ss_model.proofs.Common.{Outline, of_outline, option_map, outline_of, stream_named, last_time, RiseAtFree, time_of_last}
 use Rattle.std.proofs.Common.{ℤ}
 use Rattle.std.proofs.Common.{Option, is_some}
 use Rattle.ss_summary.specs.Summaries as summaries
@@ -155,8 +155,8 @@ some-known : {X : Type 0} (o : Option X) → is_some o ≡ true → (x : X) × (
 some-known None known = cc
 some-known (Some x) known = (x, refl)
 
-passed : (o : Option Stream) (test : Stream → Bool) (s : Stream) → o ≡ Some s → option_map_or test o false ≡ false → test s ≡ false
-passed o test s found none = ap (λ p. option_map_or test p false) (sym found) ∙ none
+passed : (o : Option Stream) (test : Outline → Bool) (s : Stream) → o ≡ Some s → of_outline (option_map outline_of o) test ≡ false → test (outline_of s) ≡ false
+passed o test s found none = ap (λ p. of_outline (option_map outline_of p) test) (sym found) ∙ none
 
 not-false : (b : Bool) → not b ≡ false → b ≡ true
 not-false true is = refl
@@ -187,7 +187,7 @@ module _ (history : List Happened) (name : List ℕ) (origin : Origin) (t : ℕ)
       let of = named-after history name (standing history) s.0 s.1 in
       LieFree-open origin (given_to history name) name t
       (ap (λ o. is_past o t) (sym (last_time-named history name s.0 of))
-      ∙ passed (stream_named name (state history)) (λ u. is_past (last_time u) t) s.0 s.1 can.later)
+      ∙ passed (stream_named name (state history)) (λ u. is_past u.last_time t) s.0 s.1 can.later)
       before
 
   LieFree-closed : IsHistory history → refuses (state history) (Close name t) ≡ None → LieFree (given_to history name)
@@ -204,7 +204,7 @@ module _ (history : List Happened) (name : List ℕ) (origin : Origin) (t : ℕ)
       (ap has_open (sym landmarks)
       ∙ not-false (has_open s.0.landmarks) (passed (stream_named name (state history)) (λ u. not (has_open u.landmarks)) s.0 s.1 can.begun))
       (ap (λ o. is_before o t) (sym (last_time-named history name s.0 of))
-      ∙ passed (stream_named name (state history)) (λ u. is_before (last_time u) t) s.0 s.1 can.later)
+      ∙ passed (stream_named name (state history)) (λ u. is_before u.last_time t) s.0 s.1 can.later)
       before
 
 LieFree-for : (history : List Happened) (name : List ℕ) (origin : Origin) (event : Event) → IsHistory history → refuses (state history) event ≡ None

@@ -1,12 +1,13 @@
 -- What every state meets, through one step.
 use Rattle.ss_model.proofs.Common.{◌≡◌, ℕ, ◌+◌, ◌<◌, ◌≤◌, Bool, false, not, List, [], ◌∷◌, ◌++◌, length, refl, ap, sym, ◌∙◌, arith, None, Some, subst, inl}
-use Rattle.ss_model.proofs.Common.{inr, All, Option, FitsSigned, nat_le, ◌==◌, w64, list_any, option_map_or, cases_Bool, cond-false, cond-true, cond_both}
-use Rattle.ss_model.proofs.Common.{eqb-false, not-false, nat_tests, length_push, length-append, map-append, All-nil, All-head, All-tail, All-cons, All-append}
+use Rattle.ss_model.proofs.Common.{inr, All, Option, FitsSigned, nat_le, ◌==◌, w64, list_any, cases_Bool, cond-false, cond-true, cond_both}
+use Rattle.ss_model.proofs.Common.{eqb-false, not-false, nat_tests, length_push, length-append, length-map, map-append, All-nil, All-head, All-tail, All-cons, All-append}
 use Rattle.ss_model.proofs.Common.{All-push, sum_by-append, sum_by-cons, LAST_STREAM, LAST_TIME, Event, Create, Value, Open, Close, Drop, Params, IsPossible}
 use Rattle.ss_model.proofs.Common.{summary_of, MOST_VALUES, Point, Origin, closed, closed_onto, joined_window, may_join, IsInStep, CanBeSaid, has_open}
-use Rattle.ss_model.proofs.Common.{with_closed, with_marked, with_opened, has_all_records, is_before, is_early, has_most_values, is_past, of_named, refuses}
+use Rattle.ss_model.proofs.Common.{with_closed, with_marked, with_opened, has_all_records, is_before, is_early, has_most_values, is_past, of_outline, outline_named, outline_of, refuses}
 use Rattle.ss_model.proofs.Common.{IsStream, IsState, Rule, rule_of, Stream, next_number, numbers_of, names_of, stream_named, values_in, last_time, live}
 use Rattle.ss_model.proofs.Common.{records_of, change_named, single_window, with_taken, with_plain_value, MOST_RECORDS, Window}
+use Rattle.ss_model.proofs.Common.{Outline, option_map}
 use Rattle.std.proofs.Common.{ℤ}
 use Rattle.std.specs.List.{IsDistinct}
 use Rattle.std.proofs.lemmas.Bool.{or_parts}
@@ -50,11 +51,11 @@ IsState-nil = record {
 }
 
 -- a number is left where the last one isn't taken
-next_number-le : (streams : List Stream) → All IsStream streams → list_any (λ s. s.number == LAST_STREAM) streams ≡ false →
+next_number-le : (streams : List Stream) → All IsStream streams → list_any (λ number. number == LAST_STREAM) (numbers_of streams) ≡ false →
     next_number (numbers_of streams) ≤ LAST_STREAM
 next_number-le [] each none = omega arith
 next_number-le (s ∷ ss) each none =
-    let free = or_parts (s.number == LAST_STREAM) (list_any (λ u. u.number == LAST_STREAM) ss) none in
+    let free = or_parts (s.number == LAST_STREAM) (list_any (λ number. number == LAST_STREAM) (numbers_of ss)) none in
     let one = All-head IsStream s ss each in
     let low = one.number in
     let apart = eqb-false s.number LAST_STREAM free.0 in
@@ -62,11 +63,11 @@ next_number-le (s ∷ ss) each none =
     omega (arith, apart)
 
 -- a place is left for one more record
-pub below-has_all_records : (streams : List Stream) → has_all_records streams ≡ false → live streams < MOST_RECORDS
-below-has_all_records streams room = grind (arith, nat_tests)
+pub below-has_all_records : (records : ℕ) → has_all_records records ≡ false → records < MOST_RECORDS
+below-has_all_records records room = grind (arith, nat_tests)
 
-below-has_all_streams : (streams : List Stream) → nat_le MOST_STREAMS (length streams) ≡ false → length streams < MOST_STREAMS
-below-has_all_streams streams room = grind (arith, nat_tests)
+below-has_all_streams : (streams : List Stream) → nat_le MOST_STREAMS (length (numbers_of streams)) ≡ false → length streams < MOST_STREAMS
+below-has_all_streams streams room = let count = length-map streams (λ (s : Stream). s.number) in grind (arith, nat_tests)
 
 IsState-create : (origin : Origin) (streams : List Stream) (name : List ℕ) (params : Params) → IsState streams → CanCreate streams name params →
     IsState (stepped_from origin streams (Create name params))
@@ -74,7 +75,7 @@ unfolding stepped_from
 IsState-create origin streams name params before can =
     let number = next_number (numbers_of streams) in
     let new : Stream = record { number = number; name = name; params = params; windows = []; landmarks = [] } in
-    let limits = or_parts (nat_le MOST_STREAMS (length streams)) (list_any (λ s. s.number == LAST_STREAM) streams) can.room in
+    let limits = or_parts (nat_le MOST_STREAMS (length (numbers_of streams))) (list_any (λ number. number == LAST_STREAM) (numbers_of streams)) can.room in
     record {
       each = All-push IsStream streams new before.each
           (record {
@@ -89,7 +90,7 @@ IsState-create origin streams name params before can =
           (IsStrictlyIncreasing_push (numbers_of streams) number before.numbers (below_next (numbers_of streams)));
       names = rw (map-append (λ (s : Stream). s.name) streams (new ∷ [])) (IsDistinct_push streams name before.names can.new);
       few = omega (arith, length_push streams new, below-has_all_streams streams limits.0);
-      room = omega (arith, sum_by_push records_of streams new, below-has_all_records streams can.records);
+      room = omega (arith, sum_by_push records_of streams new, below-has_all_records (live streams) can.records);
     }
 
 -- one more record at most
@@ -137,9 +138,9 @@ IsState-change name streams at change more was to room =
 
 -- what is asked of the stream of a name is asked of the one that is found, and that one is a stream
 module _ {name : List ℕ} {streams : List Stream} (at : IsFound name streams) where
-  of_named-found : (test : Stream → Bool) → of_named name streams test ≡ test at.stream
-  of_named-found test =
-      ap (λ o. option_map_or test o false)
+  outline-found : (test : Outline → Bool) → of_outline (outline_named name streams) test ≡ test (outline_of at.stream)
+  outline-found test =
+      ap (λ o. of_outline (option_map outline_of o) test)
       (ap (stream_named name) at.is ∙ stream_named-at name at.before at.stream at.after at.none_before at.named)
 
   IsStream-found : IsState streams → IsStream at.stream
@@ -150,7 +151,7 @@ IsPossible-single p early fits =
     IsPossible-summary_of (p ∷ []) (record { some = omega arith; few = omega arith; rising = (omega arith, early, fits, tt) })
 
 -- a value, which is the open landmark's, where one is open
-pub ChangesTo-value : (s : Stream) (p : Point) → IsStream s → is_early s p.0 ≡ false → has_most_values s ≡ false → p.0 ≤ LAST_TIME →
+pub ChangesTo-value : (s : Stream) (p : Point) → IsStream s → is_early (outline_of s) p.0 ≡ false → has_most_values (outline_of s) ≡ false → p.0 ≤ LAST_TIME →
     FitsSigned w64 p.1 → ChangesTo s (with_taken s p) 1
 ChangesTo-value s p sound later few early fits = elim (cases_Bool (has_open s.landmarks)) [
   | inl begun ↦
@@ -196,10 +197,10 @@ IsState-value : (origin : Origin) (streams : List Stream) (name : List ℕ) (t :
 unfolding stepped_from
 IsState-value origin streams name t v was can early fits =
     let at = found name streams was.names can.known in
-    let room = below-has_all_records streams can.records in
+    let room = below-has_all_records (live streams) can.records in
     IsState-change name streams at (λ s. with_taken s (t, v, origin)) 1 was
-    (ChangesTo-value at.stream (t, v, origin) (IsStream-found at was) (sym (of_named-found at (λ s. is_early s t)) ∙ can.later)
-    (sym (of_named-found at has_most_values) ∙ can.few) early fits)
+    (ChangesTo-value at.stream (t, v, origin) (IsStream-found at was) (sym (outline-found at (λ s. is_early s t)) ∙ can.later)
+    (sym (outline-found at has_most_values) ∙ can.few) early fits)
     (omega (arith, room))
 
 IsState-open : (origin : Origin) (streams : List Stream) (name : List ℕ) (t : ℕ) → IsState streams → CanOpenAt streams name t → t ≤ LAST_TIME →
@@ -207,10 +208,10 @@ IsState-open : (origin : Origin) (streams : List Stream) (name : List ℕ) (t : 
 unfolding stepped_from
 IsState-open origin streams name t was can early =
     let at = found name streams was.names can.known in
-    let room = below-has_all_records streams can.records in
+    let room = below-has_all_records (live streams) can.records in
     IsState-change name streams at (λ s. record s { landmarks = with_opened s.landmarks t }) 1 was
-    (ChangesTo-opened at.stream t (IsStream-found at was) (sym (of_named-found at (λ s. has_open s.landmarks)) ∙ can.closed)
-    (sym (of_named-found at (λ s. is_past (last_time s) t)) ∙ can.later) early)
+    (ChangesTo-opened at.stream t (IsStream-found at was) (sym (outline-found at (λ s. has_open s.landmarks)) ∙ can.closed)
+    (sym (outline-found at (λ s. is_past s.last_time t)) ∙ can.later) early)
     (omega (arith, room))
 
 IsState-close : (origin : Origin) (streams : List Stream) (name : List ℕ) (t : ℕ) → IsState streams → CanCloseAt streams name t → t ≤ LAST_TIME →
@@ -219,8 +220,8 @@ unfolding stepped_from
 IsState-close origin streams name t was can early =
     let at = found name streams was.names can.known in
     IsState-change name streams at (λ s. record s { landmarks = with_closed s.landmarks t }) 0 was
-    (ChangesTo-closed at.stream t (IsStream-found at was) (sym (of_named-found at (λ s. not (has_open s.landmarks))) ∙ can.begun)
-    (sym (of_named-found at (λ s. is_before (last_time s) t)) ∙ can.later) early)
+    (ChangesTo-closed at.stream t (IsStream-found at was) (sym (outline-found at (λ s. not (has_open s.landmarks))) ∙ can.begun)
+    (sym (outline-found at (λ s. is_before s.last_time t)) ∙ can.later) early)
     (omega (arith, was.room))
 
 IsState-dropped : (origin : Origin) (streams : List Stream) (name : List ℕ) → IsState streams → IsState (stepped_from origin streams (Drop name))

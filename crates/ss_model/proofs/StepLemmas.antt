@@ -2,11 +2,12 @@
 use Rattle.ss_model.proofs.Common.{◌≡◌, ℕ, Bool, not, true, false, List, [], ◌∷◌, ◌++◌, map, refl, ap, sym, ◌∙◌, arith, None, Some, inl, inr, if◌then◌else◌}
 use Rattle.ss_model.proofs.Common.{cases_Bool, cond_both, map-append, fold-append, common_steps, event_name, same_name, Event, Create, Value, Open, Close}
 use Rattle.ss_model.proofs.Common.{Drop, Params, Refusal, has_target, Point, Origin, Given, creates, given_after, given_to, Happened, has_open, with_closed}
-use Rattle.ss_model.proofs.Common.{with_opened, rule_of, Created, Stream, next_number, standing_after, standing, stream_after, last_time, stands}
-use Rattle.ss_model.proofs.Common.{has_all_streams, has_all_records, is_before, is_early, has_most_values, is_past, first_that_applies, of_named}
+use Rattle.ss_model.proofs.Common.{with_opened, rule_of, Created, Stream, next_number, numbers_of, live, standing_after, standing, stream_after, stream_named, stands}
+use Rattle.ss_model.proofs.Common.{has_all_streams, has_all_records, is_before, is_early, has_most_values, is_past, first_that_applies, of_outline, outline_named, outline_of}
 use Rattle.ss_model.proofs.Common.{change_named, with_taken, with_plain_value, without_named, windows}
 use Rattle.std.proofs.Common.{ℤ}
-use Rattle.std.specs.Prelude.{filter}
+use Rattle.std.specs.Prelude.{Option, filter, is_some}
+use Rattle.ss_model.proofs.Common.{option_map}
 use Rattle.ss_catalog.specs.declared.refusal.Refusal.TheVariants as refusal
 use Rattle.ss_model.specs.State.{state}
 use Rattle.ss_model.specs.Refusals.{refuses}
@@ -151,29 +152,34 @@ state-drop history name origin =
           (stream_after-drop history name origin),
     ) (sym (filter-map (λ s. not (same_name name s.name)) (stream_after history) (standing history)))
 
+-- the outline of the stream of a name is there where that stands
+stands-outline : (o : Option Stream) → is_some (option_map outline_of o) ≡ is_some o
+stands-outline None = refl
+stands-outline (Some s) = refl
+
 -- why an event wasn't refused
 pub record CanCreate (streams : List Stream) (name : List ℕ) (params : Params) : Type 0 where
   pub target : has_target params ≡ true
   pub new : stands name streams ≡ false
-  pub room : has_all_streams streams ≡ false
-  pub records : has_all_records streams ≡ false
+  pub room : has_all_streams (numbers_of streams) ≡ false
+  pub records : has_all_records (live streams) ≡ false
 
 pub record CanAppend (streams : List Stream) (name : List ℕ) (t : ℕ) : Type 0 where
   pub known : stands name streams ≡ true
-  pub later : of_named name streams (λ s. is_early s t) ≡ false
-  pub few : of_named name streams has_most_values ≡ false
-  pub records : has_all_records streams ≡ false
+  pub later : of_outline (outline_named name streams) (λ s. is_early s t) ≡ false
+  pub few : of_outline (outline_named name streams) has_most_values ≡ false
+  pub records : has_all_records (live streams) ≡ false
 
 pub record CanOpenAt (streams : List Stream) (name : List ℕ) (t : ℕ) : Type 0 where
   pub known : stands name streams ≡ true
-  pub closed : of_named name streams (λ s. has_open s.landmarks) ≡ false
-  pub later : of_named name streams (λ s. is_past (last_time s) t) ≡ false
-  pub records : has_all_records streams ≡ false
+  pub closed : of_outline (outline_named name streams) (λ s. has_open s.landmarks) ≡ false
+  pub later : of_outline (outline_named name streams) (λ s. is_past s.last_time t) ≡ false
+  pub records : has_all_records (live streams) ≡ false
 
 pub record CanCloseAt (streams : List Stream) (name : List ℕ) (t : ℕ) : Type 0 where
   pub known : stands name streams ≡ true
-  pub begun : of_named name streams (λ s. not (has_open s.landmarks)) ≡ false
-  pub later : of_named name streams (λ s. is_before (last_time s) t) ≡ false
+  pub begun : of_outline (outline_named name streams) (λ s. not (has_open s.landmarks)) ≡ false
+  pub later : of_outline (outline_named name streams) (λ s. is_before s.last_time t) ≡ false
 
 -- the first test is passed where its value is true, and the others where theirs is false
 none-applies : (a b c d : Bool) (p q r s : Refusal) → first_that_applies ((not a, p) ∷ (b, q) ∷ (c, r) ∷ (d, s) ∷ []) ≡ None →
@@ -184,23 +190,26 @@ pub CanCreate-refuses : (streams : List Stream) (name : List ℕ) (params : Para
     refuses streams (Create name params) ≡ None → CanCreate streams name params
 unfolding refuses
 CanCreate-refuses streams name params none =
-    let passed = none-applies (has_target params) (stands name streams) (has_all_streams streams) (has_all_records streams) _ _ _ _ none in
-    record { target = passed.0; new = passed.1; room = passed.2; records = passed.3 }
+    let stream = outline_named name streams in
+    let passed = none-applies (has_target params) (is_some stream) (has_all_streams (numbers_of streams)) (has_all_records (live streams)) _ _ _ _ none in
+    record { target = passed.0; new = sym (stands-outline (stream_named name streams)) ∙ passed.1; room = passed.2; records = passed.3 }
 
 pub CanAppend-refuses : (streams : List Stream) (name : List ℕ) (t : ℕ) (v : ℤ) →
     refuses streams (Value name t v) ≡ None → CanAppend streams name t
 unfolding refuses
 CanAppend-refuses streams name t v none =
-    let passed = none-applies (stands name streams) (of_named name streams (λ s. is_early s t)) (of_named name streams has_most_values)
-    (has_all_records streams) _ _ _ _ none in
-    record { known = passed.0; later = passed.1; few = passed.2; records = passed.3 }
+    let stream = outline_named name streams in
+    let passed = none-applies (is_some stream) (of_outline stream (λ s. is_early s t)) (of_outline stream has_most_values)
+    (has_all_records (live streams)) _ _ _ _ none in
+    record { known = sym (stands-outline (stream_named name streams)) ∙ passed.0; later = passed.1; few = passed.2; records = passed.3 }
 
 pub CanOpenAt-refuses : (streams : List Stream) (name : List ℕ) (t : ℕ) → refuses streams (Open name t) ≡ None → CanOpenAt streams name t
 unfolding refuses
 CanOpenAt-refuses streams name t none =
-    let passed = none-applies (stands name streams) (of_named name streams (λ s. has_open s.landmarks))
-    (of_named name streams (λ s. is_past (last_time s) t)) (has_all_records streams) _ _ _ _ none in
-    record { known = passed.0; closed = passed.1; later = passed.2; records = passed.3 }
+    let stream = outline_named name streams in
+    let passed = none-applies (is_some stream) (of_outline stream (λ s. has_open s.landmarks)) (of_outline stream (λ s. is_past s.last_time t))
+    (has_all_records (live streams)) _ _ _ _ none in
+    record { known = sym (stands-outline (stream_named name streams)) ∙ passed.0; closed = passed.1; later = passed.2; records = passed.3 }
 
 none-applies_three : (a b c : Bool) (p q r : Refusal) → first_that_applies ((not a, p) ∷ (b, q) ∷ (c, r) ∷ []) ≡ None →
     (a ≡ true) × (b ≡ false) × (c ≡ false)
@@ -209,15 +218,16 @@ none-applies_three a b c p q r none = grind (arith, common_steps)
 pub CanCloseAt-refuses : (streams : List Stream) (name : List ℕ) (t : ℕ) → refuses streams (Close name t) ≡ None → CanCloseAt streams name t
 unfolding refuses
 CanCloseAt-refuses streams name t none =
-    let passed = none-applies_three (stands name streams) (of_named name streams (λ s. not (has_open s.landmarks)))
-    (of_named name streams (λ s. is_before (last_time s) t)) _ _ _ none in
-    record { known = passed.0; begun = passed.1; later = passed.2 }
+    let stream = outline_named name streams in
+    let passed = none-applies_three (is_some stream) (of_outline stream (λ s. not (has_open s.landmarks)))
+    (of_outline stream (λ s. is_before s.last_time t)) _ _ _ none in
+    record { known = sym (stands-outline (stream_named name streams)) ∙ passed.0; begun = passed.1; later = passed.2 }
 
 -- a drop is refused where no stream of the name stands, and nowhere else
 pub stands-refuses : (streams : List Stream) (name : List ℕ) → refuses streams (Drop name) ≡ None → stands name streams ≡ true
 unfolding refuses
-stands-refuses streams name none = elim (cases_Bool (stands name streams)) [
-  | inl known ↦ known
+stands-refuses streams name none = elim (cases_Bool (is_some (outline_named name streams))) [
+  | inl known ↦ sym (stands-outline (stream_named name streams)) ∙ known
   | inr unknown ↦ (let wrong : Some refusal.Unknown ≡ None = rw unknown at none in cc)
 ]
 

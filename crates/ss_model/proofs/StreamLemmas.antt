@@ -4,7 +4,7 @@ use Rattle.ss_model.proofs.Common.{MatchOption, inl, inr, FitsSigned, ◌==◌, 
 use Rattle.ss_model.proofs.Common.{eqb-true, not-false, nat_tests, length_push, All-nil, All-push, list_all-append, LAST_TIME, is_free, Landmark}
 use Rattle.ss_model.proofs.Common.{LandmarkValue, all_values, closed_at, open_landmark, opened_at, IsPossible, summary_of, MOST_VALUES, Point, closed}
 use Rattle.ss_model.proofs.Common.{IsInStep, JoinsDue, has_open, lies_free, with_closed, with_marked, with_opened, is_before, is_early, is_opening, is_past}
-use Rattle.ss_model.proofs.Common.{IsStream, rule_of, Stream, last_time, records_of, values_in, single_window, with_plain_value, newest_time, Window}
+use Rattle.ss_model.proofs.Common.{IsStream, outline_of, rule_of, Stream, last_time, records_of, values_in, single_window, with_plain_value, newest_time, Window}
 use Rattle.std.proofs.Common.{ℤ, Option}
 use Rattle.std.specs.Prelude.{IsNone}
 use Rattle.ss_landmarks.specs.Landmark as landmark
@@ -88,7 +88,7 @@ first-is_opening (Some l) t is =
     let start = eqb-true l.start t both.0 in
     (omega (arith, start), eqb-true (length l.values) 0 both.1)
 
-CanTake-early : (s : Stream) (t : ℕ) → has_open s.landmarks ≡ true → is_early s t ≡ false → CanTake s.landmarks t
+CanTake-early : (s : Stream) (t : ℕ) → has_open s.landmarks ≡ true → is_early (outline_of s) t ≡ false → CanTake s.landmarks t
 CanTake-early s t begun early = elim (cases_Bool (is_past (last_time s) t)) [
   | inl past ↦
       (let opening : not (is_opening s.landmarks t) ≡ false = rw past at early in
@@ -97,7 +97,7 @@ CanTake-early s t begun early = elim (cases_Bool (is_past (last_time s) t)) [
 ]
 
 -- without an open landmark a time that isn't too early isn't past
-pub past-early : (s : Stream) (t : ℕ) → has_open s.landmarks ≡ false → is_early s t ≡ false → is_past (last_time s) t ≡ false
+pub past-early : (s : Stream) (t : ℕ) → has_open s.landmarks ≡ false → is_early (outline_of s) t ≡ false → is_past (last_time s) t ≡ false
 past-early s t none early = elim (cases_Bool (is_past (last_time s) t)) [
   | inl past ↦
       (let nothing : is_opening s.landmarks t ≡ false =
@@ -127,7 +127,7 @@ IsStream-opened s t sound none past early = record {
   ];
 }
 
-pub IsStream-marked : (s : Stream) (t : ℕ) (v : ℤ) → IsStream s → has_open s.landmarks ≡ true → is_early s t ≡ false → t ≤ LAST_TIME →
+pub IsStream-marked : (s : Stream) (t : ℕ) (v : ℤ) → IsStream s → has_open s.landmarks ≡ true → is_early (outline_of s) t ≡ false → t ≤ LAST_TIME →
     FitsSigned w64 v → IsStream (record s { landmarks = with_marked s.landmarks t v })
 IsStream-marked s t v sound begun later early fits = record {
   target = sound.target;

@@ -1,5 +1,5 @@
 -- What a state answers to a query, and when that is true.
-use Rattle.std.specs.Prelude.{◌≡◌, ℕ, ◌≤◌, Bool, true, false, not, nat_lt, ℤ, pos, ◌≤ℤ◌, List, [], ◌∷◌, Option, option_map}
+use Rattle.std.specs.Prelude.{◌≡◌, ℕ, ◌≤◌, Bool, true, false, ℤ, pos, ◌≤ℤ◌, List, [], Option, option_map}
 use Rattle.std.specs.List.{filter}
 use Rattle.std.specs.Option.{option_map_or}
 use Rattle.ss_catalog.specs.Queries.{is_guess}
@@ -7,7 +7,6 @@ use Rattle.ss_catalog.specs.declared.query.Kind.{Kind}
 use Rattle.ss_catalog.specs.declared.query.Kind.TheVariants as kinds
 use Rattle.ss_catalog.specs.declared.query.Query.{Query}
 use Rattle.ss_catalog.specs.declared.refusal.Refusal.{Refusal}
-use Rattle.ss_catalog.specs.declared.refusal.Refusal.TheVariants.{Unknown, Range}
 use Rattle.ss_bounds.specs.Guess.{count_guess, sum_guess}
 use Rattle.ss_bounds.specs.Truth.{HoldsExtreme}
 use Rattle.ss_landmarks.specs.Free.{is_free}
@@ -16,7 +15,7 @@ use Rattle.ss_model.specs.Interval.{interval_of_count, interval_of_sum, interval
 use Rattle.ss_model.specs.Interval.{split_windows}
 use Rattle.ss_model.specs.Interval.{IsExact}
 use Rattle.ss_model.specs.Marks.{marked_values}
-use Rattle.ss_model.specs.Refusals.{stands, first_that_applies}
+use Rattle.ss_model.specs.Refusals.{first_that_applies, range_refusals, stands}
 use Rattle.ss_model.specs.State.{Stream, stream_named}
 use Rattle.ss_model.specs.Truth.{true_amount, true_count, true_sum, true_least, true_greatest, true_presence}
 use Rattle.ss_model.specs.declared.outcome.Outcome.{Outcome}
@@ -25,13 +24,9 @@ use Rattle.ss_model.specs.declared.outcome.Presence.{Presence}
 use Rattle.ss_model.specs.declared.outcome.Presence.TheVariants.{Absent, Present, Maybe}
 use Rattle.ss_model.specs.declared.types.Window.{Window}
 
--- the refusals of a query in the order of their numbers, each with whether it applies
-abbrev pub query_refusals : List Stream → Query → List (Bool × Refusal)
-query_refusals streams query = (not (stands query.name streams), Unknown) ∷ (nat_lt query.to query.from, Range) ∷ []
-
 -- why a query is refused in a state, where it is
 unfoldable pub refuses_query : List Stream → Query → Option Refusal
-refuses_query streams query = first_that_applies (query_refusals streams query)
+refuses_query streams query = first_that_applies (range_refusals (stands query.name streams) query.from query.to)
 
 -- the answer of what is asked for, from which times are free, the windows of a stream and the values of its landmarks
 abbrev pub answer_of_kind : Kind → (ℕ → Bool) → ℕ → ℕ → List Window → List Point → Outcome

@@ -1,11 +1,10 @@
 -- How far a stream has come, and its newest value: when it came, and from which to which it lies.
-use Rattle.std.specs.Prelude.{ℕ, Bool, not, nat_lt, if◌then◌else◌, List, [], ◌∷◌, Option, Some, None, option_map}
+use Rattle.std.specs.Prelude.{ℕ, nat_lt, if◌then◌else◌, List, Option, Some, None, option_map}
 use Rattle.std.specs.List.{last_or}
 use Rattle.ss_catalog.specs.declared.refusal.Refusal.{Refusal}
-use Rattle.ss_catalog.specs.declared.refusal.Refusal.TheVariants.{Unknown, Range}
 use Rattle.ss_landmarks.specs.Landmark.{Landmark, LandmarkValue}
 use Rattle.ss_landmarks.specs.Newest.{newest_value}
-use Rattle.ss_model.specs.Refusals.{first_that_applies, stands}
+use Rattle.ss_model.specs.Refusals.{first_that_applies, range_refusals, stands}
 use Rattle.ss_model.specs.State.{Stream, last_time, stream_named}
 use Rattle.ss_model.specs.declared.newest.Known.{Known}
 use Rattle.ss_model.specs.declared.newest.Newest.{Newest}
@@ -48,10 +47,6 @@ newest_of s = newest_told (last_time s) (newest_known s.windows s.landmarks)
 abbrev pub newest_in : List Stream → List ℕ → Option Newest
 newest_in streams name = option_map newest_of (stream_named name streams)
 
--- the refusals of a command that reads the values of landmarks in a range, in the order of their numbers, each with whether it applies
-abbrev pub values_refusals : List Stream → List ℕ → ℕ → ℕ → List (Bool × Refusal)
-values_refusals streams name from to = (not (stands name streams), Unknown) ∷ (nat_lt to from, Range) ∷ []
-
--- why such a command is refused in a state, where it is
+-- why a command that reads the values of landmarks in a range is refused in a state, where it is
 unfoldable pub refuses_values : List Stream → List ℕ → ℕ → ℕ → Option Refusal
-refuses_values streams name from to = first_that_applies (values_refusals streams name from to)
+refuses_values streams name from to = first_that_applies (range_refusals (stands name streams) from to)
