@@ -20,9 +20,11 @@ use Rattle.ss_measures.specs.Sizes.{HoldsAtMost, TakesAtMost}
 use Rattle.ss_model.specs.Decay.{cover, steps_met}
 use Rattle.ss_model.specs.History.{Happened, values_of}
 use Rattle.ss_model.specs.Marks.{has_open}
-use Rattle.ss_model.specs.Refusals.{first_that_applies, has_all_records, has_all_streams, has_most_values, is_before, is_early, is_past, of_named, refuses}
-use Rattle.ss_model.specs.Refusals.{stands}
-use Rattle.ss_model.specs.State.{Stream, last_time, live, records_of, state, values_in}
+use Rattle.ss_model.specs.Refusals.{first_that_applies, has_all_records, has_all_streams, has_most_values, is_before, is_early, is_past, of_outline, refuses}
+use Rattle.ss_model.specs.Outline.{outline_named}
+use Rattle.ss_model.specs.State.{numbers_of}
+use Rattle.std.specs.Prelude.{is_some}
+use Rattle.ss_model.specs.State.{Stream, live, records_of, state, values_in}
 use Rattle.ss_model.specs.declared.types.TheConstants.{MOST_RECORDS}
 use Rattle.ss_power.specs.Power.{IsPower}
 use Rattle.ss_summary.specs.Points.{Point}
@@ -104,22 +106,24 @@ drop-unapplied : (a : Bool) → first_that_applies ((a, refusal.Unknown) ∷ [])
 drop-unapplied true is = let wrong : Some refusal.Unknown ≡ Some refusal.StoreFull = is in cc
 drop-unapplied false is = let wrong : None ≡ Some refusal.StoreFull = is in cc
 
-has_room : (streams : List Stream) → live streams < MOST_RECORDS → has_all_records streams ≡ false
-has_room streams few = grind (arith, nat_tests)
+has_room : (records : ℕ) → records < MOST_RECORDS → has_all_records records ≡ false
+has_room records few = grind (arith, nat_tests)
 
 pub refuses-room : (streams : List Stream) (event : Event) → live streams < MOST_RECORDS → refuses streams event ≢ Some refusal.StoreFull
 unfolding refuses
 refuses-room streams (Create name params) few =
-    last-unapplied (not (has_target params)) (stands name streams) (has_all_streams streams) (has_all_records streams) refusal.Param refusal.Exists
-    refusal.Streams refusal.StoreFull (λ is. cc) (λ is. cc) (λ is. cc) (has_room streams few)
+    last-unapplied (not (has_target params)) (is_some (outline_named name streams)) (has_all_streams (numbers_of streams)) (has_all_records (live streams))
+    refusal.Param refusal.Exists refusal.Streams refusal.StoreFull (λ is. cc) (λ is. cc) (λ is. cc) (has_room (live streams) few)
 refuses-room streams (Value name t v) few =
-    last-unapplied (not (stands name streams)) (of_named name streams (λ s. is_early s t)) (of_named name streams has_most_values)
-    (has_all_records streams) refusal.Unknown refusal.Time refusal.StreamFull refusal.StoreFull (λ is. cc) (λ is. cc) (λ is. cc) (has_room streams few)
+    let stream = outline_named name streams in
+    last-unapplied (not (is_some stream)) (of_outline stream (λ s. is_early s t)) (of_outline stream has_most_values) (has_all_records (live streams))
+    refusal.Unknown refusal.Time refusal.StreamFull refusal.StoreFull (λ is. cc) (λ is. cc) (λ is. cc) (has_room (live streams) few)
 refuses-room streams (Open name t) few =
-    last-unapplied (not (stands name streams)) (of_named name streams (λ s. has_open s.landmarks))
-    (of_named name streams (λ s. is_past (last_time s) t)) (has_all_records streams) refusal.Unknown refusal.Open refusal.Time refusal.StoreFull
-    (λ is. cc) (λ is. cc) (λ is. cc) (has_room streams few)
+    let stream = outline_named name streams in
+    last-unapplied (not (is_some stream)) (of_outline stream (λ s. has_open s.landmarks)) (of_outline stream (λ s. is_past s.last_time t))
+    (has_all_records (live streams)) refusal.Unknown refusal.Open refusal.Time refusal.StoreFull
+    (λ is. cc) (λ is. cc) (λ is. cc) (has_room (live streams) few)
 refuses-room streams (Close name t) few =
-    close-unapplied (not (stands name streams)) (of_named name streams (λ s. not (has_open s.landmarks)))
-    (of_named name streams (λ s. is_before (last_time s) t))
-refuses-room streams (Drop name) few = drop-unapplied (not (stands name streams))
+    let stream = outline_named name streams in
+    close-unapplied (not (is_some stream)) (of_outline stream (λ s. not (has_open s.landmarks))) (of_outline stream (λ s. is_before s.last_time t))
+refuses-room streams (Drop name) few = drop-unapplied (not (is_some (outline_named name streams)))

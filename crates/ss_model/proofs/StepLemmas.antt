@@ -153,7 +153,7 @@ state-drop history name origin =
     ) (sym (filter-map (λ s. not (same_name name s.name)) (stream_after history) (standing history)))
 
 -- the outline of the stream of a name is there where that stands
-stands-outline : (o : Option Stream) → is_some (option_map outline_of o) ≡ is_some o
+pub stands-outline : (o : Option Stream) → is_some (option_map outline_of o) ≡ is_some o
 stands-outline None = refl
 stands-outline (Some s) = refl
 

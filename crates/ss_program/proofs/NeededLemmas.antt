@@ -7,7 +7,9 @@ use Rattle.ss_program.proofs.Common.{turn_brought, turn_of, turn_said}
 use Rattle.ss_command.specs.declared.command.Command.TheVariants.{Series as AskRows, List as ListAll}
 use Rattle.ss_model.specs.Answers.{refuses_query}
 use Rattle.ss_model.specs.Newest.{refuses_values}
+use Rattle.ss_model.proofs.StepLemmas.{stands-outline}
 use Rattle.ss_model.specs.Refusals.{refuses, refuses_reading}
+use Rattle.ss_model.specs.State.{stream_named}
 use Rattle.ss_sessions.specs.Cursors.{refuses_cursor}
 use Rattle.ss_program.proofs.AnewLemmas.{unknown-dropped, unknown-more}
 use Rattle.ss_program.proofs.ConversationLemmas.{asked-brings}
@@ -25,13 +27,17 @@ command-unstood : (framed : Bool) (history : History) (command : Command) (name 
 unfolding refuses refuses_query refuses_reading refuses_values
 command-unstood framed history (Do (Create other params)) name needs unknown = cc
 command-unstood framed history (Do (Value other t v)) name needs unknown =
-    let none = unknown other refl in refused-unknown (refuses (state history) (Value other t v)) _ (rw none refl)
+    let none = unknown other refl in refused-unknown (refuses (state history) (Value other t v)) _
+    (rw (stands-outline (stream_named other (state history)) ∙ none) refl)
 command-unstood framed history (Do (Open other t)) name needs unknown =
-    let none = unknown other refl in refused-unknown (refuses (state history) (Open other t)) _ (rw none refl)
+    let none = unknown other refl in refused-unknown (refuses (state history) (Open other t)) _
+    (rw (stands-outline (stream_named other (state history)) ∙ none) refl)
 command-unstood framed history (Do (Close other t)) name needs unknown =
-    let none = unknown other refl in refused-unknown (refuses (state history) (Close other t)) _ (rw none refl)
+    let none = unknown other refl in refused-unknown (refuses (state history) (Close other t)) _
+    (rw (stands-outline (stream_named other (state history)) ∙ none) refl)
 command-unstood framed history (Do (Drop other)) name needs unknown =
-    let none = unknown other refl in refused-unknown (refuses (state history) (Drop other)) _ (rw none refl)
+    let none = unknown other refl in refused-unknown (refuses (state history) (Drop other)) _
+    (rw (stands-outline (stream_named other (state history)) ∙ none) refl)
 command-unstood framed history (Ask query) name needs unknown =
     let none = unknown query.name refl in refused-unknown (refuses_query (state history) query) _ (rw none refl)
 command-unstood framed history (Certify query end) name needs unknown =

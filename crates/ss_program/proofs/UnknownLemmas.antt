@@ -2,11 +2,11 @@
 use Rattle.ss_program.proofs.Common.{◌≡◌, ◌≢◌, ◌∙◌, ℕ, List, [], ◌∷◌, ◌++◌, false, Option, Some, None, Result, Ok, Err, refl, sym, ap, subst, inl, inr}
 use Rattle.ss_program.proofs.Common.{cases_Bool, All-head, All-tail, is_some, event_name, same_name, Event, Create, Value, Open, Close, Drop, Params, Query}
 use Rattle.ss_program.proofs.Common.{Refusal, Unknown, meaning, Command, Do, Ask, given_to-created, same_name-Decides, same_name-same, added, marked_of}
-use Rattle.ss_program.proofs.Common.{values_of, marked_values, stands, Stream, state, stepped, New, Brought, History, accepted_in, brings, command_brings}
+use Rattle.ss_program.proofs.Common.{values_of, marked_values, stands, Stream, state, stream_named, stepped, New, Brought, History, accepted_in, brings, command_brings}
 use Rattle.ss_program.proofs.Common.{history_after, meaning_brings, nothing, refused, unless_refused, NoneCreates, plain_after}
 use Rattle.ss_model.proofs.DropLemmas.{refuses-drop, stream_named-dropped}
 use Rattle.ss_model.proofs.ReadLemmas.{stream_named-stepped}
-use Rattle.ss_model.proofs.StepLemmas.{state-push}
+use Rattle.ss_model.proofs.StepLemmas.{stands-outline, state-push}
 use Rattle.ss_model.specs.Answers.{refuses_query}
 use Rattle.ss_model.specs.Refusals.{refuses}
 use Rattle.ss_model.specs.Steps.{stepped_from}
@@ -22,10 +22,10 @@ unknown-refuses : (name : List ℕ) (streams : List Stream) (event : Event) → 
     ((params : Params) → event ≢ Create name params) → event_name event ≡ name → refuses streams event ≡ Some Unknown
 unfolding refuses
 unknown-refuses name streams (Create other params) unknown spared is = absurd (spared params (ap (λ n. Create n params) is))
-unknown-refuses name streams (Value other t v) unknown spared is = rw (is, unknown) refl
-unknown-refuses name streams (Open other t) unknown spared is = rw (is, unknown) refl
-unknown-refuses name streams (Close other t) unknown spared is = rw (is, unknown) refl
-unknown-refuses name streams (Drop other) unknown spared is = rw (is, unknown) refl
+unknown-refuses name streams (Value other t v) unknown spared is = rw (is, stands-outline (stream_named name streams) ∙ unknown) refl
+unknown-refuses name streams (Open other t) unknown spared is = rw (is, stands-outline (stream_named name streams) ∙ unknown) refl
+unknown-refuses name streams (Close other t) unknown spared is = rw (is, stands-outline (stream_named name streams) ∙ unknown) refl
+unknown-refuses name streams (Drop other) unknown spared is = rw (is, stands-outline (stream_named name streams) ∙ unknown) refl
 
 -- so one that isn't refused leaves it so
 unknown-stepped : (name : List ℕ) (streams : List Stream) (event : Event) → stands name streams ≡ false →

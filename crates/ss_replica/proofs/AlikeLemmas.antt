@@ -1,7 +1,7 @@
 -- Streams that own the same are alike, and so are the refusals of their events, but for room.
 use Rattle.std.proofs.Common.{◌≡◌, ◌∙◌, ℕ, Bool, true, false, not, List, [], ◌∷◌, map, refl, ap, sym, subst, None, Some, inl, inr}
 use Rattle.std.specs.Prelude.{◌⊎◌, All, Option, fold, is_some, ⊤}
-use Rattle.std.specs.Option.{option_map_or}
+use Rattle.std.specs.Option.{option_map}
 use Rattle.ss_catalog.specs.Events.{event_name}
 use Rattle.ss_catalog.specs.declared.event.Event.{Event}
 use Rattle.ss_catalog.specs.declared.event.Event.TheVariants.{Create, Value, Open, Close, Drop}
@@ -12,16 +12,17 @@ use Rattle.ss_summary.specs.Points.{Origin}
 use Rattle.ss_target.specs.Lengths.{has_target}
 use Rattle.ss_model.specs.History.{Given, Happened, added, events_of, given_after, given_to, landmarks_of, nothing_given, values_of}
 use Rattle.ss_model.specs.Marks.{has_open}
-use Rattle.ss_model.specs.Refusals.{IsHistory, first_that_applies, has_all_records, has_all_streams, has_most_values, is_before, is_early, is_past, of_named}
-use Rattle.ss_model.specs.Refusals.{refuses, stands}
-use Rattle.ss_model.specs.State.{Stream, last_time, state, stream_named}
+use Rattle.ss_model.specs.Refusals.{IsHistory, first_that_applies, has_all_records, has_all_streams, has_most_values, is_before, is_early, is_past, of_outline}
+use Rattle.ss_model.specs.Outline.{outline_named, outline_of}
+use Rattle.ss_model.specs.Refusals.{refuses}
+use Rattle.ss_model.specs.State.{Stream, live, numbers_of, state, stream_named}
 use Rattle.ss_target.specs.Rule.{rule_of}
 use Rattle.ss_model.specs.Windows.{windows}
 use Rattle.ss_model.proofs.FoundLemmas.{All-around, found, stream_named-at}
 use Rattle.ss_model.proofs.HistoryLemmas.{IsState-state}
 use Rattle.ss_model.proofs.NameLemmas.{same_name-Decides}
 use Rattle.ss_model.proofs.ReadLemmas.{All-state}
-use Rattle.ss_model.proofs.StepLemmas.{CanAppend-refuses, CanCloseAt-refuses, CanCreate-refuses, CanOpenAt-refuses}
+use Rattle.ss_model.proofs.StepLemmas.{CanAppend-refuses, CanCloseAt-refuses, CanCreate-refuses, CanOpenAt-refuses, stands-outline}
 use Rattle.ss_replica.specs.Fronts.{AreAlikeStreams, drops_none}
 use Rattle.ss_replica.specs.Own.{counted, own}
 use Rattle.ss_replica.proofs.OwnLemmas.{counts, own-none, own-some}
@@ -144,18 +145,12 @@ module _ (history other : List Happened) (name : List ℕ) (whole : IsHistory hi
 
 -- ---- refusals
 
-some-alike : (o p : Option Stream) → FoundAlike o p → is_some o ≡ is_some p
-some-alike None None alike = refl
-some-alike None (Some u) alike = absurd alike
-some-alike (Some s) None alike = absurd alike
-some-alike (Some s) (Some u) alike = refl
-
-test-alike : (test : Stream → Bool) → ((s u : Stream) → AreAlikeStreams s u → test s ≡ test u) → (o p : Option Stream) → FoundAlike o p →
-    option_map_or test o false ≡ option_map_or test p false
-test-alike test keeps None None alike = refl
-test-alike test keeps None (Some u) alike = absurd alike
-test-alike test keeps (Some s) None alike = absurd alike
-test-alike test keeps (Some s) (Some u) alike = keeps s u alike
+-- streams that are alike have one outline
+outline-alike : (o p : Option Stream) → FoundAlike o p → option_map outline_of o ≡ option_map outline_of p
+outline-alike None None alike = refl
+outline-alike None (Some u) alike = absurd alike
+outline-alike (Some s) None alike = absurd alike
+outline-alike (Some s) (Some u) alike = rw (alike.windows, alike.landmarks) refl
 
 -- the refusals that say that the store has no room
 abbrev pub IsOfRoom : Refusal → Type 0
@@ -184,21 +179,6 @@ room-none true false true p q x r known first second is = cc
 room-none true true c p q x r known first second is = cc
 room-none false b c p q x r known first second is = cc
 
-early-alike : (t : ℕ) (s u : Stream) → AreAlikeStreams s u → is_early s t ≡ is_early u t
-early-alike t s u alike = rw (alike.windows, alike.landmarks) refl
-
-most-alike : (s u : Stream) → AreAlikeStreams s u → has_most_values s ≡ has_most_values u
-most-alike s u alike = rw (alike.windows, alike.landmarks) refl
-
-past-alike : (t : ℕ) (s u : Stream) → AreAlikeStreams s u → is_past (last_time s) t ≡ is_past (last_time u) t
-past-alike t s u alike = rw (alike.windows, alike.landmarks) refl
-
-before-alike : (t : ℕ) (s u : Stream) → AreAlikeStreams s u → is_before (last_time s) t ≡ is_before (last_time u) t
-before-alike t s u alike = rw (alike.windows, alike.landmarks) refl
-
-open-alike : (s u : Stream) → AreAlikeStreams s u → has_open s.landmarks ≡ has_open u.landmarks
-open-alike s u alike = ap has_open alike.landmarks
-
 -- what isn't refused of a stream is refused of one that is alike for room alone
 pub refuses-alike : (streams others : List Stream) (event : Event) → drops_none event ≡ true →
     FoundAlike (stream_named (event_name event) streams) (stream_named (event_name event) others) → refuses others event ≡ None → (r : Refusal) →
@@ -206,29 +186,28 @@ pub refuses-alike : (streams others : List Stream) (event : Event) → drops_non
 unfolding refuses
 refuses-alike streams others (Create name params) kept alike none r is =
     let can = CanCreate-refuses others name params none in
-    let new : stands name streams ≡ false = some-alike (stream_named name streams) (stream_named name others) alike ∙ can.new in
-    room-create (has_target params) (stands name streams) (has_all_streams streams) (has_all_records streams) r can.target new is
+    let same = outline-alike (stream_named name streams) (stream_named name others) alike in
+    room-create (has_target params) (is_some (outline_named name streams)) (has_all_streams (numbers_of streams)) (has_all_records (live streams)) r can.target
+    (ap is_some same ∙ stands-outline (stream_named name others) ∙ can.new) is
 refuses-alike streams others (Value name t v) kept alike none r is =
     let can = CanAppend-refuses others name t v none in
-    let o = stream_named name streams in
-    let p = stream_named name others in
-    room-last (stands name streams) (of_named name streams (λ s. is_early s t)) (of_named name streams has_most_values) (has_all_records streams)
-    refusal.Unknown refusal.Time refusal.StreamFull r (some-alike o p alike ∙ can.known)
-    (test-alike (λ s. is_early s t) (early-alike t) o p alike ∙ can.later) (test-alike has_most_values most-alike o p alike ∙ can.few) is
+    let same = outline-alike (stream_named name streams) (stream_named name others) alike in
+    let stream = outline_named name streams in
+    room-last (is_some stream) (of_outline stream (λ s. is_early s t)) (of_outline stream has_most_values) (has_all_records (live streams))
+    refusal.Unknown refusal.Time refusal.StreamFull r (ap is_some same ∙ stands-outline (stream_named name others) ∙ can.known)
+    (ap (λ o. of_outline o (λ s. is_early s t)) same ∙ can.later) (ap (λ o. of_outline o has_most_values) same ∙ can.few) is
 refuses-alike streams others (Open name t) kept alike none r is =
     let can = CanOpenAt-refuses others name t none in
-    let o = stream_named name streams in
-    let p = stream_named name others in
-    room-last (stands name streams) (of_named name streams (λ s. has_open s.landmarks)) (of_named name streams (λ s. is_past (last_time s) t))
-    (has_all_records streams) refusal.Unknown refusal.Open refusal.Time r (some-alike o p alike ∙ can.known)
-    (test-alike (λ s. has_open s.landmarks) open-alike o p alike ∙ can.closed)
-    (test-alike (λ s. is_past (last_time s) t) (past-alike t) o p alike ∙ can.later) is
+    let same = outline-alike (stream_named name streams) (stream_named name others) alike in
+    let stream = outline_named name streams in
+    room-last (is_some stream) (of_outline stream (λ s. has_open s.landmarks)) (of_outline stream (λ s. is_past s.last_time t))
+    (has_all_records (live streams)) refusal.Unknown refusal.Open refusal.Time r (ap is_some same ∙ stands-outline (stream_named name others) ∙ can.known)
+    (ap (λ o. of_outline o (λ s. has_open s.landmarks)) same ∙ can.closed) (ap (λ o. of_outline o (λ s. is_past s.last_time t)) same ∙ can.later) is
 refuses-alike streams others (Close name t) kept alike none r is =
     let can = CanCloseAt-refuses others name t none in
-    let o = stream_named name streams in
-    let p = stream_named name others in
-    room-none (stands name streams) (of_named name streams (λ s. not (has_open s.landmarks))) (of_named name streams (λ s. is_before (last_time s) t))
-    refusal.Unknown refusal.NotOpen refusal.Time r (some-alike o p alike ∙ can.known)
-    (test-alike (λ s. not (has_open s.landmarks)) (λ s u a. ap not (open-alike s u a)) o p alike ∙ can.begun)
-    (test-alike (λ s. is_before (last_time s) t) (before-alike t) o p alike ∙ can.later) is
+    let same = outline-alike (stream_named name streams) (stream_named name others) alike in
+    let stream = outline_named name streams in
+    room-none (is_some stream) (of_outline stream (λ s. not (has_open s.landmarks))) (of_outline stream (λ s. is_before s.last_time t))
+    refusal.Unknown refusal.NotOpen refusal.Time r (ap is_some same ∙ stands-outline (stream_named name others) ∙ can.known)
+    (ap (λ o. of_outline o (λ s. not (has_open s.landmarks))) same ∙ can.begun) (ap (λ o. of_outline o (λ s. is_before s.last_time t)) same ∙ can.later) is
 refuses-alike streams others (Drop name) kept alike none r is = cc

@@ -104,7 +104,7 @@ pub use Rattle.ss_model.specs.History.{CanBeSaid, Happened, added, events_of, la
 pub use Rattle.ss_model.specs.Joins.{JoinsDue}
 pub use Rattle.ss_model.specs.Marks.{has_open, later, latest_in, latest_of, lies_free, with_closed, with_marked, with_opened}
 pub use Rattle.ss_model.specs.Newest.{known_exactly, newest_in, newest_of, newest_told}
-pub use Rattle.ss_model.specs.Refusals.{IsHistory, first_that_applies, is_before, is_early, is_opening, is_past, of_named, refuses}
+pub use Rattle.ss_model.specs.Refusals.{IsHistory, first_that_applies, has_all_records, has_all_streams, has_most_values, is_before, is_early, is_opening, is_past, refuses}
 pub use Rattle.ss_model.specs.Shown.{placed_of}
 pub use Rattle.ss_model.specs.Standing.{IsState, IsStream}
 pub use Rattle.ss_model.specs.State.{Stream, last_time, live, next_number, numbers_of, records_of, state, stream_named, stream_numbered, values_in}
@@ -159,8 +159,8 @@ pub use Rattle.ss_store.specs.Held.{with_windows}
 pub use Rattle.ss_store.specs.declared.held.HeldStream.{HeldStream}
 pub use Rattle.ss_store.specs.Indexed.{IsKeyedFor, IsReservedFor, IsScheduled, IsTimed, StandsAfter, begun_at}
 pub use Rattle.ss_store.specs.Joining.{AreDue, IsJoinedIn, NoEntriesAreDue, may_be_joined}
-pub use Rattle.ss_store.specs.Kept.{IsSound, SameButSpare, SomeAgree, StoreIsIn, StoreIsKept, StoreState, entry_of, has_all_numbers, has_all_slots}
-pub use Rattle.ss_store.specs.Kept.{is_early_held, is_of_landmark, numbers_held, of_part, part_named, part_numbered, refuses_held, row_of_held, without_spare}
+pub use Rattle.ss_store.specs.Kept.{IsSound, SameButSpare, SomeAgree, StoreIsIn, StoreIsKept, StoreState, entry_of, live_held, outline_held}
+pub use Rattle.ss_store.specs.Kept.{is_of_landmark, numbers_held, of_part, part_named, part_numbered, refuses_held, row_of_held, without_spare}
 pub use Rattle.ss_store.specs.Marking.{CanMark, FitsMark, IsInOpen, IsItsSlot, event_of, landmarks_after, mark_record, mark_refusal, slot_refusal}
 pub use Rattle.ss_store.specs.Marking.{slots_after, slots_used, value_slots_after, values_open, with_mark}
 pub use Rattle.ss_store.specs.Newest.{TellsNewest, is_newer, newest_place, place_if_newer, refuses_reading_held, refuses_values_held}

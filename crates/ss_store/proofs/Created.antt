@@ -6,7 +6,7 @@ use Rattle.ss_store.proofs.Common.{MOST_STREAMS, LAST_STREAM, Create, Params, St
 use Rattle.ss_store.proofs.Common.{closed_stream, refuses, IsState, Stream, next_number, numbers_of, stepped, Ack, same_name-Decides, same_name-same}
 use Rattle.ss_store.proofs.Common.{same_name-swap, IsState-stepped, AllAgree, AreWhole, Agrees, EndByLast, RiseToLast, TileFrom, entries_of, records_held}
 use Rattle.ss_store.proofs.Common.{slots_held, StreamParts, IsSettled, AreKept, RecordsState, shown_by, IsNew, StepsState, said_of_held, IsSound, StoreIsIn}
-use Rattle.ss_store.proofs.Common.{StoreIsKept, StoreState, entry_of, has_all_numbers, numbers_held, part_named, Recovers, LiveSlotsGo, StagesRecord}
+use Rattle.ss_store.proofs.Common.{StoreIsKept, StoreState, entry_of, has_all_streams, numbers_held, part_named, Recovers, LiveSlotsGo, StagesRecord}
 use Rattle.ss_store.proofs.Common.{live_slots, HasRecords, HasRecords-permutation}
 use Rattle.std.proofs.lemmas.Bool.{or_parts}
 use Rattle.std.proofs.lemmas.Grind.{flat_map-append}
@@ -176,7 +176,7 @@ same_name-laws = record {
 }
 
 pub AreWhole-created : (parts : List StreamParts) (live live_now : List Bool) (part : StreamParts) (name : List ℕ) (params : Params) → AreWhole parts live →
-    IsFreshPart part name params → part.id.0 ≡ next_number (numbers_held parts) → has_all_numbers (numbers_held parts) ≡ false →
+    IsFreshPart part name params → part.id.0 ≡ next_number (numbers_held parts) → has_all_streams (numbers_held parts) ≡ false →
     part_named name parts ≡ None → LiveSlotsGo [] (part.slot ∷ []) live live_now → AreWhole (parts ++ part ∷ []) live_now
 AreWhole-created parts live live_now part name params whole fresh number room none go =
     let numbers = numbers_held parts in

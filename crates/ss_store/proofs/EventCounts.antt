@@ -1,9 +1,9 @@
 -- How many events gave a stream what it has: as many as its history has of it after its last create.
 use Rattle.ss_store.proofs.Common.{◌≡◌, ◌≢◌, ◌∙◌, ℕ, ℤ, ◌+◌, true, false, List, [], ◌∷◌, ◌++◌, length, refl, ap, sym, arith, subst, None, Some, inl, inr}
-use Rattle.ss_store.proofs.Common.{cond, is_some, All, option_map_or, count_by, cases_Bool, not-false, append-nil, length_push, filter-append, sum_by-cons}
+use Rattle.ss_store.proofs.Common.{cond, is_some, All, count_by, cases_Bool, not-false, append-nil, length_push, filter-append, sum_by-cons}
 use Rattle.ss_store.proofs.Common.{event_name, Event, Create, Value, Drop, Params, Landmark, LandmarkValue, all_values, change_last, closed_at}
 use Rattle.ss_store.proofs.Common.{opened_at, FollowFrom, cases-finish, all_values-close, all_values-open, all_values-take, Happened, events_of, landmarks_of}
-use Rattle.ss_store.proofs.Common.{has_open, with_closed, with_marked, with_opened, IsHistory, of_named, refuses, IsStream, Stream, stream_named}
+use Rattle.ss_store.proofs.Common.{has_open, with_closed, with_marked, with_opened, IsHistory, refuses, IsStream, Stream, stream_named}
 use Rattle.ss_store.proofs.Common.{IsState-state, same_name-Decides, same_name-same, All-state, CanAppend-refuses, state-push, is_closed, mark_events}
 use Rattle.std.specs.Prelude.{not, Option, MatchOption}
 use Rattle.std.specs.List.{after_last}
@@ -12,7 +12,9 @@ use Rattle.ss_catalog.specs.declared.event.Event.TheVariants.{Open, Close}
 use Rattle.ss_landmarks.specs.Landmark as landmark
 use Rattle.ss_summary.specs.Points.{Origin}
 use Rattle.ss_model.specs.History.{Given, creates, given_after, given_to, is_for}
-use Rattle.ss_model.specs.Refusals.{stands}
+use Rattle.std.specs.Option.{option_map}
+use Rattle.ss_model.specs.Outline.{outline_named, outline_of}
+use Rattle.ss_model.specs.Refusals.{of_outline, stands}
 use Rattle.ss_model.specs.State.{state}
 use Rattle.ss_model.specs.Steps.{stepped_from}
 use Rattle.ss_model.proofs.DropLemmas.{stream_named-dropped}
@@ -180,8 +182,8 @@ counted-close : (history : List Happened) (name : List ℕ) (t : ℕ) (origin : 
 counted-close history name t origin whole accepted =
     let can = CanCloseAt-refuses (state history) name t accepted in
     let at = named-state history name whole can.known in
-    let test : of_named name (state history) (λ s. not (has_open s.landmarks)) ≡ not (has_open at.stream.landmarks) =
-    ap (λ o. option_map_or (λ (s : Stream). not (has_open s.landmarks)) o false) at.found in
+    let test : of_outline (outline_named name (state history)) (λ s. not (has_open s.landmarks)) ≡ not (has_open at.stream.landmarks) =
+    ap (λ o. of_outline (option_map outline_of o) (λ s. not (has_open s.landmarks))) at.found in
     let begun : has_open at.stream.landmarks ≡ true = not-false (has_open at.stream.landmarks) (sym test ∙ can.begun) in
     let marks = mark_events-closed (landmarks_of history name) t (subst (FollowFrom 0) at.landmarks at.is.landmarks)
     (subst (λ ls. has_open ls ≡ true) at.landmarks begun) in

@@ -7,7 +7,7 @@ use Rattle.ss_store.proofs.Common.{LandmarkValue, all_values, change_last, opene
 use Rattle.ss_store.proofs.Common.{later, latest_in, latest_of, with_marked, with_opened, is_before, is_early, is_opening, is_past, IsStream, Stream}
 use Rattle.ss_store.proofs.Common.{newest_time, Agrees, all_value_records, entries_of, in_slots, landmark_record, landmark_records, marks_held, span_held}
 use Rattle.ss_store.proofs.Common.{stream_record, times_held, value_records, window_record, window_slots, windows_held, StreamParts, latest_of-last}
-use Rattle.ss_store.proofs.Common.{length-all_value_records, length-landmark_records, IsPermutation-same, is_early_held, CanMark, landmarks_after}
+use Rattle.ss_store.proofs.Common.{length-all_value_records, length-landmark_records, IsPermutation-same, outline_held, CanMark, landmarks_after}
 use Rattle.ss_store.proofs.Common.{mark_record, mark_refusal, slots_after, value_slots_after, values_open, with_mark, Mark, Open, Close}
 use Rattle.std.proofs.Common.{is_some, max}
 use Rattle.std.proofs.Common.{append-nil}
@@ -16,7 +16,9 @@ use Rattle.ss_model.proofs.StreamLemmas.{IsStream-closed, IsStream-marked, IsStr
 use Rattle.ss_parts.specs.Held.{values_said}
 use Rattle.ss_recover.proofs.Marks.{all_value_records-append, landmark_records-append, value_records-append}
 use Rattle.ss_store.specs.declared.marking.Mark.TheVariants.{Value}
-use Rattle.ss_store.proofs.OpenMarks.{AllEndBy-can, HasOpen, HasOpen-can, change-has, closes, count-has, later-last, latest_of-after, newest-open, one-passed}
+use Rattle.ss_store.proofs.OpenMarks.{AllEndBy-can, HasOpen, HasOpen-can, change-has, closes, count-has, later-last, latest_of-after, newest-open}
+use Rattle.ss_model.specs.Outline.{outline_of}
+use Rattle.ss_model.specs.Refusals.{has_most_values}
 use Rattle.ss_store.proofs.OpenMarks.{open-has, takes, two-passed, values-has}
 
 -- ---- records in slots
@@ -231,12 +233,12 @@ IsStream-mark part t Open s can accepted early valid agrees stream =
     IsStream-opened s t stream (ap has_open (sym agrees.landmarks) ∙ passed.0) (ap (λ o. is_past o t) (sym agrees.last_time) ∙ passed.1) early
 IsStream-mark part t (Value v) s can accepted early valid agrees stream =
     let has = HasOpen-can (takes t) s.landmarks stream.landmarks (can-agrees part t (Value v) s agrees can) in
-    let passed = one-passed (is_early_held part t) _ accepted in
+    let passed = two-passed (is_early (outline_held part) t) (has_most_values (outline_held part)) _ _ accepted in
     let last = agrees.last_time in
     let landmarks = agrees.landmarks in
-    let same : is_early s t ≡ is_early_held part t = sym (λ i. is_past (last i) t && not (is_opening (landmarks i) t)) in
+    let same : is_early (outline_of s) t ≡ is_early (outline_held part) t = sym (λ i. is_past (last i) t && not (is_opening (landmarks i) t)) in
     let r = IsValue-is_valid part.id.0 (length part.landmarks.landmarks) (values_open part.landmarks.landmarks + 1) t v valid in
-    IsStream-marked s t v stream (begun-has s.landmarks has) (same ∙ passed) early r.fits
+    IsStream-marked s t v stream (begun-has s.landmarks has) (same ∙ passed.0) early r.fits
 IsStream-mark part t Close s can accepted early valid agrees stream =
     let has = HasOpen-can (closes t) s.landmarks stream.landmarks (can-agrees part t Close s agrees can) in
     let passed = two-passed (not (has_open part.landmarks.landmarks)) (is_before part.last_time t) _ _ accepted in

@@ -294,6 +294,4 @@ CanBeSaid-mark name t Close early fits = early
 -- room to spare says nothing of what is refused
 pub mark_refusal-same : (part other : StreamParts) (t : ℕ) (mark : Mark) → without_spare part ≡ without_spare other →
     mark_refusal part t mark ≡ mark_refusal other t mark
-mark_refusal-same part other t Open same = ap (λ (p : StreamParts). mark_refusal p t Open) same
-mark_refusal-same part other t (Value v) same = ap (λ (p : StreamParts). mark_refusal p t (Value v)) same
-mark_refusal-same part other t Close same = ap (λ (p : StreamParts). mark_refusal p t Close) same
+mark_refusal-same part other t mark same = ap (λ (p : StreamParts). mark_refusal p t mark) same

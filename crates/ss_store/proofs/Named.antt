@@ -1,12 +1,12 @@
 -- What the catalog finds by a name, and what is held of it.
 use Rattle.ss_store.proofs.Common.{◌≡◌, ℕ, Bool, List, [], ◌∷◌, map, refl, ap, sym, ◌∙◌, subst, None, Some, inl, inr, slice_get, option_map, IfSome, IsSome}
-use Rattle.ss_store.proofs.Common.{◌==◌, ◌||◌, position_or_len, list_any, find, IsStrictlyIncreasing, cases_Bool, length-map, find_at, same_name, LAST_STREAM}
+use Rattle.ss_store.proofs.Common.{◌==◌, position_or_len, find, IsStrictlyIncreasing, cases_Bool, find_at, same_name}
 use Rattle.ss_store.proofs.Common.{StreamId, IsState, IsStream, Stream, numbers_of, stream_named, stream_numbered, AllAgree, Agrees, StreamParts, SomeAgree}
-use Rattle.ss_store.proofs.Common.{entry_of, has_all_numbers, numbers_held, part_named, part_numbered}
+use Rattle.ss_store.proofs.Common.{entry_of, numbers_held, part_named, part_numbered}
 use Rattle.std.proofs.Common.{is_some}
 use Rattle.std.specs.Prelude.{Option}
 use Rattle.ss_catalog.specs.Catalog.{id_of}
-use Rattle.ss_model.specs.Refusals.{stands, has_all_streams}
+use Rattle.ss_model.specs.Refusals.{stands}
 use Rattle.ss_store.proofs.Among.{Agrees-at, IsStream-at}
 use Rattle.ss_store.proofs.HeldCounts.{SomeAgree-named}
 use Rattle.ss_store.proofs.PlaceLemmas.{part_numbered-at}
@@ -78,18 +78,6 @@ numbers-AllAgree [] [] each = refl
 numbers-AllAgree [] (s ∷ ss) each = absurd each
 numbers-AllAgree (part ∷ parts) [] each = absurd each
 numbers-AllAgree (part ∷ parts) (s ∷ ss) each = rw (each.0.number, numbers-AllAgree parts ss each.1) refl
-
-list_any-numbers : (streams : List Stream) →
-    list_any (λ number. number == LAST_STREAM) (numbers_of streams) ≡ list_any (λ (s : Stream). s.number == LAST_STREAM) streams
-list_any-numbers [] = refl
-list_any-numbers (s ∷ ss) = ap (λ b. (s.number == LAST_STREAM) || b) (list_any-numbers ss)
-
--- there is a place and a number for a stream more, as the numbers that are held say
-pub has_all_streams-held : (parts : List StreamParts) (streams : List Stream) → AllAgree parts streams →
-    has_all_numbers (numbers_held parts) ≡ has_all_streams streams
-has_all_streams-held parts streams each =
-    ap (λ numbers. has_all_numbers numbers) (numbers-AllAgree parts streams each)
-    ∙ rw (length-map streams (λ (s : Stream). s.number), list_any-numbers streams) refl
 
 -- the place of the stream of a name
 pub record IsAtPlace (name : List ℕ) (place : ℕ) (parts : List StreamParts) (part : StreamParts) : Type 0 where

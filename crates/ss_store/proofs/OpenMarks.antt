@@ -5,7 +5,7 @@ use Rattle.ss_store.proofs.Common.{cases_Bool, cond-false, cond-true, not-false,
 use Rattle.ss_store.proofs.Common.{Refusal, Landmark, LandmarkValue, all_values, change_last, closed_at, open_landmark, opened_at, with_value, AllEndBy}
 use Rattle.ss_store.proofs.Common.{CanClose, EndsBy, FollowFrom, cases-finish, AllEndBy-later, AreKnown, MOST_SLOTS, has_open, later, latest_in, latest_of}
 use Rattle.ss_store.proofs.Common.{lies_free, first_that_applies, is_before, is_opening, is_past, newest_time, Window, EndByLast, mark_slots, StreamParts}
-use Rattle.ss_store.proofs.Common.{latest_of-last, is_early_held, CanMark, IsInOpen, landmarks_after, mark_refusal, values_open, Mark, Open, Close}
+use Rattle.ss_store.proofs.Common.{latest_of-last, has_most_values, is_early, outline_held, CanMark, IsInOpen, landmarks_after, mark_refusal, values_open, Mark, Open, Close}
 use Rattle.std.proofs.Common.{max}
 use Rattle.std.proofs.Common.{IfSome, IsNone, is_none, is_some}
 use Rattle.ss_landmarks.specs.Free.{covers, is_free}
@@ -228,10 +228,6 @@ two-passed true b p q none = cc
 two-passed false true p q none = cc
 two-passed false false p q none = (refl, refl)
 
-pub one-passed : (a : Bool) (p : Refusal) → first_that_applies ((a, p) ∷ []) ≡ None → a ≡ false
-one-passed true p none = cc
-one-passed false p none = refl
-
 -- landmarks take what isn't refused
 pub CanMark-accepted : (part : StreamParts) (t : ℕ) (mark : Mark) → EndByLast part → (IsInOpen mark → has_open part.landmarks.landmarks ≡ true) →
     mark_refusal part t mark ≡ None → CanMark part.landmarks.landmarks t mark
@@ -239,7 +235,7 @@ CanMark-accepted part t Open ends marked none =
     let passed = two-passed (has_open part.landmarks.landmarks) (is_past part.last_time t) _ _ none in
     CanOpen-past part.last_time part.landmarks.landmarks t ends passed.0 passed.1
 CanMark-accepted part t (Value v) ends marked none =
-    let early : is_early_held part t ≡ false = one-passed (is_early_held part t) _ none in
+    let early : is_early (outline_held part) t ≡ false = (two-passed (is_early (outline_held part) t) (has_most_values (outline_held part)) _ _ none).0 in
     elim (cases_Bool (is_past part.last_time t)) [
       | inl past ↦
           (let opening : not (is_opening part.landmarks.landmarks t) ≡ false = rw past at early in

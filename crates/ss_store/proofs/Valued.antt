@@ -12,6 +12,7 @@ use Rattle.std.proofs.lemmas.Map.Keys.{IsDistinct-head, IsDistinct-tail}
 use Rattle.ss_catalog.specs.declared.event.Event.TheVariants.{Open, Close}
 use Rattle.ss_model.specs.State.{names_of}
 use Rattle.ss_model.specs.Steps.{change_named, with_taken, stepped_from}
+use Rattle.ss_store.proofs.Common.{live}
 use Rattle.ss_model.proofs.StandLemmas.{IsPossible-single, below-has_all_records}
 use Rattle.ss_model.proofs.Stretches.{count-summary_of, taken-cons}
 use Rattle.ss_store.specs.declared.marking.Mark.TheVariants as mark
@@ -175,7 +176,7 @@ module _ (streams : List Stream) (name : List ℕ) (t : ℕ) (v : ℤ) (place : 
         few = omega (arith, may.state.few, length-set streams place u);
         room = omega (
           arith,
-          below-has_all_records streams can.records,
+          below-has_all_records (live streams) can.records,
           sum_by-set records_of streams place u s inside,
           ap records_of (get_or_from_slice_get streams place s s may.here),
           long,

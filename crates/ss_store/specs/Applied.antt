@@ -1,5 +1,5 @@
 -- What an event does to a store and its disk, and what a look does.
-use Rattle.std.specs.Prelude.{◌≡◌, ◌↔◌, ℕ, ◌+◌, ◌-◌, ◌*◌, ◌≤◌, Bool, true, false, not, List, [], length, flat_map, map, max, slice_get, Contains, Result}
+use Rattle.std.specs.Prelude.{◌≡◌, ◌↔◌, ℕ, ◌+◌, ◌-◌, ◌*◌, ◌≤◌, Bool, true, false, not, List, [], map, max, slice_get, Contains, Result}
 use Rattle.std.specs.Prelude.{Err, Some, IfOk, IfSome, OnOk, IsTrue, option_map}
 use Rattle.ss_outside.specs.Crash.{OnlyReads}
 use Rattle.ss_outside.specs.Disk.{DiskView, Told, OfContent}
@@ -25,7 +25,7 @@ use Rattle.ss_model.specs.State.{Stream, state, stream_named, stream_numbered, v
 use Rattle.ss_model.specs.declared.outcome.Outcome.{Outcome}
 use Rattle.ss_model.specs.declared.types.Ack.{Ack}
 use Rattle.ss_model.specs.declared.types.Placed.{Placed}
-use Rattle.ss_parts.specs.Held.{entries_of, slots_held}
+use Rattle.ss_parts.specs.Held.{entries_of}
 use Rattle.ss_parts.specs.declared.parts.StreamParts.{StreamParts}
 use Rattle.ss_records.specs.Kept.{RecordsState, shown_by}
 use Rattle.ss_store.specs.Calls.{KeepsHistory, KeepsState, KeepsWithin, SealsHistory, StaysWithin, StepsState, TurnsShown}
@@ -35,7 +35,7 @@ use Rattle.ss_query.specs.Asked.{seen_of}
 use Rattle.ss_query.specs.declared.asking.Seen.{Seen}
 use Rattle.ss_store.specs.Errors.{stopped_after, verdict_of_apply, verdict_of_opening}
 use Rattle.ss_store.specs.Held.{ends_held}
-use Rattle.ss_store.specs.Kept.{SameButSpare, StoreIsKept, StoreState, is_of_landmark, part_named, part_numbered, refuses_held}
+use Rattle.ss_store.specs.Kept.{SameButSpare, StoreIsKept, StoreState, is_of_landmark, live_held, part_named, part_numbered, refuses_held}
 use Rattle.ss_store.specs.Recover.{Recovers, Stands}
 use Rattle.ss_store.specs.Surveyed.{SurveysAs}
 use Rattle.ss_store.specs.declared.error.ApplyError.{ApplyError}
@@ -90,7 +90,7 @@ pub record Applies (event : Event) (old new : StoreState) (before after : DiskVi
   pub stops : new.stopped ≡ stopped_after old.stopped (verdict_of_apply result)
   pub firm : IsTrue before.tells → IsFirm (verdict_of_apply result)
   -- no more slots are used than the records need
-  pub extent : OnOk result (new.records.journal.extent ≤ max old.records.journal.extent (length (flat_map slots_held old.streams) + 1))
+  pub extent : OnOk result (new.records.journal.extent ≤ max old.records.journal.extent (live_held old.streams + 1))
   -- where the record of a slot has changed, a window of the stream is held there
   pub changed : IfChanged (verdict_of_apply result)
       (λ slot. IfSome (part_named (event_name event) new.streams) (λ part. Contains (window_slots_of part) slot))

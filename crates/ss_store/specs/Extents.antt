@@ -1,11 +1,10 @@
 -- How many slots a store uses over calls in a row.
-use Rattle.std.specs.Prelude.{◌≡◌, ◌+◌, ◌≤◌, max, ℕ, List, [], ◌∷◌, length, flat_map}
-use Rattle.ss_parts.specs.Held.{slots_held}
-use Rattle.ss_store.specs.Kept.{StoreState}
+use Rattle.std.specs.Prelude.{◌≡◌, ◌+◌, ◌≤◌, max, ℕ, List, [], ◌∷◌}
+use Rattle.ss_store.specs.Kept.{StoreState, live_held}
 
 -- how many records a store holds
 abbrev pub records_held_in : StoreState → ℕ
-records_held_in store = length (flat_map slots_held store.streams)
+records_held_in store = live_held store.streams
 
 -- a call uses no more slots than were used before it, or than the records that were held then and one
 abbrev pub GrowsLittle : StoreState → StoreState → Type 0

@@ -1,28 +1,25 @@
 -- A store: what it holds in memory, and what it says of its disk.
-use Rattle.std.specs.Prelude.{◌≡◌, ◌≤◌, ℕ, Bool, true, false, not, ◌==◌, ◌&&◌, ◌||◌, nat_le, List, [], ◌∷◌, length, map, find, flat_map, zip, Option}
-use Rattle.std.specs.Prelude.{Some, None, is_some, ⊤}
-use Rattle.std.specs.List.{AllZip, list_any}
-use Rattle.std.specs.Option.{option_map_or}
+use Rattle.std.specs.Prelude.{◌≡◌, ◌≤◌, ℕ, Bool, true, false, ◌==◌, List, length, map, find, flat_map, zip, Option}
+use Rattle.std.specs.Prelude.{Some, None, ⊤}
+use Rattle.std.specs.List.{AllZip}
+use Rattle.std.specs.Option.{option_map, option_map_or}
 use Rattle.std.specs.List.Sorted.{IsStrictlyIncreasing}
 use Rattle.ss_catalog.specs.Names.{same_name}
-use Rattle.ss_catalog.specs.declared.TheConstants.{MOST_STREAMS, LAST_STREAM}
+use Rattle.ss_catalog.specs.Events.{event_name}
 use Rattle.ss_catalog.specs.declared.event.Event.{Event}
 use Rattle.ss_catalog.specs.declared.event.Event.TheVariants.{Create, Value, Open, Close, Drop}
 use Rattle.ss_catalog.specs.declared.refusal.Refusal.{Refusal}
-use Rattle.ss_catalog.specs.declared.refusal.Refusal.TheVariants as refusal
 use Rattle.ss_catalog.specs.declared.stream_id.StreamId.{StreamId}
 use Rattle.ss_landmarks.specs.Landmark.{all_values}
-use Rattle.ss_target.specs.Lengths.{has_target}
 use Rattle.ss_target.specs.Targets.{params_of}
-use Rattle.ss_windowing.specs.declared.decay.TheConstants.{MOST_VALUES}
 use Rattle.ss_journal.specs.Kept.{IsSettled}
 use Rattle.ss_records.specs.Kept.{AreKept, RecordsState, shown_by}
 use Rattle.ss_model.specs.ClosedState.{closed_state}
 use Rattle.ss_model.specs.Marks.{has_open}
-use Rattle.ss_model.specs.Refusals.{first_that_applies, is_before, is_opening, is_past}
+use Rattle.ss_model.specs.Outline.{Outline}
+use Rattle.ss_model.specs.Refusals.{first_that_applies, refusals}
 use Rattle.ss_model.specs.Standing.{IsState}
 use Rattle.ss_model.specs.State.{Stream}
-use Rattle.ss_model.specs.declared.types.TheConstants.{MOST_RECORDS}
 use Rattle.ss_model.specs.declared.types.StreamRow.{StreamRow}
 use Rattle.ss_parts.specs.Held.{AllAgree, AreWhole, Agrees, entries_of, records_held, slots_held}
 use Rattle.ss_parts.specs.declared.parts.StreamParts.{StreamParts}
@@ -97,20 +94,20 @@ pub record SameButSpare (old new : StoreState) : Type 0 where
 abbrev pub numbers_held : List StreamParts → List ℕ
 numbers_held parts = map (λ (part : StreamParts). part.id.0) parts
 
--- whether no further stream has a place or a number
-abbrev pub has_all_numbers : List ℕ → Bool
-has_all_numbers numbers = nat_le MOST_STREAMS (length numbers) || list_any (λ number. number == LAST_STREAM) numbers
+-- the outline of a stream, by what is held of it, and that of the stream of a name, where it is held
+abbrev pub outline_held : StreamParts → Outline
+outline_held part = record {
+  last_time = part.last_time;
+  landmarks = part.landmarks.landmarks;
+  values = values_held (entries_of part);
+}
 
--- whether a value comes too early for a stream, and whether it would be one too many outside landmarks, by what is held of it
-abbrev pub is_early_held : StreamParts → ℕ → Bool
-is_early_held part t = is_past part.last_time t && not (is_opening part.landmarks.landmarks t)
+abbrev pub outline_of_part : List ℕ → List StreamParts → Option Outline
+outline_of_part name parts = option_map outline_held (part_named name parts)
 
-abbrev pub is_full_held : StreamParts → Bool
-is_full_held part = not (has_open part.landmarks.landmarks) && nat_le MOST_VALUES (values_held (entries_of part))
-
--- whether no further record has a place
-abbrev pub has_all_slots : List StreamParts → Bool
-has_all_slots parts = nat_le MOST_RECORDS (length (flat_map slots_held parts))
+-- how many records are held
+abbrev pub live_held : List StreamParts → ℕ
+live_held parts = length (flat_map slots_held parts)
 
 -- whether the stream of a name is held and has this
 abbrev pub of_part : List ℕ → List StreamParts → (StreamParts → Bool) → Bool
@@ -124,32 +121,9 @@ is_of_landmark parts (Open name t) = true
 is_of_landmark parts (Close name t) = true
 is_of_landmark parts (Drop name) = false
 
--- the refusals of an event by what is held of the streams, in the order of their numbers, each with whether it applies
-abbrev pub refusals_held : List StreamParts → Event → List (Bool × Refusal)
-refusals_held parts (Create name params) =
-    (not (has_target params), refusal.Param)
-    ∷ (is_some (part_named name parts), refusal.Exists)
-    ∷ (has_all_numbers (numbers_held parts), refusal.Streams)
-    ∷ (has_all_slots parts, refusal.StoreFull) ∷ []
-refusals_held parts (Value name t v) =
-    (not (is_some (part_named name parts)), refusal.Unknown)
-    ∷ (of_part name parts (λ part. is_early_held part t), refusal.Time)
-    ∷ (of_part name parts is_full_held, refusal.StreamFull)
-    ∷ (has_all_slots parts, refusal.StoreFull) ∷ []
-refusals_held parts (Open name t) =
-    (not (is_some (part_named name parts)), refusal.Unknown)
-    ∷ (of_part name parts (λ part. has_open part.landmarks.landmarks), refusal.Open)
-    ∷ (of_part name parts (λ part. is_past part.last_time t), refusal.Time)
-    ∷ (has_all_slots parts, refusal.StoreFull) ∷ []
-refusals_held parts (Close name t) =
-    (not (is_some (part_named name parts)), refusal.Unknown)
-    ∷ (of_part name parts (λ part. not (has_open part.landmarks.landmarks)), refusal.NotOpen)
-    ∷ (of_part name parts (λ part. is_before part.last_time t), refusal.Time) ∷ []
-refusals_held parts (Drop name) = (not (is_some (part_named name parts)), refusal.Unknown) ∷ []
-
 -- why an event is refused by what is held of the streams, where it is
 unfoldable pub refuses_held : List StreamParts → Event → Option Refusal
-refuses_held parts event = first_that_applies (refusals_held parts event)
+refuses_held parts event = first_that_applies (refusals (outline_of_part (event_name event) parts) (numbers_held parts) (live_held parts) event)
 
 -- a stream as it is listed, by what is held of it
 abbrev pub row_of_held : StreamParts → StreamRow

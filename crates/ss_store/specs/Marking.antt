@@ -1,5 +1,5 @@
 -- What a landmark takes: which event that is, what it makes of a stream, and which record it puts.
-use Rattle.std.specs.Prelude.{◌≡◌, ℕ, ◌+◌, Bool, not, FitsSigned, List, [], ◌∷◌, ◌++◌, length, Option, Some, None, MatchOption, ⊤}
+use Rattle.std.specs.Prelude.{◌≡◌, ℕ, ◌+◌, Bool, FitsSigned, List, [], ◌∷◌, ◌++◌, length, Option, Some, None, MatchOption, ⊤}
 use Rattle.std.specs.Int.{w64}
 use Rattle.std.specs.Option.{option_map_or}
 use Rattle.ss_catalog.specs.declared.event.Event.{Event}
@@ -12,11 +12,11 @@ use Rattle.ss_landmarks.specs.Landmark.{Landmark, open_landmark}
 use Rattle.ss_landmarks.specs.Landmarks.{opened}
 use Rattle.ss_landmarks.specs.Order.{CanClose, CanOpen, CanTake}
 use Rattle.ss_records.specs.Live.{lowest_free}
-use Rattle.ss_model.specs.Marks.{has_open, with_closed, with_marked, with_opened}
-use Rattle.ss_model.specs.Refusals.{first_that_applies, is_before, is_past}
+use Rattle.ss_model.specs.Marks.{with_closed, with_marked, with_opened}
+use Rattle.ss_model.specs.Refusals.{first_that_applies, refusals}
 use Rattle.ss_model.specs.State.{Stream}
 use Rattle.ss_parts.specs.declared.parts.StreamParts.{StreamParts}
-use Rattle.ss_store.specs.Kept.{is_early_held}
+use Rattle.ss_store.specs.Kept.{outline_held}
 use Rattle.ss_store.specs.declared.marking.Mark.{Mark}
 use Rattle.ss_store.specs.declared.marking.Mark.TheVariants.{Open, Value, Close}
 
@@ -54,13 +54,9 @@ IsClosing Open = ⊥
 IsClosing (Value v) = ⊥
 IsClosing Close = ⊤
 
--- why the landmarks of a stream don't take it at a time, where they don't, by what is held of them
+-- why a stream doesn't take it at a time, where it doesn't and there is room for one more record, by what is held of it
 abbrev pub mark_refusal : StreamParts → ℕ → Mark → Option Refusal
-mark_refusal part t Open =
-    first_that_applies ((has_open part.landmarks.landmarks, refusal.Open) ∷ (is_past part.last_time t, refusal.Time) ∷ [])
-mark_refusal part t (Value v) = first_that_applies ((is_early_held part t, refusal.Time) ∷ [])
-mark_refusal part t Close =
-    first_that_applies ((not (has_open part.landmarks.landmarks), refusal.NotOpen) ∷ (is_before part.last_time t, refusal.Time) ∷ [])
+mark_refusal part t mark = first_that_applies (refusals (Some (outline_held part)) [] 0 (event_of part.name t mark))
 
 -- why no slot is free for the record that it puts, where that needs one and all slots are taken
 abbrev pub slot_refusal : Mark → Bool → Option Refusal

@@ -1,10 +1,9 @@
 -- The newest value of a stream: where it is held, and what a look for it tells. Why a look is refused that asks for values of a stream.
-use Rattle.std.specs.Prelude.{◌≡◌, ℕ, Bool, true, not, nat_lt, if◌then◌else◌, List, [], ◌∷◌, ◌++◌, is_some, Option, Some, None, Result, IfOk}
+use Rattle.std.specs.Prelude.{◌≡◌, ℕ, Bool, true, nat_lt, if◌then◌else◌, List, ◌++◌, is_some, Option, Some, None, Result, IfOk}
 use Rattle.std.specs.List.{last_or}
 use Rattle.ss_outside.specs.Crash.{OnlyReads}
 use Rattle.ss_outside.specs.Disk.{Told}
 use Rattle.ss_catalog.specs.declared.refusal.Refusal.{Refusal}
-use Rattle.ss_catalog.specs.declared.refusal.Refusal.TheVariants.{Unknown, Range}
 use Rattle.ss_landmarks.specs.Landmark.{LandmarkValue}
 use Rattle.ss_landmarks.specs.Newest.{newest_value}
 use Rattle.ss_line.specs.declared.entry.At.{At}
@@ -13,7 +12,7 @@ use Rattle.ss_model.specs.History.{Happened, landmarks_of, marked_of, values_of}
 use Rattle.ss_model.specs.Marks.{later, latest_of}
 use Rattle.ss_model.specs.Newest.{newest_in}
 use Rattle.ss_model.specs.NewestTruth.{HoldsNewest}
-use Rattle.ss_model.specs.Refusals.{first_that_applies}
+use Rattle.ss_model.specs.Refusals.{first_that_applies, range_refusals, reading_refusals}
 use Rattle.ss_model.specs.State.{Stream}
 use Rattle.ss_model.specs.Windows.{time_of_last}
 use Rattle.ss_model.specs.declared.newest.Newest.{Newest}
@@ -38,11 +37,11 @@ newest_place part = place_if_newer (newest_value part.landmarks.landmarks) (last
 
 -- why a look at the stream of a name is refused, by what is held of the streams, where it is
 unfoldable pub refuses_reading_held : List StreamParts → List ℕ → Option Refusal
-refuses_reading_held parts name = first_that_applies ((not (is_some (part_named name parts)), Unknown) ∷ [])
+refuses_reading_held parts name = first_that_applies (reading_refusals (is_some (part_named name parts)))
 
 -- the same of a look at the values of its landmarks in a range
 unfoldable pub refuses_values_held : List StreamParts → List ℕ → ℕ → ℕ → Option Refusal
-refuses_values_held parts name from to = first_that_applies ((not (is_some (part_named name parts)), Unknown) ∷ (nat_lt to from, Range) ∷ [])
+refuses_values_held parts name from to = first_that_applies (range_refusals (is_some (part_named name parts)) from to)
 
 -- It is told how far a stream has come, and what is known of its newest value, of what records show. Content and images stay.
 pub record TellsNewest (was : RecordsState) (name : List ℕ) (result : Result Newest AskError) (old new : Told) : Type 0 where

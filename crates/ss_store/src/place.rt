@@ -3,7 +3,8 @@ ghost use Rattle.std.specs.Prelude.{◌≡◌, ◌<◌, ◌↔◌, length, slice
 ghost use Rattle.std.specs.List.Sorted.{IsStrictlyIncreasing};
 ghost use Rattle.ss_model.specs.State.{next_number};
 ghost use Rattle.ss_store.specs.Held.{held_parts};
-ghost use Rattle.ss_store.specs.Kept.{has_all_numbers, numbers_held, part_numbered};
+ghost use Rattle.ss_model.specs.Refusals.{has_all_streams};
+ghost use Rattle.ss_store.specs.Kept.{numbers_held, part_numbered};
 
 use crate::held::HeldStream;
 use ss_catalog::{LAST_STREAM, MOST_STREAMS, StreamId};
@@ -39,7 +40,7 @@ pub fn number_of(stream: &StreamParts) -> u32
 // The number of a new stream, if there is a place and a number for one.
 pub fn next_id(streams: &[HeldStream]) -> Option<StreamId>
     requires { IsStrictlyIncreasing (numbers_held (held_parts streams.now)) }
-    ensures none { IsNone result ↔ IsTrue (has_all_numbers (numbers_held (held_parts streams.now))) }
+    ensures none { IsNone result ↔ IsTrue (has_all_streams (numbers_held (held_parts streams.now))) }
     ensures value { IfSome result (λ id. id.0 ≡ next_number (numbers_held (held_parts streams.now))) }
 {
     if streams.len() >= MOST_STREAMS as usize {

@@ -51,18 +51,17 @@ impl Model for Store {
 }
 
 impl Store {
-    ghost use Rattle.std.specs.Prelude.{◌≡◌, ◌≤◌, ◌<◌, ◌↔◌, false, nat_le, length, flat_map, slice_get, Some, IsTrue, IsNone, IsSome, IfSome};
+    ghost use Rattle.std.specs.Prelude.{◌≡◌, ◌≤◌, ◌<◌, ◌↔◌, false, length, slice_get, Some, IsTrue, IsNone, IsSome, IfSome};
     ghost use Rattle.ss_records.specs.Live.{lowest_free};
-    ghost use Rattle.ss_model.specs.declared.types.TheConstants.{MOST_RECORDS};
-    ghost use Rattle.ss_parts.specs.Held.{slots_held};
-    ghost use Rattle.ss_store.specs.Kept.{part_numbered};
+    ghost use Rattle.ss_model.specs.Refusals.{has_all_records};
+    ghost use Rattle.ss_store.specs.Kept.{live_held, part_numbered};
 
     // The slot for one more record, if there is one.
     fn free_slot(&self) -> Option<u32>
         requires { self.now.stopped ≡ false }
         ensures least { result ≡ lowest_free self.now.records.live }
-        ensures full { IsNone result ↔ IsTrue (nat_le MOST_RECORDS (length (flat_map slots_held self.now.streams))) }
-        ensures low { IfSome result (λ slot. slot ≤ length (flat_map slots_held self.now.streams)) }
+        ensures full { IsNone result ↔ IsTrue (has_all_records (live_held self.now.streams)) }
+        ensures low { IfSome result (λ slot. slot ≤ live_held self.now.streams) }
     {
         let _live = self.records.live();
         self.records.lowest_free()

@@ -1,6 +1,7 @@
 // Staging an event of a landmark.
-ghost use Rattle.std.specs.Prelude.{◌≡◌, IfSome, IfNone, Some, None};
-ghost use Rattle.ss_store.specs.Marking.{mark_refusal};
+ghost use Rattle.std.specs.Prelude.{◌≡◌, true, IfSome, IfNone, Some, None};
+ghost use Rattle.ss_model.specs.Marks.{has_open};
+ghost use Rattle.ss_store.specs.Marking.{IsInOpen, mark_refusal};
 
 use super::Store;
 use super::times::{is_before, is_opening, is_past};
@@ -16,6 +17,7 @@ use std::sync::ledger::{Blank, Ledger};
 
 // Why the landmarks of a stream don't take a mark at a time.
 fn refuses(stream: &StreamParts, t: u64, mark: Mark) -> Option<Refusal>
+    requires { IsInOpen mark → has_open stream.now.landmarks.landmarks ≡ true }
     ensures some { IfSome result (λ r. mark_refusal stream.now t mark ≡ Some r) }
     ensures none { IfNone result (mark_refusal stream.now t mark ≡ None) }
 {
@@ -36,18 +38,18 @@ fn refuses(stream: &StreamParts, t: u64, mark: Mark) -> Option<Refusal>
 }
 
 impl Store {
-    ghost use Rattle.std.specs.Prelude.{◌≡◌, ◌≢◌, ◌+◌, ◌≤◌, true, false, length, flat_map, map, Some, IsNone, IfOk, IfSome, OnOk, IfErr, Err, None};
+    ghost use Rattle.std.specs.Prelude.{◌≡◌, ◌≢◌, ◌+◌, ◌≤◌, true, false, map, Some, IsNone, IfOk, IfSome, OnOk, IfErr, Err, None};
     ghost use Rattle.ss_outside.specs.Disk.{Between, OfContent};
     ghost use Rattle.ss_outside.specs.Verdict.{IfUndone, OnFailed};
     ghost use Rattle.ss_catalog.specs.declared.refusal.Refusal.{Refusal};
     ghost use Rattle.ss_model.specs.Marks.{has_open};
-    ghost use Rattle.ss_parts.specs.Held.{slots_held};
+    ghost use Rattle.ss_model.specs.Refusals.{has_all_records};
     ghost use Rattle.ss_store.specs.Admitted.{IsMarker};
     ghost use Rattle.ss_store.specs.Applied.{Applies};
     ghost use Rattle.ss_store.specs.Calls.{CostsEvent};
     ghost use Rattle.ss_store.specs.Errors.{verdict_of_apply};
     ghost use Rattle.ss_store.specs.Extents.{records_held_in};
-    ghost use Rattle.ss_store.specs.Kept.{StoreIsKept, has_all_slots, of_part, refuses_held, without_spare};
+    ghost use Rattle.ss_store.specs.Kept.{StoreIsKept, live_held, of_part, refuses_held, without_spare};
     ghost use Rattle.ss_store.specs.Marking.{IsClosing, IsInOpen, IsItsSlot, event_of, slot_refusal, slots_used};
     ghost use Rattle.ss_store.specs.Places.{IsPlaceOf};
     ghost use Rattle.ss_steps.specs.Steps.{IsFresh};
@@ -57,9 +59,9 @@ impl Store {
         requires runs { self.now.stopped ≡ false }
         requires begun { IsClosing mark → has_open stream.now.landmarks.landmarks ≡ true }
         ensures in_slot { IfSome result (λ slot. IsItsSlot self.now.records.live stream.now mark slot) }
-        ensures low { IfSome result (λ slot. slots_used mark slot ≤ length (flat_map slots_held self.now.streams) + 1) }
-        ensures some { IfSome result (λ slot. slot_refusal mark (has_all_slots self.now.streams) ≡ None) }
-        ensures none { IsNone result → slot_refusal mark (has_all_slots self.now.streams) ≡ Some Refusal.StoreFull }
+        ensures low { IfSome result (λ slot. slots_used mark slot ≤ live_held self.now.streams + 1) }
+        ensures some { IfSome result (λ slot. slot_refusal mark (has_all_records (live_held self.now.streams)) ≡ None) }
+        ensures none { IsNone result → slot_refusal mark (has_all_records (live_held self.now.streams)) ≡ Some Refusal.StoreFull }
     {
         match mark {
             Mark::Open | Mark::Value(_) => self.free_slot(),

@@ -1,5 +1,5 @@
 use Rattle.ss_store.proofs.Common.{◌≡◌, None, Some, true, false, refl, ap, sym, ◌∙◌, subst, length, flat_map, is_some, nat_le, Create, has_target}
-use Rattle.ss_store.proofs.Common.{next_number, MOST_RECORDS, slots_held, StoreState, held_parts, has_all_numbers, numbers_held, part_named, refuses_held}
+use Rattle.ss_store.proofs.Common.{next_number, MOST_RECORDS, slots_held, StoreState, held_parts, has_all_streams, numbers_held, part_named, refuses_held}
 use Rattle.ss_catalog.specs.declared.refusal.Refusal.TheVariants.{Exists, Streams, StoreFull}
 use Rattle.ss_store.proofs.Named.{is_some-listed}
 use Rattle.ss_store.proofs.Refusals.{not-true, none_is_some, refuses_held-create}
@@ -25,7 +25,7 @@ returns-in_default-next_id-clause-refused c =
     let target : has_target c.args.params ≡ true = c.in-Ok.ensures.exactly.0 refl in
     let listed = is_some-listed c.args.name.now parts c.self.inside.catalog c.self.invariant.0.listed in
     let new : is_some (part_named c.args.name.now parts) ≡ false = cc in
-    let full : has_all_numbers (numbers_held parts) ≡ true = rw (← c.deref.ensures.value) (c.in_default-next_id.ensures.none.0 refl) in
+    let full : has_all_streams (numbers_held parts) ≡ true = rw (← c.deref.ensures.value) (c.in_default-next_id.ensures.none.0 refl) in
     subst (λ (s : StoreState). refuses_held s.streams (Create c.args.name.now c.args.params) ≡ Some Streams) c.self.view_is
     (refuses_held-create parts c.args.name.now c.args.params true false true _ target new full refl)
 
@@ -35,7 +35,7 @@ returns-in-Some-free_slot-clause-accepted c =
     let target : has_target c.args.params ≡ true = c.in-Ok.ensures.exactly.0 refl in
     let listed = is_some-listed c.args.name.now parts c.self.inside.catalog c.self.invariant.0.listed in
     let new : is_some (part_named c.args.name.now parts) ≡ false = cc in
-    let free : has_all_numbers (numbers_held parts) ≡ false =
+    let free : has_all_streams (numbers_held parts) ≡ false =
     rw (← c.deref.ensures.value) (not-true _ (λ yes. let wrong : true ≡ false = c.in-Some.ensures.none.1 yes in cc)) in
     let stored : nat_le MOST_RECORDS (length (flat_map slots_held parts)) ≡ false =
     ap (λ (s : StoreState). nat_le MOST_RECORDS (length (flat_map slots_held s.streams))) c.self.view_is
@@ -49,7 +49,7 @@ returns-in-None-clause-refused c =
     let target : has_target c.args.params ≡ true = c.in-Ok.ensures.exactly.0 refl in
     let listed = is_some-listed c.args.name.now parts c.self.inside.catalog c.self.invariant.0.listed in
     let new : is_some (part_named c.args.name.now parts) ≡ false = cc in
-    let free : has_all_numbers (numbers_held parts) ≡ false =
+    let free : has_all_streams (numbers_held parts) ≡ false =
     rw (← c.deref.ensures.value) (not-true _ (λ yes. let wrong : true ≡ false = c.in-Some.ensures.none.1 yes in cc)) in
     let stored : nat_le MOST_RECORDS (length (flat_map slots_held parts)) ≡ true =
     ap (λ (s : StoreState). nat_le MOST_RECORDS (length (flat_map slots_held s.streams))) c.self.view_is ∙ c.in-None.ensures.full.0 refl in
@@ -61,14 +61,14 @@ returns-in-Some-free_slot-clause-new c =
     let parts = held_parts c.self.inside.streams.items in
     let listed = is_some-listed c.args.name.now parts c.self.inside.catalog c.self.invariant.0.listed in
     let unknown : is_some (part_named c.args.name.now parts) ≡ false = cc in
-    let numbers : has_all_numbers (numbers_held parts) ≡ false =
+    let numbers : has_all_streams (numbers_held parts) ≡ false =
     rw (← c.deref.ensures.value) (not-true _ (λ yes. let wrong : true ≡ false = c.in-Some.ensures.none.1 yes in cc)) in
     let next : c.in-Some.id.0 ≡ next_number (numbers_held parts) = rw (← c.deref.ensures.value) c.in-Some.ensures.value in
     record {
       target = c.in-Ok.ensures.exactly.0 refl;
       named = ap (λ (s : StoreState). part_named c.args.name.now s.streams) (sym c.self.view_is) ∙ none_is_some (part_named c.args.name.now parts) unknown;
       next = next ∙ ap (λ (s : StoreState). next_number (numbers_held s.streams)) c.self.view_is;
-      room = ap (λ (s : StoreState). has_all_numbers (numbers_held s.streams)) (sym c.self.view_is) ∙ numbers;
+      room = ap (λ (s : StoreState). has_all_streams (numbers_held s.streams)) (sym c.self.view_is) ∙ numbers;
       free = sym c.in-Some-free_slot.ensures.least;
       low = c.in-Some-free_slot.ensures.low;
     }

@@ -1,5 +1,5 @@
 use Rattle.ss_store.proofs.Common.{◌≡◌, ◌∙◌, ℕ, List, Some, true, false, get_or, refl, ap, sym, arith, nat_le, nat_tests, entries_of, HeldStream, StreamParts, held_parts}
-use Rattle.ss_store.proofs.Common.{MOST_VALUES, has_open, is_past, values_held, StoreState, has_all_slots, of_part, IsPlaceOf}
+use Rattle.ss_store.proofs.Common.{MOST_VALUES, has_open, is_past, values_held, StoreState, has_all_records, live_held, of_part, IsPlaceOf}
 use Rattle.std.specs.Prelude.{Option}
 use Rattle.ss_store.proofs.Found.{IsAtPlace-found, inside-found, none-found}
 use Rattle.ss_store.proofs.LiveCounts.{few-entries}
@@ -52,7 +52,7 @@ returns-in-Some-free_slot-clause-accepted g c v =
     c.requires.plain in
     let later : is_past part.last_time c.args.t ≡ false = cc in
     let few : nat_le MOST_VALUES (values_held (entries_of part)) ≡ false = rw (← c.values_held.ensures.value) (grind (arith, nat_tests)) in
-    let stored : has_all_slots c.args.self.now.streams ≡ false =
+    let stored : has_all_records (live_held c.args.self.now.streams) ≡ false =
     not-true _ (λ full. let wrong : true ≡ false = c.in-Some-free_slot.ensures.full.1 full in cc) in
     refuses_held-value c.args.self.now.streams c.args.name.now c.args.t v part false false false its.is.named its.plain later few stored
 
@@ -73,7 +73,7 @@ returns-in-Some-free_slot-clause-taker g c =
     let its = IsPlain-found c.self.inside.streams.items c.args.name.now (ap (λ (s : StoreState). s.streams) c.self.view_is) c.in-Some.is c.requires.found c.index.ensures
     c.requires.plain in
     let later : is_past part.last_time c.args.t ≡ false = cc in
-    let stored : has_all_slots parts ≡ false = not-true _ (λ full. let wrong : true ≡ false = c.in-Some-free_slot.ensures.full.1 full in cc) in
+    let stored : has_all_records (live_held parts) ≡ false = not-true _ (λ full. let wrong : true ≡ false = c.in-Some-free_slot.ensures.full.1 full in cc) in
     record {
       part = part;
       named = its.is.named;
