@@ -4,8 +4,8 @@ use Rattle.ss_journal.proofs.Common.{subst, sym, take, ℕ, ◌++◌, ◌+◌, �
 use Rattle.ss_journal.proofs.Common.{eqb-true, leb-true, or_cases, or_parts, append-nil, get_or-replicate, get_or_past, length-replicate, take-append-drop}
 use Rattle.ss_journal.proofs.Common.{IsErr, slice_index, get_or-overwrite_inside, get_or-overwrite_outside, length-overwrite, KnowsNow, OnlyReads, Told}
 use Rattle.ss_journal.proofs.Common.{overwrite, Begins, IsFormed, Leads, has_no_kind, magic_bytes, Syncs, Failed, Kind, Plain, Checked, IsShut, has_magic}
-use Rattle.ss_journal.proofs.Common.{has_magic_of, is_born, is_unborn, magic, slots_in, opens, Gives, Redone, SameMap, SlotMap, StandsFor, blank_map, Durably}
-use Rattle.ss_journal.proofs.Common.{Reaches, Rewrites, Writes, WritesZeros, SameRest, DiffersAt, DiffersIn, Tears, length_with}
+use Rattle.ss_journal.proofs.Common.{has_magic_of, is_born, is_unborn, magic, slots_in, opens, SameMap, SlotMap, StandsFor, blank_map, Durably}
+use Rattle.ss_journal.proofs.Common.{Reaches, Rewrites, Writes, WritesZeros, SameRest, DiffersAt, DiffersIn, length_with}
 use Rattle.ss_journal.specs.Birth.{IsBegun, blank_end, form_ranges}
 use Rattle.ss_journal.specs.Format.{kind_of}
 use Rattle.ss_journal.specs.Steps.{Marks}
@@ -21,7 +21,7 @@ use Rattle.ss_journal.proofs.TearLemmas.{tears-joined}
 pub StandsFor-unborn : (content image : List ℕ) (found : SlotMap) → IsTrue (is_unborn content) → StandsFor content found → IsTrue (is_unborn image)
     → slots_in (length image) ≡ slots_in (length content) → StandsFor image found
 StandsFor-unborn content image found unborn is still slots =
-    let its : SameMap (blank_map content) found = subst (λ (r : Redone). Gives r found) (redo-unborn content unborn) is in
+    let its : SameMap (blank_map content) found = rw redo-unborn at is in
     let alike : SameMap (blank_map image) (blank_map content) = record { bytes = λ slot lt. refl; extent = slots } in
     StandsFor-from image (blank_map image) found (redo-unborn image still) (SameMap-trans _ _ _ alike its)
 
@@ -131,7 +131,7 @@ StandsFor-form content image found begun is differs = StandsFor-unborn content i
           | inl short ↦ absurd (omega (arith, short, nine))
           | inr late ↦ elim late [
             | inl zero ↦ is_unborn-zero image (first ∙ zero)
-            | inr there ↦ is_unborn-gate image (same ∙ there.0) (subst (λ (byte : ℕ). IsFalse (opens byte)) (sym first) there.1)
+            | inr there ↦ is_unborn-gate image (same ∙ there.0) (rw first there.1)
           ]
         ]
 
@@ -165,11 +165,11 @@ module _ (content : List ℕ) (begun : IsBegun content) where
   closed-begun : IsFalse (opens (slice_index content 0))
   closed-begun = elim (is_unborn-cases content begun.unborn) [
     | inl short ↦ elim begun.gate [
-      | inl zero ↦ subst (λ (byte : ℕ). IsFalse (opens byte)) (sym zero) refl
+      | inl zero ↦ rw zero
       | inr there ↦ absurd (omega (arith, short, long-has_magic content there))
     ]
     | inr late ↦ elim late [
-      | inl zero ↦ subst (λ (byte : ℕ). IsFalse (opens byte)) (sym zero) refl
+      | inl zero ↦ rw zero
       | inr there ↦ there.1
     ]
   ]
@@ -181,13 +181,12 @@ module _ (content : List ℕ) (begun : IsBegun content) where
   is_magic-marked = elim (cases_Bool (has_magic content)) [
     | inl there ↦
         let none : magic_bytes content ≡ [] = cond-true (has_magic content) [] (magic Plain) there in
-        subst (λ (bytes : List ℕ). IsSoMarked (overwrite content 1 bytes)) (sym none)
-        (subst IsSoMarked (sym (overwrite-nothing content)) (there, refl))
+        rw (none, overwrite-nothing) (there, refl)
     | inr other ↦
         let all : magic_bytes content ≡ magic Plain = cond-false (has_magic content) [] (magic Plain) other in
         let plain : kind_of content ≡ Plain = kind_of-other content (or_parts (has_magic_of Plain content) (has_magic_of Checked content) other).1 in
         let there = is_magic-overwrite Plain content begun.some in
-        subst (λ (bytes : List ℕ). IsSoMarked (overwrite content 1 bytes)) (sym all) (there.0, there.1 ∙ sym plain)
+        rw all (there.0, there.1 ∙ sym plain)
   ]
 
   has_magic-marked : IsTrue (has_magic marked)
@@ -227,7 +226,7 @@ module _ (content : List ℕ) (begun : IsBegun content) where
 
     pub IsFormed-blank : IsFormed blank
     IsFormed-blank = record {
-      closed = subst (λ (byte : ℕ). IsFalse (opens byte)) (sym (below 0 (omega arith) ∙ first-marked)) closed-begun;
+      closed = rw (← (below 0 (omega arith) ∙ first-marked)) at closed-begun;
       marked = has_magic-same marked blank long-marked (omega (arith, length-blank, long-marked)) (λ place low high. below place high) ∙ has_magic-marked;
       long = omega (arith, length-blank, is_end);
       blank = zero-at;
@@ -255,8 +254,7 @@ module _ (old read marked : Told) (knows : KnowsNow old) (reads : OnlyReads old 
   magic_range = (1, length (magic_bytes old.content)) ∷ []
 
   to_marked : {result : Result (Unit {0}) Failed} → Marks result read marked → Marks result old marked
-  to_marked {result} marks = writes-after_read 1 (magic_bytes old.content) old read marked knows reads
-      (subst (λ (list : List ℕ). Writes 1 (magic_bytes list) result read marked) reads.same.content marks)
+  to_marked {result} marks = writes-after_read 1 (magic_bytes old.content) old read marked knows reads (rw (← reads.same.content) marks)
 
   -- the magic alone
   pub marks-failed : {step : Result (Unit {0}) Failed} (result : Result (Unit {0}) Failed) → IsErr result → Marks step read marked
@@ -267,7 +265,7 @@ module _ (old read marked : Told) (knows : KnowsNow old) (reads : OnlyReads old 
 
   module _ (value : Unit {0}) (marks : Marks (Ok value) read marked) where
     pub long-marks : 9 ≤ length marked.content
-    long-marks = subst (λ (list : List ℕ). 9 ≤ length list) (sym (to_marked marks).written) (long-marked old.content begun)
+    long-marks = rw (to_marked marks).written (long-marked old.content begun)
 
     module _ (blank : Told) (knows_marked : KnowsNow marked) (end : ℕ) (is_end : end ≡ blank_end (length old.content)) where
       -- the magic, and zeros after it
@@ -275,7 +273,7 @@ module _ (old read marked : Told) (knows : KnowsNow old) (reads : OnlyReads old 
           → Rewrites (form_ranges old.content) (overwrite (overwrite old.content 1 (magic_bytes old.content)) 9 (replicate (end - 9) 0)) result old blank
       to_blank {result} wipes = record {
         tears = tears-joined old marked blank magic_range knows_marked (to_marked marks).tears ((9, blank_end (length old.content) - 9) ∷ [])
-            (subst (λ (n : ℕ). Tears ((9, n - 9) ∷ []) marked blank) is_end wipes.tears);
+            (rw is_end at wipes.tears);
         written = on_ok_weaker result (λ is. is ∙ ap (λ (list : List ℕ). overwrite list 9 (replicate (end - 9) 0)) (to_marked marks).written) wipes.written;
       }
 
@@ -323,12 +321,12 @@ module _ (content image : List ℕ) (formed : IsFormed content) (differs : Diffe
   born-opened opened = is_born-from image (omega (arith, formed.long, length-image)) opened magic-image
 
   pub gate-image : (place : ℕ) → 9 ≤ place → place < 134254592 → IsFalse (opens (slice_index image place))
-  gate-image place low high = subst (λ (byte : ℕ). IsFalse (opens byte)) (sym (blank-image place low high)) refl
+  gate-image place low high = rw blank-image
 
   pub StandsFor-birth_gate : (found : SlotMap) → StandsFor content found → StandsFor image found
   StandsFor-birth_gate found is = elim (cases_Bool (opens (slice_index image 0))) [
     | inl opened ↦
-        let its : SameMap (blank_map content) found = subst (λ (r : Redone). Gives r found) (redo-unborn content (is_unborn-formed content formed)) is in
+        let its : SameMap (blank_map content) found = rw (redo-unborn content (is_unborn-formed content formed)) at is in
         let alike : SameMap (blank_map image) (blank_map content) = record { bytes = λ slot lt. refl; extent = ap slots_in length-image } in
         StandsFor-first_closed image found (born-opened opened) (gate-image 512 (omega arith) (omega arith))
         (SameMap-trans _ _ _ (file_map-blank image blank-image) (SameMap-trans _ _ _ alike its))

@@ -1,10 +1,9 @@
 -- A transaction in the next entry, and the gate that makes it count.
-use Rattle.ss_journal.proofs.Common.{IsFalse, IsTrue, List, [], ap, arith, drop, inl, inr, length, map, refl, subst, sym, take, ℕ, ◌++◌, ◌+◌, ◌<◌, ◌∙◌, ◌∷◌}
-use Rattle.ss_journal.proofs.Common.{◌≡◌, ◌≤◌, ◌⊎◌, cases_eq, flat_map-append, map-range_with_len_more, append-nil, append_assoc, drop_at, length-append}
-use Rattle.ss_journal.proofs.Common.{length-take-le, take_at, range_with_len, flat_map, slice_index, overwrite, entries, entry_body, is_good, open_prefix}
-use Rattle.ss_journal.proofs.Common.{puts_of, entry_in, entry_bytes, is_born, kind_of, EndsAt, IsClosed, entry_place, is_open, opens, EndsBefore, FillSlots}
-use Rattle.ss_journal.proofs.Common.{IsTxn, slots_fit, Gives, Redone, SameMap, SlotMap, StandsFor, changed, entries_in_use, file_map, puts_in_use, redo}
-use Rattle.ss_journal.proofs.Common.{redo_entries, stands, Put}
+use Rattle.ss_journal.proofs.Common.{IsTrue, List, [], ap, arith, drop, inl, inr, length, map, sym, take, ℕ, ◌++◌, ◌+◌, ◌<◌, ◌∙◌, ◌∷◌, ◌≡◌, ◌≤◌, ◌⊎◌, cases_eq}
+use Rattle.ss_journal.proofs.Common.{flat_map-append, map-range_with_len_more, append-nil, append_assoc, drop_at, length-append, length-take-le, take_at}
+use Rattle.ss_journal.proofs.Common.{range_with_len, flat_map, slice_index, overwrite, entries, entry_body, is_good, open_prefix, puts_of, entry_in}
+use Rattle.ss_journal.proofs.Common.{entry_bytes, is_born, kind_of, EndsAt, IsClosed, entry_place, is_open, EndsBefore, FillSlots, IsTxn, SameMap, SlotMap}
+use Rattle.ss_journal.proofs.Common.{StandsFor, changed, entries_in_use, file_map, puts_in_use, redo, redo_entries, stands, Put}
 use Rattle.ss_journal.proofs.NextEntry.{AddsEntry, IsReadyFor}
 use Rattle.ss_journal.proofs.EntryLemmas.{is_good-body, puts_of-body}
 use Rattle.ss_journal.proofs.HeaderLemmas.{is_born-parts, is_born-same, kind_of-same, piece-same}
@@ -47,7 +46,7 @@ module _ (n : ℕ) (content image : List ℕ) (ends : EndsBefore n content) (fre
   in_prefix = IsPrefix-entries content n (ends.number ∙ ap length (entries_in_use-formed content ends.born))
 
   pub opened-before : (k : ℕ) → k < n → IsTrue (is_open (entry_in image k))
-  opened-before k lt = subst (λ (e : List ℕ). IsTrue (is_open e)) (sym (before k lt)) (in_prefix.opened k (omega arith) (omega (arith, lt)))
+  opened-before k lt = rw before (in_prefix.opened k (omega arith) (omega (arith, lt)))
 
   prefix-content : list ≡ map (entry_in content) (range_with_len 0 n)
   prefix-content = open_prefix-is content n in_prefix
@@ -63,18 +62,16 @@ module _ (n : ℕ) (content image : List ℕ) (ends : EndsBefore n content) (fre
   pub same-redone : SameMap (changed (file_map image) (flat_map puts_of list)) ends.found
   same-redone =
       let stood = redo_entries-stands 0 list (file_map content) ends.found (sym (redo-formed content ends.born) ∙ ends.map) in
-      subst (SameMap (changed (file_map image) (flat_map puts_of list))) (sym stood.0)
-      (changed-same (flat_map puts_of list) (file_map image) (file_map content) map-image)
+      rw stood.0 (changed-same (flat_map puts_of list) (file_map image) (file_map content) map-image)
 
   pub same-found : (found : SlotMap) → StandsFor content found → SameMap (changed (file_map image) (flat_map puts_of list)) found
-  same-found found is = SameMap-trans _ _ _ same-redone (subst (λ (r : Redone). Gives r found) ends.map is)
+  same-found found is = SameMap-trans _ _ _ same-redone (rw ends.map at is)
 
   -- after a closed gate anything may stand
   module _ (closed : IsClosed n image) where
     prefix-closed : open_prefix (entries image) ≡ list
     prefix-closed =
-        open_prefix-entries image n (omega (arith, free)) opened-before
-        (λ lt. subst (λ (byte : ℕ). IsFalse (opens byte)) (sym (gate-entry_in image n)) closed)
+        open_prefix-entries image n (omega (arith, free)) opened-before (λ lt. rw gate-entry_in closed)
         ∙ same-before
 
     pub StandsFor-closed : (found : SlotMap) → StandsFor content found → StandsFor image found
@@ -116,21 +113,19 @@ module _ (n : ℕ) (puts : List Put) (content image : List ℕ) (ready : IsReady
 
   opened-to : (k : ℕ) → k < n + 1 → IsTrue (is_open (entry_in image k))
   opened-to k lt = elim (cases_eq k n) [
-    | inl same ↦ subst (λ (place : ℕ). IsTrue (is_open (entry_in image place))) (sym same) (subst (λ (e : List ℕ). IsTrue (is_open e)) (sym is_entry) refl)
+    | inl same ↦ rw same (rw is_entry)
     | inr other ↦ opened-before n content image ends free size from-slots k (omega (arith, lt, other))
   ]
 
   prefix-opened : open_prefix (entries image) ≡ before_it ++ entry ∷ []
   prefix-opened =
-      open_prefix-entries image (n + 1) (omega (arith, free)) opened-to
-      (λ lt. subst (λ (byte : ℕ). IsFalse (opens byte)) (sym (gate-entry_in image (n + 1))) (closed-after lt))
+      open_prefix-entries image (n + 1) (omega (arith, free)) opened-to (λ lt. rw gate-entry_in (closed-after lt))
       ∙ map-range_with_len_more (entry_in image) 0 n n (omega arith)
       ∙ ap (λ (all : List (List ℕ)). all ++ entry_in image n ∷ []) (same-before n content image ends free size from-slots)
       ∙ ap (λ (e : List ℕ). before_it ++ e ∷ []) is_entry
 
   good-entry : IsTrue (is_good entry map-before.extent)
-  good-entry = is_good-body puts 165 _ whole txn (subst (λ (extent : ℕ). IsTrue (slots_fit puts extent))
-      (sym (same-redone n content image ends free size from-slots).extent) ready.fit)
+  good-entry = is_good-body puts 165 _ whole txn (rw (same-redone n content image ends free size from-slots).extent ready.fit)
 
   redo-opened : redo image ≡ stands (changed map-before puts)
   redo-opened =

@@ -1,9 +1,8 @@
 -- How entries come into the file: all of them behind the gate of the first, and then that gate.
-use Rattle.ss_journal.proofs.Common.{IsFalse, List, Ok, Result, [], ap, arith, drop, inl, inr, length, subst, suc, sym, take, ℕ, ⊎_elim, ◌+◌, ◌-◌, ◌*◌, ◌<◌}
-use Rattle.ss_journal.proofs.Common.{◌∙◌, ◌∷◌, ◌≡◌, ◌≤◌, ◌⊎◌, cases_Bool, cases_lt, eqb-true, ext_get_or, length-drop, take_all, on_ok_weaker, IsErr}
-use Rattle.ss_journal.proofs.Common.{slice_index, joined, weaker, get_or-overwrite_inside, get_or-overwrite_outside, length-overwrite, NothingPending, Told}
-use Rattle.ss_journal.proofs.Common.{overwrite, LeavesOnly, Failed, IsClosed, entry_place, opens, EndsBefore, SlotMap, StandsFor, Durably, Enters, Writes}
-use Rattle.ss_journal.proofs.Common.{DiffersAt, length_with}
+use Rattle.ss_journal.proofs.Common.{List, Ok, Result, [], ap, arith, drop, inl, inr, length, suc, sym, take, ℕ, ⊎_elim, ◌+◌, ◌-◌, ◌*◌, ◌<◌, ◌∙◌, ◌∷◌, ◌≡◌, ◌≤◌}
+use Rattle.ss_journal.proofs.Common.{◌⊎◌, cases_Bool, cases_lt, eqb-true, ext_get_or, length-drop, take_all, on_ok_weaker, IsErr, slice_index, joined, weaker}
+use Rattle.ss_journal.proofs.Common.{get_or-overwrite_inside, get_or-overwrite_outside, length-overwrite, NothingPending, Told, overwrite, LeavesOnly, Failed}
+use Rattle.ss_journal.proofs.Common.{IsClosed, entry_place, opens, EndsBefore, SlotMap, StandsFor, Durably, Enters, Writes, DiffersAt, length_with}
 use Rattle.ss_journal.proofs.CommitLemmas.{StandsFor-closed}
 use Rattle.ss_journal.proofs.HeaderLemmas.{is_born-parts}
 use Rattle.ss_journal.proofs.RangeLemmas.{DiffersIn-overwrite, get_or-differs, length-differs}
@@ -39,7 +38,7 @@ module _ (n : ℕ) (bytes content : List ℕ) (free : n < 64) (few : 544 * n + l
       let inside : length_with ranges (length content) ≤ length content = omega (arith, long, end) in
       let same : (place : ℕ) → (place < entry_place n + 1) ⊎ (entry_place n + 1 + length bytes ≤ place) → slice_index image place ≡ slice_index content place =
       λ place out. get_or-differs ranges content image inside differs place (out, tt) in
-      let closed : IsClosed n image = subst (λ (byte : ℕ). IsFalse (opens byte)) (sym (same (entry_place n) (inl (omega arith)))) ends.closed in
+      let closed : IsClosed n image = rw (same (entry_place n) (inl (omega arith))) ends.closed in
       StandsFor-closed n content image ends free (length-differs ranges content image inside differs)
       (λ place out. same place (⊎_elim (λ below. inl (omega (arith, below))) (λ from. inr (omega (arith, from, end))) out)) closed found is
 
@@ -114,7 +113,7 @@ module _ (n : ℕ) (bytes content : List ℕ) (free : n < 64) (few : 544 * n + l
     -- closed it leaves the map before
     pub StandsFor-gate : (before found : SlotMap) → StandsFor content before → StandsFor entered found → StandsFor image before ⊎ StandsFor image found
     StandsFor-gate before found is gives = elim (cases_Bool (opens (slice_index image (entry_place n)))) [
-      | inl opened ↦ inr (subst (λ (list : List ℕ). StandsFor list found) (sym (image-entered (eqb-true (slice_index image (entry_place n)) 165 opened))) gives)
+      | inl opened ↦ inr (rw (image-entered (eqb-true (slice_index image (entry_place n)) 165 opened)) gives)
       | inr closed ↦ inl (StandsFor-closed n content image ends free size-gate beside-gate closed before is)
     ]
 
@@ -128,8 +127,7 @@ module _ (n : ℕ) (bytes content : List ℕ) (free : n < 64) (few : 544 * n + l
 -- the same write, wherever and however its bytes are given
 pub writes-as : {old new : Told} {result : Result (Unit {0}) Failed} (at place : ℕ) (given bytes : List ℕ) → at ≡ place → given ≡ bytes
     → Durably (Writes at given) result old new → Durably (Writes place bytes) result old new
-writes-as {old} {new} {result} at place given bytes there same wrote =
-    subst (λ (p : ℕ). Durably (Writes p bytes) result old new) there (subst (λ (list : List ℕ). Durably (Writes at list) result old new) same wrote)
+writes-as {old} {new} {result} at place given bytes there same wrote = rw (same, there) at wrote
 
 module _ (n : ℕ) (bytes : List ℕ) (old : Told) (free : n < 64) (few : 544 * n + length (165 ∷ bytes) ≤ 544 * 64) (ends : EndsBefore n old.content) where
   -- until the rest is durable a crash leaves the map before
@@ -163,8 +161,7 @@ module _ (n : ℕ) (bytes : List ℕ) (old : Told) (free : n < 64) (few : 544 * 
           let P : List ℕ → Type 0 = λ image. StandsFor image before ⊎ StandsFor image found in
           joined old mid new P (rest-leaves mid before found only is wrote)
           (weaker mid new (DiffersAt (entry_place n) 1 mid.content) P
-          (λ image differs. StandsFor-gate n bytes old.content free few ends image
-          (subst (λ (list : List ℕ). DiffersAt (entry_place n) 1 list image) wrote.step.written differs) before found is gives)
+          (λ image differs. StandsFor-gate n bytes old.content free few ends image (rw wrote.step.written at differs) before found is gives)
           (tears-content mid new ((entry_place n, 1) ∷ []) wrote.durable opens.step.tears));
       durable = opens.durable;
     }
@@ -179,7 +176,7 @@ module _ (n : ℕ) (all : List ℕ) (old : Told) (free : n < 64) (some : 0 < len
   is-open = open-bytes all some gate
 
   few-open : 544 * n + length (165 ∷ drop 1 all) ≤ 544 * 64
-  few-open = subst (λ (list : List ℕ). 544 * n + length list ≤ 544 * 64) is-open few
+  few-open = rw is-open at few
 
   -- all but the gate
   tail : (at : ℕ) (mid : Told) (result : Result (Unit {0}) Failed) → at ≡ entry_place n
@@ -189,7 +186,7 @@ module _ (n : ℕ) (all : List ℕ) (old : Told) (free : n < 64) (some : 0 < len
 
   pub open-failed : {step : Result (Unit {0}) Failed} (at : ℕ) (new : Told) (result : Result (Unit {0}) Failed) → IsErr result → at ≡ entry_place n
       → Durably (Writes (at + 1) (take (length all - 1) (drop 1 all))) step old new → Enters n all result old new
-  open-failed {step} at new result is there wrote = subst (λ (list : List ℕ). Enters n list result old new) (sym is-open)
+  open-failed {step} at new result is there wrote = rw is-open
       (enters-failed n (drop 1 all) old free few-open ends new result is (tail at new step there wrote))
 
   module _ (at : ℕ) (mid : Told) (value : Unit {0}) (there : at ≡ entry_place n)
@@ -199,6 +196,6 @@ module _ (n : ℕ) (all : List ℕ) (old : Told) (free : n < 64) (some : 0 < len
 
     pub open-enters : (place : ℕ) (new : Told) (result : Result (Unit {0}) Failed) → place ≡ entry_place n
         → Durably (Writes place (take 1 all)) result mid new → Enters n all result old new
-    open-enters place new result here opens = subst (λ (list : List ℕ). Enters n list result old new) (sym is-open)
+    open-enters place new result here opens = rw is-open
         (gate-enters n (drop 1 all) old free few-open ends mid value (tail at mid (Ok value) there wrote) new result
         (writes-as place (entry_place n) (take 1 all) (165 ∷ []) here (ap (take 1) is-open) opens))

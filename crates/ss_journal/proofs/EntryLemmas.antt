@@ -1,5 +1,5 @@
 -- How an entry is judged, and how it is spelled.
-use Rattle.ss_journal.proofs.Common.{IsFalse, IsTrue, List, [], ap, arith, drop, get_or, length, refl, replicate, subst, suc, sym, take, true, zero, ℕ, ◌&&◌}
+use Rattle.ss_journal.proofs.Common.{IsFalse, IsTrue, List, [], ap, arith, drop, get_or, length, refl, replicate, suc, sym, take, true, zero, ℕ, ◌&&◌}
 use Rattle.ss_journal.proofs.Common.{◌*◌, ◌++◌, ◌+◌, ◌-◌, ◌<◌, ◌==◌, ◌^◌, ◌∙◌, ◌∷◌, ◌≡◌, ◌≤◌, zero-add, nat_tests, and_from, and_parts, le-leb, leb-true}
 use Rattle.ss_journal.proofs.Common.{flat_map-append, All-get_or, All-head, All-map, All-tail, length-map-range_with_len, append-nil, append_assoc, drop-drop}
 use Rattle.ss_journal.proofs.Common.{drop-replicate, drop_at, length-append, length-drop, length-replicate, length-take, take-append-drop, take_all, take_at}
@@ -74,7 +74,7 @@ is_good-many entry extent many = grind (arith, nat_tests)
 pub All-range_with_len : (P : ℕ → Type 0) (n : ℕ) → ((k : ℕ) → k < n → P k) → All P (range_with_len 0 n)
 All-range_with_len P n each k d lt =
     let below : k < n = omega (arith, length-range_with_len 0 n) in
-    subst P (sym (get_or-range_with_len 0 n k d below ∙ zero-add k)) (each k below)
+    rw (get_or-range_with_len 0 n k d below ∙ zero-add k) (each k below)
 
 -- the puts of a whole entry are whole
 put_at-whole : (entry : List ℕ) (k : ℕ) → length entry ≡ 544 → k < 4 → length (take 128 (drop (6 + 132 * k) entry)) ≡ 128
@@ -173,7 +173,7 @@ is_good-body puts gate extent whole txn fit =
     let same = sym (puts_of-body puts gate whole txn) in
     let zeros = ap (list_all (λ byte. byte == 0)) (rest-entry puts gate whole txn) ∙ all_zeros (542 - 132 * length puts) in
     and_from _ _ (and_from _ _ (and_from _ _ (and_from _ _ (le-leb 1 (length puts) txn.some) (le-leb (length puts) 4 txn.few))
-    (subst (λ (p : List Put). IsTrue (slots_rise_from 0 p)) same txn.rise)) (subst (λ (p : List Put). IsTrue (slots_fit p extent)) same fit)) zeros
+    (rw same at txn.rise)) (rw same at fit)) zeros
 
 pub length-entry_body : (puts : List Put) → FillSlots puts → length puts ≤ 4 → length (entry_body puts) ≡ 543
 unfolding entry_body

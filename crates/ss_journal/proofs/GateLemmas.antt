@@ -1,11 +1,11 @@
 -- What counts after a closed first gate.
-use Rattle.ss_journal.proofs.Common.{IsTrue, List, subst, ℕ, is_born, IsClosed, Gives, Redone, SameMap, SlotMap, StandsFor, file_map}
+use Rattle.ss_journal.proofs.Common.{IsTrue, List, ℕ, is_born, IsClosed, SameMap, SlotMap, StandsFor, file_map}
 use Rattle.ss_journal.proofs.RedoLemmas.{StandsFor-from, redo-first_closed}
 
 -- with the first gate closed the file alone gives the map
 pub file_map-first_closed : (content : List ℕ) (found : SlotMap) → IsTrue (is_born content) → IsClosed 0 content → StandsFor content found
     → SameMap (file_map content) found
-file_map-first_closed content found born closed is = subst (λ (r : Redone). Gives r found) (redo-first_closed content born closed).0 is
+file_map-first_closed content found born closed is = rw (redo-first_closed content born closed).0 at is
 
 pub StandsFor-first_closed : (image : List ℕ) (found : SlotMap) → IsTrue (is_born image) → IsClosed 0 image → SameMap (file_map image) found
     → StandsFor image found

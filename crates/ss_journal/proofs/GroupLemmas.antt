@@ -1,10 +1,10 @@
 -- A group of entries: its bytes, and what it makes of a content with room for it.
-use Rattle.ss_journal.proofs.Common.{IsFalse, IsTrue, List, [], ap, arith, drop, inl, inr, length, nat_lt, refl, subst, suc, sym, take, zero, ℕ, ◌++◌, ◌+◌}
+use Rattle.ss_journal.proofs.Common.{IsTrue, List, [], ap, arith, drop, inl, inr, length, nat_lt, refl, suc, sym, take, zero, ℕ, ◌++◌, ◌+◌}
 use Rattle.ss_journal.proofs.Common.{◌*◌, ◌<◌, ◌∙◌, ◌∷◌, ◌≡◌, ◌≤◌, ◌⊎◌, cond-true, lt-ltb, append-nil, append_assoc, length-append, length-drop}
 use Rattle.ss_journal.proofs.Common.{take-append-drop, slice_index, get_or-overwrite_inside, get_or-overwrite_outside, length-overwrite, overwrite}
-use Rattle.ss_journal.proofs.Common.{entry_body, entry_form, entry_in, Kind, entry_bytes, is_born, kind_of, EndsAt, entry_place, opens, entry_count}
+use Rattle.ss_journal.proofs.Common.{entry_body, entry_form, entry_in, Kind, entry_bytes, is_born, kind_of, EndsAt, entry_place, entry_count}
 use Rattle.ss_journal.proofs.Common.{group_bytes, open_entry, part, HasRoomFor, closed_behind, gate_behind, with_entries, FillSlots, IsTxn, slots_fit}
-use Rattle.ss_journal.proofs.Common.{slots_rise_from, Gives, Redone, SameMap, SlotMap, StandsFor, changed, entries_in_use, puts_in_use, Put}
+use Rattle.ss_journal.proofs.Common.{slots_rise_from, SameMap, SlotMap, StandsFor, changed, entries_in_use, puts_in_use, Put}
 use Rattle.std.proofs.Math.Seq.{get_or-append_seam}
 use Rattle.ss_journal.proofs.NextEntry.{AddsEntry, AddsGroup, IsReadyFor}
 use Rattle.ss_journal.proofs.CommitLemmas.{AddsEntry-opened, StandsFor-opened, entry-overwrite}
@@ -83,7 +83,7 @@ module _ (kind : Kind) (n : ℕ) (puts : List Put) (content : List ℕ) (same_ki
       let byte : slice_index image (entry_place (n + 1)) ≡ 0 =
       ap (slice_index image) (sym there) ∙ get_or-overwrite_inside content written (entry_place n) within (length (165 ∷ body_of kind n puts)) inside
       ∙ ap (λ (list : List ℕ). slice_index list (length (165 ∷ body_of kind n puts))) all ∙ get_or-append_seam (165 ∷ body_of kind n puts) 0 [] 0 in
-      subst (λ (b : ℕ). IsFalse (opens b)) (sym byte) refl
+      rw byte
 
   AddsEntry-written : AddsEntry n puts content image
   AddsEntry-written = AddsEntry-opened n puts content image ready free size beside whole txn is_entry closed-after
@@ -162,7 +162,7 @@ module _ (kind : Kind) (n : ℕ) (puts : List Put) (content : List ℕ) (same_ki
         record {
           kind = refl;
           born = room.ends.born;
-          closed = subst (λ (m : ℕ). EndsAt m content) here (λ lt. room.ends.closed);
+          closed = rw (← here) (λ lt. room.ends.closed);
           number = omega (arith, room.ends.number);
           all = sym (append-nil (puts_in_use content));
           size = refl;
@@ -179,10 +179,9 @@ module _ (kind : Kind) (n : ℕ) (puts : List Put) (content : List ℕ) (same_ki
   fit-part : (k : ℕ) → IsTrue (slots_fit (part k puts) (first_map k).extent)
   fit-part k =
       let all : IsTrue (slots_fit (first_puts (suc k) ++ drop (4 * suc k) puts) room.ends.found.extent) =
-      subst (λ (list : List Put). IsTrue (slots_fit list room.ends.found.extent)) (sym (take-append-drop (4 * suc k) puts)) room.fit in
+      rw take-append-drop room.fit in
       let first = (slots_fit-parts (first_puts (suc k)) (drop (4 * suc k) puts) room.ends.found.extent all).0 in
-      (slots_fit-parts (first_puts k) (part k puts) room.ends.found.extent
-      (subst (λ (list : List Put). IsTrue (slots_fit list room.ends.found.extent)) (first_puts-more k) first)).1
+      (slots_fit-parts (first_puts k) (part k puts) room.ends.found.extent (rw first_puts-more at first)).1
 
   -- one entry more
   module _ (k : ℕ) (lt : k < entry_count (length puts)) (had : HasFirst k (with_first k)) where
@@ -210,7 +209,7 @@ module _ (kind : Kind) (n : ℕ) (puts : List Put) (content : List ℕ) (same_ki
           number = had.0.number;
           found = parts.0;
           map = parts.1;
-          fit = subst (λ (extent : ℕ). IsTrue (slots_fit (part k puts) extent)) (sym parts.2.extent) (fit-part k);
+          fit = rw parts.2.extent (fit-part k);
         }
 
     abbrev grown : List ℕ
@@ -231,7 +230,7 @@ module _ (kind : Kind) (n : ℕ) (puts : List Put) (content : List ℕ) (same_ki
         record {
           kind = adds.kind ∙ had.0.kind;
           born = adds.born;
-          closed = subst (λ (m : ℕ). EndsAt m grown) there adds.closed;
+          closed = rw there at adds.closed;
           number = omega (arith, adds.number);
           all = adds.all ∙ ap (λ (list : List Put). list ++ part k puts) had.0.all ∙ append_assoc (puts_in_use content) (first_puts k) (part k puts)
               ∙ ap (λ (list : List Put). puts_in_use content ++ list) (sym (first_puts-more k));
@@ -239,12 +238,11 @@ module _ (kind : Kind) (n : ℕ) (puts : List Put) (content : List ℕ) (same_ki
         }
 
     stands-first : StandsFor grown (first_map (suc k))
-    stands-first =
-        subst (StandsFor grown) (sym (ap (changed room.ends.found) (first_puts-more k) ∙ changed-append room.ends.found (first_puts k) (part k puts)))
+    stands-first = rw (ap (changed room.ends.found) (first_puts-more k) ∙ changed-append room.ends.found (first_puts k) (part k puts))
         (StandsFor-entry kind next (part k puts) (with_first k) kind-first ready free fill txn (first_map k) had.1)
 
     more : HasFirst (suc k) (with_first (suc k))
-    more = subst (HasFirst (suc k)) (sym is_grown) (adds-first, stands-first)
+    more = rw is_grown (adds-first, stands-first)
 
   has_first : (k : ℕ) → k ≤ entry_count (length puts) → HasFirst k (with_first k)
   has_first zero le = none
@@ -257,12 +255,9 @@ module _ (kind : Kind) (n : ℕ) (puts : List Put) (content : List ℕ) (same_ki
   has_all = has_first (entry_count (length puts)) (omega arith)
 
   pub AddsGroup-written : AddsGroup n puts content group
-  AddsGroup-written = AddsGroup-entries n puts content group
-      (subst (λ (list : List Put). AddsEntries n (entry_count (length puts)) list content group) (entry_count-all puts) has_all.0)
+  AddsGroup-written = AddsGroup-entries n puts content group (rw entry_count-all at has_all.0)
 
   pub StandsFor-written : (found : SlotMap) → StandsFor content found → StandsFor group (changed found puts)
   StandsFor-written found is =
-      let same : SameMap room.ends.found found = subst (λ (redone : Redone). Gives redone found) room.ends.map is in
-      StandsFor-also group (changed room.ends.found puts) (changed found puts)
-      (subst (λ (list : List Put). StandsFor group (changed room.ends.found list)) (entry_count-all puts) has_all.1)
-      (changed-same puts room.ends.found found same)
+      let same : SameMap room.ends.found found = rw room.ends.map at is in
+      StandsFor-also group (changed room.ends.found puts) (changed found puts) (rw entry_count-all at has_all.1) (changed-same puts room.ends.found found same)

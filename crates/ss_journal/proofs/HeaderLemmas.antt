@@ -1,5 +1,5 @@
 -- The header: whether a file is formatted, and how that is read.
-use Rattle.ss_journal.proofs.Common.{IsFalse, IsTrue, List, [], ap, arith, drop, inl, inr, length, nat_eq, nat_le, not, refl, rules, subst, suc, sym, take, ℕ}
+use Rattle.ss_journal.proofs.Common.{IsFalse, IsTrue, List, [], ap, arith, drop, inl, inr, length, nat_eq, nat_le, not, refl, rules, suc, sym, take, ℕ}
 use Rattle.ss_journal.proofs.Common.{◌&&◌, ◌+◌, ◌<◌, ◌==◌, ◌||◌, ◌∙◌, ◌∷◌, ◌≡◌, ◌≤◌, ◌⊎◌, Bool, cond, zero-add, nat_tests, cond-false, cond-true, and_from}
 use Rattle.ss_journal.proofs.Common.{and_parts, both_ways, eq-eqb, eqb-true, false_from_ne_true, le-leb, leb-true, ne_eqb, not-true, not_from_false, or_cases}
 use Rattle.ss_journal.proofs.Common.{or_left, or_right, All-head, All-tail, ext_get_or, get_or-drop, get_or-take, length-drop, length-take, All, slice_index}
@@ -82,8 +82,7 @@ pub is_born-same : (content image : List ℕ) → IsTrue (is_born content) → l
     → ((place : ℕ) → place < 9 → slice_index image place ≡ slice_index content place) → IsTrue (is_born image)
 is_born-same content image born long same =
     let was = is_born-parts content born in
-    is_born-from image (omega (arith, long, was.0))
-    (subst (λ (byte : ℕ). IsTrue (opens byte)) (sym (same 0 (omega arith))) was.1)
+    is_born-from image (omega (arith, long, was.0)) (rw (same 0 (omega arith)) was.1)
     (has_magic-same content image (omega (arith, was.0)) (omega (arith, long, was.0)) (λ place low high. same place high) ∙ was.2)
 
 -- a formatted file isn't an unformatted one

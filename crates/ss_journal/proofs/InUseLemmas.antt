@@ -1,10 +1,9 @@
 -- Entries in use, whose puts are written into their slots, lost, torn or whole.
-use Rattle.ss_journal.proofs.Common.{IsFalse, IsTrue, List, [], ap, arith, inl, inr, length, nat_eq, refl, subst, sym, ℕ, ◌<◌, ◌^◌, ◌∙◌, ◌∷◌, ◌≡◌, ◌≤◌}
-use Rattle.ss_journal.proofs.Common.{cases_Bool, cases_eq, cases_lt, eqb-false, eqb-true, or_parts, All-weaker, ext_get_or, flat_map, slice_index}
-use Rattle.ss_journal.proofs.Common.{get_or-overwrite_inside, IsOutside, overwrite, entries, open_prefix, puts_of, Kind, is_born, kind_of, slots_in, opens}
-use Rattle.ss_journal.proofs.Common.{DoAs, FillSlots, extent_after, is_put, slots_fit, with_puts, CameInPart, entries_in_use, Gives, Redone, SameMap, SlotMap}
-use Rattle.ss_journal.proofs.Common.{StandsFor, changed, file_map, puts_in_use, redo, redo_entries, stands, StaysShut, AreSlots, DiffersAt, DiffersIn}
-use Rattle.ss_journal.proofs.Common.{HasSlotsFor, length_with, slot_ranges, slots_written, Put}
+use Rattle.ss_journal.proofs.Common.{IsTrue, List, [], ap, arith, inl, inr, length, nat_eq, refl, sym, ℕ, ◌<◌, ◌^◌, ◌∙◌, ◌∷◌, ◌≡◌, ◌≤◌, cases_Bool, cases_eq}
+use Rattle.ss_journal.proofs.Common.{cases_lt, eqb-false, eqb-true, or_parts, All-weaker, ext_get_or, slice_index, get_or-overwrite_inside, IsOutside}
+use Rattle.ss_journal.proofs.Common.{overwrite, entries, open_prefix, Kind, is_born, kind_of, slots_in, opens, DoAs, FillSlots, extent_after, is_put, slots_fit}
+use Rattle.ss_journal.proofs.Common.{with_puts, CameInPart, entries_in_use, SameMap, SlotMap, StandsFor, changed, file_map, puts_in_use, redo, redo_entries}
+use Rattle.ss_journal.proofs.Common.{stands, StaysShut, AreSlots, DiffersAt, DiffersIn, HasSlotsFor, length_with, slot_ranges, slots_written, Put}
 use Rattle.ss_journal.specs.Redo.{InUse}
 use Rattle.ss_journal.proofs.GateLemmas.{StandsFor-first_closed}
 use Rattle.ss_journal.proofs.HeaderLemmas.{is_born-parts, is_born-same, kind_of-same}
@@ -26,12 +25,10 @@ none_from_leaves (put ∷ puts) leaves =
 
 -- no put does as none alone
 pub DoAs-none_few : {all few : List Put} {size : ℕ} → DoAs all size few → few ≡ [] → all ≡ []
-DoAs-none_few {all} {few} {size} does none =
-    none_from_leaves all (λ map slot. sym (subst (λ (puts : List Put). with_puts puts map slot ≡ with_puts all map slot) none (does.bytes map slot)))
+DoAs-none_few {all} {few} {size} does none = none_from_leaves all (λ map slot. sym (rw none at (does.bytes map slot)))
 
 DoAs-none_all : {all few : List Put} {size : ℕ} → DoAs all size few → all ≡ [] → few ≡ []
-DoAs-none_all {all} {few} {size} does none =
-    none_from_leaves few (λ map slot. subst (λ (puts : List Put). with_puts few map slot ≡ with_puts puts map slot) none (does.bytes map slot))
+DoAs-none_all {all} {few} {size} does none = none_from_leaves few (λ map slot. rw none at (does.bytes map slot))
 
 -- few puts are for slots that a file can have, where all of them are
 AreSlots-few : {all few : List Put} {size : ℕ} → DoAs all size few → AreSlots all → size ≤ 2 ^ 20 → AreSlots few
@@ -57,11 +54,10 @@ module _ (puts : List Put) (content : List ℕ) (born : IsTrue (is_born content)
 
   -- the puts make the same map of the file
   few_map : SameMap (changed (file_map content) puts) in_use.found
-  few_map = subst (SameMap (changed (file_map content) puts)) (sym redone.0)
-      (record { bytes = λ slot lt. in_use.all.bytes (file_map content).bytes slot; extent = in_use.all.extent })
+  few_map = rw redone.0 (record { bytes = λ slot lt. in_use.all.bytes (file_map content).bytes slot; extent = in_use.all.extent })
 
   same_map : (found : SlotMap) → StandsFor content found → SameMap in_use.found found
-  same_map found is = subst (λ (r : Redone). Gives r found) in_use.map is
+  same_map found is = rw in_use.map at is
 
   in_use-slots : AreSlots puts
   in_use-slots = AreSlots-few in_use.all redone.2 (omega arith)
@@ -78,7 +74,7 @@ module _ (puts : List Put) (content : List ℕ) (born : IsTrue (is_born content)
     part = record {
       beside = λ slot none. AgreeBeside-torn puts content image in_use.all.fit differs slot (beside-DoAs in_use.all slot none);
       no_less = slots_in-mono (length content) (length image) differs.no_shorter;
-      no_more = subst (λ (n : ℕ). slots_in (length image) ≤ n) few_map.extent (slots_in-torn puts content image in_use.all.fit differs);
+      no_more = rw few_map.extent at (slots_in-torn puts content image in_use.all.fit differs);
     }
 
     header : IsTrue (is_born image) × (entries image ≡ entries content) × (kind_of image ≡ kind_of content)
@@ -95,8 +91,7 @@ module _ (puts : List Put) (content : List ℕ) (born : IsTrue (is_born content)
         (λ (list : List (List ℕ)). redo_entries 0 list (file_map content)) (entries_in_use-formed content born) ∙ sym (redo-formed content born) ∙ in_use.map in
         let its : redo image ≡ redo_entries 0 (entries_in_use content) (file_map image) = redo-formed image header.0
         ∙ ap (λ (list : List (List ℕ)). redo_entries 0 list (file_map image)) same_entries in
-        subst (λ (r : Redone). Gives r in_use.found) (sym its)
-        (redo_entries-idempotent 0 (entries_in_use content) (file_map content) in_use.found (file_map image) was part)
+        rw its (redo_entries-idempotent 0 (entries_in_use content) (file_map content) in_use.found (file_map image) was part)
 
     -- the map stays, since the entries stand
     pub StandsFor-slots_torn : (found : SlotMap) → StandsFor content found → StandsFor image found
@@ -110,9 +105,8 @@ module _ (puts : List Put) (content : List ℕ) (born : IsTrue (is_born content)
         let parts = StandsFor-parts image in_use.found again in (
           header.0,
           record {
-            all = subst (λ (list : List (List ℕ)). DoAs (flat_map puts_of list) (slots_in (length image)) puts)
-                (sym same_entries ∙ sym (entries_in_use-formed image header.0))
-                (DoAs-grown in_use.all redone.1 part.no_less (subst (λ (m : SlotMap). slots_in (length image) ≤ m.extent) redone.0 part.no_more));
+            all = rw (sym same_entries ∙ sym (entries_in_use-formed image header.0)) at (DoAs-grown in_use.all redone.1 part.no_less
+                (rw redone.0 at part.no_more));
             found = parts.0;
             map = parts.1;
           },
@@ -152,10 +146,10 @@ StandsFor-first_gate puts content image found some formed in_use is same differs
             let gate : slice_index image 512 ≡ slice_index content 512 = eqb-true (slice_index image 512) 165 opened
             ∙ sym (eqb-true (slice_index content 512) 165 (first_open puts content some formed in_use)) in
             let all : image ≡ content = ext_get_or 0 image content size (λ place lt. elim (cases_eq place 512) [
-              | inl here ↦ subst (λ (p : ℕ). slice_index image p ≡ slice_index content p) (sym here) gate
+              | inl here ↦ rw here gate
               | inr other ↦ elim (cases_lt place 512) [ inl below ↦ beside place (inl below) | inr from ↦ beside place (inr (omega (arith, from, other))) ]
             ]) in
-            subst (λ (file : List ℕ). StandsFor file found) (sym all) is
+            rw all is
         | inr closed ↦ StandsFor-first_closed image found born closed
             (SameMap-trans _ _ _ (file_map-same content image kind size (λ place from. beside place (inr (omega (arith, from))))) same)
       ],
@@ -200,7 +194,7 @@ module _ (kind : Kind) (puts : List Put) (content : List ℕ) (same : kind ≡ k
       (DiffersIn-overwrite 512 (slots_written kind puts content) (0 ∷ []) within) in (
         (
           applied.1,
-          subst (λ (byte : ℕ). IsFalse (opens byte)) (sym (get_or-overwrite_inside (slots_written kind puts content) (0 ∷ []) 512 within 0 (omega arith))) refl,
+          rw (get_or-overwrite_inside (slots_written kind puts content) (0 ∷ []) 512 within 0 (omega arith)),
         ),
         applied.2 ∙ kind-slots_torn puts content born in_use (slots_written kind puts content) differs-written,
       )

@@ -3,7 +3,7 @@ use Rattle.ss_journal.proofs.Common.{Ok, Result, IsTrue, List, [], ap, arith, in
 use Rattle.ss_journal.proofs.Common.{false, ◌≢◌, ◌≤◌, ◌⊎◌, both_ways, cases_Bool, cases_lt, cond-false, cond-true, le-ltb, lt-ltb, IsErr, OnOk, flat_map}
 use Rattle.ss_journal.proofs.Common.{NothingPending, Told, Failed, the_type, Leads, MakesDurable, ReadsPage, ReadsSlot, Settles, puts_of, slot_form, slot_in}
 use Rattle.ss_journal.proofs.Common.{Kind, IsShut, is_born, is_unborn, kind_of, slot_at, slots_in, EndsAt, IsClosed, IsInPhase, IsKept, IsShown, JournalState}
-use Rattle.ss_journal.proofs.Common.{AreEntries, DoAs, extent_after, is_put, slots_fit, with_puts, Gives, Redone, SameMap, SlotMap, StandsFor, blank_map}
+use Rattle.ss_journal.proofs.Common.{AreEntries, DoAs, extent_after, is_put, slots_fit, with_puts, SameMap, SlotMap, StandsFor, blank_map}
 use Rattle.ss_journal.proofs.Common.{changed, file_map, puts_in_use, zeros, Clears, Durably, Reaches, Settled, Unborn, Phase, Put}
 use denote.Enum.Bare.{sameb}
 use Rattle.ss_journal.proofs.NextEntry.{IsReadyFor}
@@ -32,7 +32,7 @@ born_phase Stopped in_use content other is = absurd is
 
 -- the same of what a journal shows
 pub unborn-shown : (journal : JournalState) (content : List ℕ) → journal.phase ≡ Unborn → IsShown journal content → IsTrue (is_unborn content)
-unborn-shown journal content same is = subst (λ (phase : Phase). IsInPhase phase journal.in_use content) same is.phase
+unborn-shown journal content same is = rw same at is.phase
 
 pub born-shown : (journal : JournalState) (content : List ℕ) → journal.phase ≢ Unborn → IsShown journal content → IsTrue (is_born content)
 born-shown journal content other is = born_phase journal.phase journal.in_use content other is.phase
@@ -60,8 +60,7 @@ durable-unborn old new result unborn durable = record {
 
 -- where no entry is in use no put waits
 DoAs-no_puts : {all waiting : List Put} (size : ℕ) → all ≡ [] → waiting ≡ [] → DoAs all size waiting
-DoAs-no_puts {all} {waiting} size unused none =
-    subst (λ (puts : List Put). DoAs puts size waiting) (sym unused) (subst (DoAs [] size) (sym none) (DoAs-none size))
+DoAs-no_puts {all} {waiting} size unused none = rw (unused, none) (DoAs-none size)
 
 -- a journal over an unformatted file
 pub IsKept-unborn : (kind : Kind) (size slots : ℕ) (waiting staged : List Put) (content : List ℕ) → kind ≡ kind_of content → size ≡ length content
@@ -94,9 +93,9 @@ IsKept-born kind content in_use waiting extent staged same born read sealed = Is
 -- the file of a journal in any phase but the first is formatted, since nothing is kept of a stopped one
 pub born_formed : (phase : Phase) (in_use : ℕ) (content : List ℕ) → (phase ≡ Born) ⊎ ((phase ≡ Settled) ⊎ (phase ≡ Stopped)) → IsInPhase phase in_use content
     → IsTrue (is_born content)
-born_formed phase in_use content (inl is) now = subst (λ p. IsInPhase p in_use content) is now
-born_formed phase in_use content (inr (inl is)) now = (subst (λ p. IsInPhase p in_use content) is now).0
-born_formed phase in_use content (inr (inr is)) now = absurd (subst (λ p. IsInPhase p in_use content) is now)
+born_formed phase in_use content (inl is) now = rw is at now
+born_formed phase in_use content (inr (inl is)) now = (rw is at now).0
+born_formed phase in_use content (inr (inr is)) now = absurd (rw is at now)
 
 -- a settled journal: the file alone gives the map, and no put waits
 pub IsKept-settled : (kind : Kind) (extent : ℕ) (waiting staged : List Put) (content : List ℕ) (found : SlotMap) → kind ≡ kind_of content
@@ -159,7 +158,7 @@ module _ (journal : JournalState) (old new : Told) (kept : IsShown journal old.c
 module _ (journal : JournalState) (content : List ℕ) (found : SlotMap) (slot : ℕ) (kept : IsShown journal content) (is : StandsFor content found)
     (lt : slot < 2 ^ 20) where
   unborn_bytes : IsTrue (is_unborn content) → zeros ≡ found.bytes slot
-  unborn_bytes unborn = let same : SameMap (blank_map content) found = subst (λ (r : Redone). Gives r found) (redo-unborn content unborn) is in
+  unborn_bytes unborn = let same : SameMap (blank_map content) found = rw redo-unborn at is in
       same.bytes slot lt
 
   module _ (born : IsTrue (is_born content)) where
@@ -172,7 +171,7 @@ module _ (journal : JournalState) (content : List ℕ) (found : SlotMap) (slot :
     -- the puts that wait, over the file
     pub born_bytes : with_puts journal.waiting (file_map content).bytes slot ≡ found.bytes slot
     born_bytes =
-        let same : SameMap kept.found found = subst (λ (r : Redone). Gives r found) kept.map is in
+        let same : SameMap kept.found found = rw kept.map at is in
         kept.waiting.bytes (file_map content).bytes slot ∙ sym (ap (λ (m : SlotMap). m.bytes slot) map_is) ∙ same.bytes slot lt
 
     past_bytes : journal.extent ≤ slot → zeros ≡ found.bytes slot
@@ -217,7 +216,7 @@ module _ (journal : JournalState) (content : List ℕ) (found : SlotMap) (slot :
 
 module _ (journal : JournalState) (content : List ℕ) (settled : journal.phase ≡ Settled) (kept : IsShown journal content) where
   pub formed-settled : IsTrue (is_born content) × EndsAt journal.in_use content
-  formed-settled = subst (λ (phase : Phase). IsInPhase phase journal.in_use content) settled kept.phase
+  formed-settled = rw settled at kept.phase
 
   -- puts that fit the extent may be committed
   pub IsReadyFor-settled : (puts : List Put) → IsTrue (slots_fit puts journal.extent) → IsReadyFor journal.in_use puts content
@@ -227,7 +226,7 @@ module _ (journal : JournalState) (content : List ℕ) (settled : journal.phase 
     number = kept.number;
     found = kept.found;
     map = kept.map;
-    fit = subst (λ (n : ℕ). IsTrue (slots_fit puts n)) (sym kept.extent) fit;
+    fit = rw kept.extent fit;
   }
 
   pub StandsFor-kept : StandsFor content kept.found

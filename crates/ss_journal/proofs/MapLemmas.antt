@@ -1,5 +1,5 @@
 -- The map of a file's slots, and maps that are the same.
-use Rattle.ss_journal.proofs.Common.{List, ap, arith, drop, inl, inr, length, refl, subst, sym, ℕ, ◌++◌, ◌+◌, ◌<◌, ◌∙◌, ◌≡◌, ◌≤◌, cases_lt, cond-false}
+use Rattle.ss_journal.proofs.Common.{List, ap, arith, drop, inl, inr, length, refl, sym, ℕ, ◌++◌, ◌+◌, ◌<◌, ◌∙◌, ◌≡◌, ◌≤◌, cases_lt, cond-false}
 use Rattle.ss_journal.proofs.Common.{cond-true, le-ltb, lt-ltb, ext_get_or, get_or-drop, get_or-replicate, get_or-take, length-drop, length-replicate}
 use Rattle.ss_journal.proofs.Common.{length-take, slice_index, slot_form, slot_in, Kind, kind_of, slot_at, slot_place, slots_in, extent_after, SameMap}
 use Rattle.ss_journal.proofs.Common.{SlotMap, blank_map, changed, file_map, zeros, Put}
@@ -34,12 +34,12 @@ pub file_map-same : (old new : List ℕ) → kind_of new ≡ kind_of old → len
 file_map-same old new kind long same = record {
   bytes = λ slot lt. elim (cases_lt slot (slots_in (length old))) [
     | inl within ↦
-        cond-true _ _ _ (lt-ltb slot (slots_in (length new)) (subst (λ (n : ℕ). slot < slots_in n) (sym long) within))
+        cond-true _ _ _ (lt-ltb slot (slots_in (length new)) (rw long within))
         ∙ slot_in-same old new slot kind (piece-same old new (slot_place slot) 128 (slot_within (length old) slot within)
         (omega (arith, long, slot_within (length old) slot within)) (λ place low high. same place (omega (arith, low))))
         ∙ sym (cond-true _ _ _ (lt-ltb slot (slots_in (length old)) within))
     | inr past ↦
-        cond-false _ _ _ (le-ltb slot (slots_in (length new)) (subst (λ (n : ℕ). slots_in n ≤ slot) (sym long) past))
+        cond-false _ _ _ (le-ltb slot (slots_in (length new)) (rw long past))
         ∙ sym (cond-false _ _ _ (le-ltb slot (slots_in (length old)) past))
   ];
   extent = ap slots_in long;

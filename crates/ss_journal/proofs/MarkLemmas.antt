@@ -1,9 +1,9 @@
 -- A store is made a checked one before it is formatted.
-use Rattle.ss_journal.proofs.Common.{Err, IsFalse, IsTrue, List, Ok, Result, ap, arith, inl, inr, length, nat_le, not, refl, subst, sym, true, ℕ, ◌==◌, ◌||◌}
+use Rattle.ss_journal.proofs.Common.{Err, IsFalse, IsTrue, List, Ok, Result, ap, arith, inl, inr, length, nat_le, not, refl, sym, true, ℕ, ◌==◌, ◌||◌}
 use Rattle.ss_journal.proofs.Common.{◌∙◌, ◌≡◌, ◌<◌, Bool, ◌&&◌, and_from, and_parts, both_ways, cases_Bool, eq-eqb, eqb-true, le-leb, leb-true, ne_eqb}
 use Rattle.ss_journal.proofs.Common.{not-true, not_from_false, or_cases, or_left, or_right, IsErr, slice_index, KnowsNow, OnlyReads, Told, overwrite, Failed}
 use Rattle.ss_journal.proofs.Common.{Begins, has_no_kind, MakesChecked, has_magic, has_magic_of, is_born, is_plain, is_unborn, kind_of, magic, SlotMap}
-use Rattle.ss_journal.proofs.Common.{StandsFor, Durably, Reaches, Writes, DiffersAt, SameRest, Checked, Plain}
+use Rattle.ss_journal.proofs.Common.{StandsFor, Durably, Reaches, Writes, DiffersAt, Checked, Plain}
 use Rattle.std.specs.Prelude.{IfOk}
 use Rattle.ss_journal.specs.Birth.{IsMarked}
 use Rattle.ss_journal.proofs.BirthLemmas.{SameRest-overwrite, SameRest-trans, StandsFor-unborn, is_magic-overwrite}
@@ -101,10 +101,9 @@ module _ (old mid : Told) (knows : KnowsNow old) (reads : OnlyReads old mid) whe
     is = same;
     checked = λ yes store.
         let other = not-true (is_plain old.content) (sym same ∙ yes) in
-        subst (λ (list : List ℕ). kind_of list ≡ Checked) (sym reads.same.content)
-        (kind-other old.content other kept (subst (λ (list : List ℕ). IsTrue (is_born list || is_unborn list)) reads.same.content store));
+        rw reads.same.content (kind-other old.content other kept (rw reads.same.content at store));
     unwritten = λ none. reads;
-    rest = subst (SameRest old.content) (sym reads.same.content) (λ place past. refl);
+    rest = rw reads.same.content (λ place past. refl);
   }
 
   module _ (unborn : IsTrue (is_unborn old.content)) (free : IsTrue (has_no_kind old.content)) where
@@ -120,7 +119,7 @@ module _ (old mid : Told) (knows : KnowsNow old) (reads : OnlyReads old mid) whe
           is = sym (ap not (is_plain-free old.content free));
           checked = λ yes store. marks.step.reached.1;
           unwritten = no_store;
-          rest = subst (λ (list : List ℕ). SameRest list new.content) reads.same.content marks.step.reached.2;
+          rest = rw reads.same.content at marks.step.reached.2;
         }
 
     -- or isn't, since the disk failed

@@ -1,11 +1,10 @@
 -- Puts of which each slot has the newest alone, and puts that do what others do.
-use Rattle.ss_journal.proofs.Common.{IsFalse, IsTrue, List, [], ap, arith, cond, drop, false, get_or, inl, inr, length, nat_eq, nat_lt, refl, subst, suc, sym}
+use Rattle.ss_journal.proofs.Common.{IsFalse, IsTrue, List, [], ap, arith, cond, drop, false, get_or, inl, inr, length, nat_eq, nat_lt, refl, suc, sym}
 use Rattle.ss_journal.proofs.Common.{take, true, zero, ℕ, ◌*◌, ◌++◌, ◌+◌, ◌<◌, ◌^◌, ◌∙◌, ◌∷◌, ◌≡◌, ◌≤◌, nat_tests, cases_lt, cond-false, cond-true, or_from}
 use Rattle.ss_journal.proofs.Common.{All-cons, All-drop, All-get_or, All-head, All-nil, All-tail, All-take, All-weaker, drop_all, drop_more, take-append-drop}
 use Rattle.ss_journal.proofs.Common.{take_all, All, entry_count, part, DoAs, newest_after, with_newest, FillSlots, IsTxn, extent_after, is_put, slots_fit}
 use Rattle.ss_journal.proofs.Common.{slots_rise_from, with_put, with_puts, AreSlots, Put}
-use Rattle.std.proofs.Common.{append-nil, append_assoc, length-drop}
-use Rattle.std.proofs.Common.{length-take, set}
+use Rattle.std.proofs.Common.{append-nil, append_assoc, length-drop, length-take, set}
 use Rattle.std.proofs.Math.Seq.{take-add}
 use Rattle.ss_journal.proofs.PutLemmas.{extent_after-append, is_put-none, le-extent_after, lt-next, next, next-below, slots_fit-cases, slots_fit-make}
 use Rattle.ss_journal.proofs.PutLemmas.{with_puts-append, with_puts-beside, with_puts-newest}
@@ -62,7 +61,7 @@ with_put-later put puts beside map slot =
     → with_puts puts (with_put put map) slot ≡ cond b put.bytes (with_puts puts map slot)) [
       | true ↦ λ is.
           let same : slot ≡ put.slot = grind (arith, nat_tests, is) in
-          with_puts-beside puts (with_put put map) slot (subst (λ (n : ℕ). IsFalse (is_put puts n)) (sym same) beside)
+          with_puts-beside puts (with_put put map) slot (rw same beside)
           ∙ cond-true (nat_eq slot put.slot) put.bytes (map slot) is
       | false ↦ λ is. with_puts-at puts slot map (with_put put map) (cond-false (nat_eq slot put.slot) put.bytes (map slot) is)
     ] refl
@@ -75,7 +74,7 @@ with_put-twice put first rest same map slot =
     → cond b put.bytes (with_puts rest map slot) ≡ cond b put.bytes (with_puts rest (with_put first map) slot)) [
       | true ↦ λ is. refl
       | false ↦ λ is.
-          let apart : nat_eq slot first.slot ≡ false = subst (λ (n : ℕ). nat_eq slot n ≡ false) same is in
+          let apart : nat_eq slot first.slot ≡ false = rw same at is in
           with_puts-at rest slot (with_put first map) map (sym (cond-false (nat_eq slot first.slot) first.bytes (map slot) apart))
     ] refl
 
@@ -99,7 +98,7 @@ rise-with_newest put least (first ∷ rest) from below rise =
     let cases = rise-cases least first rest rise in
     with_newest-cases (λ list. IsTrue (slots_rise_from least list)) put first rest
     (λ lt. rise-make least put (first ∷ rest) from below (rise-make (put.slot + 1) first rest (omega (arith, lt)) cases.1 cases.2))
-    (λ same. rise-make least put rest from below (subst (λ (n : ℕ). IsTrue (slots_rise_from (n + 1) rest)) (sym same) cases.2))
+    (λ same. rise-make least put rest from below (rw same cases.2))
     (λ gt. rise-make least first (with_newest put rest) cases.0 cases.1 (rise-with_newest put (first.slot + 1) rest (omega (arith, gt)) below cases.2))
 
 -- the newest of each slot do what all do
@@ -132,12 +131,12 @@ fit-with_newest put least (first ∷ rest) extent rise fit le =
     with_newest-cases (λ list. IsTrue (slots_fit list extent) × (extent_after list extent ≡ next put.slot (extent_after (first ∷ rest) extent))) put first rest
     (λ lt.
     let stays : next put.slot extent ≡ extent = next-below put.slot extent (omega (arith, lt, cases.0)) in (
-      slots_fit-make put (first ∷ rest) extent (omega (arith, lt, cases.0)) (subst (λ (n : ℕ). IsTrue (slots_fit (first ∷ rest) n)) (sym stays) fit),
+      slots_fit-make put (first ∷ rest) extent (omega (arith, lt, cases.0)) (rw stays fit),
       ap (extent_after (first ∷ rest)) stays ∙ sym (next-below put.slot after (omega (arith, lt, past, grows))),
     ))
     (λ same.
     let alike : next put.slot extent ≡ next first.slot extent = ap (λ (n : ℕ). next n extent) same in (
-      slots_fit-make put rest extent (omega (arith, same, cases.0)) (subst (λ (n : ℕ). IsTrue (slots_fit rest n)) (sym alike) cases.1),
+      slots_fit-make put rest extent (omega (arith, same, cases.0)) (rw alike cases.1),
       ap (extent_after rest) alike ∙ sym (next-below put.slot after (omega (arith, same, past, grows))),
     ))
     (λ gt.
@@ -154,7 +153,7 @@ fit-newest_after (put ∷ puts) held extent rise are held_fit fit =
     let one = fit-with_newest put 0 held extent rise held_fit cases.0 in
     let rest = fit-newest_after puts (with_newest put held) extent (rise-with_newest put 0 held (omega arith) (All-head P put puts are) rise)
     (All-tail P put puts are)
-    one.0 (subst (λ (n : ℕ). IsTrue (slots_fit puts n)) (sym one.1) cases.1) in
+    one.0 (rw one.1 cases.1) in
     (rest.0, rest.1 ∙ ap (extent_after puts) one.1)
 
 All-with_newest : (P : Put → Type 0) (put : Put) (held : List Put) → P put → All P held → All P (with_newest put held)
@@ -218,7 +217,7 @@ rising-newest_after [] held rise = sym (append-nil held)
 rising-newest_after (put ∷ puts) held rise =
     let same : held ++ put ∷ puts ≡ (held ++ put ∷ []) ++ puts = sym (append_assoc held (put ∷ []) puts) in
     ap (newest_after puts) (last-with_newest 0 held put puts rise)
-    ∙ rising-newest_after puts (held ++ put ∷ []) (subst (λ (list : List Put). IsTrue (slots_rise_from 0 list)) same rise) ∙ sym same
+    ∙ rising-newest_after puts (held ++ put ∷ []) (rw same at rise) ∙ sym same
 
 -- rising puts are their own newest
 pub first-newest_after : (puts : List Put) → IsTrue (slots_rise_from 0 puts) → newest_after puts [] ≡ puts
@@ -231,7 +230,7 @@ DoAs-none extent = record { bytes = λ map slot. refl; fit = refl; extent = refl
 pub DoAs-added : (all puts few : List Put) (extent : ℕ) → IsTrue (slots_rise_from 0 few) → AreSlots puts → FillSlots puts → DoAs all extent few
     → IsTrue (slots_fit puts (extent_after all extent)) → DoAs (all ++ puts) extent (newest_after puts few)
 DoAs-added all puts few extent rise are fill does fit =
-    let fits = fit-newest_after puts few extent rise are does.fit (subst (λ (n : ℕ). IsTrue (slots_fit puts n)) (sym does.extent) fit) in
+    let fits = fit-newest_after puts few extent rise are does.fit (rw does.extent fit) in
     record {
       bytes = λ map slot. with_puts-newest_after puts few rise are map slot
           ∙ with_puts-at puts slot (with_puts all map) (with_puts few map) (does.bytes map slot)
@@ -248,7 +247,7 @@ pub DoAs-staged : (base staged puts few : List Put) (extent : ℕ) → IsTrue (s
 DoAs-staged base staged puts few extent rise staged_rise are fill does staged_fit fit =
     let added = DoAs-added (base ++ staged) puts few extent rise are fill does fit in
     let after = extent_after-append base staged extent in
-    let fits = fit-newest_after puts staged (extent_after base extent) staged_rise are staged_fit (subst (λ (n : ℕ). IsTrue (slots_fit puts n)) after fit) in
+    let fits = fit-newest_after puts staged (extent_after base extent) staged_rise are staged_fit (rw after at fit) in
     let at = λ (slot : ℕ) (m : ℕ → List ℕ). m slot in
     record {
       bytes = λ map slot. added.bytes map slot ∙ ap (at slot) (with_puts-append (base ++ staged) puts map)
@@ -398,8 +397,8 @@ rise-place puts k d rise lt =
     let put = get_or puts k d in
     let rest = drop (k + 1) puts in
     let split = drop_more puts k d lt in
-    let cases = rise-cases 0 put rest (subst (λ (list : List Put). IsTrue (slots_rise_from 0 list)) split (rise-drop k 0 puts rise)) in (
-      subst (λ (list : List Put). IsTrue (slots_rise_from put.slot list)) (sym split) (rise-make put.slot put rest (omega arith) cases.1 cases.2),
+    let cases = rise-cases 0 put rest (rw split at (rise-drop k 0 puts rise)) in (
+      rw split (rise-make put.slot put rest (omega arith) cases.1 cases.2),
       cases.2,
     )
 
@@ -427,10 +426,10 @@ no-place puts k slot d rise below from apart map =
     let beside : IsFalse (is_put (drop k puts) slot) = elim (cases_lt k (length puts)) [
       | inl lt ↦
           let least = All-head (λ (put : Put). slot ≤ put.slot) (get_or puts k d) (drop (k + 1) puts)
-          (subst (λ (list : List Put). All (λ (put : Put). slot ≤ put.slot) list) (drop_more puts k d lt) from) in
+          (rw (drop_more puts k d lt) at from) in
           let other = apart lt in
           rise-beside (get_or puts k d).slot (drop k puts) slot (omega (arith, least, other)) (rise-place puts k d rise lt).0
-      | inr past ↦ subst (λ (list : List Put). IsFalse (is_put list slot)) (sym (drop_all k puts past)) refl
+      | inr past ↦ rw drop_all
     ] in
     ap (λ (list : List Put). with_puts list map slot) (sym (take-append-drop k puts))
     ∙ ap (λ (m : ℕ → List ℕ). m slot) (with_puts-append (take k puts) (drop k puts) map)

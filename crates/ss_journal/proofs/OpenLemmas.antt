@@ -1,7 +1,7 @@
 -- How the entries of a formatted file are read one after another.
-use Rattle.ss_journal.proofs.Common.{Err, IsFalse, IsTrue, List, Ok, [], ap, arith, drop, length, subst, sym, ℕ, ◌++◌, ◌+◌, ◌<◌, ◌∙◌, ◌∷◌, ◌≡◌, cond-false}
+use Rattle.ss_journal.proofs.Common.{Err, IsFalse, IsTrue, List, Ok, [], ap, arith, drop, length, sym, ℕ, ◌++◌, ◌+◌, ◌<◌, ◌∙◌, ◌∷◌, ◌≡◌, cond-false}
 use Rattle.ss_journal.proofs.Common.{cond-true, All-weaker, length-map-range_with_len, append-nil, drop_all, All, flat_map, slice_index, ArrayVec, is_good}
-use Rattle.ss_journal.proofs.Common.{open_prefix, puts_of, entry_form, entry_in, Kind, entry_bytes, is_born, kind_of, slots_in, is_open, opens, AreEntries}
+use Rattle.ss_journal.proofs.Common.{open_prefix, puts_of, entry_form, entry_in, Kind, entry_bytes, is_born, kind_of, slots_in, is_open, AreEntries}
 use Rattle.ss_journal.proofs.Common.{DoAs, newest_after, FillSlots, extent_after, slots_fit, slots_rise_from, entries_in_use, SlotMap, bad_entry, changed}
 use Rattle.ss_journal.proofs.Common.{file_map, puts_in_use, redo, redo_entries, BadEntry, Disk, NotAStore, OutOfMemory, JournalError, Put}
 use Rattle.std.proofs.Common.{Some, append_assoc}
@@ -22,13 +22,12 @@ form-entry content kind n entry same is = ap (λ (k : Kind). entry_form k n entr
 -- its gate stays
 pub open-form : (kind : Kind) (n : ℕ) (entry form : List ℕ) → form ≡ entry_form kind n entry → IsTrue (is_open entry) → IsTrue (is_open form)
 open-form kind n entry form is opened =
-    subst (λ (byte : ℕ). IsTrue (opens byte)) (sym (ap (λ (e : List ℕ). slice_index e 0) is ∙ gate-entry_form kind n entry)) opened
+    rw (ap (λ (e : List ℕ). slice_index e 0) is ∙ gate-entry_form kind n entry) opened
 
 pub NextAs-closed : (content : List ℕ) (n : ℕ) (entry : List ℕ) → entry ≡ entry_bytes content n → IsFalse (is_open entry)
     → IsFalse (is_open (entry_in content n))
 NextAs-closed content n entry is closed =
-    subst (λ (byte : ℕ). IsFalse (opens byte))
-    (ap (λ (e : List ℕ). slice_index e 0) is ∙ sym (gate-entry_form (kind_of content) n (entry_bytes content n))) closed
+    rw (ap (λ (e : List ℕ). slice_index e 0) is ∙ sym (gate-entry_form (kind_of content) n (entry_bytes content n))) at closed
 
 -- the puts that wait lie below the extent after more
 pub below-newest_after : (waiting puts : List Put) (extent : ℕ) → IsTrue (slots_fit puts extent) → All (λ put. put.slot < extent) waiting
@@ -67,8 +66,7 @@ module _ (content : List ℕ) (n extent : ℕ) (puts : List Put) (read : IsReadT
   IsReadTo-closed none = record {
     number = omega (arith, read.number, ap length none);
     in_use = record {
-      all = subst (λ (list : List Put). DoAs list (slots_in (length content)) puts)
-          (sym (append-nil read.all) ∙ sym (ap (λ (list : List (List ℕ)). read.all ++ flat_map puts_of list) none) ∙ read.in_use) read.does;
+      all = rw (sym (append-nil read.all) ∙ sym (ap (λ (list : List (List ℕ)). read.all ++ flat_map puts_of list) none) ∙ read.in_use) at read.does;
       found = read.current;
       map = read.redone ∙ ap (λ (list : List (List ℕ)). redo_entries n list read.current) none;
     };
@@ -79,7 +77,7 @@ module _ (content : List ℕ) (n extent : ℕ) (puts : List Put) (read : IsReadT
   unfolding entries
   IsReadTo-all all =
       let past = drop_all n (entries content) (omega (arith, length-map-range_with_len (entry_in content) 0 64)) in
-      subst (λ (k : ℕ). AreEntries content k puts extent) all (IsReadTo-closed (ap open_prefix past))
+      rw all at (IsReadTo-closed (ap open_prefix past))
 
   module _ (lt : n < 64) where
     pub IsReadTo-shut : IsFalse (is_open (entry_in content n)) → AreEntries content n puts extent
@@ -109,8 +107,7 @@ module _ (content : List ℕ) (n extent : ℕ) (puts : List Put) (read : IsReadT
             number = omega (arith, read.number, ap length open_prefix-here);
             all = read.all ++ own;
             in_use = append_assoc read.all own _ ∙ sym (ap (λ (list : List (List ℕ)). read.all ++ flat_map puts_of list) open_prefix-here) ∙ read.in_use;
-            does = DoAs-added read.all own puts (slots_in (length content)) rise (AreSlots-rise 0 own sound.rise) whole read.does
-                (subst (λ (last : ℕ). IsTrue (slots_fit own last)) (sym read.after) sound.fit);
+            does = DoAs-added read.all own puts (slots_in (length content)) rise (AreSlots-rise 0 own sound.rise) whole read.does (rw read.after sound.fit);
             after = extent_after-append read.all own (slots_in (length content)) ∙ ap (extent_after own) read.after;
             redone = redo-here ∙ cond-true (is_good (entry_in content n) read.current.extent) _ _ here;
           }
@@ -129,4 +126,4 @@ module _ (content : List ℕ) (n extent : ℕ) (puts : List Put) (lt : n < 64) (
   IsReadTo-next own last more is rise whole after joins =
       let last_is = after ∙ ap (λ (l : List Put). extent_after l extent) is.2 in
       let more_is = joins ∙ ap (λ (l : List Put). newest_after l puts) is.2 in
-      rw (last_is, more_is) (IsReadTo-more content n extent puts read lt is.0 is.1 rise (subst FillSlots is.2 whole))
+      rw (last_is, more_is) (IsReadTo-more content n extent puts read lt is.0 is.1 rise (rw is.2 at whole))

@@ -1,5 +1,5 @@
 -- The entries of a file, and its open prefix.
-use Rattle.ss_journal.proofs.Common.{inl, inr, IsFalse, IsTrue, List, [], ap, arith, drop, length, map, refl, subst, suc, sym, zero, ℕ, ◌+◌, ◌<◌, ◌∙◌, ◌∷◌}
+use Rattle.ss_journal.proofs.Common.{inl, inr, IsFalse, IsTrue, List, [], ap, arith, drop, length, map, refl, suc, zero, ℕ, ◌+◌, ◌<◌, ◌∙◌, ◌∷◌}
 use Rattle.ss_journal.proofs.Common.{◌≡◌, ◌≤◌, zero-add, cases_Bool, cases_eq, cond-false, cond-true, All-cons, All-head, All-map, All-nil, All-tail}
 use Rattle.ss_journal.proofs.Common.{length-map-range_with_len, drop_more, get_or-drop, get_or-take, length-drop, length-take, range_with_len, All}
 use Rattle.ss_journal.proofs.Common.{slice_index, open_prefix, entry_form, entry_in, Kind, entry_bytes, kind_of, IsClosed, entry_place, is_open, opens}
@@ -46,13 +46,13 @@ gate-entry_in image n = gate-entry_form (kind_of image) n (entry_bytes image n) 
 
 pub open_prefix-closed : (image : List ℕ) → IsClosed 0 image → open_prefix (entries image) ≡ []
 open_prefix-closed image closed =
-    let gate : IsFalse (is_open (entry_in image 0)) = subst (λ (byte : ℕ). IsFalse (opens byte)) (sym (gate-entry_in image 0)) closed in
+    let gate : IsFalse (is_open (entry_in image 0)) = rw gate-entry_in closed in
     rw entries-first (cond-false _ _ _ gate)
 
 pub open_prefix-open : (image : List ℕ) → IsTrue (opens (slice_index image 512))
     → open_prefix (entries image) ≡ entry_in image 0 ∷ open_prefix (other_entries image)
 open_prefix-open image opened =
-    let gate : IsTrue (is_open (entry_in image 0)) = subst (λ (byte : ℕ). IsTrue (opens byte)) (sym (gate-entry_in image 0)) opened in
+    let gate : IsTrue (is_open (entry_in image 0)) = rw gate-entry_in opened in
     rw entries-first (cond-true _ _ _ gate)
 
 -- the open prefix of a run of entries: its first n, which are open
@@ -76,7 +76,7 @@ IsPrefix-length f from (suc m) (suc n) is = elim (cases_Bool (is_open (f from)))
       record {
         prefix = step ∙ ap (λ (list : List (List ℕ)). f from ∷ list) rest.prefix;
         opened = λ k low high. elim (cases_eq k from) [
-          | inl same ↦ subst (λ (place : ℕ). IsTrue (is_open (f place))) (sym same) opened
+          | inl same ↦ rw same opened
           | inr other ↦ rest.opened k (omega (arith, low, other)) (omega (arith, high))
         ];
       }
@@ -92,13 +92,13 @@ open_prefix-run f from zero zero le opened closed = refl
 open_prefix-run f from zero (suc n) le opened closed = absurd (omega (arith, le))
 open_prefix-run f from (suc m) zero le opened closed =
     let here : from + 0 ≡ from = omega arith in
-    cond-false _ _ _ (subst (λ (k : ℕ). IsFalse (is_open (f k))) here (closed (omega arith)))
+    cond-false _ _ _ (rw here at (closed (omega arith)))
 open_prefix-run f from (suc m) (suc n) le opened closed =
     let there : from + suc n ≡ from + 1 + n = omega arith in
     cond-true _ _ _ (opened from (omega arith) (omega arith))
     ∙ ap (λ (list : List (List ℕ)). f from ∷ list)
     (open_prefix-run f (from + 1) m n (omega (arith, le)) (λ k low high. opened k (omega (arith, low)) (omega (arith, high)))
-    (λ lt. subst (λ (k : ℕ). IsFalse (is_open (f k))) there (closed (omega (arith, lt)))))
+    (λ lt. rw there at (closed (omega (arith, lt)))))
 
 -- the same of the entries of a file
 pub IsPrefix-entries : (image : List ℕ) (n : ℕ) → n ≡ length (open_prefix (entries image)) → IsPrefix (entry_in image) 0 64 n
@@ -114,7 +114,7 @@ pub open_prefix-entries : (image : List ℕ) (n : ℕ) → n ≤ 64 → ((k : �
 unfolding entries
 open_prefix-entries image n le opened closed =
     open_prefix-run (entry_in image) 0 64 n le (λ k low high. opened k (omega (arith, high)))
-    (λ lt. let here : n ≡ 0 + n = omega arith in subst (λ (k : ℕ). IsFalse (is_open (entry_in image k))) here (closed lt))
+    (λ lt. let here : n ≡ 0 + n = omega arith in rw here at (closed lt))
 
 -- the reader's step: the entries from n on, over what those before it gave
 pub open_prefix-drop : (image : List ℕ) (n : ℕ) → n < 64 → drop n (entries image) ≡ entry_in image n ∷ drop (n + 1) (entries image)

@@ -1,5 +1,5 @@
 -- What puts make of maps and extents, and which puts fit.
-use Rattle.ss_journal.proofs.Common.{IsFalse, IsTrue, List, [], ap, arith, cond, drop, false, get_or, inl, inr, length, map, nat_eq, refl, subst, sym, take}
+use Rattle.ss_journal.proofs.Common.{IsFalse, IsTrue, List, [], ap, arith, cond, drop, false, get_or, inl, inr, length, map, nat_eq, refl, sym, take}
 use Rattle.ss_journal.proofs.Common.{true, ℕ, ⊎_elim, ◌++◌, ◌+◌, ◌<◌, ◌^◌, ◌∙◌, ◌∷◌, ◌≡◌, ◌≤◌, nat_tests, both_ways, cases_Bool, cases_lt, cond-false}
 use Rattle.ss_journal.proofs.Common.{cond-true, eq-eqb, false_from_ne_true, ne_eqb, or_cases, or_from, or_parts, All-cons, All-head, All-nil, All-tail}
 use Rattle.ss_journal.proofs.Common.{drop_more, take-append-drop, All, AgreeBeside, IsTxn, extent_after, is_put, slots_fit, slots_rise_from, with_put}
@@ -147,7 +147,7 @@ next-most put puts old new fits le most =
     let least = le-extent_after puts (next put.slot old) in
     elim (cases_lt put.slot new) [
       | inl below ↦ omega (arith, next-below put.slot new below, most)
-      | inr from ↦ let same : new ≡ old = omega (arith, from, fits, le) in subst (λ n. next put.slot n ≤ extent_after puts (next put.slot old)) (sym same) least
+      | inr from ↦ let same : new ≡ old = omega (arith, from, fits, le) in rw same least
     ]
 
 -- puts that fit give the same extent again over each extent up to it

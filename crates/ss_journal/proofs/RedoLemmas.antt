@@ -1,12 +1,11 @@
 -- What an image stands for.
-use Rattle.ss_journal.proofs.Common.{IsFalse, IsTrue, List, [], ap, arith, cond, false, inl, inr, length, refl, subst, sym, true, ℕ, ◌++◌, ◌+◌, ◌<◌, ◌^◌, ◌∙◌}
+use Rattle.ss_journal.proofs.Common.{IsFalse, IsTrue, List, [], ap, arith, cond, false, inl, inr, length, refl, sym, true, ℕ, ◌++◌, ◌+◌, ◌<◌, ◌^◌, ◌∙◌}
 use Rattle.ss_journal.proofs.Common.{◌∷◌, ◌≡◌, ◌≤◌, nat_tests, cases_Bool, cond-false, cond-true, All-head, All-nil, All-tail, All, flat_map, slice_index}
 use Rattle.ss_journal.proofs.Common.{entries, is_good, open_prefix, puts_of, entry_in, kind_of, is_born, is_unborn, slots_in, IsClosed, opens, extent_after}
 use Rattle.ss_journal.proofs.Common.{FillSlots, slots_fit, CameInPart, Gives, Redone, SameMap, SlotMap, StandsFor, bad_entry, blank_map, changed, file_map}
 use Rattle.ss_journal.proofs.Common.{not_a_store, puts_in_use, redo_entries, stands, AreSlots, Put}
 use Rattle.std.proofs.lemmas.List.Elements.{All-append}
-use Rattle.ss_journal.specs.Redo.{entries_in_use}
-use Rattle.ss_journal.specs.Redo.{redo}
+use Rattle.ss_journal.specs.Redo.{entries_in_use, redo}
 use Rattle.ss_journal.proofs.EntryLemmas.{FillSlots-puts_of, IsSoundEntry-good, is_good-again, is_good-some}
 use Rattle.ss_journal.proofs.HeaderLemmas.{has_magic-same, kind_of-same, is_born-from, is_born-parts, is_born-unborn, is_unborn-born}
 use Rattle.ss_journal.proofs.MapLemmas.{SameMap-sym, SameMap-trans, changed-append}
@@ -24,7 +23,7 @@ pub StandsFor-same : (image : List ℕ) (first second : SlotMap) → StandsFor i
 StandsFor-same image first second is also = Gives-same (redo image) first second is also
 
 pub StandsFor-from : (image : List ℕ) (its found : SlotMap) → redo image ≡ stands its → SameMap its found → StandsFor image found
-StandsFor-from image its found is same = subst (λ (r : Redone). Gives r found) (sym is) same
+StandsFor-from image its found is same = rw is same
 
 -- an image that stands for a map is redone to one that is the same
 Gives-parts : (redone : Redone) (found : SlotMap) → Gives redone found → (its : SlotMap) × (redone ≡ stands its) × SameMap its found
@@ -76,7 +75,7 @@ redo-same_header old new born long same =
     let first = same 0 (omega arith) in
     let kept = has_magic-same old new (omega (arith, was.0)) (omega (arith, was.0)) (λ place low high. same place (omega (arith, high))) in
     let kind = kind_of-same old new (omega (arith, was.0)) (omega (arith, was.0)) (λ place low high. same place (omega (arith, high))) in (
-      is_born-from new (omega (arith, was.0, long)) (subst (λ (byte : ℕ). IsTrue (opens byte)) (sym first) was.1) (kept ∙ was.2),
+      is_born-from new (omega (arith, was.0, long)) (rw first was.1) (kept ∙ was.2),
       entries-same old new kind was.0 (omega (arith, was.0, long)) (λ place low high. same place high),
       kind,
     )
@@ -124,7 +123,7 @@ redo-born image its born is =
     let parts = redo_entries-stands 0 list (file_map image) its here in
     let whole = FillSlots-entries 0 list (file_map image) its (open_prefix-long (entries image) (entries-long image (is_born-parts image born).0)) here in
     let P = λ (puts : List Put). (its ≡ changed (file_map image) puts) × IsTrue (slots_fit puts (slots_in (length image))) × AreSlots puts × FillSlots puts in
-    subst P (sym (puts_in_use-formed image born)) (parts.0, parts.1, parts.2, whole)
+    rw puts_in_use-formed (parts.0, parts.1, parts.2, whole)
 
 -- entries that stand over a map stand over one with a greater extent
 pub redo_entries-again : (n : ℕ) (list : List (List ℕ)) (old new its : SlotMap) → redo_entries n list old ≡ stands its → old.extent ≤ new.extent
@@ -146,7 +145,7 @@ pub redo_entries-more : (n : ℕ) (list : List (List ℕ)) (entry : List ℕ) (f
     → IsTrue (is_good entry its.extent) → redo_entries n (list ++ entry ∷ []) found ≡ stands (changed its (puts_of entry))
 redo_entries-more n [] entry found its is good =
     let same : found ≡ its = cc in
-    subst (λ (m : SlotMap). redo_entries n (entry ∷ []) m ≡ stands (changed its (puts_of entry))) (sym same) (cond-true (is_good entry its.extent) _ _ good)
+    rw same (cond-true (is_good entry its.extent) _ _ good)
 redo_entries-more n (first ∷ rest) entry found its is good =
     let cases = redo_entries-cases n first rest found its is in
     cond-true (is_good first found.extent) _ _ cases.0 ∙ redo_entries-more (n + 1) rest entry (changed found (puts_of first)) its cases.1 good
@@ -157,13 +156,12 @@ pub redo_entries-idempotent : (n : ℕ) (list : List (List ℕ)) (old found new 
 redo_entries-idempotent n list old found new is part =
     let puts = flat_map puts_of list in
     let stood = redo_entries-stands n list old found is in
-    let most : new.extent ≤ extent_after puts old.extent = subst (λ (m : SlotMap). new.extent ≤ m.extent) stood.0 part.no_more in
+    let most : new.extent ≤ extent_after puts old.extent = rw stood.0 at part.no_more in
     let same : SameMap (changed new puts) (changed old puts) = record {
       bytes = λ slot lt. with_puts-again puts old.bytes new.bytes part.beside slot;
       extent = extent_after-again puts old.extent new.extent stood.1 part.no_less most;
     } in
-    subst (λ (r : Redone). Gives r found) (sym (redo_entries-again n list old new found is part.no_less))
-    (subst (SameMap (changed new puts)) (sym stood.0) same)
+    rw (redo_entries-again n list old new found is part.no_less, stood.0) same
 
 -- with the first gate closed a formatted file stands for its slots, and no entry is in use
 pub redo-first_closed : (image : List ℕ) → IsTrue (is_born image) → IsClosed 0 image

@@ -1,9 +1,8 @@
 -- Runs of puts for neighbouring slots: their writes, one after another, are one write.
-use Rattle.ss_journal.proofs.Common.{List, [], ap, arith, drop, get_or, inl, inr, length, refl, subst, suc, sym, take, zero, ℕ, ⊎_elim, IsTrue, ◌++◌, ◌+◌}
-use Rattle.ss_journal.proofs.Common.{◌*◌, ◌-◌, ◌<◌, ◌^◌, ◌∙◌, ◌∷◌, ◌≡◌, ◌≤◌, cases_eq, cases_lt, cond-false, cond-true, eq-eqb, ne_eqb, All-head, All-tail}
-use Rattle.ss_journal.proofs.Common.{append-nil, append_assoc, length-append, length-overwrite, IsOutside, IsOutsideAll, overwrite, slot_form, Kind}
-use Rattle.ss_journal.proofs.Common.{slot_place, slots_in, FillSlots, slots_fit, AreSlots, HasSlotsFor, length_with, run_bytes, run_length, slot_ranges}
-use Rattle.ss_journal.proofs.Common.{slots_written, Put}
+use Rattle.ss_journal.proofs.Common.{List, [], ap, arith, drop, get_or, inl, inr, length, refl, suc, sym, take, zero, ℕ, ⊎_elim, ◌++◌, ◌+◌, ◌*◌, ◌-◌, ◌<◌, ◌^◌}
+use Rattle.ss_journal.proofs.Common.{◌∙◌, ◌∷◌, ◌≡◌, ◌≤◌, cases_eq, cases_lt, cond-false, cond-true, eq-eqb, ne_eqb, All-head, All-tail, append-nil}
+use Rattle.ss_journal.proofs.Common.{append_assoc, length-append, length-overwrite, IsOutside, IsOutsideAll, overwrite, slot_form, Kind, slot_place, slots_in}
+use Rattle.ss_journal.proofs.Common.{FillSlots, AreSlots, HasSlotsFor, length_with, run_bytes, run_length, slot_ranges, slots_written, Put}
 use Rattle.ss_journal.proofs.CheckLemmas.{length-slot_form}
 use Rattle.ss_journal.proofs.PutLemmas.{slots_fit-cases}
 use Rattle.ss_journal.proofs.RangeLemmas.{Covers, overwrite-none, overwrite-overwrite}
@@ -132,5 +131,5 @@ HasSlotsFor-append kind (put ∷ first) second content slots whole room =
     HasSlotsFor-append kind first second (overwrite content (slot_place put.slot) (slot_form kind put.slot put.bytes))
     (All-tail Is put first slots) (All-tail Fills put first whole) (record {
       long = omega (arith, grown, room.long);
-      fit = subst (λ (n : ℕ). IsTrue (slots_fit (first ++ second) n)) (sym (slots-written kind put content room.long cases.0 below full)) cases.1;
+      fit = rw (slots-written kind put content room.long cases.0 below full) cases.1;
     })

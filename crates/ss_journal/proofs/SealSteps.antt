@@ -1,9 +1,8 @@
 -- The steps of a journal: what is staged is sealed, room is made, and a transaction is committed.
 use Rattle.ss_journal.proofs.Common.{ap, arith, ◌*◌, ◌+◌, ◌≤◌, Err, List, Ok, Result, [], ◌∙◌, inl, inr, length, subst, sym, ℕ, ⊎_elim, ◌<◌, ◌≡◌, ◌⊎◌}
-use Rattle.ss_journal.proofs.Common.{on_ok_weaker, IsErr, OnOk, slice_index, joined, weaker, Told, overwrite, Failed, Commits, KeepsMap, KeepsShown}
-use Rattle.ss_journal.proofs.Common.{MakesRoom, Seals, Stages, entry_place, slots_in, entry_count, group_bytes, IsBounded, IsInPhase, IsKept, IsSealed}
-use Rattle.ss_journal.proofs.Common.{IsShown, JournalState, closed_behind, shown, staged_bytes, FillSlots, Kind, DoAs, SlotMap, StandsFor, changed}
-use Rattle.ss_journal.proofs.Common.{puts_in_use, Enters, Reaches, StaysShut, Settled, Phase, Put}
+use Rattle.ss_journal.proofs.Common.{on_ok_weaker, IsErr, OnOk, slice_index, joined, weaker, Told, overwrite, Failed, Commits, KeepsMap, KeepsShown, MakesRoom}
+use Rattle.ss_journal.proofs.Common.{Seals, Stages, entry_place, entry_count, group_bytes, IsBounded, IsKept, IsSealed, IsShown, JournalState, closed_behind}
+use Rattle.ss_journal.proofs.Common.{shown, staged_bytes, FillSlots, Kind, SlotMap, StandsFor, changed, Enters, Reaches, StaysShut, Settled, Put}
 use Rattle.ss_journal.proofs.GroupLemmas.{opens-closed_behind}
 use Rattle.ss_journal.proofs.NewestLemmas.{entry_count-some}
 use Rattle.ss_journal.proofs.KeptLemmas.{settled-kept}
@@ -15,11 +14,9 @@ pub shown-joined : {T E S : Type 0} (was mid then : JournalState) (old between n
     → KeepsShown {T = S} {E = E} was mid old between (Ok value) → KeepsMap between new result → KeepsShown was then old new result
 shown-joined was mid then old between new value result sealed also first second =
     let stands : (found : SlotMap) → StandsFor (shown was old.content) found → StandsFor between.content found =
-    λ found gives. subst (λ (list : List ℕ). StandsFor list found) (shown-sealed mid between.content sealed) (first.map found gives) in
+    λ found gives. rw shown-sealed at (first.map found gives) in
     record {
-      map = λ found gives. on_ok_weaker result
-          (λ is. subst (λ (list : List ℕ). StandsFor list found) (sym (shown-sealed then new.content also)) is)
-          (second.map found (stands found gives));
+      map = λ found gives. on_ok_weaker result (λ is. rw shown-sealed is) (second.map found (stands found gives));
       any_moment = λ only before found is gives.
           let P : List ℕ → Type 0 = λ image. StandsFor image before ⊎ StandsFor image found in
           joined old between new P (first.any_moment only before found is gives)
@@ -78,10 +75,9 @@ module _ (was is : JournalState) (n : ℕ) (first : n ≡ was.sealed) (bytes : L
   shows : IsShown is (shown was old.content)
   shows = let before = kept.shown in record {
     kind = kind ∙ before.kind;
-    phase = subst (λ (n : ℕ). IsInPhase is.phase n (shown was old.content)) (sym in_use)
-        (subst (λ (p : Phase). IsInPhase p was.in_use (shown was old.content)) phase before.phase);
+    phase = rw in_use (rw phase at before.phase);
     number = in_use ∙ before.number;
-    waiting = subst (DoAs (puts_in_use (shown was old.content)) (slots_in (length (shown was old.content)))) (sym waiting) before.waiting;
+    waiting = rw waiting before.waiting;
     found = before.found;
     map = before.map;
     extent = before.extent ∙ sym extent;
@@ -89,11 +85,10 @@ module _ (was is : JournalState) (n : ℕ) (first : n ≡ was.sealed) (bytes : L
 
   pub seals-entered : Seals was is (Ok value) old new
   seals-entered = record {
-    kept = IsKept-sealed is new.content sealed (subst (IsShown is) (sym content) shows);
+    kept = IsKept-sealed is new.content sealed (rw content shows);
     keeps_shown = record {
-      map = λ found gives. subst (λ (list : List ℕ). StandsFor list found) (sym (shown-sealed is new.content sealed ∙ content)) gives;
-      any_moment = λ only before found stands gives.
-          enters.any_moment only before found stands (subst (λ (list : List ℕ). StandsFor list found) (sym same) gives);
+      map = λ found gives. rw (shown-sealed is new.content sealed ∙ content) gives;
+      any_moment = λ only before found stands gives. enters.any_moment only before found stands (rw same gives);
       durable = λ only. enters.durable;
     };
     durable = IfStaged-from was.staged enters.durable;
@@ -125,7 +120,7 @@ room-uncleared {step} was mid left old between new value result failed seals sea
 -- a transaction is staged where nothing was, and sealed
 module _ (puts : List Put) (was : JournalState) (sealed-was : IsSealed was) where
   gives-was : (content : List ℕ) (found : SlotMap) → StandsFor content found → StandsFor (shown was content) found
-  gives-was content found is = subst (λ (list : List ℕ). StandsFor list found) (sym (shown-sealed was content sealed-was)) is
+  gives-was content found is = rw shown-sealed is
 
   pub commits-no_room : {step : Result (Unit {0}) Failed} (mid left : JournalState) (old new : Told) (result : Result (Unit {0}) Failed) → IsErr result
       → MakesRoom was mid step old new → Commits left puts result old new
@@ -160,12 +155,12 @@ module _ (puts : List Put) (was : JournalState) (sealed-was : IsSealed was) wher
                 (λ image. ⊎_elim (λ stands. inl stands) (λ stands. inl stands))
                 (room.keeps_shown.any_moment only found found is (gives-was old.content found is)))
                 (seals.keeps_shown.any_moment (room.keeps_shown.durable only) found (changed found puts)
-                (subst (λ (list : List ℕ). StandsFor list found) (shown-sealed free between.content sealed) (stood found is)) (gives found is));
+                (rw shown-sealed at (stood found is)) (gives found is));
             durable = IfStaged-some staged.staged some seals.durable;
           };
         }
       where
         content-left : (result : Result (Unit {0}) Failed) → OnOk result (IsSealed left) → (found : SlotMap)
             → OnOk result (StandsFor (shown left new.content) found) → OnOk result (StandsFor new.content found)
-        content-left (Ok done) then found is = subst (λ (list : List ℕ). StandsFor list found) (shown-sealed left new.content then) is
+        content-left (Ok done) then found is = rw shown-sealed at is
         content-left (Err failed) then found is = tt

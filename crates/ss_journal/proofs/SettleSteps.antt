@@ -1,7 +1,6 @@
 -- The steps of a settling: puts come into their slots, and the first gate closes.
-use Rattle.ss_journal.proofs.Common.{List, Ok, Result, [], ap, arith, length, refl, subst, sym, ℕ, ◌∙◌, ◌<◌, ◌∷◌, ◌≡◌, ◌≤◌, IsErr, KnowsNow, Told, overwrite}
-use Rattle.ss_journal.proofs.Common.{Syncs, Failed, Kind, kind_of, HasEntries, StandsFor, on_ok_weaker, Clears, Durably, Reaches, StaysShut, Writes}
-use Rattle.ss_journal.proofs.Common.{WritesSlots, DiffersAt, slots_written, Put}
+use Rattle.ss_journal.proofs.Common.{List, Ok, Result, [], ap, arith, length, refl, ◌∙◌, ◌<◌, ◌∷◌, ◌≡◌, ◌≤◌, IsErr, KnowsNow, Told, Syncs, Failed, Kind}
+use Rattle.ss_journal.proofs.Common.{kind_of, HasEntries, on_ok_weaker, Clears, Durably, Reaches, StaysShut, Writes, WritesSlots, slots_written, Put}
 use Rattle.ss_journal.proofs.InUseLemmas.{StandsFor-applied, StandsFor-slots_torn, closed-written, differs-written, long-slots_written}
 use Rattle.ss_journal.proofs.RangeLemmas.{DiffersIn-overwrite}
 use Rattle.ss_journal.proofs.StepLemmas.{reaches-joined, reaches-rewritten, reaches-torn}
@@ -28,10 +27,8 @@ module _ (kind : Kind) (puts : List Put) (old mid : Told) (entries : HasEntries 
         (differs-written kind puts old.content entries.kind entries.born entries.in_use) refl in
         let gate = reaches-rewritten (λ _ content. StaysShut old.content content) result closes.step (λ only. closes.durable)
         (λ found image stands differs. (StandsFor-applied kind puts old.content entries.kind entries.born entries.in_use image found some
-        (subst (λ (list : List ℕ). StandsFor list found) all stands) (subst (λ (list : List ℕ). DiffersAt 512 1 list image) all differs)).0)
-        (DiffersIn-overwrite 512 mid.content (0 ∷ []) within-first_gate)
-        (subst (λ (list : List ℕ). StaysShut old.content (overwrite list 512 (0 ∷ []))) (sym all)
-        (closed-written kind puts old.content entries.kind entries.born entries.in_use some)) in
+        (rw all at stands) (rw all at differs)).0) (DiffersIn-overwrite 512 mid.content (0 ∷ []) within-first_gate)
+        (rw all (closed-written kind puts old.content entries.kind entries.born entries.in_use some)) in
         reaches-joined {S = StaysShut} value result slots gate (λ was is. is)
 
 -- a sync first

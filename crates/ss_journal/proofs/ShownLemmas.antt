@@ -1,5 +1,5 @@
 -- What a journal shows: the content with the entries that are staged.
-use Rattle.ss_journal.proofs.Common.{IsTrue, List, [], ap, arith, drop, inl, inr, length, nat_lt, refl, subst, sym, ℕ, ◌++◌, ◌+◌, ◌*◌, ◌<◌, ◌∙◌, ◌∷◌, ◌≡◌}
+use Rattle.ss_journal.proofs.Common.{IsTrue, List, [], ap, arith, drop, inl, inr, length, nat_lt, refl, sym, ℕ, ◌++◌, ◌+◌, ◌*◌, ◌<◌, ◌∙◌, ◌∷◌, ◌≡◌}
 use Rattle.ss_journal.proofs.Common.{◌≤◌, ◌⊎◌, cases_Bool, cases_lt, cond-false, cond-true, le-ltb, lt-ltb, append-nil, append_assoc, length-append}
 use Rattle.ss_journal.proofs.Common.{length-take, slice_index, get_or-overwrite_outside, length-overwrite, overwrite, is_born, kind_of, slot_at, slot_place}
 use Rattle.ss_journal.proofs.Common.{slots_in, entry_place, entry_body, entry_count, group_bytes, open_entry, part, FillSlots, All-drop, All-take, HasRoomFor}
@@ -143,12 +143,12 @@ module _ (journal : JournalState) (content : List ℕ) where
       ap (λ (puts : List Put). with_entries journal.sealed (group_bytes journal.kind journal.sealed (entry_count (length puts)) puts) content) sealed
 
   pub IsShown-sealed : IsSealed journal → IsKept journal content → IsShown journal content
-  IsShown-sealed sealed kept = subst (IsShown journal) (shown-sealed sealed) kept.shown
+  IsShown-sealed sealed kept = rw shown-sealed at kept.shown
 
   pub IsKept-sealed : IsSealed journal → IsShown journal content → IsKept journal content
   IsKept-sealed sealed is = record {
-    shown = subst (IsShown journal) (sym (shown-sealed sealed)) is;
-    before = subst (λ (puts : List Put). IfStaged puts (HasRoomFor journal.sealed puts content)) (sym sealed) tt;
+    shown = rw shown-sealed is;
+    before = rw sealed tt;
   }
 
   -- the slots of what it shows are those of the content
@@ -173,7 +173,7 @@ module _ (journal : JournalState) (content : List ℕ) where
     pub slot_at-shown : (slot : ℕ) → slot < slots_in (length (shown journal content))
         → (slot < slots_in (length content)) × (slot_at content slot ≡ slot_at (shown journal content) slot)
     slot_at-shown slot lt =
-        let lies : slot < slots_in (length content) = subst (λ (size : ℕ). slot < slots_in size) length-shown lt in (
+        let lies : slot < slots_in (length content) = rw length-shown at lt in (
           lies,
           sym (piece-same content (shown journal content) (slot_place slot) 128 (slot_within (length content) slot lies)
               (slot_within (length (shown journal content)) slot lt)

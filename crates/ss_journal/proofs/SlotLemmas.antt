@@ -137,7 +137,7 @@ module _ (kind : Kind) (put : Put) (content : List ℕ) (long : 36864 ≤ length
         ∙ sym (cond-true _ _ _ (lt-ltb slot (slots_in (length content)) within))
     | inr past ↦
         let also = slots_in-other (length content) put.slot slot long fits past apart in
-        cond-false _ _ _ (le-ltb slot (slots_in (length written)) (subst (λ (n : ℕ). slots_in n ≤ slot) (sym length-written) also))
+        cond-false _ _ _ (le-ltb slot (slots_in (length written)) (rw length-written also))
         ∙ sym (cond-false _ _ _ (le-ltb slot (slots_in (length content)) past))
   ]
 
@@ -168,8 +168,7 @@ file_map-slots_written kind (put ∷ puts) content is long fit slots whole =
     let grown = length-written kind put content long cases.0 below full in
     let first = file_map-put kind put content long cases.0 below full is in
     let rest = file_map-slots_written kind puts (overwrite content (slot_place put.slot) (slot_form kind put.slot put.bytes))
-    (is ∙ sym (kind-written kind put content long cases.0 below full)) (omega (arith, grown, long))
-    (subst (λ (n : ℕ). IsTrue (slots_fit puts n)) (sym first.extent) cases.1)
+    (is ∙ sym (kind-written kind put content long cases.0 below full)) (omega (arith, grown, long)) (rw first.extent cases.1)
     (All-tail (λ (p : Put). p.slot < 2 ^ 20) put puts slots) (All-tail (λ (p : Put). length p.bytes ≡ 128) put puts whole) in
     SameMap-trans _ _ _ rest (changed-same puts _ _ first)
 

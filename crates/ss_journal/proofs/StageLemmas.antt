@@ -1,9 +1,8 @@
 -- A transaction is staged: what the journal shows has its puts.
-use Rattle.ss_journal.proofs.Common.{IsTrue, List, [], ap, arith, length, refl, subst, sym, ℕ, ◌++◌, ◌+◌, ◌<◌, ◌∙◌, ◌∷◌, ◌≡◌, ◌≤◌, All-weaker, All, HasStaged}
-use Rattle.ss_journal.proofs.Common.{Stages, Kind, kind_of, slots_in, EndsAt, entry_count, group_bytes, EndsBefore, HasRoomFor, IfStaged, IsBounded}
-use Rattle.ss_journal.proofs.Common.{IsInPhase, IsKept, IsSealed, IsSettled, IsShown, JournalState, shown, staged_bytes, with_entries, DoAs, newest_after}
-use Rattle.ss_journal.proofs.Common.{FillSlots, IsTxn, extent_after, slots_fit, slots_rise_from, SameMap, SlotMap, StandsFor, changed, puts_in_use, AreSlots}
-use Rattle.ss_journal.proofs.Common.{Settled, Phase, Put}
+use Rattle.ss_journal.proofs.Common.{IsTrue, List, [], ap, arith, length, refl, sym, ℕ, ◌++◌, ◌+◌, ◌<◌, ◌∙◌, ◌∷◌, ◌≡◌, ◌≤◌, All-weaker, All, HasStaged, Stages}
+use Rattle.ss_journal.proofs.Common.{Kind, kind_of, slots_in, entry_count, group_bytes, EndsBefore, HasRoomFor, IfStaged, IsBounded, IsKept, IsSealed}
+use Rattle.ss_journal.proofs.Common.{IsSettled, IsShown, JournalState, shown, staged_bytes, with_entries, DoAs, newest_after, FillSlots, IsTxn, extent_after}
+use Rattle.ss_journal.proofs.Common.{slots_fit, slots_rise_from, SameMap, SlotMap, StandsFor, changed, puts_in_use, AreSlots, Settled, Put}
 use Rattle.ss_journal.proofs.NextEntry.{AddsGroup, IsReadyFor}
 use Rattle.ss_journal.proofs.CommitLemmas.{EndsBefore-ready}
 use Rattle.ss_journal.proofs.GroupLemmas.{AddsGroup-written, StandsFor-written}
@@ -68,7 +67,7 @@ module _ (was then : JournalState) (puts : List Put) (bounded : IsBounded was) (
       omega (arith, is.in_use, bounded.number, none, count-same, ap (λ (list : List Put). length list) all, txn.few, txn.some)
 
   some-staged : 0 < length then.staged
-  some-staged = subst (λ (list : List Put). 0 < length list) (sym is.staged) (some-newest_after puts was.staged txn.some)
+  some-staged = rw is.staged (some-newest_after puts was.staged txn.some)
 
   -- its numbers stay in their bounds
   pub IsBounded-staged : IsBounded then
@@ -81,7 +80,7 @@ module _ (was then : JournalState) (puts : List Put) (bounded : IsBounded was) (
     few = rw (is.waiting, is.staged, is.sealed) (omega (arith, bounded.few, room-after puts was.staged was.waiting bounded.held rise-waiting are-slots));
     held = rw (is.waiting, is.staged) (held-after puts was.staged was.waiting bounded.held);
     number = is.in_use ∙ ap (λ (n : ℕ). n + entry_count (length then.staged)) (sym is.sealed);
-    whole = subst FillSlots (sym is.staged) whole-staged;
+    whole = rw is.staged whole-staged;
   }
     where
       All-more : (list : List Put) (low high : ℕ) → low ≤ high → All (λ put. put.slot < low) list → All (λ put. put.slot < high) list
@@ -89,7 +88,7 @@ module _ (was then : JournalState) (puts : List Put) (bounded : IsBounded was) (
 
   -- what that makes of the journal
   pub has-staged : (journal : JournalState) → was ≡ journal → HasStaged puts journal then
-  has-staged journal same = subst (λ (j : JournalState). HasStaged puts j then) same (record {
+  has-staged journal same = rw (← same) (record {
     kind = is.kind;
     settled = is.phase;
     extent = is.extent;
@@ -109,8 +108,7 @@ module _ (was then : JournalState) (puts : List Put) (bounded : IsBounded was) (
     sealed-ends none =
         let count : was.in_use ≡ was.sealed = omega (arith, bounded.number, ap (λ (list : List Put). entry_count (length list)) none) in
         let same : shown was content ≡ content = ap (λ (list : List Put). with_entries was.sealed (group_bytes was.kind was.sealed (entry_count (length list)) list) content) none in
-        subst (λ (n : ℕ). EndsBefore n content) count
-        (subst (EndsBefore was.in_use) same (EndsBefore-ready was.in_use puts (shown was content) ready free))
+        rw (same, count) at (EndsBefore-ready was.in_use puts (shown was content) ready free)
 
     room : HasRoomFor was.sealed was.staged content
     room = room-staged was.kind was.sealed was.staged content kept.before sealed-ends
@@ -143,8 +141,7 @@ module _ (was then : JournalState) (puts : List Put) (bounded : IsBounded was) (
 
     -- the new puts fit behind them
     both-fit : IsTrue (slots_fit staged base.extent) × (extent_after staged base.extent ≡ extent_after puts (extent_after was.staged base.extent))
-    both-fit = fit-newest_after puts was.staged base.extent rise-staged are-slots room.fit
-        (subst (λ (n : ℕ). IsTrue (slots_fit puts n)) (sym extent-shown) fit)
+    both-fit = fit-newest_after puts was.staged base.extent rise-staged are-slots room.fit (rw extent-shown fit)
 
     room-then : HasRoomFor was.sealed staged content
     room-then = record { ends = room.ends; fit = both-fit.0 }
@@ -162,8 +159,7 @@ module _ (was then : JournalState) (puts : List Put) (bounded : IsBounded was) (
         ∙ ap (λ (list : List Put). with_entries was.sealed (group_bytes was.kind was.sealed (entry_count (length list)) list) content) is.staged
 
     added : AddsGroup was.sealed staged content (shown then content)
-    added = subst (AddsGroup was.sealed staged content) (sym more)
-        (AddsGroup-written was.kind was.sealed staged content kind-same room-then rise-then whole-staged free-then)
+    added = rw more (AddsGroup-written was.kind was.sealed staged content kind-same room-then rise-then whole-staged free-then)
 
     same-changed : (found : SlotMap) → StandsFor (shown was content) found → SameMap (changed base staged) (changed found puts)
     same-changed found stands = SameMap-trans (changed base staged) (changed (changed base was.staged) puts) (changed found puts)
@@ -174,8 +170,7 @@ module _ (was then : JournalState) (puts : List Put) (bounded : IsBounded was) (
         (changed-same puts (changed base was.staged) found (same-shown found stands))
 
     pub StandsFor-staged : (found : SlotMap) → StandsFor (shown was content) found → StandsFor (shown then content) (changed found puts)
-    StandsFor-staged found stands = subst (λ (list : List ℕ). StandsFor list (changed found puts)) (sym more)
-        (StandsFor-also _ (changed base staged) (changed found puts)
+    StandsFor-staged found stands = rw more (StandsFor-also _ (changed base staged) (changed found puts)
         (StandsFor-written was.kind was.sealed staged content kind-same room-then rise-then whole-staged free-then base base-stands)
         (same-changed found stands))
 
@@ -186,17 +181,13 @@ module _ (was then : JournalState) (puts : List Put) (bounded : IsBounded was) (
         let redone = redo-born content base room.ends.born room.ends.map in
         let base-extent : base.extent ≡ extent_after (puts_in_use content) size = ap (λ (m : SlotMap). m.extent) redone.0 in
         let did : DoAs (puts_in_use content ++ was.staged) size was.waiting =
-        subst (λ (list : List Put). DoAs list size was.waiting) before-added.all
-        (subst (λ (n : ℕ). DoAs (puts_in_use (shown was content)) (slots_in n) was.waiting) before-added.size kept.shown.waiting) in
+        rw (before-added.size, before-added.all) at kept.shown.waiting in
         let all-extent : extent_after (puts_in_use content ++ was.staged) size ≡ was.extent =
         extent_after-append (puts_in_use content) was.staged size ∙ ap (extent_after was.staged) (sym base-extent) ∙ extent-shown in
         let does : DoAs (puts_in_use content ++ staged) size (newest_after puts was.waiting) =
-        DoAs-staged (puts_in_use content) was.staged puts was.waiting size rise-waiting rise-staged are-slots whole did
-        (subst (λ (n : ℕ). IsTrue (slots_fit was.staged n)) base-extent room.fit)
-        (subst (λ (n : ℕ). IsTrue (slots_fit puts n)) (sym all-extent) fit) in
-        subst (DoAs (puts_in_use (shown then content)) (slots_in (length (shown then content)))) (sym is.waiting)
-        (subst (λ (n : ℕ). DoAs (puts_in_use (shown then content)) (slots_in n) (newest_after puts was.waiting)) (sym added.size)
-        (subst (λ (list : List Put). DoAs list size (newest_after puts was.waiting)) (sym added.all) does))
+        DoAs-staged (puts_in_use content) was.staged puts was.waiting size rise-waiting rise-staged are-slots whole did (rw base-extent at room.fit)
+        (rw all-extent fit) in
+        rw (is.waiting, added.size, added.all) does
 
     shows-then : IsShown then (shown then content)
     shows-then =
@@ -205,8 +196,7 @@ module _ (was then : JournalState) (puts : List Put) (bounded : IsBounded was) (
         let all : then.in_use ≡ was.sealed + entry_count (length staged) = omega (arith, is.in_use, count-same) in
         record {
           kind = is.kind ∙ kind-same ∙ sym added.kind;
-          phase = subst (λ (p : Phase). IsInPhase p then.in_use (shown then content)) (sym is.phase)
-              (added.born, subst (λ (n : ℕ). EndsAt n (shown then content)) (sym all) added.closed);
+          phase = rw is.phase (added.born, rw all added.closed);
           number = all ∙ added.number;
           waiting = waits;
           found = parts.0;
@@ -217,10 +207,8 @@ module _ (was then : JournalState) (puts : List Put) (bounded : IsBounded was) (
     pub IsKept-staged : IsKept then content
     IsKept-staged = record {
       shown = shows-then;
-      before = IfStaged-from then.staged (subst (λ (n : ℕ). HasRoomFor n then.staged content) (sym is.sealed)
-          (subst (λ (list : List Put). HasRoomFor was.sealed list content) (sym is.staged) room-then));
+      before = IfStaged-from then.staged (rw (is.sealed, is.staged) room-then);
     }
 
   pub stages : (journal : JournalState) (content : List ℕ) → was ≡ journal → Stages puts journal then content
-  stages journal content same = subst (λ (j : JournalState). Stages puts j then content) same
-      (record { kept = IsKept-staged content; map = StandsFor-staged content })
+  stages journal content same = rw (← same) (record { kept = IsKept-staged content; map = StandsFor-staged content })

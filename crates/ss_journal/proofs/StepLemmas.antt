@@ -1,9 +1,9 @@
 -- The steps of a call, one after another: what they leave of the disk, and of the map.
-use Rattle.ss_journal.proofs.Common.{Err, IsTrue, List, Ok, Result, [], ap, length, sym, subst, ℕ, ◌∙◌, ◌∷◌, on_ok_weaker, IsErr, OnOk, reads-joined}
+use Rattle.ss_journal.proofs.Common.{Err, IsTrue, List, Ok, Result, [], ap, length, sym, ℕ, ◌∙◌, ◌∷◌, on_ok_weaker, IsErr, OnOk, reads-joined}
 use Rattle.ss_journal.proofs.Common.{KnowsNow, OnlyReads, NothingPending, Told, overwrite, Step, Syncs, failed, fine, refused, Failed, SlotMap, StandsFor}
 use Rattle.ss_journal.proofs.Common.{Durably, Finds, Reaches, Rewrites, Writes, DiffersIn}
 use Rattle.ss_outside.specs.Disk.{DiskView}
-use Rattle.ss_outside.specs.Verdict.{Counted, Verdict, verdict}
+use Rattle.ss_outside.specs.Verdict.{Verdict, verdict}
 use Rattle.ss_journal.proofs.TearLemmas.{keeps-err, keeps-failed, keeps-joined, keeps-read, keeps-torn, on_err, on_ok, tears-after_read, tears-synced}
 
 module _ {old new : DiskView} {R S : Told → Told → Type 0} where
@@ -31,7 +31,7 @@ pub step-next : {old mid new : DiskView} {v : Verdict} {R Q S : Told → Told �
     → (IsTrue old.tells → IsTrue mid.tells → R old.told mid.told → Q mid.told new.told → S old.told new.told) → Step v old new S
 step-next {old} {mid} {new} {v} first second joins = record {
   tells = second.tells ∙ first.tells;
-  counted = subst (λ before. Counted v before new.faults) first.counted second.counted;
+  counted = rw first.counted at second.counted;
   told = λ told. let then = first.tells ∙ told in joins told then (first.told told) (second.told then);
 }
 
@@ -59,9 +59,8 @@ module _ {old new : Told} {ranges : List (ℕ × ℕ)} {made : List ℕ} where
       → ((found : SlotMap) (image : List ℕ) → StandsFor old.content found → DiffersIn ranges old.content image → StandsFor image found)
       → DiffersIn ranges old.content made → P old.content made → Reaches P result old new
   reaches-rewritten P result step durable stays differs has = record {
-    keeps_map = keeps-torn old new result ranges step.tears stays
-        (on_ok_weaker result (λ is. subst (DiffersIn ranges old.content) (sym is) differs) step.written) durable;
-    reached = on_ok_weaker result (λ is. subst (P old.content) (sym is) has) step.written;
+    keeps_map = keeps-torn old new result ranges step.tears stays (on_ok_weaker result (λ is. rw is differs) step.written) durable;
+    reached = on_ok_weaker result (λ is. rw is has) step.written;
   }
 
   -- the same of writes that failed
@@ -117,13 +116,13 @@ pub reaches-read : {old new : Told} (P : List ℕ → List ℕ → Type 0) (resu
     → P old.content old.content → Reaches P result old new
 reaches-read {old} {new} P result knows reads has = record {
   keeps_map = keeps-read old new result knows reads;
-  reached = on_ok result (subst (P old.content) (sym reads.same.content) has);
+  reached = on_ok result (rw reads.same.content has);
 }
 
 -- a read after a read
 pub finds-joined : {P Q S : List ℕ → Type 0} {old mid new : Told} → Finds P old mid → Finds Q mid new
     → (P old.content → Q old.content → S old.content) → Finds S old new
 finds-joined {P} {Q} {S} {old} {mid} {new} first second joins = record {
-  found = joins first.found (subst Q first.reads.same.content second.found);
+  found = joins first.found (rw first.reads.same.content at second.found);
   reads = reads-joined old mid new first.reads second.reads;
 }

@@ -1,5 +1,5 @@
 -- What a crash may leave of some calls in a row: of writes, and of the map.
-use Rattle.ss_journal.proofs.Common.{Err, List, Ok, Result, [], inl, inr, subst, sym, ℕ, ◌++◌, ◌∷◌, ◌≡◌, ◌⊎◌, on_ok_weaker, IsErr, OnOk, joined, weaker}
+use Rattle.ss_journal.proofs.Common.{Err, List, Ok, Result, [], inl, inr, ℕ, ◌++◌, ◌∷◌, ◌≡◌, ◌⊎◌, on_ok_weaker, IsErr, OnOk, joined, weaker}
 use Rattle.ss_journal.proofs.Common.{KnowsNow, LeavesOnly, OnlyReads, NothingPending, Told, KeepsMap, MakesDurable, SlotMap, StandsFor, DiffersIn, Tears}
 use Rattle.ss_outside.proofs.CrashLemmas.{after_write, at_start, goes_on, nothing_pending-same, now, of_content, read_leaves}
 use Rattle.ss_outside.specs.Crash.{Elapses}
@@ -31,8 +31,7 @@ module _ (old new : Told) where
   -- with nothing pending they differ from the content there
   pub tears-content : (ranges : List (ℕ × ℕ)) → NothingPending old → Tears ranges old new → LeavesOnly old new (DiffersIn ranges old.content)
   tears-content ranges only run =
-      weaker old new (IsTorn ranges old) (DiffersIn ranges old.content)
-      (λ image torn. subst (λ (was : List ℕ). DiffersIn ranges was image) (only torn.was torn.left) torn.differs) run
+      weaker old new (IsTorn ranges old) (DiffersIn ranges old.content) (λ image torn. rw (only torn.was torn.left) at torn.differs) run
 
 module _ (old mid new : Told) where
   -- a run after a read
@@ -98,7 +97,7 @@ keeps-failed old new result failed ranges run stays = keeps-torn old new result 
 -- calls that only read
 pub keeps-read : {T E : Type 0} (old new : Told) (result : Result T E) → KnowsNow old → OnlyReads old new → KeepsMap old new result
 keeps-read old new result knows reads = record {
-  map = λ found is. on_ok result (subst (λ (list : List ℕ). StandsFor list found) (sym reads.same.content) is);
+  map = λ found is. on_ok result (rw reads.same.content is);
   any_moment = λ only found is. weaker old new old.may_leave (λ image. StandsFor image found) (of_content old (λ image. StandsFor image found) only is)
       (read_leaves old new knows reads);
   durable = λ only. on_ok result (nothing_pending-same old new reads.same only);
@@ -150,7 +149,7 @@ module _ (old mid : Told) (knows : KnowsNow old) (time : Elapses old mid) (no_ot
     -- one that answered
     module _ (new : Told) (same : mid.content ≡ old.content) (only : NothingPending mid) (keeps : KeepsMap mid new result) where
       stands : (found : SlotMap) → StandsFor old.content found → StandsFor mid.content found
-      stands found is = subst (λ (list : List ℕ). StandsFor list found) (sym same) is
+      stands found is = rw same is
 
       pub keeps-synced : KeepsMap old new result
       keeps-synced = record {

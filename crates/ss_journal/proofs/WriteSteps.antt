@@ -1,9 +1,8 @@
 -- Puts are written into their slots run by run, and zeros piece by piece.
-use Rattle.ss_journal.proofs.Common.{List, Ok, Result, [], ap, arith, drop, length, refl, replicate, sym, subst, take, ℕ, ◌++◌, ◌+◌, ◌*◌, ◌-◌, ◌<◌, ◌^◌, ◌∙◌}
-use Rattle.ss_journal.proofs.Common.{◌∷◌, ◌≡◌, ◌≤◌, All-drop, All-take, drop-drop, drop_all, length-replicate, length-take-le, take-append-drop}
-use Rattle.ss_journal.proofs.Common.{take-replicate, on_ok_weaker, All, IsErr, KnowsNow, Told, overwrite, Syncs, Failed, Kind, slot_place, FillSlots, Durably}
-use Rattle.ss_journal.proofs.Common.{Rewrites, Writes, WritesSlots, WritesZeros, AreSlots, HasSlotsFor, Tears, run_bytes, run_length, slot_ranges}
-use Rattle.ss_journal.proofs.Common.{slots_written, Put}
+use Rattle.ss_journal.proofs.Common.{List, Ok, Result, [], ap, arith, drop, length, refl, replicate, sym, take, ℕ, ◌++◌, ◌+◌, ◌*◌, ◌-◌, ◌<◌, ◌^◌, ◌∙◌, ◌∷◌, ◌≡◌}
+use Rattle.ss_journal.proofs.Common.{◌≤◌, All-drop, All-take, drop-drop, drop_all, length-replicate, length-take-le, take-append-drop, take-replicate}
+use Rattle.ss_journal.proofs.Common.{on_ok_weaker, IsErr, KnowsNow, Told, overwrite, Syncs, Failed, Kind, slot_place, FillSlots, Durably, Rewrites, Writes}
+use Rattle.ss_journal.proofs.Common.{WritesSlots, WritesZeros, AreSlots, HasSlotsFor, Tears, run_bytes, run_length, slot_ranges, slots_written, Put}
 use Rattle.ss_journal.proofs.RangeLemmas.{Covers-part, overwrite-none, overwrite-zeros}
 use Rattle.ss_journal.proofs.RunLemmas.{Covers-run, HasSlotsFor-append, length-run_bytes, run_length-le, slots_written-append, slots_written-run, within-run}
 use Rattle.ss_journal.proofs.StepLemmas.{rewrites-synced}
@@ -28,9 +27,8 @@ module _ (kind : Kind) (puts rest : List Put) (k n slot : ℕ) (old mid new : To
   tears-run step =
       let count : length run ≡ n = length-take-le n rest (run_length-le slot n rest neighbours) in
       let size : length (run_bytes kind run) ≡ 128 * n = omega (arith, count, length-run_bytes kind run whole) in
-      tears-more old mid new (slot_ranges puts) knows so_far.tears (slot_place slot) (128 * n)
-      (Covers-run puts k slot n some (subst (λ (list : List Put). n ≤ run_length slot list) left neighbours))
-      (subst (λ (bytes : ℕ). Tears ((slot_place slot, bytes) ∷ []) mid new) size step.tears)
+      tears-more old mid new (slot_ranges puts) knows so_far.tears (slot_place slot) (128 * n) (Covers-run puts k slot n some (rw left at neighbours))
+      (rw size at step.tears)
 
   pub WrittenTo-more : (value : Unit {0}) → AreSlots puts → Writes (slot_place slot) (run_bytes kind run) (Ok value) mid new
       → WrittenTo kind puts (k + n) old new
@@ -39,7 +37,7 @@ module _ (kind : Kind) (puts rest : List Put) (k n slot : ℕ) (old mid new : To
       let behind = drop (k + n) puts in
       let after : drop n rest ≡ behind = ap (drop n) left ∙ drop-drop n k puts in
       let all : run ++ behind ≡ drop k puts = ap (λ (list : List Put). run ++ list) (sym after) ∙ take-append-drop n rest ∙ left in
-      let room = subst (λ (list : List Put). HasSlotsFor list mid.content) (sym left) so_far.places in
+      let room = rw (← left) at so_far.places in
       let within = within-run rest slot mid.content (omega (arith, some, neighbours)) room in
       let wrote : slots_written kind run mid.content ≡ new.content = slots_written-run kind rest slot n mid.content neighbours whole within
       ∙ sym step.written in
@@ -47,9 +45,8 @@ module _ (kind : Kind) (puts rest : List Put) (k n slot : ℕ) (old mid new : To
         tears = tears-run step;
         written = ap (slots_written kind behind) (sym wrote) ∙ sym (slots_written-append kind run behind mid.content)
             ∙ ap (λ (list : List Put). slots_written kind list mid.content) all ∙ so_far.written;
-        places = subst (HasSlotsFor behind) wrote (HasSlotsFor-append kind run behind mid.content
-            (All-take In n rest (subst (All In) (sym left) (All-drop In k puts slots))) whole
-            (subst (λ (list : List Put). HasSlotsFor list mid.content) (sym all) so_far.places));
+        places = rw wrote at (HasSlotsFor-append kind run behind mid.content (All-take In n rest (rw left (All-drop In k puts slots))) whole
+            (rw all so_far.places));
       }
 
   pub WrittenTo-failed : {step : Result (Unit {0}) Failed} (result : Result (Unit {0}) Failed) → IsErr result
@@ -105,6 +102,6 @@ WritesZeros-piece most at count result old new few wrote =
     let bytes = take-replicate count most 0 few in
     let size : length (take count (replicate {A = ℕ} most 0)) ≡ count = ap length bytes ∙ length-replicate {A = ℕ} count 0 in
     record {
-      tears = subst (λ (n : ℕ). Tears ((at, n) ∷ []) old new) size wrote.tears;
+      tears = rw size at wrote.tears;
       written = on_ok_weaker result (λ is. is ∙ ap (overwrite old.content at) bytes) wrote.written;
     }

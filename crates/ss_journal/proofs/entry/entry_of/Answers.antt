@@ -1,4 +1,4 @@
-use Rattle.ss_journal.proofs.Common.{[], arith, length, replicate, subst, take, ℕ, ◌++◌, ◌*◌, ◌-◌, ◌∙◌, ◌∷◌, ◌≡◌, All-more, flat_map, Put, put_bytes}
+use Rattle.ss_journal.proofs.Common.{[], arith, length, ◌∙◌, ◌≡◌, All-more, Put}
 use Rattle.ss_journal.proofs.EntryLemmas.{entry-more, entry-all}
 use Rattle.ss_journal.proofs.entry.entry_of.Goals as goal
 
@@ -16,5 +16,4 @@ pub returns-clause-value : goal.returns-clause-value
 returns-clause-value c =
     let puts = c.args.puts.now in
     let all : c.loop-k.k ≡ length puts = omega arith in
-    entry-all puts c.loop-k.entry (subst (λ (n : ℕ). c.loop-k.entry ≡ 0 ∷ length puts ∷ flat_map put_bytes (take n puts) ++ replicate (542 - 132 * n) 0) all
-    c.loop-k.invariant.entry)
+    entry-all puts c.loop-k.entry (rw all at c.loop-k.invariant.entry)

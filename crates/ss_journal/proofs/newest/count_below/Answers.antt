@@ -1,5 +1,5 @@
-use Rattle.ss_journal.proofs.Common.{◌+◌, ◌-◌, ◌<◌, ◌≡◌, ℕ, [], arith, subst, suc, sym, take, Put}
-use Rattle.std.proofs.Common.{◌/◌, All, add-one}
+use Rattle.ss_journal.proofs.Common.{◌+◌, ◌-◌, ◌≡◌, [], arith, suc, sym, Put}
+use Rattle.std.proofs.Common.{◌/◌, add-one}
 use Rattle.ss_journal.proofs.NewestLemmas.{below-place, from-place}
 use Rattle.ss_journal.proofs.newest.count_below.Goals as goal
 
@@ -22,7 +22,6 @@ loop-low-preserved-then-puts-middle c =
     record {
       ordered = omega arith;
       within = c.loop-low.invariant.within;
-      below = subst (λ (n : ℕ). All (λ (put : Put). put.slot < c.args.slot) (take n c.args.puts.now)) next
-          (below-place 0 c.args.puts.now middle c.args.slot d c.requires.rise (omega arith) c.if-puts-middle.true);
+      below = rw next at (below-place 0 c.args.puts.now middle c.args.slot d c.requires.rise (omega arith) c.if-puts-middle.true);
       from = c.loop-low.invariant.from;
     }

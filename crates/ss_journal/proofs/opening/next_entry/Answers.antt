@@ -1,4 +1,4 @@
-use Rattle.ss_journal.proofs.Common.{◌≡◌, ◌∙◌, List, ℕ, IsTrue, IsFalse, refl, sym, subst, eq-eqb, ne_eqb, Put, is_good, puts_of, is_open, IsTxn, slots_fit}
+use Rattle.ss_journal.proofs.Common.{◌∙◌, IsTrue, refl, sym, eq-eqb, ne_eqb, is_open}
 use Rattle.ss_journal.proofs.HeaderLemmas.{is_born-parts}
 use Rattle.ss_journal.proofs.EntryLemmas.{IsTxn-good}
 use Rattle.ss_journal.proofs.OpenLemmas.{NextAs-closed, form-entry, open-form}
@@ -17,8 +17,8 @@ returns-then-not-is_good-clause-entry g c =
     let opened : IsTrue (is_open c.entry_form-entry.result) = open-form c.args.kind c.args.n c.in_ok-entry.entry _ c.entry_form-entry.ensures
     (eq-eqb _ 165 c.if-entry.false) in
     step-refused c.in_ok-entry.ensures (λ told read. record {
-      found = subst (λ (e : List ℕ). IsTrue (is_open e) × IsFalse (is_good e c.args.extent) × (c.args.n ≡ c.args.n))
-          (c.entry_form-entry.ensures ∙ form-entry _ c.args.kind c.args.n _ (c.requires.kind told) (read.found (is_born-parts _ (c.requires.born told)).0))
+      found = rw (← (c.entry_form-entry.ensures
+          ∙ form-entry _ c.args.kind c.args.n _ (c.requires.kind told) (read.found (is_born-parts _ (c.requires.born told)).0)))
           (opened, sym c.if-not-is_good.ensures.value, refl);
       reads = read.reads;
     })
@@ -28,13 +28,11 @@ returns-clause-entry g c =
     let opened : IsTrue (is_open c.entry_form-entry.result) = open-form c.args.kind c.args.n c.in_ok-entry.entry _ c.entry_form-entry.ensures
     (eq-eqb _ 165 c.if-entry.false) in
     step-from c.in_ok-entry.ensures (λ told read. record {
-      found = subst (λ (e : List ℕ). IsTrue (is_open e) × IsTrue (is_good e c.args.extent) × (c.puts_of.result.items ≡ puts_of e))
-          (c.entry_form-entry.ensures ∙ form-entry _ c.args.kind c.args.n _ (c.requires.kind told) (read.found (is_born-parts _ (c.requires.born told)).0))
+      found = rw (← (c.entry_form-entry.ensures
+          ∙ form-entry _ c.args.kind c.args.n _ (c.requires.kind told) (read.found (is_born-parts _ (c.requires.born told)).0)))
           (opened, sym c.if-not-is_good.ensures.value, c.puts_of.ensures);
       reads = read.reads;
     })
 
 pub returns-clause-sound : goal.returns-clause-sound
-returns-clause-sound g c =
-    subst (λ (puts : List Put). IsTxn puts × IsTrue (slots_fit puts c.args.extent)) (sym c.puts_of.ensures)
-    (IsTxn-good _ _ (sym c.if-not-is_good.ensures.value))
+returns-clause-sound g c = rw c.puts_of.ensures (IsTxn-good _ _ (sym c.if-not-is_good.ensures.value))

@@ -1,10 +1,7 @@
-use Rattle.ss_journal.proofs.Common.{◌≡◌, ◌<◌, ◌≤◌, ◌^◌, List, ℕ, [], IsTrue, Ok, length, sym, ◌∙◌, ap, subst, arith, All-nil, ArrayVec, reads-none}
-use Rattle.ss_journal.proofs.Common.{step-none, Put, is_born, newest_after, FillSlots, IsTxn, extent_after, slots_fit, slots_rise_from}
-use Rattle.std.proofs.Common.{Option}
+use Rattle.ss_journal.proofs.Common.{◌≡◌, ◌<◌, List, [], length, ◌∙◌, ap, arith, All-nil, reads-none, step-none, Put, newest_after, extent_after}
 use Rattle.std.proofs.lemmas.List.Elements.{All-same}
 use Rattle.std.proofs.lemmas.Result.{err_from_is_err_and}
-use Rattle.ss_journal.specs.Opening.{IfNext}
-use Rattle.ss_journal.proofs.OpenLemmas.{IsReadTo, IsReadTo-none, IsReadTo-next, IsReadTo-all, IsReadTo-shut, InUseAs-next, below-newest_after}
+use Rattle.ss_journal.proofs.OpenLemmas.{IsReadTo-none, IsReadTo-next, IsReadTo-all, IsReadTo-shut, InUseAs-next, below-newest_after}
 use Rattle.ss_journal.proofs.NewestLemmas.{few-newest_after}
 use Rattle.ss_journal.proofs.PutLemmas.{AreSlots-rise, extent_after-most}
 use Rattle.ss_journal.proofs.StepLemmas.{after-step, finds-joined, step-from, step-next}
@@ -18,15 +15,13 @@ loop-n-init g c =
       extent = c.requires.slots;
       waiting = All-same (λ (put : Put). put.slot < c.args.slots) _ [] none (All-nil (λ (put : Put). put.slot < c.args.slots));
       step = step-none _ _ (λ told. let content = (g.D.Disk.seen c.args.disk.now).told.content in record {
-        found = subst (λ (puts : List Put). IsReadTo content 0 c.args.slots puts) (sym none)
-            (IsReadTo-none content c.args.slots (c.requires.born told).0 (c.requires.born told).1);
+        found = rw none (IsReadTo-none content c.args.slots (c.requires.born told).0 (c.requires.born told).1);
         reads = reads-none _;
       });
     }
 
 pub next_entry-requires-clause-born : goal.next_entry-requires-clause-born
-next_entry-requires-clause-born g c = after-step c.loop-n.invariant.step
-    (λ told before. subst (λ (list : List ℕ). IsTrue (is_born list)) (sym before.reads.same.content) (c.requires.born told).0)
+next_entry-requires-clause-born g c = after-step c.loop-n.invariant.step (λ told before. rw before.reads.same.content (c.requires.born told).0)
 
 pub returns-in_err-puts-clause-entries : goal.returns-in_err-puts-clause-entries
 returns-in_err-puts-clause-entries g c =
@@ -48,15 +43,14 @@ loop-n-preserved g c =
     let extent = c.loop-n.extent in
     let more : c.add.new.self ≡ newest_after puts c.loop-n.waiting = c.add.ensures.kept
     ∙ ap (λ (l : List Put). newest_after l c.loop-n.waiting) c.deref-in-Some.ensures.0 in
-    let whole = subst FillSlots c.deref-in-Some.ensures.0 c.add.ensures.whole in
+    let whole = rw c.deref-in-Some.ensures.0 at c.add.ensures.whole in
     let last : c.extent_after-extent.result ≡ extent_after puts extent = c.extent_after-extent.ensures
     ∙ ap (λ (l : List Put). extent_after l extent) c.deref.ensures.0 in
-    let sound = subst (λ (o : Option (ArrayVec Put)). IfNext (Ok o) (λ puts. IsTxn puts × IsTrue (slots_fit puts extent))) c.in-Some.is
-    c.in_ok-puts.ensures.sound in
+    let sound = rw c.in-Some.is at c.in_ok-puts.ensures.sound in
     let next = rw c.in-Some.is at c.in_ok-puts.ensures.entry in
     record {
       few = omega (arith, ap length more, few-newest_after puts c.loop-n.waiting, sound.0.few, before.few);
-      extent = subst (λ (n : ℕ). n ≤ 2 ^ 20) (sym last) (extent_after-most puts extent sound.0 before.extent);
+      extent = rw last (extent_after-most puts extent sound.0 before.extent);
       waiting = rw (more, last) (below-newest_after c.loop-n.waiting puts extent sound.1 before.waiting);
       step = step-next before.step next
           (λ told then first next. finds-joined first next (λ was is. IsReadTo-next _ c.loop-n.n extent c.loop-n.waiting c.loop-n-test.true was c.in-Some.puts
@@ -72,13 +66,11 @@ returns-clause-entries g c =
 
 pub add-requires-clause-slots : goal.add-requires-clause-slots
 add-requires-clause-slots g c =
-    let sound = subst (λ (o : Option (ArrayVec Put)). IfNext (Ok o) (λ puts. IsTxn puts × IsTrue (slots_fit puts c.loop-n.extent))) c.in-Some.is
-    c.in_ok-puts.ensures.sound in
-    AreSlots-rise 0 _ (subst (λ (puts : List Put). IsTrue (slots_rise_from 0 puts)) (sym c.deref-in-Some.ensures.0) sound.0.rise)
+    let sound = rw c.in-Some.is at c.in_ok-puts.ensures.sound in
+    AreSlots-rise 0 _ (rw c.deref-in-Some.ensures.0 sound.0.rise)
 
 pub add-requires-clause-room : goal.add-requires-clause-room
 add-requires-clause-room g c =
     let before = c.loop-n.invariant in
-    let sound = subst (λ (o : Option (ArrayVec Put)). IfNext (Ok o) (λ puts. IsTxn puts × IsTrue (slots_fit puts c.loop-n.extent))) c.in-Some.is
-    c.in_ok-puts.ensures.sound in
+    let sound = rw c.in-Some.is at c.in_ok-puts.ensures.sound in
     omega (arith, before.few, sound.0.few, ap length c.deref-in-Some.ensures.0, c.loop-n-test.true)

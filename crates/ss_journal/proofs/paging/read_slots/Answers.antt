@@ -1,4 +1,4 @@
-use Rattle.ss_journal.proofs.Common.{ℕ, arith, subst, on_ok_weaker, IsReadFrom}
+use Rattle.ss_journal.proofs.Common.{arith, on_ok_weaker, IsReadFrom}
 use Rattle.ss_journal.proofs.PageLemmas.{slot_in_page-read}
 use Rattle.ss_journal.proofs.StepLemmas.{step-from}
 use Rattle.ss_journal.proofs.paging.read_slots.Goals as goal
@@ -10,6 +10,6 @@ returns g c =
       found = on_ok_weaker c.read_at.result
           (λ (filled : IsReadFrom content c.slot_place.result c.read_at.new.into) k lt lies.
           slot_in_page-read content c.read_at.new.into c.args.page k (omega (arith, c.read_at.auto.into)) lt lies
-          (subst (λ (at : ℕ). IsReadFrom content at c.read_at.new.into) c.slot_place.ensures filled)) read.bytes;
+          (rw c.slot_place.ensures at filled)) read.bytes;
       reads = read.reads;
     })

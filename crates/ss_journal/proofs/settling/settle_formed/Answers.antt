@@ -1,4 +1,4 @@
-use Rattle.ss_journal.proofs.Common.{arith, subst, sym, syncs-once, HasEntries}
+use Rattle.ss_journal.proofs.Common.{arith, syncs-once}
 use Rattle.ss_journal.proofs.SettleSteps.{clears-failed, clears-synced}
 use Rattle.ss_journal.proofs.StepLemmas.{after-step, step-failed, step-next}
 use Rattle.ss_journal.proofs.settling.settle_formed.Goals as goal
@@ -10,8 +10,7 @@ returns-in_err-sync-clause-clears g c =
     (λ told synced. clears-failed _ _ (g.met.D.Disk.knows_now c.args.disk.now told) failed.result failed.ensures.0 synced)
 
 pub settle_entries-requires-clause-entries : goal.settle_entries-requires-clause-entries
-settle_entries-requires-clause-entries g c =
-    after-step c.in_ok-sync.ensures (λ told synced. subst (HasEntries c.args.kind c.args.puts.now) (sym synced.content) (c.requires.entries told))
+settle_entries-requires-clause-entries g c = after-step c.in_ok-sync.ensures (λ told synced. rw synced.content (c.requires.entries told))
 
 pub returns-clause-clears : goal.returns-clause-clears
 returns-clause-clears g c =

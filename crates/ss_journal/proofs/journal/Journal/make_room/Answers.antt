@@ -1,4 +1,4 @@
-use Rattle.ss_journal.proofs.Common.{ap, arith, subst, sym, IsSealed}
+use Rattle.ss_journal.proofs.Common.{ap, arith, sym}
 use Rattle.ss_journal.proofs.SealSteps.{Seals-as, room-made, room-uncleared}
 use Rattle.ss_journal.proofs.StepLemmas.{step-failed, step-next, step-next_failed}
 use Rattle.ss_journal.proofs.journal.Journal.make_room.Goals as goal
@@ -7,7 +7,7 @@ pub returns-clause-makes_room : goal.returns-clause-makes_room
 returns-clause-makes_room g c =
     step-next c.in_ok-seal.ensures.seals c.in_ok-settle_entries.ensures.shuts (λ told then seals reaches.
     room-made c.args.self.now _ _ _ _ _ _ _ _ (Seals-as (sym c.self-2.view_is) seals)
-    (subst IsSealed (sym c.self-2.view_is) c.in_ok-seal.ensures.sealed.sealed) (cc) reaches)
+    (rw (← c.self-2.view_is) at c.in_ok-seal.ensures.sealed.sealed) (cc) reaches)
 
 pub returns-in_err-settle_entries-clause-makes_room : goal.returns-in_err-settle_entries-clause-makes_room
 returns-in_err-settle_entries-clause-makes_room g c =

@@ -1,4 +1,4 @@
-use Rattle.ss_journal.proofs.Common.{List, ℕ, subst, sym, reads-joined, AreEntries}
+use Rattle.ss_journal.proofs.Common.{sym, reads-joined}
 use Rattle.ss_journal.proofs.KeptLemmas.{IsKept-born, IsKept-unborn}
 use Rattle.ss_journal.proofs.RedoLemmas.{redo-neither}
 use Rattle.ss_journal.proofs.StepLemmas.{step-from, step-next, step-refused}
@@ -27,7 +27,6 @@ returns-clause-opens g c =
     step-next c.in_ok-head.ensures c.in_ok-read.ensures.entries (λ told then head entries.
     record {
       opens = IsKept-born c.kind-kind.result _ read.in_use read.waiting read.extent c.in_ok-new-4.field-0
-          (c.kind-kind.ensures _ head.found) (sym (c.if-not-is_born.ensures _ head.found))
-          (subst (λ (list : List ℕ). AreEntries list read.in_use read.waiting read.extent) head.reads.same.content entries.found) c.in_ok-new-4.ensures;
+          (c.kind-kind.ensures _ head.found) (sym (c.if-not-is_born.ensures _ head.found)) (rw head.reads.same.content at entries.found) c.in_ok-new-4.ensures;
       reads = reads-joined _ _ _ head.reads entries.reads;
     })

@@ -1,5 +1,4 @@
-use Rattle.ss_journal.proofs.Common.{◌≡◌, inl, inr, sym, ◌∙◌, subst, rules, same_true, reads-none, step-none, the_type, Unborn, IsKept, JournalState}
-use Rattle.ss_journal.proofs.Common.{file_map}
+use Rattle.ss_journal.proofs.Common.{◌≡◌, inl, inr, sym, ◌∙◌, rules, same_true, reads-none, step-none, the_type, Unborn, file_map}
 use Rattle.ss_journal.proofs.KeptLemmas.{ReadsSlot-as, unused_bytes, unborn-shown, born-shown, born_bytes, not_first, slot_in-form, slot_lies, slot_bytes}
 use Rattle.ss_journal.proofs.ShownLemmas.{slot_at-shown}
 use Rattle.ss_journal.proofs.StepLemmas.{step-from}
@@ -10,7 +9,7 @@ pub returns-then-eq-clause-reads : goal.returns-then-eq-clause-reads
 returns-then-eq-clause-reads g c =
     let content = (g.D.Disk.seen c.args.disk.now).told.content in
     step-none _ _ (λ told.
-    let kept = subst (λ (journal : JournalState). IsKept journal content) (sym c.self.view_is) (c.requires.one_disk told) in
+    let kept = rw (← c.self.view_is) at (c.requires.one_disk told) in
     ReadsSlot-as c.self.view_is (record {
       bytes = λ found is. elim c.then-eq.branch [
         | then-eq-via-then-eq w ↦
@@ -25,7 +24,7 @@ pub returns-in-Some-clause-reads : goal.returns-in-Some-clause-reads
 returns-in-Some-clause-reads g c =
     let content = (g.D.Disk.seen c.args.disk.now).told.content in
     step-none _ _ (λ told.
-    let kept = subst (λ (journal : JournalState). IsKept journal content) (sym c.self.view_is) (c.requires.one_disk told) in
+    let kept = rw (← c.self.view_is) at (c.requires.one_disk told) in
     let born = born-shown _ _ (not_first c.self.inside.phase (sym c.if-eq.ensures)) kept.shown in
     ReadsSlot-as c.self.view_is (record {
       bytes = λ found is. sym (c.in-Some.ensures (file_map _).bytes) ∙ born_bytes _ _ found c.args.slot kept.shown is c.requires.slot born;
@@ -36,7 +35,7 @@ pub returns-in-Ok-clause-reads : goal.returns-in-Ok-clause-reads
 returns-in-Ok-clause-reads g c =
     let content = (g.D.Disk.seen c.args.disk.now).told.content in
     step-from c.in-Ok.ensures (λ told read.
-    let kept = subst (λ (journal : JournalState). IsKept journal content) (sym c.self.view_is) (c.requires.one_disk told) in
+    let kept = rw (← c.self.view_is) at (c.requires.one_disk told) in
     let born = born-shown _ _ (not_first c.self.inside.phase (sym c.if-eq.ensures)) kept.shown in
     let leaves = c.in_default.ensures in
     ReadsSlot-as c.self.view_is (record {

@@ -1,5 +1,5 @@
-use Rattle.ss_journal.proofs.Common.{◌≡◌, ◌*◌, ◌+◌, ◌∙◌, ◌<◌, ◌^◌, inl, sym, subst, ap, arith, rules, List, same_true, reads-none, step-none, the_type}
-use Rattle.ss_journal.proofs.Common.{Unborn, Put, slot_in_page, slot_form, IsKept, JournalState, with_puts}
+use Rattle.ss_journal.proofs.Common.{◌≡◌, ◌*◌, ◌+◌, ◌∙◌, ◌<◌, ◌^◌, inl, sym, ap, arith, rules, List, same_true, reads-none, step-none, the_type}
+use Rattle.ss_journal.proofs.Common.{Unborn, Put, slot_in_page, slot_form, with_puts}
 use Rattle.ss_journal.proofs.CheckLemmas.{slot_form-zeros}
 use Rattle.ss_journal.proofs.KeptLemmas.{ReadsPage-as, born-shown, not_first, page_bytes, slot_in-form, unborn-shown, unused_bytes}
 use Rattle.ss_journal.proofs.PageLemmas.{slot_in_page-zeros}
@@ -11,7 +11,7 @@ pub returns-then-eq-clause-reads : goal.returns-then-eq-clause-reads
 returns-then-eq-clause-reads g c =
     let content = (g.D.Disk.seen c.args.disk.now).told.content in
     step-none _ _ (λ told.
-    let kept = subst (λ (journal : JournalState). IsKept journal content) (sym c.self.view_is) (c.requires.one_disk told) in
+    let kept = rw (← c.self.view_is) at (c.requires.one_disk told) in
     let same : c.self.inside.phase ≡ Unborn = same_true the_type (search rules) c.self.inside.phase Unborn (sym c.if-eq.ensures) in
     ReadsPage-as c.self.view_is (record {
       bytes = λ found is k lt.
@@ -27,7 +27,7 @@ returns-in-Ok-clause-reads g c =
     let content = (g.D.Disk.seen c.args.disk.now).told.content in
     let kind = c.self.inside.kind in
     step-from c.in-Ok.ensures (λ told read.
-    let kept = subst (λ (journal : JournalState). IsKept journal content) (sym c.self.view_is) (c.requires.one_disk told) in
+    let kept = rw (← c.self.view_is) at (c.requires.one_disk told) in
     let born = born-shown _ _ (not_first c.self.inside.phase (sym c.if-eq.ensures)) kept.shown in
     ReadsPage-as c.self.view_is (record {
       bytes = λ found is k lt.

@@ -1,5 +1,4 @@
-use Rattle.ss_journal.proofs.Common.{List, ap, arith, length, refl, subst, sym, ◌∙◌, ◌≡◌, eqb-false, entry_count, group_bytes, IsKept, JournalState}
-use Rattle.ss_journal.proofs.Common.{closed_behind, Put}
+use Rattle.ss_journal.proofs.Common.{List, ap, arith, length, refl, sym, ◌∙◌, ◌≡◌, eqb-false, entry_count, group_bytes, JournalState, closed_behind, Put}
 use Rattle.ss_journal.proofs.SealSteps.{Seals-of, fits-staged, gate-staged, seals-entered}
 use Rattle.ss_journal.proofs.StepLemmas.{step-from}
 use Rattle.ss_journal.proofs.journal.Journal.seal.Goals as goal
@@ -20,7 +19,7 @@ returns-clause-seals g c =
     let some : length c.self.inside.staged ≡ 0 → ⊥ = λ none. eqb-false (length c.as_slice.result.now) 0 (sym c.is_empty.ensures ∙ c.if-is_empty.false)
     (ap (λ (list : List Put). length list) c.as_slice.ensures.all ∙ none) in
     step-from c.in_ok-added.ensures.enters (λ told enters.
-    let kept = subst (λ (j : JournalState). IsKept j (g.D.Disk.seen c.args.disk.now).told.content) (sym c.self.view_is) (c.requires.one_disk told) in
+    let kept = rw (← c.self.view_is) at (c.requires.one_disk told) in
     let all = c.as_slice-3.ensures ∙ c.spell.ensures
     ∙ ap (λ (list : List Put). closed_behind c.self.inside.sealed (group_bytes c.self.inside.kind c.self.inside.sealed (entry_count (length list)) list))
     c.as_slice-2.ensures.all in

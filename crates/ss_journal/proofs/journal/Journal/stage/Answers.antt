@@ -1,19 +1,18 @@
-use Rattle.ss_journal.proofs.Common.{IsTrue, List, ap, arith, length, refl, subst, sym, ℕ, ◌+◌, ◌<◌, ◌∙◌, Put, entry_count, IsSettled, JournalState}
-use Rattle.ss_journal.proofs.Common.{newest_after, FillSlots, extent_after, slots_fit, AreSlots}
+use Rattle.ss_journal.proofs.Common.{List, ap, arith, length, refl, ℕ, ◌+◌, ◌<◌, ◌∙◌, Put, entry_count, newest_after, extent_after}
 use Rattle.ss_journal.proofs.NewestLemmas.{few-newest_after}
 use Rattle.ss_journal.proofs.PutLemmas.{AreSlots-rise}
 use Rattle.ss_journal.proofs.StageLemmas.{IsBounded-staged, has-staged, stages}
 use Rattle.ss_journal.proofs.journal.Journal.stage.Goals as goal
 
 pub add-requires-clause-slots : goal.add-requires-clause-slots
-add-requires-clause-slots c = subst AreSlots (sym c.deref-2.ensures.0) (AreSlots-rise 0 _ c.requires.txn.rise)
+add-requires-clause-slots c = rw c.deref-2.ensures.0 (AreSlots-rise 0 _ c.requires.txn.rise)
 
 pub add-requires-2-clause-slots : goal.add-requires-2-clause-slots
-add-requires-2-clause-slots c = subst AreSlots (sym c.deref-3.ensures.0) (AreSlots-rise 0 _ c.requires.txn.rise)
+add-requires-2-clause-slots c = rw c.deref-3.ensures.0 (AreSlots-rise 0 _ c.requires.txn.rise)
 
 pub entry_count-requires : goal.entry_count-requires
 entry_count-requires c =
-    let free : c.self.inside.in_use < 64 = subst (λ (j : JournalState). j.in_use < 64) (sym c.self.view_is) c.requires.room in
+    let free : c.self.inside.in_use < 64 = rw (← c.self.view_is) at c.requires.room in
     omega (
       arith,
       free,
@@ -26,7 +25,7 @@ entry_count-requires c =
 
 pub overflow_add-self : goal.overflow_add-self
 overflow_add-self c =
-    let free : c.self.inside.in_use < 64 = subst (λ (j : JournalState). j.in_use < 64) (sym c.self.view_is) c.requires.room in
+    let free : c.self.inside.in_use < 64 = rw (← c.self.view_is) at c.requires.room in
     omega (
       arith,
       free,
@@ -41,11 +40,10 @@ overflow_add-self c =
 pub invariant_of-self : goal.invariant_of-self
 invariant_of-self c =
     let puts = c.args.txn.now.items in
-    let free : c.self.inside.in_use < 64 = subst (λ (j : JournalState). j.in_use < 64) (sym c.self.view_is) c.requires.room in
-    IsBounded-staged _ _ puts c.self.invariant (subst IsSettled (sym c.self.view_is) c.requires.settled)
-    (subst FillSlots c.deref-2.ensures.0 c.add.ensures.whole) c.requires.txn
-    (subst (λ (j : JournalState). IsTrue (slots_fit puts j.extent)) (sym c.self.view_is) c.requires.fit) free c.add.ensures.rise c.add-2.ensures.rise (record {
-      phase = subst IsSettled (sym c.self.view_is) c.requires.settled;
+    let free : c.self.inside.in_use < 64 = rw (← c.self.view_is) at c.requires.room in
+    IsBounded-staged _ _ puts c.self.invariant (rw (← c.self.view_is) at c.requires.settled) (rw c.deref-2.ensures.0 at c.add.ensures.whole) c.requires.txn
+    (rw (← c.self.view_is) at c.requires.fit) free c.add.ensures.rise c.add-2.ensures.rise (record {
+      phase = rw (← c.self.view_is) at c.requires.settled;
       extent = c.extent_after-self-inside.ensures ∙ ap (λ (list : List Put). extent_after list c.self.inside.extent) c.deref.ensures.0;
       in_use = ap (λ (n : ℕ). c.self.inside.sealed + n) (c.entry_count.ensures ∙ ap (λ (list : List Put). entry_count (length list)) c.as_slice.ensures.all);
       waiting = c.add.ensures.kept ∙ ap (λ (list : List Put). newest_after list c.self.inside.waiting) c.deref-2.ensures.0;
@@ -57,11 +55,10 @@ invariant_of-self c =
 pub returns-clause-stages : goal.returns-clause-stages
 returns-clause-stages c content =
     let puts = c.args.txn.now.items in
-    let free : c.self.inside.in_use < 64 = subst (λ (j : JournalState). j.in_use < 64) (sym c.self.view_is) c.requires.room in
-    stages _ _ puts c.self.invariant (subst IsSettled (sym c.self.view_is) c.requires.settled)
-    (subst FillSlots c.deref-2.ensures.0 c.add.ensures.whole) c.requires.txn
-    (subst (λ (j : JournalState). IsTrue (slots_fit puts j.extent)) (sym c.self.view_is) c.requires.fit) free c.add.ensures.rise c.add-2.ensures.rise (record {
-      phase = subst IsSettled (sym c.self.view_is) c.requires.settled;
+    let free : c.self.inside.in_use < 64 = rw (← c.self.view_is) at c.requires.room in
+    stages _ _ puts c.self.invariant (rw (← c.self.view_is) at c.requires.settled) (rw c.deref-2.ensures.0 at c.add.ensures.whole) c.requires.txn
+    (rw (← c.self.view_is) at c.requires.fit) free c.add.ensures.rise c.add-2.ensures.rise (record {
+      phase = rw (← c.self.view_is) at c.requires.settled;
       extent = c.extent_after-self-inside.ensures ∙ ap (λ (list : List Put). extent_after list c.self.inside.extent) c.deref.ensures.0;
       in_use = ap (λ (n : ℕ). c.self.inside.sealed + n) (c.entry_count.ensures ∙ ap (λ (list : List Put). entry_count (length list)) c.as_slice.ensures.all);
       waiting = c.add.ensures.kept ∙ ap (λ (list : List Put). newest_after list c.self.inside.waiting) c.deref-2.ensures.0;
@@ -73,11 +70,10 @@ returns-clause-stages c content =
 pub returns-clause-staged : goal.returns-clause-staged
 returns-clause-staged c =
     let puts = c.args.txn.now.items in
-    let free : c.self.inside.in_use < 64 = subst (λ (j : JournalState). j.in_use < 64) (sym c.self.view_is) c.requires.room in
-    has-staged _ _ puts c.self.invariant (subst IsSettled (sym c.self.view_is) c.requires.settled)
-    (subst FillSlots c.deref-2.ensures.0 c.add.ensures.whole) c.requires.txn
-    (subst (λ (j : JournalState). IsTrue (slots_fit puts j.extent)) (sym c.self.view_is) c.requires.fit) free c.add.ensures.rise c.add-2.ensures.rise (record {
-      phase = subst IsSettled (sym c.self.view_is) c.requires.settled;
+    let free : c.self.inside.in_use < 64 = rw (← c.self.view_is) at c.requires.room in
+    has-staged _ _ puts c.self.invariant (rw (← c.self.view_is) at c.requires.settled) (rw c.deref-2.ensures.0 at c.add.ensures.whole) c.requires.txn
+    (rw (← c.self.view_is) at c.requires.fit) free c.add.ensures.rise c.add-2.ensures.rise (record {
+      phase = rw (← c.self.view_is) at c.requires.settled;
       extent = c.extent_after-self-inside.ensures ∙ ap (λ (list : List Put). extent_after list c.self.inside.extent) c.deref.ensures.0;
       in_use = ap (λ (n : ℕ). c.self.inside.sealed + n) (c.entry_count.ensures ∙ ap (λ (list : List Put). entry_count (length list)) c.as_slice.ensures.all);
       waiting = c.add.ensures.kept ∙ ap (λ (list : List Put). newest_after list c.self.inside.waiting) c.deref-2.ensures.0;

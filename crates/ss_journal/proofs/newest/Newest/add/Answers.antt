@@ -1,4 +1,4 @@
-use Rattle.ss_journal.proofs.Common.{◌+◌, ◌∙◌, ◌≡◌, drop, get_or, List, [], ap, arith, length, subst, sym, take_all, All-more, newest_after, FillSlots, Put}
+use Rattle.ss_journal.proofs.Common.{◌+◌, ◌∙◌, ◌≡◌, drop, get_or, List, [], ap, arith, length, sym, take_all, All-more, newest_after, Put}
 use Rattle.std.proofs.lemmas.List.{at_drop_more}
 use Rattle.ss_journal.proofs.NewestLemmas.{few-with_newest}
 use Rattle.ss_journal.proofs.newest.Newest.add.Goals as goal
@@ -21,4 +21,4 @@ loop-put-preserved c =
     }
 
 pub returns-clause-whole : goal.returns-clause-whole
-returns-clause-whole c = subst FillSlots (take_all c.loop-put.put-index c.args.puts.now c.loop-put-test.false) c.loop-put.invariant.whole
+returns-clause-whole c = rw (take_all c.loop-put.put-index c.args.puts.now c.loop-put-test.false) at c.loop-put.invariant.whole

@@ -1,4 +1,4 @@
-use Rattle.ss_journal.proofs.Common.{◌<◌, ◌≡◌, ◌∙◌, IsTrue, List, [], ap, get_or, length, subst, sym, arith, slots_rise_from, with_puts, Put}
+use Rattle.ss_journal.proofs.Common.{◌<◌, ◌≡◌, ◌∙◌, List, [], ap, get_or, length, sym, arith, with_puts, Put}
 use Rattle.ss_journal.proofs.NewestLemmas.{found-place, no-place}
 use Rattle.ss_journal.proofs.newest.Newest.find.Goals as goal
 use Rattle.ss_journal.proofs.newest.Newest.find.Goals.{else-place-puts-via-then-place-puts+else-puts-place, else-place-puts-via-else-place-puts}
@@ -9,8 +9,7 @@ returns-then-puts-place c map =
     let puts = c.as_slice-puts.result.now in
     let same = c.as_slice-puts.ensures.value in
     ap (λ (list : List Put). with_puts list map c.args.slot) (sym (same ∙ c.self.view_is))
-    ∙ found-place puts c.count_below-place.result c.args.slot d
-    (subst (λ (list : List Put). IsTrue (slots_rise_from 0 list)) (sym same) c.self.invariant.1) c.if-place-puts.true c.if-puts-place.true map
+    ∙ found-place puts c.count_below-place.result c.args.slot d (rw same c.self.invariant.1) c.if-place-puts.true c.if-puts-place.true map
 
 pub returns : goal.returns
 returns c map =
@@ -23,6 +22,5 @@ returns c map =
       | else-place-puts-via-else-place-puts w ↦ λ lt is. absurd (omega (arith, lt, w.if-place-puts.false))
     ] in
     ap (λ (list : List Put). with_puts list map c.args.slot) (sym (same ∙ c.self.view_is))
-    ∙ no-place puts place c.args.slot d
-    (subst (λ (list : List Put). IsTrue (slots_rise_from 0 list)) (sym same) c.self.invariant.1)
+    ∙ no-place puts place c.args.slot d (rw same c.self.invariant.1)
     c.count_below-place.ensures.below c.count_below-place.ensures.from apart map

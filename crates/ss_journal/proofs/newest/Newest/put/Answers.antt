@@ -1,6 +1,5 @@
-use Rattle.ss_journal.proofs.Common.{◌<◌, ◌≡◌, ◌≤◌, ◌∙◌, IsTrue, List, [], ap, arith, drop, get_or, length, subst, sym, take, cond-true, with_newest}
-use Rattle.ss_journal.proofs.Common.{slots_rise_from, Put}
-use Rattle.std.proofs.Common.{All, set}
+use Rattle.ss_journal.proofs.Common.{◌<◌, ◌≡◌, ◌∙◌, List, [], ap, arith, get_or, length, sym, cond-true, with_newest, Put}
+use Rattle.std.proofs.Common.{set}
 use Rattle.std.proofs.lemmas.List.{get_or_read}
 use Rattle.ss_journal.proofs.NewestLemmas.{rise-with_newest, with_newest-insert, with_newest-set}
 use Rattle.ss_journal.proofs.newest.Newest.put.Goals as goal
@@ -13,9 +12,7 @@ replaced c =
     let same = c.as_slice.ensures.value in
     let count = ap (λ (list : List Put). length list) same in
     with_newest-set c.args.put.now c.self.inside.puts.items c.count_below-place.result c.index.result.now (omega (arith, count))
-    (subst (λ (list : List Put). All (λ (put : Put). put.slot < c.args.put.now.slot) (take c.count_below-place.result list)) same
-    c.count_below-place.ensures.below)
-    (sym (ap (λ (put : Put). put.slot) c.index.ensures) ∙ c.if-index-put.true)
+    (rw same at c.count_below-place.ensures.below) (sym (ap (λ (put : Put). put.slot) c.index.ensures) ∙ c.if-index-put.true)
 
 -- or it comes between those below and those above
 inserted : (c : goal.After-insert) → c.insert.new.self.items ≡ with_newest c.args.put.now c.self.inside.puts.items
@@ -34,22 +31,19 @@ inserted c =
       | else-place-len-via-else-place-len w ↦ λ lt is. absurd (omega (arith, count, lt, w.if-place-len.false))
     ] in
     c.insert.ensures.items ∙ cond-true _ _ _ (c.insert.ensures.succeeds (omega (arith, count, seen, room)))
-    ∙ with_newest-insert put held place d (omega (arith, count, c.count_below-place.ensures.most))
-    (subst (λ (list : List Put). All (λ (p : Put). p.slot < put.slot) (take place list)) same c.count_below-place.ensures.below)
-    (subst (λ (list : List Put). All (λ (p : Put). put.slot ≤ p.slot) (drop place list)) same c.count_below-place.ensures.from) apart
+    ∙ with_newest-insert put held place d (omega (arith, count, c.count_below-place.ensures.most)) (rw same at c.count_below-place.ensures.below)
+    (rw same at c.count_below-place.ensures.from) apart
 
 pub invariant_of-self : goal.invariant_of-self
 invariant_of-self c = (
   c.self.invariant.0,
-  subst (λ (list : List Put). IsTrue (slots_rise_from 0 list)) (sym (replaced c))
-      (rise-with_newest c.args.put.now 0 c.self.inside.puts.items (omega arith) c.requires.slot c.self.invariant.1),
+  rw replaced (rise-with_newest c.args.put.now 0 c.self.inside.puts.items (omega arith) c.requires.slot c.self.invariant.1),
 )
 
 pub invariant_of-self-else-place-len : goal.invariant_of-self-else-place-len
 invariant_of-self-else-place-len c = (
   omega (arith, c.self.invariant.0, c.insert.ensures.capacity),
-  subst (λ (list : List Put). IsTrue (slots_rise_from 0 list)) (sym (inserted c))
-      (rise-with_newest c.args.put.now 0 c.self.inside.puts.items (omega arith) c.requires.slot c.self.invariant.1),
+  rw inserted (rise-with_newest c.args.put.now 0 c.self.inside.puts.items (omega arith) c.requires.slot c.self.invariant.1),
 )
 
 pub returns-then-index-put-clause-kept : goal.returns-then-index-put-clause-kept
