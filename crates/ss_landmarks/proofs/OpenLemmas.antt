@@ -1,5 +1,5 @@
 -- Which landmark is open after an opening, a value and a closing.
-use Rattle.std.proofs.Common.{◌≡◌, ◌∙◌, sym, ap, subst, refl, ℕ, ◌+◌, true, List, [], ◌∷◌, ◌++◌, Option, Some, None, IsNone, MatchOption, is_none, inl, inr}
+use Rattle.std.proofs.Common.{◌≡◌, ◌∙◌, sym, ap, refl, ℕ, ◌+◌, true, List, [], ◌∷◌, ◌++◌, Some, None, IsNone, MatchOption, is_none, inl, inr}
 use Rattle.std.proofs.lemmas.Bool.{both_ways, cond-true, cond-false}
 use Rattle.ss_landmarks.specs.Landmark.{Landmark, LandmarkValue, opened_at, with_value, closed_at, change_last, open_landmark}
 use Rattle.ss_landmarks.specs.Order.{FollowFrom}
@@ -16,19 +16,19 @@ module _ (l : Landmark) (ls : List Landmark) where
 
   -- what follows a landmark
   last-open : l.finish ≡ None → MatchOption l.finish (ls ≡ []) (λ t. FollowFrom (t + 1) ls) → ls ≡ []
-  last-open none follow = subst (λ (f : Option ℕ). MatchOption f (ls ≡ []) (λ t. FollowFrom (t + 1) ls)) none follow
+  last-open none follow = rw none at follow
 
   follow-closed : (t : ℕ) → l.finish ≡ Some t → MatchOption l.finish (ls ≡ []) (λ t. FollowFrom (t + 1) ls) → FollowFrom (t + 1) ls
-  follow-closed t some follow = subst (λ (f : Option ℕ). MatchOption f (ls ≡ []) (λ t. FollowFrom (t + 1) ls)) some follow
+  follow-closed t some follow = rw some at follow
 
 pub open_landmark-open : (ls : List Landmark) (t : ℕ) → IsNone (open_landmark ls) → open_landmark (ls ++ opened_at t ∷ []) ≡ Some (opened_at t)
 open_landmark-open [] t none = refl
 open_landmark-open (l ∷ ls) t none =
     elim (cases-finish l.finish) [
-      | inl begun ↦ absurd (both_ways true (subst IsNone (open_landmark-first l ls begun) none) refl)
+      | inl begun ↦ absurd (both_ways true (rw open_landmark-first at none) refl)
       | inr some ↦ (
           open_landmark-later l (ls ++ opened_at t ∷ []) some.0 some.1
-          ∙ open_landmark-open ls t (subst IsNone (open_landmark-later l ls some.0 some.1) none))
+          ∙ open_landmark-open ls t (rw (open_landmark-later l ls some.0 some.1) at none))
     ]
 
 pub open_landmark-take : (from : ℕ) (ls : List Landmark) (value : LandmarkValue) (l : Landmark) → FollowFrom from ls → open_landmark ls ≡ Some l
@@ -57,6 +57,6 @@ open_landmark-close from (x ∷ []) t follow = refl
 open_landmark-close from (x ∷ next ∷ ls) t follow =
     elim (cases-finish x.finish) [
       | inl begun ↦ (let last : next ∷ ls ≡ [] = last-open x (next ∷ ls) begun follow.2 in cc)
-      | inr some ↦ subst IsNone (sym (open_landmark-later x (change_last (closed_at t) (next ∷ ls)) some.0 some.1))
+      | inr some ↦ rw (open_landmark-later x (change_last (closed_at t) (next ∷ ls)) some.0 some.1)
           (open_landmark-close (some.0 + 1) (next ∷ ls) t (follow-closed x (next ∷ ls) some.0 some.1 follow.2))
     ]

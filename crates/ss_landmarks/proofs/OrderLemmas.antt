@@ -1,6 +1,5 @@
 -- Landmarks in order of time: what an opening, a value and a closing leave of the order, and that all values rise.
-use Rattle.std.proofs.Common.{◌≡◌, ◌∙◌, sym, ap, subst, refl, ℕ, ◌+◌, ◌<◌, ◌≤◌, List, [], ◌∷◌, ◌++◌, Option, Some, None, IfSome, MatchOption, is_none}
-use Rattle.std.proofs.Common.{◌⊎◌, inl, inr, arith}
+use Rattle.std.proofs.Common.{◌≡◌, ◌∙◌, ap, refl, ℕ, ◌+◌, ◌<◌, ◌≤◌, List, [], ◌∷◌, ◌++◌, Option, Some, None, MatchOption, is_none, ◌⊎◌, inl, inr, arith}
 use Rattle.std.specs.Prelude.{FitsSigned}
 use Rattle.std.specs.Int.{w64}
 use Rattle.std.specs.List.{All}
@@ -42,12 +41,12 @@ RiseFrom-all_values from (l ∷ ls) follow =
     let own = follow.1.values in
     elim (cases-finish l.finish) [
       | inl none ↦ (
-          let last : ls ≡ [] = subst (λ (f : Option ℕ). MatchOption f (ls ≡ []) (λ t. FollowFrom (t + 1) ls)) none follow.2 in
+          let last : ls ≡ [] = rw none at follow.2 in
           let whole : l.values ++ all_values ls ≡ l.values = ap (λ (rest : List Landmark). l.values ++ all_values rest) last ∙ append-nil l.values in
-          subst (RiseFrom from) (sym whole) (RiseFrom-earlier l.start from l.values follow.0 own))
+          rw whole (RiseFrom-earlier l.start from l.values follow.0 own))
       | inr some ↦ (
-          let later = subst (λ (f : Option ℕ). MatchOption f (ls ≡ []) (λ t. FollowFrom (t + 1) ls)) some.1 follow.2 in
-          let ends = subst (λ (f : Option ℕ). IfSome f (λ t. (l.start ≤ t) × (t ≤ LATEST_TIME) × All (λ value. value.t ≤ t) l.values)) some.1 follow.1.finish in
+          let later = rw some.1 at follow.2 in
+          let ends = rw some.1 at follow.1.finish in
           RiseFrom-earlier l.start from (l.values ++ all_values ls) follow.0
           (RiseFrom-append l.start some.0 l.values (all_values ls) own (omega (arith, ends.0)) ends.2 (RiseFrom-all_values (some.0 + 1) ls later)))
     ]
@@ -61,14 +60,13 @@ FollowFrom-open from t (l ∷ ls) follow can low early =
     let closed = can 0 l (omega arith) in
     let rest = All-tail (IsClosedBefore t) l ls can in
     elim (cases-finish l.finish) [
-      | inl none ↦ absurd (subst (λ (f : Option ℕ). MatchOption f ⊥ (λ finish. finish < t)) none closed)
+      | inl none ↦ absurd (rw none at closed)
       | inr some ↦ (
-          let past = subst (λ (f : Option ℕ). MatchOption f ⊥ (λ finish. finish < t)) some.1 closed in
-          let later = subst (λ (f : Option ℕ). MatchOption f (ls ≡ []) (λ t. FollowFrom (t + 1) ls)) some.1 follow.2 in (
+          let past = rw some.1 at closed in
+          let later = rw some.1 at follow.2 in (
             follow.0,
             follow.1,
-            subst (λ (f : Option ℕ). MatchOption f (ls ++ opened_at t ∷ [] ≡ []) (λ e. FollowFrom (e + 1) (ls ++ opened_at t ∷ []))) (sym some.1)
-                (FollowFrom-open (some.0 + 1) t ls later rest (omega (arith, past)) early),
+            rw some.1 (FollowFrom-open (some.0 + 1) t ls later rest (omega (arith, past)) early),
           ))
     ]
 
@@ -76,10 +74,10 @@ FollowFrom-open from t (l ∷ ls) follow can low early =
 
 module _ (P : Landmark → Type 0) (l : Landmark) (ls : List Landmark) where
   open-here : l.finish ≡ None → MatchOption (open_landmark (l ∷ ls)) ⊥ P → P l
-  open-here none is = subst (λ (o : Option Landmark). MatchOption o ⊥ P) (cond-true (is_none l.finish) (Some l) (open_landmark ls) (ap is_none none)) is
+  open-here none is = rw (cond-true (is_none l.finish) (Some l) (open_landmark ls) (ap is_none none)) at is
 
   open-later : (t : ℕ) → l.finish ≡ Some t → MatchOption (open_landmark (l ∷ ls)) ⊥ P → MatchOption (open_landmark ls) ⊥ P
-  open-later t some is = subst (λ (o : Option Landmark). MatchOption o ⊥ P) (cond-false (is_none l.finish) (Some l) (open_landmark ls) (ap is_none some)) is
+  open-later t some is = rw (cond-false (is_none l.finish) (Some l) (open_landmark ls) (ap is_none some)) at is
 
 -- a change of the open landmark that leaves its opening
 module _ (P : Landmark → Type 0) (change : Landmark → Landmark)
@@ -98,15 +96,13 @@ module _ (P : Landmark → Type 0) (change : Landmark → Landmark)
       ]
   FollowFrom-change from (l ∷ next ∷ ls) follow is =
       elim (cases-finish l.finish) [
-        | inl none ↦ (let last : next ∷ ls ≡ [] = subst (λ (f : Option ℕ). MatchOption f (next ∷ ls ≡ []) (λ t. FollowFrom (t + 1) (next ∷ ls))) none
-            follow.2 in cc)
+        | inl none ↦ (let last : next ∷ ls ≡ [] = rw none at follow.2 in cc)
         | inr some ↦ (
-            let later = subst (λ (f : Option ℕ). MatchOption f (next ∷ ls ≡ []) (λ t. FollowFrom (t + 1) (next ∷ ls))) some.1 follow.2 in
+            let later = rw some.1 at follow.2 in
             let rest = change_last change (next ∷ ls) in (
               follow.0,
               follow.1,
-              subst (λ (f : Option ℕ). MatchOption f (rest ≡ []) (λ t. FollowFrom (t + 1) rest)) (sym some.1)
-                  (FollowFrom-change (some.0 + 1) (next ∷ ls) later (open-later P l (next ∷ ls) some.0 some.1 is)),
+              rw some.1 (FollowFrom-change (some.0 + 1) (next ∷ ls) later (open-later P l (next ∷ ls) some.0 some.1 is)),
             ))
       ]
 
@@ -117,7 +113,7 @@ AreLandmarks-take ls value order can early fits =
     (λ l is none after. record {
       start = is.start;
       values = RiseFrom_push l.start l.values value is.values after.0 after.1 early fits;
-      finish = subst (λ (f : Option ℕ). IfSome f (λ t. (l.start ≤ t) × (t ≤ LATEST_TIME) × All (λ x. x.t ≤ t) (l.values ++ value ∷ []))) (sym none) tt;
+      finish = rw none tt;
     })
     (λ l. refl) 0 ls order can
 

@@ -1,5 +1,5 @@
 -- The newest of the values that are held, those at places, and those of a range of time.
-use Rattle.std.proofs.Common.{◌≡◌, ◌∙◌, sym, ap, subst, refl, ℕ, ◌+◌, ◌-◌, ◌<◌, ◌≤◌, ℤ, List, [], ◌∷◌, length, map, slice_get, get_or, take, drop, arith}
+use Rattle.std.proofs.Common.{◌≡◌, ◌∙◌, sym, ap, refl, ℕ, ◌+◌, ◌-◌, ◌<◌, ◌≤◌, ℤ, List, [], ◌∷◌, length, map, slice_get, get_or, take, drop, arith}
 use Rattle.std.proofs.Common.{Option, Some, None}
 use Rattle.std.specs.Prelude.{FitsSigned, option_map}
 use Rattle.std.specs.Int.{w64}
@@ -41,12 +41,12 @@ module _ (cs : List Closed) (current : Option Opened) (values : List StoredValue
   length-seen = ap length all_values-seen ∙ length-map values bare_value
 
   pub stored-rises : RiseFrom 0 (map bare_value values)
-  stored-rises = subst (RiseFrom 0) all_values-seen (RiseFrom-all_values 0 _ stored.order)
+  stored-rises = rw all_values-seen at (RiseFrom-all_values 0 _ stored.order)
 
   fits-at : (place : ℕ) (value : StoredValue) → place < length values → slice_get values place ≡ Some value → FitsSigned w64 value.v
   fits-at place value below is =
       let here : get_or values place value ≡ value = get_or_from_slice_get values place value value is in
-      subst (λ (held : StoredValue). FitsSigned w64 held.v) here (stored-fit values stored-rises place value below)
+      rw here at (stored-fit values stored-rises place value below)
 
   -- the value that is seen at a place
   pub slice_get-seen : (place : ℕ) (value : StoredValue) → place < length values → slice_get values place ≡ Some value

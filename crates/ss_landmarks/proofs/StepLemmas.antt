@@ -1,9 +1,7 @@
 -- Landmarks as they are held: that they stay so where one is opened, takes a value and is closed, and what is read of them.
-use Rattle.std.proofs.Common.{◌≡◌, ◌∙◌, sym, ap, subst, refl, ℕ, ◌+◌, ◌-◌, ◌<◌, ◌≤◌, List, [], ◌∷◌, ◌++◌, length, Option, Some, None, MatchOption}
-use Rattle.std.proofs.Common.{arith, get_or, map}
+use Rattle.std.proofs.Common.{◌≡◌, ◌∙◌, sym, ap, refl, ℕ, ◌+◌, ◌-◌, ◌≤◌, List, [], ◌∷◌, ◌++◌, length, Option, Some, None, arith, get_or, map}
 use Rattle.std.specs.Prelude.{FitsSigned, slice_index}
 use Rattle.std.specs.Int.{w64}
-use Rattle.std.specs.List.{All}
 use Rattle.std.specs.Option.{option_map}
 use Rattle.std.proofs.lemmas.List.{append-nil, length-drop, length-map, map_push, get_or_push, length_push}
 use Rattle.std.proofs.lemmas.List.Elements.{All-push}
@@ -45,7 +43,7 @@ pub AreStored-open : (cs : List Closed) (o : Opened) (values : List LandmarkValu
     → o.free_before ≡ free_before (landmarks_from cs None []) o.start → AreStored cs (Some o) values
 AreStored-open cs o values stored can early count free =
     let order : AreLandmarks (landmarks_from cs (Some o) values) =
-    subst AreLandmarks (sym (landmarks_from-open cs o values stored.shared)) (FollowFrom-open 0 o.start _ stored.order can (omega arith) early) in
+    rw (landmarks_from-open cs o values stored.shared) (FollowFrom-open 0 o.start _ stored.order can (omega arith) early) in
     record {
       order = order;
       shared = (count ∙ sym stored.shared, omega (arith, stored.shared));
@@ -58,14 +56,13 @@ slots_of-open cs o = ap (λ (slots : List ℕ). slots ++ o.slot ∷ []) (sym (ap
 -- ---- a value
 
 pub CanTake-none : (t : ℕ) (cs : List Closed) (values : List LandmarkValue) → CanTake (landmarks_from cs None values) t → ⊥
-CanTake-none t cs values can =
-    subst (λ (o : Option Landmark). MatchOption o ⊥ (λ l. (l.start ≤ t) × All (λ value. value.t < t) l.values)) (open_landmark-none cs values) can
+CanTake-none t cs values can = rw open_landmark-none at can
 
 pub AreStored-take : (cs : List Closed) (current : Option Opened) (values : List LandmarkValue) (value : LandmarkValue) → AreStored cs current values
     → CanTake (landmarks_from cs current values) value.t → value.t ≤ LATEST_TIME → FitsSigned w64 value.v → AreStored cs current (values ++ value ∷ [])
 AreStored-take cs None values value stored can early fits = absurd (CanTake-none value.t cs values can)
 AreStored-take cs (Some o) values value stored can early fits = record {
-  order = subst AreLandmarks (sym (landmarks_from-take cs o values value stored.shared.1)) (AreLandmarks-take _ value stored.order can early fits);
+  order = rw (landmarks_from-take cs o values value stored.shared.1) (AreLandmarks-take _ value stored.order can early fits);
   shared = (stored.shared.0, omega (arith, stored.shared.1, length_push values value));
   know = stored.know;
 }
@@ -79,8 +76,7 @@ landmarks_of_push cs (Some o) values value stored can = landmarks_from-take cs o
 -- ---- a closing
 
 pub CanClose-none : (t : ℕ) (cs : List Closed) (values : List LandmarkValue) → CanClose (landmarks_from cs None values) t → ⊥
-CanClose-none t cs values can =
-    subst (λ (o : Option Landmark). MatchOption o ⊥ (λ l. (l.start ≤ t) × All (λ value. value.t ≤ t) l.values)) (open_landmark-none cs values) can
+CanClose-none t cs values can = rw open_landmark-none at can
 
 module _ (cs : List Closed) (o : Opened) (new : Closed) (starts : new.start ≡ o.start) where
   KnowFree-close : KnowFree cs (Some o) → Apart 0 (cs ++ new ∷ []) None → new.free_before ≡ o.free_before → KnowFree (cs ++ new ∷ []) None
@@ -101,7 +97,7 @@ module _ (cs : List Closed) (o : Opened) (new : Closed) (starts : new.start ≡ 
       → AreStored (cs ++ new ∷ []) None values
   AreStored-close values stored all can early free =
       let order : AreLandmarks (landmarks_from (cs ++ new ∷ []) None values) =
-      subst AreLandmarks (sym (landmarks_from-close o new starts cs values all)) (AreLandmarks-close _ new.finish stored.order can early) in
+      rw (landmarks_from-close o new starts cs values all) (AreLandmarks-close _ new.finish stored.order can early) in
       record {
         order = order;
         shared = omega (arith, all, sum_by_push (λ (c : Closed). c.values) cs new);

@@ -1,5 +1,5 @@
 -- Landmarks none of whose times is after another, and the values of landmarks that change.
-use Rattle.std.proofs.Common.{◌≡◌, ◌∙◌, sym, ap, subst, refl, ℕ, ◌+◌, ◌-◌, ◌<◌, ◌≤◌, true, false, List, [], ◌∷◌, ◌++◌, length, Option, Some, None}
+use Rattle.std.proofs.Common.{◌≡◌, ◌∙◌, sym, ap, refl, ℕ, ◌+◌, ◌-◌, ◌<◌, ◌≤◌, true, false, List, [], ◌∷◌, ◌++◌, length, Option, Some, None}
 use Rattle.std.proofs.Common.{IfSome, IsSome, IsNone, MatchOption, is_none, inl, inr, arith, get_or}
 use Rattle.std.specs.List.{All}
 use Rattle.std.proofs.lemmas.Bool.{both_ways, cond-true, cond-false}
@@ -19,12 +19,11 @@ CanOpen-after [] last t ends none lt = λ k d below. absurd (omega arith)
 CanOpen-after (l ∷ ls) last t ends none lt =
     elim (cases-finish l.finish) [
       | inl begun ↦ absurd (let is : open_landmark (l ∷ ls) ≡ Some l = cond-true (is_none l.finish) (Some l) (open_landmark ls) (ap is_none begun) in
-          both_ways true (subst IsNone is none) refl)
+          both_ways true (rw is at none) refl)
       | inr some ↦ (
           let is : open_landmark (l ∷ ls) ≡ open_landmark ls = cond-false (is_none l.finish) (Some l) (open_landmark ls) (ap is_none some.1) in
-          let by : some.0 ≤ last = subst (λ (f : Option ℕ). IfSome f (λ finish. finish ≤ last)) some.1 (ends 0 l (omega arith)).1 in
-          All-cons (IsClosedBefore t) l ls (subst (λ (f : Option ℕ). MatchOption f ⊥ (λ finish. finish < t)) (sym some.1) (omega (arith, by)))
-          (CanOpen-after ls last t (All-tail (EndsBy last) l ls ends) (subst IsNone is none) lt))
+          let by : some.0 ≤ last = rw some.1 at (ends 0 l (omega arith)).1 in
+          All-cons (IsClosedBefore t) l ls (rw some.1 (omega (arith, by))) (CanOpen-after ls last t (All-tail (EndsBy last) l ls ends) (rw is at none) lt))
     ]
 
 -- what holds of each holds of the open one
@@ -35,10 +34,10 @@ open-from_all P Q weaker (l ∷ ls) all some =
     elim (cases-finish l.finish) [
       | inl begun ↦ (
           let is : open_landmark (l ∷ ls) ≡ Some l = cond-true (is_none l.finish) (Some l) (open_landmark ls) (ap is_none begun) in
-          subst (λ (o : Option Landmark). MatchOption o ⊥ Q) (sym is) (weaker l (all 0 l (omega arith))))
+          rw is (weaker l (all 0 l (omega arith))))
       | inr closed ↦ (
           let is : open_landmark (l ∷ ls) ≡ open_landmark ls = cond-false (is_none l.finish) (Some l) (open_landmark ls) (ap is_none closed.1) in
-          subst (λ (o : Option Landmark). MatchOption o ⊥ Q) (sym is) (open-from_all P Q weaker ls (All-tail P l ls all) (subst IsSome is some)))
+          rw is (open-from_all P Q weaker ls (All-tail P l ls all) (rw is at some)))
     ]
 
 pub CanTake-after : (ls : List Landmark) (last t : ℕ) → AllEndBy last ls → IsSome (open_landmark ls) → last < t → CanTake ls t

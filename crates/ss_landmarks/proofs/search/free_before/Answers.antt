@@ -1,4 +1,4 @@
-use Rattle.std.proofs.Common.{arith, ◌≡◌, ◌≤◌, ◌-◌, ◌∙◌, sym, ap, IfSome, [], Option, ltb, ltb-true, get_or, rules, subst, ℕ, ◌<◌, length}
+use Rattle.std.proofs.Common.{arith, ◌≤◌, ◌-◌, ◌∙◌, sym, ap, IfSome, [], Option, ltb, ltb-true, get_or, rules, ◌<◌, length}
 use Rattle.std.proofs.lemmas.Bool.{ltb-false}
 use Rattle.std.proofs.lemmas.List.Sorted.{IsPartitionPoint-from_clause, IsPartitionedBy-ltb}
 use Rattle.ss_landmarks.specs.declared.stored.Closed.{Closed}
@@ -14,8 +14,7 @@ pub returns-then-opened-t : goal.returns-then-opened-t
 returns-then-opened-t c =
     let cs = c.args.closed.now in
     let o = c.in-Some.opened in
-    let known = subst (λ (current : Option Opened). IfSome current (λ o. o.free_before ≡ free_before (landmarks_from cs current []) o.start))
-    c.in-Some.is c.requires.opened in
+    let known = rw c.in-Some.is at c.requires.opened in
     known ∙ sym (free_before-open cs o [] c.args.t c.if-opened-t.true) ∙
     ap (λ (current : Option Opened). free_before (landmarks_from cs current []) c.args.t) (sym c.in-Some.is)
 
@@ -30,9 +29,8 @@ returns-then-begun-eq0 c =
     c.partition_point-begun.ensures.partitioned
     (IsPartitionedBy-ltb (λ (x : Closed). x.start) cs c.args.t (Apart-rises 0 cs c.args.current.now apart)) (λ x r q k. search rules) in
     let later : IfSome c.args.current.now (λ o. c.args.t ≤ o.start) = elim c.match-current.branch [
-      | in-Some+else-opened-t w ↦ subst (λ (current : Option Opened). IfSome current (λ o. c.args.t ≤ o.start)) (sym w.in-Some.is)
-          (omega (arith, w.if-opened-t.false))
-      | in_default w ↦ subst (λ (current : Option Opened). IfSome current (λ o. c.args.t ≤ o.start)) (sym w.in_default.is) tt
+      | in-Some+else-opened-t w ↦ rw w.in-Some.is (omega (arith, w.if-opened-t.false))
+      | in_default w ↦ rw w.in_default.is tt
     ] in
     sym (free_before-none cs c.args.current.now [] c.args.t (λ k d lt. ltb-false _ _ (point.1 k d (omega arith) lt)) later)
 
@@ -58,7 +56,7 @@ overflow_add-result c =
     let begun : (get_or cs i nothing).start < c.args.t = ltb-true _ _ (point.0 i nothing (omega arith) (omega (arith, c.if-begun-eq0.false))) in
     let test = is_free (landmarks_from cs c.args.current.now []) in
     let few : (get_or cs i nothing).free_before ≤ (get_or cs i nothing).start =
-    subst (λ (n : ℕ). n ≤ (get_or cs i nothing).start) (sym (c.requires.closed i nothing below)) (among-le test 0 (get_or cs i nothing).start) in
+    rw (c.requires.closed i nothing below) (among-le test 0 (get_or cs i nothing).start) in
     omega (arith, few, begun, (apart.ends i nothing below).0, c.saturating_sub.ensures, c.ranges.t)
 
 pub returns : goal.returns
@@ -73,9 +71,8 @@ returns c =
     let below : i < length cs = omega (arith, c.if-begun-eq0.false, c.partition_point-begun.ensures.bound) in
     let begun : (get_or cs i nothing).start < c.args.t = ltb-true _ _ (point.0 i nothing (omega arith) (omega (arith, c.if-begun-eq0.false))) in
     let later : IfSome c.args.current.now (λ o. c.args.t ≤ o.start) = elim c.match-current.branch [
-      | in-Some+else-opened-t w ↦ subst (λ (current : Option Opened). IfSome current (λ o. c.args.t ≤ o.start)) (sym w.in-Some.is)
-          (omega (arith, w.if-opened-t.false))
-      | in_default w ↦ subst (λ (current : Option Opened). IfSome current (λ o. c.args.t ≤ o.start)) (sym w.in_default.is) tt
+      | in-Some+else-opened-t w ↦ rw w.in-Some.is (omega (arith, w.if-opened-t.false))
+      | in_default w ↦ rw w.in_default.is tt
     ] in
     let known = c.requires.closed i nothing below in
     let found = free_before-last cs c.args.current.now [] c.args.t 0 apart i nothing below

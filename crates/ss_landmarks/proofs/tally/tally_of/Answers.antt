@@ -1,4 +1,4 @@
-use Rattle.std.proofs.Common.{arith, ◌≡◌, ◌∙◌, ap, sym, subst, ◌*◌, ◌^◌, neg_ℤ, ◌≤ℤ◌, ℤ, ◌<◌, length, ◌+◌, ◌+ℤ◌, ◌++◌, ◌∷◌, [], Some, get_or, take, map, pos}
+use Rattle.std.proofs.Common.{arith, ◌≡◌, ◌∙◌, ap, sym, ℤ, ◌<◌, length, ◌+◌, ◌+ℤ◌, ◌++◌, ◌∷◌, [], Some, get_or, take, map, pos}
 use Rattle.std.specs.Prelude.{FitsSigned}
 use Rattle.std.specs.Int.{w64, w128}
 use Rattle.std.proofs.lemmas.Int.{ints, to_z-of_z}
@@ -43,8 +43,8 @@ loop-value-preserved c =
     record {
       count = omega arith;
       sum = whole ∙ ap (λ (x : ℤ). x +ℤ v) c.loop-value.invariant.sum ∙ sym sum;
-      low = subst (λ (x : ℤ). neg_ℤ (pos (2 ^ 63 * (i + 1))) ≤ℤ x) (sym whole) (sum_low i before v c.loop-value.invariant.low c.loop-value.invariant.high fits);
-      high = subst (λ (x : ℤ). x ≤ℤ pos (2 ^ 63 * (i + 1))) (sym whole) (sum_high i before v c.loop-value.invariant.low c.loop-value.invariant.high fits);
+      low = rw whole (sum_low i before v c.loop-value.invariant.low c.loop-value.invariant.high fits);
+      high = rw whole (sum_high i before v c.loop-value.invariant.low c.loop-value.invariant.high fits);
       least = ap Some (to_z-of_z w64 c.lesser.result (omega (arith, ints)) ∙ lesser_is) ∙ sym least_more;
       greatest = ap Some (to_z-of_z w64 c.greater.result (omega (arith, ints)) ∙ greater_is) ∙ sym greatest_more;
     }

@@ -1,10 +1,9 @@
-use Rattle.std.proofs.Common.{◌≡◌, ◌∙◌, ap, sym, subst, refl, ◌-◌, ◌+◌, List, [], ◌∷◌, ◌++◌, length, map, is_ok, Option, None, arith}
+use Rattle.std.proofs.Common.{◌≡◌, ◌∙◌, ap, sym, refl, ◌-◌, ◌+◌, List, [], ◌∷◌, ◌++◌, length, map, is_ok, Option, None, arith}
 use Rattle.std.proofs.lemmas.Bool.{cond-true}
 use Rattle.std.proofs.lemmas.List.{length-map, length_push}
 use Rattle.ss_landmarks.specs.Landmark.{closed_at, change_last}
 use Rattle.ss_landmarks.specs.Landmarks.{LandmarksState}
-use Rattle.ss_landmarks.specs.Order.{CanClose}
-use Rattle.ss_landmarks.specs.Stored.{bare_value, landmarks_from, slots_of, closed_values, one_open, AreStored}
+use Rattle.ss_landmarks.specs.Stored.{bare_value, landmarks_from, slots_of, closed_values, one_open}
 use Rattle.ss_landmarks.specs.declared.stored.Closed.{Closed}
 use Rattle.ss_landmarks.specs.declared.stored.Opened.{Opened}
 use Rattle.ss_landmarks.proofs.HeldLemmas.{landmarks_from-close}
@@ -18,13 +17,12 @@ invariant_of-self c =
     let o = c.in-Some.opened in
     let values = map bare_value held.values.items in
     let new : Closed = record { start = o.start; finish = c.args.t; slot = o.slot; values = c.len.result - o.values_before; free_before = o.free_before } in
-    let stored = subst (λ (current : Option Opened). AreStored cs current values) c.in-Some.is c.self.invariant.0 in
-    let can = subst (λ (current : Option Opened). CanClose (landmarks_from cs current values) c.args.t) c.in-Some.is
-    (subst (λ (state : LandmarksState). CanClose state.landmarks c.args.t) (sym c.self.view_is) c.requires.after) in
+    let stored = rw c.in-Some.is at c.self.invariant.0 in
+    let can = rw (← c.self.view_is, c.in-Some.is) at c.requires.after in
     let pushed : c.push.new.self.items ≡ cs ++ new ∷ [] = c.push.ensures.items ∙ cond-true (is_ok c.push.result) _ _ (ap is_ok c.unwrap.ensures) in
     let all : closed_values cs + new.values ≡ length values =
     omega (arith, stored.shared.0, stored.shared.1, c.len.ensures, length-map held.values.items bare_value) in (
-      subst (λ (closed : List Closed). AreStored closed None values) (sym pushed) (AreStored-close cs o new refl values stored all can c.requires.time refl),
+      rw pushed (AreStored-close cs o new refl values stored all can c.requires.time refl),
       record {
         fits = omega (arith, ap length pushed, length_push cs new, c.self.invariant.1.fits, ap one_open c.in-Some.is, c.push.ensures.capacity);
         most = omega (arith, ap length pushed, length_push cs new, c.self.invariant.1.most, ap one_open c.in-Some.is);
@@ -39,7 +37,7 @@ returns-in-Some-clause-landmarks c =
     let o = c.in-Some.opened in
     let values = map bare_value held.values.items in
     let new : Closed = record { start = o.start; finish = c.args.t; slot = o.slot; values = c.len.result - o.values_before; free_before = o.free_before } in
-    let stored = subst (λ (current : Option Opened). AreStored cs current values) c.in-Some.is c.self.invariant.0 in
+    let stored = rw c.in-Some.is at c.self.invariant.0 in
     let pushed : c.push.new.self.items ≡ cs ++ new ∷ [] = c.push.ensures.items ∙ cond-true (is_ok c.push.result) _ _ (ap is_ok c.unwrap.ensures) in
     let all : closed_values cs + new.values ≡ length values =
     omega (arith, stored.shared.0, stored.shared.1, c.len.ensures, length-map held.values.items bare_value) in
@@ -63,6 +61,4 @@ returns-in-Some-clause-slots c =
 pub returns-in_default-clause-landmarks : goal.returns-in_default-clause-landmarks
 returns-in_default-clause-landmarks c =
     absurd (CanClose-none c.args.t c.self.inside.closed.items (map bare_value c.self.inside.values.items)
-    (subst (λ (current : Option Opened). CanClose (landmarks_from c.self.inside.closed.items current (map bare_value c.self.inside.values.items))
-    c.args.t) c.in_default.is
-    (subst (λ (state : LandmarksState). CanClose state.landmarks c.args.t) (sym c.self.view_is) c.requires.after)))
+    (rw (← c.self.view_is, c.in_default.is) at c.requires.after))

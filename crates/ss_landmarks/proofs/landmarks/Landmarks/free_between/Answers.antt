@@ -1,8 +1,8 @@
-use Rattle.std.proofs.Common.{◌≡◌, ◌∙◌, ap, sym, subst, Bool, ℕ, ◌+◌, ◌-◌, ◌≤◌, List, [], map, arith}
+use Rattle.std.proofs.Common.{◌≡◌, ◌∙◌, ap, sym, Bool, ℕ, ◌+◌, ◌-◌, ◌≤◌, List, [], map, arith}
 use Rattle.std.specs.List.{range_with_len, count_by}
 use Rattle.ss_landmarks.specs.Free.{is_free, free}
 use Rattle.ss_landmarks.specs.Landmarks.{LandmarksState}
-use Rattle.ss_landmarks.specs.Stored.{bare_value, landmarks_from, free_before, KnowFree}
+use Rattle.ss_landmarks.specs.Stored.{bare_value, landmarks_from, free_before}
 use Rattle.ss_landmarks.specs.declared.stored.Closed.{Closed}
 use Rattle.ss_landmarks.proofs.Counting.{among, among-add, among-same}
 use Rattle.ss_landmarks.proofs.HeldLemmas.{is_free-values}
@@ -14,12 +14,10 @@ returns-then-p-q c =
     sym (ap (λ (n : ℕ). count_by (is_free c.args.self.now.landmarks) (range_with_len c.args.p n)) none)
 
 pub free_before-requires : goal.free_before-requires
-free_before-requires c =
-    subst (λ (cs : List Closed). KnowFree cs c.self.inside.current) (sym c.deref.ensures.value) c.self.invariant.0.know
+free_before-requires c = rw c.deref.ensures.value c.self.invariant.0.know
 
 pub free_before-requires-2 : goal.free_before-requires-2
-free_before-requires-2 c =
-    subst (λ (cs : List Closed). KnowFree cs c.self.inside.current) (sym c.deref-2.ensures.value) c.self.invariant.0.know
+free_before-requires-2 c = rw c.deref-2.ensures.value c.self.invariant.0.know
 
 -- a range and what is before it
 split : (test : ℕ → Bool) (p q : ℕ) → p ≤ q → among test 0 (q + 1) ≡ among test 0 p + among test p (q + 1 - p)

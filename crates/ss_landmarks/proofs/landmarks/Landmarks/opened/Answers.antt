@@ -1,9 +1,9 @@
-use Rattle.std.proofs.Common.{◌≡◌, ◌∙◌, ap, sym, subst, refl, ℕ, ◌-◌, length, map, Option, Some, None, arith}
+use Rattle.std.proofs.Common.{◌≡◌, ◌∙◌, ap, sym, refl, ℕ, ◌-◌, length, map, Option, Some, None, arith}
 use Rattle.std.proofs.lemmas.List.{length-map}
 use Rattle.std.specs.Option.{is_some, option_map}
 use Rattle.ss_landmarks.specs.Landmark.{Landmark, open_landmark}
 use Rattle.ss_landmarks.specs.Landmarks.{opened}
-use Rattle.ss_landmarks.specs.Stored.{bare_value, AreShared, landmarks_from, slots_of, closed_values}
+use Rattle.ss_landmarks.specs.Stored.{bare_value, landmarks_from, slots_of, closed_values}
 use Rattle.ss_landmarks.specs.declared.stored.Opened.{Opened}
 use Rattle.ss_landmarks.specs.declared.stored.StoredValue.{StoredValue}
 use Rattle.ss_landmarks.proofs.StepLemmas.{opened-none, opened-some}
@@ -31,7 +31,7 @@ returns-in-Some-clause-value c =
     let cs = held.closed.items in
     let o = c.in-Some.opened in
     let values = map bare_value held.values.items in
-    let shared = subst (λ (current : Option Opened). AreShared cs current values) c.in-Some.is c.self.invariant.0.shared in
+    let shared = rw c.in-Some.is at c.self.invariant.0.shared in
     let count : c.len.result - o.values_before ≡ length values - closed_values cs =
     omega (arith, shared.0, c.len.ensures, length-map held.values.items bare_value) in
     ap (λ (n : ℕ). Some (o.start, o.slot, n)) count

@@ -1,10 +1,8 @@
-use Rattle.std.proofs.Common.{ap, sym, subst, List, length, map, arith}
+use Rattle.std.proofs.Common.{ap, length, map, arith}
 use Rattle.std.proofs.lemmas.List.{length-map}
 use Rattle.ss_landmarks.specs.Landmarks.{LandmarksState}
 use Rattle.ss_landmarks.specs.Landmark.{all_values}
 use Rattle.ss_landmarks.specs.Stored.{bare_value, AreStored}
-use Rattle.ss_landmarks.specs.declared.stored.Closed.{Closed}
-use Rattle.ss_landmarks.specs.declared.stored.StoredValue.{StoredValue}
 use Rattle.ss_landmarks.proofs.HeldLemmas.{length-landmarks_from, all_values-landmarks_from}
 use Rattle.ss_landmarks.proofs.landmarks.Landmarks.reserve.Goals as goal
 
@@ -14,8 +12,7 @@ invariant_of-self-2 c =
     let values = map bare_value held.values.items in
     let stored = c.self.invariant.0 in
     let kept : AreStored c.reserve.new.self.items held.current (map bare_value c.reserve-2.new.self.items) =
-    subst (λ (all : List StoredValue). AreStored c.reserve.new.self.items held.current (map bare_value all)) (sym c.reserve-2.ensures.items)
-    (subst (λ (closed : List Closed). AreStored closed held.current values) (sym c.reserve.ensures.items) stored) in
+    rw (c.reserve-2.ensures.items, c.reserve.ensures.items) stored in
     let count = ap (λ (state : LandmarksState). length state.landmarks) c.self.view_is in
     let value_count = ap (λ (state : LandmarksState). length (all_values state.landmarks)) c.self.view_is in
     let all = ap length (all_values-landmarks_from held.closed.items held.current values stored.shared) in (

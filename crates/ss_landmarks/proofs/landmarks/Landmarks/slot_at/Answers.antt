@@ -1,8 +1,7 @@
-use Rattle.std.proofs.Common.{◌≡◌, ◌∙◌, ◌+◌, ◌-◌, ◌++◌, ℕ, length, slice_get, get_or, Option, Some, ap, subst, sym, arith}
+use Rattle.std.proofs.Common.{◌≡◌, ◌∙◌, ◌+◌, ◌-◌, ℕ, length, get_or, ap, arith}
 use Rattle.std.proofs.lemmas.List.{length-map}
 use Rattle.ss_landmarks.specs.Landmarks.{LandmarksState}
 use Rattle.ss_landmarks.specs.Stored.{one_open, slots_of}
-use Rattle.ss_landmarks.specs.declared.stored.Opened.{Opened}
 use Rattle.ss_landmarks.specs.declared.stored.StoredValue.{StoredValue}
 use Rattle.ss_landmarks.proofs.HeldLemmas.{length-slots_of}
 use Rattle.ss_landmarks.proofs.SlotLemmas.{slot_at-open, slot_at-value, value_slots_of}
@@ -16,8 +15,7 @@ returns-in-None c =
     let slots = length-slots_of cs held.current in
     let all = ap (λ (state : LandmarksState). length state.slots + length state.value_slots) c.self.view_is in
     let none = ap one_open c.in-None.is in
-    subst (λ (state : LandmarksState). slice_get (state.slots ++ state.value_slots) c.args.place ≡ Some c.index-in-None.result.now.slot) c.self.view_is
-    (slot_at-value (slots_of cs held.current) values c.args.place c.len-closed.result c.index-in-None.result.now
+    rw (← c.self.view_is) (slot_at-value (slots_of cs held.current) values c.args.place c.len-closed.result c.index-in-None.result.now
     (omega (arith, slots, none, c.len-closed.ensures)) c.if-place-closed.false
     (omega (arith, slots, none, all, c.len-closed.ensures, c.requires, length-map values (λ (value : StoredValue). value.slot))) c.index-in-None.ensures)
 
@@ -25,11 +23,7 @@ pub returns-then-place-closed-2 : goal.returns-then-place-closed-2
 returns-then-place-closed-2 c =
     let held = c.self.inside in
     let cs = held.closed.items in
-    subst (λ (state : LandmarksState). slice_get (state.slots ++ state.value_slots) c.args.place ≡ Some c.in-Some.opened.slot) c.self.view_is
-    (subst
-    (λ (current : Option Opened).
-    slice_get (slots_of cs current ++ value_slots_of held.values.items) c.args.place ≡ Some c.in-Some.opened.slot)
-    (sym c.in-Some.is) (slot_at-open cs c.in-Some.opened (value_slots_of held.values.items) c.args.place (omega (arith, c.len-closed.ensures))))
+    rw (← c.self.view_is, c.in-Some.is) (slot_at-open cs c.in-Some.opened (value_slots_of held.values.items) c.args.place (omega (arith, c.len-closed.ensures)))
 
 pub returns-else-place-closed-2 : goal.returns-else-place-closed-2
 returns-else-place-closed-2 c =
@@ -40,9 +34,7 @@ returns-else-place-closed-2 c =
     let all = ap (λ (state : LandmarksState). length state.slots + length state.value_slots) c.self.view_is in
     let one = ap one_open c.in-Some.is in
     let past : c.args.place - c.len-closed.result - 1 ≡ c.args.place - (c.len-closed.result + 1) = omega arith in
-    subst (λ (state : LandmarksState). slice_get (state.slots ++ state.value_slots) c.args.place ≡ Some c.index-else-place-closed-2.result.now.slot)
-    c.self.view_is
-    (slot_at-value (slots_of cs held.current) values c.args.place (c.len-closed.result + 1) c.index-else-place-closed-2.result.now
+    rw (← c.self.view_is) (slot_at-value (slots_of cs held.current) values c.args.place (c.len-closed.result + 1) c.index-else-place-closed-2.result.now
     (omega (arith, slots, one, c.len-closed.ensures)) (omega (arith, c.if-place-closed.false, c.if-place-closed-2.false))
     (omega (arith, slots, one, all, c.len-closed.ensures, c.requires, length-map values (λ (value : StoredValue). value.slot)))
     (c.index-else-place-closed-2.ensures ∙ ap (λ (k : ℕ). get_or values k c.index-else-place-closed-2.result.now) past))

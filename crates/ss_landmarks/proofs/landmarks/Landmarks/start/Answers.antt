@@ -1,9 +1,8 @@
-use Rattle.std.proofs.Common.{◌≡◌, ◌∙◌, ap, sym, subst, List, [], ◌∷◌, ◌++◌, length, map, Option, None, arith}
+use Rattle.std.proofs.Common.{◌≡◌, ◌∙◌, ap, sym, List, [], ◌∷◌, ◌++◌, length, map, Option, None, arith}
 use Rattle.std.proofs.lemmas.List.{length-map}
 use Rattle.ss_landmarks.specs.Landmark.{opened_at}
 use Rattle.ss_landmarks.specs.Landmarks.{LandmarksState}
-use Rattle.ss_landmarks.specs.Order.{CanOpen}
-use Rattle.ss_landmarks.specs.Stored.{bare_value, landmarks_from, slots_of, one_open, free_before, KnowFree, AreStored}
+use Rattle.ss_landmarks.specs.Stored.{bare_value, landmarks_from, slots_of, one_open, free_before}
 use Rattle.ss_landmarks.specs.declared.stored.Closed.{Closed}
 use Rattle.ss_landmarks.specs.declared.stored.Opened.{Opened}
 use Rattle.ss_landmarks.proofs.HeldLemmas.{landmarks_from-open}
@@ -11,15 +10,14 @@ use Rattle.ss_landmarks.proofs.StepLemmas.{CanOpen-none, AreStored-open, slots_o
 use Rattle.ss_landmarks.proofs.landmarks.Landmarks.start.Goals as goal
 
 pub free_before-free_before-requires : goal.free_before-free_before-requires
-free_before-free_before-requires c =
-    subst (λ (cs : List Closed). KnowFree cs c.self.inside.current) (sym c.deref.ensures.value) c.self.invariant.0.know
+free_before-free_before-requires c = rw c.deref.ensures.value c.self.invariant.0.know
 
 pub invariant_of-self : goal.invariant_of-self
 invariant_of-self c =
     let held = c.self.inside in
     let cs = held.closed.items in
     let values = map bare_value held.values.items in
-    let can = subst (λ (state : LandmarksState). CanOpen state.landmarks c.args.t) (sym c.self.view_is) c.requires.after in
+    let can = rw (← c.self.view_is) at c.requires.after in
     let none = CanOpen-none c.args.t cs held.current values can in
     let o : Opened = record { start = c.args.t; slot = c.args.slot; values_before = c.len.result; free_before = c.free_before-free_before.result } in
     let count : o.values_before ≡ length values = omega (arith, c.len.ensures, length-map held.values.items bare_value) in
@@ -27,8 +25,7 @@ invariant_of-self c =
     c.free_before-free_before.ensures ∙ ap (λ (closed : List Closed). free_before (landmarks_from closed held.current []) c.args.t)
     c.deref.ensures.value ∙ ap (λ (current : Option Opened). free_before (landmarks_from cs current []) c.args.t) none in
     let room = ap (λ (state : LandmarksState). state.room) c.self.view_is in (
-      AreStored-open cs o values (subst (λ (current : Option Opened). AreStored cs current values) none c.self.invariant.0)
-          (subst (λ (current : Option Opened). CanOpen (landmarks_from cs current values) c.args.t) none can) c.requires.time count free,
+      AreStored-open cs o values (rw none at c.self.invariant.0) (rw none at can) c.requires.time count free,
       record {
         fits = omega (arith, c.self.invariant.1.fits, ap one_open none, c.requires.room, room);
         most = omega (arith, c.self.invariant.1.most, ap one_open none, c.requires.room, room);
@@ -41,10 +38,10 @@ returns-clause-landmarks c =
     let held = c.self.inside in
     let cs = held.closed.items in
     let values = map bare_value held.values.items in
-    let can = subst (λ (state : LandmarksState). CanOpen state.landmarks c.args.t) (sym c.self.view_is) c.requires.after in
+    let can = rw (← c.self.view_is) at c.requires.after in
     let none = CanOpen-none c.args.t cs held.current values can in
     let o : Opened = record { start = c.args.t; slot = c.args.slot; values_before = c.len.result; free_before = c.free_before-free_before.result } in
-    landmarks_from-open cs o values (subst (λ (current : Option Opened). AreStored cs current values) none c.self.invariant.0).shared
+    landmarks_from-open cs o values (rw none at c.self.invariant.0).shared
     ∙ ap (λ (current : Option Opened). landmarks_from cs current values ++ opened_at c.args.t ∷ []) (sym none)
     ∙ ap (λ (state : LandmarksState). state.landmarks ++ opened_at c.args.t ∷ []) c.self.view_is
 
@@ -52,7 +49,7 @@ pub returns-clause-slots : goal.returns-clause-slots
 returns-clause-slots c =
     let held = c.self.inside in
     let cs = held.closed.items in
-    let can = subst (λ (state : LandmarksState). CanOpen state.landmarks c.args.t) (sym c.self.view_is) c.requires.after in
+    let can = rw (← c.self.view_is) at c.requires.after in
     let none = CanOpen-none c.args.t cs held.current (map bare_value held.values.items) can in
     let o : Opened = record { start = c.args.t; slot = c.args.slot; values_before = c.len.result; free_before = c.free_before-free_before.result } in
     slots_of-open cs o

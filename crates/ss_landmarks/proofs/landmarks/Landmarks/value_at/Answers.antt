@@ -1,7 +1,5 @@
-use Rattle.std.proofs.Common.{◌≡◌, ◌∙◌, ◌<◌, length, slice_get, Some, ap, subst, sym, arith}
+use Rattle.std.proofs.Common.{◌∙◌, ◌<◌, length, Some, ap, sym, arith}
 use Rattle.std.proofs.lemmas.Option.{slice_get-get_or}
-use mir.Val.{to_z, of_z}
-use Rattle.std.specs.Int.{w64}
 use Rattle.ss_landmarks.specs.Landmark.{all_values}
 use Rattle.ss_landmarks.specs.Landmarks.{LandmarksState}
 use Rattle.ss_landmarks.proofs.PlaceLemmas.{length-seen, slice_get-seen}
@@ -29,7 +27,4 @@ returns c =
       ap (λ (state : LandmarksState). length (all_values state.landmarks)) c.self.view_is,
     ) in
     let is = slice_get-get_or held.values.items c.args.place value inside ∙ ap Some (sym c.index-value.ensures) in
-    subst
-    (λ (state : LandmarksState).
-    slice_get (all_values state.landmarks) c.args.place ≡ Some (record { t = value.t; v = to_z w64 (of_z w64 value.v) }))
-    c.self.view_is (slice_get-seen held.closed.items held.current held.values.items c.self.invariant.0 c.args.place value inside is)
+    rw (← c.self.view_is) (slice_get-seen held.closed.items held.current held.values.items c.self.invariant.0 c.args.place value inside is)

@@ -1,7 +1,7 @@
-use Rattle.std.proofs.Common.{ap, subst, length, map, arith}
+use Rattle.std.proofs.Common.{ap, length, map, arith}
 use Rattle.std.proofs.lemmas.List.{length-map}
 use Rattle.ss_landmarks.specs.Landmark.{all_values}
-use Rattle.ss_landmarks.specs.Landmarks.{LandmarksState, AreKnown}
+use Rattle.ss_landmarks.specs.Landmarks.{LandmarksState}
 use Rattle.ss_landmarks.specs.Stored.{bare_value}
 use Rattle.ss_landmarks.specs.declared.stored.StoredValue.{StoredValue}
 use Rattle.ss_landmarks.proofs.HeldLemmas.{all_values-landmarks_from}
@@ -24,7 +24,7 @@ returns-clause-value c =
 pub returns-clause-state : goal.returns-clause-state
 returns-clause-state c =
     let held = c.self.inside in
-    subst AreKnown c.self.view_is
+    rw c.self.view_is at
     (AreKnown-stored held.closed.items held.current (map bare_value held.values.items) (map (λ (value : StoredValue). value.slot) held.values.items)
     held.room held.value_room c.self.invariant.0
     (omega (arith, length-map held.values.items (λ (value : StoredValue). value.slot), length-map held.values.items bare_value))

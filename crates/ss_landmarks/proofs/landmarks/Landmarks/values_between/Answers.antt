@@ -1,7 +1,6 @@
-use Rattle.std.proofs.Common.{◌∙◌, ap, sym, subst, List, map}
+use Rattle.std.proofs.Common.{◌∙◌, ap, sym, List, map}
 use Rattle.std.specs.List.{filter}
 use Rattle.ss_landmarks.specs.Landmarks.{LandmarksState}
-use Rattle.ss_landmarks.specs.Order.{RiseFrom}
 use Rattle.ss_landmarks.specs.Stored.{bare_value}
 use Rattle.ss_landmarks.specs.ValuesIn.{lies_in, values_between}
 use Rattle.ss_landmarks.specs.declared.stored.StoredValue.{StoredValue}
@@ -14,8 +13,7 @@ values_in-requires c =
     let stored = c.self.invariant.0 in
     let values = map bare_value c.self.inside.values.items in
     let all = all_values-landmarks_from c.self.inside.closed.items c.self.inside.current values stored.shared in
-    subst (λ (held : List StoredValue). RiseFrom 0 (map bare_value held)) (sym c.deref.ensures.value)
-    (subst (RiseFrom 0) all (RiseFrom-all_values 0 _ stored.order))
+    rw c.deref.ensures.value (rw all at (RiseFrom-all_values 0 _ stored.order))
 
 pub returns-clause-values : goal.returns-clause-values
 returns-clause-values c =
