@@ -1,13 +1,12 @@
 -- Rows that pin what the calls of records leave, field by field.
-use Rattle.std.proofs.Common.{◌≡◌, ap, refl, subst, ℕ, ◌+◌, ◌*◌, ◌<◌, ◌≤◌, ◌⊎◌, inl, inr, Bool, true, not, lit≤}
-use Rattle.std.proofs.Common.{List, [], ◌∷◌, length, map, take, drop, Result, Ok}
+use Rattle.std.proofs.Common.{◌≡◌, ap, refl, ℕ, ◌+◌, ◌*◌, ◌<◌, ◌≤◌, ◌⊎◌, inl, inr, Bool, true, not, lit≤, List, [], ◌∷◌, length, map, take, drop, Result, Ok}
 use Rattle.std.specs.List.{range_with_len}
 use Rattle.ss_outside.specs.Crash.{OnlyReads}
 use Rattle.ss_outside.specs.Disk.{NothingPending, Told}
 use Rattle.ss_outside.specs.declared.source.Failed.{Failed}
 use Rattle.ss_journal.specs.Calls.{ChangesMap, KeepsMap, KeepsShown, MakesDurable}
 use Rattle.ss_journal.specs.Groups.{entry_count, group_bytes}
-use Rattle.ss_journal.specs.Kept.{IfStaged, IsKept, IsRunning, IsSettled, OpensMapAs, shown, with_entries}
+use Rattle.ss_journal.specs.Kept.{IsKept, IsRunning, IsSettled, OpensMapAs, shown, with_entries}
 use Rattle.ss_journal.specs.Redo.{SlotMap, StandsFor, changed}
 use Rattle.ss_journal.specs.declared.format.TheConstants.{MOST_SLOTS}
 use Rattle.ss_journal.specs.declared.journal_error.JournalError.{JournalError}
@@ -65,7 +64,7 @@ module _ (was is : RecordsState) (old new : Told) where
 
   -- where a put is staged nothing is pending after it
   SealsRecords-durable : (put : Put) (puts : List Put) → was.journal.staged ≡ put ∷ puts → SealsRecords was is (Ok tt) old new → NothingPending new
-  SealsRecords-durable put puts staged seals = subst (λ (some : List Put). IfStaged some (NothingPending new)) staged seals.durable
+  SealsRecords-durable put puts staged seals = rw staged at seals.durable
 
   ReadsRecord-Ok : (slot : ℕ) (bytes : List ℕ) (found : SlotMap) → ReadsRecord was is slot (Ok bytes) old new
       → StandsFor (shown was.journal old.content) found → bytes ≡ found.bytes slot

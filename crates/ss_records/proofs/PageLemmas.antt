@@ -1,7 +1,6 @@
 -- Cached pages, and the map that they are of.
-use Rattle.std.proofs.Common.{◌≡◌, ◌≢◌, ◌∙◌, sym, ap, subst, refl, ℕ, ◌+◌, ◌*◌, ◌/◌, ◌%◌, ◌<◌, ◌^◌, ◌⊎◌}
-use Rattle.std.proofs.Common.{Bool, true, false, nat_eq, List, [], ◌∷◌, length}
-use Rattle.std.proofs.Common.{get_or, take, Contains, Option, Some, None, arith, inl, inr}
+use Rattle.std.proofs.Common.{◌≡◌, ◌≢◌, ◌∙◌, sym, ap, refl, ℕ, ◌+◌, ◌*◌, ◌/◌, ◌%◌, ◌<◌, ◌^◌, ◌⊎◌, Bool, true, false, nat_eq, List, [], ◌∷◌, length, get_or}
+use Rattle.std.proofs.Common.{take, Contains, Option, Some, None, arith, inl, inr}
 use Rattle.std.proofs.lemmas.Bool.{cases_eq, cond-true, cond-false, eq-eqb, eqb-true, eqb-false, ne_eqb}
 use Rattle.std.proofs.lemmas.List.{take_more}
 use Rattle.std.specs.List.{AllByRecursion, IsDistinct}
@@ -24,7 +23,7 @@ none_equal : (number : ℕ) (cached : List (ℕ × List ℕ)) (page : ℕ) (byte
     → Contains cached (page, bytes) → nat_eq number page ≡ false
 none_equal number [] page bytes apart is = absurd (Contains-nil (page, bytes) is)
 none_equal number (entry ∷ cached) page bytes apart is = elim (Contains-cons entry cached (page, bytes) is) [
-  | inl same ↦ subst (λ (e : ℕ × List ℕ). nat_eq number e.0 ≡ false) same apart.0
+  | inl same ↦ rw same at apart.0
   | inr later ↦ none_equal number cached page bytes apart.1 later
 ]
 
@@ -36,7 +35,7 @@ not_cached number (entry ∷ cached) page bytes none is = (elim (nat_eq number e
     → nat_eq number page ≡ false) [
       | true ↦ λ here. let some = rw here at none in cc
       | false ↦ λ there. elim (Contains-cons entry cached (page, bytes) is) [
-        | inl same ↦ subst (λ (e : ℕ × List ℕ). nat_eq number e.0 ≡ false) same there
+        | inl same ↦ rw same at there
         | inr later ↦ not_cached number cached page bytes (rw there at none) later
       ]
     ]) refl
@@ -63,7 +62,7 @@ Contains-set_value number (entry ∷ cached) now page bytes apart is =
       | false ↦ λ there. elim (Contains-cons entry (set_value (nat_eq number) cached now) (page, bytes) (rw there at is)) [
         | inl same ↦ inr (
           λ equal. eqb-false number entry.0 there (sym equal ∙ sym (ap (λ (e : ℕ × List ℕ). e.0) same)),
-          subst (Contains (entry ∷ cached)) same (Contains-head entry cached),
+          rw (← same) (Contains-head entry cached),
         )
         | inr later ↦ elim (Contains-set_value number cached now page bytes apart.1 later) [
           | inl changed ↦ inl changed
@@ -94,7 +93,7 @@ module _ (put : Put) (cached : List (ℕ × List ℕ)) (map : ℕ → List ℕ) 
     changed_here page same lt k in_page =
         let at = Contains-lookup (nat_eq (put.slot / 32)) cached old found in
         let there : page ≡ at.0 = same ∙ eqb-true (put.slot / 32) at.0 at.2 in
-        let was : Contains cached (page, old) = subst (λ (n : ℕ). Contains cached (n, old)) (sym there) at.1 in
+        let was : Contains cached (page, old) = rw there at.1 in
         elim (cases_eq k (put.slot % 32)) [
           | inl here ↦ ap (slot_in_page now) here ∙ written
               ∙ sym (cond-true (nat_eq (32 * page + k) put.slot) put.bytes (map (32 * page + k))

@@ -1,5 +1,5 @@
 -- Records over their journal.
-use Rattle.std.proofs.Common.{◌≡◌, ◌∙◌, sym, ap, subst, refl, ℕ, ◌/◌, ◌%◌, ◌<◌, ◌≤◌, ◌^◌, ◌⊎◌}
+use Rattle.std.proofs.Common.{◌≡◌, ◌∙◌, sym, ap, refl, ℕ, ◌/◌, ◌%◌, ◌<◌, ◌≤◌, ◌^◌, ◌⊎◌}
 use Rattle.std.proofs.Common.{Bool, true, nat_eq, not, List, All, length, arith, inl, inr, Some, Result, Ok, Err, OnOk, IsTrue}
 use Rattle.std.specs.Prelude.{IsErr, OnErr}
 use Rattle.lru.specs.LruCache.{lru_cache, promoted, put_entries}
@@ -9,8 +9,7 @@ use Rattle.ss_outside.specs.Crash.{OnlyReads}
 use Rattle.ss_outside.specs.Disk.{DiskView, Told}
 use Rattle.ss_outside.specs.Step.{Step}
 use Rattle.ss_outside.specs.Verdict.{fine, no_memory}
-use Rattle.ss_journal.specs.Calls.{slot_in_page, Commits, HasCommitted, HasSettled, MakesRoom, Opens, ReadsPage, ReadsSlot}
-use Rattle.ss_journal.specs.Calls.{Seals, Settles, Stages}
+use Rattle.ss_journal.specs.Calls.{slot_in_page, Commits, HasCommitted, HasSettled, MakesRoom, Opens, ReadsPage, ReadsSlot, Seals, Settles, Stages}
 use Rattle.ss_journal.specs.Kept.{JournalState, IsKept, IsRunning, IsSealed, IsSettled, OpensMapAs, shown}
 use Rattle.ss_journal.specs.Puts.{slots_fit, extent_after, with_puts, IsTxn}
 use Rattle.ss_journal.specs.Redo.{SlotMap, StandsFor, changed}
@@ -42,9 +41,7 @@ StandsFor-kept journal content kept =
 -- a call that finds a map and leaves one, with nothing staged before it and after it, does so with what is shown
 pub shows-sealed : (journal new : JournalState) (content left : List ℕ) (found then : SlotMap) → IsSealed journal → IsSealed new
     → (StandsFor content found → StandsFor left then) → StandsFor (shown journal content) found → StandsFor (shown new left) then
-shows-sealed journal new content left found then sealed still gives stands =
-    subst (λ (image : List ℕ). StandsFor image then) (sym (shown-sealed new left still))
-    (gives (subst (λ (image : List ℕ). StandsFor image found) (shown-sealed journal content sealed) stands))
+shows-sealed journal new content left found then sealed still gives stands = rw shown-sealed (gives (rw shown-sealed at stands))
 
 -- a slot from the extent on is zeros in the map
 pub are_zeros-unused : (journal : JournalState) (content : List ℕ) (found : SlotMap) (slot : ℕ) → IsKept journal content
@@ -103,11 +100,11 @@ pub AreSound-noted : (journal new : JournalState) (live left : List Bool) (cache
     → AreSound (record { journal = new; live = left; cached = pages })
 AreSound-noted journal new live left cached pages puts was sound same numbers settled txn fit after noted =
     let within = within-live puts live txn sound.slots in
-    let running = IsRunning-settled journal (subst (λ (records : RecordsState). IsSettled records.journal) (sym same) settled) in
-    let fits : IsTrue (slots_fit puts journal.extent) = subst (λ (records : RecordsState). IsTrue (slots_fit puts records.journal.extent)) (sym same) fit in
+    let running = IsRunning-settled journal (rw (← same) at settled) in
+    let fits : IsTrue (slots_fit puts journal.extent) = rw (← same) at fit in
     let as_many : length pages ≡ length cached =
     sym (length-keys_of pages) ∙ ap (λ (keys : List ℕ). length keys) numbers ∙ length-keys_of cached in
-    subst (λ (list : List Bool). AreSound (record { journal = new; live = list; cached = pages })) (sym noted) (record {
+    rw noted (record {
       slots = length-live_after puts live ∙ sound.slots;
       below = λ _ slot is. rw after (below-live_after puts live journal.extent within fits (sound.below running) slot is);
       few = omega (arith, sound.few, as_many);
@@ -150,8 +147,8 @@ module _ (journal : JournalState) where
       → ReadTo journal n live old mid → ReadsPage now (n / 32) (Ok page) mid new → ReadTo journal next more old new
   ReadTo-more now n next live more page old mid new same notes before read = record {
     are = λ found is.
-        let there = subst (λ (content : List ℕ). StandsFor (shown journal content) found) (sym before.reads.same.content) is in
-        let here = read.bytes found (subst (λ (j : JournalState). StandsFor (shown j mid.content) found) (sym same) there) in
+        let there = rw (← before.reads.same.content) at is in
+        let here = read.bytes found (rw same there) in
         notes found.bytes here (before.are found is);
     reads = reads-joined old mid new before.reads read.reads;
   }
@@ -189,14 +186,14 @@ pub opens-read : (journal now : JournalState) (live : List Bool) (records : Reco
     → records ≡ uncached now live → Opens (Ok journal) old mid → ReadsLive journal (Ok live) mid new → OpensRecords (Ok records) old new
 opens-read journal now live records old mid new same over opened read =
     let reads = reads-joined old mid new opened.reads read.reads in
-    let is : IsKept now old.content = subst (λ (j : JournalState). IsKept j old.content) (sym same) opened.opens in
-    subst (λ (r : RecordsState). OpensRecords (Ok r) old new) (sym over) (record {
+    let is : IsKept now old.content = rw same opened.opens in
+    rw over (record {
       opens = is;
       kept = record {
-        journal = subst (IsKept now) (sym reads.same.content) is;
+        journal = rw reads.same.content is;
         free = λ found stands.
-            let before = subst (λ (content : List ℕ). StandsFor (shown now content) found) read.reads.same.content stands in
-            read.live found (subst (λ (j : JournalState). StandsFor (shown j mid.content) found) same before);
+            let before = rw read.reads.same.content at stands in
+            read.live found (rw same at before);
         cached = λ found stands. ArePages-none found.bytes;
       };
       reads = reads;
@@ -210,24 +207,21 @@ module _ (journal : JournalState) (live : List Bool) (cached : List (ℕ × List
       → All (λ put. put.slot < length live) puts → left ≡ live_after puts live
       → ((map : ℕ → List ℕ) → ArePages cached map → ArePages pages (with_puts puts map)) → Stages puts journal new content
       → StagesPuts puts was (record { journal = new; live = left; cached = pages }) content
-  stages-puts puts new left pages content within noted are stages =
-      subst (λ (records : RecordsState). StagesPuts puts records (record { journal = new; live = left; cached = pages }) content) same (record {
-        kept = λ kept. subst (λ (list : List Bool). AreKept (record { journal = new; live = list; cached = pages }) content) (sym noted)
-            (AreKept-changed journal live cached content kept puts pages new content within are (stages.kept kept.journal) (stages.map kept.journal));
-        map = λ kept. stages.map kept.journal;
-      })
+  stages-puts puts new left pages content within noted are stages = rw (← same) (record {
+    kept = λ kept. rw noted
+        (AreKept-changed journal live cached content kept puts pages new content within are (stages.kept kept.journal) (stages.map kept.journal));
+    map = λ kept. stages.map kept.journal;
+  })
 
   -- room can't be made
   pub makes-room-failed : (is : RecordsState) (failed : Failed) (old new : Told) → MakesRoom journal is.journal (Err failed) old new
       → MakesRoomFor was is (Err failed) old new
-  makes-room-failed is failed old new makes = subst (λ (records : RecordsState). MakesRoomFor records is (Err failed) old new) same
-      (record { kept = tt; keeps_shown = makes.keeps_shown })
+  makes-room-failed is failed old new makes = rw (← same) (record { kept = tt; keeps_shown = makes.keeps_shown })
 
   -- what is staged can't be sealed
   pub seals-failed : (is : RecordsState) (failed : Failed) (old new : Told) → Seals journal is.journal (Err failed) old new
       → SealsRecords was is (Err failed) old new
-  seals-failed is failed old new seals = subst (λ (records : RecordsState). SealsRecords records is (Err failed) old new) same
-      (record { kept = tt; keeps_shown = seals.keeps_shown; durable = seals.durable })
+  seals-failed is failed old new seals = rw (← same) (record { kept = tt; keeps_shown = seals.keeps_shown; durable = seals.durable })
 
   -- a page can't be read
   pub reads-failed : (is : RecordsState) (slot : ℕ) (failed : Failed) (result : Result (List ℕ) Failed) (old new : Told) → IsErr result
@@ -238,13 +232,13 @@ module _ (journal : JournalState) (live : List Bool) (cached : List (ℕ × List
   module _ (old : Told) (kept_was : AreKept was old.content) where
     -- they are kept
     kept : AreKept (record { journal = journal; live = live; cached = cached }) old.content
-    kept = subst (λ (records : RecordsState). AreKept records old.content) (sym same) kept_was
+    kept = rw same kept_was
 
     pub settles-records : (new : Told) (left : JournalState) (result : Result (Unit {0}) Failed) → IsSealed was.journal
         → OnOk result (HasSettled journal left) → Settles left result old new
         → SettlesRecords (record { journal = left; live = live; cached = cached }) result old new
     settles-records new left (Ok value) sealed has settles =
-        let before = subst (λ (records : RecordsState). IsSealed records.journal) (sym same) sealed in
+        let before = rw (← same) at sealed in
         record {
           kept = AreKept-kept journal live cached old.content kept {E = Failed} (Ok value) left new.content settles.kept
               (λ found. shows-sealed journal left old.content new.content found found before has.sealed (settles.keeps_map.map found));
@@ -263,10 +257,9 @@ module _ (journal : JournalState) (live : List Bool) (cached : List (ℕ × List
         → ((map : ℕ → List ℕ) → ArePages cached map → ArePages pages (with_puts puts map)) → Commits now puts (Ok value) old new
         → AppliesPuts (record { journal = now; live = left; cached = pages }) puts (Ok done) old new
     applies-puts puts new now left pages value done sealed has within noted are commits =
-        let before = subst (λ (records : RecordsState). IsSealed records.journal) (sym same) sealed in
+        let before = rw (← same) at sealed in
         record {
-          kept = subst (λ (list : List Bool). AreKept (record { journal = now; live = list; cached = pages }) new.content) (sym noted)
-              (AreKept-changed journal live cached old.content kept puts pages now new.content within are commits.kept
+          kept = rw noted (AreKept-changed journal live cached old.content kept puts pages now new.content within are commits.kept
               (λ found. shows-sealed journal now old.content new.content found (changed found puts) before has.sealed (commits.changes_map.map found)));
           changes_map = commits.changes_map;
         }
@@ -276,7 +269,7 @@ module _ (journal : JournalState) (live : List Bool) (cached : List (ℕ × List
         → MakesRoomFor was (record { journal = left; live = live; cached = cached }) (Ok done) old new
     makes-room-for new left value done makes =
         let is : RecordsState = record { journal = left; live = live; cached = cached } in
-        subst (λ (records : RecordsState). MakesRoomFor records is (Ok done) old new) same (record {
+        rw (← same) (record {
           kept = AreKept-kept journal live cached old.content kept {E = Failed} (Ok value) left new.content makes.kept makes.keeps_shown.map;
           keeps_shown = record { map = makes.keeps_shown.map; any_moment = makes.keeps_shown.any_moment; durable = makes.keeps_shown.durable };
         })
@@ -286,7 +279,7 @@ module _ (journal : JournalState) (live : List Bool) (cached : List (ℕ × List
         → SealsRecords was (record { journal = left; live = live; cached = cached }) (Ok done) old new
     seals-records new left value done seals =
         let is : RecordsState = record { journal = left; live = live; cached = cached } in
-        subst (λ (records : RecordsState). SealsRecords records is (Ok done) old new) same (record {
+        rw (← same) (record {
           kept = AreKept-kept journal live cached old.content kept {E = Failed} (Ok value) left new.content seals.kept seals.keeps_shown.map;
           keeps_shown = record { map = seals.keeps_shown.map; any_moment = seals.keeps_shown.any_moment; durable = seals.keeps_shown.durable };
           durable = seals.durable;
@@ -296,22 +289,20 @@ module _ (journal : JournalState) (live : List Bool) (cached : List (ℕ × List
     AreKept-paged : (pages : List (ℕ × List ℕ)) (left : JournalState) → left ≡ journal
         → ((found : SlotMap) → StandsFor (shown journal old.content) found → ArePages cached found.bytes → ArePages pages found.bytes)
         → AreKept (record { journal = left; live = live; cached = pages }) old.content
-    AreKept-paged pages left stays are =
-        subst (λ (j : JournalState). AreKept (record { journal = j; live = live; cached = pages }) old.content) (sym stays) (record {
-          journal = kept.journal;
-          free = kept.free;
-          cached = λ found stands. are found stands (kept.cached found stands);
-        })
+    AreKept-paged pages left stays are = rw stays (record {
+      journal = kept.journal;
+      free = kept.free;
+      cached = λ found stands. are found stands (kept.cached found stands);
+    })
 
     -- a slot from the extent on
     pub reads-record : (new : Told) (left : JournalState) (slot : ℕ) (result : Result (List ℕ) Failed) → OnOk result (left ≡ journal)
         → ReadsSlot journal slot result old new → ReadsRecord was (record { journal = left; live = live; cached = cached }) slot result old new
     reads-record new left slot result stays read =
         let is : RecordsState = record { journal = left; live = live; cached = cached } in
-        subst (λ (records : RecordsState). ReadsRecord records is slot result old new) same (record {
+        rw (← same) (record {
           bytes = read.bytes;
-          kept = on_ok_weaker result (λ equal. subst (AreKept is) (sym read.reads.same.content)
-              (AreKept-paged cached left equal (λ found stands are. are))) stays;
+          kept = on_ok_weaker result (λ equal. rw read.reads.same.content (AreKept-paged cached left equal (λ found stands are. are))) stays;
           reads = read.reads;
         })
 
@@ -321,7 +312,7 @@ module _ (journal : JournalState) (live : List Bool) (cached : List (ℕ × List
     reads-cached slot bytes lt found =
         let pages = promoted (nat_eq (slot / 32)) cached in
         let is : RecordsState = record { journal = journal; live = live; cached = pages } in
-        subst (λ (records : RecordsState). ReadsRecord records is slot (Ok bytes) old old) same (record {
+        rw (← same) (record {
           bytes = λ map stands. cached_slot-is cached map.bytes (kept.cached map stands) slot bytes found lt;
           kept = AreKept-paged pages journal refl (λ map stands are. ArePages-promoted cached map.bytes are (slot / 32));
           reads = reads-none old;
@@ -333,13 +324,11 @@ module _ (journal : JournalState) (live : List Bool) (cached : List (ℕ × List
         → ReadsRecord was (record { journal = left; live = live; cached = pages }) slot (Ok (slot_in_page page (slot % 32))) old new
     reads-page new left slot page pages stays keeps read =
         let is : RecordsState = record { journal = left; live = live; cached = pages } in
-        subst (λ (records : RecordsState). ReadsRecord records is slot (Ok (slot_in_page page (slot % 32))) old new) same (record {
+        rw (← same) (record {
           bytes = λ found stands. read.bytes found stands (slot % 32) (omega arith) ∙ ap found.bytes (omega arith);
-          kept = subst (AreKept is) (sym read.reads.same.content)
-              (AreKept-paged pages left stays (λ found stands are. elim keeps [
-                | inl keep ↦ subst (λ (list : List (ℕ × List ℕ)). ArePages list found.bytes) (sym keep) are
-                | inr put ↦ subst (λ (list : List (ℕ × List ℕ)). ArePages list found.bytes) (sym put)
-                    (ArePages-kept cached found.bytes are (slot / 32) 64 page (read.bytes found stands))
-              ]));
+          kept = rw read.reads.same.content (AreKept-paged pages left stays (λ found stands are. elim keeps [
+            | inl keep ↦ rw keep are
+            | inr put ↦ rw put (ArePages-kept cached found.bytes are (slot / 32) 64 page (read.bytes found stands))
+          ]));
           reads = read.reads;
         })

@@ -1,5 +1,5 @@
 -- The tree of bitmaps: a slot is put in or taken out, and the first one outside is found.
-use Rattle.std.proofs.Common.{◌≡◌, ◌≢◌, ◌∙◌, sym, ap, subst, ℕ, ◌+◌, ◌*◌, ◌/◌, ◌%◌, ◌^◌, ◌<◌, ◌≤◌, Bool, true, false, cond, not, nat_eq, List, length, count_by}
+use Rattle.std.proofs.Common.{◌≡◌, ◌≢◌, ◌∙◌, sym, ap, ℕ, ◌+◌, ◌*◌, ◌/◌, ◌%◌, ◌^◌, ◌<◌, ◌≤◌, Bool, true, false, cond, not, nat_eq, List, length, count_by}
 use Rattle.std.proofs.Common.{get_or, set, replicate, arith, inl, inr, Some, None}
 use Rattle.std.proofs.lemmas.Bool.{eq-eqb, ne_eqb, cases_eq, cases_lt, cond-true, cond-false, lt-ltb, le-ltb}
 use Rattle.std.proofs.lemmas.List.{get_or-set_same, get_or-set_other, get_or_past, get_or-replicate, length-set, length-replicate, same_lists}
@@ -134,7 +134,7 @@ pub IsTree-zeros : (n : ℕ) → n ≤ 4 → IsTree (zero_words (4096 * n)) (zer
 IsTree-zeros n few = record {
   few = omega (arith, few, length-zeros n);
   over_low = let same : 64 * (64 * n) ≡ 4096 * n = omega arith in
-      subst (λ (m : ℕ). MarksFullWords (zero_words (64 * n)) (zero_words m)) same (MarksFullWords-zeros (64 * n));
+      rw same at (MarksFullWords-zeros (64 * n));
   over_middle = MarksFullWords-zeros n;
 }
 

@@ -1,5 +1,4 @@
-use Rattle.std.proofs.Common.{arith, subst, sym}
-use Rattle.ss_journal.specs.Kept.{JournalState, IsKept}
+use Rattle.std.proofs.Common.{arith}
 use Rattle.ss_journal.proofs.StepLemmas.{after-step, step-from}
 use Rattle.ss_records.proofs.RecordLemmas.{ReadTo-all}
 use Rattle.ss_records.proofs.live.read_live.Goals as goal
@@ -7,8 +6,7 @@ use Rattle.ss_records.proofs.live.read_live.Goals as goal
 pub read_page-requires-clause-one_disk : goal.read_page-requires-clause-one_disk
 read_page-requires-clause-one_disk g c =
     after-step c.loop-slot.invariant.step (λ told before.
-    subst (λ (journal : JournalState). IsKept journal (g.D.Disk.seen c.loop-slot.disk).told.content) (sym c.loop-slot.invariant.journal)
-    (subst (IsKept c.args.journal.now) (sym before.reads.same.content) (c.requires.one_disk told)))
+    rw (c.loop-slot.invariant.journal, before.reads.same.content) (c.requires.one_disk told))
 
 pub returns-clause-live : goal.returns-clause-live
 returns-clause-live g c =

@@ -1,4 +1,4 @@
-use Rattle.std.proofs.Common.{◌∙◌, sym, ap, subst, ℕ, ◌/◌, nat_eq, List}
+use Rattle.std.proofs.Common.{◌∙◌, sym, ap, ◌/◌, nat_eq}
 use Rattle.std.proofs.lemmas.Map.{keys-set_value}
 use Rattle.std.specs.Map.{keys_of}
 use Rattle.std.specs.Option.{option_copied_mut}
@@ -11,7 +11,7 @@ pub returns-clause-pages : goal.returns-clause-pages
 returns-clause-pages c map are =
     let put = c.args.put.now in
     let cached = c.self.inside.cache.entries in
-    let was : ArePages cached map = subst (λ (list : List (ℕ × List ℕ)). ArePages list map) (sym c.self.view_is) are in
+    let was : ArePages cached map = rw c.self.view_is are in
     elim c.match-peek_mut.branch [
       | in-Some w ↦ rw w.self-inside-is (ArePages-put put cached map was w.in-Some.page.now w.put.new.self c.is_valid.ensures.0
           (sym c.peek_mut.ensures.value ∙ ap option_copied_mut w.in-Some.is) w.put.ensures.written w.put.ensures.others)

@@ -1,8 +1,7 @@
-use Rattle.std.proofs.Common.{◌≡◌, ◌∙◌, subst, ℕ, List, [], take, arith}
+use Rattle.std.proofs.Common.{◌≡◌, ◌∙◌, [], take, arith}
 use Rattle.std.proofs.lemmas.List.{take_all}
 use Rattle.ss_journal.specs.declared.put.Put.{Put}
 use Rattle.ss_journal.specs.Puts.{with_puts}
-use Rattle.ss_records.specs.Pages.{ArePages}
 use Rattle.ss_records.proofs.PageLemmas.{with_puts-next}
 use Rattle.ss_records.proofs.pages.Pages.put_all.Goals as goal
 
@@ -12,7 +11,7 @@ loop-put-preserved c =
     let k = c.loop-put.put-index in
     let d : Put = record { slot = 0; bytes = [] } in
     record {
-      pages = λ map are. subst (λ (m : ℕ → List ℕ). ArePages c.put.new.self m) (with_puts-next puts k d map c.loop-put-test.true)
+      pages = λ map are. rw (← with_puts-next puts k d map c.loop-put-test.true)
           (c.put.ensures.pages (with_puts (take k puts) map) (c.loop-put.invariant.pages map are));
       numbers = c.put.ensures.numbers ∙ c.loop-put.invariant.numbers;
     }
@@ -21,4 +20,4 @@ pub returns-clause-pages : goal.returns-clause-pages
 returns-clause-pages c map are =
     let puts = c.args.puts.now in
     let all : take c.loop-put.put-index puts ≡ puts = take_all c.loop-put.put-index puts (omega arith) in
-    subst (λ (list : List Put). ArePages c.loop-put.self (with_puts list map)) all (c.loop-put.invariant.pages map are)
+    rw all at (c.loop-put.invariant.pages map are)

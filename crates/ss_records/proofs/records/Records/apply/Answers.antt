@@ -1,23 +1,15 @@
-use Rattle.std.proofs.Common.{◌∙◌, ◌<◌, sym, ap, subst, List, All, length}
+use Rattle.std.proofs.Common.{◌∙◌, ap, List}
 use Rattle.ss_journal.specs.declared.put.Put.{Put}
-use Rattle.ss_journal.specs.Kept.{IsKept}
-use Rattle.ss_journal.specs.Puts.{with_puts}
 use Rattle.ss_journal.proofs.StepLemmas.{step-from}
 use Rattle.ss_records.specs.Live.{live_after}
-use Rattle.ss_records.specs.Kept.{RecordsState}
-use Rattle.ss_records.specs.Pages.{ArePages}
 use Rattle.ss_records.proofs.RecordLemmas.{applies-puts, AreSound-noted, within-live}
 use Rattle.ss_records.proofs.records.Records.apply.Goals as goal
 
 pub commit-requires-clause-one_disk : goal.commit-requires-clause-one_disk
-commit-requires-clause-one_disk g c told =
-    subst (λ (records : RecordsState). IsKept records.journal (g.D.Disk.seen c.args.disk.now).told.content) (sym c.self.view_is)
-    (c.requires.one_disk told).journal
+commit-requires-clause-one_disk g c told = rw (← c.self.view_is) at (c.requires.one_disk told).journal
 
 pub note_puts-requires : goal.note_puts-requires
-note_puts-requires g c =
-    subst (λ (all : List Put). All (λ (put : Put). put.slot < length c.self.inside.live) all) (sym c.deref.ensures.0)
-    (within-live c.args.txn.now.items c.self.inside.live c.requires.txn c.self.invariant.slots)
+note_puts-requires g c = rw c.deref.ensures.0 (within-live c.args.txn.now.items c.self.inside.live c.requires.txn c.self.invariant.slots)
 
 pub invariant_of-self-2 : goal.invariant_of-self-2
 invariant_of-self-2 g c =
@@ -39,6 +31,5 @@ returns-clause-applies g c =
     step-from c.in_default.ensures.commits (λ told commits.
     applies-puts c.self.inside.journal live cached c.args.self.now c.self.view_is _ (c.requires.one_disk told) puts _ c.commit.new.self
     c.note_puts.new.live c.put_all.new.self _ _ c.requires.sealed c.in_default.ensures.committed
-    (within-live puts live c.requires.txn c.self.invariant.slots) noted
-    (λ map old. subst (λ (all : List Put). ArePages c.put_all.new.self (with_puts all map)) c.deref-2.ensures.0 (c.put_all.ensures.pages map old))
+    (within-live puts live c.requires.txn c.self.invariant.slots) noted (λ map old. rw c.deref-2.ensures.0 at (c.put_all.ensures.pages map old))
     commits)

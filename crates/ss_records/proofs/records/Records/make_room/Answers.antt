@@ -1,15 +1,9 @@
-use Rattle.std.proofs.Common.{sym, subst}
-use Rattle.ss_journal.specs.Calls.{SyncsForRoom}
-use Rattle.ss_journal.specs.Kept.{IsKept}
 use Rattle.ss_journal.proofs.StepLemmas.{step-from}
-use Rattle.ss_records.specs.Kept.{RecordsState}
 use Rattle.ss_records.proofs.RecordLemmas.{makes-room-failed, makes-room-for}
 use Rattle.ss_records.proofs.records.Records.make_room.Goals as goal
 
 pub make_room-requires-clause-one_disk : goal.make_room-requires-clause-one_disk
-make_room-requires-clause-one_disk g c told =
-    subst (λ (records : RecordsState). IsKept records.journal (g.D.Disk.seen c.args.disk.now).told.content) (sym c.self.view_is)
-    (c.requires.one_disk told).journal
+make_room-requires-clause-one_disk g c told = rw (← c.self.view_is) at (c.requires.one_disk told).journal
 
 pub returns-in-Err-clause-makes_room : goal.returns-in-Err-clause-makes_room
 returns-in-Err-clause-makes_room g c =
@@ -23,11 +17,7 @@ returns-clause-makes_room g c =
     _ c.make_room.new.self _ _ step)
 
 pub returns-in-Err-clause-syncs : goal.returns-in-Err-clause-syncs
-returns-in-Err-clause-syncs g c =
-    step-from c.in-Err.ensures.syncs (λ told few. subst (λ (records : RecordsState).
-    SyncsForRoom records.journal (g.D.Disk.seen c.args.disk.now).told (g.D.Disk.seen c.make_room.new.disk).told) c.self.view_is few)
+returns-in-Err-clause-syncs g c = step-from c.in-Err.ensures.syncs (λ told few. rw (← c.self.view_is) few)
 
 pub returns-clause-syncs : goal.returns-clause-syncs
-returns-clause-syncs g c =
-    step-from c.in_default.ensures.syncs (λ told few. subst (λ (records : RecordsState).
-    SyncsForRoom records.journal (g.D.Disk.seen c.args.disk.now).told (g.D.Disk.seen c.make_room.new.disk).told) c.self.view_is few)
+returns-clause-syncs g c = step-from c.in_default.ensures.syncs (λ told few. rw (← c.self.view_is) few)

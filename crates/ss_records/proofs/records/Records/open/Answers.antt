@@ -1,13 +1,10 @@
-use Rattle.std.proofs.Common.{subst, sym}
 use Rattle.std.proofs.lemmas.Result.{err_from_is_err_and}
-use Rattle.ss_journal.specs.Kept.{IsKept}
 use Rattle.ss_journal.proofs.StepLemmas.{after-step, step-next}
 use Rattle.ss_records.proofs.RecordLemmas.{opens-failed, opens-read, opens-starved, step-starved}
 use Rattle.ss_records.proofs.records.Records.open.Goals as goal
 
 pub read_live-requires-clause-one_disk : goal.read_live-requires-clause-one_disk
-read_live-requires-clause-one_disk g c =
-    after-step c.in_ok-journal.ensures.opens (λ told opened. subst (IsKept c.in_ok-journal.journal) (sym opened.reads.same.content) opened.opens)
+read_live-requires-clause-one_disk g c = after-step c.in_ok-journal.ensures.opens (λ told opened. rw opened.reads.same.content opened.opens)
 
 pub returns-in_err-live-clause-opens : goal.returns-in_err-live-clause-opens
 returns-in_err-live-clause-opens g c =

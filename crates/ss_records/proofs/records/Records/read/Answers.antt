@@ -1,16 +1,12 @@
-use Rattle.std.proofs.Common.{◌∙◌, sym, subst, arith}
+use Rattle.std.proofs.Common.{◌∙◌, sym, arith}
 use Rattle.ss_outside.proofs.StepLemmas.{step-none}
-use Rattle.ss_journal.specs.Kept.{IsKept}
 use Rattle.ss_journal.proofs.StepLemmas.{step-from}
-use Rattle.ss_records.specs.Kept.{RecordsState}
 use Rattle.ss_records.proofs.PageLemmas.{promoted-none}
 use Rattle.ss_records.proofs.RecordLemmas.{reads-cached, reads-record}
 use Rattle.ss_records.proofs.records.Records.read.Goals as goal
 
 pub read-requires-clause-one_disk : goal.read-requires-clause-one_disk
-read-requires-clause-one_disk g c told =
-    subst (λ (records : RecordsState). IsKept records.journal (g.D.Disk.seen c.args.disk.now).told.content) (sym c.self.view_is)
-    (c.requires.one_disk told).journal
+read-requires-clause-one_disk g c told = rw (← c.self.view_is) at (c.requires.one_disk told).journal
 
 pub returns-then-slot-extent-clause-reads : goal.returns-then-slot-extent-clause-reads
 returns-then-slot-extent-clause-reads g c =
@@ -32,7 +28,7 @@ read_uncached-requires-clause-uncached g c =
 pub read_uncached-requires-clause-one_disk : goal.read_uncached-requires-clause-one_disk
 read_uncached-requires-clause-one_disk g c =
     let none = sym c.find.ensures.value ∙ c.in-None.is in
-    rw (c.find.ensures.promotes ∙ promoted-none c.self.inside.pages c.args.slot none) (rw c.self.view_is c.requires.one_disk)
+    rw (c.find.ensures.promotes ∙ promoted-none c.self.inside.pages c.args.slot none, c.self.view_is) c.requires.one_disk
 
 pub returns-in-None-clause-reads : goal.returns-in-None-clause-reads
 returns-in-None-clause-reads g c =

@@ -1,16 +1,13 @@
-use Rattle.std.proofs.Common.{◌∙◌, sym, ap, subst, inl}
-use Rattle.ss_journal.specs.Kept.{IsKept}
+use Rattle.std.proofs.Common.{◌∙◌, sym, ap, inl}
 use Rattle.ss_journal.proofs.StepLemmas.{step-failed, step-from}
 use Rattle.ss_records.specs.Kept.{RecordsState}
-use Rattle.ss_records.specs.Pages.{cached_slot, Recalls}
+use Rattle.ss_records.specs.Pages.{cached_slot}
 use Rattle.ss_records.proofs.PageLemmas.{promoted-none, Recalls-kept}
 use Rattle.ss_records.proofs.RecordLemmas.{reads-failed, reads-page}
 use Rattle.ss_records.proofs.records.Records.read_uncached.Goals as goal
 
 pub read_page-requires-clause-one_disk : goal.read_page-requires-clause-one_disk
-read_page-requires-clause-one_disk g c told =
-    subst (λ (records : RecordsState). IsKept records.journal (g.D.Disk.seen c.args.disk.now).told.content) (sym c.self.view_is)
-    (c.requires.one_disk told).journal
+read_page-requires-clause-one_disk g c told = rw (← c.self.view_is) at (c.requires.one_disk told).journal
 
 pub returns-in_err-page-clause-reads : goal.returns-in_err-page-clause-reads
 returns-in_err-page-clause-reads g c =
@@ -35,5 +32,4 @@ returns-clause-recalls g c =
     let pages = ap (λ (records : RecordsState). records.cached) c.self.view_is in
     let none = ap (λ list. cached_slot list c.args.slot) pages ∙ c.requires.uncached in
     let kept = rw c.slot-bytes.ensures.same at c.keep.ensures.pages in
-    subst (λ (records : RecordsState). Recalls c.args.slot records.cached c.keep.new.self) c.self.view_is
-    (Recalls-kept c.self.inside.pages c.args.slot none c.keep.new.self c.in_ok-page.page kept)
+    rw (← c.self.view_is) (Recalls-kept c.self.inside.pages c.args.slot none c.keep.new.self c.in_ok-page.page kept)

@@ -1,14 +1,9 @@
-use Rattle.std.proofs.Common.{sym, subst}
-use Rattle.ss_journal.specs.Kept.{IsKept}
 use Rattle.ss_journal.proofs.StepLemmas.{step-from}
-use Rattle.ss_records.specs.Kept.{RecordsState}
 use Rattle.ss_records.proofs.RecordLemmas.{settles-records}
 use Rattle.ss_records.proofs.records.Records.settle.Goals as goal
 
 pub settle-requires-clause-one_disk : goal.settle-requires-clause-one_disk
-settle-requires-clause-one_disk g c told =
-    subst (λ (records : RecordsState). IsKept records.journal (g.D.Disk.seen c.args.disk.now).told.content) (sym c.self.view_is)
-    (c.requires.one_disk told).journal
+settle-requires-clause-one_disk g c told = rw (← c.self.view_is) at (c.requires.one_disk told).journal
 
 pub returns-clause-settles : goal.returns-clause-settles
 returns-clause-settles g c =

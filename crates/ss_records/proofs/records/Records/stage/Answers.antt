@@ -1,15 +1,11 @@
-use Rattle.std.proofs.Common.{◌∙◌, ◌<◌, sym, ap, subst, List, All, length}
+use Rattle.std.proofs.Common.{◌∙◌, ap, List}
 use Rattle.ss_journal.specs.declared.put.Put.{Put}
-use Rattle.ss_journal.specs.Puts.{with_puts}
 use Rattle.ss_records.specs.Live.{live_after}
-use Rattle.ss_records.specs.Pages.{ArePages}
 use Rattle.ss_records.proofs.RecordLemmas.{AreSound-noted, stages-puts, within-live}
 use Rattle.ss_records.proofs.records.Records.stage.Goals as goal
 
 pub note_puts-requires : goal.note_puts-requires
-note_puts-requires c =
-    subst (λ (all : List Put). All (λ (put : Put). put.slot < length c.self.inside.live) all) (sym c.deref.ensures.0)
-    (within-live c.args.txn.now.items c.self.inside.live c.requires.txn c.self.invariant.slots)
+note_puts-requires c = rw c.deref.ensures.0 (within-live c.args.txn.now.items c.self.inside.live c.requires.txn c.self.invariant.slots)
 
 pub invariant_of-self : goal.invariant_of-self
 invariant_of-self c =
@@ -26,6 +22,5 @@ returns-clause-stages c content =
     let cached = c.self.inside.pages in
     let noted = c.note_puts.ensures ∙ ap (λ (all : List Put). live_after all live) c.deref.ensures.0 in
     stages-puts c.self.inside.journal live cached c.args.self.now c.self.view_is puts c.stage.new.self c.note_puts.new.live c.put_all.new.self content
-    (within-live puts live c.requires.txn c.self.invariant.slots) noted
-    (λ map old. subst (λ (all : List Put). ArePages c.put_all.new.self (with_puts all map)) c.deref-2.ensures.0 (c.put_all.ensures.pages map old))
+    (within-live puts live c.requires.txn c.self.invariant.slots) noted (λ map old. rw c.deref-2.ensures.0 at (c.put_all.ensures.pages map old))
     (c.stage.ensures.stages content)
