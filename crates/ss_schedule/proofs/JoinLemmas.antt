@@ -1,6 +1,5 @@
 -- Two neighbours in a line that become one.
-use Rattle.std.proofs.Common.{◌≡◌, ◌∙◌, ℕ, ◌+◌, List, [], ◌∷◌, ◌++◌, length, set}
-use Rattle.std.proofs.Common.{sym, ap, ap₂, subst, append_assoc, arith, length-append, Some}
+use Rattle.std.proofs.Common.{◌≡◌, ◌∙◌, ℕ, ◌+◌, List, [], ◌∷◌, ◌++◌, length, set, sym, ap, ap₂, append_assoc, arith, length-append, Some}
 use Rattle.std.specs.List.{remove}
 use Rattle.std.proofs.Math.Seq.{set-append_seam}
 use Rattle.std.proofs.lemmas.Option.{same_Some}
@@ -16,13 +15,10 @@ module _ (entries : List (At × Entry)) (left right : At) (it : AreSideBySide en
   moved = it.is ∙ sym (append_assoc it.before ((left, it.window) ∷ []) ((right, it.next) ∷ it.rest))
 
   pub stands-right : StandsIn entries right
-  stands-right =
-      subst (λ (es : List (At × Entry)). StandsIn es right) (sym moved)
-      (stands-once (it.before ++ (left, it.window) ∷ []) right it.next it.rest it.right_once)
+  stands-right = rw moved (stands-once (it.before ++ (left, it.window) ∷ []) right it.next it.rest it.right_once)
 
   pub stands-left : StandsIn entries left
-  stands-left =
-      subst (λ (es : List (At × Entry)). StandsIn es left) (sym it.is) (stands-once it.before left it.window ((right, it.next) ∷ it.rest) it.left_once)
+  stands-left = rw it.is (stands-once it.before left it.window ((right, it.next) ∷ it.rest) it.left_once)
 
   pub entry-left : entry_at entries left ≡ Some it.window
   entry-left = ap (λ es. entry_at es left) it.is ∙ entry-once it.before left it.window ((right, it.next) ∷ it.rest) it.left_once
@@ -47,7 +43,7 @@ module _ (entries : List (At × Entry)) (left right : At) (it : AreSideBySide en
 
   -- what stands at the place of the left one
   pub stands-joined : (line : List (At × Entry)) (e : Entry) → line ≡ it.before ++ (left, e) ∷ it.rest → StandsIn line left
-  stands-joined line e is = subst (λ (es : List (At × Entry)). StandsIn es left) (sym is) (stands-once it.before left e it.rest it.left_once)
+  stands-joined line e is = rw is (stands-once it.before left e it.rest it.left_once)
 
   pub entry-joined : (line : List (At × Entry)) (e : Entry) → line ≡ it.before ++ (left, e) ∷ it.rest → entry_at line left ≡ Some e
   entry-joined line e is = ap (λ es. entry_at es left) is ∙ entry-once it.before left e it.rest it.left_once

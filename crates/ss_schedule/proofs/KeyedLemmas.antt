@@ -1,7 +1,6 @@
 -- What keys a schedule has for a line that changes.
-use Rattle.std.proofs.Common.{◌≡◌, ◌≢◌, ◌∙◌, ℕ, ◌+◌, ◌≤◌, ◌<◌, true, false, List, [], ◌∷◌, ◌++◌, length}
-use Rattle.std.proofs.Common.{refl, take, set}
-use Rattle.std.proofs.Common.{sym, ap, subst, arith, append_assoc, length-append, Option, Some, None, inl, inr, IfSome}
+use Rattle.std.proofs.Common.{◌≡◌, ◌≢◌, ◌∙◌, ℕ, ◌+◌, ◌≤◌, ◌<◌, true, false, List, [], ◌∷◌, ◌++◌, length, refl, take, set, sym, ap, arith, append_assoc}
+use Rattle.std.proofs.Common.{length-append, Option, Some, None, inl, inr, IfSome}
 use Rattle.std.proofs.lemmas.Bool.{cases_Bool, cases_eq, both_ways, eq-eqb}
 use Rattle.std.proofs.lemmas.List.{get_or-set_other, get_or-set_same, length-set}
 use Rattle.std.proofs.lemmas.Option.{same_Some}
@@ -19,8 +18,7 @@ use Rattle.ss_schedule.specs.Pairs.{AreSideBySide, IsPairIn, IsSpan, NoPairFits,
 use Rattle.ss_schedule.specs.declared.pair.Pair.{Pair}
 use Rattle.ss_schedule.proofs.PairLemmas.{pair_at-within, pair_among-absent, pair_among-here}
 use Rattle.ss_schedule.proofs.JoinLemmas.{entry-left, entry-right, stands-left, stands-right}
-use Rattle.ss_schedule.proofs.Places.{AreApart, AreApart-seam, AreApart-tail, IsAt, IsAt-stands, apart-before, apart-behind}
-use Rattle.ss_schedule.proofs.Places.{take-seam}
+use Rattle.ss_schedule.proofs.Places.{AreApart, AreApart-seam, AreApart-tail, IsAt, IsAt-stands, apart-before, apart-behind, take-seam}
 
 -- the positions of a pair in a line whose positions follow one another
 IsSpan-behind : (n first : ℕ) (e : At × Entry) (entries : List (At × Entry)) (at : At) (pair : Pair) → TileUpTo n first (e ∷ entries) →
@@ -36,7 +34,7 @@ IsSpan-behind n first e (x ∷ xs) at pair follow some is =
       | inl here ↦ (
           let same : Some (pair_of e x) ≡ Some pair = rw here at is in
           let one : pair_of e x ≡ pair = cc in
-          subst (λ p. IsSpan n p) one (record { begins = omega arith; order = omega arith; taken = follow.3.2 }))
+          rw (← one) (record { begins = omega arith; order = omega arith; taken = follow.3.2 }))
       | inr later ↦ (
           let rest : pair_among x xs at ≡ Some pair = rw later at is in
           IsSpan-behind n (e.1.last + 1) x xs at pair follow.3 (omega arith) rest)
@@ -126,7 +124,7 @@ NoPairFits-keyed n entries schedule full apart keyed past =
     NoPairFits-all (merge_rule schedule) n entries apart
     (λ at pair is.
     let span = IsSpan-pair n entries at pair keyed.follow is in
-    let key = subst (λ o. IsKeyOf (merge_rule schedule) n o (key_at schedule.keys at)) is (keyed.keys at) in
+    let key = rw is at (keyed.keys at) in
     may_join-before (merge_rule schedule) n pair (key_at schedule.keys at) full span keyed.few key (past at))
 
 -- the next count
@@ -139,7 +137,7 @@ NoPairFits-at_behind rule n e (x ∷ xs) at pair none is =
       | inl here ↦ (
           let same : Some (pair_of e x) ≡ Some pair = rw here at is in
           let one : pair_of e x ≡ pair = cc in
-          subst (λ (p : Pair). pair_may_join rule n p ≡ false) one none.0)
+          rw (← one) none.0)
       | inr later ↦ (let rest : pair_among x xs at ≡ Some pair = rw later at is in NoPairFits-at_behind rule n x xs at pair none.1 rest)
     ]
 
@@ -165,7 +163,7 @@ IsKeyOf-next rule n (Some pair) (Some key) unfit is = record {
   together = is.together;
   first = record {
     reached = elim (cases_eq key.1 n) [
-      | inl same ↦ absurd (unfit pair refl is.together (subst (λ m. Fits rule.lengths pair.first pair.last m) same is.first.fits))
+      | inl same ↦ absurd (unfit pair refl is.together (rw same at is.first.fits))
       | inr other ↦ (let reached = is.first.reached in omega arith)
     ];
     fits = is.first.fits;
@@ -203,13 +201,13 @@ module _ (old new : ScheduleState) (n : ℕ) (at : At) (found : Option Pair) (pu
       IsKeyOf (merge_rule new) n pair (key_at new.keys other)
   put-here other entry pair here same =
       let place = same_place other (at, entry) here in
-      rw same (subst (λ (a : At). IsKeyOf (merge_rule new) n found (key_at new.keys a)) place put.here)
+      rw same (rw place at put.here)
 
   pub put-other : (other : At) (entry : Entry) (pair : Option Pair) → is_at other (at, entry) ≡ false →
       IsKeyOf (merge_rule old) n pair (key_at old.keys other) → IsKeyOf (merge_rule new) n pair (key_at new.keys other)
   put-other other entry pair later was =
       let apart : other.0 ≢ at.0 = λ same. both_ways (is_at other (at, entry)) later (eq-eqb at.0 other.0 (sym same)) in
-      subst (λ rule. IsKeyOf rule n pair (key_at new.keys other)) (sym len-kept) (rw (put.others other apart) was)
+      rw (len-kept, put.others other apart) was
 
 -- the places of entries
 pub AreBelow-append : (room : ℕ) (xs ys : List (At × Entry)) → AreBelow room xs → AreBelow room ys → AreBelow room (xs ++ ys)
@@ -233,8 +231,7 @@ IsKeyed-room n entries old new target more same keyed = record {
   room = AreBelow-more (length old.keys) (length new.keys) entries more keyed.room;
   keys = λ at.
       let rule = ap (λ t. merge_rule (let s : ScheduleState = record { target = t; keys = [] } in s)) (sym target) in
-      subst (λ r. IsKeyOf r n (pair_at entries at) (key_at new.keys at)) rule
-      (subst (λ (k : Option (At × ℕ)). IsKeyOf (merge_rule old) n (pair_at entries at) k) (sym (same at)) (keyed.keys at));
+      rw (← (same at), rule) at (keyed.keys at);
 }
 
 -- one entry more at the end
@@ -244,8 +241,7 @@ pub IsKeyed-more : (n : ℕ) (before : List (At × Entry)) (at : At) (entry : En
 IsKeyed-more n before at entry old new keyed inside put follow = record {
   few = keyed.few;
   follow = follow;
-  room = subst (λ (room : ℕ). AreBelow room (before ++ (at, entry) ∷ [])) (sym put.room)
-      (AreBelow-append (length old.keys) before ((at, entry) ∷ []) keyed.room (inside, tt));
+  room = rw put.room (AreBelow-append (length old.keys) before ((at, entry) ∷ []) keyed.room (inside, tt));
   keys = λ other. elim (cases_Bool (is_at other (at, entry))) [
     | inl here ↦ (
         let place = same_place other (at, entry) here in
@@ -315,7 +311,7 @@ module _ (entries : List (At × Entry)) (apart : AreApart entries) (at : At) (pa
   pub split-stands : (left : At) → left ≡ pair.left → (StandsIn entries left) × (StandsIn entries at)
   split-stands left same =
       let place : it.left.0 ≡ left = sym (same ∙ ap (λ (p : Pair). p.left) it.pair_is) in (
-        subst (λ (a : At). StandsIn entries a) place (stands-left entries it.left.0 at side_by_side),
+        rw place at (stands-left entries it.left.0 at side_by_side),
         stands-right entries it.left.0 at side_by_side,
       )
 
@@ -335,8 +331,7 @@ module _ (entries : List (At × Entry)) (apart : AreApart entries) (at : At) (pa
   pub IsPairIn-read : (read : Pair) → read ≡ pair → IsPairIn entries read
   unfolding side_by_side
   IsPairIn-read read same =
-      subst (λ (p : Pair). IsPairIn entries p) (sym (same ∙ it.pair_is))
-      (record { neighbours = side_by_side; first = refl; last = refl; t_first = refl; t_last = refl })
+      rw (same ∙ it.pair_is) (record { neighbours = side_by_side; first = refl; last = refl; t_first = refl; t_last = refl })
 
 -- a key that is at most n is of a pair that fits at n
 pub fits-by : (rule : Rule) (n fit : ℕ) (pair : Pair) (key : At × ℕ) → ArePositive rule.lengths → IsSpan n pair → fit ≤ n → key.1 ≡ fit →
@@ -345,7 +340,7 @@ pub fits-by : (rule : Rule) (n fit : ℕ) (pair : Pair) (key : At × ℕ) → Ar
 fits-by rule n fit pair key full span le same is =
     let reached = is.first.reached in
     let now : key.1 ≡ n = omega arith in
-    IsTrue-may_join rule n pair full span is.together (subst (λ m. Fits rule.lengths pair.first pair.last m) now is.first.fits)
+    IsTrue-may_join rule n pair full span is.together (rw now at is.first.fits)
 
 -- the entries up to one of a line, and with it
 pub taken-before : (entries : List (At × Entry)) (at : At) (it : IsAt entries at) → take (index_of entries at) entries ≡ it.before
@@ -379,17 +374,14 @@ pub IsKeyed-added : (n : ℕ) (entries : List (At × Entry)) (at : At) (old new 
     PutsKey old new n at found → IsKeyed n (take (index_of entries at + 1) entries) new
 IsKeyed-added n entries at old new found apart stands inside is keyed follow put =
     let it = IsAt-stands entries at stands in
-    subst (λ (es : List (At × Entry)). IsKeyed n es new) (sym (taken-with entries at it))
-    (IsKeyed-more n it.before at it.entry old new (subst (λ (es : List (At × Entry)). IsKeyed n es old) (taken-before entries at it) keyed)
-    inside (subst (λ o. PutsKey old new n at o) (is ∙ pair-with entries at it apart) put)
-    (subst (λ (es : List (At × Entry)). FollowUpTo n es) (taken-with entries at it) follow))
+    rw (taken-with entries at it) (IsKeyed-more n it.before at it.entry old new (rw (taken-before entries at it) at keyed)
+    inside (rw (is ∙ pair-with entries at it apart) at put) (rw (taken-with entries at it) at follow))
 
 pub spans-added : (n : ℕ) (entries : List (At × Entry)) (at : At) (found : Option Pair) → AreApart entries → StandsIn entries at →
     found ≡ pair_at entries at → FollowUpTo n (take (index_of entries at + 1) entries) → IfSome found (IsSpan n)
 spans-added n entries at found apart stands is follow =
     let it = IsAt-stands entries at stands in
-    spans n (it.before ++ (at, it.entry) ∷ []) at found (subst (λ (es : List (At × Entry)). FollowUpTo n es) (taken-with entries at it) follow)
-    (is ∙ pair-with entries at it apart)
+    spans n (it.before ++ (at, it.entry) ∷ []) at found (rw (taken-with entries at it) at follow) (is ∙ pair-with entries at it apart)
 
 -- a key that has room
 pub PutsKey-set : (old : ScheduleState) (keys : List (Option (At × ℕ))) (n : ℕ) (at : At) (pair : Option Pair) (key : Option (At × ℕ)) →
@@ -397,8 +389,7 @@ pub PutsKey-set : (old : ScheduleState) (keys : List (Option (At × ℕ))) (n : 
     at.0 < length old.keys → keys ≡ set old.keys at.0 key →
     PutsKey old (let s : ScheduleState = record { target = old.target; keys = keys } in s) n at pair
 PutsKey-set old keys n at pair key is inside set_is = record {
-  here = subst (λ (k : Option (At × ℕ)). IsKeyOf (merge_rule old) n pair k)
-      (sym (ap (λ ks. key_at ks at) set_is ∙ get_or-set_same old.keys at.0 key None inside)) is;
+  here = rw (ap (λ ks. key_at ks at) set_is ∙ get_or-set_same old.keys at.0 key None inside) is;
   others = λ other apart. ap (λ ks. key_at ks other) set_is ∙ get_or-set_other old.keys at.0 other.0 key None apart;
   room = ap length set_is ∙ length-set old.keys at.0 key;
   target = refl;
@@ -415,7 +406,7 @@ pub IsPairOfKey-keyed : (n : ℕ) (entries : List (At × Entry)) (schedule : Sch
     key_at schedule.keys right ≡ Some (left, fit) → IsPairOfKey n entries schedule right left fit
 IsPairOfKey-keyed n entries schedule right left fit keyed key =
     let found = key-pair (merge_rule schedule) n (pair_at entries right) (left, fit)
-    (subst (λ (k : Option (At × ℕ)). IsKeyOf (merge_rule schedule) n (pair_at entries right) k) key (keyed.keys right)) in
+    (rw key at (keyed.keys right)) in
     record {
       pair = found.0;
       split = IsSplit-pair entries right found.0 found.1;

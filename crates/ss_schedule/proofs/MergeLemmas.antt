@@ -1,6 +1,6 @@
 -- The keys after two neighbours are joined.
 use Rattle.std.proofs.Common.{◌≡◌, ◌∙◌, ℕ, ◌+◌, ◌<◌, Bool, true, false, List, [], ◌∷◌, ◌++◌, length, refl}
-use Rattle.std.proofs.Common.{sym, ap, subst, append_assoc, Option, Some, None, IfSome, inl, inr}
+use Rattle.std.proofs.Common.{sym, ap, append_assoc, Option, Some, None, IfSome, inl, inr}
 use Rattle.std.specs.List.{list_any}
 use Rattle.std.proofs.lemmas.Bool.{cases_Bool, both_ways, or_parts}
 use Rattle.std.proofs.lemmas.List.Folds.{list_any-append}
@@ -14,8 +14,7 @@ use Rattle.ss_schedule.specs.Pairs.{AreSideBySide, IsSpan, joined_entry, pair_at
 use Rattle.ss_schedule.specs.declared.pair.Pair.{Pair}
 use Rattle.ss_schedule.proofs.KeyedLemmas.{AreBelow-append, AreBelow-parts, FollowUpTo-joined, IsSpan-pair, put-here, put-other, spans}
 use Rattle.ss_schedule.proofs.PairLemmas.{pair_at-neighbours, pair_at-past, pair_at-within}
-use Rattle.ss_schedule.proofs.Places.{AreApart, AreApart-seam, apart-behind, apart-parts}
-use Rattle.ss_schedule.proofs.Places.{place_at-behind, some-first}
+use Rattle.ss_schedule.proofs.Places.{AreApart, AreApart-seam, apart-behind, apart-parts, place_at-behind, some-first}
 
 -- whether the first of these entries stands at the place
 abbrev pub is_first : At → List (At × Entry) → Bool
@@ -50,7 +49,7 @@ module _ (n : ℕ) (entries : List (At × Entry)) (left right : At) (it : AreSid
   apart-split = AreApart-seam entries _ it.is apart
 
   follow-split : FollowUpTo n (it.before ++ (left, it.window) ∷ (right, it.next) ∷ it.rest)
-  follow-split = subst (λ (es : List (At × Entry)). FollowUpTo n es) it.is keyed.follow
+  follow-split = rw it.is at keyed.follow
 
   pub follow-joined : FollowUpTo n joined
   follow-joined = FollowUpTo-joined n it.before left right it.window it.next it.rest follow-split
@@ -93,7 +92,7 @@ module _ (n : ℕ) (entries : List (At × Entry)) (left right : At) (it : AreSid
 
   -- there is room for both, and for those behind them
   room-split : AreBelow (length old.keys) it.before × AreBelow (length old.keys) ((left, it.window) ∷ (right, it.next) ∷ it.rest)
-  room-split = AreBelow-parts (length old.keys) it.before _ (subst (λ (es : List (At × Entry)). AreBelow (length old.keys) es) it.is keyed.room)
+  room-split = AreBelow-parts (length old.keys) it.before _ (rw it.is at keyed.room)
 
   pub room-right : right.0 < length old.keys
   room-right = room-split.1.1.0
@@ -115,8 +114,7 @@ module _ (n : ℕ) (entries : List (At × Entry)) (left right : At) (it : AreSid
     follow = follow-joined;
     room =
         let same : length three.keys ≡ length old.keys = third.room ∙ second.room ∙ first.room in
-        subst (λ (room : ℕ). AreBelow room joined) (sym same)
-        (AreBelow-append (length old.keys) it.before ((left, joined_entry it.window it.next) ∷ it.rest) room-split.0 (room-left, room-split.1.1.1));
+        rw same (AreBelow-append (length old.keys) it.before ((left, joined_entry it.window it.next) ∷ it.rest) room-split.0 (room-left, room-split.1.1.1));
     keys = λ at. elim (cases_Bool (is_first at it.rest)) [
       | inl is_next ↦ third.here at is_next
       | inr not_next ↦ third.others at (pair_at joined at) not_next (elim (cases_Bool (is_at at (left, it.window))) [
@@ -163,7 +161,7 @@ module _ (n : ℕ) (entries : List (At × Entry)) (left right : At) (it : AreSid
 
     pub put-left : (one two : ScheduleState) (found : Option Pair) → found ≡ pair_at line left → PutsKey one two n left found →
         PutsKey one two n left (pair_at joined left)
-    put-left one two found is put = subst (λ (o : Option Pair). PutsKey one two n left o) (is ∙ ap (λ es. pair_at es left) line_is) put
+    put-left one two found is put = rw (is ∙ ap (λ es. pair_at es left) line_is) at put
 
     behind-is : place_at line (index_of line left + 1) ≡ place_at it.rest 0
     behind-is =
@@ -176,8 +174,7 @@ module _ (n : ℕ) (entries : List (At × Entry)) (left right : At) (it : AreSid
     pub IsKeyed-joined_last : (one two : ScheduleState) (found : Option Pair) → PutsKey old one n right None → found ≡ pair_at line left →
         PutsKey one two n left found → None ≡ place_at line (index_of line left + 1) → IsKeyed n line two
     IsKeyed-joined_last one two found first is second none =
-        subst (λ (es : List (At × Entry)). IsKeyed n es two) (sym line_is)
-        (IsKeyed-joined one two two first (put-left one two found is second) (IsNextPut-none two (none-first it.rest (none ∙ behind-is))))
+        rw line_is (IsKeyed-joined one two two first (put-left one two found is second) (IsNextPut-none two (none-first it.rest (none ∙ behind-is))))
 
     -- the pair with the one behind
     pub record IsNext (pair : Pair) : Type 0 where
@@ -204,8 +201,8 @@ module _ (n : ℕ) (entries : List (At × Entry)) (left right : At) (it : AreSid
     module _ (pair : Pair) (next : IsNext pair) where
       pub room-next : pair.right.0 < length old.keys
       room-next =
-          let rest = subst (λ (es : List (At × Entry)). AreBelow (length old.keys) es) next.is room-split.1.1.1 in
-          subst (λ (a : At). a.0 < length old.keys) next.place rest.0
+          let rest = rw next.is at room-split.1.1.1 in
+          rw next.place at rest.0
 
       pub span-next : pair_at line pair.right ≡ Some pair → IsSpan n pair
       span-next is = IsSpan-pair n joined pair.right pair follow-joined (sym (ap (λ es. pair_at es pair.right) line_is) ∙ is)
@@ -214,7 +211,5 @@ module _ (n : ℕ) (entries : List (At × Entry)) (left right : At) (it : AreSid
           PutsKey one two n left found → pair_at line pair.right ≡ Some pair → PutsKey two three n pair.right (Some pair) → IsKeyed n line three
       IsKeyed-joined_next one two three found first is second paired third =
           let put : PutsKey two three n next.entry.0 (pair_at joined next.entry.0) =
-          subst (λ (a : At). PutsKey two three n a (pair_at joined a)) (sym next.place)
-          (subst (λ (o : Option Pair). PutsKey two three n pair.right o) (sym paired ∙ ap (λ es. pair_at es pair.right) line_is) third) in
-          subst (λ (es : List (At × Entry)). IsKeyed n es three) (sym line_is)
-          (IsKeyed-joined one two three first (put-left one two found is second) (IsNextPut-some two three next.entry next.further next.is put))
+          rw next.place (rw (sym paired ∙ ap (λ es. pair_at es pair.right) line_is) at third) in
+          rw line_is (IsKeyed-joined one two three first (put-left one two found is second) (IsNextPut-some two three next.entry next.further next.is put))

@@ -1,6 +1,5 @@
 -- Entries whose keys ascend: each key has one place.
-use Rattle.std.proofs.Common.{◌≡◌, ◌≢◌, ◌∙◌, sym, ap, subst, refl, ℕ, ◌<◌, ◌≤◌, true, false, cond, not, ◌&&◌}
-use Rattle.std.proofs.Common.{List, [], ◌∷◌, ◌++◌, All, None, Some, arith, inl, inr}
+use Rattle.std.proofs.Common.{◌≡◌, ◌≢◌, ◌∙◌, sym, ap, refl, ℕ, ◌<◌, ◌≤◌, true, false, cond, not, ◌&&◌, List, [], ◌∷◌, ◌++◌, All, None, Some, arith, inl, inr}
 use Rattle.std.proofs.lemmas.Bool.{cases_lt, cases_eq}
 use Rattle.std.proofs.lemmas.Cmp.{ranked}
 use Rattle.std.proofs.lemmas.List.Elements.{All-cons, All-head, All-nil, All-tail}
@@ -141,7 +140,7 @@ is_last_by-begun t x xs e le rest [] is =
     let same : x ≡ e = cc in
     let none : up_to t xs ≡ [] = cc in
     let it : IsLastBy t (x ∷ xs) x.1 = record { before = []; time = x.0; behind = xs; is = refl; begun = le; later = all_later t xs none } in
-    subst (λ (y : ℕ × At). IsLastBy t (x ∷ xs) y.1) same it
+    rw (← same) it
 is_last_by-begun t x xs e le rest (f ∷ front) is =
     let there : up_to t xs ≡ front ++ e ∷ [] = cc in
     is_last_by-cons t x xs e.1 (rest front there)

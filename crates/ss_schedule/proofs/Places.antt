@@ -1,6 +1,6 @@
 -- Where entries stand in a line.
 use Rattle.std.proofs.Common.{◌≡◌, ◌∙◌, ℕ, ◌+◌, ◌≤◌, Bool, true, false, cond, List, [], ◌∷◌, ◌++◌, length, refl, take}
-use Rattle.std.proofs.Common.{sym, ap, subst, arith, append_assoc, length-append, count_by, Some, inl, inr}
+use Rattle.std.proofs.Common.{sym, ap, arith, append_assoc, length-append, count_by, Some, inl, inr}
 use Rattle.std.specs.List.{list_any, remove}
 use Rattle.std.specs.Option.{option_map}
 use Rattle.std.proofs.lemmas.Bool.{cases_Bool, cond-true, or_parts, both_ways}
@@ -135,7 +135,7 @@ pub AreApart-tail : (e : At × Entry) (es : List (At × Entry)) → AreApart (e 
 AreApart-tail e es apart at = omega (arith, apart at, sum_by-cons (λ x. cond (is_at at x) 1 0) e es)
 
 pub AreApart-seam : (entries before : List (At × Entry)) → entries ≡ before → AreApart entries → AreApart before
-AreApart-seam entries before is apart = subst (λ (es : List (At × Entry)). AreApart es) is apart
+AreApart-seam entries before is apart = rw is at apart
 
 -- a place that doesn't stand
 pub fresh-none : (entries : List (At × Entry)) (at : At) → ¬ StandsIn entries at → list_any (is_at at) entries ≡ false

@@ -1,5 +1,5 @@
 -- Worked rows: a window that begins at 3, at place 2, and one that begins at 7, at place 0.
-use Rattle.std.proofs.Common.{◌≡◌, ℕ, ◌<◌, ◌≤◌, List, [], ◌∷◌, ◌++◌, All, None, Some, ap, sym, subst, arith, refl, lit<, lit≤}
+use Rattle.std.proofs.Common.{◌≡◌, ℕ, ◌<◌, ◌≤◌, List, [], ◌∷◌, ◌++◌, None, Some, ap, arith, refl, lit<, lit≤}
 use Rattle.std.proofs.lemmas.List.Elements.{All-cons, All-head, All-nil}
 use Rattle.ss_line.specs.declared.entry.At.{At}
 use Rattle.ss_schedule.specs.Times.{IsSought}
@@ -58,6 +58,6 @@ IsSought-early it = let split = first_is it.before it.time it.behind it.is in om
 pub IsSought-late : ¬ IsSought 7 windows (Some (place 2))
 IsSought-late it =
     let split = first_is it.before it.time it.behind it.is in
-    let later = subst (λ (es : List (ℕ × At)). All (λ e. 7 < e.0) es) (sym split.1) it.later in
+    let later = rw (← split.1) at it.later in
     let past : 7 < 7 = All-head (λ e. 7 < e.0) (7, place 0) [] later in
     omega (arith, past)

@@ -1,6 +1,4 @@
-use Rattle.std.proofs.Common.{◌≡◌, ◌<◌, ℕ, List, Option, arith, length, ap, subst}
-use Rattle.ss_line.specs.declared.entry.At.{At}
-use Rattle.ss_schedule.specs.Held.{IsHeap, fit_at}
+use Rattle.std.proofs.Common.{◌≡◌, ◌<◌, arith, length, ap}
 use Rattle.ss_schedule.proofs.HeapLemmas.{AreHeldKeys-set, written_back}
 use Rattle.ss_schedule.proofs.keys.Keys.set.Goals as goal
 
@@ -8,8 +6,7 @@ pub invariant_of-self : goal.invariant_of-self
 invariant_of-self c =
     let len : length c.restore.new.heap ≡ length c.self.inside.heap.items = omega (arith, c.restore.ensures.heap.all) in
     let room : c.args.at.0 < length c.self.inside.keys.items = omega (arith, c.requires.room, ap length c.self.view_is) in
-    let order = subst (λ (ks : List (Option (At × ℕ))). IsHeap (fit_at ks c.restore.new.heap) (length c.restore.new.heap)) c.deref.ensures.value
-    c.restore.ensures.heap.order in
+    let order = rw c.deref.ensures.value at c.restore.ensures.heap.order in
     let held = AreHeldKeys-set c.self.inside.keys.items c.self.inside.heap.items c.self.inside.positions.items c.self.invariant.0 c.args.at.0 c.args.key
     c.restore.new.heap c.restore.new.positions room c.requires.early c.restore.ensures.heap.inverse len order in
     let heap = written_back c.self.inside.heap.items c.restore.new.heap c.self.inside.heap.len (omega arith) in

@@ -1,7 +1,5 @@
-use Rattle.std.proofs.Common.{◌<◌, ◌∙◌, ℕ, ap, refl, sym, subst, Option, List}
-use Rattle.ss_line.specs.declared.entry.At.{At}
+use Rattle.std.proofs.Common.{◌∙◌, ap, refl, sym}
 use Rattle.ss_target.specs.Targets.{lengths-positive}
-use Rattle.ss_schedule.specs.Held.{fit_of}
 use Rattle.ss_schedule.specs.Keyed.{ScheduleState, key_at, merge_rule}
 use Rattle.ss_schedule.specs.Pairs.{pair_may_join}
 use Rattle.ss_schedule.proofs.KeyedLemmas.{IsPairIn-read, IsPairOfKey-keyed, NoPairFits-keyed, fits-by, read-is, split-stands}
@@ -12,7 +10,7 @@ returns-in_err-right-clause-none g c =
     let keys = ap (λ (s : ScheduleState). s.keys) c.self.view_is in
     rw c.from_residual.ensures
     (NoPairFits-keyed c.args.n c.args.line.now.entries c.args.self.now (lengths-positive c.args.self.now.target) c.len-len.ensures.line.apart c.requires
-    (λ at. subst (λ (ks : List (Option (At × ℕ))). c.args.n < fit_of (key_at ks at)) keys (c.in_err-right.ensures.none at)))
+    (λ at. rw keys at (c.in_err-right.ensures.none at)))
 
 pub get-window-requires : goal.get-window-requires
 get-window-requires g c =

@@ -1,17 +1,17 @@
-use Rattle.std.proofs.Common.{◌∙◌, ℕ, List, ap, subst}
+use Rattle.std.proofs.Common.{◌∙◌, ℕ, List, ap}
 use Rattle.std.specs.BTreeMap.{BTreeMap, is_at}
 use Rattle.std.specs.Map.{lookup, set_value}
 use Rattle.std.specs.Ordering.{nat_cmp}
 use Rattle.ss_line.specs.declared.entry.At.{At}
 use Rattle.ss_schedule.specs.contracts.times.Times.{the_view}
-use Rattle.ss_schedule.proofs.OrderLemmas.{Ascend, lookup-absent, lookup-there, set_value-there}
+use Rattle.ss_schedule.proofs.OrderLemmas.{lookup-absent, lookup-there, set_value-there}
 use Rattle.ss_schedule.proofs.times.Times.put.Goals.{in-Some, in_default}
 use Rattle.ss_schedule.proofs.times.Times.put.Goals as goal
 
 pub returns-clause-place : goal.returns-clause-place
 returns-clause-place c before behind was is =
     let there = c.self.view_is ∙ is in
-    let ascend = subst Ascend there c.get_mut.ensures.ordered in
+    let ascend = rw there at c.get_mut.ensures.ordered in
     elim c.match-get_mut.branch [
       | in-Some w ↦ ap the_view w.self-inside-is ∙ (c.get_mut.follows.holds c.args.at).0 ∙
           ap (λ (es : List (ℕ × At)). set_value (is_at (nat_cmp c.args.t)) es c.args.at) there ∙

@@ -1,17 +1,14 @@
-use Rattle.std.proofs.Common.{◌∙◌, ℕ, List, None, subst, sym}
-use Rattle.ss_line.specs.declared.entry.At.{At}
-use Rattle.ss_schedule.specs.Times.{IsLastBy, IsSought}
+use Rattle.std.proofs.Common.{◌∙◌, sym}
 use Rattle.ss_schedule.proofs.OrderLemmas.{all_later, is_last_by}
 use Rattle.ss_schedule.proofs.times.Times.seek.Goals as goal
 
 pub returns-in_err-at : goal.returns-in_err-at
 returns-in_err-at c =
     let none = sym (c.range.ensures.between tt) ∙ c.in_err-at.ensures.steps.0 in
-    rw c.from_residual.ensures
-    (subst (λ (es : List (ℕ × At)). IsSought c.args.t es None) c.self.view_is (all_later c.args.t c.self.inside.places.entries none))
+    rw c.from_residual.ensures (rw c.self.view_is at (all_later c.args.t c.self.inside.places.entries none))
 
 pub returns : goal.returns
 returns c =
     let is = sym (c.range.ensures.between tt) ∙ c.in_ok-at.ensures.steps in
-    subst (λ (es : List (ℕ × At)). IsLastBy c.args.t es c.in_ok-at.at.now) c.self.view_is
+    rw c.self.view_is at
     (is_last_by c.args.t c.self.inside.places.entries c.next_back.new.self (c.in_ok-at.field-0-0.now, c.in_ok-at.at.now) c.range.ensures.ordered is)
