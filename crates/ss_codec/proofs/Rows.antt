@@ -14,32 +14,17 @@ use Rattle.ss_codec.specs.Record.{spelling, is_valid}
 use Rattle.ss_codec.specs.Decoded.{decoded, finish_in, landmark_in, params_in, record_in, stream_in, value_in}
 
 -- the numbers of the format
-slot_size : SLOT_SIZE ≡ 128
-slot_size = refl
+slot_size_and_place_of_name : SLOT_SIZE ∷ NAME ∷ [] ≡ 128 ∷ 24 ∷ []
+slot_size_and_place_of_name = refl
 
-kind_of_streams : STREAM ≡ 1
-kind_of_streams = refl
+kinds : STREAM ∷ LANDMARK ∷ VALUE ∷ [] ≡ 1 ∷ 3 ∷ 4 ∷ []
+kinds = refl
 
-kind_of_landmarks : LANDMARK ≡ 3
-kind_of_landmarks = refl
+families : EXPONENTIAL ∷ POWER_LAW ∷ [] ≡ 1 ∷ 2 ∷ []
+families = refl
 
-kind_of_values : VALUE ≡ 4
-kind_of_values = refl
-
-family_of_exponentials : EXPONENTIAL ≡ 1
-family_of_exponentials = refl
-
-family_of_power_laws : POWER_LAW ≡ 2
-family_of_power_laws = refl
-
-state_of_the_open : OPEN ≡ 1
-state_of_the_open = refl
-
-state_of_the_closed : CLOSED ≡ 2
-state_of_the_closed = refl
-
-place_of_name : NAME ≡ 24
-place_of_name = refl
+states : OPEN ∷ CLOSED ∷ [] ≡ 1 ∷ 2 ∷ []
+states = refl
 
 -- the last time of an event is the latest of a window
 last_time : LAST_TIME ≡ LATEST_TIME

@@ -230,7 +230,7 @@ fn other_in(bytes: &[u8; SLOT_SIZE]) -> Option<Record>
 }
 
 // Whether some words of 8 bytes, up to another one, are zeros.
-fn are_zeros(bytes: &[u8; SLOT_SIZE], from: usize, to: usize) -> bool
+fn are_zero_words(bytes: &[u8; SLOT_SIZE], from: usize, to: usize) -> bool
     requires order { from ≤ to }
     requires inside { to ≤ 16 }
     ensures { result ≡ list_all (λ byte. byte == 0) (take (8 * (to - from)) (drop (8 * from) bytes.now)) }
@@ -248,7 +248,7 @@ fn is_filter_spelled(bytes: &[u8; SLOT_SIZE]) -> bool
     ensures { result ≡ is_filter_spelled bytes.now }
 {
     match bytes[1] {
-        ALL_BITS => are_zeros(bytes, 9, 13),
+        ALL_BITS => are_zero_words(bytes, 9, 13),
         BY_WORDS => !is_full(filter_in(bytes)),
         _ => false,
     }
@@ -256,10 +256,10 @@ fn is_filter_spelled(bytes: &[u8; SLOT_SIZE]) -> bool
 
 // Whether zeros stand wherever a window has no field, and its filter is spelled as it should be.
 #[tactic(auto, using(crate::proofs::ZeroLemmas::is_blank_bytes, std::proofs::lemmas::Bool::Decides::nat_tests))]
-fn is_blank(bytes: &[u8; SLOT_SIZE]) -> bool
+fn is_blank_beside(bytes: &[u8; SLOT_SIZE]) -> bool
     ensures { result ≡ is_blank_beside bytes.now }
 {
-    bytes[2] == 0 && bytes[3] == 0 && are_zeros(bytes, 13, 16) && is_filter_spelled(bytes)
+    bytes[2] == 0 && bytes[3] == 0 && are_zero_words(bytes, 13, 16) && is_filter_spelled(bytes)
 }
 
 // The record that the bytes of a window spell. Its fields are what is read, so the other bytes tell whether it is spelled so.
@@ -267,7 +267,7 @@ fn decode_window(bytes: &[u8; SLOT_SIZE]) -> Option<Record>
     requires { slice_index bytes.now 0 ≡ WINDOW }
     ensures { result ≡ decoded bytes.now }
 {
-    if is_blank(bytes) {
+    if is_blank_beside(bytes) {
         window_in(bytes)
     } else {
         None

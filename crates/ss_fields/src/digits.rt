@@ -22,7 +22,7 @@ fn with_digit(value: u64, digit: u8) -> Option<u64>
 }
 
 // The number that the digits spell, unless it passes 64 bits.
-fn number_of(word: &[u8]) -> Option<u64>
+fn spelled_number(word: &[u8]) -> Option<u64>
     requires { AllDigits 10 word.now }
     ensures { result ≡ (if nat_lt (number_of word.now) (2 ^ 64) then Some (number_of word.now) else None) }
 {
@@ -42,7 +42,7 @@ pub fn read_up_to(word: &[u8], most: u64) -> Result<u64, NumberError>
     if !is_number(word) {
         return Err(NumberError::NotNumber);
     }
-    match number_of(word) {
+    match spelled_number(word) {
         Some(value) if value <= most => Ok(value),
         _ => Err(NumberError::OutOfRange),
     }

@@ -64,7 +64,7 @@ impl Windows {
 }
 
 // The step that windows can keep to, as a number: 0 for none.
-fn step_number(within: Option<u32>) -> Result<u32, Param>
+fn step_kept_to(within: Option<u32>) -> Result<u32, Param>
     ensures exactly { IsOk result ↔ IsTrue (is_step within) }
     ensures step { IfOk result (λ step. step_for step ≡ within) }
 {
@@ -90,7 +90,7 @@ impl Target {
         ensures exactly { IsOk result ↔ IsTrue (has_target params) }
         ensures params { IfOk result (λ target. params_of target ≡ params) }
     {
-        let step = step_number(params.within)?;
+        let step = step_kept_to(params.within)?;
         let windows = Windows::of(params.family)?;
         Ok(Target { windows, step })
     }

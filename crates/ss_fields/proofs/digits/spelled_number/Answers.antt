@@ -4,7 +4,7 @@ use Rattle.std.proofs.lemmas.Bool.Decides.{nat_tests}
 use Rattle.std.proofs.lemmas.Str.Parse.{digit_at}
 use Rattle.ss_fields.specs.Words.{number_of}
 use Rattle.ss_fields.proofs.WordLemmas.{number_of-take_more, number_of-take-le}
-use Rattle.ss_fields.proofs.digits.number_of.Goals as goal
+use Rattle.ss_fields.proofs.digits.spelled_number.Goals as goal
 
 pub loop-digit-init : goal.loop-digit-init
 unfolding number_of

@@ -1,7 +1,7 @@
 use Rattle.std.proofs.Common.{◌≡◌, ◌-◌, ◌*◌, ◌+◌, arith, refl}
 use Rattle.std.proofs.lemmas.Bool.Decides.{nat_tests}
 use Rattle.ss_codec.proofs.ZeroLemmas.{zeros-word}
-use Rattle.ss_codec.proofs.decoding.are_zeros.Goals as goal
+use Rattle.ss_codec.proofs.decoding.are_zero_words.Goals as goal
 
 pub loop-word-preserved : goal.loop-word-preserved
 loop-word-preserved c =

@@ -1,6 +1,6 @@
 use Rattle.std.proofs.Common.{◌≡◌, ◌-◌, ◌*◌, ◌==◌, drop, take}
 use Rattle.std.specs.List.{list_all}
-use Rattle.ss_codec.proofs.decoding.are_zeros.Given as goal
+use Rattle.ss_codec.proofs.decoding.are_zero_words.Given as goal
 
 abbrev pub invariant-loop-word : goal.invariant-loop-word
 invariant-loop-word l = record {
