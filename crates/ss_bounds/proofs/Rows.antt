@@ -12,11 +12,8 @@ use Rattle.ss_bounds.specs.Times.{lies_in, split_of}
 use Rattle.ss_bounds.specs.Truth.{asked, HoldsExtreme, RiseFree, AreSplit}
 use Rattle.ss_bounds.specs.Extremes.{min_interval, max_interval}
 
-most_values : MOST_VALUES ≡ 2 ^ 40
-most_values = refl
-
-most_times : MOST_TIMES ≡ 2 ^ 62
-most_times = refl
+most_values_and_times : MOST_VALUES ∷ MOST_TIMES ∷ [] ≡ 2 ^ 40 ∷ 2 ^ 62 ∷ []
+most_values_and_times = refl
 
 -- the least and the greatest sum of x values
 abbrev sums : SplitFigures → ℕ → ℤ × ℤ

@@ -13,8 +13,8 @@ use crate::split::Split;
 pub fn min_bounds(exact: Option<i64>, left: Option<Split>, right: Option<Split>) -> Extreme
     ensures { result ≡ min_interval exact (listed left right) }
 {
-    let (left_can, left_must) = values(left);
-    let (right_can, right_must) = values(right);
+    let (left_can, left_must) = held_extremes(left);
+    let (right_can, right_must) = held_extremes(right);
     let lo = lesser(exact, lesser(min_of(left_can), min_of(right_can)));
     let hi = greater(max_of(left_can), max_of(right_can));
     let sure = lesser(exact, lesser(max_of(left_must), max_of(right_must)));
@@ -25,8 +25,8 @@ pub fn min_bounds(exact: Option<i64>, left: Option<Split>, right: Option<Split>)
 pub fn max_bounds(exact: Option<i64>, left: Option<Split>, right: Option<Split>) -> Extreme
     ensures { result ≡ max_interval exact (listed left right) }
 {
-    let (left_can, left_must) = values(left);
-    let (right_can, right_must) = values(right);
+    let (left_can, left_must) = held_extremes(left);
+    let (right_can, right_must) = held_extremes(right);
     let lo = lesser(min_of(left_can), min_of(right_can));
     let hi = greater(exact, greater(max_of(left_can), max_of(right_can)));
     let sure = greater(exact, greater(min_of(left_must), min_of(right_must)));
@@ -37,7 +37,7 @@ pub fn max_bounds(exact: Option<i64>, left: Option<Split>, right: Option<Split>)
 type Values = (i64, i64);
 
 // The window's values, if it can hold a value in the range, and if it must.
-fn values(split: Option<Split>) -> (Option<Values>, Option<Values>)
+fn held_extremes(split: Option<Split>) -> (Option<Values>, Option<Values>)
     ensures { result ≡ (option_map extremes_of (passing can_hold split), option_map extremes_of (passing must_hold split)) }
 {
     let Some(split) = split else {

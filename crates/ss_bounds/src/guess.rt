@@ -16,7 +16,7 @@ pub fn count_guess(known: i128, left: Option<Split>, right: Option<Split>) -> i1
     requires { IsNear known }
     ensures { result ≡ count_guess known (listed left right) }
 {
-    nearest(known, count_of(left), count_of(right))
+    nearest(known, guessed_count(left), guessed_count(right))
 }
 
 /// What their sum is guessed to be: `known` and, of each of these windows, as large a part of its sum as of its values.
@@ -24,11 +24,11 @@ pub fn sum_guess(known: i128, left: Option<Split>, right: Option<Split>) -> i128
     requires { IsNear known }
     ensures { result ≡ sum_guess known (listed left right) }
 {
-    nearest(known, sum_of(left), sum_of(right))
+    nearest(known, guessed_sum(left), guessed_sum(right))
 }
 
 // The guess of a window, if there is one.
-fn count_of(split: Option<Split>) -> Mixed
+fn guessed_count(split: Option<Split>) -> Mixed
     ensures { IsMixed (part_of guess_of_count split) result }
 {
     match split {
@@ -37,7 +37,7 @@ fn count_of(split: Option<Split>) -> Mixed
     }
 }
 
-fn sum_of(split: Option<Split>) -> Mixed
+fn guessed_sum(split: Option<Split>) -> Mixed
     ensures { IsMixed (part_of guess_of_sum split) result }
 {
     match split {

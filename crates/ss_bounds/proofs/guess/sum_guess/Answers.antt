@@ -6,13 +6,13 @@ use Rattle.ss_bounds.proofs.MixedLemmas.{sum_of-listed}
 use Rattle.ss_bounds.proofs.guess.sum_guess.Goals as goal
 
 pub nearest-requires-clause-first : goal.nearest-requires-clause-first
-nearest-requires-clause-first c = c.sum_of.ensures.fits
+nearest-requires-clause-first c = c.guessed_sum.ensures.fits
 
 pub nearest-requires-clause-second : goal.nearest-requires-clause-second
-nearest-requires-clause-second c = c.sum_of-2.ensures.fits
+nearest-requires-clause-second c = c.guessed_sum-2.ensures.fits
 
 pub returns : goal.returns
 returns c =
-    to_z-of_z w128 c.nearest.result (record { sfits = c.nearest.type_inv }) ∙ c.nearest.ensures _ _ c.sum_of.ensures c.sum_of-2.ensures
+    to_z-of_z w128 c.nearest.result (record { sfits = c.nearest.type_inv }) ∙ c.nearest.ensures _ _ c.guessed_sum.ensures c.guessed_sum-2.ensures
     ∙ ap₂ (λ z f. nearest (plus (whole z) f)) (to_z-of_z w128 c.args.known c.ranges.known)
     (sum_of-listed guess_of_sum c.args.left c.args.right)
