@@ -16,34 +16,34 @@ greatest_exponent : GREATEST_EXPONENT ≡ 6
 greatest_exponent = refl
 
 -- the first lengths of a target, and the first starts
-lengths : (ℕ → ℕ) → List ℕ
+abbrev lengths : (ℕ → ℕ) → List ℕ
 lengths len = map len (0 ∷ 1 ∷ 2 ∷ 3 ∷ 4 ∷ [])
 
-starts : (ℕ → ℕ) → List ℕ
+abbrev starts : (ℕ → ℕ) → List ℕ
 starts len = map (cut len) (0 ∷ 1 ∷ 2 ∷ 3 ∷ 4 ∷ 5 ∷ [])
 
 lengths-1-1-1-1 : lengths (power_length 1 1 1 1) ≡ 1 ∷ 2 ∷ 3 ∷ 4 ∷ 5 ∷ []
-unfolding lengths power_length window_index
+unfolding power_length window_index
 lengths-1-1-1-1 = refl
 
 starts-1-1-1-1 : starts (power_length 1 1 1 1) ≡ 0 ∷ 1 ∷ 3 ∷ 6 ∷ 10 ∷ 15 ∷ []
-unfolding starts power_length window_index
+unfolding power_length window_index
 starts-1-1-1-1 = refl
 
 lengths-2-1-1-1 : lengths (power_length 2 1 1 1) ≡ 1 ∷ 2 ∷ 2 ∷ 3 ∷ 3 ∷ []
-unfolding lengths power_length window_index
+unfolding power_length window_index
 lengths-2-1-1-1 = refl
 
 starts-2-1-1-1 : starts (power_length 2 1 1 1) ≡ 0 ∷ 1 ∷ 3 ∷ 5 ∷ 8 ∷ 11 ∷ []
-unfolding starts power_length window_index
+unfolding power_length window_index
 starts-2-1-1-1 = refl
 
 lengths-1-0-1-2 : lengths (power_length 1 0 1 2) ≡ 2 ∷ 2 ∷ 2 ∷ 2 ∷ 2 ∷ []
-unfolding lengths power_length window_index
+unfolding power_length window_index
 lengths-1-0-1-2 = refl
 
 starts-1-0-1-2 : starts (power_length 1 0 1 2) ≡ 0 ∷ 2 ∷ 4 ∷ 6 ∷ 8 ∷ 10 ∷ []
-unfolding starts power_length window_index
+unfolding power_length window_index
 starts-1-0-1-2 = refl
 
 -- the groups of the target with the greatest parameters
