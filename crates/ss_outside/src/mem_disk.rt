@@ -194,7 +194,7 @@ impl MemDisk {
             }
             return Err(Failed);
         }
-        if let Err(AllocError) = put(&mut self.bytes, &mut self.past, at, bytes) {
+        if let Err(AllocError) = write_and_record(&mut self.bytes, &mut self.past, at, bytes) {
             self.faults = self.faults.saturating_add(1);
             self.short = self.short.saturating_add(1);
             return Err(Failed);
@@ -304,7 +304,12 @@ fn is_listed(failing: &[u64], stop: Option<u64>, call: u64) -> bool
 }
 
 // Writes the bytes at the place, and keeps that they were written.
-fn put(content: &mut Vec<u8>, past: &mut Past, at: usize, bytes: &[u8]) -> Result<(), AllocError>
+fn write_and_record(
+    content: &mut Vec<u8>,
+    past: &mut Past,
+    at: usize,
+    bytes: &[u8],
+) -> Result<(), AllocError>
     requires { at + length bytes.now ≤ LONGEST_DISK }
     ensures content { OnOk result (content.new.items ≡ overwrite content.old.items at bytes.now) }
     ensures past { OnOk result (past.new ≡ with_call past.old (Wrote at bytes.now)) }
