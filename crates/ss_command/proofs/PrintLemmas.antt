@@ -21,7 +21,7 @@ use Rattle.ss_catalog.specs.declared.query.End.TheVariants as ends
 use Rattle.ss_catalog.specs.declared.query.Kind.{Kind}
 use Rattle.ss_catalog.specs.declared.query.Kind.TheVariants as kinds
 use Rattle.ss_command.proofs.PutLemmas.{length-decimal_32, length-decimal_64, length-end, length-kind, length-signed_64}
-use Rattle.ss_command.specs.Grammar.{added_of, command_of, end_of, figure_of, is_comment, meaning, meaning_of_words, step_of, steps_of, within_of}
+use Rattle.ss_command.specs.Grammar.{added_of, command_of, end_of, figure_of, is_comment, meaning, meaning_of_words, series_step_of, steps_of, within_of}
 use Rattle.ss_command.specs.Grammar.{within_word}
 use Rattle.ss_command.specs.Printed.{IsFamilyOfNumbers, IsSayable, IsStepOfNumber, kind_words, printed, spaced, takes_value, target_words, within_words}
 use Rattle.ss_command.specs.declared.command.Command.{Command}
@@ -58,7 +58,13 @@ meaning-exp name b r s within is fits_b fits_r fits_s fits =
     let rest = name ∷ target_words (record { family = Exp b r s; within = within }) in
     let all : AreWords rest = (
       IsWord-name name is,
-      (literal (codes "exp") refl, (IsWord-decimal b (omega arith), (IsWord-decimal r (omega arith), (IsWord-decimal s (omega arith), IsWords-within within fits)))),
+      (
+        literal (codes "exp") refl,
+        (
+          IsWord-decimal b (omega arith),
+          (IsWord-decimal r (omega arith), (IsWord-decimal s (omega arith), IsWords-within within fits)),
+        ),
+      ),
     ) in
     let short : length (spaced (codes "create") rest) ≤ 256 =
     omega (
@@ -267,8 +273,8 @@ meaning-query name kinds.CountGuess from to is early late fits = meaning-figure 
 meaning-query name kinds.SumGuess from to is early late fits = meaning-figure name kinds.SumGuess from to is early late refl
 
 -- a step of a series reads back
-step_of-decimal : (from to step : ℕ) → 0 < step → step ≤ LAST_TIME → rows_in from to step ≤ MOST_ROWS → step_of from to (decimal step) ≡ Ok step
-step_of-decimal from to step some small few =
+series_step_of-decimal : (from to step : ℕ) → 0 < step → step ≤ LAST_TIME → rows_in from to step ≤ MOST_ROWS → series_step_of from to (decimal step) ≡ Ok step
+series_step_of-decimal from to step some small few =
     let both : (nat_lt 0 step && nat_le (rows_in from to step) MOST_ROWS) ≡ true = grind (arith, nat_tests) in
     rw (time_of-decimal step small, both) refl
 
@@ -303,7 +309,7 @@ meaning-series series is ranged alone =
       reads-steps series.name series.kind (decimal series.from ∷ decimal series.to ∷ decimal series.step ∷ []) alone,
       time_of-decimal series.from from,
       time_of-decimal series.to to,
-      step_of-decimal series.from series.to series.step ranged.some step ranged.few,
+      series_step_of-decimal series.from series.to series.step ranged.some step ranged.few,
       name_of-name series.name is,
     ) refl
 

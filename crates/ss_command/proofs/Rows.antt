@@ -185,7 +185,8 @@ means-landmarks_refused = refl
 
 -- a number that is none comes before a name that is none, in every form
 means-numbers_first :
-    map meaning (codes "landmark x! close y" ∷ codes "create x! power 1 0 1 y" ∷ codes "create x! power 1 0 1 1 within y" ∷ codes "create x! power 1 0 1 1" ∷ [])
+    map meaning (codes "landmark x! close y" ∷ codes "create x! power 1 0 1 y" ∷ codes "create x! power 1 0 1 1 within y" ∷
+    codes "create x! power 1 0 1 1" ∷ [])
     ≡ map refused (refusals.Number ∷ refusals.Number ∷ refusals.Number ∷ refusals.Name ∷ [])
 unfolding meaning words is_number number_of number_up_to signed_of is_name
 means-numbers_first = refl
@@ -364,12 +365,15 @@ unfolding meaning words is_number number_of number_up_to signed_of is_name
 means-newest_refused = refl
 
 printed-newest :
-    map printed (commands.Last (codes "a") ∷ commands.Values (codes "a") 7 4611686018427387904 ∷ []) ≡ codes "last a" ∷ codes "values a 7 4611686018427387904" ∷ []
+    map printed (commands.Last (codes "a") ∷ commands.Values (codes "a") 7 4611686018427387904 ∷ []) ≡
+    codes "last a" ∷ codes "values a 7 4611686018427387904" ∷ []
 unfolding printed digits
 printed-newest = refl
 
-verbs-each : map verb_of (map codes ("create" ∷ "append" ∷ "landmark" ∷ "drop" ∷ "query" ∷ "series" ∷ "windows" ∷ "list" ∷ "certify" ∷ "last" ∷ "values" ∷ "estimate" ∷ "estimates" ∷ [])) ≡
-    map Some (verbs.Create ∷ verbs.Append ∷ verbs.Landmark ∷ verbs.Drop ∷ verbs.Query ∷ verbs.Series ∷ verbs.Windows ∷ verbs.List ∷ verbs.Certify ∷ verbs.Last ∷ verbs.Values ∷ verbs.Estimate ∷ verbs.Estimates ∷ [])
+verbs-each : map verb_of (map codes ("create" ∷ "append" ∷ "landmark" ∷ "drop" ∷ "query" ∷ "series" ∷ "windows" ∷ "list" ∷ "certify" ∷
+    "last" ∷ "values" ∷ "estimate" ∷ "estimates" ∷ [])) ≡
+    map Some (verbs.Create ∷ verbs.Append ∷ verbs.Landmark ∷ verbs.Drop ∷ verbs.Query ∷ verbs.Series ∷ verbs.Windows ∷ verbs.List ∷ verbs.Certify ∷
+    verbs.Last ∷ verbs.Values ∷ verbs.Estimate ∷ verbs.Estimates ∷ [])
 verbs-each = refl
 
 verbs-none : map verb_of (map codes ("Create" ∷ "creates" ∷ "estimat" ∷ "cursor" ∷ "" ∷ [])) ≡ None ∷ None ∷ None ∷ None ∷ None ∷ []

@@ -16,10 +16,12 @@ use Rattle.ss_catalog.specs.declared.query.Kind.{Kind}
 use Rattle.ss_catalog.specs.declared.query.Kind.TheVariants as kinds
 use Rattle.ss_catalog.specs.declared.refusal.Refusal.{Refusal}
 use Rattle.ss_command.specs.declared.TheConstants.{LONGEST_LINE}
-use Rattle.ss_command.specs.Grammar.{◌>>=◌, added_of, append_of, certify_of, close_of, command_of, create_of, drop_of, end_of, exp_of, figure_of, form_of, has_of}
-use Rattle.ss_command.specs.Grammar.{is_comment, landmark_of, last_of, list_of, meaning, values_of}
-use Rattle.ss_command.specs.Grammar.{◌>>=◌, meaning_of_words, estimate_of, estimates_of, guessed_of, kind_of, name_of, open_of, or_number, parameter_of, power_of, query_of}
-use Rattle.ss_command.specs.Grammar.{series_of, step_of, steps_of, time_of}
+use Rattle.ss_command.specs.Grammar.{◌>>=◌, added_of, append_of, certify_of, close_of, command_of, create_of, drop_of, end_of, exp_of, figure_of}
+use Rattle.ss_command.specs.Grammar.{form_of, has_of}
+use Rattle.ss_command.specs.Grammar.{is_comment, landmark_of, last_of, list_of, meaning, values_form_of}
+use Rattle.ss_command.specs.Grammar.{◌>>=◌, meaning_of_words, estimate_of, estimates_of, guessed_of, asked_kind_of, name_of, open_of, or_number}
+use Rattle.ss_command.specs.Grammar.{parameter_of, power_of, query_of}
+use Rattle.ss_command.specs.Grammar.{series_of, series_step_of, steps_of, time_of}
 use Rattle.ss_command.specs.Grammar.{value_of, verb_of}
 use Rattle.ss_command.specs.Grammar.{windows_of, within_of, within_word}
 use Rattle.ss_command.specs.Printed.{IsSayable, IsStepOfNumber, takes_value}
@@ -200,7 +202,7 @@ has-sayable name (value ∷ first ∷ last ∷ []) c same =
 has-sayable name (value ∷ first ∷ last ∷ more ∷ rest) c same = cc
 
 -- what a word alone asks for takes no value, so it fits
-kind-alone : (word : List ℕ) (kind : Kind) → kind_of word ≡ Ok kind → takes_value kind ≡ false
+kind-alone : (word : List ℕ) (kind : Kind) → asked_kind_of word ≡ Ok kind → takes_value kind ≡ false
 kind-alone word kind same = grind arith
 
 guess-alone : (word : List ℕ) (kind : Kind) → guessed_of word ≡ Ok kind → takes_value kind ≡ false
@@ -237,7 +239,7 @@ query-sayable [] c same = cc
 query-sayable (name ∷ []) c same = cc
 query-sayable (name ∷ asked ∷ rest) c same =
     choice (IsSayable c) (is_word asked (codes "has")) _ _ c (has-sayable name rest c)
-    (by-kind (kind_of asked) _ c (λ kind is. figure-sayable name kind rest c (kind-alone asked kind is))) same
+    (by-kind (asked_kind_of asked) _ c (λ kind is. figure-sayable name kind rest c (kind-alone asked kind is))) same
 
 estimate-sayable : (ws : List (List ℕ)) (c : Command) → estimate_of ws ≡ Ok c → IsSayable c
 estimate-sayable [] c same = cc
@@ -246,7 +248,7 @@ estimate-sayable (name ∷ asked ∷ rest) c same =
     by-kind (guessed_of asked) _ c (λ kind is. figure-sayable name kind rest c (guess-alone asked kind is)) same
 
 -- a step that was read cuts its range into rows
-step-rows : (from to step : ℕ) (word : List ℕ) → step_of from to word ≡ Ok step →
+step-rows : (from to step : ℕ) (word : List ℕ) → series_step_of from to word ≡ Ok step →
     (0 < step) × (step ≤ LAST_TIME) × (rows_in from to step ≤ MOST_ROWS)
 step-rows from to step word same =
     let read = bind-Ok (time_of word) _ step same in
@@ -261,7 +263,7 @@ steps-sayable name kind (first ∷ last ∷ []) c alone same = cc
 steps-sayable name kind (first ∷ last ∷ width ∷ []) c alone same =
     let from = bind-Ok (time_of first) _ c same in
     let to = bind-Ok (time_of last) _ c from.2 in
-    let step = bind-Ok (step_of from.0 to.0 width) _ c to.2 in
+    let step = bind-Ok (series_step_of from.0 to.0 width) _ c to.2 in
     let stream = bind-Ok (name_of name) _ c step.2 in
     let is : commands.Series (record { name = stream.0; kind = kind; from = from.0; to = to.0; step = step.0 }) ≡ c = cc (stream.2) in
     let rows = step-rows from.0 to.0 step.0 width step.1 in
@@ -276,7 +278,7 @@ series-sayable : (ws : List (List ℕ)) (c : Command) → series_of ws ≡ Ok c 
 series-sayable [] c same = cc
 series-sayable (name ∷ []) c same = cc
 series-sayable (name ∷ asked ∷ rest) c same =
-    by-kind (kind_of asked) _ c (λ kind is. steps-sayable name kind rest c (kind-alone asked kind is)) same
+    by-kind (asked_kind_of asked) _ c (λ kind is. steps-sayable name kind rest c (kind-alone asked kind is)) same
 
 estimates-sayable : (ws : List (List ℕ)) (c : Command) → estimates_of ws ≡ Ok c → IsSayable c
 estimates-sayable [] c same = cc
@@ -299,7 +301,7 @@ list-sayable (more ∷ rest) c same = cc
 -- what is asked for where it is to add up does so
 added-adds_up : (word : List ℕ) (kind : Kind) → added_of word ≡ Ok kind → adds_up kind ≡ true
 added-adds_up word kind same =
-    let read = bind-Ok (kind_of word) _ kind same in
+    let read = bind-Ok (asked_kind_of word) _ kind same in
     grind arith
 
 certify-sayable : (ws : List (List ℕ)) (c : Command) → certify_of ws ≡ Ok c → IsSayable c
@@ -326,7 +328,7 @@ last-sayable (name ∷ []) c same =
     subst IsSayable is (name-is name stream.0 stream.1)
 last-sayable (name ∷ more ∷ rest) c same = cc
 
-values-sayable : (ws : List (List ℕ)) (c : Command) → values_of ws ≡ Ok c → IsSayable c
+values-sayable : (ws : List (List ℕ)) (c : Command) → values_form_of ws ≡ Ok c → IsSayable c
 values-sayable [] c same = cc
 values-sayable (name ∷ []) c same = cc
 values-sayable (name ∷ first ∷ []) c same = cc

@@ -38,8 +38,8 @@ abbrev pub time_of : List ℕ → Result ℕ Refusal
 time_of word = or_number (number_up_to LAST_TIME word)
 
 -- a step of the rows of a range: as a time, but not 0, nor so short that there are more rows than a series may have
-abbrev pub step_of : ℕ → ℕ → List ℕ → Result ℕ Refusal
-step_of from to word = do
+abbrev pub series_step_of : ℕ → ℕ → List ℕ → Result ℕ Refusal
+series_step_of from to word = do
   step ← time_of word
   if nat_lt 0 step && nat_le (rows_in from to step) MOST_ROWS then Ok step else Err refusals.Number
 
@@ -140,8 +140,8 @@ drop_of (name ∷ []) = do
 drop_of _ = Err refusals.Syntax
 
 -- what is asked for of all values: one of these words
-abbrev pub kind_of : List ℕ → Result Kind Refusal
-kind_of word =
+abbrev pub asked_kind_of : List ℕ → Result Kind Refusal
+asked_kind_of word =
     if is_word word (codes "count") then Ok kinds.Count
     else (if is_word word (codes "sum") then Ok kinds.Sum
     else (if is_word word (codes "min") then Ok kinds.Min
@@ -176,7 +176,7 @@ figure_of name kind _ = Err refusals.Syntax
 
 -- a `query`, from its name on
 abbrev pub query_of : List (List ℕ) → Result Command Refusal
-query_of (name ∷ asked ∷ rest) = if is_word asked (codes "has") then has_of name rest else kind_of asked >>= (λ kind. figure_of name kind rest)
+query_of (name ∷ asked ∷ rest) = if is_word asked (codes "has") then has_of name rest else asked_kind_of asked >>= (λ kind. figure_of name kind rest)
 query_of _ = Err refusals.Syntax
 
 -- `estimate NAME count T1 T2`, from its name on; also with `sum`
@@ -189,14 +189,14 @@ abbrev pub steps_of : List ℕ → Kind → List (List ℕ) → Result Command R
 steps_of name kind (first ∷ last ∷ width ∷ []) = do
   from ← time_of first
   to ← time_of last
-  step ← step_of from to width
+  step ← series_step_of from to width
   stream ← name_of name
   Ok (commands.Series (record { name = stream; kind = kind; from = from; to = to; step = step }))
 steps_of name kind _ = Err refusals.Syntax
 
 -- a `series`, and an `estimates`, from its name on
 abbrev pub series_of : List (List ℕ) → Result Command Refusal
-series_of (name ∷ asked ∷ rest) = kind_of asked >>= (λ kind. steps_of name kind rest)
+series_of (name ∷ asked ∷ rest) = asked_kind_of asked >>= (λ kind. steps_of name kind rest)
 series_of _ = Err refusals.Syntax
 
 abbrev pub estimates_of : List (List ℕ) → Result Command Refusal
@@ -218,7 +218,7 @@ list_of _ = Err refusals.Syntax
 -- what is asked for, where that adds up: `count` or `sum`
 abbrev pub added_of : List ℕ → Result Kind Refusal
 added_of word = do
-  kind ← kind_of word
+  kind ← asked_kind_of word
   if adds_up kind then Ok kind else Err refusals.Syntax
 
 -- an end of an interval: one of these words
@@ -247,13 +247,13 @@ last_of (name ∷ []) = do
 last_of _ = Err refusals.Syntax
 
 -- `values NAME T1 T2`, from its name on
-abbrev pub values_of : List (List ℕ) → Result Command Refusal
-values_of (name ∷ first ∷ last ∷ []) = do
+abbrev pub values_form_of : List (List ℕ) → Result Command Refusal
+values_form_of (name ∷ first ∷ last ∷ []) = do
   from ← time_of first
   to ← time_of last
   stream ← name_of name
   Ok (commands.Values stream from to)
-values_of _ = Err refusals.Syntax
+values_form_of _ = Err refusals.Syntax
 
 -- the first words of the commands
 abbrev pub verb_of : List ℕ → Option Verb
@@ -285,7 +285,7 @@ form_of (Some verbs.Windows) = windows_of
 form_of (Some verbs.List) = list_of
 form_of (Some verbs.Certify) = certify_of
 form_of (Some verbs.Last) = last_of
-form_of (Some verbs.Values) = values_of
+form_of (Some verbs.Values) = values_form_of
 form_of (Some verbs.Estimate) = estimate_of
 form_of (Some verbs.Estimates) = estimates_of
 form_of None = λ _. Err refusals.Syntax

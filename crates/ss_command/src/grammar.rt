@@ -2,8 +2,8 @@
 ghost use Rattle.std.specs.Prelude.{◌≡◌, ◌≤◌, length, codes, true, false, None, Ok, Err, Some, IfOk, IfSome, MatchOption, MatchResult};
 ghost use Rattle.ss_catalog.specs.Queries.{adds_up};
 ghost use Rattle.ss_command.specs.Grammar.{added_of, append_of, certify_of, close_of, command_of, create_of, drop_of, end_of, estimate_of, exp_of};
-ghost use Rattle.ss_command.specs.Grammar.{estimates_of, figure_of, guessed_of, has_of, is_comment, kind_of, landmark_of, last_of, list_of, meaning};
-ghost use Rattle.ss_command.specs.Grammar.{open_of, power_of, query_of, series_of, steps_of, values_of, windows_of, within_word};
+ghost use Rattle.ss_command.specs.Grammar.{estimates_of, figure_of, guessed_of, has_of, is_comment, asked_kind_of, landmark_of, last_of, list_of, meaning};
+ghost use Rattle.ss_command.specs.Grammar.{open_of, power_of, query_of, series_of, steps_of, values_form_of, windows_of, within_word};
 ghost use Rattle.ss_command.specs.Printed.{IsCommandInTime, IsSayable, takes_value};
 
 use crate::command::Command;
@@ -154,7 +154,7 @@ fn drop(mut words: Words) -> Result<Command, Refusal>
 
 // What is asked for of all values.
 fn kind(word: &[u8]) -> Result<Kind, Refusal>
-    ensures value { result ≡ kind_of word.now }
+    ensures value { result ≡ asked_kind_of word.now }
     ensures alone { IfOk result (λ kind. takes_value kind ≡ false) }
 {
     if is_word(word, "count") {
@@ -374,7 +374,7 @@ fn last(mut words: Words) -> Result<Command, Refusal>
 
 // Reads `values NAME T1 T2`, from its name on.
 fn values(mut words: Words) -> Result<Command, Refusal>
-    ensures meaning { result ≡ values_of words.entry }
+    ensures meaning { result ≡ values_form_of words.entry }
     ensures time { IfOk result IsCommandInTime }
 {
     let name = words.word()?;

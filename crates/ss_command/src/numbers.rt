@@ -2,13 +2,13 @@
 ghost use Rattle.std.specs.Prelude.{◌≡◌, ◌<◌, ◌≤◌, ◌^◌, ◌-◌, None, Some, IfOk, MatchOption};
 ghost use Rattle.ss_catalog.specs.Series.{rows_in};
 ghost use Rattle.ss_fields.specs.Words.{number_up_to};
-ghost use Rattle.ss_command.specs.Grammar.{or_number, time_of, step_of, value_of, parameter_of, name_of, within_of};
+ghost use Rattle.ss_command.specs.Grammar.{or_number, time_of, series_step_of, value_of, parameter_of, name_of, within_of};
 
 use ss_catalog::{LAST_TIME, MOST_ROWS, Name, Refusal, rows_in};
 use ss_fields::{read_i64, read_u64};
 
 // A number of digits up to `most`.
-fn read_up_to(word: &[u8], most: u64) -> Result<u64, Refusal>
+fn read_number(word: &[u8], most: u64) -> Result<u64, Refusal>
     ensures value { result ≡ or_number (number_up_to most word.now) }
     ensures bound { IfOk result (λ n. n ≤ most) }
 {
@@ -23,13 +23,13 @@ pub fn read_time(word: &[u8]) -> Result<u64, Refusal>
     ensures value { result ≡ time_of word.now }
     ensures bound { IfOk result (λ t. t ≤ LAST_TIME) }
 {
-    read_up_to(word, LAST_TIME)
+    read_number(word, LAST_TIME)
 }
 
 /// The step of a series over the range `from..=to`.
 pub fn read_step(word: &[u8], from: u64, to: u64) -> Result<u64, Refusal>
     requires { to ≤ LAST_TIME }
-    ensures value { result ≡ step_of from to word.now }
+    ensures value { result ≡ series_step_of from to word.now }
     ensures some { IfOk result (λ step. 0 < step) }
     ensures bound { IfOk result (λ step. step ≤ LAST_TIME) }
     ensures few { IfOk result (λ step. rows_in from to step ≤ MOST_ROWS) }
@@ -56,7 +56,7 @@ pub fn read_value(word: &[u8]) -> Result<i64, Refusal>
 pub fn read_parameter(word: &[u8]) -> Result<u32, Refusal>
     ensures { result ≡ parameter_of word.now }
 {
-    match read_up_to(word, u64::from(u32::MAX)) {
+    match read_number(word, u64::from(u32::MAX)) {
         Ok(number) => Ok(number as u32),
         Err(refusal) => Err(refusal),
     }

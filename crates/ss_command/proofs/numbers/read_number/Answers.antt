@@ -1,6 +1,6 @@
 use Rattle.std.proofs.Common.{sym, ◌∙◌, arith}
 use Rattle.ss_command.proofs.NumberLemmas.{or_number-Err, or_number-Ok, or_number-past}
-use Rattle.ss_command.proofs.numbers.read_up_to.Goals as goal
+use Rattle.ss_command.proofs.numbers.read_number.Goals as goal
 
 pub returns-in-Ok-clause-value : goal.returns-in-Ok-clause-value
 returns-in-Ok-clause-value c =
