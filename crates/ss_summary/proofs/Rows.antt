@@ -9,11 +9,8 @@ use Rattle.ss_summary.proofs.FilterLemmas.{has-full, IsFilter-full}
 use Rattle.ss_summary.specs.Summaries.{summary_of, RiseFrom}
 use Rattle.ss_summary.specs.declared.summary.TheConstants.{LATEST_TIME, GREATEST_COUNT}
 
-latest_time : LATEST_TIME ≡ 2 ^ 62
-latest_time = refl
-
-greatest_count : GREATEST_COUNT ≡ 2 ^ 40
-greatest_count = refl
+latest_time_and_greatest_count : LATEST_TIME ∷ GREATEST_COUNT ∷ [] ≡ 2 ^ 62 ∷ 2 ^ 40 ∷ []
+latest_time_and_greatest_count = refl
 
 -- the values 5, -3, 8 and 1 at the times 10, 20, 30 and 40
 pub summary_of-row : summary_of ((10, pos 5, New) ∷ (20, negsuc 2, New) ∷ (30, pos 8, New) ∷ (40, pos 1, New) ∷ []) ≡ record {

@@ -23,6 +23,7 @@ fn word_fits(filter: Filter, k: usize)
     requires { k < 4 }
     ensures { word filter k < 2 ^ 64 }
 {
+    // Read for the proof alone: with it comes that it is a number of 64 bits.
     let _word = filter.words[k];
 }
 
