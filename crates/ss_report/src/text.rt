@@ -247,7 +247,7 @@ fn put_runs(runs: &[Run; 3], out: &mut ArrayString<256>)
 }
 
 // Writes the line of values inside or outside a range into an empty text.
-fn side_text(side: &Side, out: &mut ArrayString<256>)
+fn runs_text(side: &Side, out: &mut ArrayString<256>)
     requires { out.old.bytes ≡ [] }
     ensures { out.new.bytes ≡ reply_line (replies.Side side.now) }
 {
@@ -374,7 +374,7 @@ pub fn reply_text(reply: &Reply, out: &mut ArrayString<256>)
             base,
             count,
         } => certify_text(*answer, *base, *count, out),
-        Reply::Side(side) => side_text(side, out),
+        Reply::Side(side) => runs_text(side, out),
         Reply::Last(newest) => last_text(newest, out),
         Reply::ValuesHead(count) => values_text(*count, out),
         Reply::Value { at, value } => value_text(*at, *value, out),
