@@ -59,7 +59,7 @@ fn is_within(word: &str, least: u64, most: u64) -> bool {
 }
 
 // Whether a word is such a number.
-fn is_number(word: &str, number: Number) -> bool {
+fn is_number_in_range(word: &str, number: Number) -> bool {
     match number {
         Number::Time => is_within(word, 0, LAST_TIME),
         Number::Step => is_within(word, 1, LAST_TIME),
@@ -75,7 +75,7 @@ fn first_wrong<'a>(words: &[&'a str]) -> Option<(&'a str, Number)> {
     let asked = word_at(words, 2);
     for (place, word) in words.iter().enumerate() {
         if let Some(number) = number_at(verb, asked, place) {
-            if !is_number(word, number) {
+            if !is_number_in_range(word, number) {
                 return Some((*word, number));
             }
         }
@@ -84,7 +84,7 @@ fn first_wrong<'a>(words: &[&'a str]) -> Option<(&'a str, Number)> {
 }
 
 // Whether a word is a whole number, also one that is out of range.
-fn is_whole(word: &str) -> bool {
+fn is_whole_number(word: &str) -> bool {
     has_digits_alone(word.strip_prefix('-').unwrap_or(word))
 }
 
@@ -111,7 +111,7 @@ fn together(alloc: Global, words: &[&str]) -> Result<String, AllocError> {
 
 // Why a word isn't such a number.
 fn wrong(alloc: Global, word: &str, number: Number) -> Result<String, AllocError> {
-    if is_whole(word) {
+    if is_whole_number(word) {
         let range = range(alloc, number)?;
         format!(in alloc; "{word} isn't within {range}")
     } else {

@@ -41,7 +41,7 @@ fn rate(count: u64, time: Duration) -> u64 {
 }
 
 // What the line says after this time.
-fn done_text(alloc: Global, done: &Done, time: Duration) -> Result<String, AllocError> {
+fn counts_text(alloc: Global, done: &Done, time: Duration) -> Result<String, AllocError> {
     let counts = done.counts;
     if counts.read > 0 {
         let rate = rate(counts.read, time);
@@ -61,7 +61,7 @@ fn done_text(alloc: Global, done: &Done, time: Duration) -> Result<String, Alloc
 
 /// The line after this time, which takes the place of the one before.
 pub fn progress_text(alloc: Global, done: &Done, time: Duration) -> Result<String, AllocError> {
-    let text = done_text(alloc, done, time)?;
+    let text = counts_text(alloc, done, time)?;
     format!(in alloc; "\r{text:<WIDTH$}")
 }
 

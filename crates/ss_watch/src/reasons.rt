@@ -134,7 +134,7 @@ pub fn name_of_event(event: &Event) -> &Name {
 }
 
 // The stream that a command is for, or the empty text where it is for all.
-fn stream_of(command: &Command) -> &str {
+fn stream_of_command(command: &Command) -> &str {
     match command {
         Command::Do(event) => name_of_event(event).as_str(),
         Command::Ask(query) => query.name.as_str(),
@@ -187,7 +187,7 @@ fn of_command(
     refusal: Refusal,
     last: Option<u64>,
 ) -> Result<String, AllocError> {
-    let stream = stream_of(command);
+    let stream = stream_of_command(command);
     match (refusal, command) {
         (Refusal::Exists, _) => format!(in alloc;
             "a stream named {stream} stands already, with the parameters that list shows"

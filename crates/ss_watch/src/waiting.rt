@@ -25,7 +25,7 @@ pub struct Heard {
 const MOST_WAITING: usize = 65_536;
 
 // The line that has ended, where it is kept.
-fn line_of(reader: &LineReader, ended: Ended) -> Option<&[u8]>
+fn kept_line(reader: &LineReader, ended: Ended) -> Option<&[u8]>
     requires ended { reader.now.ended ≡ true }
     requires whole { ended ≡ Ended.Whole ↔ IsSome reader.now.line }
 {
@@ -141,7 +141,7 @@ impl Waiting {
         requires whole { ended ≡ Ended.Whole ↔ IsSome self.old.lines.line }
     {
         self.count = self.count.saturating_add(1);
-        let heard = heard_line(self.form, self.count, line_of(&self.lines, ended));
+        let heard = heard_line(self.form, self.count, kept_line(&self.lines, ended));
         self.keep(heard);
     }
 
