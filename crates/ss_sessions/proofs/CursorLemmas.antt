@@ -96,7 +96,8 @@ refuses_cursor-held parts streams name cursor agree =
 -- the rows of the stream that is found by its name
 pub opened-alike : (before cursors : Cursors) (session : ℕ) (name : List ℕ) (number : ℕ) (streams : List Stream) (rows : List Placed) (s : Stream) →
     cursors ≡ before → stream_named name streams ≡ Some s → stream_numbered number streams ≡ Some s →
-    option_map cursor_rows (stream_numbered number streams) ≡ Some rows → cursor_opened before session name streams ≡ Some (slice_set cursors session (Some rows))
+    option_map cursor_rows (stream_numbered number streams) ≡ Some rows
+    → cursor_opened before session name streams ≡ Some (slice_set cursors session (Some rows))
 opened-alike before cursors session name number streams rows s same named numbered copied =
     let its : option_map cursor_rows (Some s) ≡ Some rows = subst (λ o. option_map cursor_rows o ≡ Some rows) numbered copied in
     let one : cursor_rows s ≡ rows = cc in

@@ -23,7 +23,7 @@ use std::alloc::Global;
 use std::collections::VecDeque;
 
 // Reads a window.
-fn read<D: Disk>(
+fn copy_window<D: Disk>(
     store: &mut Store,
     disk: &mut D,
     id: StreamId,
@@ -70,7 +70,7 @@ pub fn copy<D: Disk>(
     let mut rows = VecDeque::with_capacity(alloc, store.windows(id) as usize)?;
     let mut next = store.window_first(id);
     while let Some(at) = next {
-        rows.push_back_reserved(read(store, disk, id, at)?);
+        rows.push_back_reserved(copy_window(store, disk, id, at)?);
         next = store.window_after(id, at);
     }
     Ok(Cursor::over(rows))

@@ -13,7 +13,7 @@ use ss_command::{COMMENT, Words, cut_first, is_word, parse};
 use ss_fields::read_u64;
 
 // A number of digits, up to the most rows that are asked for at a time.
-fn read_count(word: &[u8]) -> Result<u64, Refusal>
+fn read_row_count(word: &[u8]) -> Result<u64, Refusal>
     ensures value { result ≡ or_number (number_up_to MOST_ASKED word.now) }
     ensures bound { IfOk result (λ count. count ≤ MOST_ASKED) }
 {
@@ -29,7 +29,7 @@ fn read_asked(word: &[u8]) -> Result<u32, Refusal>
     ensures some { IfOk result (λ count. 0 < count) }
     ensures bound { IfOk result (λ count. count ≤ MOST_ASKED) }
 {
-    let count = read_count(word)?;
+    let count = read_row_count(word)?;
     if 0 < count {
         Ok(count as u32)
     } else {
@@ -71,7 +71,7 @@ fn close(words: Words) -> Result<Order, Refusal>
 }
 
 // Reads a cursor form, from the word after `cursor` on.
-fn form(mut words: Words) -> Result<Order, Refusal>
+fn cursor_form(mut words: Words) -> Result<Order, Refusal>
     ensures meaning { result ≡ cursor_form_of words.entry }
     ensures time { IfOk result IsOrderInTime }
 {
@@ -95,7 +95,7 @@ fn said(rest: &[u8]) -> Result<Option<Order>, Refusal>
 {
     let (word, forms) = cut_first(rest);
     if is_word(word, "cursor") {
-        let order = form(Words::of(forms))?;
+        let order = cursor_form(Words::of(forms))?;
         return Ok(Some(order));
     }
     match parse(rest) {

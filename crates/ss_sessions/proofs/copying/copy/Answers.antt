@@ -39,50 +39,50 @@ loop-next-init g c =
       rows = λ told streams is s found. rw rows.items refl;
     }
 
-pub read-requires-clause-runs : goal.read-requires-clause-runs
-read-requires-clause-runs g c = c.loop-next.invariant.looks.stops ∙ c.requires.runs
+pub copy_window-requires-clause-runs : goal.copy_window-requires-clause-runs
+copy_window-requires-clause-runs g c = c.loop-next.invariant.looks.stops ∙ c.requires.runs
 
-pub read-requires-clause-one_disk : goal.read-requires-clause-one_disk
-read-requires-clause-one_disk g c = c.loop-next.invariant.looks.stands (c.loop-next.invariant.looks.stops ∙ c.requires.runs)
+pub copy_window-requires-clause-one_disk : goal.copy_window-requires-clause-one_disk
+copy_window-requires-clause-one_disk g c = c.loop-next.invariant.looks.stands (c.loop-next.invariant.looks.stops ∙ c.requires.runs)
 
-pub read-requires-clause-stands : goal.read-requires-clause-stands
-read-requires-clause-stands g c = rw c.loop-next.invariant.looks.streams c.requires.stands
+pub copy_window-requires-clause-stands : goal.copy_window-requires-clause-stands
+copy_window-requires-clause-stands g c = rw c.loop-next.invariant.looks.streams c.requires.stands
 
-pub read-requires-clause-at : goal.read-requires-clause-at
-read-requires-clause-at g c = rw c.loop-next.invariant.looks.streams (rw c.in-Some.is at c.loop-next.invariant.at)
+pub copy_window-requires-clause-at : goal.copy_window-requires-clause-at
+copy_window-requires-clause-at g c = rw c.loop-next.invariant.looks.streams (rw c.in-Some.is at c.loop-next.invariant.at)
 
-pub returns-in_err-read-clause-copies : goal.returns-in_err-read-clause-copies
-returns-in_err-read-clause-copies g c =
+pub returns-in_err-copy_window-clause-copies : goal.returns-in_err-copy_window-clause-copies
+returns-in_err-copy_window-clause-copies g c =
     let old = g.D.Disk.seen c.args.disk.now in
     let mid = g.D.Disk.seen c.loop-next.disk in
-    let new = g.D.Disk.seen c.read.new.disk in
-    let e = c.in_err-read.field-0.0 in
-    let same : c.from_residual-in_err-read.result ≡ Err e = search rules in
+    let new = g.D.Disk.seen c.copy_window.new.disk in
+    let e = c.in_err-copy_window.field-0.0 in
+    let same : c.from_residual-in_err-copy_window.result ≡ Err e = search rules in
     subst (λ r. Step (verdict_of_cursor r) old new (CopiesRows c.args.id.0 c.args.store.now r)) (sym same)
-    (step-then c.loop-next.invariant.reads c.in_err-read.ensures.copies (λ first second. record {
+    (step-then c.loop-next.invariant.reads c.in_err-copy_window.ensures.copies (λ first second. record {
       rows = λ streams is. tt;
       reads = reads-joined old.told mid.told new.told first second.reads;
     }))
 
-pub returns-in_err-read-clause-looks : goal.returns-in_err-read-clause-looks
-returns-in_err-read-clause-looks g c =
+pub returns-in_err-copy_window-clause-looks : goal.returns-in_err-copy_window-clause-looks
+returns-in_err-copy_window-clause-looks g c =
     let old = g.D.Disk.seen c.args.disk.now in
     let mid = g.D.Disk.seen c.loop-next.disk in
-    let new = g.D.Disk.seen c.read.new.disk in
-    let e = c.in_err-read.field-0.0 in
+    let new = g.D.Disk.seen c.copy_window.new.disk in
+    let e = c.in_err-copy_window.field-0.0 in
     let inv = c.loop-next.invariant in
-    let same : c.from_residual-in_err-read.result ≡ Err e = search rules in
-    subst (λ r. Looks (verdict_of_cursor r) c.args.store.now c.read.new.store old new) (sym same)
-    (Looks-then _ c.args.store.now c.loop-next.store c.read.new.store old mid new inv.looks c.in_err-read.ensures.looks inv.reads.tells)
+    let same : c.from_residual-in_err-copy_window.result ≡ Err e = search rules in
+    subst (λ r. Looks (verdict_of_cursor r) c.args.store.now c.copy_window.new.store old new) (sym same)
+    (Looks-then _ c.args.store.now c.loop-next.store c.copy_window.new.store old mid new inv.looks c.in_err-copy_window.ensures.looks inv.reads.tells)
 
-pub returns-in_err-read-clause-changed : goal.returns-in_err-read-clause-changed
-returns-in_err-read-clause-changed g c =
-    let e = c.in_err-read.field-0.0 in
+pub returns-in_err-copy_window-clause-changed : goal.returns-in_err-copy_window-clause-changed
+returns-in_err-copy_window-clause-changed g c =
+    let e = c.in_err-copy_window.field-0.0 in
     let inv = c.loop-next.invariant in
-    let same : c.from_residual-in_err-read.result ≡ Err e = search rules in
+    let same : c.from_residual-in_err-copy_window.result ≡ Err e = search rules in
     subst (λ r. IfChanged (verdict_of_cursor r) (λ slot. IfSome (part_numbered c.args.id.0 c.args.store.now.streams) (λ part.
     Contains (window_slots_of part) slot))) (sym same)
-    (rw inv.looks.streams at c.in_err-read.ensures.changed)
+    (rw inv.looks.streams at c.in_err-copy_window.ensures.changed)
 
 pub push_back_reserved-requires : goal.push_back_reserved-requires
 push_back_reserved-requires g c =
@@ -95,11 +95,11 @@ push_back_reserved-requires g c =
 
 pub window_after-next-requires-clause-stands : goal.window_after-next-requires-clause-stands
 window_after-next-requires-clause-stands g c =
-    rw (c.in_ok-read.ensures.looks.streams, c.loop-next.invariant.looks.streams) c.requires.stands
+    rw (c.in_ok-copy_window.ensures.looks.streams, c.loop-next.invariant.looks.streams) c.requires.stands
 
 pub window_after-next-requires-clause-at : goal.window_after-next-requires-clause-at
 window_after-next-requires-clause-at g c =
-    rw (c.in_ok-read.ensures.looks.streams, c.loop-next.invariant.looks.streams) (rw c.in-Some.is at c.loop-next.invariant.at)
+    rw (c.in_ok-copy_window.ensures.looks.streams, c.loop-next.invariant.looks.streams) (rw c.in-Some.is at c.loop-next.invariant.at)
 
 pub loop-next-smaller : goal.loop-next-smaller
 loop-next-smaller g c =
@@ -116,11 +116,11 @@ pub loop-next-preserved : goal.loop-next-preserved
 loop-next-preserved g c =
     let old = g.D.Disk.seen c.args.disk.now in
     let mid = g.D.Disk.seen c.loop-next.disk in
-    let new = g.D.Disk.seen c.read.new.disk in
+    let new = g.D.Disk.seen c.copy_window.new.disk in
     let o = part_numbered c.args.id.0 c.args.store.now.streams in
     let inv = c.loop-next.invariant in
-    let read = c.in_ok-read.ensures in
-    let row = c.in_ok-read.field-0 in
+    let read = c.in_ok-copy_window.ensures in
+    let row = c.in_ok-copy_window.field-0 in
     let rows = c.loop-next.rows.items in
     let more = c.push_back_reserved.new.self.items in
     let next = c.window_after-next.result in
@@ -129,7 +129,7 @@ loop-next-preserved g c =
     let at = rw c.in-Some.is at inv.at in
     let copied = rw c.in-Some.is at inv.copied in
     record {
-      looks = Looks-then _ c.args.store.now c.loop-next.store c.read.new.store old mid new inv.looks read.looks inv.reads.tells;
+      looks = Looks-then _ c.args.store.now c.loop-next.store c.copy_window.new.store old mid new inv.looks read.looks inv.reads.tells;
       reads = step-then inv.reads read.copies (λ first second. reads-joined old.told mid.told new.told first second.reads);
       at = rw streams at c.window_after-next.ensures.stands;
       copied = copied-next o c.in-Some.at next rows more row pushed.items copied at (rw streams at c.window_after-next.ensures.at)

@@ -1,7 +1,7 @@
 use Rattle.std.proofs.Common.{sym, ◌∙◌, arith}
 use Rattle.ss_command.proofs.NumberLemmas.{or_number-Err, or_number-Ok, or_number-past}
 use Rattle.ss_sessions.specs.declared.TheConstants.{MOST_ASKED}
-use Rattle.ss_sessions.proofs.grammar.read_count.Goals as goal
+use Rattle.ss_sessions.proofs.grammar.read_row_count.Goals as goal
 
 pub returns-in-Ok-clause-value : goal.returns-in-Ok-clause-value
 returns-in-Ok-clause-value c =

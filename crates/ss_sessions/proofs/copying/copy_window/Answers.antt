@@ -1,6 +1,6 @@
 use Rattle.ss_sessions.proofs.CopyLemmas.{Contains-read}
 use Rattle.ss_store.specs.Kept.{part_numbered}
-use Rattle.ss_sessions.proofs.copying.read.Goals as goal
+use Rattle.ss_sessions.proofs.copying.copy_window.Goals as goal
 
 pub returns-in-Ok-clause-copies : goal.returns-in-Ok-clause-copies
 returns-in-Ok-clause-copies g c =
