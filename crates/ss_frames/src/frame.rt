@@ -67,6 +67,7 @@ impl Model for Frame {
 fn is_first(number: u64, name: &Name, params: &Params) -> bool
     ensures { result ≡ (number == 1 && is_name name.now && in_range params.now && has_small_step params.now) }
 {
+    // Called for the proof alone, here and below: the bytes of a name are a name, and a step is a number of 32 bits.
     let _word = name.as_bytes();
     let _step = step_number(params.within);
     number == 1 && params.in_range()

@@ -34,6 +34,7 @@ pub fn pair_before<L: Ledger>(
     ensures pair { result ≡ pair_at line.now.entries at }
     ensures look { steps.new ≤ steps.old + 1 }
 {
+    // Asked for the proof alone, here and below: with its length comes what holds of each line.
     let _len = line.len();
     let left = before?;
     let window = line.get(left, steps);

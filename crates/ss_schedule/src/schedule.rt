@@ -104,6 +104,7 @@ impl Schedule {
         ensures room { length self.new.keys ≡ length self.old.keys }
         ensures looks { steps.new ≤ steps.old + 3 }
     {
+        // Asked for the proof alone, here and below: with its length comes what holds of each line.
         let _len = line.len();
         let entry = line.get(at, steps);
         let (before, _) = line.neighbours(at, steps);

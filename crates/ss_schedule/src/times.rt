@@ -70,6 +70,7 @@ impl Times {
             → self.new ≡ before ++ behind }
         ensures absent { All (λ e. e.0 ≢ t) self.old → self.new ≡ self.old }
     {
+        // Asked for the proof alone: with its length comes what holds of each map.
         let _len = self.places.len();
         self.places.remove(&t);
     }

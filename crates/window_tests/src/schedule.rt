@@ -24,6 +24,7 @@ fn next_first<L: Ledger>(line: &Line, steps: &mut Steps<L>) -> Option<u64>
     ensures { IfSome result (λ first. (n : ℕ) (new : At × Entry) → FollowUpTo n line.now.entries → new.1.first ≡ first
         → first ≤ new.1.last → new.1.last ≤ n → FollowUpTo n (line.now.entries ++ new ∷ [])) }
 {
+    // Asked for the proof alone, here and below: with its length comes what holds of each line.
     let _len = line.len();
     let Some(at) = line.last() else {
         return Some(1);
