@@ -49,7 +49,7 @@ pub fn base(seen: &Seen, kind: Kind) -> i128
 }
 
 /// What the values of a certificate in the range add to that.
-pub fn part(kind: Kind, cert: &Cert) -> i128
+pub fn certified_part(kind: Kind, cert: &Cert) -> i128
     requires { HasFewInside cert.now }
     ensures value { result ≡ certified_part kind cert.now }
     ensures near { unsigned_abs result ≤ 2 ^ 104 }

@@ -85,7 +85,7 @@ fn sum(cert: &Cert) -> i128
 }
 
 // Whether this is the sum of the window.
-fn has_sum(cert: &Cert, split: Split) -> bool
+fn has_window_sum(cert: &Cert, split: Split) -> bool
     requires { run_count cert.now.inside.items + run_count cert.now.outside.items ≤ MOST_VALUES }
     ensures { IsTrue result ↔ ((run_total cert.now.inside.items +ℤ run_total cert.now.outside.items) ≡ split.sum) }
 {
@@ -105,7 +105,7 @@ fn has_values(cert: &Cert, split: Split) -> bool
     requires { run_count cert.now.inside.items + run_count cert.now.outside.items ≤ MOST_VALUES }
     ensures { IsTrue result ↔ HasValues split cert.now }
 {
-    all_lie_between(cert, split) && ends_occur(cert, split) && has_sum(cert, split)
+    all_lie_between(cert, split) && ends_occur(cert, split) && has_window_sum(cert, split)
 }
 
 /// Whether a certificate is of a window that a range splits, and its values are such as the window may hold.

@@ -8,7 +8,7 @@ use ss_bounds::MOST_VALUES;
 use ss_model::Run;
 
 // A run more, unless it has no value.
-fn add(runs: &mut ArrayVec<Run, 3>, value: i64, times: u64)
+fn add_run(runs: &mut ArrayVec<Run, 3>, value: i64, times: u64)
     requires { array_vec_len runs.old < 3 }
     ensures items { runs.new.items ≡ runs.old.items ++ run_before value times [] }
     ensures len { array_vec_len runs.new ≤ array_vec_len runs.old + 1 }
@@ -36,12 +36,12 @@ fn raised(count: u64, min: i64, max: i64, most: u64, rest: u64) -> ArrayVec<Run,
 {
     let mut runs = ArrayVec::new();
     if rest == 0 {
-        add(&mut runs, min, count - most);
+        add_run(&mut runs, min, count - most);
     } else {
-        add(&mut runs, min, count - most - 1);
-        add(&mut runs, min.strict_add_unsigned(rest), 1);
+        add_run(&mut runs, min, count - most - 1);
+        add_run(&mut runs, min.strict_add_unsigned(rest), 1);
     }
-    add(&mut runs, max, most);
+    add_run(&mut runs, max, most);
     runs
 }
 
@@ -56,7 +56,7 @@ pub fn fill(count: u64, sum: i128, min: i64, max: i64) -> ArrayVec<Run, 3>
     let apart = u128::from(max.abs_diff(min));
     if apart == 0 {
         let mut runs = ArrayVec::new();
-        add(&mut runs, min, count);
+        add_run(&mut runs, min, count);
         return runs;
     }
     let above = above(count, sum, min);

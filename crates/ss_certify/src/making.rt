@@ -8,7 +8,7 @@ ghost use Rattle.ss_certify.specs.Checked.{HasFewInside};
 ghost use Rattle.ss_certify.specs.Evidence.{certified_sum};
 ghost use Rattle.ss_certify.specs.Made.{attaining, certificate_of, certificate_with, evidence_of, inside_sum};
 
-use crate::base::{base, part};
+use crate::base::{base, certified_part};
 use crate::fill::fill;
 use crate::sums::{high_sum, low_sum};
 use crate::{Cert, Evidence};
@@ -64,6 +64,7 @@ pub fn certificate(kind: Kind, end: End, cut: Cut) -> Cert
     ensures few { HasFewInside result }
 {
     let split = cut.split;
+    // Read for the proof alone: with a field comes what holds of each split.
     let _count = split.count;
     let x = attaining(kind, end, split);
     let sum = sum_inside(kind, end, split, x);
@@ -71,7 +72,7 @@ pub fn certificate(kind: Kind, end: End, cut: Cut) -> Cert
 }
 
 // The certificate of one window more, where there is one, and what its values in the range add to the answer.
-fn add(certs: &mut ArrayVec<Cert, 2>, cut: Option<Cut>, kind: Kind, end: End) -> i128
+fn add_certificate(certs: &mut ArrayVec<Cert, 2>, cut: Option<Cut>, kind: Kind, end: End) -> i128
     requires { array_vec_len certs.old < 2 }
     ensures items { certs.new.items ≡ certs.old.items ++ map (certificate_of kind end) (listed cut None) }
     ensures len { array_vec_len certs.new ≤ array_vec_len certs.old + 1 }
@@ -82,7 +83,7 @@ fn add(certs: &mut ArrayVec<Cert, 2>, cut: Option<Cut>, kind: Kind, end: End) ->
         None => 0,
         Some(cut) => {
             let cert = certificate(kind, end, cut);
-            let part = part(kind, &cert);
+            let part = certified_part(kind, &cert);
             certs.push(cert);
             part
         }
@@ -96,8 +97,8 @@ pub fn evidence(seen: &Seen, kind: Kind, end: End) -> Evidence
 {
     let base = base(seen, kind);
     let mut certs = ArrayVec::new();
-    let left = add(&mut certs, seen.left, kind, end);
-    let right = add(&mut certs, seen.right, kind, end);
+    let left = add_certificate(&mut certs, seen.left, kind, end);
+    let right = add_certificate(&mut certs, seen.right, kind, end);
     Evidence {
         answer: base + left + right,
         base,

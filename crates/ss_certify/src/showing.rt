@@ -5,7 +5,7 @@ ghost use Rattle.ss_query.specs.Asked.{IsFewMarked, outcome_seen};
 ghost use Rattle.ss_certify.specs.Evidence.{AllCertify, IsEvidence, base_of, end_asked, certified_sum};
 ghost use Rattle.ss_certify.specs.Checked.{HasFewInside};
 
-use crate::base::{base, part};
+use crate::base::{base, certified_part};
 use crate::checking::certifies;
 use crate::{Cert, Evidence};
 use ss_catalog::{End, Kind};
@@ -54,8 +54,8 @@ fn parts(kind: Kind, certs: &[Cert]) -> i128
 {
     match certs {
         [] => 0,
-        [cert] => part(kind, cert),
-        [first, second, ..] => part(kind, first) + part(kind, second),
+        [cert] => certified_part(kind, cert),
+        [first, second, ..] => certified_part(kind, first) + certified_part(kind, second),
     }
 }
 

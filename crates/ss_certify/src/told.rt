@@ -19,7 +19,7 @@ fn run_at(runs: &[Run], place: usize) -> Run
 }
 
 // Three runs: these, and behind them runs of no values.
-fn padded(runs: &[Run]) -> [Run; 3]
+fn three_runs(runs: &[Run]) -> [Run; 3]
     ensures { result ≡ three_runs runs.now }
 {
     [run_at(runs, 0), run_at(runs, 1), run_at(runs, 2)]
@@ -30,14 +30,14 @@ fn runs(cert: &Cert, inner: bool) -> [Run; 3]
     ensures { result ≡ three_runs (if inner then cert.now.inside.items else cert.now.outside.items) }
 {
     if inner {
-        padded(cert.inside.as_slice())
+        three_runs(cert.inside.as_slice())
     } else {
-        padded(cert.outside.as_slice())
+        three_runs(cert.outside.as_slice())
     }
 }
 
 // How many values these are.
-fn values(cert: &Cert, inner: bool) -> u64
+fn value_count(cert: &Cert, inner: bool) -> u64
     ensures { result ≡ (if inner then cert.now.x else cert.now.split.count - cert.now.x) }
 {
     if inner {
@@ -66,7 +66,7 @@ pub fn side(cert: &Cert, inner: bool) -> Reply
         inner,
         first: cert.first,
         last: cert.last,
-        values: values(cert, inner),
+        values: value_count(cert, inner),
         runs: runs(cert, inner),
     })
 }

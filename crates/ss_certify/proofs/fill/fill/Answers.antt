@@ -9,7 +9,7 @@ pub returns-then-apart-eq0 : goal.returns-then-apart-eq0
 returns-then-apart-eq0 c =
     let apart = computed-apart c.args.min c.args.max _ _ c.ranges.min c.ranges.max c.abs_diff.ensures c.from-apart.ensures in
     let min_is = to_z-of_z _ c.args.min c.ranges.min in
-    c.add.ensures.items ∙ ap₂ (λ runs v. runs ++ run_before v c.args.count []) c.new-runs.ensures min_is
+    c.add_run.ensures.items ∙ ap₂ (λ runs v. runs ++ run_before v c.args.count []) c.new-runs.ensures min_is
     ∙ fill-one_value c.args.count c.args.sum c.args.min c.args.max (omega arith)
 
 -- the greatest values and the one for the rest are no more than there are

@@ -4,7 +4,7 @@ use Rattle.std.specs.Int.{w128}
 use Rattle.ss_certify.specs.Evidence.{certified_part}
 use Rattle.ss_certify.specs.Runs.{run_count, run_total}
 use Rattle.ss_certify.proofs.RunLemmas.{total-values_of_runs}
-use Rattle.ss_certify.proofs.base.part.Goals as goal
+use Rattle.ss_certify.proofs.base.certified_part.Goals as goal
 
 pub returns-in-Sum-clause-value : goal.returns-in-Sum-clause-value
 returns-in-Sum-clause-value c =
