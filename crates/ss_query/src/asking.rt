@@ -312,6 +312,7 @@ fn sums_of(cut: Option<Cut>) -> (i128, i128)
         None => (0, 0),
         Some(cut) => {
             let split = cut.split;
+            // Read for the proof alone: with a field comes what holds of each split.
             let _count = split.count;
             sum_bounds(split)
         }

@@ -59,7 +59,7 @@ fn summary_of(spelled: Option<Record>, id: StreamId, entry: Entry) -> Option<Sum
 }
 
 // Whether a window of this summary lies among the landmarks of its stream as one has to.
-fn is_free<S: Ledger>(
+fn lies_among_landmarks<S: Ledger>(
     part: &StreamParts,
     entry: Entry,
     summary: Summary,
@@ -69,6 +69,7 @@ fn is_free<S: Ledger>(
     ensures free { result ≡ lies_free part.now.landmarks.landmarks (record { first = entry.first; summary = summary }) }
 {
     let first = entry.first;
+    // Read for the proof alone: with a field comes what holds of each summary.
     let _count = summary.count;
     lies_free(&part.landmarks, &Window { first, summary }, searches)
 }
@@ -99,7 +100,7 @@ pub fn read_window<D: Disk, R: Ledger, S: Ledger>(
 {
     let bytes = records.read(disk, entry.slot, reads)?;
     match summary_of(decode(&bytes), part.id, entry) {
-        Some(summary) if is_free(part, entry, summary, searches) => Ok(summary),
+        Some(summary) if lies_among_landmarks(part, entry, summary, searches) => Ok(summary),
         _ => Err(ReadError::Changed { slot: entry.slot }),
     }
 }

@@ -96,6 +96,7 @@ pub fn see_from<D: Disk, L: Ledger, R: Ledger, S: Ledger>(
     // Seven searches of the landmarks for each record that is read.
     ensures few_searches { searches.new + 7 * reads.old ≤ searches.old + 7 * reads.new }
 {
+    // Asked for the proof alone: with these come what holds of each line, and of all landmarks.
     let _len = part.line.len();
     let _known = part.landmarks.count();
     let mut seen = nothing_seen(query, &part.landmarks);

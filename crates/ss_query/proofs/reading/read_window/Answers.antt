@@ -3,7 +3,7 @@ use Rattle.ss_codec.specs.Decoded.{decoded}
 use Rattle.ss_outside.proofs.StepLemmas.{step-as}
 use Rattle.ss_parts.specs.Held.{window_record}
 use Rattle.ss_query.proofs.Records.{HasRecords-spelled, lies_free-read}
-use Rattle.ss_query.proofs.reading.read_window.Goals.{in_default-via-in-Some+else-is_free, in_default-via-in_default}
+use Rattle.ss_query.proofs.reading.read_window.Goals.{in_default-via-in-Some+else-lies_among_landmarks, in_default-via-in_default}
 use Rattle.ss_query.proofs.reading.read_window.Goals as goal
 
 pub returns-in-Some-clause-reads : goal.returns-in-Some-clause-reads
@@ -31,10 +31,10 @@ returns-in_default-clause-reads g c = record {
             c.decode.ensures.exact ∙ ap decoded (read.bytes has.found has.map)
             ∙ HasRecords-spelled c.args.entry.slot (window_record c.args.part.now.id.0 w) others _ has in
             elim c.in_default.branch [
-              | in_default-via-in-Some+else-is_free b ↦
+              | in_default-via-in-Some+else-lies_among_landmarks b ↦
                   (let lies = lies_free-read c.args.part.now.landmarks.landmarks c.args.part.now.id.0 c.args.entry w b.in-Some.summary
                   c.decode.result spelled b.in-Some.ensures.some.0 free in
-                  let wrong : false ≡ true = sym b.if-is_free.false ∙ b.is_free.ensures.free ∙ lies in
+                  let wrong : false ≡ true = sym b.if-lies_among_landmarks.false ∙ b.lies_among_landmarks.ensures.free ∙ lies in
                   cc)
               | in_default-via-in_default b ↦ b.in_default.ensures.none w spelled same times
             ];
