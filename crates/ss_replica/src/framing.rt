@@ -6,7 +6,7 @@ ghost use Rattle.ss_model.specs.State.{state};
 ghost use Rattle.ss_parts.specs.Held.{AllAgree};
 ghost use Rattle.ss_replica.specs.Own.{event_frame};
 
-use crate::numbers::{event_name, events_named, step_of};
+use crate::numbers::{event_name, events_named, step_of_event};
 use ss_catalog::Event;
 use ss_frames::Frame;
 use ss_store::Store;
@@ -21,6 +21,6 @@ pub fn frame_after(store: &Store, event: &Event) -> Option<Frame>
     // That the bytes of the name are a name is a clause of this call, and that a step is a number of 32 bits one of the next. A valid
     // frame needs both.
     let _word = name.as_bytes();
-    let _step = step_of(event);
+    let _step = step_of_event(event);
     Frame::of(events_named(store, &name), *event)
 }

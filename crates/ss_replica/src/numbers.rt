@@ -30,7 +30,7 @@ pub fn event_name(event: &Event) -> Name
 }
 
 /// The step of the stream that an event creates, 0 for none.
-pub fn step_of(event: &Event) -> u32
+pub fn step_of_event(event: &Event) -> u32
     ensures { result ≡ step_of_event event.now }
 {
     match *event {

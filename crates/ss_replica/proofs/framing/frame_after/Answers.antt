@@ -13,7 +13,7 @@ returns c history whole agree =
     ∙ ap (λ name. length (own (history ++ added event ∷ []) name)) c.event_name-name.ensures in
     let named = subst (λ name. is_name name ≡ true) (c.as_bytes-word.ensures.value ∙ c.event_name-name.ensures) c.as_bytes-word.ensures.name in
     let few : c.events_named.result < 2 ^ 64 = search rules in
-    let fits : c.step_of-step.result < 2 ^ 32 = search rules in
-    let small = subst (λ n. n < 2 ^ 32) c.step_of-step.ensures fits in
+    let fits : c.step_of_event-step.result < 2 ^ 32 = search rules in
+    let small = subst (λ n. n < 2 ^ 32) c.step_of_event-step.ensures fits in
     c.of.ensures.exact ∙ ap (λ (n : ℕ). checked_frame (record { number = n; event = event })) number
     ∙ checked-last history event whole named small (subst (λ n. n < 2 ^ 64) number few)
