@@ -2,7 +2,7 @@
 -- end of its sum.
 use Rattle.std.specs.Prelude.{◌≡◌, ℕ, zero, suc, ◌+◌, ◌-◌, ◌<◌, ◌≤◌, ◌≢◌, ℤ, neg_ℤ, ◌-ℤ◌, ◌≤ℤ◌, Bool, true, false, if◌then◌else◌}
 use Rattle.std.specs.Ordering.{int_eq}
-use Rattle.std.proofs.Common.{ap, arith, inl, inr, refl, subst, sym, ◌∙◌}
+use Rattle.std.proofs.Common.{ap, arith, inl, inr, refl, sym, ◌∙◌}
 use Rattle.std.proofs.lemmas.Bool.{cases_lt, false≢true}
 use Rattle.std.proofs.lemmas.Bool.Decides.{Decides-int_eq}
 use Rattle.std.proofs.lemmas.Int.{ints}
@@ -44,7 +44,7 @@ module _ (f : ℕ → ℤ) where
   IsFirstGreatest-greatest_of a b n x end first =
       let place : a + (x - a) ≡ x = omega (arith, first.from) in
       let up = greatest_of-at_least f a n (x - a) (omega (arith, first.from, first.to)) in
-      let up : f x ≤ℤ greatest_of f a n = subst (λ z. f z ≤ℤ greatest_of f a n) place up in
+      let up : f x ≤ℤ greatest_of f a n = rw place at up in
       let down = greatest_of-at_most f a n (f x) (λ y from to. first.at_least y from (omega arith)) in
       omega (arith, ints)
 
@@ -146,17 +146,15 @@ module _ (s : SplitFigures) (split : IsSplit s) where
   unfolding sum_interval least_sum_at
   least_sum_at-first =
       let some = some-least (low_sum s) (least_count s) (greatest_count s - least_count s) in
-      let first = subst (λ b. IsFirstLeast (low_sum s) (least_count s) b some.0) range-end some.1 in
+      let first = rw range-end at some.1 in
       let is = first_at-least_of (low_sum s) _ _ _ some.0 range-end first in
-      subst (λ x. IsFirstLeast (low_sum s) (least_count s) (greatest_count s) x × (low_sum s x ≡ (sum_interval s).0)) (sym is)
-      (first, IsFirstLeast-least_of (low_sum s) _ _ _ some.0 range-end first)
+      rw is (first, IsFirstLeast-least_of (low_sum s) _ _ _ some.0 range-end first)
 
   pub greatest_sum_at-first : IsFirstGreatest (high_sum s) (least_count s) (greatest_count s) (greatest_sum_at s)
       × (high_sum s (greatest_sum_at s) ≡ (sum_interval s).1)
   unfolding sum_interval greatest_sum_at
   greatest_sum_at-first =
       let some = some-greatest (high_sum s) (least_count s) (greatest_count s - least_count s) in
-      let first = subst (λ b. IsFirstGreatest (high_sum s) (least_count s) b some.0) range-end some.1 in
+      let first = rw range-end at some.1 in
       let is = first_at-greatest_of (high_sum s) _ _ _ some.0 range-end first in
-      subst (λ x. IsFirstGreatest (high_sum s) (least_count s) (greatest_count s) x × (high_sum s x ≡ (sum_interval s).1)) (sym is)
-      (first, IsFirstGreatest-greatest_of (high_sum s) _ _ _ some.0 range-end first)
+      rw is (first, IsFirstGreatest-greatest_of (high_sum s) _ _ _ some.0 range-end first)

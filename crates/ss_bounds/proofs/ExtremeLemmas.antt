@@ -3,7 +3,7 @@ use Rattle.std.specs.Prelude.{◌≡◌, Bool, true, false, if◌then◌else◌,
 use Rattle.std.specs.List.{filter}
 use Rattle.std.specs.Option.{option_zip}
 use Rattle.std.specs.Int.{int_min, int_max}
-use Rattle.std.proofs.Common.{ap, arith, refl, sym, ◌∙◌, subst}
+use Rattle.std.proofs.Common.{ap, arith, refl, sym, ◌∙◌}
 use Rattle.std.proofs.lemmas.Bool.Decides.{nat_tests}
 use Rattle.std.proofs.lemmas.Int.{ints, clamps}
 use Rattle.std.proofs.lemmas.Option.{none-some}
@@ -72,8 +72,7 @@ module _ (s : SplitFigures) where
 
 -- and what all of them say
 IsBetter-same : (Better : ℤ → ℤ → Type 0) (a b c d : Option ℤ) → a ≡ c → b ≡ d → IsBetter Better a b → IsBetter Better c d
-IsBetter-same Better a b c d first second better =
-    subst (λ z. IsBetter Better z d) first (subst (λ z. IsBetter Better a z) second better)
+IsBetter-same Better a b c d first second better = rw (second, first) at better
 
 module _ {choice : ℤ → ℤ → ℤ} {Better : ℤ → ℤ → Type 0} (is : IsChoice choice Better) (f : SplitFigures → ℤ) (test : SplitFigures → Bool)
     (ws : List (SplitFigures × List ℤ)) (may : MayAllLieThere ws) where
@@ -176,8 +175,7 @@ module _ (ws : List (SplitFigures × List ℤ)) (may : MayAllLieThere ws) where
   pub min_interval-HoldsExtreme : (exact : Option ℤ) → HoldsExtreme (min_interval exact (windows_alone ws)) (lesser exact (least_in (values_of_all ws)))
   min_interval-HoldsExtreme exact =
       let all = values_of_all ws in
-      subst (λ z. HoldsExtreme z (lesser exact (least_in all))) (sym (min_table-found exact can must))
-      (holds-min (lesser exact (least_in all)) (lesser exact (least_in (map min_of can))) (lesser exact (least_in (map max_of must)))
+      rw min_table-found (holds-min (lesser exact (least_in all)) (lesser exact (least_in (map min_of can))) (lesser exact (least_in (map max_of must)))
       (greatest_in (map max_of can))
       (choice-better IsChoice-min (λ a. omega (arith, ints)) exact _ _ least-low)
       (choice-better IsChoice-min (λ a. omega (arith, ints)) exact _ _ least-sure)
@@ -187,7 +185,7 @@ module _ (ws : List (SplitFigures × List ℤ)) (may : MayAllLieThere ws) where
   pub max_interval-HoldsExtreme : (exact : Option ℤ) → HoldsExtreme (max_interval exact (windows_alone ws)) (greater exact (greatest_in (values_of_all ws)))
   max_interval-HoldsExtreme exact =
       let all = values_of_all ws in
-      subst (λ z. HoldsExtreme z (greater exact (greatest_in all))) (sym (max_table-found exact can must))
+      rw max_table-found
       (holds-max (greater exact (greatest_in all)) (greater exact (greatest_in (map max_of can))) (greater exact (greatest_in (map min_of must)))
       (least_in (map min_of can))
       (choice-better IsChoice-max (λ a. omega (arith, ints)) exact _ _ greatest-high)

@@ -2,7 +2,7 @@
 use Rattle.std.specs.Prelude.{◌≡◌, ℕ, ◌+◌, ◌-◌, ◌*◌, ◌%◌, ◌<◌, ◌≤◌, max, min, Bool, true, false, ◌&&◌, ◌||◌, ◌==◌, nat_lt, if◌then◌else◌, ◌⊎◌}
 use Rattle.std.specs.Prelude.{ℤ, pos, negsuc, ◌+ℤ◌, ◌-ℤ◌, ◌*ℤ◌, ◌≤ℤ◌, ◌<ℤ◌, unsigned_abs, List, [], ◌∷◌, map, sum_by}
 use Rattle.std.specs.Int.{int_div_euclid, int_rem_euclid, int_max, int_min}
-use Rattle.std.proofs.Common.{arith, ap, refl, sym, subst, inl, inr, ◌∙◌}
+use Rattle.std.proofs.Common.{arith, ap, refl, sym, inl, inr, ◌∙◌}
 use Rattle.std.proofs.lemmas.Int.{ints, clamps, by_lt_z}
 use Rattle.std.proofs.lemmas.Bool.{cases_lt}
 use Rattle.std.proofs.lemmas.Bool.Decides.{nat_tests}
@@ -10,8 +10,7 @@ use Rattle.std.proofs.lemmas.List.Sums.{sum_by-cons}
 use Rattle.std.proofs.Math.Nat.{mul-le-mul_left, mul-pos}
 use Rattle.ss_summary.proofs.Bounds.{times-le-times}
 use Rattle.ss_bounds.specs.Split.{SplitFigures, IsSplit, least_count, greatest_count, low_sum, high_sum, sum_interval}
-use Rattle.ss_bounds.specs.Guess.{Fraction, whole, plus, sum_of, nearest, spread_over, guess_of_count, guess_of_sum}
-use Rattle.ss_bounds.specs.Guess.{AreAllSplit, count_guess, sum_guess}
+use Rattle.ss_bounds.specs.Guess.{Fraction, whole, plus, sum_of, nearest, spread_over, guess_of_count, guess_of_sum, AreAllSplit, count_guess, sum_guess}
 use Rattle.ss_bounds.specs.Truth.{total}
 use Rattle.ss_bounds.proofs.Numbers.{minus-times, times-minus, times-plus, product-times, more-times}
 use Rattle.ss_bounds.proofs.TruthLemmas.{sum_interval-at}
@@ -113,7 +112,7 @@ nearest-less a z w some is other less =
     (λ far. nearest-far a.under a.over z w some is.high other.low (omega (arith, ints)))
     (λ near.
     let same : w ≡ (z +ℤ pos 1) = omega (arith, ints) in
-    nearest-beside a.under a.over z some is (subst (IsNearest a) same other))
+    nearest-beside a.under a.over z some is (rw same at other))
 
 pub nearest-is : (a : Fraction) (z : ℤ) → 0 < a.under → IsNearest a z → z ≡ nearest a
 nearest-is a z some is =
@@ -209,16 +208,16 @@ part-high k i o room = elim (cases_lt i k) [
 times-max : (n : ℕ) (a b v : ℤ) → (pos n *ℤ a) ≤ℤ v → (pos n *ℤ b) ≤ℤ v → (pos n *ℤ int_max a b) ≤ℤ v
 times-max n a b v first second = by_lt_z a b (λ less.
     let is : int_max a b ≡ b = omega (arith, ints, clamps) in
-    subst (λ z. (pos n *ℤ z) ≤ℤ v) (sym is) second) (λ order.
+    rw is second) (λ order.
     let is : int_max a b ≡ a = omega (arith, ints, clamps) in
-    subst (λ z. (pos n *ℤ z) ≤ℤ v) (sym is) first)
+    rw is first)
 
 times-min : (n : ℕ) (a b v : ℤ) → v ≤ℤ (pos n *ℤ a) → v ≤ℤ (pos n *ℤ b) → v ≤ℤ (pos n *ℤ int_min a b)
 times-min n a b v first second = by_lt_z a b (λ less.
     let is : int_min a b ≡ a = omega (arith, ints, clamps) in
-    subst (λ z. v ≤ℤ (pos n *ℤ z)) (sym is) first) (λ order.
+    rw is first) (λ order.
     let is : int_min a b ≡ b = omega (arith, ints, clamps) in
-    subst (λ z. v ≤ℤ (pos n *ℤ z)) (sym is) second)
+    rw is second)
 
 -- more of a number that isn't above zero is no more
 fewer-times : (x y : ℕ) (a : ℤ) → x ≤ y → a ≤ℤ pos 0 → (pos y *ℤ a) ≤ℤ (pos x *ℤ a)

@@ -1,7 +1,7 @@
 -- What the code holds of whole numbers in 128 bits is these numbers.
 use Rattle.std.specs.Prelude.{◌≡◌, ℕ, ◌-◌, ◌^◌, ◌<◌, ◌≤◌, ℤ, pos, ◌-ℤ◌, ◌*ℤ◌, FitsSigned, unsigned_abs}
 use Rattle.std.specs.Int.{w64, w128, int_max}
-use Rattle.std.proofs.Common.{ap, ap₂, arith, ◌∙◌, subst, sym}
+use Rattle.std.proofs.Common.{ap, ap₂, arith, ◌∙◌}
 use Rattle.std.proofs.lemmas.Int.{ints, clamps, to_z-of_z}
 use Rattle.ss_bounds.specs.Split.{SplitFigures, IsSplit, low_sum}
 use Rattle.ss_bounds.proofs.Numbers.{minus-times, times-up, times-down}
@@ -87,7 +87,7 @@ pub computed-rest : (s : SplitFigures) → IsSplit s → (x : ℕ) → (others_h
 computed-rest s split x others_held max_held others_is max_is =
     let others = held-times others_held max_held (s.count - x) s.max others_is max_is (omega (arith, split.count_high)) split.max_fits in
     let sum = to_z-of_z w128 s.sum (sum-fits s split) in
-    subst (λ z. FitsSigned w128 z) (sym (ap₂ (λ p q. p -ℤ q) sum others)) (rest-fits s split x)
+    rw (ap₂ (λ p q. p -ℤ q) sum others) (rest-fits s split x)
 
 -- what the code computes of how far the values are apart, and of how much the sum is short of that of the greatest alone
 pub computed-apart : (s : SplitFigures) → IsSplit s → (apart : ℕ) → apart ≡ unsigned_abs (held64 s.max -ℤ held64 s.min)

@@ -2,7 +2,7 @@
 -- of values.
 use Rattle.std.specs.Prelude.{◌≡◌, ℕ, zero, suc, ◌+◌, ◌-◌, ◌^◌, ◌<◌, ◌≤◌, ℤ, ◌-ℤ◌, ◌≤ℤ◌, FitsSigned, unsigned_abs}
 use Rattle.std.specs.Int.{w128}
-use Rattle.std.proofs.Common.{ap, ap₂, arith, inl, inr, ◌∙◌, subst}
+use Rattle.std.proofs.Common.{ap, ap₂, arith, inl, inr, ◌∙◌}
 use Rattle.std.proofs.lemmas.Bool.{cases_lt}
 use Rattle.std.proofs.lemmas.Int.{ints, clamps, to_z-of_z}
 use Rattle.ss_bounds.specs.Split.{SplitFigures, IsSplit, low_sum, high_sum, least_of, greatest_of, least_count, greatest_count, count_interval, sum_interval}
@@ -50,7 +50,7 @@ IsLeast-least_of f a b n v end least =
     let at = least.reached in
     let reached = least_of-at_most f a n (at.0 - a) (omega (arith, at.1, at.2)) in
     let same : a + (at.0 - a) ≡ at.0 = omega (arith, at.1) in
-    let reached : least_of f a n ≤ℤ v = subst (λ z. least_of f a n ≤ℤ z) (ap f same ∙ at.3) reached in
+    let reached : least_of f a n ≤ℤ v = rw (ap f same ∙ at.3) at reached in
     both-ways _ _ (at_most-least_of f a n v (λ x from to. least.at_most x from (omega arith))) reached
 
 -- where x values have the greatest sum, the others have the least
@@ -71,7 +71,7 @@ IsLeast-greatest_of s a b n rest end within least =
     let value : high_sum s x ≡ (s.sum -ℤ rest) = high ∙ ap (λ z. s.sum -ℤ z) (ap (low_sum s) back ∙ at.3) in
     let reached = greatest_of-at_least (high_sum s) a n (x - a) (omega (arith, at.1, at.2)) in
     let reached : (s.sum -ℤ rest) ≤ℤ greatest_of (high_sum s) a n =
-    subst (λ z. z ≤ℤ greatest_of (high_sum s) a n) (ap (high_sum s) place ∙ value) reached in
+    rw (ap (high_sum s) place ∙ value) at reached in
     both-ways _ _ reached (greatest_of-at_most (high_sum s) a n (s.sum -ℤ rest) (λ y from to.
     let low = least.at_most (s.count - y) (omega arith) (omega arith) in
     let is = high_sum-rest s y (omega arith) in
@@ -84,7 +84,7 @@ module _ (s : SplitFigures) (split : IsSplit s) (fewest most : ℕ) (lo rest : �
   difference-fits fits =
       let at = least_rest.reached in
       let small = low_sum-small s split at.0 (omega (arith, at.2)) in
-      let small : unsigned_abs rest < 2 ^ 106 = subst (λ z. unsigned_abs z < 2 ^ 106) at.3 small in
+      let small : unsigned_abs rest < 2 ^ 106 = rw at.3 at small in
       let all = sum-small s split in
       let sum_is = to_z-of_z w128 s.sum (sum-fits s split) in
       let rest_is = to_z-of_z w128 rest fits in

@@ -136,11 +136,11 @@ computed-nearest k m n half more even risen near proper other risen_is small eve
     let k_is = held-is k k refl (omega (arith, ints)) in
     let m_is = held-is m.whole m.whole refl (omega (arith, ints)) in
     let n_is = held-is n.whole n.whole refl (omega (arith, ints)) in
-    let r_is = held-is risen (rise half more even) risen_is (subst (FitsSigned w128) risen_is (omega (arith, ints))) in
+    let r_is = held-is risen (rise half more even) risen_is (rw (← risen_is) (omega (arith, ints))) in
     let some = held-is _ (k +ℤ m.whole) (ap₂ (λ p q. p +ℤ q) k_is m_is) (omega (arith, ints)) in
     let all = held-is _ ((k +ℤ m.whole) +ℤ n.whole) (ap₂ (λ p q. p +ℤ q) some n_is) (omega (arith, ints)) in
     let found = nearest-mixed k m n half more even a b first second (even_is ∙ ap is_even all) is_half is_more in
-    let small_rise = subst (λ z. unsigned_abs z ≤ 2) risen_is small in
+    let small_rise = rw risen_is at small in
     held-is _ (((k +ℤ m.whole) +ℤ n.whole) +ℤ rise half more even) (ap₂ (λ p q. p +ℤ q) all r_is) (omega (arith, ints)) ∙ found
 
 -- the whole part of a quotient lies between the whole numbers that the quotient lies between
@@ -281,7 +281,7 @@ rests-are count left g spare left_few spare_few rest_few values_few few short =
     let parts : under * (shared / count + over / under) + over % under ≡ left * (g.times * g.values + g.rest) + count * spare =
     rests-parts count g.times g.values g.rest left spare shared (shared / count) (shared % count) over under (over / under) (over % under)
     refl (omega arith) refl refl (omega arith) in
-    subst (λ z. AreRests count left g spare (z, over % under)) (sym is) (record {
+    rw is (record {
       parts = let product = ap pos parts in omega (arith, ints);
       proper = omega arith;
       near = small;
@@ -295,7 +295,7 @@ pub computed-mean : (s : SplitFigures) → IsSplit s → (mean : ℤ) (left : �
     → unsigned_abs (held mean) ≤ 2 ^ 63
 computed-mean s split mean left is proper =
     let small = mean-small s split mean left (sym (to_z-of_z w128 s.sum (sum-fits s split)) ∙ is) proper in
-    subst (λ z. unsigned_abs z ≤ 2 ^ 63) (sym (small-held mean (omega (arith, ints)))) small
+    rw (small-held mean (omega (arith, ints))) small
 
 pub computed-sum : (s : SplitFigures) → IsSplit s → (g : Spread) → IsSpread s g → (mean more few some most : ℤ) (left spare over c t : ℕ)
     → held s.sum ≡ ((pos s.count *ℤ mean) +ℤ pos left) → left < s.count → some ≡ (pos g.rest *ℤ held mean)
@@ -324,8 +324,8 @@ computed-sum s split g is mean more few some most left spare over c t sum_is lef
     let all_is = ap₂ (λ p q. p +ℤ q) held_both held_few in
     let held_all = held-is _ _ all_is all in
     let mixed = mixed-sum s split g is mean more few left spare over sum left_few parted spare_few rests in (
-      subst (FitsSigned w128) (sym both_is) both,
-      subst (FitsSigned w128) (sym all_is) all,
+      rw both_is both,
+      rw all_is all,
       subst (IsMixed (guess_of_sum s)) (ap₂ (λ (z : ℤ) (u : ℕ). record { whole = z; over = over; under = u }) (sym held_all)
           (sym (ap₂ (λ a b. a * b) c_is t_is))) mixed,
     )

@@ -1,7 +1,7 @@
 -- How many values at rising free times there are in a range and outside it, against how many such times.
 use Rattle.std.specs.Prelude.{◌≡◌, ℕ, zero, suc, ◌+◌, ◌-◌, ◌<◌, ◌≤◌, Bool, true, false, ◌&&◌, not, if◌then◌else◌, ℤ, List, [], ◌∷◌, length}
 use Rattle.std.specs.List.{count_by, filter, range_with_len}
-use Rattle.std.proofs.Common.{ap, arith, refl, sym, ◌∙◌, subst, zero-add}
+use Rattle.std.proofs.Common.{ap, arith, refl, sym, ◌∙◌, zero-add}
 use Rattle.std.proofs.lemmas.List.Sums.{sum_by-cons}
 use Rattle.ss_summary.specs.Points.{Point}
 use Rattle.ss_bounds.specs.Split.{SplitFigures, least_count, greatest_count}
@@ -33,8 +33,7 @@ count_by-at : (test : ℕ → Bool) (a t end : ℕ) → a ≤ t → t < end
     → one_if (test t) + count_by test (range_with_len (t + 1) (end - (t + 1))) ≤ count_by test (range_with_len a (end - a))
 count_by-at test a t end from before =
     let same : a + (t - a) ≡ t = omega arith in
-    subst (λ z. one_if (test z) + count_by test (range_with_len (z + 1) (end - (z + 1))) ≤ count_by test (range_with_len a (end - a))) same
-    (count_by-from test a (t - a) end (omega arith))
+    rw same at (count_by-from test a (t - a) end (omega arith))
 
 -- no time of rising ones is after the last
 time_at_end-after : (free : ℕ → Bool) (m M : ℤ) (start : ℕ) (q : Point) (qs : List Point) → RiseFree free m M start (q ∷ qs)

@@ -1,6 +1,5 @@
-use Rattle.std.proofs.Common.{arith, subst, ◌∙◌}
+use Rattle.std.proofs.Common.{arith, ◌∙◌}
 use Rattle.std.specs.Prelude.{◌<◌, ◌/◌}
-use Rattle.ss_bounds.specs.Split.{IsSplit}
 use Rattle.ss_bounds.specs.Lines.{IsCrossing}
 use Rattle.ss_bounds.proofs.Held.{computed-apart, computed-missing}
 use Rattle.ss_bounds.proofs.LineLemmas.{IsCrossing-apart, IsCrossing-same}
@@ -12,21 +11,19 @@ crossing c =
     let apart = computed-apart _ c.split.invariant _ (c.from-apart.ensures ∙ c.abs_diff.ensures) in
     let missing = computed-missing _ c.split.invariant _ _ _ c.from.ensures c.from-2.ensures c.abs_diff-missing.ensures in
     let more : 0 < c.from-apart.result = omega arith in
-    subst (λ s. IsCrossing s (c.abs_diff-missing.result / c.from-apart.result)) c.split.view_is
-    (IsCrossing-apart _ c.split.invariant _ _ apart missing more)
+    rw c.split.view_is at (IsCrossing-apart _ c.split.invariant _ _ apart missing more)
 
 pub overflow_cast-result : goal.overflow_cast-result
 overflow_cast-result c =
     let few = (crossing c).few in
-    let possible = subst IsSplit c.split.view_is c.split.invariant in
+    let possible = rw c.split.view_is at c.split.invariant in
     omega (arith, possible.count_high)
 
 pub returns-then-apart-eq0 : goal.returns-then-apart-eq0
 returns-then-apart-eq0 c =
     let apart = computed-apart _ c.split.invariant _ (c.from-apart.ensures ∙ c.abs_diff.ensures) in
     let missing = computed-missing _ c.split.invariant _ _ _ c.from.ensures c.from-2.ensures c.abs_diff-missing.ensures in
-    subst (λ s. IsCrossing s 0) c.split.view_is
-    (IsCrossing-same _ c.split.invariant _ _ apart missing c.if-apart-eq0.true)
+    rw c.split.view_is at (IsCrossing-same _ c.split.invariant _ _ apart missing c.if-apart-eq0.true)
 
 pub returns-else-apart-eq0 : goal.returns-else-apart-eq0
 returns-else-apart-eq0 = crossing
