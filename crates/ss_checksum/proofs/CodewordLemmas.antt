@@ -10,18 +10,19 @@ use Rattle.std.proofs.lemmas.List.{take-append-drop}
 use Rattle.std.proofs.lemmas.List.Elements.{All-drop, All-head, All-tail, All-take}
 use Rattle.std.proofs.lemmas.List.Sums.{fold-append}
 use Rattle.std.proofs.lemmas.Nat.{xor_comm, xor_lt}
-use Rattle.ss_checksum.specs.Changes.{AreAsLong, difference, number_of}
+use Rattle.ss_checksum.specs.Changes.{AreAsLong, difference, number_of_bytes}
 use Rattle.ss_checksum.specs.Checksum.{after_bits, after_byte, after_bytes, checksum}
 use Rattle.ss_checksum.specs.Codeword.{IsChecked, check_bytes}
 use Rattle.ss_checksum.proofs.StepLemmas.{after_bits-lt, after_bits-some, after_bits-xor, from_none, xor_cancel}
-use Rattle.ss_checksum.proofs.ChangeLemmas.{AreBytes, after_bytes-is, below_power, bits_of, bits_of-is, bits_of-same, difference-lt, moved_down, number_of-lt}
-use Rattle.ss_checksum.proofs.ChangeLemmas.{number_of-same}
+use Rattle.ss_checksum.proofs.ChangeLemmas.{AreBytes, after_bytes-is, below_power, bits_of, bits_of-is, bits_of-same, difference-lt, moved_down}
+use Rattle.ss_checksum.proofs.ChangeLemmas.{number_of_bytes-lt}
+use Rattle.ss_checksum.proofs.ChangeLemmas.{number_of_bytes-same}
 
 abbrev ones : ℕ
 ones = 2 ^ 32 - 1
 
-pub number_of-check : (sum : ℕ) → sum < 2 ^ 32 → number_of (check_bytes sum) ≡ sum
-number_of-check sum few = omega arith
+pub number_of_bytes-check : (sum : ℕ) → sum < 2 ^ 32 → number_of_bytes (check_bytes sum) ≡ sum
+number_of_bytes-check sum few = omega arith
 
 before-bytes : (xs ys : List ℕ) → AreBytes (xs ++ ys) → AreBytes xs
 before-bytes xs ys bytes = rw take-append_seam at (All-take (λ x. x < 2 ^ 8) (length xs) (xs ++ ys) bytes)
@@ -55,7 +56,7 @@ residue front xs front_bytes bytes checked =
     ap (after_bytes start) checked.are
     ∙ fold-append after_byte start covered (check_bytes sum)
     ∙ after_bytes-is state (check_bytes sum) (behind-bytes covered (check_bytes sum) parts)
-    ∙ ap (λ n. after_bits 32 (bit_xor state n)) (number_of-check sum few)
+    ∙ ap (λ n. after_bits 32 (bit_xor state n)) (number_of_bytes-check sum few)
     ∙ ap (after_bits 32) turned
 
 -- numbers that lead to one, with the same in both, differ by one that the steps make nothing of
@@ -78,7 +79,7 @@ same-before k a b c few few_too same =
 
 -- where the steps over bytes lead, as steps over their number
 residue-bits : (front xs : List ℕ) → AreBytes front → AreBytes xs → IsChecked front xs
-    → after_bits (bits_of xs) (bit_xor (after_bytes ones front) (number_of xs)) ≡ after_bits 32 ones
+    → after_bits (bits_of xs) (bit_xor (after_bytes ones front) (number_of_bytes xs)) ≡ after_bits 32 ones
 residue-bits front xs front_bytes bytes checked = sym (after_bytes-is (after_bytes ones front) xs bytes) ∙ residue front xs front_bytes bytes checked
 
 -- bytes with their checksum, and others that differ by what the steps leave something of
@@ -87,10 +88,10 @@ pub checked-apart : (front xs ys : List ℕ) → AreBytes front → AreAsLong xs
 checked-apart front xs ys front_bytes long checked some other =
     let start = after_bytes ones front in
     let turned = λ (k : ℕ) (n : ℕ). ap (after_bits k) (xor_comm n start) in
-    let here = turned (bits_of xs) (number_of xs) ∙ residue-bits front xs front_bytes long.bytes checked in
-    let there = turned (bits_of ys) (number_of ys) ∙ residue-bits front ys front_bytes long.others other in
+    let here = turned (bits_of xs) (number_of_bytes xs) ∙ residue-bits front xs front_bytes long.bytes checked in
+    let there = turned (bits_of ys) (number_of_bytes ys) ∙ residue-bits front ys front_bytes long.others other in
     let there_too = rw (bits_of-same xs ys long.same) at there in
-    let none = nothing-left (bits_of xs) (number_of xs) (number_of ys) start (here ∙ sym there_too) in
+    let none = nothing-left (bits_of xs) (number_of_bytes xs) (number_of_bytes ys) start (here ∙ sym there_too) in
     omega (arith, none, some)
 
 pub bursts : (front xs ys : List ℕ) (run at : ℕ) → AreBytes front → AreAsLong xs ys → IsChecked front xs → 0 < run → run < 2 ^ 32
@@ -102,11 +103,11 @@ bursts front xs ys run at front_bytes long checked some few is =
     let left : after_bits n (difference xs ys) ≡ after_bits (n - at) run = ap (after_bits n) is ∙ moved_down n at run (omega (arith, inside)) in
     checked-apart front xs ys front_bytes long checked (omega (arith, left, after_bits-some (n - at) run some few))
 
-front-few : (front : List ℕ) → AreBytes front → length front ≤ 4 → number_of front < 2 ^ 32
+front-few : (front : List ℕ) → AreBytes front → length front ≤ 4 → number_of_bytes front < 2 ^ 32
 front-few front bytes short =
     let few : bits_of front ≤ 32 = omega (arith, bits_of-is front, short) in
     let room : 2 ^ bits_of front ≤ 2 ^ 32 = pow-le-pow_right {n = 2} (lit≤ tt) few in
-    omega (arith, room, number_of-lt front bytes)
+    omega (arith, room, number_of_bytes-lt front bytes)
 
 pub fronts : (front other bytes : List ℕ) → AreAsLong front other → length front ≤ 4 → AreBytes bytes
     → IsChecked front bytes → IsChecked other bytes → other ≡ front
@@ -116,15 +117,15 @@ fronts front other bytes long short are checked checked_too =
     let led = residue-bits front bytes long.bytes are checked ∙ sym (residue-bits other bytes long.others are checked_too) in
     let small = after_bytes-lt ones front (lit< tt) long.bytes in
     let small_too = after_bytes-lt ones other (lit< tt) long.others in
-    let states : one ≡ two = same-before (bits_of bytes) one two (number_of bytes) small small_too led in
+    let states : one ≡ two = same-before (bits_of bytes) one two (number_of_bytes bytes) small small_too led in
     let turned = λ (k : ℕ) (n : ℕ). ap (after_bits k) (xor_comm n ones) in
-    let here = turned (bits_of front) (number_of front) ∙ sym (after_bytes-is ones front long.bytes) in
-    let there = turned (bits_of other) (number_of other) ∙ sym (after_bytes-is ones other long.others) in
+    let here = turned (bits_of front) (number_of_bytes front) ∙ sym (after_bytes-is ones front long.bytes) in
+    let there = turned (bits_of other) (number_of_bytes other) ∙ sym (after_bytes-is ones other long.others) in
     let there_too = rw (bits_of-same front other long.same) at there in
     let few = front-few front long.bytes short in
     let few_too = front-few other long.others (omega (arith, short, long.same)) in
-    let numbers = same-before (bits_of front) (number_of front) (number_of other) ones few few_too (here ∙ states ∙ sym there_too) in
-    number_of-same front other long numbers
+    let numbers = same-before (bits_of front) (number_of_bytes front) (number_of_bytes other) ones few few_too (here ∙ states ∙ sym there_too) in
+    number_of_bytes-same front other long numbers
 
 -- the last four bytes are the checksum of a front and of the others
 pub checked-end : (front bytes : List ℕ) (n : ℕ) → length bytes ≡ n + 4 → IsChecked front bytes → drop n bytes ≡ check_bytes (checksum (front ++ take n bytes))

@@ -1,7 +1,7 @@
 -- Worked rows: the vectors of RFC 3720 (B.4), the usual one, also in two parts, the last table, and how bytes differ as numbers.
 use Rattle.std.proofs.Common.{◌≡◌, ◌+◌, ◌*◌, [], ◌∷◌, ◌++◌, codes, refl}
 use Rattle.std.specs.Prelude.{replicate, slice_index_or}
-use Rattle.ss_checksum.specs.Changes.{difference, number_of}
+use Rattle.ss_checksum.specs.Changes.{difference, number_of_bytes}
 use Rattle.ss_checksum.specs.Checksum.{after_bits, checksum}
 use Rattle.ss_checksum.specs.Codeword.{IsChecked, check_bytes}
 use Rattle.ss_checksum.specs.declared.tables.TheConstants.{TABLES}
@@ -59,8 +59,8 @@ unfolding checksum
 IsChecked-digits = record { covered = codes "56789"; are = refl }
 
 -- the first byte is the lowest
-number_of-three : number_of (1 ∷ 2 ∷ 3 ∷ []) ≡ 1 + 2 * 256 + 3 * 65536
-number_of-three = refl
+number_of_bytes-three : number_of_bytes (1 ∷ 2 ∷ 3 ∷ []) ≡ 1 + 2 * 256 + 3 * 65536
+number_of_bytes-three = refl
 
 difference-three : difference (1 ∷ 2 ∷ 3 ∷ []) (1 ∷ 6 ∷ 2 ∷ []) ≡ 4 * 256 + 65536
 difference-three = refl

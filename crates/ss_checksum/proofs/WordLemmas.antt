@@ -8,10 +8,10 @@ use Rattle.std.proofs.lemmas.List.{take-append-drop}
 use Rattle.std.proofs.lemmas.List.Elements.{All-from_get_or}
 use Rattle.std.proofs.lemmas.List.Sums.{fold-append}
 use Rattle.std.proofs.lemmas.Nat.{le_bytes_4, xor_comm}
-use Rattle.ss_checksum.specs.Changes.{number_of}
+use Rattle.ss_checksum.specs.Changes.{number_of_bytes}
 use Rattle.ss_checksum.specs.Checksum.{after_bits, after_bytes}
 use Rattle.ss_checksum.proofs.ChangeLemmas.{AreBytes, after_bytes-is, bits_of, bits_of-is}
-use Rattle.ss_checksum.proofs.CodewordLemmas.{number_of-check}
+use Rattle.ss_checksum.proofs.CodewordLemmas.{number_of_bytes-check}
 use Rattle.ss_checksum.proofs.StepLemmas.{after_bits-add, after_bits-xor}
 
 -- what is known of four bytes that were read as a number
@@ -21,8 +21,8 @@ pub record IsWord (bytes : List ℕ) (word : ℕ) : Type 0 where
   pub small : word < 2 ^ 32
   pub is : word ≡ from_le_bytes w32 bytes
 
-word-number : (bytes : List ℕ) (word : ℕ) → IsWord bytes word → number_of bytes ≡ word
-word-number bytes word read = ap number_of (sym (le_bytes_4 bytes word read.four read.fits read.is)) ∙ number_of-check word read.small
+word-number : (bytes : List ℕ) (word : ℕ) → IsWord bytes word → number_of_bytes bytes ≡ word
+word-number bytes word read = ap number_of_bytes (sym (le_bytes_4 bytes word read.four read.fits read.is)) ∙ number_of_bytes-check word read.small
 
 word-bytes : (bytes : List ℕ) (word : ℕ) → IsWord bytes word → AreBytes bytes
 word-bytes bytes word read = All-from_get_or (λ x. x < 2 ^ 8) bytes 0 (λ i inside. read.fits i)

@@ -2,9 +2,9 @@
 use Rattle.std.specs.Prelude.{◌≡◌, ℕ, ◌+◌, ◌*◌, ◌^◌, ◌<◌, List, [], ◌∷◌, length, All, bit_xor}
 
 -- bytes as a number, the first byte lowest
-abbrev pub number_of : List ℕ → ℕ
-number_of [] = 0
-number_of (byte ∷ bytes) = byte + 2 ^ 8 * number_of bytes
+abbrev pub number_of_bytes : List ℕ → ℕ
+number_of_bytes [] = 0
+number_of_bytes (byte ∷ bytes) = byte + 2 ^ 8 * number_of_bytes bytes
 
 -- bytes of eight bits, as many as others
 pub record AreAsLong (xs ys : List ℕ) : Type 0 where
@@ -14,4 +14,4 @@ pub record AreAsLong (xs ys : List ℕ) : Type 0 where
 
 -- the bits in which bytes differ from as many others, as a number
 abbrev pub difference : List ℕ → List ℕ → ℕ
-difference xs ys = bit_xor (number_of xs) (number_of ys)
+difference xs ys = bit_xor (number_of_bytes xs) (number_of_bytes ys)

@@ -49,7 +49,7 @@ fn by_bytes(start: u32, bytes: &[u8]) -> u32
 }
 
 // With more bytes.
-fn advance(start: u32, bytes: &[u8]) -> u32
+fn after_bytes(start: u32, bytes: &[u8]) -> u32
     ensures { result ≡ after_bytes start bytes.now }
 {
     let (fours, rest) = bytes.as_chunks::<4>();
@@ -65,5 +65,5 @@ fn advance(start: u32, bytes: &[u8]) -> u32
 pub fn checksum(front: &[u8], back: &[u8]) -> u32
     ensures { result ≡ checksum (front.now ++ back.now) }
 {
-    advance(advance(u32::MAX, front), back) ^ u32::MAX
+    after_bytes(after_bytes(u32::MAX, front), back) ^ u32::MAX
 }

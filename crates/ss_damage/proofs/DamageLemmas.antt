@@ -5,7 +5,7 @@ use Rattle.std.specs.Prelude.{IsFalse, IsTrue, bit_xor, replicate, slice_index}
 use Rattle.std.specs.Int.Bits.{xor_zero_r}
 use Rattle.std.proofs.lemmas.List.{drop-drop, take-take, take_all}
 use Rattle.std.proofs.lemmas.Bool.{cases_eq, false_from_ne_true}
-use Rattle.ss_checksum.specs.Changes.{AreAsLong, difference, number_of}
+use Rattle.ss_checksum.specs.Changes.{AreAsLong, difference, number_of_bytes}
 use Rattle.ss_checksum.specs.Codeword.{IsChecked}
 use Rattle.ss_checksum.proofs.CodewordLemmas.{bursts, fronts}
 use Rattle.ss_checksum.proofs.ParityLemmas.{odd}
@@ -56,15 +56,15 @@ read_from-unchecked slot bytes bad (Some r) is =
       | inr live ↦ absurd (bad (subst (IsChecked (number_bytes 4 slot)) (sym again) (IsChecked-in_slot slot r spells.valid live)))
     ]
 
-number_of-zeros : number_of (replicate 128 0) ≡ 0
-number_of-zeros = refl
+number_of_bytes-zeros : number_of_bytes (replicate 128 0) ≡ 0
+number_of_bytes-zeros = refl
 
 -- what zeros differ in from bytes is the number of these
-difference-zeros : (xs ys : List ℕ) (d : ℕ) → ys ≡ replicate 128 0 → difference xs ys ≡ d → number_of xs ≡ d
+difference-zeros : (xs ys : List ℕ) (d : ℕ) → ys ≡ replicate 128 0 → difference xs ys ≡ d → number_of_bytes xs ≡ d
 difference-zeros xs ys d zeros is =
-    sym (ap (λ (list : List ℕ). difference xs list) zeros ∙ ap (bit_xor (number_of xs)) number_of-zeros ∙ xor_zero_r (number_of xs)) ∙ is
+    sym (ap (λ (list : List ℕ). difference xs list) zeros ∙ ap (bit_xor (number_of_bytes xs)) number_of_bytes-zeros ∙ xor_zero_r (number_of_bytes xs)) ∙ is
 
-first-some : (xs : List ℕ) → (slice_index xs 0 ≡ 0 → ⊥) → 0 < number_of (take 1 xs)
+first-some : (xs : List ℕ) → (slice_index xs 0 ≡ 0 → ⊥) → 0 < number_of_bytes (take 1 xs)
 first-some [] live = absurd (live refl)
 first-some (x ∷ xs) live = elim (cases_eq x 0) [
   | inl none ↦ absurd (live none)
@@ -82,12 +82,12 @@ zeros-two xs ys spread bits zeros =
     let order = spread.order in
     let behind = spread.behind in
     let seam = spread.place + spread.size in
-    let first : 0 < number_of (take spread.place xs) =
+    let first : 0 < number_of_bytes (take spread.place xs) =
     take-some 1 (take spread.place xs)
     (rw (take-take 1 spread.place xs (omega (arith, order))) (first-some xs spread.kind)) in
     let there : drop (spread.last - seam) (drop seam xs) ≡ drop spread.last xs =
     drop-drop (spread.last - seam) seam xs ∙ ap (λ (n : ℕ). drop n xs) (omega (arith, behind)) in
-    let end : 0 < number_of (drop seam xs) =
+    let end : 0 < number_of_bytes (drop seam xs) =
     drop-some (spread.last - seam) (drop seam xs) (rw there (take-some spread.width (drop spread.last xs) spread.end)) in
     no_two_bits xs bits.lower bits.higher spread.place spread.size bits.long.bytes first spread.middle end bits.order
     (difference-zeros xs ys (bit_xor (2 ^ bits.lower) (2 ^ bits.higher)) zeros bits.is)

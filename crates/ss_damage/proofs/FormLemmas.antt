@@ -1,7 +1,7 @@
 -- What the file has of a live record ends with its check, and so does an entry behind its gate.
 use Rattle.std.proofs.Common.{◌≡◌, ◌∙◌, refl, sym, ap, ap₂, subst, ℕ, zero, suc, ◌+◌, ◌-◌, ◌*◌, ◌/◌, ◌^◌, ◌<◌, List, [], ◌∷◌, ◌++◌, length, take, drop, arith}
 use Rattle.std.proofs.Common.{inl, inr}
-use Rattle.std.specs.Prelude.{IsTrue, flat_map, replicate, slice_index}
+use Rattle.std.specs.Prelude.{All, IsTrue, flat_map, replicate, slice_index}
 use Rattle.std.specs.Int.{byte_at, bytes_high_first, bytes_low_first}
 use Rattle.std.specs.Int.Bits.{xor_zero_l}
 use Rattle.std.proofs.Math.Nat.{mod-lt}
@@ -115,11 +115,11 @@ byte_at-lt : (k x : ℕ) → byte_at k x < 2 ^ 8
 byte_at-lt zero x = mod-lt x (omega arith)
 byte_at-lt (suc k) x = mod-lt (x / 256 ^ suc k) (omega arith)
 
-low_bytes : (i n x : ℕ) → AreBytes (bytes_low_first i n x)
+low_bytes : (i n x : ℕ) → All (λ b. b < 2 ^ 8) (bytes_low_first i n x)
 low_bytes i zero x = All-nil (λ b. b < 2 ^ 8)
 low_bytes i (suc n) x = All-cons (λ b. b < 2 ^ 8) (byte_at i x) (bytes_low_first (suc i) n x) (byte_at-lt i x) (low_bytes (suc i) n x)
 
-high_bytes : (n x : ℕ) → AreBytes (bytes_high_first n x)
+high_bytes : (n x : ℕ) → All (λ b. b < 2 ^ 8) (bytes_high_first n x)
 high_bytes zero x = All-nil (λ b. b < 2 ^ 8)
 high_bytes (suc n) x = All-cons (λ b. b < 2 ^ 8) (byte_at n x) (bytes_high_first n x) (byte_at-lt n x) (high_bytes n x)
 

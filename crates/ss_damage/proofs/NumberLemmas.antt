@@ -8,17 +8,17 @@ use Rattle.std.proofs.lemmas.List.{drop-drop, length-take}
 use Rattle.std.proofs.lemmas.List.Elements.{All-drop, All-take}
 use Rattle.std.proofs.lemmas.Nat.{mul-le, pow-add, same_from_place, xor_comm}
 use Rattle.std.proofs.Math.Pow.{pow-lt}
-use Rattle.ss_checksum.specs.Changes.{number_of}
-use Rattle.ss_checksum.proofs.ChangeLemmas.{AreBytes, bits_of, bits_of-is, number_of-lt}
+use Rattle.ss_checksum.specs.Changes.{number_of_bytes}
+use Rattle.ss_checksum.proofs.ChangeLemmas.{AreBytes, bits_of, bits_of-is, number_of_bytes-lt}
 use Rattle.ss_checksum.proofs.StepLemmas.{xor_parts}
 
 -- where some of them isn't 0 behind a place, or before it, some isn't
-pub drop-some : (n : ℕ) (xs : List ℕ) → 0 < number_of (drop n xs) → 0 < number_of xs
+pub drop-some : (n : ℕ) (xs : List ℕ) → 0 < number_of_bytes (drop n xs) → 0 < number_of_bytes xs
 drop-some zero xs some = some
 drop-some (suc n) [] some = some
 drop-some (suc n) (x ∷ xs) some = omega (arith, drop-some n xs some)
 
-pub take-some : (n : ℕ) (xs : List ℕ) → 0 < number_of (take n xs) → 0 < number_of xs
+pub take-some : (n : ℕ) (xs : List ℕ) → 0 < number_of_bytes (take n xs) → 0 < number_of_bytes xs
 take-some zero xs some = absurd (omega (arith, some))
 take-some (suc n) [] some = some
 take-some (suc n) (x ∷ xs) some = elim (cases_eq x 0) [
@@ -27,27 +27,27 @@ take-some (suc n) (x ∷ xs) some = elim (cases_eq x 0) [
 ]
 
 -- bytes whose number is 0 are zeros, and so are those that are tested for it
-pub zeros-none : (xs : List ℕ) → number_of xs ≡ 0 → xs ≡ replicate (length xs) 0
+pub zeros-none : (xs : List ℕ) → number_of_bytes xs ≡ 0 → xs ≡ replicate (length xs) 0
 zeros-none [] none = refl
 zeros-none (x ∷ xs) none = ap₂ ◌∷◌ (omega (arith, none)) (zeros-none xs (omega (arith, none)))
 
 -- the number before a place, and the one from there on
-pub number_of-split : (n : ℕ) (xs : List ℕ) → number_of xs ≡ number_of (take n xs) + 2 ^ (8 * n) * number_of (drop n xs)
-number_of-split zero xs = omega arith
-number_of-split (suc n) [] = omega arith
-number_of-split (suc n) (x ∷ xs) =
+pub number_of_bytes-split : (n : ℕ) (xs : List ℕ) → number_of_bytes xs ≡ number_of_bytes (take n xs) + 2 ^ (8 * n) * number_of_bytes (drop n xs)
+number_of_bytes-split zero xs = omega arith
+number_of_bytes-split (suc n) [] = omega arith
+number_of_bytes-split (suc n) (x ∷ xs) =
     let p = 2 ^ (8 * n) in
-    let d = number_of (drop n xs) in
+    let d = number_of_bytes (drop n xs) in
     let step : 8 * suc n ≡ 8 + 8 * n = omega arith in
     let power : 2 ^ (8 * suc n) ≡ 2 ^ 8 * p = ap (λ k. 2 ^ k) step ∙ pow-add 2 8 (8 * n) in
     let moved : 2 ^ (8 * suc n) * d ≡ 2 ^ 8 * (p * d) = ap (λ k. k * d) power ∙ mul_assoc (2 ^ 8) p d in
-    omega (arith, number_of-split n xs, moved)
+    omega (arith, number_of_bytes-split n xs, moved)
 
-pub number_of-before : (n : ℕ) (xs : List ℕ) → AreBytes xs → number_of (take n xs) < 2 ^ (8 * n)
-number_of-before n xs bytes =
+pub number_of_bytes-before : (n : ℕ) (xs : List ℕ) → AreBytes xs → number_of_bytes (take n xs) < 2 ^ (8 * n)
+number_of_bytes-before n xs bytes =
     let few : bits_of (take n xs) ≤ 8 * n = omega (arith, bits_of-is (take n xs), length-take n xs) in
     let room : 2 ^ bits_of (take n xs) ≤ 2 ^ (8 * n) = pow-le-pow_right {n = 2} (lit≤ tt) few in
-    omega (arith, room, number_of-lt (take n xs) (All-take (λ x. x < 2 ^ 8) n xs bytes))
+    omega (arith, room, number_of_bytes-lt (take n xs) (All-take (λ x. x < 2 ^ 8) n xs bytes))
 
 -- a power that isn't below another is a multiple of it
 multiple : (n k : ℕ) → n ≤ k → 2 ^ k ≡ 2 ^ (k - n) * 2 ^ n
@@ -93,25 +93,26 @@ two_parts n x y i j few some more order is = elim (cases_lt j n) [
 ]
 
 -- bytes of which some aren't 0 at three places differ from zeros in more than two bits
-pub no_two_bits : (xs : List ℕ) (i j place size : ℕ) → AreBytes xs → 0 < number_of (take place xs) → 0 < number_of (take size (drop place xs))
-    → 0 < number_of (drop (place + size) xs) → i < j → number_of xs ≡ bit_xor (2 ^ i) (2 ^ j) → ⊥
+pub no_two_bits : (xs : List ℕ) (i j place size : ℕ) → AreBytes xs → 0 < number_of_bytes (take place xs) → 0 < number_of_bytes (take size (drop place xs))
+    → 0 < number_of_bytes (drop (place + size) xs) → i < j → number_of_bytes xs ≡ bit_xor (2 ^ i) (2 ^ j) → ⊥
 no_two_bits xs i j place size bytes first middle last order is =
     let rest = drop place xs in
     let behind : drop size rest ≡ drop (place + size) xs = drop-drop size place xs in
-    let last_too : 0 < number_of (drop size rest) = omega (arith, last, ap number_of behind) in
-    let some : 0 < number_of rest = take-some size rest middle in
-    let sum : number_of (take place xs) + 2 ^ (8 * place) * number_of rest ≡ 2 ^ j + 2 ^ i = sym (number_of-split place xs) ∙ is ∙ two_bits i j order in
-    let one = two_parts (8 * place) (number_of (take place xs)) (number_of rest) i j (number_of-before place xs bytes) first some order sum in
-    one_part (8 * size) (number_of (take size rest)) (number_of (drop size rest)) (j - 8 * place)
-    (number_of-before size rest (All-drop (λ x. x < 2 ^ 8) place xs bytes)) middle last_too (sym (number_of-split size rest) ∙ one)
+    let last_too : 0 < number_of_bytes (drop size rest) = omega (arith, last, ap number_of_bytes behind) in
+    let some : 0 < number_of_bytes rest = take-some size rest middle in
+    let sum : number_of_bytes (take place xs) + 2 ^ (8 * place) * number_of_bytes rest ≡ 2 ^ j + 2 ^ i = sym (number_of_bytes-split place xs) ∙ is ∙
+        two_bits i j order in
+    let one = two_parts (8 * place) (number_of_bytes (take place xs)) (number_of_bytes rest) i j (number_of_bytes-before place xs bytes) first some order sum in
+    one_part (8 * size) (number_of_bytes (take size rest)) (number_of_bytes (drop size rest)) (j - 8 * place)
+    (number_of_bytes-before size rest (All-drop (λ x. x < 2 ^ 8) place xs bytes)) middle last_too (sym (number_of_bytes-split size rest) ∙ one)
 
 -- bytes of which the first isn't 0 and neither are all from the ninth on differ from zeros in a longer run than 32 bits
-pub no_burst : (xs : List ℕ) (run at : ℕ) → AreBytes xs → 0 < number_of (take 1 xs) → 0 < number_of (drop 8 xs) → run < 2 ^ 32
-    → number_of xs ≡ run * 2 ^ at → ⊥
+pub no_burst : (xs : List ℕ) (run at : ℕ) → AreBytes xs → 0 < number_of_bytes (take 1 xs) → 0 < number_of_bytes (drop 8 xs) → run < 2 ^ 32
+    → number_of_bytes xs ≡ run * 2 ^ at → ⊥
 no_burst xs run at bytes first far few is =
-    let low : number_of (take 1 xs) < 2 ^ 8 = number_of-before 1 xs bytes in
-    let low_split : number_of xs ≡ number_of (take 1 xs) + 2 ^ 8 * number_of (drop 1 xs) = number_of-split 1 xs in
-    let split : number_of xs ≡ number_of (take 8 xs) + 2 ^ 64 * number_of (drop 8 xs) = number_of-split 8 xs in
+    let low : number_of_bytes (take 1 xs) < 2 ^ 8 = number_of_bytes-before 1 xs bytes in
+    let low_split : number_of_bytes xs ≡ number_of_bytes (take 1 xs) + 2 ^ 8 * number_of_bytes (drop 1 xs) = number_of_bytes-split 1 xs in
+    let split : number_of_bytes xs ≡ number_of_bytes (take 8 xs) + 2 ^ 64 * number_of_bytes (drop 8 xs) = number_of_bytes-split 8 xs in
     elim (cases_lt at 8) [
       | inl lt ↦
           let near : at ≤ 8 = omega (arith, lt) in

@@ -34,20 +34,24 @@ unfolding Checks.slot_form Checksum.checksum Records.spelling Fields.with_field 
 in_slot-stream = refl
 
 read_from-stream : read_from 7 (1 ∷ behind_kind ++ check) ≡ Some stream
-unfolding Checks.slot_form Checksum.checksum Decoded.decoded Decoded.record_in Decoded.stream_in Decoded.params_in Records.is_valid Records.spelling Names.is_name Fields.with_field Numbers.number_at Numbers.number_bytes
+unfolding Checks.slot_form Checksum.checksum Decoded.decoded Decoded.record_in Decoded.stream_in Decoded.params_in Records.is_valid Records.spelling
+    Names.is_name Fields.with_field Numbers.number_at Numbers.number_bytes
 read_from-stream = refl
 
 -- with another bit in its kind, or in its check, or in another slot it is none
 read_from-kind : read_from 7 (3 ∷ behind_kind ++ check) ≡ None
-unfolding Checks.slot_form Checksum.checksum Decoded.decoded Decoded.record_in Decoded.landmark_in Decoded.finish_in Records.is_valid Records.spelling Fields.with_field Numbers.number_at Numbers.number_bytes
+unfolding Checks.slot_form Checksum.checksum Decoded.decoded Decoded.record_in Decoded.landmark_in Decoded.finish_in Records.is_valid Records.spelling
+    Fields.with_field Numbers.number_at Numbers.number_bytes
 read_from-kind = refl
 
 read_from-check : read_from 7 (1 ∷ behind_kind ++ 226 ∷ 36 ∷ 72 ∷ 140 ∷ []) ≡ None
-unfolding Checks.slot_form Checksum.checksum Decoded.decoded Decoded.record_in Decoded.stream_in Decoded.params_in Records.is_valid Records.spelling Names.is_name Fields.with_field Numbers.number_at Numbers.number_bytes
+unfolding Checks.slot_form Checksum.checksum Decoded.decoded Decoded.record_in Decoded.stream_in Decoded.params_in Records.is_valid Records.spelling
+    Names.is_name Fields.with_field Numbers.number_at Numbers.number_bytes
 read_from-check = refl
 
 read_from-moved : read_from 8 (1 ∷ behind_kind ++ check) ≡ None
-unfolding Checks.slot_form Checksum.checksum Decoded.decoded Decoded.record_in Decoded.stream_in Decoded.params_in Records.is_valid Records.spelling Names.is_name Fields.with_field Numbers.number_at Numbers.number_bytes
+unfolding Checks.slot_form Checksum.checksum Decoded.decoded Decoded.record_in Decoded.stream_in Decoded.params_in Records.is_valid Records.spelling
+    Names.is_name Fields.with_field Numbers.number_at Numbers.number_bytes
 read_from-moved = refl
 
 -- a valid record of three bits, whose check is 0 in this slot: it differs from a free slot in no other

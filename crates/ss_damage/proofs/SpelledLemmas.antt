@@ -14,7 +14,7 @@ use Rattle.ss_catalog.specs.Params.{in_range, is_family, step_number}
 use Rattle.ss_catalog.specs.declared.params.Family.{Family}
 use Rattle.ss_catalog.specs.declared.params.Family.TheVariants.{Exp, Power}
 use Rattle.ss_catalog.specs.declared.params.Params.{Params}
-use Rattle.ss_checksum.specs.Changes.{number_of}
+use Rattle.ss_checksum.specs.Changes.{number_of_bytes}
 use Rattle.ss_checksum.proofs.ChangeLemmas.{AreBytes}
 use Rattle.ss_codec.specs.declared.record.Record.{Record}
 use Rattle.ss_codec.specs.declared.record.Record.TheVariants.{Free, Stream, Window, Landmark, Value}
@@ -42,9 +42,9 @@ pub record IsSpread (xs : List ℕ) : Type 0 where
   pub behind : place + size ≤ last
   pub inside : last + width ≤ 124
   pub few : far ≤ 8
-  pub middle : 0 < number_of (part size place xs)
-  pub end : 0 < number_of (part width last xs)
-  pub ninth : 0 < number_of (part far 8 xs)
+  pub middle : 0 < number_of_bytes (part size place xs)
+  pub end : 0 < number_of_bytes (part width last xs)
+  pub ninth : 0 < number_of_bytes (part far 8 xs)
 
 part-is : (n at : ℕ) (xs : List ℕ) → at + n ≤ 124 → part n at xs ≡ drop at (take (at + n) (take 124 xs))
 part-is n at xs inside = sym (drop-take at n xs) ∙ ap (drop at) (sym (take-take (at + n) 124 xs inside))
@@ -83,8 +83,8 @@ IsSpread-same xs ys same spread =
 
 -- a field of a number that isn't 0 has a byte that isn't
 some-number : (n at x : ℕ) (xs : List ℕ) → 0 < x → x < 256 ^ n → number_bytes n 0 ≡ replicate n 0 → 0 < 256 ^ n → part n at xs ≡ number_bytes n x
-    → 0 < number_of (part n at xs)
-some-number n at x xs some fits zeros room is = elim (cases_eq (number_of (part n at xs)) 0) [
+    → 0 < number_of_bytes (part n at xs)
+some-number n at x xs some fits zeros room is = elim (cases_eq (number_of_bytes (part n at xs)) 0) [
   | inl none ↦
       let size : length (part n at xs) ≡ n = ap length is ∙ length-number_bytes n x in
       let free : part n at xs ≡ number_bytes n 0 = zeros-none (part n at xs) none ∙ ap (λ (k : ℕ). replicate k 0) size ∙ sym zeros in
@@ -100,15 +100,15 @@ zeros-eight : number_bytes 8 0 ≡ replicate 8 0
 unfolding number_bytes
 zeros-eight = refl
 
-some-four : (at x : ℕ) (xs : List ℕ) → 0 < x → x < 2 ^ 32 → part 4 at xs ≡ number_bytes 4 x → 0 < number_of (part 4 at xs)
+some-four : (at x : ℕ) (xs : List ℕ) → 0 < x → x < 2 ^ 32 → part 4 at xs ≡ number_bytes 4 x → 0 < number_of_bytes (part 4 at xs)
 some-four at x xs some fits is = some-number 4 at x xs some (omega (arith, fits)) zeros-four (lit< tt) is
 
-some-eight : (at x : ℕ) (xs : List ℕ) → 0 < x → x < 2 ^ 64 → part 8 at xs ≡ number_bytes 8 x → 0 < number_of (part 8 at xs)
+some-eight : (at x : ℕ) (xs : List ℕ) → 0 < x → x < 2 ^ 64 → part 8 at xs ≡ number_bytes 8 x → 0 < number_of_bytes (part 8 at xs)
 some-eight at x xs some fits is = some-number 8 at x xs some (omega (arith, fits)) zeros-eight (lit< tt) is
 
 -- so has a field of one byte
-some-one : (at x : ℕ) (xs : List ℕ) → 0 < x → part 1 at xs ≡ x ∷ [] → 0 < number_of (part 1 at xs)
-some-one at x xs some is = omega (arith, some, ap number_of is)
+some-one : (at x : ℕ) (xs : List ℕ) → 0 < x → part 1 at xs ≡ x ∷ [] → 0 < number_of_bytes (part 1 at xs)
+some-one at x xs some is = omega (arith, some, ap number_of_bytes is)
 
 kind-some : (x : ℕ) (xs : List ℕ) → 0 < x → part 1 0 xs ≡ x ∷ [] → slice_index xs 0 ≡ 0 → ⊥
 kind-some x xs some is none = omega (arith, some, none, slice_index-part 0 x xs is)
@@ -134,7 +134,7 @@ IsSpread-spelling (Stream id name params dropped) valid live =
     let xs = spelling (Stream id name params dropped) in
     let is = IsStream-is_valid id name params dropped valid in
     let has = spelled (Stream id name params dropped) (stream-in_order id name params dropped is.short) in
-    let first : 0 < number_of (part 4 8 xs) =
+    let first : 0 < number_of_bytes (part 4 8 xs) =
     some-four 8 (parameters params.family).0 xs (parameter-some params is.ranged) (AreSmall-in_range params is.ranged).first has.1.1.1.1.1.0 in
     record {
       kind = kind-some 1 xs (lit< tt) has.0;
@@ -156,7 +156,7 @@ IsSpread-spelling (Window id first f) valid live =
     let is = IsWindow-is_valid id first f valid in
     let possible = is.possible in
     let has = spelled (Window id first f) (window-in_order id first f) in
-    let from : 0 < number_of (part 8 8 xs) =
+    let from : 0 < number_of_bytes (part 8 8 xs) =
     some-eight 8 first xs (omega (arith, is.low)) (omega (arith, is.high, possible.count_low)) has.1.1.1.0 in
     record {
       kind = kind-some 2 xs (lit< tt) has.0;
@@ -177,7 +177,7 @@ IsSpread-spelling (Landmark id number values start finish) valid live =
     let xs = spelling (Landmark id number values start finish) in
     let is = IsLandmark-is_valid id number values start finish valid in
     let has = spelled (Landmark id number values start finish) (landmark-in_order id number values start finish) in
-    let numbered : 0 < number_of (part 4 8 xs) = some-four 8 number xs (omega (arith, is.low)) is.high has.1.1.1.0 in
+    let numbered : 0 < number_of_bytes (part 4 8 xs) = some-four 8 number xs (omega (arith, is.low)) is.high has.1.1.1.0 in
     record {
       kind = kind-some 3 xs (lit< tt) has.0;
       place = 1;
@@ -197,7 +197,7 @@ IsSpread-spelling (Value id number index t v) valid live =
     let xs = spelling (Value id number index t v) in
     let is = IsValue-is_valid id number index t v valid in
     let has = spelled (Value id number index t v) (value-in_order id number index t v) in
-    let numbered : 0 < number_of (part 4 8 xs) = some-four 8 number xs (omega (arith, is.low)) is.high has.1.1.0 in
+    let numbered : 0 < number_of_bytes (part 4 8 xs) = some-four 8 number xs (omega (arith, is.low)) is.high has.1.1.0 in
     record {
       kind = kind-some 4 xs (lit< tt) has.0;
       place = 8;

@@ -8,5 +8,5 @@ pub returns : goal.returns
 unfolding checksum
 returns c =
     ap (λ state. bit_xor state (2 ^ 32 - 1))
-    (c.advance-2.ensures ∙ ap (λ state. after_bytes state c.args.back.now) c.advance.ensures
+    (c.after_bytes-2.ensures ∙ ap (λ state. after_bytes state c.args.back.now) c.after_bytes.ensures
     ∙ sym (fold-append after_byte (2 ^ 32 - 1) c.args.front.now c.args.back.now))

@@ -2,7 +2,7 @@ use Rattle.std.proofs.Common.{◌≡◌, ◌∙◌, ap, ap₂, ◌/◌, length}
 use Rattle.std.specs.Prelude.{fold}
 use Rattle.ss_checksum.specs.Checksum.{after_byte, after_bytes}
 use Rattle.ss_checksum.proofs.WordLemmas.{fold-chunks}
-use Rattle.ss_checksum.proofs.walking.advance.Goals as goal
+use Rattle.ss_checksum.proofs.walking.after_bytes.Goals as goal
 
 pub returns : goal.returns
 returns c =
