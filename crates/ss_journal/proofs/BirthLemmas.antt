@@ -10,7 +10,8 @@ use Rattle.ss_journal.specs.Birth.{IsBegun, blank_end, form_ranges}
 use Rattle.ss_journal.specs.Format.{kind_of}
 use Rattle.ss_journal.specs.Steps.{Marks}
 use Rattle.ss_journal.proofs.GateLemmas.{StandsFor-first_closed}
-use Rattle.ss_journal.proofs.HeaderLemmas.{has_magic-same, kind_of-other, kind_of-same, kind_of-short, length-magic, is_born-from, is_unborn-cases, is_unborn-gate, is_unborn-short, is_unborn-zero, long-has_magic}
+use Rattle.ss_journal.proofs.HeaderLemmas.{has_magic-same, kind_of-other, kind_of-same, kind_of-short, length-magic, is_born-from, is_unborn-cases}
+use Rattle.ss_journal.proofs.HeaderLemmas.{is_unborn-gate, is_unborn-short, is_unborn-zero, long-has_magic}
 use Rattle.ss_journal.proofs.MapLemmas.{SameMap-trans, file_map-blank}
 use Rattle.ss_journal.proofs.RangeLemmas.{SameRest-differs, DiffersIn-append, DiffersIn-overwrite, DiffersIn-refl, get_or-differs, length-differs}
 use Rattle.ss_journal.proofs.RedoLemmas.{StandsFor-from, redo-unborn}

@@ -61,7 +61,8 @@ kind_of-other image other = cond-false _ _ _ other
 -- a short file is of no checked store
 pub kind_of-short : (image : List ℕ) → length image < 9 → kind_of image ≡ Plain
 unfolding kind_of
-kind_of-short image short = cond-false _ _ _ (false_from_ne_true (has_magic_of Checked image) (λ there. omega (arith, short, long-has_magic_of Checked image there)))
+kind_of-short image short = cond-false _ _ _ (false_from_ne_true (has_magic_of Checked image)
+    (λ there. omega (arith, short, long-has_magic_of Checked image there)))
 
 -- the parts of a formatted file
 pub is_born-parts : (image : List ℕ) → IsTrue (is_born image)

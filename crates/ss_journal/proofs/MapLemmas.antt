@@ -29,7 +29,8 @@ slot_in-same old new slot kind bytes =
     ap (λ (k : Kind). slot_form k slot (slot_at new slot)) kind ∙ ap (slot_form (kind_of old) slot) bytes
 
 -- a file of the same kind and length that is the same from the slots on has the same map
-pub file_map-same : (old new : List ℕ) → kind_of new ≡ kind_of old → length new ≡ length old → ((place : ℕ) → 36864 ≤ place → slice_index new place ≡ slice_index old place)
+pub file_map-same : (old new : List ℕ) → kind_of new ≡ kind_of old → length new ≡ length old
+    → ((place : ℕ) → 36864 ≤ place → slice_index new place ≡ slice_index old place)
     → SameMap (file_map new) (file_map old)
 file_map-same old new kind long same = record {
   bytes = λ slot lt. elim (cases_lt slot (slots_in (length old))) [

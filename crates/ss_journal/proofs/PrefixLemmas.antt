@@ -41,7 +41,8 @@ entries-first image = refl
 
 -- the gate of an entry is its first place
 pub gate-entry_in : (image : List ℕ) (n : ℕ) → slice_index (entry_in image n) 0 ≡ slice_index image (entry_place n)
-gate-entry_in image n = gate-entry_form (kind_of image) n (entry_bytes image n) ∙ get_or-take 544 (drop (entry_place n) image) 0 0 (omega arith) ∙ get_or-drop (entry_place n) image 0 0
+gate-entry_in image n = gate-entry_form (kind_of image) n (entry_bytes image n) ∙ get_or-take 544 (drop (entry_place n) image) 0 0 (omega arith) ∙
+    get_or-drop (entry_place n) image 0 0
     ∙ ap (slice_index image) (let none : entry_place n + 0 ≡ entry_place n = omega arith in none)
 
 pub open_prefix-closed : (image : List ℕ) → IsClosed 0 image → open_prefix (entries image) ≡ []

@@ -37,7 +37,8 @@ is_put-held put (first ∷ rest) slot (inr is) = with_newest-cases (λ puts. IsT
 -- and nothing else
 pub is_put-only : (put : Put) (held : List Put) (slot : ℕ) → IsTrue (is_put (with_newest put held) slot) → (slot ≡ put.slot) ⊎ IsTrue (is_put held slot)
 is_put-only put [] slot = is_put-cases put [] slot
-is_put-only put (first ∷ rest) slot = with_newest-cases (λ puts. IsTrue (is_put puts slot) → (slot ≡ put.slot) ⊎ IsTrue (is_put (first ∷ rest) slot)) put first rest
+is_put-only put (first ∷ rest) slot =
+    with_newest-cases (λ puts. IsTrue (is_put puts slot) → (slot ≡ put.slot) ⊎ IsTrue (is_put (first ∷ rest) slot)) put first rest
     (λ _. is_put-cases put (first ∷ rest) slot)
     (λ _ is. elim (is_put-cases put rest slot is) [
       | inl own ↦ inl own
@@ -63,7 +64,8 @@ length-more put (first ∷ rest) none = with_newest-cases (λ puts. length puts 
     (λ _. omega arith) (λ same. absurd (both_ways (is_put (first ∷ rest) put.slot) none (is_put-first first rest put.slot same)))
     (λ _. omega (arith, length-more put rest (or_parts (nat_eq put.slot first.slot) (is_put rest put.slot) none).1))
 
-rise-first : (least : ℕ) (first : Put) (rest : List Put) → IsTrue (slots_rise_from least (first ∷ rest)) → (least ≤ first.slot) × IsTrue (slots_rise_from (first.slot + 1) rest)
+rise-first : (least : ℕ) (first : Put) (rest : List Put) → IsTrue (slots_rise_from least (first ∷ rest))
+    → (least ≤ first.slot) × IsTrue (slots_rise_from (first.slot + 1) rest)
 rise-first least first rest rise = (grind (arith, nat_tests, rise), grind (arith, nat_tests, rise))
 
 -- rising puts have none below

@@ -500,7 +500,8 @@ unfolding entry_form entry_body Fields.number_bytes
 shown-staged_row = refl
 
 -- where nothing is staged the content is shown
-pub shown-sealed_row : (content : List ℕ) → shown (record { phase = Settled; extent = 6; in_use = 2; waiting = six_puts; sealed = 2; staged = []; kind = Plain }) content ≡ content
+pub shown-sealed_row : (content : List ℕ)
+    → shown (record { phase = Settled; extent = 6; in_use = 2; waiting = six_puts; sealed = 2; staged = []; kind = Plain }) content ≡ content
 shown-sealed_row content = refl
 
 -- the newest put of each slot do what all do, over a file without slots

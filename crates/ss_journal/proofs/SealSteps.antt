@@ -6,7 +6,8 @@ use Rattle.ss_journal.proofs.Common.{shown, staged_bytes, FillSlots, Kind, SlotM
 use Rattle.ss_journal.proofs.GroupLemmas.{opens-closed_behind}
 use Rattle.ss_journal.proofs.NewestLemmas.{entry_count-some}
 use Rattle.ss_journal.proofs.KeptLemmas.{settled-kept}
-use Rattle.ss_journal.proofs.ShownLemmas.{IfStaged-from, IfStaged-some, IsKept-sealed, IsShown-sealed, closed_behind-fits, length-group_bytes, shown-sealed, with_entries-some}
+use Rattle.ss_journal.proofs.ShownLemmas.{IfStaged-from, IfStaged-some, IsKept-sealed, IsShown-sealed, closed_behind-fits, length-group_bytes}
+use Rattle.ss_journal.proofs.ShownLemmas.{shown-sealed, with_entries-some}
 use Rattle.ss_journal.proofs.TearLemmas.{on_err}
 
 -- once all is sealed the map of the content is kept
@@ -59,15 +60,17 @@ fits-staged journal bounded puts same bytes all =
 
 -- entries that came into the file are those that the journal showed
 module _ (was is : JournalState) (n : ℕ) (first : n ≡ was.sealed) (bytes : List ℕ) (all : bytes ≡ closed_behind was.sealed (staged_bytes was)) (old new : Told)
-    (kept : IsKept was old.content) (whole : FillSlots was.staged) (some : 0 < length was.staged) (value : Unit {0}) (enters : Enters n bytes (Ok value) old new)
+    (kept : IsKept was old.content) (whole : FillSlots was.staged) (some : 0 < length was.staged) (value : Unit {0})
+    (enters : Enters n bytes (Ok value) old new)
     (phase : was.phase ≡ is.phase) (extent : is.extent ≡ was.extent) (in_use : is.in_use ≡ was.in_use) (waiting : is.waiting ≡ was.waiting)
     (sealed : IsSealed is) (kind : is.kind ≡ was.kind) where
   same : overwrite old.content (entry_place n) bytes ≡ shown was old.content
-  same = ap (λ (k : ℕ). overwrite old.content (entry_place k) bytes) first ∙ ap (overwrite old.content (entry_place was.sealed)) all ∙ sym (with_entries-some was.sealed (staged_bytes was) old.content (omega (
-    arith,
-    entry_count-some (length was.staged) some,
-    length-group_bytes was.kind was.sealed (entry_count (length was.staged)) was.staged whole,
-  )))
+  same = ap (λ (k : ℕ). overwrite old.content (entry_place k) bytes) first ∙ ap (overwrite old.content (entry_place was.sealed)) all ∙
+      sym (with_entries-some was.sealed (staged_bytes was) old.content (omega (
+        arith,
+        entry_count-some (length was.staged) some,
+        length-group_bytes was.kind was.sealed (entry_count (length was.staged)) was.staged whole,
+      )))
 
   content : new.content ≡ shown was old.content
   content = enters.written ∙ same
@@ -97,7 +100,8 @@ module _ (was is : JournalState) (n : ℕ) (first : n ≡ was.sealed) (bytes : L
 -- all that is staged is sealed, and then the entries come into their slots
 pub room-made : (was mid : JournalState) (old between new : Told) (value cleared done : Unit {0}) (waiting : List Put) → Seals was mid (Ok value) old between
     → IsSealed mid → waiting ≡ [] → Reaches StaysShut (Ok cleared) between new
-    → MakesRoom was (record { phase = Settled; extent = mid.extent; in_use = 0; waiting = waiting; sealed = 0; staged = mid.staged; kind = mid.kind }) (Ok done) old new
+    → MakesRoom was (record { phase = Settled; extent = mid.extent; in_use = 0; waiting = waiting; sealed = 0; staged = mid.staged; kind = mid.kind })
+    (Ok done) old new
 room-made was mid old between new value cleared done waiting seals sealed none reaches = record {
   kept = settled-kept mid between new (IsShown-sealed mid between.content sealed seals.kept) waiting mid.staged reaches.reached.1 reaches.reached.0.0
       reaches.reached.0.1

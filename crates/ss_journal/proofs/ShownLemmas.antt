@@ -19,7 +19,8 @@ gate_behind-fits end few = elim (cases_lt end (544 * 64)) [
       let one : length (gate_behind end) ≡ 1 = ap (λ (list : List ℕ). length list) (cond-true (nat_lt end (544 * 64)) (0 ∷ []) [] (lt-ltb end (544 * 64) lt)) in
       omega (arith, one, lt)
   | inr past ↦
-      let none : length (gate_behind end) ≡ 0 = ap (λ (list : List ℕ). length list) (cond-false (nat_lt end (544 * 64)) (0 ∷ []) [] (le-ltb end (544 * 64) past)) in
+      let none : length (gate_behind end) ≡ 0 = ap (λ (list : List ℕ). length list)
+      (cond-false (nat_lt end (544 * 64)) (0 ∷ []) [] (le-ltb end (544 * 64) past)) in
       omega (arith, none, few)
 ]
 

@@ -158,7 +158,8 @@ module _ (kind : Kind) (put : Put) (content : List ℕ) (long : 36864 ≤ length
   }
 
 -- the puts that are written in order give the map after them
-pub file_map-slots_written : (kind : Kind) (puts : List Put) (content : List ℕ) → kind ≡ kind_of content → 36864 ≤ length content → IsTrue (slots_fit puts (slots_in (length content)))
+pub file_map-slots_written : (kind : Kind) (puts : List Put) (content : List ℕ) → kind ≡ kind_of content → 36864 ≤ length content
+    → IsTrue (slots_fit puts (slots_in (length content)))
     → AreSlots puts → FillSlots puts → SameMap (file_map (slots_written kind puts content)) (changed (file_map content) puts)
 file_map-slots_written kind [] content is long fit slots whole = SameMap-refl (file_map content)
 file_map-slots_written kind (put ∷ puts) content is long fit slots whole =

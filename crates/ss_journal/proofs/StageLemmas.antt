@@ -9,7 +9,8 @@ use Rattle.ss_journal.proofs.GroupLemmas.{AddsGroup-written, StandsFor-written}
 use Rattle.ss_journal.proofs.HeaderLemmas.{is_born-parts}
 use Rattle.ss_journal.proofs.KeptLemmas.{IsReadyFor-settled, StandsFor-kept}
 use Rattle.ss_journal.proofs.MapLemmas.{SameMap-refl, SameMap-trans, changed-same}
-use Rattle.ss_journal.proofs.NewestLemmas.{All-newest_after, DoAs-staged, entry_count-more, entry_count-mono, few-newest_after, first-newest_after, fit-newest_after, rise-newest_after, some-newest_after, with_puts-newest_after}
+use Rattle.ss_journal.proofs.NewestLemmas.{All-newest_after, DoAs-staged, entry_count-more, entry_count-mono, few-newest_after, first-newest_after}
+use Rattle.ss_journal.proofs.NewestLemmas.{fit-newest_after, rise-newest_after, some-newest_after, with_puts-newest_after}
 use Rattle.ss_journal.proofs.PutLemmas.{AreSlots-rise, extent_after-append, extent_after-most, le-extent_after, slots_fit-below}
 use Rattle.ss_journal.proofs.RedoLemmas.{StandsFor-also, StandsFor-from, StandsFor-parts, StandsFor-same, redo-born}
 use Rattle.ss_journal.proofs.RoomLemmas.{held-after, room-after}
@@ -74,7 +75,8 @@ module _ (was then : JournalState) (puts : List Put) (bounded : IsBounded was) (
   IsBounded-staged = record {
     extent = omega (arith, is.extent, extent_after-most puts was.extent txn bounded.extent);
     waiting = rw (is.waiting, is.extent) (All-newest_after (λ (put : Put). put.slot < extent_after puts was.extent) puts was.waiting
-        (slots_fit-below puts was.extent fit) (All-more was.waiting was.extent (extent_after puts was.extent) (le-extent_after puts was.extent) bounded.waiting));
+        (slots_fit-below puts was.extent fit) (All-more was.waiting was.extent (extent_after puts was.extent)
+        (le-extent_after puts was.extent) bounded.waiting));
     unborn = λ same. absurd (cc (is.phase, same));
     in_use = omega (arith, in_use-staged, free);
     few = rw (is.waiting, is.staged, is.sealed) (omega (arith, bounded.few, room-after puts was.staged was.waiting bounded.held rise-waiting are-slots));
@@ -107,7 +109,8 @@ module _ (was then : JournalState) (puts : List Put) (bounded : IsBounded was) (
     sealed-ends : was.staged ≡ [] → EndsBefore was.sealed content
     sealed-ends none =
         let count : was.in_use ≡ was.sealed = omega (arith, bounded.number, ap (λ (list : List Put). entry_count (length list)) none) in
-        let same : shown was content ≡ content = ap (λ (list : List Put). with_entries was.sealed (group_bytes was.kind was.sealed (entry_count (length list)) list) content) none in
+        let same : shown was content ≡ content = ap (λ (list : List Put). with_entries was.sealed
+        (group_bytes was.kind was.sealed (entry_count (length list)) list) content) none in
         rw (same, count) at (EndsBefore-ready was.in_use puts (shown was content) ready free)
 
     room : HasRoomFor was.sealed was.staged content

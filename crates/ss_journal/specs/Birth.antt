@@ -1,5 +1,6 @@
 -- The steps in which a file is formatted.
-use Rattle.std.specs.Prelude.{Bool, ◌||◌, ◌==◌, nat_le, ◌≡◌, ◌⊎◌, ℕ, ◌-◌, ◌<◌, ◌≤◌, max, min, List, [], ◌∷◌, length, slice_index, if◌then◌else◌, IsTrue, IsFalse}
+use Rattle.std.specs.Prelude.{Bool, ◌||◌, ◌==◌, nat_le, ◌≡◌, ◌⊎◌, ℕ, ◌-◌, ◌<◌, ◌≤◌, max, min, List, [], ◌∷◌, length, slice_index, if◌then◌else◌}
+use Rattle.std.specs.Prelude.{IsTrue, IsFalse}
 use Rattle.ss_journal.specs.declared.format.TheConstants.{MAGIC_END, FIRST_SLOT, FILE_END}
 use Rattle.ss_journal.specs.declared.kind.Kind.TheVariants.{Plain, Checked}
 use Rattle.ss_journal.specs.Gates.{opens}

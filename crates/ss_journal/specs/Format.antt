@@ -1,5 +1,6 @@
 -- The file: its places, and whether it is formatted.
-use Rattle.std.specs.Prelude.{if◌then◌else◌, ℕ, ◌+◌, ◌-◌, ◌*◌, ◌/◌, min, Bool, not, ◌&&◌, ◌||◌, ◌==◌, nat_eq, nat_le, List, [], ◌∷◌, length, take, drop, slice_index, IsTrue}
+use Rattle.std.specs.Prelude.{if◌then◌else◌, ℕ, ◌+◌, ◌-◌, ◌*◌, ◌/◌, min, Bool, not, ◌&&◌, ◌||◌, ◌==◌, nat_eq, nat_le, List, [], ◌∷◌, length, take}
+use Rattle.std.specs.Prelude.{drop, slice_index, IsTrue}
 use Rattle.std.specs.List.{starts_with}
 use Rattle.ss_journal.specs.declared.format.TheConstants.{ENTRY_SIZE, FIRST_SLOT, SLOT_SIZE, MOST_SLOTS}
 use Rattle.ss_journal.specs.declared.kind.Kind.{Kind}

@@ -84,6 +84,7 @@ impl Newest {
         ensures whole { FillSlots puts.now }
         ensures rise { IsTrue (slots_rise_from 0 self.old) }
     {
+        // Read for the proof alone: with it comes that the puts that are kept rise.
         let _ = &self.puts;
         for put in puts {
             self.put(put);

@@ -14,7 +14,7 @@ use crate::writing::{write_slots, write_through};
 use ss_outside::{Disk, Failed};
 
 // Writes the puts of the open prefix into their slots, and closes the first gate. With it the whole prefix is closed.
-fn apply<D: Disk>(disk: &mut D, kind: Kind, puts: &[Put]) -> Result<(), Failed>
+fn close_prefix<D: Disk>(disk: &mut D, kind: Kind, puts: &[Put]) -> Result<(), Failed>
     // A write to a closed gate may open it in a crash.
     requires some { 0 < length puts.now }
     requires slots { AreSlots puts.now }
@@ -36,7 +36,7 @@ pub fn settle_entries<D: Disk>(disk: &mut D, kind: Kind, puts: &[Put]) -> Result
     if puts.is_empty() {
         return Ok(());
     }
-    apply(disk, kind, puts)
+    close_prefix(disk, kind, puts)
 }
 
 // Makes what is pending durable, brings the entries in use into their slots, and closes the first gate.

@@ -23,5 +23,6 @@ returns-clause-seals g c =
     let all = c.as_slice-3.ensures ∙ c.spell.ensures
     ∙ ap (λ (list : List Put). closed_behind c.self.inside.sealed (group_bytes c.self.inside.kind c.self.inside.sealed (entry_count (length list)) list))
     c.as_slice-2.ensures.all in
-    Seals-of c.self.view_is (seals-entered _ _ c.self.inside.sealed refl c.as_slice-3.result.now all _ _ kept c.self.invariant.whole (omega (arith, some)) _ enters
+    Seals-of c.self.view_is (seals-entered _ _ c.self.inside.sealed refl c.as_slice-3.result.now all _ _ kept c.self.invariant.whole
+    (omega (arith, some)) _ enters
     (ap (λ (j : JournalState). j.phase) c.self.view_is ∙ c.requires.settled) refl refl refl c.clear.ensures refl))

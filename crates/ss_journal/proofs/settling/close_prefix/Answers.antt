@@ -2,7 +2,7 @@ use Rattle.ss_journal.proofs.Common.{arith}
 use Rattle.ss_journal.proofs.InUseLemmas.{HasSlotsFor-in_use}
 use Rattle.ss_journal.proofs.SettleSteps.{slots-applied, slots-failed, within-first_gate}
 use Rattle.ss_journal.proofs.StepLemmas.{after-step, step-failed, step-next}
-use Rattle.ss_journal.proofs.settling.apply.Goals as goal
+use Rattle.ss_journal.proofs.settling.close_prefix.Goals as goal
 
 pub write_slots-requires-clause-places : goal.write_slots-requires-clause-places
 write_slots-requires-clause-places g c told = let entries = c.requires.entries told in HasSlotsFor-in_use _ _ _ entries.kind entries.born entries.in_use
