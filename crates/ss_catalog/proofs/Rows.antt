@@ -197,7 +197,8 @@ module _ (name : List ℕ) where
 
 -- the refusals in the order in which they are tested
 abbrev all_refusals : List Refusal
-all_refusals = refusals.Line ∷ refusals.Syntax ∷ refusals.Number ∷ refusals.Name ∷ refusals.Param ∷ refusals.Exists ∷ refusals.Streams ∷ refusals.Unknown ∷ refusals.Open
+all_refusals = refusals.Line ∷ refusals.Syntax ∷ refusals.Number ∷ refusals.Name ∷ refusals.Param ∷ refusals.Exists ∷ refusals.Streams ∷ refusals.Unknown ∷
+    refusals.Open
     ∷ refusals.NotOpen ∷ refusals.Time ∷ refusals.Range ∷ refusals.StreamFull ∷ refusals.StoreFull ∷ refusals.Busy ∷ refusals.NoCursor ∷ refusals.Frame ∷ []
 
 refusals-numbers : map refusal_number all_refusals ≡ 1 ∷ 2 ∷ 3 ∷ 4 ∷ 5 ∷ 6 ∷ 7 ∷ 8 ∷ 9 ∷ 10 ∷ 11 ∷ 12 ∷ 13 ∷ 14 ∷ 15 ∷ 16 ∷ 17 ∷ []
