@@ -73,7 +73,8 @@ module _ (upper lower new-upper new-lower : List ℕ) (over : MarksFullWords upp
   MarksFullWords-put same-lower same-upper others is bits = record {
     words = omega (arith, same-lower, same-upper, over.words);
     full = λ word lt. elim (cases_eq word (k / 64)) [
-      | inl here ↦ bits word ∙ cond-true (nat_eq word (k / 64)) _ _ (eq-eqb word (k / 64) here) ∙ is ∙ ap (λ (n : ℕ). is_full_word (get_or new-lower n 0)) (sym here)
+      | inl here ↦ bits word ∙ cond-true (nat_eq word (k / 64)) _ _ (eq-eqb word (k / 64) here) ∙ is ∙
+          ap (λ (n : ℕ). is_full_word (get_or new-lower n 0)) (sym here)
       | inr other ↦ bits word ∙ cond-false (nat_eq word (k / 64)) _ _ (ne_eqb word (k / 64) other) ∙ over.full word (omega (arith, lt, same-lower))
           ∙ ap is_full_word (sym (others word other))
     ];
