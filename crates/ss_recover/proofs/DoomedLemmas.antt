@@ -1,15 +1,14 @@
 -- The records of dropped streams among those that were found: they are of no stream that stands, and may go in turn.
 use Rattle.ss_recover.proofs.Common.{[], ◌++◌, ◌+◌, ◌<◌, ◌==◌, ◌∙◌, ◌∷◌, ◌≡◌, ◌≤◌, AllByRecursion, and_parts, ap, ap₂, are_zeros, AreSlotsOf, arith, Bool}
 use Rattle.ss_recover.proofs.Common.{cases_Bool, cond-true, count_by, Created, created_by, doomed_among, doomed_found, doomed_slots, each-behind, eq-eqb}
-use Rattle.ss_recover.proofs.Common.{eqb-true, false, false_from_ne_true, filter, filter-map, filter_map-append, Found, GoInTurn, with_slot, inl, inr, is_doomed}
+use Rattle.ss_recover.proofs.Common.{eqb-true, false, false_from_ne_true, filter, filter-map, filter_map-append, Found, Free, GoInTurn, inl, inr, is_doomed}
 use Rattle.ss_recover.proofs.Common.{is_drop_of, is_dropped, is_of, is_own, IsPermutation, IsPermutation-map, IsPermutation-sym, IsPermutation-trans, List}
-use Rattle.ss_recover.proofs.Common.{list_any, list_any-append, list_any-IsPermutation, map, map-append, map-id, map-map, may_go, ne_eqb, None, not}
+use Rattle.ss_recover.proofs.Common.{list_any, list_any-append, list_any-IsPermutation, map, map-append, map-id, map-map, may_go, None, not}
 use Rattle.ss_recover.proofs.Common.{not_from_false, occupied, Option, option_map_or, or_cases, or_from, or_left, or_right, range_with_len, Record}
-use Rattle.ss_recover.proofs.Common.{records_beside, refl, SlotMap, slots_found, Some, stands_by, Stream, stream_number, stream_of, streams_created, subst, suc}
-use Rattle.ss_recover.proofs.Common.{sym, true, true≢false, without_slots, zero, ℕ}
+use Rattle.ss_recover.proofs.Common.{records_beside, refl, SlotMap, slots_found, Some, stands_by, Stream, stream_number, stream_of, streams_created, subst}
+use Rattle.ss_recover.proofs.Common.{suc, sym, true, true≢false, with_slot, without_slots, zero, ℕ}
 use Rattle.ss_recover.proofs.RunStanding.{doomed-same}
 use Rattle.ss_recover.specs.Conditions.{is_sound}
-use Rattle.ss_recover.proofs.DroppedRecords.{IsNoneOf, IsNoneOf-apart}
 use Rattle.ss_recover.proofs.HeldRecords.{all_walked, walked}
 use Rattle.ss_recover.proofs.Lists.{all-each, all-from_map, all-kept, all-passing, all_both, all_weaker, filter-same, map-all}
 use Rattle.ss_recover.proofs.Permutations.{IsPermutation-filter}
@@ -49,15 +48,6 @@ standing-kept us (s ∷ ss) each = (
   false_from_ne_true (is_dropped s.number us) (λ gone. let none = each.0 gone in absurd (cc)),
   standing-kept us ss (each-behind _ (walked s) (all_walked ss) each),
 )
-
--- records of dropped streams are none of those
-pub apart-dropped : (us ds : List Record) (ss : List Stream) → AllByRecursion (λ r. is_dropped (stream_of r) us ≡ true) ds →
-    AllByRecursion (λ s. is_dropped s.number us ≡ false) ss → AllByRecursion (λ s. AllByRecursion (IsNoneOf s.number) ds) ss
-apart-dropped us ds ss dropped kept =
-    all_weaker _ _ (λ s stands.
-    all_weaker _ _
-    (λ r gone. IsNoneOf-apart s.number r (ne_eqb (stream_of r) s.number (λ same. absurd (true≢false (sym gone ∙ ap (λ n. is_dropped n us) same ∙ stands)))))
-    ds dropped) ss kept
 
 -- ---- what is found of them
 

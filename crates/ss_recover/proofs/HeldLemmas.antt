@@ -2,18 +2,18 @@
 use Rattle.ss_recover.proofs.Common.{[], ◌<◌, ◌∙◌, ◌∷◌, ◌≡◌, ◌≤◌, All, All-from_recursion, All-permutation, AllByRecursion, and_from, ap, ap₂, are_marks}
 use Rattle.ss_recover.proofs.Common.{AreHeld, arith, carries, Created, created_by, filter, filter_map, Free, HasWholeSlots, is_mark_of, is_none, IsDistinct}
 use Rattle.ss_recover.proofs.Common.{IsInStep, IsPermutation, IsState, IsStream, IsStrictlyIncreasing, judged, keep_own_step, landmarks_made, length}
-use Rattle.ss_recover.proofs.Common.{length-map, lies_free, List, list_all, live, lowest_bad_slot, lowest_bad_stream, map, map-map, marks_carried, MOST_RECORDS}
-use Rattle.ss_recover.proofs.Common.{MOST_STREAMS, ne_eqb, None, not, Option, or_left, or_right, Record, records_in, records_of, recursion_from_All, refl}
-use Rattle.ss_recover.proofs.Common.{rule_of, same_name, SlotMap, stands_by, Stream, stream_carried, stream_number, StreamParts, streams_carried}
-use Rattle.ss_recover.proofs.Common.{streams_created, streams_standing, subst, sum_by-cons, sym, tile, times_rise, true, Window, window_of, windows_carried, ℕ}
+use Rattle.ss_recover.proofs.Common.{length-map, lies_free, List, list_all, live, lowest_bad_slot, lowest_bad_stream, map, map-map, marks_carried}
+use Rattle.ss_recover.proofs.Common.{MOST_RECORDS, MOST_STREAMS, ne_eqb, None, not, Option, or_left, or_right, Record, records_in, records_of}
+use Rattle.ss_recover.proofs.Common.{recursion_from_All, refl, rule_of, same_name, SlotMap, stands_by, Stream, stream_carried, stream_number, StreamParts}
+use Rattle.ss_recover.proofs.Common.{streams_carried, streams_created, streams_standing, subst, sum_by-cons, sym, tile, times_rise, true, Window, window_of}
+use Rattle.ss_recover.proofs.Common.{windows_carried, ℕ}
 use Rattle.ss_recover.specs.Carried.{spelled}
 use Rattle.ss_recover.specs.Conditions.{is_sound}
 use Rattle.ss_recover.specs.Parts.{carried}
-use Rattle.ss_recover.proofs.DroppedRecords.{IsNoneOf}
-use Rattle.ss_recover.proofs.HeldRecords.{all-number_of, all_walked, created, created-all_walked, every_slot_spells, HasOwn-each, made-none, made_of_records}
+use Rattle.ss_recover.proofs.HeldRecords.{all-number_of, all_walked, created, created-all_walked, every_slot_spells, HasOwn-each, made_of_records}
 use Rattle.ss_recover.proofs.HeldRecords.{standing-all_walked}
 use Rattle.ss_recover.proofs.InOrder.{in_order-IsPermutation, Rise, Rise-increasing}
-use Rattle.ss_recover.proofs.Lists.{all-from_map, all_both, all_weaker, filter-none, filter_map-kept, kept, position-none}
+use Rattle.ss_recover.proofs.Lists.{all-from_map, all_both, all_weaker, filter_map-kept, kept, position-none}
 use Rattle.ss_recover.proofs.Marks.{are_marks-marks_of, in_order-marks_of, landmarks_made-marks_of, length-marks_of, marks_of}
 use Rattle.ss_recover.proofs.SoundStreams.{keep_step-IsInStep, own_step-apart, own_step-moved, Rise-AreWindows, stands_alone, stands_alone-each}
 use Rattle.ss_recover.proofs.SoundStreams.{stands_alone-moved, tile-AreWindows, times_rise-AreWindows}
@@ -96,39 +96,21 @@ module _ (streams : List Stream) (records : List Record) (state : IsState stream
       (in_order-IsPermutation (λ (s : Created). s.number) (streams_standing records) (map created streams) those.standing rise_created)
       ∙ map-stream_carried records streams carries_each
 
--- records of which is made what is made of those of streams, where nothing is made of others
-pub HaveThose-made : (beside : List Record) (streams : List Stream) (records : List Record) → IsState streams →
-    ((Y : Type 0) (f : Record → Option Y) → f Free ≡ None → filter_map f beside ≡ [] →
-    IsPermutation (filter_map f (all_walked streams)) (filter_map f records)) →
-    AllByRecursion (λ r. stands_by r ≡ None) beside → AllByRecursion (λ s. AllByRecursion (IsNoneOf s.number) beside) streams → HaveThose streams records
-HaveThose-made beside streams records state made none apart =
-    let own = HasOwn-each streams (Rise-increasing (λ (s : Stream). s.number) streams state.numbers) in
-    let Apart : Stream → Type 0 = λ s. AllByRecursion (IsNoneOf s.number) beside in
-    record {
-      standing =
-          subst (λ l. IsPermutation l (streams_standing records)) (standing-all_walked streams) (made Created stands_by refl (made-none stands_by beside none));
-      windows =
-          all_both _ _ _ (λ s has other.
-          subst (λ l. IsPermutation l (filter_map (window_of s.number) records)) has.windows
-          (made Window (window_of s.number) refl (made-none (window_of s.number) beside (all_weaker _ _ (λ r is. is.window) beside other)))) streams own apart;
-      marks =
-          all_both _ _ _ (λ s has other.
-          subst (λ l. IsPermutation l (filter (is_mark_of s.number) records)) has.marks
-          (subst (λ l. IsPermutation l (filter (is_mark_of s.number) records)) (filter_map-kept (is_mark_of s.number) (all_walked streams))
-          (subst (λ l. IsPermutation (filter_map (kept (is_mark_of s.number)) (all_walked streams)) l) (filter_map-kept (is_mark_of s.number) records)
-          (made Record (kept (is_mark_of s.number)) refl (filter_map-kept (is_mark_of s.number) beside ∙ filter-none (is_mark_of s.number) beside
-          (all_weaker _ _ (λ r is. is.mark) beside other)))))) streams own apart;
-    }
-
--- where no record is of a dropped stream
+-- where what is made of the records of streams is made of records
 module _ (streams : List Stream) (records : List Record) (state : IsState streams)
     (made : (Y : Type 0) (f : Record → Option Y) → f Free ≡ None → IsPermutation (filter_map f (all_walked streams)) (filter_map f records)) where
   pub those_made : HaveThose streams records
-  those_made = HaveThose-made [] streams records state (λ Y f free none. made Y f free) tt (nothing streams)
-    where
-      nothing : (ss : List Stream) → AllByRecursion (λ s. AllByRecursion (IsNoneOf s.number) []) ss
-      nothing [] = tt
-      nothing (s ∷ ss) = (tt, nothing ss)
+  those_made =
+      let own = HasOwn-each streams (Rise-increasing (λ (s : Stream). s.number) streams state.numbers) in
+      record {
+        standing = subst (λ l. IsPermutation l (streams_standing records)) (standing-all_walked streams) (made Created stands_by refl);
+        windows = all_weaker _ _ (λ s has.
+            subst (λ l. IsPermutation l (filter_map (window_of s.number) records)) has.windows (made Window (window_of s.number) refl)) streams own;
+        marks = all_weaker _ _ (λ s has.
+            subst (λ l. IsPermutation l (filter (is_mark_of s.number) records)) (filter_map-kept (is_mark_of s.number) (all_walked streams) ∙ has.marks)
+            (subst (IsPermutation (filter_map (kept (is_mark_of s.number)) (all_walked streams))) (filter_map-kept (is_mark_of s.number) records)
+            (made Record (kept (is_mark_of s.number)) refl))) streams own;
+      }
 
   moved : IsPermutation (map created streams) (streams_created records)
   moved = subst (λ l. IsPermutation l (streams_created records)) (created-all_walked streams) (made Created created_by refl)

@@ -1,29 +1,28 @@
 -- What rebuilding answers, from what was read and what the walk over it answers.
 use Rattle.ss_recover.proofs.Common.{[], ◌++◌, ◌+◌, ◌-◌, ◌<◌, ◌∙◌, ◌∷◌, ◌≡◌, ◌≢◌, ◌≤◌, Agrees, All, All-from_recursion, All-nil, AllAgree, AllByRecursion}
-use Rattle.ss_recover.proofs.Common.{AllEndBy, AllEndBy-later, ap, ap₂, AreFound, AreKnown, AreWholeBeside, arith, bad_slot, bad_stream, BadSlot, BadStream}
-use Rattle.ss_recover.proofs.Common.{Bool, carries, Disk, doomed_found, EndByLast, ends-latest, EndsBy, entries_of, Entry, Err, false, filter, filter_map, fine}
-use Rattle.ss_recover.proofs.Common.{firsts-zip, flat_map, Found, found_key, Free, GathersAs, HasWholeSlots, IfOk, in_order, with_slot, is_live, is_none}
-use Rattle.ss_recover.proofs.Common.{IsDistinct, IsLowestUnsound, IsPermutation, IsPermutation-append_left, IsPermutation-map, IsPermutation-sym}
+use Rattle.ss_recover.proofs.Common.{AllEndBy, AllEndBy-later, ap, ap₂, AreBuilt, AreFound, AreKnown, AreWholeBeside, arith, bad_slot, bad_stream, BadSlot}
+use Rattle.ss_recover.proofs.Common.{BadStream, Bool, carries, Disk, doomed_found, EndByLast, ends-latest, EndsBy, entries_of, Entry, Err, false, filter}
+use Rattle.ss_recover.proofs.Common.{filter_map, fine, firsts-zip, flat_map, Found, found_key, Free, GathersAs, HasWholeSlots, IfOk, in_order, is_live}
+use Rattle.ss_recover.proofs.Common.{is_none, IsDistinct, IsLowestUnsound, IsPermutation, IsPermutation-append_left, IsPermutation-map, IsPermutation-sym}
 use Rattle.ss_recover.proofs.Common.{IsPermutation-trans, IsStream, IsStrictlyIncreasing, IsUsable, judged, key_of, Landmark, last_time, later, latest_of}
-use Rattle.ss_recover.proofs.Common.{length, length-map, List, list_any, lowest_bad_slot, lowest_bad_stream, map, map-append, MatchOption, max, MOST_VALUES}
-use Rattle.ss_recover.proofs.Common.{newest_time, no_memory, None, none-latest, Ok, Option, or_from, OutOfMemory, Parts, range_with_len, RebuildsAs, Record}
-use Rattle.ss_recover.proofs.Common.{records_held, records_in, RecoverError, recursion_from_All, refl, refused, Result, RiseToLast, same_name, SlotMap}
-use Rattle.ss_recover.proofs.Common.{slots_found, slots_held, Some, span_held, span_of, StandFrom, Stream, StreamParts, streams_carried, subst, suc}
-use Rattle.ss_recover.proofs.Common.{sum_by-cons, sym, taken, TileFrom, times_held, times_of, TimesRise, true, Verdict, verdict_of_rebuild, WalksAs, Window}
-use Rattle.ss_recover.proofs.Common.{without_slots, zero, zip, ℕ}
+use Rattle.ss_recover.proofs.Common.{length, length-map, List, list_any, live, lowest_bad_slot, lowest_bad_stream, map, map-append, MatchOption, max}
+use Rattle.ss_recover.proofs.Common.{MOST_VALUES, newest_time, no_memory, None, none-latest, Ok, Option, or_from, OutOfMemory, Parts, range_with_len}
+use Rattle.ss_recover.proofs.Common.{RebuildsAs, Record, records_held, records_in, RecoverError, recursion_from_All, refl, refused, Result, RiseToLast}
+use Rattle.ss_recover.proofs.Common.{same_name, SlotMap, slots_found, slots_held, Some, span_held, span_of, StandFrom, Stream, StreamParts, streams_carried}
+use Rattle.ss_recover.proofs.Common.{streams_made, subst, suc, sum_by-cons, sym, taken, TileFrom, times_held, times_of, TimesRise, true, Verdict}
+use Rattle.ss_recover.proofs.Common.{verdict_of_rebuild, WalksAs, Window, with_slot, without_slots, zero, zip, ℕ}
 use Rattle.ss_codec.specs.Decoded.{decoded}
 use Rattle.ss_recover.specs.Carried.{spelled}
 use Rattle.ss_recover.specs.Parts.{carried}
 use Rattle.ss_recover.proofs.DoomedLemmas.{beside-found, first-in_slot, doomed_slots-found, Rise-found, slots-in_order}
 use Rattle.ss_recover.proofs.WholeSlots.{beside-seconds, filter_map-filled, zeros_are_free}
 use Rattle.ss_recover.proofs.GatherLemmas.{is_some-not}
-use Rattle.ss_recover.proofs.HeldLemmas.{streams_are}
 use Rattle.ss_recover.proofs.HeldRecords.{held-long, held-zip, records_of_stream}
 use Rattle.ss_recover.proofs.Lists.{map-all, position-none}
 use Rattle.ss_recover.proofs.InOrder.{map-in_order}
-use Rattle.ss_recover.proofs.RebuiltRecords.{all-held, have_those, in_turn-built, sound_numbers}
-use Rattle.ss_recover.proofs.SoundNumbers.{lowest-made, none_bad-AreSound}
-use Rattle.ss_recover.proofs.Unordered.{lowest-bad}
+use Rattle.ss_recover.proofs.RebuiltRecords.{all-held, in_turn-built, sound_numbers}
+use Rattle.ss_recover.proofs.SoundNumbers.{lowest-made, none_bad-AreSound, streams_carried-made}
+use Rattle.ss_recover.proofs.Unordered.{lowest-bad, streams_carried-in_order}
 use Rattle.std.proofs.lemmas.List.Sorted.{IsPermutation-append}
 
 -- up to the newest time
@@ -122,8 +121,8 @@ carried-streams found streams slot number same = λ i. judged (slot i) (number i
 pub rebuilds : (found : SlotMap) (all sorted : List Found) (result : Result Parts RecoverError) → HasWholeSlots found → AreFound all found →
     All (λ (f : Found). IsUsable f.holds) all → sorted ≡ in_order found_key all → IsPermutation all sorted → WalksAs sorted result → RebuildsAs found result
 rebuilds found all sorted (Ok parts) whole are usable order moved walks =
-    let streams = walks.0 in
-    let built = walks.1 in
+    let streams = streams_made (without_slots sorted) (without_slots sorted) in
+    let built : AreBuilt parts streams sorted = walks in
     let rs = records_in (spelled found) in
     let items = doomed_found false all ++ doomed_found true all in
     let rise = Rise-found all found are.occupied_by in
@@ -137,7 +136,8 @@ rebuilds found all sorted (Ok parts) whole are usable order moved walks =
           carried-streams found streams (no-bad-slot found are.spelled_all)
           (lowest-made (records_in (spelled found)) (without_slots all) (made-found found all whole are)
           ∙ none_bad-AreSound (without_slots all) (sound_numbers parts streams all sorted built order moved))
-          (streams_are streams rs built.state (have_those parts streams all sorted built order moved rs (made-found found all whole are)));
+          (streams_carried-made rs (without_slots all) (made-found found all whole are) ∙ streams_carried-in_order (without_slots all)
+          ∙ ap (λ l. streams_made l l) (sym (ap without_slots order ∙ map-in_order key_of (λ (f : Found). f.holds) all)));
       held = record {
         each = built.each;
         records = subst (IsPermutation (map with_slot items ++ flat_map records_held (zip parts.streams.items streams))) are.occupied_by
@@ -227,8 +227,8 @@ pub whole-from_walk : (live : List Bool) (all sorted : List Found) (result : Res
 whole-from_walk live all sorted (Err error) slots moved walks = tt
 whole-from_walk live all sorted (Ok parts) slots moved walks =
     let ps = parts.streams.items in
-    let ss = walks.0 in
-    let built = walks.1 in
+    let ss = streams_made (without_slots sorted) (without_slots sorted) in
+    let built : AreBuilt parts ss sorted = walks in
     let numbers = map-agree (λ (part : StreamParts). part.id.0) (λ (s : Stream). s.number) (λ part s is. is.number) ps ss built.each in
     let names = map-agree (λ (part : StreamParts). part.name) (λ (s : Stream). s.name) (λ part s is. is.name) ps ss built.each in
     let streams = recursion_from_All IsStream ss built.state.each in

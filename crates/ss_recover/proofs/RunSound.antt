@@ -1,14 +1,13 @@
 -- The records of a number are sound, among those of others, where they are a run.
-use Rattle.ss_recover.proofs.Common.{[], ◌&&◌, ◌*◌, ◌++◌, ◌+◌, ◌<◌, ◌==◌, ◌^◌, ◌||◌, ◌∙◌, ◌∷◌, ◌≡◌, ◌≤◌, All, All-drop, All-from_recursion, All-take}
-use Rattle.ss_recover.proofs.Common.{AllByRecursion, and_parts, and_right, ap, append-nil, ap₂, are_marks, arith, Bool, cases_Bool, Created, created_by, drop}
-use Rattle.ss_recover.proofs.Common.{each-behind, each-front, eq-eqb, false, filter-append, filter_map, filter_map-append, Found, found_key, get_or}
-use Rattle.ss_recover.proofs.Common.{has_new_name, has_one_record, has_place, has_sound_values_in_order, has_sound_values_within, inl, inr, is_drop_of}
-use Rattle.ss_recover.proofs.Common.{is_dropped, is_mark_of, is_own, is_run, is_sound_in_order, IsNextRun, IsNonDecreasingBy, IsUsable, keep_own_step}
-use Rattle.ss_recover.proofs.Common.{keep_step, key_of, landmarks_made, length, length-drop, length-map, length-take, lies_free, List, list_all, list_any}
-use Rattle.ss_recover.proofs.Common.{list_any-append, map, marks_in, MOST_STREAMS, nat_lt, ne_eqb, not, not-true, or-false, or_from, place_of, Record}
-use Rattle.ss_recover.proofs.Common.{recursion_from_All, refl, Rises, same_name, step_number, stream_of, streams_created, subst, suc, sym, take}
-use Rattle.ss_recover.proofs.Common.{take-append-drop, tile, times_rise, true, Window, window_of, window_record, windows_in, zero, ℕ}
-use Rattle.ss_recover.proofs.Lists.{all_both, all_weaker, map-all}
+use Rattle.ss_recover.proofs.Common.{[], ◌&&◌, ◌*◌, ◌++◌, ◌+◌, ◌<◌, ◌==◌, ◌^◌, ◌||◌, ◌∙◌, ◌∷◌, ◌≡◌, ◌≤◌, AllByRecursion, and_parts, and_right, ap, append-nil}
+use Rattle.ss_recover.proofs.Common.{ap₂, are_marks, arith, back_of, Bool, cases_Bool, cond_both, Created, created_by, each-front, eq-eqb, eqb-true, false}
+use Rattle.ss_recover.proofs.Common.{filter-append, filter_map, filter_map-append, Free, front_of, has_new_name, has_one_record, has_place}
+use Rattle.ss_recover.proofs.Common.{has_sound_values_in_order, has_sound_values_within, inl, inr, is_drop_of, is_dropped, is_mark_of, is_own, is_run}
+use Rattle.ss_recover.proofs.Common.{is_sound_in_order, IsUsable, keep_own_step, keep_step, key_of, landmarks_made, length, length-map, lies_free}
+use Rattle.ss_recover.proofs.Common.{List, list_all, list_any, list_any-append, map, marks_in, MOST_STREAMS, nat_lt, nat_tests, ne_eqb, not, not-true}
+use Rattle.ss_recover.proofs.Common.{or-false, or_from, place_of, Record, refl, Rises, same_name, step_number, stream_of, streams_created, subst, sym}
+use Rattle.ss_recover.proofs.Common.{tile, times_rise, true, Value, Window, window_of, window_record, windows_in, ℕ}
+use Rattle.ss_recover.proofs.Lists.{all_append, all_both, all_weaker}
 use Rattle.ss_codec.specs.declared.record.Record.TheVariants as records
 use Rattle.ss_recover.proofs.SoundStreams.{own_step-one, own_step-parts, count-at, count-below, new-name}
 
@@ -26,103 +25,62 @@ key-place : (a b p q : ℕ) → a * 2 ^ 65 + p ≤ b * 2 ^ 65 + q → b ≡ a �
 key-place a b p q le same = let same' : b * 2 ^ 65 ≡ a * 2 ^ 65 = ap (λ (n : ℕ). n * 2 ^ 65) same in omega (arith, le, same')
 
 -- their streams rise, and in one stream their places
-module _ {X : Type 0} (h : X → Record) where
-  pub streams-rise : (xs : List X) → Rises (λ x. key_of (h x)) xs → AllByRecursion (λ x. IsUsable (h x)) xs → Rises (λ x. stream_of (h x)) xs
-  streams-rise [] rises usable = tt
-  streams-rise (x ∷ xs) rises usable = (
-    all_both _ _ _
-        (λ y le small. key-le (stream_of (h x)) (stream_of (h y)) (place_of (h x)) (place_of (h y)) (place-below (h x) usable.0) (place-below (h y) small) le)
-        xs rises.0 usable.1,
-    streams-rise xs rises.1 usable.1,
-  )
+streams-rise : (rs : List Record) → Rises key_of rs → AllByRecursion IsUsable rs → Rises stream_of rs
+streams-rise [] rises usable = tt
+streams-rise (r ∷ rs) rises usable = (
+  all_both _ _ _ (λ q le small. key-le (stream_of r) (stream_of q) (place_of r) (place_of q) (place-below r usable.0) (place-below q small) le) rs rises.0
+      usable.1,
+  streams-rise rs rises.1 usable.1,
+)
 
-  pub places-rise : (n : ℕ) (xs : List X) → Rises (λ x. key_of (h x)) xs → AllByRecursion (λ x. stream_of (h x) ≡ n) xs → Rises place_of (map h xs)
-  places-rise n [] rises own = tt
-  places-rise n (x ∷ xs) rises own = (
-    map-all _ h xs
-        (all_both _ _ _ (λ y le is. key-place (stream_of (h x)) (stream_of (h y)) (place_of (h x)) (place_of (h y)) le (is ∙ sym own.0)) xs rises.0 own.1),
-    places-rise n xs rises.1 own.1,
-  )
+places-rise : (n : ℕ) (rs : List Record) → Rises key_of rs → AllByRecursion (λ r. stream_of r ≡ n) rs → Rises place_of rs
+places-rise n [] rises own = tt
+places-rise n (r ∷ rs) rises own = (
+  all_both _ _ _ (λ q le is. key-place (stream_of r) (stream_of q) (place_of r) (place_of q) le (is ∙ sym own.0)) rs rises.0 own.1,
+  places-rise n rs rises.1 own.1,
+)
 
 pub Rises-parts : {X : Type 0} (key : X → ℕ) (xs ys : List X) → Rises key (xs ++ ys) → Rises key xs × Rises key ys
 Rises-parts key [] ys rises = (tt, rises)
 Rises-parts key (x ∷ xs) ys rises = let rest = Rises-parts key xs ys rises.1 in ((each-front _ xs ys rises.0, rest.0), rest.1)
 
--- as `partition_point` has it
-module _ {X : Type 0} where
-  pub Rises-pairs : (key : X → ℕ) (xs : List X) → Rises key xs → IsNonDecreasingBy key xs
-  Rises-pairs key [] rises i j d le inside = absurd (omega (arith, inside))
-  Rises-pairs key (x ∷ xs) rises zero zero d le inside = omega arith
-  Rises-pairs key (x ∷ xs) rises zero (suc j) d le inside = All-from_recursion (λ y. key x ≤ key y) xs rises.0 j d (omega (arith, inside))
-  Rises-pairs key (x ∷ xs) rises (suc i) zero d le inside = absurd (omega (arith, le))
-  Rises-pairs key (x ∷ xs) rises (suc i) (suc j) d le inside = Rises-pairs key xs rises.1 i j d (omega (arith, le)) (omega (arith, inside))
+-- the first elements of a list that are of a number, and those behind them
+module _ {X : Type 0} (number : X → ℕ) (n : ℕ) where
+  pub front-back : (xs : List X) → front_of number n xs ++ back_of number n xs ≡ xs
+  front-back [] = refl
+  front-back (x ∷ xs) = elim (cases_Bool (number x == n)) [
+    | inl is ↦ rw is (ap (λ l. x ∷ l) (front-back xs))
+    | inr other ↦ rw other refl
+  ]
 
-  pub all-taken : (P : X → Type 0) (xs : List X) (n : ℕ) → n ≤ length xs → ((k : ℕ) (d : X) → 0 ≤ k → k < n → P (get_or xs k d)) → AllByRecursion P (take n xs)
-  all-taken P xs zero few each = tt
-  all-taken P [] (suc n) few each = absurd (omega (arith, few))
-  all-taken P (x ∷ xs) (suc n) few each =
-      (each 0 x (omega arith) (omega arith), all-taken P xs n (omega (arith, few)) (λ k d low lt. each (suc k) d (omega arith) (omega (arith, lt))))
+  pub front-own : (xs : List X) → AllByRecursion (λ x. number x ≡ n) (front_of number n xs)
+  front-own [] = tt
+  front-own (x ∷ xs) =
+      cond_both (number x == n) (x ∷ front_of number n xs) [] (AllByRecursion (λ y. number y ≡ n)) (λ is. (eqb-true _ _ is, front-own xs)) (λ other. tt)
 
-  pub all-dropped : (P : X → Type 0) (xs : List X) (n : ℕ) → ((k : ℕ) (d : X) → n ≤ k → k < length xs → P (get_or xs k d)) → AllByRecursion P (drop n xs)
-  all-dropped P [] zero each = tt
-  all-dropped P [] (suc n) each = tt
-  all-dropped P (x ∷ xs) zero each =
-      (each 0 x (omega arith) (omega arith), all-dropped P xs zero (λ k d le lt. each (suc k) d (omega arith) (omega (arith, lt))))
-  all-dropped P (x ∷ xs) (suc n) each = all-dropped P xs n (λ k d le lt. each (suc k) d (omega (arith, le)) (omega (arith, lt)))
+  pub back-above : (xs : List X) → AllByRecursion (λ x. n ≤ number x) xs → Rises number xs → AllByRecursion (λ x. n < number x) (back_of number n xs)
+  back-above [] low rises = tt
+  back-above (x ∷ xs) low rises =
+      cond_both (number x == n) (back_of number n xs) (x ∷ xs) (AllByRecursion (λ y. n < number y)) (λ is. back-above xs low.1 rises.1) (λ other.
+      let least = low.0 in
+      let above : n < number x = grind (arith, nat_tests) in
+      (above, all_weaker _ _ (λ y le. omega (arith, above, le)) xs rises.0))
 
--- the first records of a list in the order of their streams are those of its first stream
-own-front : (rest : List Found) (len : ℕ) (x : Found) → 0 < length rest → x ≡ get_or rest 0 x → Rises (λ (f : Found). stream_of f.holds) rest →
-    AllByRecursion (λ (f : Found). stream_of f.holds ≤ stream_of x.holds) (take len rest) →
-    AllByRecursion (λ (f : Found). stream_of x.holds < stream_of f.holds) (drop len rest) →
-    (run : List Found) × (take len rest ≡ x ∷ run) × AllByRecursion (λ (f : Found). stream_of f.holds ≡ stream_of x.holds) (x ∷ run)
-own-front [] len x some is rises front back = absurd (omega (arith, some))
-own-front (y ∷ ys) zero x some is rises front back = absurd (let lt = back.0 in let same = ap (λ (f : Found). stream_of f.holds) is in omega (arith, lt, same))
-own-front (y ∷ ys) (suc len) x some is rises front back =
-    let same : stream_of x.holds ≡ stream_of y.holds = ap (λ (f : Found). stream_of f.holds) is in
-    let least = each-front (λ (f : Found). stream_of y.holds ≤ stream_of f.holds) (take len ys) (drop len ys)
-    (subst (AllByRecursion (λ (f : Found). stream_of y.holds ≤ stream_of f.holds)) (sym (take-append-drop len ys)) rises.0) in (
-      take len ys,
-      ap (λ f. f ∷ take len ys) (sym is),
-      (
-        refl,
-        all_both _ _ _ (λ f most low. omega (arith, most, low, same)) (take len ys) front.1 least,
-      ),
-    )
+-- of what is made of each
+module _ {X Y : Type 0} (h : X → Y) (number : Y → ℕ) (n : ℕ) where
+  pub map-front_of : (xs : List X) → map h (front_of (λ x. number (h x)) n xs) ≡ front_of number n (map h xs)
+  map-front_of [] = refl
+  map-front_of (x ∷ xs) = elim (cases_Bool (number (h x) == n)) [
+    | inl is ↦ rw is (ap (λ l. h x ∷ l) (map-front_of xs))
+    | inr other ↦ rw other refl
+  ]
 
-pub sliced-rises : (all sliced : List Found) (at : ℕ) → sliced ≡ drop at all → Rises found_key all → All (λ (f : Found). IsUsable f.holds) all →
-    Rises (λ (f : Found). stream_of f.holds) sliced
-sliced-rises all sliced at same order usable =
-    let parted : all ≡ take at all ++ sliced = sym (take-append-drop at all) ∙ ap (λ l. take at all ++ l) (sym same) in
-    streams-rise (λ (f : Found). f.holds) sliced (Rises-parts found_key (take at all) sliced (subst (Rises found_key) parted order)).1
-    (each-behind _ (take at all) sliced
-    (subst (AllByRecursion (λ (f : Found). IsUsable f.holds)) parted (recursion_from_All (λ (f : Found). IsUsable f.holds) all usable)))
-
--- the next run, as the code finds it
-pub IsNextRun-from : (all sliced : List Found) (at len n : ℕ) (x : Found) → at < length all → sliced ≡ drop at all → len ≤ length sliced →
-    x ≡ get_or sliced 0 x →
-    Rises found_key all → All (λ (f : Found). IsUsable f.holds) all → n ≡ stream_of x.holds →
-    AllByRecursion (λ (f : Found). stream_of f.holds ≤ n) (take len sliced) → AllByRecursion (λ (f : Found). n < stream_of f.holds) (drop len sliced) →
-    IsNextRun all at n (take len sliced)
-IsNextRun-from all sliced at len n x within same few is order usable of front back =
-    let long = ap (λ (l : List Found). length l) same in
-    let own = own-front sliced len x (omega (arith, within, length-drop at all, long)) is (sliced-rises all sliced at same order usable)
-    (subst (λ (k : ℕ). AllByRecursion (λ (f : Found). stream_of f.holds ≤ k) (take len sliced)) of front)
-    (subst (λ (k : ℕ). AllByRecursion (λ (f : Found). k < stream_of f.holds) (drop len sliced)) of back) in
-    let size = ap (λ (l : List Found). length l) own.1 in
-    record {
-      first = x;
-      rest = own.0;
-      is = own.1;
-      back = drop len sliced;
-      split = sym same ∙ sym (take-append-drop len sliced);
-      within = omega (arith, within, few, length-take len sliced, length-drop at all, long);
-      some = omega (arith, size);
-      usable = All-take (λ (f : Found). IsUsable f.holds) len sliced
-          (subst (All (λ (f : Found). IsUsable f.holds)) (sym same) (All-drop (λ (f : Found). IsUsable f.holds) at all usable));
-      own = subst (All (λ (f : Found). stream_of f.holds ≡ n)) (sym own.1)
-          (All-from_recursion (λ (f : Found). stream_of f.holds ≡ n) (x ∷ own.0) (all_weaker _ _ (λ f e. e ∙ sym of) (x ∷ own.0) own.2));
-      above = back;
-    }
+  pub map-back_of : (xs : List X) → map h (back_of (λ x. number (h x)) n xs) ≡ back_of number n (map h xs)
+  map-back_of [] = refl
+  map-back_of (x ∷ xs) = elim (cases_Bool (number (h x) == n)) [
+    | inl is ↦ rw is (map-back_of xs)
+    | inr other ↦ rw other refl
+  ]
 
 -- ---- the records of a number are sound, among those of others, where they are a run
 
@@ -276,7 +234,7 @@ module _ (front run back : List Record) (n : ℕ) (lower : AllByRecursion (λ r.
   sound-never other = sound-parts ∙ never _ _ _ _ (ne_eqb (length here) 1 other)
 
 -- the records of a number are sound where they are a run
-pub is_run-sound : (front run back : List Record) (n : ℕ) → AllByRecursion (λ r. stream_of r < n) front → AllByRecursion (λ r. stream_of r ≡ n) run →
+is_run-sound : (front run back : List Record) (n : ℕ) → AllByRecursion (λ r. stream_of r < n) front → AllByRecursion (λ r. stream_of r ≡ n) run →
     AllByRecursion (λ r. n < stream_of r) back → AllByRecursion IsUsable run → Rises place_of run → 1 ≤ length run →
     is_sound_in_order (front ++ (run ++ back)) n ≡ is_run (map (λ (c : Created). c.name) (streams_created front)) run
 is_run-sound front [] back n lower own above usable rises some = absurd (omega (arith, some))
@@ -316,6 +274,61 @@ is_run-sound front (x ∷ rest) back n lower own above usable rises some =
     let low = usable.0.0 in
     let none = none-created rest (all_weaker _ _ (λ q le. omega (arith, le, low)) rest rises.0) in
     sound-never front (x ∷ rest) back n lower own above (λ one. absurd (omega (arith, one, ap (λ (l : List Created). length l) none)))
+
+-- Among all records those of one number, from the first of them on, behind those of lower numbers and before those of greater ones.
+pub record IsRun (us front : List Record) (r : Record) (rest back : List Record) : Type 0 where
+  pub whole : us ≡ front ++ ((r ∷ rest) ++ back)
+  pub lower : AllByRecursion (λ q. stream_of q < stream_of r) front
+  pub own : AllByRecursion (λ q. stream_of q ≡ stream_of r) rest
+  pub above : AllByRecursion (λ q. stream_of r < stream_of q) back
+  pub usable : AllByRecursion IsUsable (r ∷ rest)
+  pub rises : Rises place_of (r ∷ rest)
+
+-- each record of a list is of a lower number than each of another one
+abbrev pub AreBefore : List Record → List Record → Type 0
+AreBefore front back = AllByRecursion (λ q. AllByRecursion (λ r. stream_of r < stream_of q) front) back
+
+-- the next ones, where records of lower numbers came
+pub next-run : (us front : List Record) (r : Record) (tail : List Record) → us ≡ front ++ r ∷ tail → AreBefore front (r ∷ tail) →
+    AllByRecursion IsUsable (r ∷ tail) → Rises key_of (r ∷ tail) →
+    IsRun us front r (front_of stream_of (stream_of r) tail) (back_of stream_of (stream_of r) tail)
+next-run us front r tail whole before usable order =
+    let n = stream_of r in
+    let rest = front_of stream_of n tail in
+    let back = back_of stream_of n tail in
+    let own = front-own stream_of n tail in
+    let split = front-back stream_of n tail in
+    let rising = streams-rise (r ∷ tail) order usable in
+    let sorted : Rises key_of (r ∷ (rest ++ back)) = subst (λ l. Rises key_of (r ∷ l)) (sym split) order in
+    record {
+      whole = whole ∙ ap (λ l. front ++ r ∷ l) (sym split);
+      lower = before.0;
+      own = own;
+      above = back-above stream_of n tail rising.0 rising.1;
+      usable = each-front IsUsable (r ∷ rest) back (subst (λ l. AllByRecursion IsUsable (r ∷ l)) (sym split) usable);
+      rises = places-rise n (r ∷ rest) (Rises-parts key_of (r ∷ rest) back sorted).0 (refl, own);
+    }
+
+module _ (us front : List Record) (r : Record) (rest back : List Record) (is : IsRun us front r rest back) where
+  pub sound-run : is_sound_in_order us (stream_of r) ≡ is_run (map (λ (c : Created). c.name) (streams_created front)) (r ∷ rest)
+  sound-run =
+      ap (λ l. is_sound_in_order l (stream_of r)) is.whole
+      ∙ is_run-sound front (r ∷ rest) back (stream_of r) is.lower (refl, is.own) is.above is.usable is.rises (omega arith)
+
+  pub dropped-run : is_dropped (stream_of r) us ≡ is_dropped (stream_of r) (r ∷ rest)
+  dropped-run = ap (is_dropped (stream_of r)) is.whole ∙ dropped-own front (r ∷ rest) back (stream_of r) is.lower (refl, is.own) is.above
+
+  pub windows-run : windows_in (stream_of r) us ≡ windows_in (stream_of r) (r ∷ rest)
+  windows-run = ap (windows_in (stream_of r)) is.whole ∙ windows-own front (r ∷ rest) back (stream_of r) is.lower (refl, is.own) is.above
+
+  pub marks-run : marks_in (stream_of r) us ≡ marks_in (stream_of r) (r ∷ rest)
+  marks-run = ap (marks_in (stream_of r)) is.whole ∙ marks-own front (r ∷ rest) back (stream_of r) is.lower (refl, is.own) is.above
+
+  -- what comes before a run and the run itself come before what comes behind it
+  pub before-back : AreBefore (front ++ r ∷ rest) back
+  before-back =
+      all_weaker _ _ (λ q more. all_append _ front (r ∷ rest) (all_weaker _ _ (λ p lt. omega (arith, lt, more)) front is.lower)
+      (more, all_weaker _ _ (λ p same. omega (arith, same, more)) rest is.own)) back is.above
 
 -- what the records of a run meet after a stream's own
 pub record MeetsRun (rest : List Record) (head : Created) : Type 0 where

@@ -1,44 +1,24 @@
 -- Streams that records in order are of, one run after another.
-use Rattle.ss_recover.proofs.Common.{[], ◌++◌, ◌<◌, ◌∙◌, ◌∷◌, ◌≡◌, ◌≤◌, All-from_recursion, AllByRecursion, AllByRecursion_push, and_parts, ap, append-nil}
-use Rattle.ss_recover.proofs.Common.{append_assoc, arith, cases_eq, Created, each-behind, each-front, eq-eqb, false, filter, filter_map, flat_map-append, inl}
-use Rattle.ss_recover.proofs.Common.{inr, is_mark_of, is_own, is_run, is_sound_in_order, IsDistinct, IsDistinct-cons, IsDistinct-from_apart, IsDistinct-head}
-use Rattle.ss_recover.proofs.Common.{IsDistinct-tail, IsState, IsStream, IsUsable, key_of, landmarks_made, length, length-append, length-map, List, list_any}
-use Rattle.ss_recover.proofs.Common.{live, ltb-true, map, map-append, map-id, MOST_RECORDS, MOST_STREAMS, names_of, not-true, or_left, or_parts, place_of}
-use Rattle.ss_recover.proofs.Common.{Record, refl, Rises, same_name, same_name-swap, Stream, stream_of, subst, suc, sum_by-cons, sym, true, Window, window_of}
-use Rattle.ss_recover.proofs.Common.{window_record, zero, ℕ}
-use Rattle.ss_recover.proofs.HeldRecords.{all_walked, each-all_walked, walked}
+use Rattle.ss_recover.proofs.Common.{[], ◌&&◌, ◌++◌, ◌+◌, ◌<◌, ◌||◌, ◌∙◌, ◌∷◌, ◌≡◌, ◌≤◌, All-from_recursion, AllByRecursion, and-true, and_parts, ap}
+use Rattle.ss_recover.proofs.Common.{append_assoc, ap₂, arith, back_of, Bool, cond, count_by-le-length, Created, created_by, each-behind, eq-eqb, false}
+use Rattle.ss_recover.proofs.Common.{filter, filter-append, filter_map, front_of, is_dropped, is_mark_of, is_own, is_run, is_sound_in_order, IsDistinct}
+use Rattle.ss_recover.proofs.Common.{IsDistinct-cons, IsDistinct-from_apart, IsState, IsStream, IsUsable, key_of, landmarks_made, length, length-append}
+use Rattle.ss_recover.proofs.Common.{length-filter, length-map, List, list_any, list_any-append, live, ltb-true, map, marks_in, MOST_RECORDS, MOST_STREAMS}
+use Rattle.ss_recover.proofs.Common.{names_of, nat_lt, not, not-true, or-false, or_parts, Record, records_of, refl, Rises, same_name, same_name-swap, Stream}
+use Rattle.ss_recover.proofs.Common.{stream_made, stream_of, streams_made, streams_standing, subst, suc, sum_by-cons, sym, true, Window, window_record}
+use Rattle.ss_recover.proofs.Common.{windows_in, zero, ℕ}
+use Rattle.ss_recover.proofs.HeldRecords.{all_walked, walked}
 use Rattle.ss_recover.proofs.InOrder.{increasing-Rise, Rise}
-use Rattle.ss_recover.proofs.Lists.{all-kept, all-passing, all_append, all_weaker}
+use Rattle.ss_recover.proofs.Lists.{all-each, all-kept, all-passing, all_weaker, map-all}
 use Rattle.ss_recover.proofs.Marks.{length-marks_of, marks_of}
 use Rattle.ss_recover.proofs.MarksSoFar.{AreOf, AreOf-are_marks}
 use Rattle.ss_recover.proofs.SoundStreams.{IsInStep-keep_step, AreWindows-tile}
-use Rattle.ss_recover.proofs.RunSound.{places-rise, Rises-parts, streams-rise, alone-drops, is_run-sound, MeetsRun, own-alone, run-meets, run-order}
-use Rattle.ss_recover.proofs.RunStanding.{AreFewer, AreFewer-more, AreFewer-nil, AreFewer-push, is_run-fewer, names-more, names_created, standing-more}
-use Rattle.ss_recover.proofs.RunStanding.{stands_in}
+use Rattle.ss_recover.proofs.RunSound.{AreBefore, alone-drops, before-back, dropped-run, front-back, IsRun, marks-run, MeetsRun, next-run, own-alone}
+use Rattle.ss_recover.proofs.RunSound.{Rises-parts, run-meets, run-order, sound-run, windows-run}
+use Rattle.ss_recover.proofs.RunStanding.{filter-const, names_created, names_created-append, stands_in, streams_made-append}
 use Rattle.ss_recover.proofs.WholeSlots.{all-window_of}
 use Rattle.ss_codec.specs.declared.record.Record.TheVariants as records
 use Rattle.ss_model.specs.State as Streams
-
--- Records are those of streams of a state, in order.
-pub record AreWalked (front : List Record) (streams : List Stream) : Type 0 where
-  pub order : front ≡ all_walked streams
-  pub sound : AllByRecursion IsStream streams
-  pub rise : Rise (λ s. s.number) streams
-  pub distinct : IsDistinct same_name (names_of streams)
-  pub few : length streams ≤ MOST_STREAMS
-
-pub AreWalked-none : AreWalked [] []
-AreWalked-none = record {
-  order = refl;
-  sound = tt;
-  rise = tt;
-  distinct = IsDistinct-from_apart same_name [] (λ i j d before within. absurd (omega (arith, within)));
-  few = omega arith;
-}
-
-pub Rise-push : {X : Type 0} (key : X → ℕ) (xs : List X) (x : X) → Rise key xs → AllByRecursion (λ y. key y < key x) xs → Rise key (xs ++ x ∷ [])
-Rise-push key [] x rise below = (tt, tt)
-Rise-push key (y ∷ ys) x rise below = (AllByRecursion_push _ ys x rise.0 below.0, Rise-push key ys x rise.1 below.1)
 
 -- how many records streams have
 length-records : (ss : List Stream) → length (all_walked ss) ≡ live ss
@@ -54,198 +34,213 @@ length-records (s ∷ ss) =
       sum_by-cons Streams.records_of s ss,
     )
 
-pub IsState-walked : (rs : List Record) (streams : List Stream) → AreWalked rs streams → length rs ≤ MOST_RECORDS → IsState streams
-IsState-walked rs streams are few = record {
+-- Records that come behind others are those of streams, in order, whose names none of the others creates. With what the others
+-- create they are no more than can be.
+record AreBehind (front kept : List Record) (streams : List Stream) : Type 0 where
+  order : kept ≡ all_walked streams
+  sound : AllByRecursion IsStream streams
+  rise : Rise (λ s. s.number) streams
+  apart : AllByRecursion (λ s. list_any (same_name s.name) (names_created front) ≡ false) streams
+  distinct : IsDistinct same_name (names_of streams)
+  few : length (names_created front) ≤ MOST_STREAMS → length (names_created front) + length streams ≤ MOST_STREAMS
+
+IsState-behind : (rs : List Record) (streams : List Stream) → AreBehind [] rs streams → length rs ≤ MOST_RECORDS → IsState streams
+IsState-behind rs streams are few = record {
   each = All-from_recursion IsStream streams are.sound;
   numbers = increasing-Rise (λ (s : Stream). s.number) streams are.rise;
   names = are.distinct;
-  few = are.few;
+  few = omega (arith, are.few (omega arith));
   room = omega (arith, few, length-records streams, ap (λ (us : List Record). length us) are.order);
 }
 
-distinct-push : (xs : List (List ℕ)) (y : List ℕ) → IsDistinct same_name xs → list_any (same_name y) xs ≡ false → IsDistinct same_name (xs ++ y ∷ [])
-distinct-push [] y distinct new = IsDistinct-cons same_name y [] tt distinct
-distinct-push (x ∷ xs) y distinct new =
-    let parts = or_parts _ _ new in
-    IsDistinct-cons same_name x (xs ++ y ∷ []) (AllByRecursion_push _ xs y (IsDistinct-head same_name x xs distinct) (same_name-swap x y ∙ parts.0))
-    (distinct-push xs y (IsDistinct-tail same_name x xs distinct) parts.1)
+-- what records of greater numbers create that stand
+standing-above : (us : List Record) (n : ℕ) (rs : List Record) → AllByRecursion (λ r. n < stream_of r) rs →
+    AllByRecursion (λ s. n < s.number) (streams_made us rs)
+standing-above us n [] above = tt
+standing-above us n (records.Stream id name params true ∷ rs) above = standing-above us n rs above.1
+standing-above us n (records.Stream id name params false ∷ rs) above = (above.0, standing-above us n rs above.1)
+standing-above us n (_ ∷ rs) above = standing-above us n rs above.1
 
--- each record of a list is of a lower number than each of another one
-abbrev pub AreBefore : List Record → List Record → Type 0
-AreBefore front back = AllByRecursion (λ q. AllByRecursion (λ r. stream_of r < stream_of q) front) back
+-- where no stream is created, none stands
+alone-stands : (rs : List Record) → filter_map created_by rs ≡ [] → streams_standing rs ≡ []
+alone-stands [] none = refl
+alone-stands (records.Stream id name params dropped ∷ rs) none = cc
+alone-stands (_ ∷ rs) none = alone-stands rs none
 
-pub nothing-before : (back : List Record) → AreBefore [] back
-nothing-before [] = tt
-nothing-before (r ∷ rs) = (tt, nothing-before rs)
+-- A run whose first record is a stream's own.
+module _ (us front : List Record) (head : Created) (dropped : Bool) (rest back : List Record)
+    (is : IsRun us front (records.Stream head.number head.name head.params dropped) rest back)
+    (run : is_run (names_created front) (records.Stream head.number head.name head.params dropped ∷ rest) ≡ true) where
+  abbrev first : Record
+  first = records.Stream head.number head.name head.params dropped
 
--- what comes before a run and the run itself come before what comes after it
-pub AreBefore-run : (front run back : List Record) (n : ℕ) → AllByRecursion (λ r. stream_of r < n) front → AllByRecursion (λ r. stream_of r ≡ n) run →
-    AllByRecursion (λ r. n < stream_of r) back → AreBefore (front ++ run) back
-AreBefore-run front run back n lower own above =
-    all_weaker _ _ (λ q more. all_append _ front run (all_weaker _ _ (λ r lt. omega (arith, lt, more)) front lower)
-    (all_weaker _ _ (λ r is. omega (arith, is, more)) run own)) back above
+  pub none-own : list_any is_own rest ≡ false
+  none-own = not-true (list_any is_own rest) (and_parts _ _ (and_parts _ _ run).1).0
 
--- the stream that the records of a run make
-abbrev pub stream_made : Created → List Record → Stream
-stream_made head rest = record {
-  number = head.number;
-  name = head.name;
-  params = head.params;
-  windows = filter_map (window_of head.number) rest;
-  landmarks = landmarks_made (filter (is_mark_of head.number) rest);
-}
+  pub names-run : names_created (first ∷ rest) ≡ head.name ∷ []
+  names-run = ap (λ (cs : List Created). head.name ∷ map (λ (c : Created). c.name) cs) (own-alone rest none-own)
 
-module _ (names : List (List ℕ)) (head : Created) (rest : List Record) (own : AllByRecursion (λ r. stream_of r ≡ head.number) rest)
-    (usable : AllByRecursion IsUsable (records.Stream head.number head.name head.params false ∷ rest))
-    (rises : Rises place_of (records.Stream head.number head.name head.params false ∷ rest))
-    (run : is_run names (records.Stream head.number head.name head.params false ∷ rest) ≡ true) where
-  pub meets : MeetsRun rest head
-  meets = run-meets names rest head run
+  pub dropped-is : is_dropped head.number us ≡ dropped
+  dropped-is =
+      dropped-run us front first rest back is
+      ∙ ap₂ (λ a b. (dropped && a) || b) (eq-eqb head.number head.number refl) (alone-drops head.number rest (own-alone rest none-own))
+      ∙ or-false (dropped && true) ∙ and-true dropped
 
+  pub made-run : streams_made us (first ∷ rest) ≡ cond dropped [] (stream_made rest head ∷ [])
+  made-run =
+      elim dropped as (λ d. streams_made us (records.Stream head.number head.name head.params d ∷ rest) ≡ cond d [] (stream_made rest head ∷ [])) [
+        | true ↦ ap (map (stream_made us)) none
+        | false ↦ (λ i. record {
+          number = head.number;
+          name = head.name;
+          params = head.params;
+          windows = windows-run us front first rest back is i;
+          landmarks = landmarks_made (marks-run us front first rest back is i);
+        } ∷ map (stream_made us) (none i))
+      ]
+    where
+      none : streams_standing rest ≡ []
+      none = alone-stands rest (own-alone rest none-own)
+
+  -- its records stand, or don't
+  stands-run : filter (stands_in us) (first ∷ rest) ≡ cond (not dropped) (first ∷ rest) []
+  stands-run =
+      filter-const (stands_in us) (not dropped) (first ∷ rest)
+      (all_weaker _ _ (λ r same. ap (λ k. not (is_dropped k us)) same ∙ ap not dropped-is) (first ∷ rest) (refl, is.own))
+
+  names-more : names_created (front ++ first ∷ rest) ≡ names_created front ++ head.name ∷ []
+  names-more = names_created-append front (first ∷ rest) ∙ ap (λ l. names_created front ++ l) names-run
+
+-- One that stands is a stream of a state, and its records are those of the stream, in order.
+module _ (us front : List Record) (head : Created) (rest back : List Record)
+    (is : IsRun us front (records.Stream head.number head.name head.params false) rest back)
+    (run : is_run (names_created front) (records.Stream head.number head.name head.params false ∷ rest) ≡ true) where
   abbrev ms : List Record
-  ms = filter (is_mark_of head.number) rest
+  ms = marks_in head.number rest
 
   abbrev ws : List Window
-  ws = filter_map (window_of head.number) rest
+  ws = windows_in head.number rest
+
+  meets : MeetsRun rest head
+  meets = run-meets (names_created front) rest head run
 
   marks-are : AreOf head.number ms (landmarks_made ms)
-  marks-are = AreOf-are_marks head.number ms (all-passing (is_mark_of head.number) rest) (all-kept IsUsable (is_mark_of head.number) rest usable.1)
+  marks-are = AreOf-are_marks head.number ms (all-passing (is_mark_of head.number) rest) (all-kept IsUsable (is_mark_of head.number) rest is.usable.1)
       meets.landmarks
 
-  is-stream : IsStream (stream_made head rest)
+  pub is-stream : IsStream (stream_made rest head)
   is-stream = record {
-    target = usable.0.0;
-    number = usable.0.1;
+    target = is.usable.0.0;
+    number = is.usable.0.1;
     windows = AreWindows-tile ws meets.tiles meets.rising
-        (all-window_of head.number rest (all_weaker _ _ (λ r is _. is) rest usable.1));
+        (all-window_of head.number rest (all_weaker _ _ (λ r usable _. usable) rest is.usable.1));
     steps = IsInStep-keep_step head.params ws meets.keeping;
     landmarks = marks-are.landmarks;
     free = meets.free;
   }
 
-  -- the records are those of the stream, in order
   pub rest-order : rest ≡ marks_of head.number 1 (landmarks_made ms) ++ map (window_record head.number) ws
-  rest-order = run-order head.number rest own usable.1 rises.1 meets.alone ∙ ap (λ l. l ++ map (window_record head.number) ws) marks-are.records
+  rest-order = run-order head.number rest is.own is.usable.1 is.rises.1 meets.alone ∙ ap (λ l. l ++ map (window_record head.number) ws) marks-are.records
 
--- Of some records, those of streams that stand are those of streams of a state, and these have no other names than all.
-pub record AreStanding (front : List Record) (streams : List Stream) : Type 0 where
-  pub walked : AreWalked (filter (stands_in front) front) streams
-  pub fewer : AreFewer (names_of streams) (names_created front)
+-- A run comes before what is of streams.
+module _ (us front : List Record) (head : Created) (dropped : Bool) (rest back : List Record)
+    (is : IsRun us front (records.Stream head.number head.name head.params dropped) rest back)
+    (run : is_run (names_created front) (records.Stream head.number head.name head.params dropped ∷ rest) ≡ true) (kept : List Record) (ss : List Stream)
+    (behind : AreBehind (front ++ records.Stream head.number head.name head.params dropped ∷ rest) kept ss) where
+  abbrev names : List (List ℕ)
+  names = names_created front
 
-pub AreStanding-none : AreStanding [] []
-AreStanding-none = record { walked = AreWalked-none; fewer = AreFewer-nil [] }
+  more : names_created (front ++ records.Stream head.number head.name head.params dropped ∷ rest) ≡ names ++ head.name ∷ []
+  more = names-more us front head dropped rest back is run
 
-module _ (front : List Record) (streams : List Stream) (done : AreStanding front streams) (head : Created) (rest : List Record)
-    (lower : AllByRecursion (λ q. stream_of q < head.number) front) (own : AllByRecursion (λ q. stream_of q ≡ head.number) rest) where
-  -- one more that stands
-  pub AreStanding-more : AllByRecursion IsUsable (records.Stream head.number head.name head.params false ∷ rest) →
-      Rises place_of (records.Stream head.number head.name head.params false ∷ rest) →
-      is_run (names_created front) (records.Stream head.number head.name head.params false ∷ rest) ≡ true →
-      AreStanding (front ++ records.Stream head.number head.name head.params false ∷ rest) (streams ++ stream_made head rest ∷ [])
-  AreStanding-more usable rises run =
-      let first = records.Stream head.number head.name head.params false in
-      let s = stream_made head rest in
-      let was = done.walked in
-      let may = and_parts _ _ (and_parts _ _ (is_run-fewer (names_of streams) (names_created front) done.fewer (first ∷ rest) run)).0 in
-      let least = ltb-true (length (names_of streams)) MOST_STREAMS may.0 in
-      let below = each-all_walked (λ k. k < head.number) streams
-      (subst (AllByRecursion (λ q. stream_of q < head.number)) was.order (all-kept _ (stands_in front) front lower)) in
-      let alone = (meets (names_created front) head rest own usable rises run).alone in
-      let names : names_of streams ++ head.name ∷ [] ≡ names_of (streams ++ s ∷ []) = sym (map-append (λ (u : Stream). u.name) streams (s ∷ [])) in
-      record {
-        walked = record {
-          order =
-              standing-more (λ q. q) front (first ∷ rest) head.number lower (refl, own) front (first ∷ rest) lower (refl, own) false
-              (alone-drops head.number rest alone)
-              ∙ (λ i. was.order i ++ first ∷ rest-order (names_created front) head rest own usable rises run i)
-              ∙ sym (flat_map-append walked streams (s ∷ []) ∙ ap (λ l. all_walked streams ++ l) (append-nil (walked s)));
-          sound = AllByRecursion_push IsStream streams s was.sound (is-stream (names_created front) head rest own usable rises run);
-          rise = Rise-push (λ u. u.number) streams s was.rise below;
-          distinct = subst (IsDistinct same_name) names
-              (distinct-push (names_of streams) head.name was.distinct (not-true (list_any (same_name head.name) (names_of streams)) may.1));
-          few = omega (arith, least, length-map streams (λ (u : Stream). u.name), length-append streams (s ∷ []));
-        };
-        fewer = subst (AreFewer (names_of (streams ++ s ∷ []))) (sym (names-more front rest head.number head.name head.params false alone))
-            (subst (λ l. AreFewer l (names_created front ++ head.name ∷ [])) names
-            (AreFewer-push (names_of streams) (names_created front) done.fewer head.name));
-      }
+  may : (nat_lt (length names) MOST_STREAMS ≡ true) × (not (list_any (same_name head.name) names) ≡ true)
+  may = and_parts _ _ (and_parts _ _ run).0
 
-  -- one more that was dropped
-  pub AreStanding-dropped : is_run (names_created front) (records.Stream head.number head.name head.params true ∷ rest) ≡ true →
-      AreStanding (front ++ records.Stream head.number head.name head.params true ∷ rest) streams
-  AreStanding-dropped run =
-      let first = records.Stream head.number head.name head.params true in
-      let alone = own-alone rest (not-true (list_any is_own rest) (and_parts _ _ (and_parts _ _ run).1).0) in
-      let more : filter (stands_in (front ++ first ∷ rest)) (front ++ first ∷ rest) ≡ filter (stands_in front) front ++ [] =
-      standing-more (λ q. q) front (first ∷ rest) head.number lower (refl, own) front (first ∷ rest) lower (refl, own) true
-      (or_left _ _ (eq-eqb head.number head.number refl)) in
-      record {
-        walked = subst (λ l. AreWalked l streams) (sym (more ∙ append-nil (filter (stands_in front) front))) done.walked;
-        fewer = subst (AreFewer (names_of streams)) (sym (names-more front rest head.number head.name head.params true alone))
-            (AreFewer-more (names_of streams) (names_created front) done.fewer head.name);
-      }
+  apart-both : AllByRecursion (λ s. (list_any (same_name s.name) names ≡ false) × (list_any (same_name s.name) (head.name ∷ []) ≡ false)) ss
+  apart-both =
+      all_weaker _ _ (λ s none. or_parts _ _
+      (sym (list_any-append (same_name s.name) names (head.name ∷ [])) ∙ ap (list_any (same_name s.name)) (sym more) ∙ none)) ss behind.apart
 
--- ---- all runs, where each is sound
+  room : length names + 1 + length ss ≤ MOST_STREAMS
+  room =
+      let long = ap (λ (l : List (List ℕ)). length l) more in
+      let one = length-append names (head.name ∷ []) in
+      let least = ltb-true (length names) MOST_STREAMS may.0 in
+      let most = behind.few (omega (arith, long, one, least)) in
+      omega (arith, most, long, one)
 
--- The first records of a list, which are of one stream.
-record IsCut (n : ℕ) (rs : List Record) : Type 0 where
-  own : List Record
-  back : List Record
-  split : rs ≡ own ++ back
-  same : AllByRecursion (λ r. stream_of r ≡ n) own
-  above : AllByRecursion (λ r. n < stream_of r) back
+  dropped-behind : AreBehind front kept ss
+  dropped-behind = record {
+    order = behind.order;
+    sound = behind.sound;
+    rise = behind.rise;
+    apart = all_weaker _ _ (λ s both. both.0) ss apart-both;
+    distinct = behind.distinct;
+    few = λ fits. omega (arith, room);
+  }
 
-cut : (n : ℕ) (rs : List Record) → AllByRecursion (λ r. n ≤ stream_of r) rs → Rises stream_of rs → IsCut n rs
-cut n [] low rises = record { own = []; back = []; split = refl; same = tt; above = tt }
-cut n (r ∷ rs) low rises =
-    elim (cases_eq (stream_of r) n) [
-      | inl is ↦
-          (let rest = cut n rs low.1 rises.1 in
-          record { own = r ∷ rest.own; back = rest.back; split = ap (λ l. r ∷ l) rest.split; same = (is, rest.same); above = rest.above })
-      | inr other ↦
-          (let lt : n < stream_of r = omega (arith, other, low.0) in record {
-            own = [];
-            back = r ∷ rs;
-            split = refl;
-            same = tt;
-            above = (lt, all_weaker _ _ (λ q le. omega (arith, lt, le)) rs rises.0);
-          })
-    ]
+behind-step : (us front : List Record) (head : Created) (dropped : Bool) (rest back : List Record)
+    (is : IsRun us front (records.Stream head.number head.name head.params dropped) rest back) →
+    is_run (names_created front) (records.Stream head.number head.name head.params dropped ∷ rest) ≡ true → (kept : List Record) (ss : List Stream) →
+    AllByRecursion (λ s. head.number < s.number) ss → AreBehind (front ++ records.Stream head.number head.name head.params dropped ∷ rest) kept ss →
+    AreBehind front (cond (not dropped) (records.Stream head.number head.name head.params dropped ∷ rest) [] ++ kept)
+    (cond dropped [] (stream_made rest head ∷ []) ++ ss)
+behind-step us front head true rest back is run kept ss above behind = dropped-behind us front head true rest back is run kept ss behind
+behind-step us front head false rest back is run kept ss above behind =
+    let both = apart-both us front head false rest back is run kept ss behind in
+    let room = room us front head false rest back is run kept ss behind in
+    record {
+      order = λ i. records.Stream head.number head.name head.params false ∷ (rest-order us front head rest back is run i ++ behind.order i);
+      sound = (is-stream us front head rest back is run, behind.sound);
+      rise = (above, behind.rise);
+      apart = (
+        not-true (list_any (same_name head.name) (names_created front)) (may us front head false rest back is run kept ss behind).1,
+        all_weaker _ _ (λ s two. two.0) ss both,
+      );
+      distinct = IsDistinct-cons same_name head.name (names_of ss)
+          (map-all _ (λ (s : Stream). s.name) ss (all_weaker _ _ (λ s two. same_name-swap head.name s.name ∙ (or_parts _ _ two.1).0) ss both)) behind.distinct;
+      few = λ fits. omega (arith, room);
+    }
 
-step : (front : List Record) (streams : List Stream) → AreStanding front streams → (r : Record) (own : List Record) →
-    AllByRecursion (λ q. stream_of q < stream_of r) front → AllByRecursion (λ q. stream_of q ≡ stream_of r) own → AllByRecursion IsUsable (r ∷ own) →
-    Rises place_of (r ∷ own) → is_run (names_created front) (r ∷ own) ≡ true → (ss : List Stream) × AreStanding (front ++ r ∷ own) ss
-step front streams done records.Free own lower same usable rises run = absurd usable.0
-step front streams done (records.Stream id name params false) own lower same usable rises run =
+behind-run : (us front : List Record) (r : Record) (rest back : List Record) (is : IsRun us front r rest back) →
+    is_run (names_created front) (r ∷ rest) ≡ true → AreBehind (front ++ r ∷ rest) (filter (stands_in us) back) (streams_made us back) →
+    AreBehind front (filter (stands_in us) (r ∷ (rest ++ back))) (streams_made us (r ∷ (rest ++ back)))
+behind-run us front (records.Stream id name params dropped) rest back is run behind =
     let head : Created = record { number = id; name = name; params = params } in
-    (streams ++ stream_made head own ∷ [], AreStanding-more front streams done head own lower same usable rises run)
-step front streams done (records.Stream id name params true) own lower same usable rises run =
-    (streams, AreStanding-dropped front streams done (record { number = id; name = name; params = params }) own lower same run)
-step front streams done _ own lower same usable rises run = absurd (cc)
+    let first = records.Stream id name params dropped in
+    let stands = filter-append (stands_in us) (first ∷ rest) back
+    ∙ ap (λ l. l ++ filter (stands_in us) back) (stands-run us front head dropped rest back is run) in
+    let made = streams_made-append us (first ∷ rest) back ∙ ap (λ ss. ss ++ streams_made us back) (made-run us front head dropped rest back is run) in
+    subst (λ l. AreBehind front l (streams_made us (first ∷ (rest ++ back)))) (sym stands)
+    (subst (AreBehind front (cond (not dropped) (first ∷ rest) [] ++ filter (stands_in us) back)) (sym made)
+    (behind-step us front head dropped rest back is run (filter (stands_in us) back) (streams_made us back) (standing-above us id back is.above) behind))
+behind-run us front _ rest back is run behind = absurd (cc)
 
-pub walk : (most : ℕ) (front back : List Record) (streams : List Stream) → length back ≤ most → AreStanding front streams → AreBefore front back →
-    AllByRecursion IsUsable back → Rises key_of back → AllByRecursion (λ r. is_sound_in_order (front ++ back) (stream_of r) ≡ true) back →
-    (ss : List Stream) × AreStanding (front ++ back) ss
-walk most front [] streams few done before usable order sound = (streams, subst (λ l. AreStanding l streams) (sym (append-nil front)) done)
-walk zero front (r ∷ more) streams few done before usable order sound = absurd (omega (arith, few))
-walk (suc most) front (r ∷ more) streams few done before usable order sound =
+-- where each number is sound
+walk : (us : List Record) (most : ℕ) (front back : List Record) → us ≡ front ++ back → length back ≤ most → AreBefore front back →
+    AllByRecursion IsUsable back → Rises key_of back → AllByRecursion (λ r. is_sound_in_order us (stream_of r) ≡ true) back →
+    AreBehind front (filter (stands_in us) back) (streams_made us back)
+walk us most front [] whole few before usable order sound =
+    record { order = refl; sound = tt; rise = tt; apart = tt; distinct = IsDistinct-from_apart same_name [] (λ i j d less within. absurd (omega (arith, within))); few = λ fits. omega (arith, fits) }
+walk us zero front (r ∷ tail) whole few before usable order sound = absurd (omega (arith, few))
+walk us (suc most) front (r ∷ tail) whole few before usable order sound =
     let n = stream_of r in
-    let rising = streams-rise (λ q. q) (r ∷ more) order usable in
-    let c = cut n more rising.0 rising.1 in
-    let run = r ∷ c.own in
-    let whole : r ∷ more ≡ run ++ c.back = ap (λ l. r ∷ l) c.split in
-    let same : front ++ r ∷ more ≡ (front ++ run) ++ c.back = ap (λ l. front ++ l) whole ∙ sym (append_assoc front run c.back) in
-    let usable_run = each-front IsUsable run c.back (subst (AllByRecursion IsUsable) whole usable) in
-    let orders = Rises-parts key_of run c.back (subst (Rises key_of) whole order) in
-    let own : AllByRecursion (λ q. stream_of q ≡ n) run = (refl, c.same) in
-    let rises : Rises place_of run = subst (Rises place_of) (map-id run) (places-rise (λ (q : Record). q) n run orders.0 own) in
-    let is : is_run (names_created front) run ≡ true = sym (is_run-sound front run c.back n before.0 own c.above usable_run rises (omega arith))
-    ∙ ap (λ l. is_sound_in_order (front ++ l) n) (sym whole) ∙ sound.0 in
-    let next = step front streams done r c.own before.0 c.same usable_run rises is in
-    let long = ap (λ (l : List Record). length l) c.split in
-    let sounds = each-behind (λ q. is_sound_in_order (front ++ r ∷ more) (stream_of q) ≡ true) run c.back
-    (subst (AllByRecursion (λ q. is_sound_in_order (front ++ r ∷ more) (stream_of q) ≡ true)) whole sound) in
-    let rest = walk most (front ++ run) c.back next.0 (omega (arith, few, long, length-append c.own c.back)) next.1
-    (AreBefore-run front run c.back n before.0 own c.above) (each-behind IsUsable run c.back (subst (AllByRecursion IsUsable) whole usable)) orders.1
-    (subst (λ l. AllByRecursion (λ q. is_sound_in_order l (stream_of q) ≡ true) c.back) same sounds) in
-    (rest.0, subst (λ l. AreStanding l rest.0) (sym same) rest.1)
+    let rest = front_of stream_of n tail in
+    let back = back_of stream_of n tail in
+    let split : rest ++ back ≡ tail = front-back stream_of n tail in
+    let is = next-run us front r tail whole before usable order in
+    let behind : (P : Record → Type 0) → AllByRecursion P (r ∷ tail) → AllByRecursion P back =
+    λ P all. each-behind P (r ∷ rest) back (subst (λ l. AllByRecursion P (r ∷ l)) (sym split) all) in
+    let rest_is = walk us most (front ++ r ∷ rest) back (is.whole ∙ sym (append_assoc front (r ∷ rest) back))
+    (omega (arith, few, ap (λ (l : List Record). length l) split, length-append rest back)) (before-back us front r rest back is) (behind IsUsable usable)
+    (Rises-parts key_of (r ∷ rest) back (subst (λ l. Rises key_of (r ∷ l)) (sym split) order)).1
+    (behind (λ q. is_sound_in_order us (stream_of q) ≡ true) sound) in
+    subst (λ l. AreBehind front (filter (stands_in us) (r ∷ l)) (streams_made us (r ∷ l))) split
+    (behind-run us front r rest back is (sym (sound-run us front r rest back is) ∙ sound.0) rest_is)
+
+pub IsState-sound : (us : List Record) → AllByRecursion IsUsable us → Rises key_of us →
+    AllByRecursion (λ r. is_sound_in_order us (stream_of r) ≡ true) us → length us ≤ MOST_RECORDS → IsState (streams_made us us)
+IsState-sound us usable order sound few =
+    IsState-behind (filter (stands_in us) us) (streams_made us us)
+    (walk us (length us) [] us refl (omega arith) (all-each (λ q. AllByRecursion (λ r. stream_of r < stream_of q) []) (λ q. tt) us) usable order sound)
+    (omega (arith, few, length-filter (stands_in us) us, count_by-le-length (stands_in us) us))

@@ -1,11 +1,11 @@
 -- Which numbers are sound in some records, where they are in others that have the same of them.
 use Rattle.ss_recover.proofs.Common.{[], ◌&&◌, ◌+◌, ◌==◌, ◌||◌, ◌∙◌, ◌∷◌, ◌≡◌, ◌≤◌, ◌⊎◌, AllByRecursion, and_from, and_parts, ap, are_marks, arith, Bool}
 use Rattle.ss_recover.proofs.Common.{carries, cases_Bool, cond, cond-true, cons_option, count_by, Created, created_by, eqb-true, false, false_from_ne_true}
-use Rattle.ss_recover.proofs.Common.{filter, filter_map, has_sound_values, in_order, inl, inr, is_drop_of, is_dropped, is_mark_of, judged, keep_own_step}
-use Rattle.ss_recover.proofs.Common.{landmarks_made, lies_free, List, list_all, list_any, lowest_bad_stream, lowest_in, marks_carried, None, not, Option}
+use Rattle.ss_recover.proofs.Common.{filter, filter_map, Free, has_sound_values, in_order, inl, inr, is_drop_of, is_dropped, is_mark_of, judged, keep_own_step}
+use Rattle.ss_recover.proofs.Common.{landmarks_made, lies_free, List, list_all, list_any, lowest_bad_stream, lowest_in, map, marks_carried, None, not, Option}
 use Rattle.ss_recover.proofs.Common.{option_map_or, or_cases, or_left, or_parts, or_right, place_of, Record, refl, Some, stands_by, stands_sound, Stream}
-use Rattle.ss_recover.proofs.Common.{stream_carried, stream_number, streams_created, streams_standing, sum_by-cons, sym, tile, times_rise, true, true≢false}
-use Rattle.ss_recover.proofs.Common.{Window, window_of, windows_carried, ℕ}
+use Rattle.ss_recover.proofs.Common.{stream_carried, stream_number, streams_carried, streams_created, streams_standing, sum_by-cons, sym, tile, times_rise}
+use Rattle.ss_recover.proofs.Common.{true, true≢false, Window, window_of, windows_carried, ℕ}
 use Rattle.ss_recover.specs.Conditions.{is_sound}
 use Rattle.ss_recover.proofs.SoundStreams.{digit, stands_alone}
 use Rattle.ss_codec.specs.declared.record.Record.TheVariants as records
@@ -81,13 +81,21 @@ is_sound-parts rs n sound = and_parts _ _ sound
 
 -- records of which the same is made have the same numbers that are sound
 module _ (rs us : List Record) (same : (Y : Type 0) (f : Record → Option Y) → f records.Free ≡ None → filter_map f rs ≡ filter_map f us) where
+  values-made : (n : ℕ) → HaveSameValues n rs us
+  values-made n = record {
+    windows = same Window (window_of n) refl;
+    marks = sym (filter_map-kept (is_mark_of n) rs) ∙ same Record (kept (is_mark_of n)) refl ∙ filter_map-kept (is_mark_of n) us;
+  }
+
+  pub streams_carried-made : streams_carried rs ≡ streams_carried us
+  streams_carried-made =
+      let standing = same Created stands_by refl in
+      λ i. map (λ c. stream_carried-same rs us c (values-made c.number) i) (in_order (λ c. c.number) (standing i))
+
   pub is_sound-made : (n : ℕ) → is_sound rs n ≡ is_sound us n
   unfolding is_sound
   is_sound-made n =
-      let is : HaveSameValues n rs us = record {
-        windows = same Window (window_of n) refl;
-        marks = sym (filter_map-kept (is_mark_of n) rs) ∙ same Record (kept (is_mark_of n)) refl ∙ filter_map-kept (is_mark_of n) us;
-      } in
+      let is = values-made n in
       let created = same Created created_by refl in
       let gone = any-made (is_drop_of n) rs us (same Record (kept (is_drop_of n)) refl) in
       let values = sound_values-same n rs us is in

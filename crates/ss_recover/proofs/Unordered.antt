@@ -1,11 +1,12 @@
 -- Which numbers are sound doesn't hang on the order of the records.
-use Rattle.ss_recover.proofs.Common.{[], ◌&&◌, ◌*◌, ◌+◌, ◌<◌, ◌==◌, ◌^◌, ◌||◌, ◌∙◌, ◌∷◌, ◌≡◌, ◌≤◌, ◌⊎◌, All-from_recursion, All-permutation, AllByRecursion, ap}
-use Rattle.ss_recover.proofs.Common.{ap₂, are_marks, arith, Bool, cases_Bool, cases_lt, cond-false, cond-true, cond_both, cons_option, created_by, eq-eqb}
-use Rattle.ss_recover.proofs.Common.{eqb-true, false, filter, filter_map, fold, in_order, inl, inr, is_drop_of, is_mark_of, is_sound_in_order, IsLowestUnsound}
-use Rattle.ss_recover.proofs.Common.{IsPermutation, IsPermutation-sym, IsUsable, keep_own_step, key_of, landmarks_made, le-leb, leb, leb-false, leb-true}
-use Rattle.ss_recover.proofs.Common.{lies_free, List, list_all, list_any, list_any-IsPermutation, lowest_bad_stream, lowest_in, lt-leb, marks_carried, min}
-use Rattle.ss_recover.proofs.Common.{None, not, Option, or_cases, or_left, or_right, place_of, put_in_order, Record, recursion_from_All, refl, Rises, Some}
-use Rattle.ss_recover.proofs.Common.{stream_number, stream_of, streams_created, sym, tile, times_rise, true, true≢false, Window, window_of, windows_carried, ℕ}
+use Rattle.ss_recover.proofs.Common.{[], ◌&&◌, ◌*◌, ◌+◌, ◌<◌, ◌==◌, ◌^◌, ◌||◌, ◌∙◌, ◌∷◌, ◌≡◌, ◌≤◌, ◌⊎◌, All-from_recursion, All-permutation, AllByRecursion}
+use Rattle.ss_recover.proofs.Common.{ap, ap₂, are_marks, arith, Bool, cases_Bool, cases_lt, cond-false, cond-true, cond_both, cons_option, Created, created_by}
+use Rattle.ss_recover.proofs.Common.{eq-eqb, eqb-true, false, filter, filter_map, fold, Free, in_order, inl, inr, is_drop_of, is_mark_of, is_sound_in_order}
+use Rattle.ss_recover.proofs.Common.{IsLowestUnsound, IsPermutation, IsPermutation-sym, IsUsable, keep_own_step, key_of, landmarks_made, le-leb, leb}
+use Rattle.ss_recover.proofs.Common.{leb-false, leb-true, lies_free, List, list_all, list_any, list_any-IsPermutation, lowest_bad_stream, lowest_in, lt-leb}
+use Rattle.ss_recover.proofs.Common.{map, marks_carried, min, None, not, Option, or_cases, or_left, or_right, place_of, put_in_order, Record}
+use Rattle.ss_recover.proofs.Common.{recursion_from_All, refl, Rises, Some, stands_by, stream_number, stream_of, streams_carried, streams_created}
+use Rattle.ss_recover.proofs.Common.{streams_made, streams_standing, sym, tile, times_rise, true, true≢false, Window, window_of, windows_carried, ℕ}
 use Rattle.ss_recover.specs.Conditions.{is_sound}
 use Rattle.ss_recover.proofs.InOrder.{IsPermutation-in_order, Rises-in_order, put-less, put-more}
 use Rattle.ss_recover.proofs.Lists.{all_weaker, filter_map-kept, kept}
@@ -112,6 +113,30 @@ marks-in_order : (n : ℕ) (rs : List Record) → marks_carried n rs ≡ filter 
 marks-in_order n rs =
     ap (in_order place_of) (sym (filter_map-kept (is_mark_of n) rs)) ∙ sym (filter_map-in_order key_of place_of (kept (is_mark_of n)) (mark-order n) rs)
     ∙ filter_map-kept (is_mark_of n) (in_order key_of rs)
+
+stands-key : (r : Record) (z : Created) → stands_by r ≡ Some z → key_of r ≡ z.number * 2 ^ 65
+stands-key (records.Stream id name params false) z is = let at : id ≡ z.number = cc in omega (arith, at)
+stands-key (records.Stream id name params true) z is = cc
+stands-key _ z is = cc
+
+stands-order : (x y : Record) (z w : Created) → stands_by x ≡ Some z → stands_by y ≡ Some w → leb (key_of x) (key_of y) ≡ leb z.number w.number
+stands-order x y z w is also = ap₂ leb (stands-key x z is) (stands-key y w also) ∙ elim (cases_Bool (leb z.number w.number)) [
+  | inl le ↦ le-leb (z.number * 2 ^ 65) (w.number * 2 ^ 65) (let least = leb-true z.number w.number le in omega (arith, least)) ∙ sym le
+  | inr more ↦ lt-leb (z.number * 2 ^ 65) (w.number * 2 ^ 65) (let less = leb-false z.number w.number more in omega (arith, less)) ∙ sym more
+]
+
+-- the streams that are carried are those that the records make in order
+pub streams_carried-in_order : (rs : List Record) → streams_carried rs ≡ streams_made (in_order key_of rs) (in_order key_of rs)
+streams_carried-in_order rs =
+    let standing : in_order (λ (c : Created). c.number) (streams_standing rs) ≡ streams_standing (in_order key_of rs) =
+    sym (filter_map-in_order key_of (λ (c : Created). c.number) stands_by stands-order rs) in
+    λ i. map (λ (c : Created). record {
+      number = c.number;
+      name = c.name;
+      params = c.params;
+      windows = windows-in_order c.number rs i;
+      landmarks = landmarks_made (marks-in_order c.number rs i);
+    }) (standing i)
 
 -- the records of a number are sound in any order, where they are sound in order
 pub is_sound-in_order : (rs : List Record) (n : ℕ) → is_sound rs n ≡ is_sound_in_order (in_order key_of rs) n

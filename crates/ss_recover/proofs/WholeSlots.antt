@@ -1,19 +1,16 @@
 -- Maps of images: each slot has its 128 bytes, and maps that are the same carry the same.
-use Rattle.ss_recover.proofs.Common.{[], ◌<◌, ◌==◌, ◌^◌, ◌||◌, ◌∙◌, ◌∷◌, ◌≡◌, ◌≤◌, All-head, All-tail, AllByRecursion, ap, are_zeros, arith, blank_map, Bool}
-use Rattle.ss_recover.proofs.Common.{cases_Bool, cases_lt, cond-false, cond-true, cond_both, cons_option, decoded-spelling, drop, false, file_map, FillSlots}
+use Rattle.ss_recover.proofs.Common.{[], ◌<◌, ◌==◌, ◌^◌, ◌||◌, ◌∙◌, ◌∷◌, ◌≡◌, ◌≤◌, AllByRecursion, ap, are_zeros, arith, Bool}
+use Rattle.ss_recover.proofs.Common.{cases_Bool, cond-false, cons_option, decoded-spelling, false}
 use Rattle.ss_recover.proofs.Common.{filter_map, Free, HasValidTimes, HasWholeSlots, inl, inr, is_none, is_valid-free, IsLandmark-is_valid, IsPossible}
-use Rattle.ss_recover.proofs.Common.{IsStream-is_valid, IsTrue, IsUsable, IsValue-is_valid, IsWindow-is_valid, LATEST_TIME, le-ltb, length, length-drop}
-use Rattle.ss_recover.proofs.Common.{length-map-range_with_len, length-replicate, length-take, List, list_any, lt-ltb, map, MatchOption, MOST_SLOTS, None}
-use Rattle.ss_recover.proofs.Common.{not_a_store, occupied, Option, Put, puts_in_use, range_with_len, Record, records_beside, records_in, redo, redo-born}
-use Rattle.ss_recover.proofs.Common.{redo-neither, redo-unborn, refl, replicate, replicate-are_zeros, SameMap, slot_within, SlotMap, Some, spelling-free}
-use Rattle.ss_recover.proofs.Common.{Spells-decoded, stands, StandsFor, StandsFor-parts, subst, sym, true, Value, window_of, with_put, with_puts, zeros, ℕ}
+use Rattle.ss_recover.proofs.Common.{IsStream-is_valid, IsTrue, IsUsable, IsValue-is_valid, IsWindow-is_valid, LATEST_TIME, length}
+use Rattle.ss_recover.proofs.Common.{length-map-range_with_len, List, list_any, map, MatchOption, MOST_SLOTS, None}
+use Rattle.ss_recover.proofs.Common.{Option, range_with_len, Record, records_beside, records_in}
+use Rattle.ss_recover.proofs.Common.{refl, replicate, replicate-are_zeros, SameMap, SlotMap, Some, spelling-free}
+use Rattle.ss_recover.proofs.Common.{Spells-decoded, sym, true, Value, window_of, zeros, ℕ}
 use Rattle.ss_codec.specs.Decoded.{decoded}
 use Rattle.ss_recover.proofs.Lists.{all_weaker, any-made, kept, range-within}
 use Rattle.ss_recover.proofs.PutLemmas.{filled-live, filled-zeros}
 use Rattle.ss_parts.proofs.WholeMaps.{filled, same-slots}
-use Rattle.ss_journal.specs.Format.{is_born, is_unborn, kind_of, slot_at, slot_place, slots_in}
-use Rattle.ss_journal.proofs.CheckLemmas.{length-slot_form}
-use Rattle.ss_journal.proofs.PutLemmas.{extent_after-bound}
 use Rattle.ss_recover.specs.Carried.{spelled}
 use Rattle.ss_recover.specs.Parts.{carried}
 use Rattle.ss_codec.specs.declared.record.Record.TheVariants.{Landmark, Stream, Window}

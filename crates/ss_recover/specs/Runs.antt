@@ -13,7 +13,7 @@ use Rattle.ss_model.specs.Marks.{lies_free}
 use Rattle.ss_model.specs.Standing.{IsState}
 use Rattle.ss_model.specs.State as Streams
 use Rattle.ss_model.specs.declared.types.Window.{Window}
-use Rattle.ss_recover.specs.Carried.{is_dropped, is_mark_of, streams_created, window_of}
+use Rattle.ss_recover.specs.Carried.{is_dropped, is_mark_of, streams_created, streams_standing, window_of}
 use Rattle.ss_recover.specs.Conditions.{has_one_record, has_place, has_new_name, keep_own_step, keep_step, tile, times_rise}
 use Rattle.ss_recover.specs.Doomed.{is_doomed, is_own}
 use Rattle.ss_parts.specs.Held.{AllAgree, records_held}
@@ -69,6 +69,19 @@ is_sound_in_order records number =
     && has_new_name number (streams_created records)
     && (is_dropped number records || stands_sound_in_order records number)
 
+-- the stream that records make of one that is created, and those that all records make of the ones that some of them say stand
+abbrev pub stream_made : List Record → Streams.Created → Streams.Stream
+stream_made records head = record {
+  number = head.number;
+  name = head.name;
+  params = head.params;
+  windows = windows_in head.number records;
+  landmarks = landmarks_made (marks_in head.number records);
+}
+
+abbrev pub streams_made : List Record → List Record → List Streams.Stream
+streams_made all some = map (stream_made all) (streams_standing some)
+
 -- those of some records that are of dropped streams, their own or the others
 abbrev pub doomed_found : Bool → List Found → List Found
 doomed_found own all = filter (λ (f : Found). is_doomed own (without_slots all) f.holds) all
@@ -101,7 +114,7 @@ pub record IsLowestUnsound (number : ℕ) (records : List Record) : Type 0 where
 
 -- what a walk over records in order answers
 abbrev pub WalksAs : List Found → Result Parts RecoverError → Type 0
-WalksAs all (Ok parts) = (streams : List Streams.Stream) × AreBuilt parts streams all
+WalksAs all (Ok parts) = AreBuilt parts (streams_made (without_slots all) (without_slots all)) all
 WalksAs all (Err (BadStream number)) = IsLowestUnsound number (without_slots all)
 WalksAs all (Err OutOfMemory) = ⊤
 WalksAs all (Err (BadSlot n)) = ⊥

@@ -1,10 +1,8 @@
 -- What is held of a stream whose records come, and what a walk over the records of one stream after another answers.
-use Rattle.std.specs.Prelude.{◌≡◌, ◌⊎◌, ℕ, ℤ, ◌+◌, ◌<◌, ◌≤◌, Bool, true, false, ◌==◌, ◌&&◌, ◌||◌, nat_le, nat_lt, is_none, if◌then◌else◌, List, [], ◌∷◌, ◌++◌}
+use Rattle.std.specs.Prelude.{◌≡◌, ℕ, ℤ, ◌+◌, ◌<◌, ◌≤◌, Bool, true, false, ◌==◌, ◌&&◌, ◌||◌, nat_le, nat_lt, is_none, if◌then◌else◌, List, [], ◌∷◌, ◌++◌}
 use Rattle.std.specs.Prelude.{length, map, filter}
-use Rattle.std.specs.Prelude.{All, drop}
 use Rattle.std.specs.Prelude.{IfSome, Option, Some, None, option_and_then, Result, Ok, Err, ⊤}
 use Rattle.std.specs.Option.{option_map_or}
-use Rattle.std.specs.List.{AllByRecursion}
 use Rattle.std.specs.List.Sorted.{IsPermutation}
 use Rattle.ss_catalog.specs.declared.stream_id.StreamId.{StreamId}
 use Rattle.ss_catalog.specs.Params.{step_number}
@@ -29,7 +27,7 @@ use Rattle.ss_parts.specs.Held.{span_held, span_of, times_held, times_of}
 use Rattle.ss_recover.specs.Marked.{landmarks_made}
 use Rattle.ss_recover.specs.Order.{Rises, stream_of}
 use Rattle.ss_recover.specs.Runs.{has_sound_values_within, is_run, marks_in, may_stand, windows_in}
-use Rattle.ss_recover.specs.Usable.{IsUsable, slots_found, without_slots}
+use Rattle.ss_recover.specs.Usable.{slots_found, without_slots}
 use Rattle.ss_recover.specs.declared.found.Found.{Found}
 use Rattle.ss_recover.specs.declared.parts.Parts.{Parts}
 use Rattle.ss_parts.specs.declared.parts.StreamParts.{StreamParts}
@@ -206,12 +204,8 @@ pub record Grows (old new : Windows) (slot : ℕ) (w : Window) : Type 0 where
   pub in_slot : entry.slot ≡ slot
   pub newest : new.newest ≡ Some w.summary.t_last
 
--- What is held of a stream whose records these are, the first its own: the other ones are held, and end as they may.
-pub record IsHeldOf (part : StreamParts) (all : List Found) : Type 0 where
-  pub head : Created
-  pub slot : ℕ
-  pub rest : List Found
-  pub split : all ≡ head_found slot head ∷ rest
+-- What is held of a stream whose own record lies in this slot: its other records are held, and end as they may.
+pub record IsHeldOf (part : StreamParts) (slot : ℕ) (head : Created) (rest : List Found) : Type 0 where
   pub id : part.id.0 ≡ head.number
   pub name : part.name ≡ head.name
   pub params : params_of part.target ≡ head.params
@@ -224,9 +218,7 @@ pub record IsHeldOf (part : StreamParts) (all : List Found) : Type 0 where
 -- it is built, or its windows or its landmarks break a condition
 abbrev pub BuildsAs : Created → ℕ → List Found → Result (Option StreamParts) RecoverError → Type 0
 BuildsAs head slot rest (Ok (Some part)) =
-    (has_sound_values_within (step_number head.params.within) (without_slots rest) head.number ≡ true)
-    × (part.name ≡ head.name)
-    × IsHeldOf part (head_found slot head ∷ rest)
+    (has_sound_values_within (step_number head.params.within) (without_slots rest) head.number ≡ true) × IsHeldOf part slot head rest
 BuildsAs head slot rest (Ok None) = has_sound_values_within (step_number head.params.within) (without_slots rest) head.number ≡ false
 BuildsAs head slot rest (Err error) = error ≡ OutOfMemory
 
@@ -249,44 +241,26 @@ pub record HasNothing (walk : Walk) : Type 0 where
   pub others : walk.others.items ≡ []
   pub heads : walk.heads.items ≡ []
 
--- The records of a stream that stands are taken: it is held, and its name is one more.
-pub record HasTakenStanding (old new : Walk) (run : List Found) : Type 0 where
-  pub part : StreamParts
-  pub runs : is_run (names_in old.names) (without_slots run) ≡ true
-  pub names : names_in new.names ≡ names_in old.names ++ part.name ∷ []
-  pub held : IsHeldOf part run
-  pub done : new.done.items ≡ old.done.items ++ part ∷ []
-  pub others : new.others.items ≡ old.others.items
-  pub heads : new.heads.items ≡ old.heads.items
+-- a walk has more: names, streams that stand, and the slots of dropped ones' records, their own apart
+pub record HasMore (old new : Walk) (taken : List (List ℕ)) (parts : List StreamParts) (slots own_slots : List ℕ) : Type 0 where
+  pub names : names_in new.names ≡ names_in old.names ++ taken
+  pub done : new.done.items ≡ old.done.items ++ parts
+  pub others : new.others.items ≡ old.others.items ++ slots
+  pub heads : new.heads.items ≡ old.heads.items ++ own_slots
 
--- Those of a dropped stream are taken: its name is one more, and so are their slots, its own apart.
-pub record HasTakenDropped (old new : Walk) (run : List Found) : Type 0 where
-  pub head : Created
-  pub slot : ℕ
-  pub rest : List Found
-  pub split : run ≡ record { slot = slot; holds = records.Stream head.number head.name head.params true } ∷ rest
-  pub runs : is_run (names_in old.names) (without_slots run) ≡ true
-  pub names : names_in new.names ≡ names_in old.names ++ head.name ∷ []
-  pub done : new.done.items ≡ old.done.items
-  pub others : new.others.items ≡ old.others.items ++ slots_found rest
-  pub heads : new.heads.items ≡ old.heads.items ++ slot ∷ []
-
--- a stream that stands is put behind the others, and so are the slots of a dropped one's records
-pub record PutsStanding (old new : Walk) (part : StreamParts) : Type 0 where
-  pub names : new.names ≡ old.names
-  pub done : new.done.items ≡ old.done.items ++ part ∷ []
-  pub others : new.others.items ≡ old.others.items
-  pub heads : new.heads.items ≡ old.heads.items
-
-pub record PutsDropped (old new : Walk) (slot : ℕ) (rest : List Found) : Type 0 where
-  pub names : new.names ≡ old.names
-  pub done : new.done.items ≡ old.done.items
-  pub others : new.others.items ≡ old.others.items ++ slots_found rest
-  pub heads : new.heads.items ≡ old.heads.items ++ slot ∷ []
+-- a stream's own record and the others are taken: one that stands is held, and a dropped one's slots are kept
+abbrev pub TakesStream : Walk → Walk → ℕ → Record → List Found → Type 0
+TakesStream old new slot (records.Stream id name params true) rest = HasMore old new (name ∷ []) [] (slots_found rest) (slot ∷ [])
+TakesStream old new slot (records.Stream id name params false) rest =
+    (part : StreamParts) × IsHeldOf part slot (record { number = id; name = name; params = params }) rest
+    × HasMore old new (name ∷ []) (part ∷ []) [] []
+TakesStream old new slot _ rest = ⊥
 
 -- what the records of one number answer
 abbrev pub TakesAs : Walk → Walk → ℕ → List Found → Result ⊤ RecoverError → Type 0
-TakesAs old new id run (Ok done) = HasTakenStanding old new run ⊎ HasTakenDropped old new run
+TakesAs old new id [] (Ok done) = ⊥
+TakesAs old new id (f ∷ rest) (Ok done) =
+    (is_run (names_in old.names) (without_slots (f ∷ rest)) ≡ true) × TakesStream old new f.slot f.holds rest
 TakesAs old new id run (Err (BadStream n)) = (n ≡ id) × (is_run (names_in old.names) (without_slots run) ≡ false)
 TakesAs old new id run (Err OutOfMemory) = ⊤
 TakesAs old new id run (Err (BadSlot n)) = ⊥
@@ -303,15 +277,24 @@ pub record EndsWalk (walk : Walk) (parts : Parts) : Type 0 where
   pub of_others : IsPermutation others walk.others.items
   pub of_heads : IsPermutation heads walk.heads.items
 
--- The records from a place on that are of one number, with the first of them. Those behind them are of greater ones.
-pub record IsNextRun (all : List Found) (at n : ℕ) (run : List Found) : Type 0 where
+-- The first elements, whose number is this one, and those from the first other one on.
+abbrev pub front_of : {X : Type 0} → (X → ℕ) → ℕ → List X → List X
+front_of number n [] = []
+front_of number n (x ∷ xs) = if number x == n then x ∷ front_of number n xs else []
+
+abbrev pub back_of : {X : Type 0} → (X → ℕ) → ℕ → List X → List X
+back_of number n [] = []
+back_of number n (x ∷ xs) = if number x == n then back_of number n xs else x ∷ xs
+
+-- the number of a record that was found
+abbrev pub found_number : Found → ℕ
+found_number f = stream_of f.holds
+
+-- The first of some records and those of its number right behind it, with the number; and those from the first other one on.
+pub record IsNextRun (left : List Found) (n : ℕ) (run back : List Found) : Type 0 where
   pub first : Found
-  pub rest : List Found
-  pub is : run ≡ first ∷ rest
-  pub back : List Found
-  pub split : drop at all ≡ run ++ back
-  pub within : at + length run ≤ length all
-  pub some : 1 ≤ length run
-  pub usable : All (λ (f : Found). IsUsable f.holds) run
-  pub own : All (λ (f : Found). stream_of f.holds ≡ n) run
-  pub above : AllByRecursion (λ (f : Found). n < stream_of f.holds) back
+  pub tail : List Found
+  pub left_is : left ≡ first ∷ tail
+  pub number : n ≡ found_number first
+  pub run_is : run ≡ first ∷ front_of found_number n tail
+  pub back_is : back ≡ back_of found_number n tail

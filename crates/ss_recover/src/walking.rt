@@ -1,12 +1,12 @@
 // One walk over records in the order of their streams.
-ghost use Rattle.std.specs.Prelude.{◌≡◌, ◌≤◌, ◌<◌, ◌++◌, length, All, OnOk, IfOk, IfErr};
+ghost use Rattle.std.specs.Prelude.{◌≡◌, ◌≤◌, ◌<◌, ◌++◌, [], ◌∷◌, length, All, OnOk, IfOk, IfErr};
 ghost use Rattle.std.specs.List.{list_any};
 ghost use Rattle.ss_steps.specs.Steps.{IsFresh};
 ghost use Rattle.ss_model.specs.declared.types.TheConstants.{MOST_RECORDS};
 ghost use Rattle.ss_recover.specs.Doomed.{is_own};
 ghost use Rattle.ss_recover.specs.Order.{Rises, found_key, stream_of};
 ghost use Rattle.ss_recover.specs.Runs.{WalksAs, may_stand};
-ghost use Rattle.ss_recover.specs.Shown.{AddsName, EndsWalk, HasNothing, IsNextRun, PutsDropped, PutsStanding, TakesAs, names_in};
+ghost use Rattle.ss_recover.specs.Shown.{AddsName, EndsWalk, HasMore, HasNothing, IsNextRun, TakesAs, found_number, front_of, names_in};
 ghost use Rattle.ss_recover.specs.Usable.{IsUsable, slots_found, without_slots};
 ghost use Rattle.ss_recover.specs.declared.recover_error.RecoverError.TheVariants.{OutOfMemory};
 
@@ -113,7 +113,7 @@ impl Walk {
 
     // The slots of a dropped stream's records, its own and the others.
     fn put_dropped(&mut self, slot: u32, rest: &[Found]) -> Result<(), RecoverError>
-        ensures ok { OnOk result (PutsDropped self.old self.new slot rest.now) }
+        ensures ok { OnOk result (HasMore self.old self.new [] [] (slots_found rest.now) (slot ∷ [])) }
         ensures err { IfErr result (λ error. error ≡ OutOfMemory) }
     {
         if self.heads.push(slot).is_err() {
@@ -124,7 +124,7 @@ impl Walk {
 
     // A stream that stands.
     fn put_standing(&mut self, part: StreamParts) -> Result<(), RecoverError>
-        ensures ok { OnOk result (PutsStanding self.old self.new part) }
+        ensures ok { OnOk result (HasMore self.old self.new [] (part ∷ []) [] []) }
         ensures err { IfErr result (λ error. error ≡ OutOfMemory) }
     {
         if self.done.push(part).is_err() {
@@ -185,17 +185,30 @@ impl Walk {
     }
 }
 
-// The records from a place on that are of one stream, with its number.
-fn next_run(all: &[Found], at: usize) -> (u32, &[Found])
-    requires within { at < length all.now }
-    requires usable { All (λ f. IsUsable f.holds) all.now }
-    requires order { Rises found_key all.now }
-    ensures { IsNextRun all.now at result.0 result.1.now }
+// How many of the first records are of the stream of a number.
+fn own_len(id: u32, found: &[Found]) -> usize
+    ensures { result ≡ length (front_of found_number id found.now) }
 {
-    let rest = &all[at..];
-    let id = stream_of(&rest[0].holds);
-    let len = rest.partition_point(|found| stream_of(&found.holds) <= id);
-    (id, &rest[..len])
+    for at in 0..found.len() {
+        if stream_of(&found[at].holds) != id {
+            return at;
+        }
+    }
+    found.len()
+}
+
+// The number of the first record's stream, the records of this stream, and those behind them.
+fn next_run(left: &[Found]) -> (u32, &[Found], &[Found])
+    requires some { 0 < length left.now }
+    requires usable { All (λ f. IsUsable f.holds) left.now }
+    ensures next { IsNextRun left.now result.0 result.1.now result.2.now }
+    ensures usable { All (λ f. IsUsable f.holds) result.1.now }
+    ensures own { All (λ f. stream_of f.holds ≡ result.0) result.1.now }
+    ensures few { length result.1.now ≤ length left.now }
+{
+    let id = stream_of(&left[0].holds);
+    let (run, back) = left.split_at(own_len(id, left));
+    (id, run, back)
 }
 
 // The streams that some records carry, which come in the order of their streams.
@@ -212,11 +225,11 @@ pub fn streams_of<L: Ledger>(
 {
     let mut steps = Steps::<L>::new(blank);
     let mut walk = Walk::new(alloc);
-    let mut at = 0;
-    while at < all.len() {
-        let (id, run) = next_run(all, at);
+    let mut left = all;
+    while !left.is_empty() {
+        let (id, run, back) = next_run(left);
         walk.take(alloc, id, run, &mut steps)?;
-        at += run.len();
+        left = back;
     }
     walk.end()
 }

@@ -20,12 +20,7 @@ returns g c =
       and_from (has_sound_values_in_order (without_slots rest) c.args.id) (keep_step (step_number c.args.params.within) ws)
           (and_from (tile ws && times_rise ws && are_marks ms) (list_all (lies_free (landmarks_made ms)) ws)
           (and_from (tile ws && times_rise ws) (are_marks ms) (and_from (tile ws) (times_rise ws) tiles rises) are) free) keeps,
-      refl,
       record {
-        head = record { number = c.args.id; name = c.args.name; params = c.args.params };
-        slot = c.args.slot;
-        rest = rest;
-        split = refl;
         id = refl;
         name = refl;
         params = c.in-Ok.ensures.params;

@@ -1,20 +1,56 @@
-use Rattle.ss_recover.proofs.Common.{◌-◌, ◌<◌, ◌∙◌, ◌≤◌, ap, drop, Found, IsPartitionedBy-leb, IsPartitionPoint-from_clause, leb, leb-false, leb-true, length}
-use Rattle.ss_recover.proofs.Common.{rules, stream_of, sym, take, take_rest, ℕ}
-use Rattle.ss_recover.proofs.RunSound.{all-dropped, all-taken, IsNextRun-from, Rises-pairs, sliced-rises}
+use Rattle.ss_recover.proofs.Common.{[], ◌<◌, ◌∙◌, ◌∷◌, ◌≡◌, ◌≤◌, All, All-from_recursion, ap, ap₂, arith, back_of, cond-true, drop, drop-append_seam, eq-eqb}
+use Rattle.ss_recover.proofs.Common.{Found, found_number, front_of, get_or, IsNextRun, length, length-append, List, refl, stream_of, subst, sym, take}
+use Rattle.ss_recover.proofs.Common.{take-append_seam, ℕ}
+use Rattle.ss_recover.proofs.RunSound.{front-back, front-own}
 use Rattle.ss_recover.proofs.walking.next_run.Goals as goal
 
-pub returns : goal.returns
-returns c =
-    let all = c.args.all.now in
-    let at = c.args.at in
-    let x = c.index-rest-0.result in
-    let id = c.stream_of-id.result in
-    let rest = take (length all - at) (drop at all) in
-    let of : Found → ℕ = λ f. stream_of f.holds in
-    let point = IsPartitionPoint-from_clause (λ (f : Found). leb (of f) id) rest _ c.partition_point-len.ensures.partitioned
-    (IsPartitionedBy-leb of rest id (Rises-pairs of rest (sliced-rises all rest at (take_rest all at) c.requires.order c.requires.usable)))
-    (λ x r q k. search rules) in
-    IsNextRun-from all rest at c.partition_point-len.result id x c.requires.within (take_rest all at) c.partition_point-len.ensures.bound
-    c.index-rest-0.is c.requires.order c.requires.usable (c.stream_of-id.ensures ∙ ap of (sym c.index-rest-0.is))
-    (all-taken (λ f. of f ≤ id) rest c.partition_point-len.result c.partition_point-len.ensures.bound (λ k d low lt. leb-true _ _ (point.0 k d low lt)))
-    (all-dropped (λ f. id < of f) rest c.partition_point-len.result (λ k d le lt. leb-false _ _ (point.1 k d le lt)))
+-- the first records are those of the number, where they are as many
+module _ (left : List Found) (n len : ℕ) (long : len ≡ length (front_of found_number n left)) where
+  abbrev front : List Found
+  front = front_of found_number n left
+
+  abbrev back : List Found
+  back = back_of found_number n left
+
+  left-long : len ≤ length left
+  left-long = omega (arith, long, length-append front back, ap (λ (l : List Found). length l) (front-back found_number n left))
+
+  left-front : take len left ≡ front
+  left-front = ap₂ (λ (k : ℕ) (l : List Found). take k l) long (sym (front-back found_number n left)) ∙ take-append_seam front back
+
+  left-back : drop len left ≡ back
+  left-back = ap₂ (λ (k : ℕ) (l : List Found). drop k l) long (sym (front-back found_number n left)) ∙ drop-append_seam front back
+
+next-from : (left : List Found) (n len : ℕ) (x : Found) → 0 < length left → x ≡ get_or left 0 x → n ≡ found_number x →
+    len ≡ length (front_of found_number n left) → IsNextRun left n (take len left) (drop len left)
+next-from [] n len x some at number long = absurd (omega (arith, some))
+next-from (y ∷ ys) n len x some at number long =
+    let same : n ≡ found_number y = number ∙ ap found_number at in
+    let own = eq-eqb (found_number y) n (sym same) in
+    record {
+      first = y;
+      tail = ys;
+      left_is = refl;
+      number = same;
+      run_is = left-front (y ∷ ys) n len long ∙ cond-true _ _ _ own;
+      back_is = left-back (y ∷ ys) n len long ∙ cond-true _ _ _ own;
+    }
+
+pub split_at-requires : goal.split_at-requires
+split_at-requires c = left-long c.args.left.now c.stream_of-id.result c.own_len.result c.own_len.ensures
+
+pub returns-clause-next : goal.returns-clause-next
+returns-clause-next c =
+    let left = c.args.left.now in
+    let n = c.stream_of-id.result in
+    let x = c.index-left-0.result in
+    subst (λ run. IsNextRun left n run c.split_at.result.1.now) (sym c.split_at.ensures.front) (subst (IsNextRun left n (take c.own_len.result left))
+    (sym c.split_at.ensures.back) (next-from left n c.own_len.result x c.requires.some c.index-left-0.is
+    (c.stream_of-id.ensures ∙ ap found_number (sym c.index-left-0.is)) c.own_len.ensures))
+
+pub returns-clause-own : goal.returns-clause-own
+returns-clause-own c =
+    let left = c.args.left.now in
+    let n = c.stream_of-id.result in
+    subst (All (λ (f : Found). stream_of f.holds ≡ n)) (sym (c.split_at.ensures.front ∙ left-front left n c.own_len.result c.own_len.ensures))
+    (All-from_recursion (λ (f : Found). stream_of f.holds ≡ n) (front_of found_number n left) (front-own found_number n left))
