@@ -2,18 +2,18 @@
 -- map carries is a state.
 use Rattle.ss_recover.proofs.Common.{[], ◌++◌, ◌==◌, ◌∙◌, ◌∷◌, ◌≡◌, ◌≤◌, All-from_recursion, All-permutation, AllByRecursion, ap, ap₂, AreBuilt, arith, Bool}
 use Rattle.ss_recover.proofs.Common.{carries, cons_option, count_by-le-length, doomed_found, each-behind, false, filter, filter_map, filter_map-append}
-use Rattle.ss_recover.proofs.Common.{flat_map, Found, found_key, Free, GoInTurn, in_order, is_dropped, is_of, is_sound_in_order, IsPermutation}
+use Rattle.ss_recover.proofs.Common.{flat_map, Found, found_key, found_number, Free, GoInTurn, in_order, is_dropped, is_of, is_sound_in_order, IsPermutation}
 use Rattle.ss_recover.proofs.Common.{IsPermutation-append_left, IsPermutation-append_right, IsPermutation-map, IsPermutation-sym, IsPermutation-trans, IsState}
-use Rattle.ss_recover.proofs.Common.{IsUsable, key_of, length, length-filter, length_permutation, List, list_any, list_any-IsPermutation, lowest_bad_slot}
-use Rattle.ss_recover.proofs.Common.{lowest_bad_stream, map, MOST_RECORDS, MOST_SLOTS, ne_eqb, None, Option, Parts, Record, records_beside, records_held}
-use Rattle.ss_recover.proofs.Common.{records_in, recursion_from_All, refl, SlotMap, Stream, stream_number, stream_of, streams_carried, subst, sym, true}
-use Rattle.ss_recover.proofs.Common.{true≢false, with_slot, without_slots, zip, ℕ}
+use Rattle.ss_recover.proofs.Common.{IsUsable, key_of, length, length-filter, length-map, length_permutation, List, list_any, list_any-IsPermutation}
+use Rattle.ss_recover.proofs.Common.{lowest_bad_slot, lowest_bad_stream, map, map-id, map-map, MOST_RECORDS, MOST_SLOTS, ne_eqb, None, Option, Parts, Record}
+use Rattle.ss_recover.proofs.Common.{records_beside, records_held, records_in, recursion_from_All, refl, SlotMap, Stream, stream_number, stream_of}
+use Rattle.ss_recover.proofs.Common.{streams_carried, streams_made, subst, sym, true, true≢false, with_slot, without_slots, zip, ℕ}
 use Rattle.ss_recover.specs.Conditions.{is_sound}
 use Rattle.ss_recover.proofs.DoomedLemmas.{beside-found, doomed_found-moved, each-IsGone, IsGone, standing-kept}
 use Rattle.ss_recover.proofs.DoomedLemmas.{doomed-go}
 use Rattle.ss_recover.proofs.HeldRecords.{all-all_walked, all_walked, each-number, IsPermutation-all_walked, records_in-Some, records_of_streams, second-held}
 use Rattle.ss_recover.proofs.InOrder.{all-in_order, IsPermutation-in_order, map-in_order, Rises-in_order}
-use Rattle.ss_recover.proofs.Lists.{all_weaker}
+use Rattle.ss_recover.proofs.Lists.{all_weaker, map-all}
 use Rattle.ss_recover.proofs.Permutations.{IsPermutation-filter_map}
 use Rattle.ss_recover.proofs.SoundNumbers.{AreSound, AreSound-none_bad, carries-judged, is_sound-made, streams_carried-made}
 use Rattle.ss_recover.proofs.SoundStreams.{none-passes}
@@ -119,19 +119,32 @@ numbers-used P [] all = tt
 numbers-used P (Free ∷ rs) all = numbers-used P rs all
 numbers-used P (_ ∷ rs) all = (all.0, numbers-used P rs all.1)
 
--- where each number is sound, the records in order make the streams that they carry
+-- where each number is sound, the records in order make the streams that they carry. Which slots they are in doesn't matter.
 IsState-carried : (rs : List Record) → AreSound rs (filter_map stream_number rs) → AllByRecursion IsFine rs →
     length rs ≤ MOST_RECORDS → IsState (streams_carried rs)
 IsState-carried rs sound fine most =
     let us = filter is_used rs in
-    let qs : List Record = in_order key_of us in
     let used : (Y : Type 0) (f : Record → Option Y) → f Free ≡ None → filter_map f rs ≡ filter_map f us = λ Y f free. sym (made-used f free rs) in
-    let same : (n : ℕ) → is_sound rs n ≡ is_sound_in_order qs n = λ n. is_sound-made rs us used n ∙ is_sound-in_order us n in
-    let each = all-in_order key_of (λ r. is_sound_in_order qs (stream_of r) ≡ true) us (all_weaker _ _ (λ r is. sym (same (stream_of r)) ∙ is) us
-    (numbers-used (λ n. is_sound rs n ≡ true) rs sound)) in
-    let few : length qs ≤ MOST_RECORDS = omega (arith, most, length_permutation us qs (IsPermutation-in_order key_of us), length-filter is_used rs, count_by-le-length is_used rs) in
-    subst IsState (sym (streams_carried-made rs us used ∙ streams_carried-in_order us))
-    (IsState-sound qs (all-in_order key_of IsUsable us (usable-used rs fine)) (Rises-in_order key_of us) each few)
+    let at : Record → Found = λ r. record { slot = 0; holds = r } in
+    let all = in_order found_key (map at us) in
+    let records : without_slots all ≡ in_order key_of us =
+    map-in_order key_of (λ (f : Found). f.holds) (map at us) ∙ ap (in_order key_of) (map-map (λ (f : Found). f.holds) at us ∙ map-id us) in
+    let same : (n : ℕ) → is_sound rs n ≡ is_sound_in_order (without_slots all) n =
+    λ n. is_sound-made rs us used n ∙ is_sound-in_order us n ∙ ap (λ l. is_sound_in_order l n) (sym records) in
+    let each = all-in_order found_key (λ f. is_sound_in_order (without_slots all) (found_number f) ≡ true) (map at us) (map-all _ at us (all_weaker _ _
+    (λ r is. sym (same (stream_of r)) ∙ is) us (numbers-used (λ n. is_sound rs n ≡ true) rs sound))) in
+    let few : length all ≤ MOST_RECORDS =
+    omega (
+      arith,
+      most,
+      length_permutation (map at us) all (IsPermutation-in_order found_key (map at us)),
+      length-map us at,
+      length-filter is_used rs,
+      count_by-le-length is_used rs,
+    ) in
+    subst IsState (sym (streams_carried-made rs us used ∙ streams_carried-in_order us ∙ ap (λ l. streams_made l l) (sym records)))
+    (IsState-sound all (all-in_order found_key (λ f. IsUsable f.holds) (map at us) (map-all _ at us (usable-used rs fine))) (Rises-in_order found_key (map at us))
+    (map-all _ (λ (f : Found). f.holds) all each) few)
 
 pub IsState-carries : (found : SlotMap) (streams : List Stream) → found.extent ≤ MOST_SLOTS → carried found ≡ carries streams → IsState streams
 unfolding carried

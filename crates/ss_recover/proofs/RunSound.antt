@@ -1,13 +1,14 @@
 -- The records of a number are sound, among those of others, where they are a run.
-use Rattle.ss_recover.proofs.Common.{[], ◌&&◌, ◌*◌, ◌++◌, ◌+◌, ◌<◌, ◌==◌, ◌^◌, ◌||◌, ◌∙◌, ◌∷◌, ◌≡◌, ◌≤◌, AllByRecursion, and_parts, and_right, ap, append-nil}
-use Rattle.ss_recover.proofs.Common.{ap₂, are_marks, arith, back_of, Bool, cases_Bool, cond_both, Created, created_by, each-front, eq-eqb, eqb-true, false}
-use Rattle.ss_recover.proofs.Common.{filter-append, filter_map, filter_map-append, Free, front_of, has_new_name, has_one_record, has_place}
-use Rattle.ss_recover.proofs.Common.{has_sound_values_in_order, has_sound_values_within, inl, inr, is_drop_of, is_dropped, is_mark_of, is_own, is_run}
-use Rattle.ss_recover.proofs.Common.{is_sound_in_order, IsUsable, keep_own_step, keep_step, key_of, landmarks_made, length, length-map, lies_free}
-use Rattle.ss_recover.proofs.Common.{List, list_all, list_any, list_any-append, map, marks_in, MOST_STREAMS, nat_lt, nat_tests, ne_eqb, not, not-true}
-use Rattle.ss_recover.proofs.Common.{or-false, or_from, place_of, Record, refl, Rises, same_name, step_number, stream_of, streams_created, subst, sym}
-use Rattle.ss_recover.proofs.Common.{tile, times_rise, true, Value, Window, window_of, window_record, windows_in, ℕ}
-use Rattle.ss_recover.proofs.Lists.{all_append, all_both, all_weaker}
+use Rattle.ss_recover.proofs.Common.{[], ◌&&◌, ◌*◌, ◌++◌, ◌+◌, ◌<◌, ◌==◌, ◌^◌, ◌||◌, ◌∙◌, ◌∷◌, ◌≡◌, ◌≤◌, AllByRecursion, and-true, and_parts, and_right, ap}
+use Rattle.ss_recover.proofs.Common.{append-nil, ap₂, are_marks, arith, Bool, cases_Bool, cond_both, Created, created_by, drop, each-behind, each-front}
+use Rattle.ss_recover.proofs.Common.{eq-eqb, eqb-true, false, filter-append, filter_map, filter_map-append, Found, found_key, found_number, Free, has_new_name}
+use Rattle.ss_recover.proofs.Common.{has_one_record, has_place, has_sound_values_in_order, has_sound_values_within, inl, inr, is_drop_of, is_dropped}
+use Rattle.ss_recover.proofs.Common.{is_mark_of, is_own, is_run, is_sound_in_order, IsUsable, keep_own_step, keep_step, landmarks_made, length}
+use Rattle.ss_recover.proofs.Common.{length-map, lies_free, List, list_all, list_any, list_any-append, map, map-append, marks_in, MOST_STREAMS, nat_lt}
+use Rattle.ss_recover.proofs.Common.{nat_tests, ne_eqb, not, not-true, or-false, or_from, own_len, place_of, Record, refl, Rises, same_name, step_number}
+use Rattle.ss_recover.proofs.Common.{stream_of, streams_created, subst, suc, sym, take, take-append-drop, tile, times_rise, true, Value, Window}
+use Rattle.ss_recover.proofs.Common.{window_of, window_record, windows_in, without_slots, ℕ}
+use Rattle.ss_recover.proofs.Lists.{all_append, all_both, all_weaker, map-all}
 use Rattle.ss_codec.specs.declared.record.Record.TheVariants as records
 use Rattle.ss_recover.proofs.SoundStreams.{own_step-one, own_step-parts, count-at, count-below, new-name}
 
@@ -25,64 +26,54 @@ key-place : (a b p q : ℕ) → a * 2 ^ 65 + p ≤ b * 2 ^ 65 + q → b ≡ a �
 key-place a b p q le same = let same' : b * 2 ^ 65 ≡ a * 2 ^ 65 = ap (λ (n : ℕ). n * 2 ^ 65) same in omega (arith, le, same')
 
 -- their streams rise, and in one stream their places
-streams-rise : (rs : List Record) → Rises key_of rs → AllByRecursion IsUsable rs → Rises stream_of rs
+streams-rise : (fs : List Found) → Rises found_key fs → AllByRecursion (λ f. IsUsable f.holds) fs → Rises found_number fs
 streams-rise [] rises usable = tt
-streams-rise (r ∷ rs) rises usable = (
-  all_both _ _ _ (λ q le small. key-le (stream_of r) (stream_of q) (place_of r) (place_of q) (place-below r usable.0) (place-below q small) le) rs rises.0
-      usable.1,
-  streams-rise rs rises.1 usable.1,
+streams-rise (f ∷ fs) rises usable = (
+  all_both _ _ _ (λ g le small. key-le (found_number f) (found_number g) (place_of f.holds) (place_of g.holds) (place-below f.holds usable.0)
+      (place-below g.holds small) le) fs rises.0 usable.1,
+  streams-rise fs rises.1 usable.1,
 )
 
-places-rise : (n : ℕ) (rs : List Record) → Rises key_of rs → AllByRecursion (λ r. stream_of r ≡ n) rs → Rises place_of rs
+places-rise : (n : ℕ) (fs : List Found) → Rises found_key fs → AllByRecursion (λ f. found_number f ≡ n) fs → Rises place_of (without_slots fs)
 places-rise n [] rises own = tt
-places-rise n (r ∷ rs) rises own = (
-  all_both _ _ _ (λ q le is. key-place (stream_of r) (stream_of q) (place_of r) (place_of q) le (is ∙ sym own.0)) rs rises.0 own.1,
-  places-rise n rs rises.1 own.1,
+places-rise n (f ∷ fs) rises own = (
+  map-all _ _ fs
+      (all_both _ _ _ (λ g le is. key-place (found_number f) (found_number g) (place_of f.holds) (place_of g.holds) le (is ∙ sym own.0)) fs rises.0 own.1),
+  places-rise n fs rises.1 own.1,
 )
 
 pub Rises-parts : {X : Type 0} (key : X → ℕ) (xs ys : List X) → Rises key (xs ++ ys) → Rises key xs × Rises key ys
 Rises-parts key [] ys rises = (tt, rises)
 Rises-parts key (x ∷ xs) ys rises = let rest = Rises-parts key xs ys rises.1 in ((each-front _ xs ys rises.0, rest.0), rest.1)
 
--- the first elements of a list that are of a number, and those behind them
-module _ {X : Type 0} (number : X → ℕ) (n : ℕ) where
-  pub front-back : (xs : List X) → front_of number n xs ++ back_of number n xs ≡ xs
-  front-back [] = refl
-  front-back (x ∷ xs) = elim (cases_Bool (number x == n)) [
-    | inl is ↦ rw is (ap (λ l. x ∷ l) (front-back xs))
-    | inr other ↦ rw other refl
-  ]
+-- the first records that are of a number, and those behind them
+module _ (n : ℕ) where
+  pub own-taken : (fs : List Found) → AllByRecursion (λ f. found_number f ≡ n) (take (own_len n fs) fs)
+  own-taken [] = tt
+  own-taken (f ∷ fs) =
+      cond_both (found_number f == n) (suc (own_len n fs)) 0 (λ (k : ℕ). AllByRecursion (λ g. found_number g ≡ n) (take k (f ∷ fs)))
+      (λ is. (eqb-true _ _ is, own-taken fs)) (λ other. tt)
 
-  pub front-own : (xs : List X) → AllByRecursion (λ x. number x ≡ n) (front_of number n xs)
-  front-own [] = tt
-  front-own (x ∷ xs) =
-      cond_both (number x == n) (x ∷ front_of number n xs) [] (AllByRecursion (λ y. number y ≡ n)) (λ is. (eqb-true _ _ is, front-own xs)) (λ other. tt)
-
-  pub back-above : (xs : List X) → AllByRecursion (λ x. n ≤ number x) xs → Rises number xs → AllByRecursion (λ x. n < number x) (back_of number n xs)
-  back-above [] low rises = tt
-  back-above (x ∷ xs) low rises =
-      cond_both (number x == n) (back_of number n xs) (x ∷ xs) (AllByRecursion (λ y. n < number y)) (λ is. back-above xs low.1 rises.1) (λ other.
+  above-dropped : (fs : List Found) → AllByRecursion (λ f. n ≤ found_number f) fs → Rises found_number fs →
+      AllByRecursion (λ f. n < found_number f) (drop (own_len n fs) fs)
+  above-dropped [] low rises = tt
+  above-dropped (f ∷ fs) low rises =
+      cond_both (found_number f == n) (suc (own_len n fs)) 0 (λ (k : ℕ). AllByRecursion (λ g. n < found_number g) (drop k (f ∷ fs)))
+      (λ is. above-dropped fs low.1 rises.1) (λ other.
       let least = low.0 in
-      let above : n < number x = grind (arith, nat_tests) in
-      (above, all_weaker _ _ (λ y le. omega (arith, above, le)) xs rises.0))
+      let above : n < found_number f = grind (arith, nat_tests) in
+      (above, all_weaker _ _ (λ g le. omega (arith, above, le)) fs rises.0))
 
--- of what is made of each
-module _ {X Y : Type 0} (h : X → Y) (number : Y → ℕ) (n : ℕ) where
-  pub map-front_of : (xs : List X) → map h (front_of (λ x. number (h x)) n xs) ≡ front_of number n (map h xs)
-  map-front_of [] = refl
-  map-front_of (x ∷ xs) = elim (cases_Bool (number (h x) == n)) [
-    | inl is ↦ rw is (ap (λ l. h x ∷ l) (map-front_of xs))
-    | inr other ↦ rw other refl
-  ]
-
-  pub map-back_of : (xs : List X) → map h (back_of (λ x. number (h x)) n xs) ≡ back_of number n (map h xs)
-  map-back_of [] = refl
-  map-back_of (x ∷ xs) = elim (cases_Bool (number (h x) == n)) [
-    | inl is ↦ rw is (map-back_of xs)
-    | inr other ↦ rw other refl
-  ]
+  pub own-within : (fs : List Found) → own_len n fs ≤ length fs
+  own-within [] = omega arith
+  own-within (f ∷ fs) =
+      cond_both (found_number f == n) (suc (own_len n fs)) 0 (λ (k : ℕ). k ≤ suc (length fs)) (λ is. omega (arith, own-within fs)) (λ other. omega arith)
 
 -- ---- the records of a number are sound, among those of others, where they are a run
+
+-- the names of the streams that records create
+abbrev pub names_created : List Record → List (List ℕ)
+names_created rs = map (λ (c : Created). c.name) (streams_created rs)
 
 -- the windows and the records of landmarks of a number
 abbrev windows : ℕ → List Record → List Window
@@ -144,24 +135,12 @@ own-created rs c cs is =
       | inr none ↦ (let empty = own-alone rs none in absurd (cc))
     ]
 
-joined : (a b t w : Bool) → a ≡ true → ((b && t) && w) ≡ (a && b && t && w)
-joined true true t w is = refl
-joined true false t w is = refl
-joined false b t w is = cc
-
-never : (a b t w : Bool) → a ≡ false → (a && b && t && w) ≡ false
-never false b t w is = refl
-never true b t w is = cc
-
 -- what is asked of a run whose first record alone is a stream's own
 asked : (dropped same drops own values : Bool) → same ≡ true → drops ≡ false → own ≡ false →
     (((dropped && same) || drops) || values) ≡ (not own && (dropped || values))
-asked true true drops false values a b c = refl
-asked true true drops true values a b c = cc
-asked true false drops own values a b c = cc
-asked false same false false values a b c = refl
-asked false same false true values a b c = cc
-asked false same true own values a b c = cc
+asked dropped same drops own values a b c =
+    (λ i. ((dropped && a i) || b i) || values) ∙ ap (λ x. x || values) (or-false (dropped && true) ∙ and-true dropped)
+    ∙ ap (λ o. not o && (dropped || values)) (sym c)
 
 -- Records of lower numbers, those of a number, and those of greater ones.
 module _ (front run back : List Record) (n : ℕ) (lower : AllByRecursion (λ r. stream_of r < n) front) (own : AllByRecursion (λ r. stream_of r ≡ n) run)
@@ -231,103 +210,121 @@ module _ (front run back : List Record) (n : ℕ) (lower : AllByRecursion (λ r.
       && (is_dropped n run || (has_sound_values_in_order run n && keep i)))
 
   sound-never : (length here ≡ 1 → ⊥) → is_sound_in_order all n ≡ false
-  sound-never other = sound-parts ∙ never _ _ _ _ (ne_eqb (length here) 1 other)
+  sound-never other =
+      sound-parts ∙ ap (λ b. b && nat_lt (length cs) MOST_STREAMS && has_new_name n (cs ++ (here ++ later)) && (is_dropped n run || meets_values))
+      (ne_eqb (length here) 1 other)
 
 -- the records of a number are sound where they are a run
-is_run-sound : (front run back : List Record) (n : ℕ) → AllByRecursion (λ r. stream_of r < n) front → AllByRecursion (λ r. stream_of r ≡ n) run →
-    AllByRecursion (λ r. n < stream_of r) back → AllByRecursion IsUsable run → Rises place_of run → 1 ≤ length run →
-    is_sound_in_order (front ++ (run ++ back)) n ≡ is_run (map (λ (c : Created). c.name) (streams_created front)) run
-is_run-sound front [] back n lower own above usable rises some = absurd (omega (arith, some))
-is_run-sound front (records.Free ∷ rest) back n lower own above usable rises some = absurd usable.0
-is_run-sound front (records.Window id first summary ∷ rest) back n lower own above usable rises some =
-    let r = records.Window id first summary in
-    let none = none-created rest (all_weaker _ _ (λ q le. omega (arith, le)) rest rises.0) in
-    sound-never front (r ∷ rest) back n lower own above (λ one. absurd (omega (arith, one, ap (λ (l : List Created). length l) none)))
-is_run-sound front (records.Stream id name params dropped ∷ rest) back n lower own above usable rises some =
+is_run-sound : (front : List Record) (r : Record) (rest back : List Record) → AllByRecursion (λ q. stream_of q < stream_of r) front →
+    AllByRecursion (λ q. stream_of q ≡ stream_of r) rest → AllByRecursion (λ q. stream_of r < stream_of q) back → AllByRecursion IsUsable (r ∷ rest) →
+    Rises place_of (r ∷ rest) → is_sound_in_order (front ++ ((r ∷ rest) ++ back)) (stream_of r) ≡ is_run (names_created front) (r ∷ rest)
+is_run-sound front records.Free rest back lower own above usable rises = absurd usable.0
+is_run-sound front (records.Stream id name params dropped) rest back lower own above usable rises =
     let r = records.Stream id name params dropped in
     let c : Created = record { number = id; name = name; params = params } in
-    let names = map (λ (o : Created). o.name) (streams_created front) in
-    let may = nat_lt (length names) MOST_STREAMS && not (list_any (same_name name) names) in
-    elim (streams_created rest) as (λ us. streams_created rest ≡ us → is_sound_in_order (front ++ ((r ∷ rest) ++ back)) n ≡ is_run names (r ∷ rest)) [
+    let cs = streams_created front in
+    let later = streams_created back in
+    let names = names_created front in
+    elim (streams_created rest) as (λ us. streams_created rest ≡ us → is_sound_in_order (front ++ ((r ∷ rest) ++ back)) id ≡ is_run names (r ∷ rest)) [
       | [] ↦ λ none.
-          let few : length names ≡ length (streams_created front) = length-map (streams_created front) (λ (o : Created). o.name) in
-          let new : has_new_name n (streams_created front ++ ((c ∷ streams_created rest) ++ streams_created back)) ≡ not (list_any (same_name name) names) =
-          ap (λ us. has_new_name n (streams_created front ++ ((c ∷ us) ++ streams_created back))) none
-          ∙ new-name (streams_created front) (c ∷ []) (streams_created back) n (cs-below front (r ∷ rest) back n lower own above) (own.0, tt)
-          (later-above front (r ∷ rest) back n lower own above) c own.0 in
-          let keep : keep_own_step n (c ∷ streams_created rest) (windows n rest) ≡ keep_step (step_number params.within) (windows n rest) =
-          ap (λ us. keep_own_step n (c ∷ us) (windows n rest)) none ∙ own_step-one n (windows n rest) c own.0 in
-          let values = has_sound_values_in_order rest n && keep_own_step n (c ∷ streams_created rest) (windows n rest) in
-          let last = asked dropped (id == n) (is_dropped n rest) (list_any is_own rest) values (eq-eqb id n own.0) (alone-drops n rest none)
-          (alone-own rest none) in
-          sound-parts front (r ∷ rest) back n lower own above
-          ∙ sym (joined (length (c ∷ streams_created rest) == 1) (nat_lt (length (streams_created front)) MOST_STREAMS)
-          (has_new_name n (streams_created front ++ ((c ∷ streams_created rest) ++ streams_created back))) (is_dropped n (r ∷ rest) || values)
-          (ap (λ (l : List Created). length (c ∷ l) == 1) none)) ∙ (λ i. (nat_lt (sym few i) MOST_STREAMS && new i) && last i)
-          ∙ ap (λ b. may && (not (list_any is_own rest) && (dropped || (has_sound_values_in_order rest n && b)))) keep
-          ∙ ap (λ k. may && (not (list_any is_own rest) && (dropped || has_sound_values_within (step_number params.within) rest k))) (sym own.0)
+          let few : length (c ∷ streams_created rest) ≡ 1 = ap (λ (l : List Created). length (c ∷ l)) none in
+          let new : has_new_name id (cs ++ ((c ∷ streams_created rest) ++ later)) ≡ not (list_any (same_name name) names) =
+          ap (λ us. has_new_name id (cs ++ ((c ∷ us) ++ later))) none
+          ∙ new-name cs (c ∷ []) later id (cs-below front (r ∷ rest) back id lower (refl, own) above) (refl, tt)
+          (later-above front (r ∷ rest) back id lower (refl, own) above) c refl in
+          let keep : keep_own_step id (c ∷ streams_created rest) (windows id rest) ≡ keep_step (step_number params.within) (windows id rest) =
+          ap (λ us. keep_own_step id (c ∷ us) (windows id rest)) none ∙ own_step-one id (windows id rest) c refl in
+          sound-parts front (r ∷ rest) back id lower (refl, own) above
+          ∙ (λ i. (few i == 1) && nat_lt (sym (length-map cs (λ (o : Created). o.name)) i) MOST_STREAMS && new i
+          && (((dropped && eq-eqb id id refl i) || is_dropped id rest) || (has_sound_values_in_order rest id && keep i)))
+          ∙ ap (λ b. nat_lt (length names) MOST_STREAMS && not (list_any (same_name name) names) && b) (asked dropped true (is_dropped id rest)
+          (list_any is_own rest) (has_sound_values_within (step_number params.within) rest id) refl (alone-drops id rest none) (alone-own rest none))
       | u ∷ us ↦ λ is.
-          sound-never front (r ∷ rest) back n lower own above (λ one. absurd (omega (arith, one, ap (λ (l : List Created). length l) is))) ∙ sym (and_right _ _
-          (ap (λ b. not b && (dropped || has_sound_values_within (step_number params.within) rest id)) (own-created rest u us is)))
+          sound-never front (r ∷ rest) back id lower (refl, own) above (λ one. absurd (omega (arith, one, ap (λ (l : List Created). length l) is)))
+          ∙ sym (and_right _ _ (ap (λ b. not b && (dropped || has_sound_values_within (step_number params.within) rest id)) (own-created rest u us is)))
     ] refl
-is_run-sound front (x ∷ rest) back n lower own above usable rises some =
+is_run-sound front r rest back lower own above usable rises =
     let low = usable.0.0 in
     let none = none-created rest (all_weaker _ _ (λ q le. omega (arith, le, low)) rest rises.0) in
-    sound-never front (x ∷ rest) back n lower own above (λ one. absurd (omega (arith, one, ap (λ (l : List Created). length l) none)))
-
--- Among all records those of one number, from the first of them on, behind those of lower numbers and before those of greater ones.
-pub record IsRun (us front : List Record) (r : Record) (rest back : List Record) : Type 0 where
-  pub whole : us ≡ front ++ ((r ∷ rest) ++ back)
-  pub lower : AllByRecursion (λ q. stream_of q < stream_of r) front
-  pub own : AllByRecursion (λ q. stream_of q ≡ stream_of r) rest
-  pub above : AllByRecursion (λ q. stream_of r < stream_of q) back
-  pub usable : AllByRecursion IsUsable (r ∷ rest)
-  pub rises : Rises place_of (r ∷ rest)
+    sound-never front (r ∷ rest) back (stream_of r) lower (refl, own) above (λ one. absurd (omega (arith, one, ap (λ (l : List Created). length l) none)))
 
 -- each record of a list is of a lower number than each of another one
-abbrev pub AreBefore : List Record → List Record → Type 0
-AreBefore front back = AllByRecursion (λ q. AllByRecursion (λ r. stream_of r < stream_of q) front) back
+abbrev pub AreBefore : List Found → List Found → Type 0
+AreBefore front back = AllByRecursion (λ g. AllByRecursion (λ f. found_number f < found_number g) front) back
+
+-- Among all records those of one number, from the first of them on, behind those of lower numbers and before those of greater ones.
+pub record IsRun (all front : List Found) (f : Found) (rest back : List Found) : Type 0 where
+  pub whole : all ≡ front ++ ((f ∷ rest) ++ back)
+  pub lower : AllByRecursion (λ g. found_number g < found_number f) front
+  pub own : AllByRecursion (λ g. found_number g ≡ found_number f) rest
+  pub above : AllByRecursion (λ g. found_number f < found_number g) back
+  pub usable : AllByRecursion (λ g. IsUsable g.holds) (f ∷ rest)
+  pub rises : Rises place_of (without_slots (f ∷ rest))
 
 -- the next ones, where records of lower numbers came
-pub next-run : (us front : List Record) (r : Record) (tail : List Record) → us ≡ front ++ r ∷ tail → AreBefore front (r ∷ tail) →
-    AllByRecursion IsUsable (r ∷ tail) → Rises key_of (r ∷ tail) →
-    IsRun us front r (front_of stream_of (stream_of r) tail) (back_of stream_of (stream_of r) tail)
-next-run us front r tail whole before usable order =
-    let n = stream_of r in
-    let rest = front_of stream_of n tail in
-    let back = back_of stream_of n tail in
-    let own = front-own stream_of n tail in
-    let split = front-back stream_of n tail in
-    let rising = streams-rise (r ∷ tail) order usable in
-    let sorted : Rises key_of (r ∷ (rest ++ back)) = subst (λ l. Rises key_of (r ∷ l)) (sym split) order in
+pub next-run : (all front : List Found) (f : Found) (tail : List Found) → all ≡ front ++ f ∷ tail → AreBefore front (f ∷ tail) →
+    AllByRecursion (λ g. IsUsable g.holds) all → Rises found_key all →
+    IsRun all front f (take (own_len (found_number f) tail) tail) (drop (own_len (found_number f) tail) tail)
+next-run all front f tail whole before usable order =
+    let k = own_len (found_number f) tail in
+    let rest = take k tail in
+    let own = own-taken (found_number f) tail in
+    let parted : all ≡ front ++ ((f ∷ rest) ++ drop k tail) = whole ∙ ap (λ l. front ++ f ∷ l) (sym (take-append-drop k tail)) in
+    let usable_left : (l : List Found) → all ≡ front ++ l → AllByRecursion (λ g. IsUsable g.holds) l =
+    λ l is. each-behind _ front l (subst (AllByRecursion (λ g. IsUsable g.holds)) is usable) in
+    let order_left : (l : List Found) → all ≡ front ++ l → Rises found_key l = λ l is. (Rises-parts found_key front l (subst (Rises found_key) is order)).1 in
+    let rising = streams-rise (f ∷ tail) (order_left (f ∷ tail) whole) (usable_left (f ∷ tail) whole) in
     record {
-      whole = whole ∙ ap (λ l. front ++ r ∷ l) (sym split);
+      whole = parted;
       lower = before.0;
       own = own;
-      above = back-above stream_of n tail rising.0 rising.1;
-      usable = each-front IsUsable (r ∷ rest) back (subst (λ l. AllByRecursion IsUsable (r ∷ l)) (sym split) usable);
-      rises = places-rise n (r ∷ rest) (Rises-parts key_of (r ∷ rest) back sorted).0 (refl, own);
+      above = above-dropped (found_number f) tail rising.0 rising.1;
+      usable = each-front _ (f ∷ rest) (drop k tail) (usable_left _ parted);
+      rises = places-rise (found_number f) (f ∷ rest) (Rises-parts found_key (f ∷ rest) (drop k tail) (order_left _ parted)).0 (refl, own);
     }
 
-module _ (us front : List Record) (r : Record) (rest back : List Record) (is : IsRun us front r rest back) where
-  pub sound-run : is_sound_in_order us (stream_of r) ≡ is_run (map (λ (c : Created). c.name) (streams_created front)) (r ∷ rest)
+module _ (all front : List Found) (f : Found) (rest back : List Found) (is : IsRun all front f rest back) where
+  abbrev n : ℕ
+  n = found_number f
+
+  abbrev us : List Record
+  us = without_slots all
+
+  abbrev rs : List Record
+  rs = without_slots rest
+
+  pub whole-run : us ≡ without_slots front ++ ((f.holds ∷ rs) ++ without_slots back)
+  whole-run =
+      ap without_slots is.whole ∙ map-append (λ (g : Found). g.holds) front ((f ∷ rest) ++ back)
+      ∙ ap (λ l. without_slots front ++ l) (map-append (λ (g : Found). g.holds) (f ∷ rest) back)
+
+  lower-run : AllByRecursion (λ q. stream_of q < n) (without_slots front)
+  lower-run = map-all _ _ front is.lower
+
+  own-run : AllByRecursion (λ q. stream_of q ≡ n) (f.holds ∷ rs)
+  own-run = map-all (λ q. stream_of q ≡ n) (λ (g : Found). g.holds) (f ∷ rest) (refl, is.own)
+
+  above-run : AllByRecursion (λ q. n < stream_of q) (without_slots back)
+  above-run = map-all _ _ back is.above
+
+  pub sound-run : is_sound_in_order us n ≡ is_run (names_created (without_slots front)) (f.holds ∷ rs)
   sound-run =
-      ap (λ l. is_sound_in_order l (stream_of r)) is.whole
-      ∙ is_run-sound front (r ∷ rest) back (stream_of r) is.lower (refl, is.own) is.above is.usable is.rises (omega arith)
+      ap (λ l. is_sound_in_order l n) whole-run
+      ∙ is_run-sound (without_slots front) f.holds rs (without_slots back) lower-run own-run.1 above-run (map-all IsUsable _ (f ∷ rest) is.usable) is.rises
 
-  pub dropped-run : is_dropped (stream_of r) us ≡ is_dropped (stream_of r) (r ∷ rest)
-  dropped-run = ap (is_dropped (stream_of r)) is.whole ∙ dropped-own front (r ∷ rest) back (stream_of r) is.lower (refl, is.own) is.above
+  pub dropped-run : is_dropped n us ≡ is_dropped n (f.holds ∷ rs)
+  dropped-run = ap (is_dropped n) whole-run ∙ dropped-own (without_slots front) (f.holds ∷ rs) (without_slots back) n lower-run own-run above-run
 
-  pub windows-run : windows_in (stream_of r) us ≡ windows_in (stream_of r) (r ∷ rest)
-  windows-run = ap (windows_in (stream_of r)) is.whole ∙ windows-own front (r ∷ rest) back (stream_of r) is.lower (refl, is.own) is.above
+  pub windows-run : windows_in n us ≡ windows_in n (f.holds ∷ rs)
+  windows-run = ap (windows_in n) whole-run ∙ windows-own (without_slots front) (f.holds ∷ rs) (without_slots back) n lower-run own-run above-run
 
-  pub marks-run : marks_in (stream_of r) us ≡ marks_in (stream_of r) (r ∷ rest)
-  marks-run = ap (marks_in (stream_of r)) is.whole ∙ marks-own front (r ∷ rest) back (stream_of r) is.lower (refl, is.own) is.above
+  pub marks-run : marks_in n us ≡ marks_in n (f.holds ∷ rs)
+  marks-run = ap (marks_in n) whole-run ∙ marks-own (without_slots front) (f.holds ∷ rs) (without_slots back) n lower-run own-run above-run
 
   -- what comes before a run and the run itself come before what comes behind it
-  pub before-back : AreBefore (front ++ r ∷ rest) back
+  pub before-back : AreBefore (front ++ f ∷ rest) back
   before-back =
-      all_weaker _ _ (λ q more. all_append _ front (r ∷ rest) (all_weaker _ _ (λ p lt. omega (arith, lt, more)) front is.lower)
+      all_weaker _ _ (λ g more. all_append _ front (f ∷ rest) (all_weaker _ _ (λ p lt. omega (arith, lt, more)) front is.lower)
       (more, all_weaker _ _ (λ p same. omega (arith, same, more)) rest is.own)) back is.above
 
 -- what the records of a run meet after a stream's own

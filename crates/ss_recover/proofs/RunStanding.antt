@@ -1,16 +1,12 @@
 -- Records of dropped streams and those of streams that stand, and the streams and the names that records make.
 use Rattle.ss_recover.proofs.Common.{[], ◌&&◌, ◌++◌, ◌∙◌, ◌∷◌, ◌≡◌, AllByRecursion, and-false, and-true, ap, Bool, cases_Bool, cond, Created, created_by}
 use Rattle.ss_recover.proofs.Common.{false, filter, filter_map-append, Found, Free, if◌then◌else◌, inl, inr, is_doomed, is_dropped, is_own, IsPermutation}
-use Rattle.ss_recover.proofs.Common.{IsPermutation-append_comm, IsPermutation-append_left, IsPermutation-sym, IsPermutation-trans, IsUsable, List, map}
-use Rattle.ss_recover.proofs.Common.{map-append, not, Record, refl, stands_by, stream_made, stream_of, streams_created, streams_made, streams_standing, subst}
-use Rattle.ss_recover.proofs.Common.{true, ℕ}
+use Rattle.ss_recover.proofs.Common.{IsPermutation-append_left, IsPermutation-sym, IsPermutation-trans, IsUsable, List, map, map-append, not, Record, refl}
+use Rattle.ss_recover.proofs.Common.{stands_by, stream_made, stream_of, streams_created, streams_made, streams_standing, subst, true}
 use Rattle.ss_recover.proofs.Lists.{filter-all, filter-none}
+use Rattle.ss_recover.proofs.RunSound.{names_created}
 use Rattle.ss_codec.specs.declared.record.Record.TheVariants as records
 use Rattle.std.proofs.lemmas.List.Sorted.{IsPermutation-filter_both}
-
--- the names of the streams that records create
-abbrev pub names_created : List Record → List (List ℕ)
-names_created rs = map (λ (c : Created). c.name) (streams_created rs)
 
 pub names_created-append : (rs qs : List Record) → names_created (rs ++ qs) ≡ names_created rs ++ names_created qs
 names_created-append rs qs =
@@ -66,6 +62,10 @@ filter-filter p q (x ∷ xs) = elim (cases_Bool (q x)) [
   | inr fails ↦ rw (fails, and-false (p x)) (filter-filter p q xs)
 ]
 
+not-twice : (b : Bool) → b ≡ not (not b)
+not-twice true = refl
+not-twice false = refl
+
 -- those that pass one test, of these those that pass another and the rest, and those that fail the first
 pub in-three : {X : Type 0} (first second : X → Bool) (xs : List X) →
     IsPermutation ((filter (λ x. not (second x) && first x) xs ++ filter (λ x. second x && first x) xs) ++ filter (λ x. not (first x)) xs) xs
@@ -73,8 +73,7 @@ in-three first second xs =
     let ys = filter first xs in
     let rest = filter (λ x. not (first x)) xs in
     let some : IsPermutation (filter (λ x. not (second x)) ys ++ filter second ys) ys =
-    IsPermutation-sym _ _ (IsPermutation-trans _ _ _ (IsPermutation-filter_both second (λ x. not (second x)) (λ x. refl) ys)
-    (IsPermutation-append_comm (filter second ys) (filter (λ x. not (second x)) ys))) in
+    IsPermutation-sym _ _ (IsPermutation-filter_both (λ x. not (second x)) second (λ x. not-twice (second x)) ys) in
     IsPermutation-trans _ _ _ (IsPermutation-append_left rest _ ys (subst (λ l. IsPermutation l ys)
     (λ i. filter-filter (λ x. not (second x)) first xs i ++ filter-filter second first xs i) some))
     (IsPermutation-sym _ _ (IsPermutation-filter_both first (λ x. not (first x)) (λ x. refl) xs))

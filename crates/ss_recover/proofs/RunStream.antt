@@ -1,21 +1,22 @@
 -- Streams that records in order are of, one run after another.
 use Rattle.ss_recover.proofs.Common.{[], ◌&&◌, ◌++◌, ◌+◌, ◌<◌, ◌||◌, ◌∙◌, ◌∷◌, ◌≡◌, ◌≤◌, All-from_recursion, AllByRecursion, and-true, and_parts, ap}
-use Rattle.ss_recover.proofs.Common.{append_assoc, ap₂, arith, back_of, Bool, cond, count_by-le-length, Created, created_by, each-behind, eq-eqb, false}
-use Rattle.ss_recover.proofs.Common.{filter, filter-append, filter_map, front_of, is_dropped, is_mark_of, is_own, is_run, is_sound_in_order, IsDistinct}
-use Rattle.ss_recover.proofs.Common.{IsDistinct-cons, IsDistinct-from_apart, IsState, IsStream, IsUsable, key_of, landmarks_made, length, length-append}
-use Rattle.ss_recover.proofs.Common.{length-filter, length-map, List, list_any, list_any-append, live, ltb-true, map, marks_in, MOST_RECORDS, MOST_STREAMS}
-use Rattle.ss_recover.proofs.Common.{names_of, nat_lt, not, not-true, or-false, or_parts, Record, records_of, refl, Rises, same_name, same_name-swap, Stream}
-use Rattle.ss_recover.proofs.Common.{stream_made, stream_of, streams_made, streams_standing, subst, suc, sum_by-cons, sym, true, Window, window_record}
-use Rattle.ss_recover.proofs.Common.{windows_in, zero, ℕ}
+use Rattle.ss_recover.proofs.Common.{append_assoc, ap₂, arith, Bool, cond, count_by-le-length, Created, created_by, drop, each-behind, eq-eqb, false}
+use Rattle.ss_recover.proofs.Common.{filter-append, filter_map, Found, found_key, found_number, is_dropped, is_mark_of, is_own, is_run, is_sound_in_order}
+use Rattle.ss_recover.proofs.Common.{IsDistinct, IsDistinct-cons, IsDistinct-from_apart, IsState, IsStream, IsUsable, landmarks_made, length, length-append}
+use Rattle.ss_recover.proofs.Common.{length-drop, length-filter, length-map, List, list_any, list_any-append, live, ltb-true, map, map-append, marks_in}
+use Rattle.ss_recover.proofs.Common.{MOST_RECORDS, MOST_STREAMS, names_of, nat_lt, not, not-true, or-false, or_parts, own_len, Record, records_of, refl, Rises}
+use Rattle.ss_recover.proofs.Common.{same_name, same_name-swap, Stream, stream_made, stream_of, streams_made, streams_standing, subst, suc, sum_by-cons, sym}
+use Rattle.ss_recover.proofs.Common.{take, take-append-drop, true, Window, window_record, windows_in, without_slots, zero, ℕ}
 use Rattle.ss_recover.proofs.HeldRecords.{all_walked, walked}
 use Rattle.ss_recover.proofs.InOrder.{increasing-Rise, Rise}
-use Rattle.ss_recover.proofs.Lists.{all-each, all-kept, all-passing, all_weaker, map-all}
 use Rattle.ss_recover.proofs.Marks.{length-marks_of, marks_of}
 use Rattle.ss_recover.proofs.MarksSoFar.{AreOf, AreOf-are_marks}
 use Rattle.ss_recover.proofs.SoundStreams.{IsInStep-keep_step, AreWindows-tile}
-use Rattle.ss_recover.proofs.RunSound.{AreBefore, alone-drops, before-back, dropped-run, front-back, IsRun, marks-run, MeetsRun, next-run, own-alone}
-use Rattle.ss_recover.proofs.RunSound.{Rises-parts, run-meets, run-order, sound-run, windows-run}
-use Rattle.ss_recover.proofs.RunStanding.{filter-const, names_created, names_created-append, stands_in, streams_made-append}
+use Rattle.ss_recover.proofs.Lists.{all-each, all-from_map, all-kept, all-passing, all_both, all_weaker, filter-none, map-all}
+use Rattle.ss_recover.proofs.RunSound.{AreBefore, alone-drops, before-back, dropped-run, IsRun, marks-run, MeetsRun, names_created, next-run, own-alone}
+use Rattle.ss_recover.proofs.RunSound.{run-meets, run-order, sound-run, windows-run}
+use Rattle.ss_recover.proofs.RunStanding.{filter-const, gone_found, names_created-append, standing_found, stands_in, streams_made-append}
+use Rattle.ss_recover.proofs.SoundNumbers.{all-false}
 use Rattle.ss_recover.proofs.WholeSlots.{all-window_of}
 use Rattle.ss_codec.specs.declared.record.Record.TheVariants as records
 use Rattle.ss_model.specs.State as Streams
@@ -36,13 +37,13 @@ length-records (s ∷ ss) =
 
 -- Records that come behind others are those of streams, in order, whose names none of the others creates. With what the others
 -- create they are no more than can be.
-record AreBehind (front kept : List Record) (streams : List Stream) : Type 0 where
+record AreBehind (front : List Found) (kept : List Record) (streams : List Stream) : Type 0 where
   order : kept ≡ all_walked streams
   sound : AllByRecursion IsStream streams
   rise : Rise (λ s. s.number) streams
-  apart : AllByRecursion (λ s. list_any (same_name s.name) (names_created front) ≡ false) streams
+  apart : AllByRecursion (λ s. list_any (same_name s.name) (names_created (without_slots front)) ≡ false) streams
   distinct : IsDistinct same_name (names_of streams)
-  few : length (names_created front) ≤ MOST_STREAMS → length (names_created front) + length streams ≤ MOST_STREAMS
+  few : length (names_created (without_slots front)) ≤ MOST_STREAMS → length (names_created (without_slots front)) + length streams ≤ MOST_STREAMS
 
 IsState-behind : (rs : List Record) (streams : List Stream) → AreBehind [] rs streams → length rs ≤ MOST_RECORDS → IsState streams
 IsState-behind rs streams are few = record {
@@ -54,12 +55,16 @@ IsState-behind rs streams are few = record {
 }
 
 -- what records of greater numbers create that stand
-standing-above : (us : List Record) (n : ℕ) (rs : List Record) → AllByRecursion (λ r. n < stream_of r) rs →
-    AllByRecursion (λ s. n < s.number) (streams_made us rs)
+standing-above : (us : List Record) (n : ℕ) (fs : List Found) → AllByRecursion (λ f. n < found_number f) fs →
+    AllByRecursion (λ s. n < s.number) (streams_made us (without_slots fs))
 standing-above us n [] above = tt
-standing-above us n (records.Stream id name params true ∷ rs) above = standing-above us n rs above.1
-standing-above us n (records.Stream id name params false ∷ rs) above = (above.0, standing-above us n rs above.1)
-standing-above us n (_ ∷ rs) above = standing-above us n rs above.1
+standing-above us n (f ∷ fs) above = go f.holds above.0 (standing-above us n fs above.1)
+  where
+    go : (r : Record) → n < stream_of r → AllByRecursion (λ s. n < s.number) (streams_made us (without_slots fs)) →
+        AllByRecursion (λ s. n < s.number) (streams_made us (r ∷ without_slots fs))
+    go (records.Stream id name params false) here rest = (here, rest)
+    go (records.Stream id name params true) here rest = rest
+    go _ here rest = rest
 
 -- where no stream is created, none stands
 alone-stands : (rs : List Record) → filter_map created_by rs ≡ [] → streams_standing rs ≡ []
@@ -67,91 +72,120 @@ alone-stands [] none = refl
 alone-stands (records.Stream id name params dropped ∷ rs) none = cc
 alone-stands (_ ∷ rs) none = alone-stands rs none
 
+-- a stream's own record in its slot
+abbrev pub own_found : ℕ → Created → Bool → Found
+own_found slot head dropped = record { slot = slot; holds = records.Stream head.number head.name head.params dropped }
+
 -- A run whose first record is a stream's own.
-module _ (us front : List Record) (head : Created) (dropped : Bool) (rest back : List Record)
-    (is : IsRun us front (records.Stream head.number head.name head.params dropped) rest back)
-    (run : is_run (names_created front) (records.Stream head.number head.name head.params dropped ∷ rest) ≡ true) where
-  abbrev first : Record
-  first = records.Stream head.number head.name head.params dropped
+module _ (all front : List Found) (slot : ℕ) (head : Created) (dropped : Bool) (rest back : List Found)
+    (is : IsRun all front (own_found slot head dropped) rest back)
+    (run : is_run (names_created (without_slots front)) (without_slots (own_found slot head dropped ∷ rest)) ≡ true) where
+  abbrev us : List Record
+  us = without_slots all
 
-  pub none-own : list_any is_own rest ≡ false
-  none-own = not-true (list_any is_own rest) (and_parts _ _ (and_parts _ _ run).1).0
+  abbrev x : Found
+  x = own_found slot head dropped
 
-  pub names-run : names_created (first ∷ rest) ≡ head.name ∷ []
-  names-run = ap (λ (cs : List Created). head.name ∷ map (λ (c : Created). c.name) cs) (own-alone rest none-own)
+  abbrev rs : List Record
+  rs = without_slots rest
 
-  pub dropped-is : is_dropped head.number us ≡ dropped
+  none-own : list_any is_own rs ≡ false
+  none-own = not-true (list_any is_own rs) (and_parts _ _ (and_parts _ _ run).1).0
+
+  pub names-run : names_created (without_slots (x ∷ rest)) ≡ head.name ∷ []
+  names-run = ap (λ (cs : List Created). head.name ∷ map (λ (c : Created). c.name) cs) (own-alone rs none-own)
+
+  dropped-is : is_dropped head.number us ≡ dropped
   dropped-is =
-      dropped-run us front first rest back is
-      ∙ ap₂ (λ a b. (dropped && a) || b) (eq-eqb head.number head.number refl) (alone-drops head.number rest (own-alone rest none-own))
+      dropped-run all front x rest back is
+      ∙ ap₂ (λ a b. (dropped && a) || b) (eq-eqb head.number head.number refl) (alone-drops head.number rs (own-alone rs none-own))
       ∙ or-false (dropped && true) ∙ and-true dropped
 
-  pub made-run : streams_made us (first ∷ rest) ≡ cond dropped [] (stream_made rest head ∷ [])
+  pub made-run : streams_made us (without_slots (x ∷ rest)) ≡ cond dropped [] (stream_made rs head ∷ [])
   made-run =
-      elim dropped as (λ d. streams_made us (records.Stream head.number head.name head.params d ∷ rest) ≡ cond d [] (stream_made rest head ∷ [])) [
+      elim dropped as (λ d. streams_made us (records.Stream head.number head.name head.params d ∷ rs) ≡ cond d [] (stream_made rs head ∷ [])) [
         | true ↦ ap (map (stream_made us)) none
         | false ↦ (λ i. record {
           number = head.number;
           name = head.name;
           params = head.params;
-          windows = windows-run us front first rest back is i;
-          landmarks = landmarks_made (marks-run us front first rest back is i);
+          windows = windows-run all front x rest back is i;
+          landmarks = landmarks_made (marks-run all front x rest back is i);
         } ∷ map (stream_made us) (none i))
       ]
     where
-      none : streams_standing rest ≡ []
-      none = alone-stands rest (own-alone rest none-own)
+      none : streams_standing rs ≡ []
+      none = alone-stands rs (own-alone rs none-own)
 
-  -- its records stand, or don't
-  stands-run : filter (stands_in us) (first ∷ rest) ≡ cond (not dropped) (first ∷ rest) []
-  stands-run =
-      filter-const (stands_in us) (not dropped) (first ∷ rest)
-      (all_weaker _ _ (λ r same. ap (λ k. not (is_dropped k us)) same ∙ ap not dropped-is) (first ∷ rest) (refl, is.own))
+  -- its records stand, or are gone
+  gone-each : AllByRecursion (λ (f : Found). is_dropped (found_number f) us ≡ dropped) (x ∷ rest)
+  gone-each = all_weaker _ _ (λ f same. ap (λ k. is_dropped k us) same ∙ dropped-is) (x ∷ rest) (refl, is.own)
 
-  names-more : names_created (front ++ first ∷ rest) ≡ names_created front ++ head.name ∷ []
-  names-more = names_created-append front (first ∷ rest) ∙ ap (λ l. names_created front ++ l) names-run
+  pub others-each : AllByRecursion (λ (f : Found). is_own f.holds ≡ false) rest
+  others-each = all-from_map (λ r. is_own r ≡ false) (λ (f : Found). f.holds) rest (all-false is_own rs none-own)
+
+  pub stands-run : standing_found us (x ∷ rest) ≡ cond (not dropped) (x ∷ rest) []
+  stands-run = filter-const (λ (f : Found). stands_in us f.holds) (not dropped) (x ∷ rest) (all_weaker _ _ (λ f gone. ap not gone) (x ∷ rest) gone-each)
+
+  pub others-gone : gone_found us false (x ∷ rest) ≡ cond dropped rest []
+  others-gone =
+      filter-const (λ (f : Found). not (is_own f.holds) && is_dropped (found_number f) us) dropped rest
+      (all_both _ _ _ (λ f other gone i. not (other i) && gone i) rest others-each gone-each.1)
+
+  pub heads-gone : gone_found us true (x ∷ rest) ≡ cond dropped (x ∷ []) []
+  heads-gone =
+      ap₂ (λ (b : Bool) (l : List Found). cond b (x ∷ l) l) dropped-is
+      (filter-none (λ (f : Found). is_own f.holds && is_dropped (found_number f) us) rest
+      (all_weaker _ _ (λ f other. ap (λ b. b && is_dropped (found_number f) us) other) rest others-each))
 
 -- One that stands is a stream of a state, and its records are those of the stream, in order.
-module _ (us front : List Record) (head : Created) (rest back : List Record)
-    (is : IsRun us front (records.Stream head.number head.name head.params false) rest back)
-    (run : is_run (names_created front) (records.Stream head.number head.name head.params false ∷ rest) ≡ true) where
+module _ (all front : List Found) (slot : ℕ) (head : Created) (rest back : List Found) (is : IsRun all front (own_found slot head false) rest back)
+    (run : is_run (names_created (without_slots front)) (without_slots (own_found slot head false ∷ rest)) ≡ true) where
   abbrev ms : List Record
-  ms = marks_in head.number rest
+  ms = marks_in head.number (without_slots rest)
 
   abbrev ws : List Window
-  ws = windows_in head.number rest
+  ws = windows_in head.number (without_slots rest)
 
-  meets : MeetsRun rest head
-  meets = run-meets (names_created front) rest head run
+  meets : MeetsRun (without_slots rest) head
+  meets = run-meets (names_created (without_slots front)) (without_slots rest) head run
+
+  usable-rest : AllByRecursion IsUsable (without_slots rest)
+  usable-rest = map-all IsUsable (λ (f : Found). f.holds) rest is.usable.1
 
   marks-are : AreOf head.number ms (landmarks_made ms)
-  marks-are = AreOf-are_marks head.number ms (all-passing (is_mark_of head.number) rest) (all-kept IsUsable (is_mark_of head.number) rest is.usable.1)
-      meets.landmarks
+  marks-are = AreOf-are_marks head.number ms (all-passing (is_mark_of head.number) (without_slots rest))
+      (all-kept IsUsable (is_mark_of head.number) (without_slots rest) usable-rest) meets.landmarks
 
-  pub is-stream : IsStream (stream_made rest head)
+  is-stream : IsStream (stream_made (without_slots rest) head)
   is-stream = record {
     target = is.usable.0.0;
     number = is.usable.0.1;
     windows = AreWindows-tile ws meets.tiles meets.rising
-        (all-window_of head.number rest (all_weaker _ _ (λ r usable _. usable) rest is.usable.1));
+        (all-window_of head.number (without_slots rest) (all_weaker _ _ (λ r usable _. usable) (without_slots rest) usable-rest));
     steps = IsInStep-keep_step head.params ws meets.keeping;
     landmarks = marks-are.landmarks;
     free = meets.free;
   }
 
-  pub rest-order : rest ≡ marks_of head.number 1 (landmarks_made ms) ++ map (window_record head.number) ws
-  rest-order = run-order head.number rest is.own is.usable.1 is.rises.1 meets.alone ∙ ap (λ l. l ++ map (window_record head.number) ws) marks-are.records
+  pub rest-order : without_slots rest ≡ marks_of head.number 1 (landmarks_made ms) ++ map (window_record head.number) ws
+  rest-order =
+      run-order head.number (without_slots rest) (map-all _ (λ (f : Found). f.holds) rest is.own) usable-rest is.rises.1 meets.alone
+      ∙ ap (λ l. l ++ map (window_record head.number) ws) marks-are.records
 
 -- A run comes before what is of streams.
-module _ (us front : List Record) (head : Created) (dropped : Bool) (rest back : List Record)
-    (is : IsRun us front (records.Stream head.number head.name head.params dropped) rest back)
-    (run : is_run (names_created front) (records.Stream head.number head.name head.params dropped ∷ rest) ≡ true) (kept : List Record) (ss : List Stream)
-    (behind : AreBehind (front ++ records.Stream head.number head.name head.params dropped ∷ rest) kept ss) where
+module _ (all front : List Found) (slot : ℕ) (head : Created) (dropped : Bool) (rest back : List Found)
+    (is : IsRun all front (own_found slot head dropped) rest back)
+    (run : is_run (names_created (without_slots front)) (without_slots (own_found slot head dropped ∷ rest)) ≡ true) (kept : List Record) (ss : List Stream)
+    (behind : AreBehind (front ++ own_found slot head dropped ∷ rest) kept ss) where
   abbrev names : List (List ℕ)
-  names = names_created front
+  names = names_created (without_slots front)
 
-  more : names_created (front ++ records.Stream head.number head.name head.params dropped ∷ rest) ≡ names ++ head.name ∷ []
-  more = names-more us front head dropped rest back is run
+  more : names_created (without_slots (front ++ own_found slot head dropped ∷ rest)) ≡ names ++ head.name ∷ []
+  more =
+      ap names_created (map-append (λ (f : Found). f.holds) front (own_found slot head dropped ∷ rest))
+      ∙ names_created-append (without_slots front) (without_slots (own_found slot head dropped ∷ rest))
+      ∙ ap (λ l. names ++ l) (names-run all front slot head dropped rest back is run)
 
   may : (nat_lt (length names) MOST_STREAMS ≡ true) × (not (list_any (same_name head.name) names) ≡ true)
   may = and_parts _ _ (and_parts _ _ run).0
@@ -169,32 +203,31 @@ module _ (us front : List Record) (head : Created) (dropped : Bool) (rest back :
       let most = behind.few (omega (arith, long, one, least)) in
       omega (arith, most, long, one)
 
-  dropped-behind : AreBehind front kept ss
-  dropped-behind = record {
-    order = behind.order;
-    sound = behind.sound;
-    rise = behind.rise;
-    apart = all_weaker _ _ (λ s both. both.0) ss apart-both;
-    distinct = behind.distinct;
-    few = λ fits. omega (arith, room);
-  }
-
-behind-step : (us front : List Record) (head : Created) (dropped : Bool) (rest back : List Record)
-    (is : IsRun us front (records.Stream head.number head.name head.params dropped) rest back) →
-    is_run (names_created front) (records.Stream head.number head.name head.params dropped ∷ rest) ≡ true → (kept : List Record) (ss : List Stream) →
-    AllByRecursion (λ s. head.number < s.number) ss → AreBehind (front ++ records.Stream head.number head.name head.params dropped ∷ rest) kept ss →
-    AreBehind front (cond (not dropped) (records.Stream head.number head.name head.params dropped ∷ rest) [] ++ kept)
-    (cond dropped [] (stream_made rest head ∷ []) ++ ss)
-behind-step us front head true rest back is run kept ss above behind = dropped-behind us front head true rest back is run kept ss behind
-behind-step us front head false rest back is run kept ss above behind =
-    let both = apart-both us front head false rest back is run kept ss behind in
-    let room = room us front head false rest back is run kept ss behind in
+behind-step : (all front : List Found) (slot : ℕ) (head : Created) (dropped : Bool) (rest back : List Found) →
+    IsRun all front (own_found slot head dropped) rest back →
+    is_run (names_created (without_slots front)) (without_slots (own_found slot head dropped ∷ rest)) ≡ true → (kept : List Record) (ss : List Stream) →
+    AllByRecursion (λ s. head.number < s.number) ss → AreBehind (front ++ own_found slot head dropped ∷ rest) kept ss →
+    AreBehind front (without_slots (cond (not dropped) (own_found slot head dropped ∷ rest) []) ++ kept)
+    (cond dropped [] (stream_made (without_slots rest) head ∷ []) ++ ss)
+behind-step all front slot head true rest back is run kept ss above behind =
+    let room = room all front slot head true rest back is run kept ss behind in
     record {
-      order = λ i. records.Stream head.number head.name head.params false ∷ (rest-order us front head rest back is run i ++ behind.order i);
-      sound = (is-stream us front head rest back is run, behind.sound);
+      order = behind.order;
+      sound = behind.sound;
+      rise = behind.rise;
+      apart = all_weaker _ _ (λ s two. two.0) ss (apart-both all front slot head true rest back is run kept ss behind);
+      distinct = behind.distinct;
+      few = λ fits. omega (arith, room);
+    }
+behind-step all front slot head false rest back is run kept ss above behind =
+    let both = apart-both all front slot head false rest back is run kept ss behind in
+    let room = room all front slot head false rest back is run kept ss behind in
+    record {
+      order = λ i. records.Stream head.number head.name head.params false ∷ (rest-order all front slot head rest back is run i ++ behind.order i);
+      sound = (is-stream all front slot head rest back is run, behind.sound);
       rise = (above, behind.rise);
       apart = (
-        not-true (list_any (same_name head.name) (names_created front)) (may us front head false rest back is run kept ss behind).1,
+        not-true (list_any (same_name head.name) _) (may all front slot head false rest back is run kept ss behind).1,
         all_weaker _ _ (λ s two. two.0) ss both,
       );
       distinct = IsDistinct-cons same_name head.name (names_of ss)
@@ -202,45 +235,65 @@ behind-step us front head false rest back is run kept ss above behind =
       few = λ fits. omega (arith, room);
     }
 
-behind-run : (us front : List Record) (r : Record) (rest back : List Record) (is : IsRun us front r rest back) →
-    is_run (names_created front) (r ∷ rest) ≡ true → AreBehind (front ++ r ∷ rest) (filter (stands_in us) back) (streams_made us back) →
-    AreBehind front (filter (stands_in us) (r ∷ (rest ++ back))) (streams_made us (r ∷ (rest ++ back)))
-behind-run us front (records.Stream id name params dropped) rest back is run behind =
+-- those of some records that are of streams that stand, and the streams that they make
+abbrev Stand : List Found → List Found → List Found → Type 0
+Stand all front left =
+    AreBehind front (without_slots (standing_found (without_slots all) left)) (streams_made (without_slots all) (without_slots left))
+
+behind-run : (all front : List Found) (slot : ℕ) (r : Record) (rest back : List Found) → IsRun all front (record { slot = slot; holds = r }) rest back →
+    is_run (names_created (without_slots front)) (r ∷ without_slots rest) ≡ true → Stand all (front ++ record { slot = slot; holds = r } ∷ rest) back →
+    Stand all front ((record { slot = slot; holds = r } ∷ rest) ++ back)
+behind-run all front slot (records.Stream id name params dropped) rest back is run behind =
+    let us = without_slots all in
     let head : Created = record { number = id; name = name; params = params } in
-    let first = records.Stream id name params dropped in
-    let stands = filter-append (stands_in us) (first ∷ rest) back
-    ∙ ap (λ l. l ++ filter (stands_in us) back) (stands-run us front head dropped rest back is run) in
-    let made = streams_made-append us (first ∷ rest) back ∙ ap (λ ss. ss ++ streams_made us back) (made-run us front head dropped rest back is run) in
-    subst (λ l. AreBehind front l (streams_made us (first ∷ (rest ++ back)))) (sym stands)
-    (subst (AreBehind front (cond (not dropped) (first ∷ rest) [] ++ filter (stands_in us) back)) (sym made)
-    (behind-step us front head dropped rest back is run (filter (stands_in us) back) (streams_made us back) (standing-above us id back is.above) behind))
-behind-run us front _ rest back is run behind = absurd (cc)
+    let x = own_found slot head dropped in
+    let stands : without_slots (standing_found us ((x ∷ rest) ++ back))
+    ≡ without_slots (cond (not dropped) (x ∷ rest) []) ++ without_slots (standing_found us back) =
+    ap without_slots (filter-append (λ (f : Found). stands_in us f.holds) (x ∷ rest) back
+    ∙ ap (λ l. l ++ standing_found us back) (stands-run all front slot head dropped rest back is run))
+    ∙ map-append (λ (f : Found). f.holds) (cond (not dropped) (x ∷ rest) []) (standing_found us back) in
+    let made : streams_made us (without_slots ((x ∷ rest) ++ back))
+    ≡ cond dropped [] (stream_made (without_slots rest) head ∷ []) ++ streams_made us (without_slots back) =
+    ap (streams_made us) (map-append (λ (f : Found). f.holds) (x ∷ rest) back) ∙ streams_made-append us (without_slots (x ∷ rest)) (without_slots back)
+    ∙ ap (λ ss. ss ++ streams_made us (without_slots back)) (made-run all front slot head dropped rest back is run) in
+    rw (stands, made) (behind-step all front slot head dropped rest back is run _ _ (standing-above us id back is.above) behind)
+behind-run all front slot _ rest back is run behind = absurd (cc)
 
 -- where each number is sound
-walk : (us : List Record) (most : ℕ) (front back : List Record) → us ≡ front ++ back → length back ≤ most → AreBefore front back →
-    AllByRecursion IsUsable back → Rises key_of back → AllByRecursion (λ r. is_sound_in_order us (stream_of r) ≡ true) back →
-    AreBehind front (filter (stands_in us) back) (streams_made us back)
-walk us most front [] whole few before usable order sound =
-    record { order = refl; sound = tt; rise = tt; apart = tt; distinct = IsDistinct-from_apart same_name [] (λ i j d less within. absurd (omega (arith, within))); few = λ fits. omega (arith, fits) }
-walk us zero front (r ∷ tail) whole few before usable order sound = absurd (omega (arith, few))
-walk us (suc most) front (r ∷ tail) whole few before usable order sound =
-    let n = stream_of r in
-    let rest = front_of stream_of n tail in
-    let back = back_of stream_of n tail in
-    let split : rest ++ back ≡ tail = front-back stream_of n tail in
-    let is = next-run us front r tail whole before usable order in
-    let behind : (P : Record → Type 0) → AllByRecursion P (r ∷ tail) → AllByRecursion P back =
-    λ P all. each-behind P (r ∷ rest) back (subst (λ l. AllByRecursion P (r ∷ l)) (sym split) all) in
-    let rest_is = walk us most (front ++ r ∷ rest) back (is.whole ∙ sym (append_assoc front (r ∷ rest) back))
-    (omega (arith, few, ap (λ (l : List Record). length l) split, length-append rest back)) (before-back us front r rest back is) (behind IsUsable usable)
-    (Rises-parts key_of (r ∷ rest) back (subst (λ l. Rises key_of (r ∷ l)) (sym split) order)).1
-    (behind (λ q. is_sound_in_order us (stream_of q) ≡ true) sound) in
-    subst (λ l. AreBehind front (filter (stands_in us) (r ∷ l)) (streams_made us (r ∷ l))) split
-    (behind-run us front r rest back is (sym (sound-run us front r rest back is) ∙ sound.0) rest_is)
+walk : (all : List Found) (most : ℕ) (front left : List Found) → all ≡ front ++ left → length left ≤ most → AreBefore front left →
+    AllByRecursion (λ f. IsUsable f.holds) all → Rises found_key all →
+    AllByRecursion (λ f. is_sound_in_order (without_slots all) (found_number f) ≡ true) left → Stand all front left
+walk all most front [] whole few before usable order sound = record {
+  order = refl;
+  sound = tt;
+  rise = tt;
+  apart = tt;
+  distinct = IsDistinct-from_apart same_name [] (λ i j d less within. absurd (omega (arith, within)));
+  few = λ fits. omega (arith, fits);
+}
+walk all zero front (f ∷ tail) whole few before usable order sound = absurd (omega (arith, few))
+walk all (suc most) front (f ∷ tail) whole few before usable order sound =
+    let k = own_len (found_number f) tail in
+    let rest = take k tail in
+    let back = drop k tail in
+    let is = next-run all front f tail whole before usable order in
+    let sounds = each-behind _ rest back
+    (subst (AllByRecursion (λ g. is_sound_in_order (without_slots all) (found_number g) ≡ true)) (sym (take-append-drop k tail)) sound.1) in
+    let behind = walk all most (front ++ f ∷ rest) back (is.whole ∙ sym (append_assoc front (f ∷ rest) back)) (omega (arith, few, length-drop k tail))
+    (before-back all front f rest back is) usable order sounds in
+    subst (λ l. Stand all front (f ∷ l)) (take-append-drop k tail)
+    (behind-run all front f.slot f.holds rest back is (sym (sound-run all front f rest back is) ∙ sound.0) behind)
 
-pub IsState-sound : (us : List Record) → AllByRecursion IsUsable us → Rises key_of us →
-    AllByRecursion (λ r. is_sound_in_order us (stream_of r) ≡ true) us → length us ≤ MOST_RECORDS → IsState (streams_made us us)
-IsState-sound us usable order sound few =
-    IsState-behind (filter (stands_in us) us) (streams_made us us)
-    (walk us (length us) [] us refl (omega arith) (all-each (λ q. AllByRecursion (λ r. stream_of r < stream_of q) []) (λ q. tt) us) usable order sound)
-    (omega (arith, few, length-filter (stands_in us) us, count_by-le-length (stands_in us) us))
+pub IsState-sound : (all : List Found) → AllByRecursion (λ f. IsUsable f.holds) all → Rises found_key all →
+    AllByRecursion (λ r. is_sound_in_order (without_slots all) (stream_of r) ≡ true) (without_slots all) → length all ≤ MOST_RECORDS →
+    IsState (streams_made (without_slots all) (without_slots all))
+IsState-sound all usable order sound few =
+    let kept = standing_found (without_slots all) all in
+    IsState-behind (without_slots kept) _
+    (walk all (length all) [] all refl (omega arith) (all-each _ (λ g. tt) all) usable order (all-from_map _ (λ (f : Found). f.holds) all sound)) (omega (
+      arith,
+      few,
+      length-map kept (λ (f : Found). f.holds),
+      length-filter (λ (f : Found). stands_in (without_slots all) f.holds) all,
+      count_by-le-length (λ (f : Found). stands_in (without_slots all) f.holds) all,
+    ))

@@ -1,6 +1,6 @@
 -- What is held of a stream whose records come, and what a walk over the records of one stream after another answers.
 use Rattle.std.specs.Prelude.{◌≡◌, ℕ, ℤ, ◌+◌, ◌<◌, ◌≤◌, Bool, true, false, ◌==◌, ◌&&◌, ◌||◌, nat_le, nat_lt, is_none, if◌then◌else◌, List, [], ◌∷◌, ◌++◌}
-use Rattle.std.specs.Prelude.{length, map, filter}
+use Rattle.std.specs.Prelude.{length, map, filter, suc}
 use Rattle.std.specs.Prelude.{IfSome, Option, Some, None, option_and_then, Result, Ok, Err, ⊤}
 use Rattle.std.specs.Option.{option_map_or}
 use Rattle.std.specs.List.Sorted.{IsPermutation}
@@ -277,24 +277,10 @@ pub record EndsWalk (walk : Walk) (parts : Parts) : Type 0 where
   pub of_others : IsPermutation others walk.others.items
   pub of_heads : IsPermutation heads walk.heads.items
 
--- The first elements, whose number is this one, and those from the first other one on.
-abbrev pub front_of : {X : Type 0} → (X → ℕ) → ℕ → List X → List X
-front_of number n [] = []
-front_of number n (x ∷ xs) = if number x == n then x ∷ front_of number n xs else []
-
-abbrev pub back_of : {X : Type 0} → (X → ℕ) → ℕ → List X → List X
-back_of number n [] = []
-back_of number n (x ∷ xs) = if number x == n then back_of number n xs else x ∷ xs
-
--- the number of a record that was found
+-- the number of a record that was found, and how many of the first records are of a number
 abbrev pub found_number : Found → ℕ
 found_number f = stream_of f.holds
 
--- The first of some records and those of its number right behind it, with the number; and those from the first other one on.
-pub record IsNextRun (left : List Found) (n : ℕ) (run back : List Found) : Type 0 where
-  pub first : Found
-  pub tail : List Found
-  pub left_is : left ≡ first ∷ tail
-  pub number : n ≡ found_number first
-  pub run_is : run ≡ first ∷ front_of found_number n tail
-  pub back_is : back ≡ back_of found_number n tail
+abbrev pub own_len : ℕ → List Found → ℕ
+own_len n [] = 0
+own_len n (f ∷ fs) = if found_number f == n then suc (own_len n fs) else 0

@@ -6,7 +6,7 @@ ghost use Rattle.ss_model.specs.declared.types.TheConstants.{MOST_RECORDS};
 ghost use Rattle.ss_recover.specs.Doomed.{is_own};
 ghost use Rattle.ss_recover.specs.Order.{Rises, found_key, stream_of};
 ghost use Rattle.ss_recover.specs.Runs.{WalksAs, may_stand};
-ghost use Rattle.ss_recover.specs.Shown.{AddsName, EndsWalk, HasMore, HasNothing, IsNextRun, TakesAs, found_number, front_of, names_in};
+ghost use Rattle.ss_recover.specs.Shown.{AddsName, EndsWalk, HasMore, HasNothing, TakesAs, names_in, own_len};
 ghost use Rattle.ss_recover.specs.Usable.{IsUsable, slots_found, without_slots};
 ghost use Rattle.ss_recover.specs.declared.recover_error.RecoverError.TheVariants.{OutOfMemory};
 
@@ -187,7 +187,7 @@ impl Walk {
 
 // How many of the first records are of the stream of a number.
 fn own_len(id: u32, found: &[Found]) -> usize
-    ensures { result ≡ length (front_of found_number id found.now) }
+    ensures { result ≡ own_len id found.now }
 {
     for at in 0..found.len() {
         if stream_of(&found[at].holds) != id {
@@ -195,20 +195,6 @@ fn own_len(id: u32, found: &[Found]) -> usize
         }
     }
     found.len()
-}
-
-// The number of the first record's stream, the records of this stream, and those behind them.
-fn next_run(left: &[Found]) -> (u32, &[Found], &[Found])
-    requires some { 0 < length left.now }
-    requires usable { All (λ f. IsUsable f.holds) left.now }
-    ensures next { IsNextRun left.now result.0 result.1.now result.2.now }
-    ensures usable { All (λ f. IsUsable f.holds) result.1.now }
-    ensures own { All (λ f. stream_of f.holds ≡ result.0) result.1.now }
-    ensures few { length result.1.now ≤ length left.now }
-{
-    let id = stream_of(&left[0].holds);
-    let (run, back) = left.split_at(own_len(id, left));
-    (id, run, back)
 }
 
 // The streams that some records carry, which come in the order of their streams.
@@ -226,8 +212,9 @@ pub fn streams_of<L: Ledger>(
     let mut steps = Steps::<L>::new(blank);
     let mut walk = Walk::new(alloc);
     let mut left = all;
-    while !left.is_empty() {
-        let (id, run, back) = next_run(left);
+    while let Some((first, _)) = left.split_first() {
+        let id = stream_of(&first.holds);
+        let (run, back) = left.split_at(own_len(id, left));
         walk.take(alloc, id, run, &mut steps)?;
         left = back;
     }
