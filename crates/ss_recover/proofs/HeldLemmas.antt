@@ -10,7 +10,7 @@ use Rattle.ss_recover.proofs.Common.{windows_carried, ℕ}
 use Rattle.ss_recover.specs.Carried.{spelled}
 use Rattle.ss_recover.specs.Conditions.{is_sound}
 use Rattle.ss_recover.specs.Parts.{carried}
-use Rattle.ss_recover.proofs.HeldRecords.{all-number_of, all_walked, created, created-all_walked, every_slot_spells, HasOwn-each, made_of_records}
+use Rattle.ss_recover.proofs.HeldRecords.{all-number_of, all_walked, created, created-all_walked, every_slot_spells, HasOwn, HasOwn-each, made_of_records}
 use Rattle.ss_recover.proofs.HeldRecords.{standing-all_walked}
 use Rattle.ss_recover.proofs.InOrder.{in_order-IsPermutation, Rise, Rise-increasing}
 use Rattle.ss_recover.proofs.Lists.{all-from_map, all_both, all_weaker, filter_map-kept, kept, position-none}
@@ -50,14 +50,9 @@ own_step-each (s ∷ ss) rise each =
           ss (all-from_map (λ (c : Created). s.number < c.number) created ss rise.0) (own_step-each ss rise.1 each.1),
     )
 
--- Records have those of each stream, in some order: these streams stand, and each has its windows and its landmarks.
-pub record HaveThose (streams : List Stream) (records : List Record) : Type 0 where
-  pub standing : IsPermutation (map created streams) (streams_standing records)
-  pub windows : AllByRecursion (λ s. IsPermutation s.windows (filter_map (window_of s.number) records)) streams
-  pub marks : AllByRecursion (λ s. IsPermutation (marks_of s.number 1 s.landmarks) (filter (is_mark_of s.number) records)) streams
-
--- the streams of a state, of which records have those
-module _ (streams : List Stream) (records : List Record) (state : IsState streams) (those : HaveThose streams records) where
+-- the streams of a state, where what is made of their records is made of records
+module _ (streams : List Stream) (records : List Record) (state : IsState streams)
+    (made : (Y : Type 0) (f : Record → Option Y) → f Free ≡ None → IsPermutation (filter_map f (all_walked streams)) (filter_map f records)) where
   rise_created : Rise (λ (s : Created). s.number) (map created streams)
   rise_created =
       Rise-increasing (λ (s : Created). s.number) (map created streams)
@@ -66,22 +61,28 @@ module _ (streams : List Stream) (records : List Record) (state : IsState stream
   each_is : AllByRecursion IsStream streams
   each_is = recursion_from_All IsStream streams state.each
 
-  -- the windows of each stream
+  own : AllByRecursion (HasOwn streams) streams
+  own = HasOwn-each streams (Rise-increasing (λ (s : Stream). s.number) streams state.numbers)
+
+  -- the windows and the landmarks of each stream
   windows_are : AllByRecursion (λ s. windows_carried s.number records ≡ s.windows) streams
   windows_are =
-      all_both _ _ _ (λ s moved is.
-      in_order-IsPermutation (λ (w : Window). w.first) (filter_map (window_of s.number) records) s.windows moved (Rise-AreWindows s.windows is.windows))
-      streams those.windows each_is
+      all_both _ _ _ (λ s has is.
+      in_order-IsPermutation (λ (w : Window). w.first) (filter_map (window_of s.number) records) s.windows
+      (subst (λ l. IsPermutation l (filter_map (window_of s.number) records)) has.windows (made Window (window_of s.number) refl))
+      (Rise-AreWindows s.windows is.windows)) streams own each_is
 
   abbrev MarksAre : Stream → Type 0
   MarksAre s = marks_carried s.number records ≡ marks_of s.number 1 s.landmarks
 
-  -- the landmarks of each stream
   marks_are : AllByRecursion MarksAre streams
   marks_are =
-      all_both _ _ _ (λ s moved room.
-      in_order-marks_of s.number 1 s.landmarks (filter (is_mark_of s.number) records) moved (omega (arith, length-marks_of s.number 1 s.landmarks, room)))
-      streams those.marks (each-records_of streams MOST_RECORDS state.room)
+      all_both _ _ _ (λ s has room.
+      let kept_own = filter_map-kept (is_mark_of s.number) (all_walked streams) ∙ has.marks in
+      let moved = subst (λ l. IsPermutation l (filter_map (kept (is_mark_of s.number)) records)) kept_own (made Record (kept (is_mark_of s.number)) refl) in
+      in_order-marks_of s.number 1 s.landmarks (filter (is_mark_of s.number) records)
+      (subst (IsPermutation (marks_of s.number 1 s.landmarks)) (filter_map-kept (is_mark_of s.number) records) moved)
+      (omega (arith, length-marks_of s.number 1 s.landmarks, room))) streams own (each-records_of streams MOST_RECORDS state.room)
 
   carries_each : AllByRecursion (Carries records) streams
   carries_each =
@@ -90,27 +91,12 @@ module _ (streams : List Stream) (records : List Record) (state : IsState stream
       all_both _ _ _ (λ s both is. (both.0, ap landmarks_made both.1 ∙ landmarks_made-marks_of s.number s.landmarks is.landmarks)) streams
       (all_both Windows MarksAre Both (λ s windows marks. (windows, marks)) streams windows_are marks_are) each_is
 
-  pub streams_are : streams_carried records ≡ streams
+  streams_are : streams_carried records ≡ streams
   streams_are =
+      let standing = subst (λ l. IsPermutation l (streams_standing records)) (standing-all_walked streams) (made Created stands_by refl) in
       ap (map (stream_carried records))
-      (in_order-IsPermutation (λ (s : Created). s.number) (streams_standing records) (map created streams) those.standing rise_created)
+      (in_order-IsPermutation (λ (s : Created). s.number) (streams_standing records) (map created streams) standing rise_created)
       ∙ map-stream_carried records streams carries_each
-
--- where what is made of the records of streams is made of records
-module _ (streams : List Stream) (records : List Record) (state : IsState streams)
-    (made : (Y : Type 0) (f : Record → Option Y) → f Free ≡ None → IsPermutation (filter_map f (all_walked streams)) (filter_map f records)) where
-  pub those_made : HaveThose streams records
-  those_made =
-      let own = HasOwn-each streams (Rise-increasing (λ (s : Stream). s.number) streams state.numbers) in
-      record {
-        standing = subst (λ l. IsPermutation l (streams_standing records)) (standing-all_walked streams) (made Created stands_by refl);
-        windows = all_weaker _ _ (λ s has.
-            subst (λ l. IsPermutation l (filter_map (window_of s.number) records)) has.windows (made Window (window_of s.number) refl)) streams own;
-        marks = all_weaker _ _ (λ s has.
-            subst (λ l. IsPermutation l (filter (is_mark_of s.number) records)) (filter_map-kept (is_mark_of s.number) (all_walked streams) ∙ has.marks)
-            (subst (IsPermutation (filter_map (kept (is_mark_of s.number)) (all_walked streams))) (filter_map-kept (is_mark_of s.number) records)
-            (made Record (kept (is_mark_of s.number)) refl))) streams own;
-      }
 
   moved : IsPermutation (map created streams) (streams_created records)
   moved = subst (λ l. IsPermutation l (streams_created records)) (created-all_walked streams) (made Created created_by refl)
@@ -124,17 +110,17 @@ module _ (streams : List Stream) (records : List Record) (state : IsState stream
       let names = subst (IsDistinct same_name) (sym (map-map (λ (s : Created). s.name) created streams)) state.names in
       all-from_map (λ s. stands_alone s.number (streams_created records) ≡ true) created streams (all_weaker _ _
       (λ s is. sym (stands_alone-moved s.number (map created streams) (streams_created records) moved) ∙ is) (map created streams)
-      (stands_alone-each (map created streams) (rise_created streams records state those_made) names few))
+      (stands_alone-each (map created streams) rise_created names few))
 
   keep_each : AllByRecursion (λ (s : Stream). keep_own_step s.number (map created streams) s.windows ≡ true) streams
   keep_each =
-      own_step-each streams (rise_created streams records state those_made) (all_weaker _ _ (λ s is. is.steps) streams
-      (each_is streams records state those_made))
+      own_step-each streams rise_created (all_weaker _ _ (λ s is. is.steps) streams
+      each_is)
 
   sound : AllByRecursion (λ s. is_sound records s.number ≡ true) streams
   sound =
       let Alone : Stream → Type 0 = λ s. stands_alone s.number (streams_created records) ≡ true in
-      let Own : Stream → Type 0 = MarksAre streams records state those_made in
+      let Own : Stream → Type 0 = MarksAre in
       let Both : Stream → Type 0 = λ s. Carries records s × Own s in
       let Kept : Stream → Type 0 = λ s. IsStream s × (keep_own_step s.number (map created streams) s.windows ≡ true) in
       let All : Stream → Type 0 = λ s. Both s × Kept s in
@@ -151,8 +137,8 @@ module _ (streams : List Stream) (records : List Record) (state : IsState stream
       ∙ sym (own_step-moved s.number s.windows (map created streams) (streams_created records) moved) ∙ all.1.1 in
       is_sound-from records s.number one (or_right _ _ (and_from _ _ (and_from _ _ (and_from _ _ (and_from _ _ d e) f) g) h)))
       streams alone (all_both Both Kept All (λ s both is. (both, is)) streams
-      (all_both _ _ _ (λ s carries marks. (carries, marks)) streams (carries_each streams records state those_made)
-      (marks_are streams records state those_made)) (all_both _ _ _ (λ s is keep. (is, keep)) streams (each_is streams records state those_made) keep_each))
+      (all_both _ _ _ (λ s carries marks. (carries, marks)) streams carries_each
+      marks_are) (all_both _ _ _ (λ s is keep. (is, keep)) streams each_is keep_each))
 
   pub none_bad : lowest_bad_stream records ≡ None
   none_bad =
@@ -173,4 +159,4 @@ carried-AreHeld parts streams found whole held =
     ap (λ o. judged o (lowest_bad_stream rs) (streams_carried rs)) slot
     ∙ ap (λ o. judged None o (streams_carried rs)) (none_bad streams rs held.state (λ Y f free. made_of_records parts streams found whole held f free))
     ∙ ap (judged None None)
-    (streams_are streams rs held.state (those_made streams rs held.state (λ Y f free. made_of_records parts streams found whole held f free)))
+    (streams_are streams rs held.state (λ Y f free. made_of_records parts streams found whole held f free))

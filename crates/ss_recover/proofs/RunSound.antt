@@ -262,25 +262,25 @@ pub record IsRun (all front : List Found) (f : Found) (rest back : List Found) :
   pub rises : Rises place_of (without_slots (f ∷ rest))
 
 -- the next ones, where records of lower numbers came
-pub next-run : (all front : List Found) (f : Found) (tail : List Found) → all ≡ front ++ f ∷ tail → AreBefore front (f ∷ tail) →
-    AllByRecursion (λ g. IsUsable g.holds) all → Rises found_key all →
-    IsRun all front f (take (own_len (found_number f) tail) tail) (drop (own_len (found_number f) tail) tail)
-next-run all front f tail whole before usable order =
-    let k = own_len (found_number f) tail in
-    let rest = take k tail in
-    let own = own-taken (found_number f) tail in
-    let parted : all ≡ front ++ ((f ∷ rest) ++ drop k tail) = whole ∙ ap (λ l. front ++ f ∷ l) (sym (take-append-drop k tail)) in
-    let usable_left : (l : List Found) → all ≡ front ++ l → AllByRecursion (λ g. IsUsable g.holds) l =
-    λ l is. each-behind _ front l (subst (AllByRecursion (λ g. IsUsable g.holds)) is usable) in
-    let order_left : (l : List Found) → all ≡ front ++ l → Rises found_key l = λ l is. (Rises-parts found_key front l (subst (Rises found_key) is order)).1 in
-    let rising = streams-rise (f ∷ tail) (order_left (f ∷ tail) whole) (usable_left (f ∷ tail) whole) in
+pub next-run : (all front : List Found) (f : Found) (tail rest back : List Found) → all ≡ front ++ f ∷ tail → AreBefore front (f ∷ tail) →
+    AllByRecursion (λ g. IsUsable g.holds) all → Rises found_key all → rest ≡ take (own_len (found_number f) tail) tail →
+    back ≡ drop (own_len (found_number f) tail) tail → IsRun all front f rest back
+next-run all front f tail rest back whole before usable order rest_is back_is =
+    let n = found_number f in
+    let own = subst (AllByRecursion (λ g. found_number g ≡ n)) (sym rest_is) (own-taken n tail) in
+    let split : rest ++ back ≡ tail = ap₂ ◌++◌ rest_is back_is ∙ take-append-drop (own_len n tail) tail in
+    let parted : all ≡ front ++ ((f ∷ rest) ++ back) = whole ∙ ap (λ l. front ++ f ∷ l) (sym split) in
+    let usable_left = each-behind _ front ((f ∷ rest) ++ back) (subst (AllByRecursion (λ g. IsUsable g.holds)) parted usable) in
+    let order_left = (Rises-parts found_key front ((f ∷ rest) ++ back) (subst (Rises found_key) parted order)).1 in
+    let rising = streams-rise ((f ∷ rest) ++ back) order_left usable_left in
     record {
       whole = parted;
       lower = before.0;
       own = own;
-      above = above-dropped (found_number f) tail rising.0 rising.1;
-      usable = each-front _ (f ∷ rest) (drop k tail) (usable_left _ parted);
-      rises = places-rise (found_number f) (f ∷ rest) (Rises-parts found_key (f ∷ rest) (drop k tail) (order_left _ parted)).0 (refl, own);
+      above = subst (AllByRecursion (λ g. n < found_number g)) (sym back_is) (above-dropped n tail
+          (subst (AllByRecursion (λ g. n ≤ found_number g)) split rising.0) (subst (Rises found_number) split rising.1));
+      usable = each-front _ (f ∷ rest) back usable_left;
+      rises = places-rise n (f ∷ rest) (Rises-parts found_key (f ∷ rest) back order_left).0 (refl, own);
     }
 
 module _ (all front : List Found) (f : Found) (rest back : List Found) (is : IsRun all front f rest back) where

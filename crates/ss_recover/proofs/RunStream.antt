@@ -276,7 +276,7 @@ walk all (suc most) front (f ∷ tail) whole few before usable order sound =
     let k = own_len (found_number f) tail in
     let rest = take k tail in
     let back = drop k tail in
-    let is = next-run all front f tail whole before usable order in
+    let is = next-run all front f tail rest back whole before usable order refl refl in
     let sounds = each-behind _ rest back
     (subst (AllByRecursion (λ g. is_sound_in_order (without_slots all) (found_number g) ≡ true)) (sym (take-append-drop k tail)) sound.1) in
     let behind = walk all most (front ++ f ∷ rest) back (is.whole ∙ sym (append_assoc front (f ∷ rest) back)) (omega (arith, few, length-drop k tail))

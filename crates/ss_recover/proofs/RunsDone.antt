@@ -1,11 +1,11 @@
 -- What a walk has of the records so far, and what the next run makes of it.
 use Rattle.ss_recover.proofs.Common.{[], ◌++◌, ◌<◌, ◌==◌, ◌∙◌, ◌∷◌, ◌≡◌, ◌≤◌, All, All-from_recursion, AllAgree, AllByRecursion, ap, append-nil, append_assoc}
-use Rattle.ss_recover.proofs.Common.{ap₂, AreBuilt, arith, BadSlot, BadStream, Bool, cond, cond-true, Created, Disk, doomed_found, drop, EndsWalk, eq-eqb, Err}
-use Rattle.ss_recover.proofs.Common.{false, filter, filter-append, flat_map, Found, found_key, found_number, HasMore, HasNothing, IfErr, IfOk, is_dropped}
-use Rattle.ss_recover.proofs.Common.{is_own, is_run, is_sound_in_order, IsLowestUnsound, IsPermutation, IsPermutation-append_right, IsPermutation-map}
+use Rattle.ss_recover.proofs.Common.{ap₂, AreBuilt, arith, BadSlot, BadStream, Bool, cond, Created, Disk, doomed_found, drop, EndsWalk, eq-eqb, Err, false}
+use Rattle.ss_recover.proofs.Common.{filter, filter-append, flat_map, Found, found_key, found_number, HasMore, HasNothing, IfErr, IfOk, is_dropped, is_own}
+use Rattle.ss_recover.proofs.Common.{is_run, is_sound_in_order, IsLowestUnsound, IsPermutation, IsPermutation-append_right, IsPermutation-map}
 use Rattle.ss_recover.proofs.Common.{IsPermutation-refl, IsPermutation-trans, IsUsable, length, List, list_any, list_any-append, map, map-append, MOST_RECORDS}
 use Rattle.ss_recover.proofs.Common.{names_in, not, Ok, or_left, or_right, OutOfMemory, own_len, Parts, Record, records_held, RecoverError, recursion_from_All}
-use Rattle.ss_recover.proofs.Common.{refl, Result, Rises, slots_found, stream_made, stream_of, StreamParts, streams_made, subst, suc, sym, take, taken}
+use Rattle.ss_recover.proofs.Common.{refl, Result, Rises, slots_found, stream_made, stream_of, StreamParts, streams_made, subst, sym, take, taken}
 use Rattle.ss_recover.proofs.Common.{TakesAs, TakesStream, true, Walk, WalksAs, with_slot, without_slots, zip, ℕ}
 use Rattle.ss_recover.proofs.RunHeld.{AllAgree-append, held-agrees, held-append, held-found}
 use Rattle.ss_recover.proofs.Lists.{all-each, all-from_map, all_append, all_weaker, map-all}
@@ -128,48 +128,36 @@ IsDoneTo-none all walk none =
 
 -- the next records, as many as are of the number of the first
 module _ (all left : List Found) (walk : Walk) (to : IsDoneTo all left walk) (order : Rises found_key all) (usable : All (λ (f : Found). IsUsable f.holds) all)
-    (f : Found) (tail : List Found) (is : left ≡ f ∷ tail) (n len : ℕ) (number : n ≡ found_number f) (long : len ≡ own_len n left) where
-  abbrev k : ℕ
-  k = own_len (found_number f) tail
-
-  abbrev rest : List Found
-  rest = take k tail
-
-  abbrev back : List Found
-  back = drop k tail
-
-  len-is : len ≡ suc k
-  len-is = long ∙ ap₂ own_len number is ∙ cond-true _ _ _ (eq-eqb (found_number f) (found_number f) refl)
-
+    (f : Found) (tail : List Found) (is : left ≡ f ∷ tail) (n len : ℕ) (number : n ≡ found_number f) (long : len ≡ own_len n tail) (rest back : List Found)
+    (rest_is : rest ≡ take len tail) (back_is : back ≡ drop len tail) where
   next : IsRun all to.front f rest back
-  next = next-run all to.front f tail (to.whole ∙ ap (λ l. to.front ++ l) is) (subst (AreBefore to.front) is to.before)
-      (recursion_from_All (λ (g : Found). IsUsable g.holds) all usable) order
+  next =
+      let same = long ∙ ap (λ m. own_len m tail) number in
+      next-run all to.front f tail rest back (to.whole ∙ ap (λ l. to.front ++ l) is) (subst (AreBefore to.front) is to.before)
+      (recursion_from_All (λ (g : Found). IsUsable g.holds) all usable) order (rest_is ∙ ap (λ (k : ℕ). take k tail) same)
+      (back_is ∙ ap (λ (k : ℕ). drop k tail) same)
 
-  run-is : take len left ≡ f ∷ rest
-  run-is = ap₂ (λ (i : ℕ) (l : List Found). take i l) len-is is
+  pub first-usable : IsUsable f.holds
+  first-usable = next.usable.0
 
-  pub run-usable : (run : List Found) → run ≡ take len left → All (λ (g : Found). IsUsable g.holds) run
-  run-usable run at = subst (All (λ (g : Found). IsUsable g.holds)) (sym (at ∙ run-is)) (All-from_recursion _ (f ∷ rest) next.usable)
+  pub rest-usable : All (λ (g : Found). IsUsable g.holds) rest
+  rest-usable = All-from_recursion _ rest next.usable.1
 
-  pub run-own : (run : List Found) → run ≡ take len left → All (λ (g : Found). stream_of g.holds ≡ n) run
-  run-own run at = subst (All (λ (g : Found). stream_of g.holds ≡ n)) (sym (at ∙ run-is))
-      (All-from_recursion _ (f ∷ rest) (sym number, all_weaker _ _ (λ g same. same ∙ sym number) rest next.own))
+  pub rest-own : All (λ (g : Found). stream_of g.holds ≡ n) rest
+  rest-own = All-from_recursion _ rest (all_weaker _ _ (λ g same. same ∙ sym number) rest next.own)
 
-  pub IsDoneTo-more : (run others : List Found) → run ≡ take len left → others ≡ drop len left → (new : Walk) → TakesAs walk new n run (Ok tt) →
-      IsDoneTo all others new
-  IsDoneTo-more run others at behind new takes =
-      let took = subst (λ l. TakesAs walk new n l (Ok tt)) (at ∙ run-is) takes in
-      subst (λ l. IsDoneTo all l new) (sym (behind ∙ ap₂ (λ (i : ℕ) (l : List Found). drop i l) len-is is)) (record {
-        front = to.front ++ f ∷ rest;
-        whole = next.whole ∙ sym (append_assoc to.front (f ∷ rest) back);
-        done = taken-done all walk new to.front f.slot f.holds rest back next
-            (ap (λ ns. is_run ns (without_slots (f ∷ rest))) (sym to.done.names_are) ∙ took.0) to.done took.1;
-        before = before-back all to.front f rest back next;
-      })
+  pub IsDoneTo-more : (new : Walk) → TakesAs walk new n f rest (Ok tt) → IsDoneTo all back new
+  IsDoneTo-more new took = record {
+    front = to.front ++ f ∷ rest;
+    whole = next.whole ∙ sym (append_assoc to.front (f ∷ rest) back);
+    done = taken-done all walk new to.front f.slot f.holds rest back next
+        (ap (λ ns. is_run ns (without_slots (f ∷ rest))) (sym to.done.names_are) ∙ took.0) to.done took.1;
+    before = before-back all to.front f rest back next;
+  }
 
   -- what is answered where the run isn't sound: its number is the lowest
-  pub walk-refused : (run : List Found) → run ≡ take len left → (new : Walk) (e : RecoverError) → TakesAs walk new n run (Err e) → WalksAs all (Err e)
-  walk-refused run at new (BadStream m) runs =
+  pub walk-refused : (new : Walk) (e : RecoverError) → TakesAs walk new n f rest (Err e) → WalksAs all (Err e)
+  walk-refused new (BadStream m) runs =
       let us = without_slots all in
       let own : Record → Bool = λ r. stream_of r == found_number f in
       let Sound : Found → Type 0 = λ g. found_number g < found_number f → is_sound_in_order us (found_number g) ≡ true in
@@ -179,16 +167,15 @@ module _ (all left : List Found) (walk : Walk) (to : IsDoneTo all left walk) (or
             ∙ list_any-append own (without_slots to.front) (without_slots (f ∷ rest) ++ without_slots back)
             ∙ or_right (list_any own (without_slots to.front)) _ (or_left (own f.holds) (list_any own (without_slots rest ++ without_slots back))
             (eq-eqb (found_number f) (found_number f) refl));
-        unsound = sound-run all to.front f rest back next
-            ∙ ap₂ (λ ns l. is_run ns (without_slots l)) (sym to.done.names_are) (sym (at ∙ run-is)) ∙ runs.1;
+        unsound = sound-run all to.front f rest back next ∙ ap (λ ns. is_run ns (without_slots (f ∷ rest))) (sym to.done.names_are) ∙ runs.1;
         lower = map-all _ (λ (g : Found). g.holds) all (subst (AllByRecursion Sound) (sym next.whole) (all_append Sound to.front ((f ∷ rest) ++ back)
             (all_weaker _ Sound (λ g sound lt. sound) to.front front_sound) (all_append Sound (f ∷ rest) back
             (all_weaker _ Sound (λ g same lt. absurd (omega (arith, same, lt))) (f ∷ rest) (refl, next.own))
             (all_weaker _ Sound (λ g above lt. absurd (omega (arith, above, lt))) back next.above))));
       })
-  walk-refused run at new OutOfMemory runs = tt
-  walk-refused run at new (BadSlot m) runs = absurd runs
-  walk-refused run at new Disk runs = absurd runs
+  walk-refused new OutOfMemory runs = tt
+  walk-refused new (BadSlot m) runs = absurd runs
+  walk-refused new Disk runs = absurd runs
 
 -- at the end all records are those of streams that are held, and those that are doomed
 AreBuilt-done : (walk : Walk) (parts : Parts) (all : List Found) → HasDone (without_slots all) walk all → EndsWalk walk parts → Rises found_key all →

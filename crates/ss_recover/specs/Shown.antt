@@ -256,15 +256,14 @@ TakesStream old new slot (records.Stream id name params false) rest =
     × HasMore old new (name ∷ []) (part ∷ []) [] []
 TakesStream old new slot _ rest = ⊥
 
--- what the records of one number answer
-abbrev pub TakesAs : Walk → Walk → ℕ → List Found → Result ⊤ RecoverError → Type 0
-TakesAs old new id [] (Ok done) = ⊥
-TakesAs old new id (f ∷ rest) (Ok done) =
+-- what the records of one number answer, the first of them and the others
+abbrev pub TakesAs : Walk → Walk → ℕ → Found → List Found → Result ⊤ RecoverError → Type 0
+TakesAs old new id f rest (Ok done) =
     (is_run (names_in old.names) (without_slots (f ∷ rest)) ≡ true) × TakesStream old new f.slot f.holds rest
-TakesAs old new id run (Err (BadStream n)) = (n ≡ id) × (is_run (names_in old.names) (without_slots run) ≡ false)
-TakesAs old new id run (Err OutOfMemory) = ⊤
-TakesAs old new id run (Err (BadSlot n)) = ⊥
-TakesAs old new id run (Err Disk) = ⊥
+TakesAs old new id f rest (Err (BadStream n)) = (n ≡ id) × (is_run (names_in old.names) (without_slots (f ∷ rest)) ≡ false)
+TakesAs old new id f rest (Err OutOfMemory) = ⊤
+TakesAs old new id f rest (Err (BadSlot n)) = ⊥
+TakesAs old new id f rest (Err Disk) = ⊥
 
 -- all records came: the slots, each kind in order, the streams' own last
 pub record EndsWalk (walk : Walk) (parts : Parts) : Type 0 where

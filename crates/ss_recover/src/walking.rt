@@ -133,22 +133,22 @@ impl Walk {
         Ok(())
     }
 
-    // The records of one number.
+    // The records of one number, the first of them and the others.
     fn take<L: Ledger>(
         &mut self,
         alloc: Global,
         id: u32,
-        run: &[Found],
+        first: &Found,
+        rest: &[Found],
         steps: &mut Steps<L>,
     ) -> Result<(), RecoverError>
-        requires usable { All (λ f. IsUsable f.holds) run.now }
-        requires own { All (λ f. stream_of f.holds ≡ id) run.now }
-        requires few { length run.now ≤ MOST_RECORDS }
-        ensures { TakesAs self.old self.new id run.now result }
+        requires first { IsUsable first.now.holds }
+        requires number { stream_of first.now.holds ≡ id }
+        requires usable { All (λ f. IsUsable f.holds) rest.now }
+        requires own { All (λ f. stream_of f.holds ≡ id) rest.now }
+        requires few { length rest.now < MOST_RECORDS }
+        ensures { TakesAs self.old self.new id first.now rest.now result }
     {
-        let Some((first, rest)) = run.split_first() else {
-            return Err(RecoverError::BadStream { id });
-        };
         let Record::Stream {
             name,
             params,
@@ -212,10 +212,10 @@ pub fn streams_of<L: Ledger>(
     let mut steps = Steps::<L>::new(blank);
     let mut walk = Walk::new(alloc);
     let mut left = all;
-    while let Some((first, _)) = left.split_first() {
+    while let Some((first, tail)) = left.split_first() {
         let id = stream_of(&first.holds);
-        let (run, back) = left.split_at(own_len(id, left));
-        walk.take(alloc, id, run, &mut steps)?;
+        let (rest, back) = tail.split_at(own_len(id, tail));
+        walk.take(alloc, id, first, rest, &mut steps)?;
         left = back;
     }
     walk.end()
