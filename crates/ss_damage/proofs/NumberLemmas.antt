@@ -101,7 +101,7 @@ no_two_bits xs i j place size bytes first middle last order is =
     let last_too : 0 < number_of_bytes (drop size rest) = omega (arith, last, ap number_of_bytes behind) in
     let some : 0 < number_of_bytes rest = take-some size rest middle in
     let sum : number_of_bytes (take place xs) + 2 ^ (8 * place) * number_of_bytes rest ≡ 2 ^ j + 2 ^ i = sym (number_of_bytes-split place xs) ∙ is ∙
-        two_bits i j order in
+    two_bits i j order in
     let one = two_parts (8 * place) (number_of_bytes (take place xs)) (number_of_bytes rest) i j (number_of_bytes-before place xs bytes) first some order sum in
     one_part (8 * size) (number_of_bytes (take size rest)) (number_of_bytes (drop size rest)) (j - 8 * place)
     (number_of_bytes-before size rest (All-drop (λ x. x < 2 ^ 8) place xs bytes)) middle last_too (sym (number_of_bytes-split size rest) ∙ one)
