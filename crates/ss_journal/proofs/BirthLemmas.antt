@@ -1,6 +1,6 @@
 -- The steps of the birth, and what a crash may leave of them.
-use Rattle.ss_journal.proofs.Common.{on_ok_weaker, IsFalse, IsTrue, List, Ok, Result, [], ap, arith, drop, inl, inr, length, max, nat_le, refl, replicate}
-use Rattle.ss_journal.proofs.Common.{subst, sym, take, ℕ, ◌++◌, ◌+◌, ◌-◌, ◌<◌, ◌==◌, ◌∙◌, ◌∷◌, ◌≡◌, ◌≤◌, cases_Bool, cases_lt, cond-false, cond-true}
+use Rattle.ss_journal.proofs.Common.{on_ok_weaker, IsFalse, IsTrue, List, Ok, Result, [], ap, arith, inl, inr, length, max, nat_le, refl, replicate}
+use Rattle.ss_journal.proofs.Common.{subst, sym, ℕ, ◌+◌, ◌-◌, ◌<◌, ◌==◌, ◌∙◌, ◌∷◌, ◌≡◌, ◌≤◌, cases_Bool, cases_lt, cond-false, cond-true}
 use Rattle.ss_journal.proofs.Common.{eqb-true, leb-true, or_cases, or_parts, append-nil, get_or-replicate, get_or_past, length-replicate, take-append-drop}
 use Rattle.ss_journal.proofs.Common.{IsErr, slice_index, get_or-overwrite_inside, get_or-overwrite_outside, length-overwrite, KnowsNow, OnlyReads, Told}
 use Rattle.ss_journal.proofs.Common.{overwrite, Begins, IsFormed, Leads, has_no_kind, magic_bytes, Syncs, Failed, Kind, Plain, Checked, IsShut, has_magic}
@@ -143,7 +143,7 @@ pub SameRest-trans : (first second third : List ℕ) → SameRest first second �
 SameRest-trans first second third was is place past = is place past ∙ was place past
 
 overwrite-nothing : (content : List ℕ) → overwrite content 1 [] ≡ content
-overwrite-nothing content = ap (λ (front : List ℕ). front ++ drop 1 content) (append-nil (take 1 content)) ∙ take-append-drop 1 content
+overwrite-nothing content = rw (append-nil, take-append-drop)
 
 -- the magic of a kind that was written tells it
 pub is_magic-overwrite : (kind : Kind) (content : List ℕ) → 0 < length content
@@ -239,7 +239,7 @@ module _ (content : List ℕ) (begun : IsBegun content) where
     -- both writes differ from the content where they are made
     pub DiffersIn-blank : DiffersIn (form_ranges content) content blank
     DiffersIn-blank =
-        let wipes = subst (λ (count : ℕ). DiffersIn ((9, count) ∷ []) marked blank) (length-wiped ∙ ap (λ (n : ℕ). n - 9) is_end)
+        let wipes = subst (λ (count : ℕ). DiffersIn ((9, count) ∷ []) marked blank) (rw (length-wiped, is_end))
         (DiffersIn-overwrite 9 marked wiped long-marked) in
         DiffersIn-append ((1, length (magic_bytes content)) ∷ []) ((9, blank_end (length content) - 9) ∷ []) content marked blank
         (DiffersIn-overwrite 1 content (magic_bytes content) within) wipes

@@ -1,5 +1,5 @@
 -- Rows that pin what the calls of a journal leave, field by field.
-use Rattle.ss_journal.proofs.Common.{◌≡◌, ◌⊎◌, ◌∙◌, ap, ◌+◌, ◌*◌, ◌<◌, ◌≤◌, ℕ, List, [], ◌∷◌, length, Result, Ok, Err, IsTrue, IsFalse, Bool, true, not, ◌&&◌}
+use Rattle.ss_journal.proofs.Common.{◌≡◌, ◌⊎◌, ◌+◌, ◌*◌, ◌<◌, ◌≤◌, ℕ, List, [], ◌∷◌, length, Result, Ok, Err, IsTrue, IsFalse, Bool, true, not, ◌&&◌}
 use Rattle.ss_journal.proofs.Common.{◌||◌, refl, LeavesOnly, OnlyReads, NothingPending, SyncsAtMost, Told, Failed, JournalError, NotAStore, BadEntry, Settled}
 use Rattle.ss_journal.proofs.Common.{Unborn, Put, Commits, HasStaged, KeepsMap, KeepsShown, MakesDurable, MakesChecked, MakesRoom, ReadsPage, ReadsSlot}
 use Rattle.ss_journal.proofs.Common.{Seals, Settles, Stages, entries_after, slot_in_page, has_no_kind, is_born, is_plain, is_unborn, kind_of, magic, slots_in}
@@ -7,8 +7,7 @@ use Rattle.ss_journal.proofs.Common.{IsClosed, HasRoomFor, IsBounded, IsInPhase,
 use Rattle.ss_journal.proofs.Common.{entry_count, DoAs, newest_after, FillSlots, extent_after, is_put, slots_fit, SameMap, SlotMap, StandsFor, bad_entry}
 use Rattle.ss_journal.proofs.Common.{changed, entries_in_use, not_a_store, puts_in_use, redo, stands, zeros, SameRest, All, slice_index}
 use Rattle.std.proofs.Common.{lit≤}
-use Rattle.ss_journal.specs.Calls.{ChangesMap, HasCommitted, HasMadeRoom, HasSealed, HasSettled}
-use Rattle.ss_journal.specs.Calls.{Opens, SyncsForRoom}
+use Rattle.ss_journal.specs.Calls.{ChangesMap, HasCommitted, HasMadeRoom, HasSealed, HasSettled, Opens, SyncsForRoom}
 use Rattle.std.specs.Prelude.{codes}
 
 -- the bytes that stand after the birth gate
@@ -253,10 +252,10 @@ three_staged = record {
 
 module _ (then : JournalState) where
   HasStaged-none_more : HasStaged (put_into 2 ∷ put_into 4 ∷ []) three_staged then → then.in_use ≡ 2
-  HasStaged-none_more has = has.number ∙ ap (λ (staged : List Put). 1 + entry_count (length staged)) has.staged
+  HasStaged-none_more has = rw (has.number, has.staged)
 
   HasStaged-one_more : HasStaged (put_into 4 ∷ put_into 5 ∷ []) three_staged then → then.in_use ≡ 3
-  HasStaged-one_more has = has.number ∙ ap (λ (staged : List Put). 1 + entry_count (length staged)) has.staged
+  HasStaged-one_more has = rw (has.number, has.staged)
 
 -- what is true of each journal
 module _ (journal : JournalState) (is : IsBounded journal) where

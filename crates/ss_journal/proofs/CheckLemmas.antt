@@ -1,5 +1,5 @@
 -- The form that the file has of records and entries: taken twice it leaves them, and it leaves all but their checks.
-use Rattle.ss_journal.proofs.Common.{◌≡◌, ◌∙◌, refl, sym, ap, ℕ, zero, suc, ◌+◌, ◌-◌, ◌<◌, ◌≤◌, List, [], ◌∷◌, ◌++◌, length, take, drop, get_or, arith, inl}
+use Rattle.ss_journal.proofs.Common.{◌≡◌, ◌∙◌, refl, sym, ap, ℕ, zero, suc, ◌+◌, ◌-◌, ◌<◌, ◌≤◌, List, [], ◌∷◌, length, take, drop, get_or, arith, inl}
 use Rattle.ss_journal.proofs.Common.{inr, slice_index, set, cases_eq, cases_lt, cond-false, cond-true, eq-eqb, ne_eqb, append-nil, drop_all, drop_at}
 use Rattle.ss_journal.proofs.Common.{get_or-drop, get_or-take, length-append, length-drop, length-take, length-take-le, take-append-drop, take_all, take_at}
 use Rattle.ss_journal.proofs.Common.{check_of, masked_from, Kind, Plain, Checked}
@@ -26,10 +26,7 @@ masked-twice (byte ∷ bytes) (m ∷ mask) =
 
 -- bytes that end before the place stay
 masked_from-past : (place : ℕ) (mask bytes : List ℕ) → length bytes ≤ place → masked_from place mask bytes ≡ bytes
-masked_from-past place mask bytes past =
-    ap (λ (rest : List ℕ). take place bytes ++ masked rest mask) (drop_all place bytes past)
-    ∙ ap (λ (rest : List ℕ). take place bytes ++ rest) (masked-none mask)
-    ∙ append-nil (take place bytes) ∙ take_all place bytes past
+masked_from-past place mask bytes past = rw (drop_all, masked-none, append-nil, take_all)
 
 pub length-masked_from : (place : ℕ) (mask bytes : List ℕ) → length (masked_from place mask bytes) ≡ length bytes
 length-masked_from place mask bytes =
@@ -50,19 +47,14 @@ take-masked_from place mask bytes = elim (cases_lt place (length bytes)) [
 
 pub get_or-masked_from : (place : ℕ) (mask bytes : List ℕ) (k d : ℕ) → k < place → get_or (masked_from place mask bytes) k d ≡ get_or bytes k d
 get_or-masked_from place mask bytes k d below =
-    sym (get_or-take place (masked_from place mask bytes) k d below)
-    ∙ ap (λ (list : List ℕ). get_or list k d) (take-masked_from place mask bytes)
-    ∙ get_or-take place bytes k d below
+    rw (← get_or-take place (masked_from place mask bytes) k d below, take-masked_from place mask bytes, get_or-take place bytes k d below)
 
 masked_from-twice : (place : ℕ) (mask bytes : List ℕ) → masked_from place mask (masked_from place mask bytes) ≡ bytes
 masked_from-twice place mask bytes = elim (cases_lt place (length bytes)) [
   | inl within ↦
       let rest : drop place (masked_from place mask bytes) ≡ masked (drop place bytes) mask =
       drop_at (take place bytes) (masked (drop place bytes) mask) place (length-take-le place bytes (omega (arith, within))) in
-      ap (λ (front : List ℕ). front ++ masked (drop place (masked_from place mask bytes)) mask) (take-masked_from place mask bytes)
-      ∙ ap (λ (list : List ℕ). take place bytes ++ masked list mask) rest
-      ∙ ap (λ (list : List ℕ). take place bytes ++ list) (masked-twice (drop place bytes) mask)
-      ∙ take-append-drop place bytes
+      rw (take-masked_from, rest, masked-twice, take-append-drop)
   | inr past ↦ ap (masked_from place mask) (masked_from-past place mask bytes past) ∙ masked_from-past place mask bytes past
 ]
 
@@ -74,8 +66,7 @@ masked-more [] (m ∷ mask) k few lt = absurd (omega (arith, lt))
 masked-more (byte ∷ bytes) (m ∷ mask) zero few lt = refl
 masked-more (byte ∷ bytes) (m ∷ mask) (suc k) few lt =
     let step : suc k + 1 ≡ suc (k + 1) = omega arith in
-    ap (λ (rest : List ℕ). bit_xor byte m ∷ rest) (masked-more bytes mask k (omega (arith, few)) (omega (arith, lt)))
-    ∙ sym (ap (λ (n : ℕ). masked (byte ∷ bytes) (take n (m ∷ mask))) step)
+    rw (masked-more bytes mask k (omega (arith, few)) (omega (arith, lt))) (sym (ap (λ (n : ℕ). masked (byte ∷ bytes) (take n (m ∷ mask))) step))
 
 pub masked_from-more : (place : ℕ) (mask bytes : List ℕ) (k : ℕ) → k < length mask → place + k < length bytes
     → set (masked_from place (take k mask) bytes) (place + k)
@@ -85,13 +76,9 @@ masked_from-more place mask bytes k few lt =
     let front : length (take place bytes) ≡ place = length-take-le place bytes (omega (arith, lt)) in
     let there : place + k - place ≡ k = omega arith in
     let byte : get_or (masked_from place (take k mask) bytes) (place + k) 0 ≡ get_or rest k 0 =
-    sym (get_or-drop place (masked_from place (take k mask) bytes) k 0)
-    ∙ ap (λ (list : List ℕ). get_or list k 0) (drop_at (take place bytes) rest place front) in
-    ap (λ (b : ℕ). set (masked_from place (take k mask) bytes) (place + k) (bit_xor b (get_or mask k 0))) byte
-    ∙ set-append_right (take place bytes) rest place (place + k) (bit_xor (get_or rest k 0) (get_or mask k 0)) front (omega arith)
-    ∙ ap (λ (i : ℕ). take place bytes ++ set rest i (bit_xor (get_or rest k 0) (get_or mask k 0))) there
-    ∙ ap (λ (list : List ℕ). take place bytes ++ list)
-    (masked-more (drop place bytes) mask k few (omega (arith, lt, length-drop place bytes)))
+    rw (← get_or-drop, drop_at) in
+    rw (byte, set-append_right (take place bytes) rest place (place + k) (bit_xor (get_or rest k 0) (get_or mask k 0)) front (omega arith), there)
+    (rw (masked-more (drop place bytes) mask k few (omega (arith, lt, length-drop place bytes))))
 
 pub masked_from-none : (place : ℕ) (mask bytes : List ℕ) → masked_from place (take 0 mask) bytes ≡ bytes
 masked_from-none place mask bytes = take-append-drop place bytes
@@ -126,7 +113,7 @@ unfolding slot_form
 length-slot_form Plain slot bytes = refl
 length-slot_form Checked slot bytes = elim (cases_eq (slice_index bytes 0) 0) [
   | inl free ↦ ap (λ (list : List ℕ). length list) (slot_form-free slot bytes free)
-  | inr live ↦ ap (λ (list : List ℕ). length list) (slot_form-live slot bytes live) ∙ length-masked_from 124 (check_of slot (take 124 bytes)) bytes
+  | inr live ↦ rw (slot_form-live, length-masked_from)
 ]
 
 pub slot_form-zeros : (kind : Kind) (slot : ℕ) → slot_form kind slot (replicate 128 0) ≡ replicate 128 0

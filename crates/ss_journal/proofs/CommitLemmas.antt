@@ -3,7 +3,7 @@ use Rattle.ss_journal.proofs.Common.{IsTrue, List, [], ap, arith, drop, inl, inr
 use Rattle.ss_journal.proofs.Common.{flat_map-append, map-range_with_len_more, append-nil, append_assoc, drop_at, length-append, length-take-le, take_at}
 use Rattle.ss_journal.proofs.Common.{range_with_len, flat_map, slice_index, overwrite, entries, entry_body, is_good, open_prefix, puts_of, entry_in}
 use Rattle.ss_journal.proofs.Common.{entry_bytes, is_born, kind_of, EndsAt, IsClosed, entry_place, is_open, EndsBefore, FillSlots, IsTxn, SameMap, SlotMap}
-use Rattle.ss_journal.proofs.Common.{StandsFor, changed, entries_in_use, file_map, puts_in_use, redo, redo_entries, stands, Put}
+use Rattle.ss_journal.proofs.Common.{StandsFor, changed, entries_in_use, file_map, redo, redo_entries, stands, Put}
 use Rattle.ss_journal.proofs.NextEntry.{AddsEntry, IsReadyFor}
 use Rattle.ss_journal.proofs.EntryLemmas.{is_good-body, puts_of-body}
 use Rattle.ss_journal.proofs.HeaderLemmas.{is_born-parts, is_born-same, kind_of-same, piece-same}
@@ -77,7 +77,7 @@ module _ (n : ℕ) (content image : List ℕ) (ends : EndsBefore n content) (fre
     pub StandsFor-closed : (found : SlotMap) → StandsFor content found → StandsFor image found
     StandsFor-closed found is =
         StandsFor-from image (changed (file_map image) (flat_map puts_of list)) found
-        (redo-formed image born-image ∙ ap (λ (all : List (List ℕ)). redo_entries 0 all (file_map image)) prefix-closed ∙ redone-before) (same-found found is)
+        (rw (redo-formed image born-image, prefix-closed, redone-before)) (same-found found is)
 
 -- where the next entry is free
 abbrev pub EndsBefore-ready : (n : ℕ) (puts : List Put) (content : List ℕ) → IsReadyFor n puts content → n < 64 → EndsBefore n content
@@ -119,10 +119,8 @@ module _ (n : ℕ) (puts : List Put) (content image : List ℕ) (ready : IsReady
 
   prefix-opened : open_prefix (entries image) ≡ before_it ++ entry ∷ []
   prefix-opened =
-      open_prefix-entries image (n + 1) (omega (arith, free)) opened-to (λ lt. rw gate-entry_in (closed-after lt))
-      ∙ map-range_with_len_more (entry_in image) 0 n n (omega arith)
-      ∙ ap (λ (all : List (List ℕ)). all ++ entry_in image n ∷ []) (same-before n content image ends free size from-slots)
-      ∙ ap (λ (e : List ℕ). before_it ++ e ∷ []) is_entry
+      rw (open_prefix-entries image (n + 1) (omega (arith, free)) opened-to (λ lt. rw gate-entry_in (closed-after lt)))
+      (rw (map-range_with_len_more (entry_in image) 0 n n (omega arith), same-before n content image ends free size from-slots, is_entry))
 
   good-entry : IsTrue (is_good entry map-before.extent)
   good-entry = is_good-body puts 165 _ whole txn (rw (same-redone n content image ends free size from-slots).extent ready.fit)
@@ -138,8 +136,7 @@ module _ (n : ℕ) (puts : List Put) (content image : List ℕ) (ready : IsReady
       (changed-same puts map-before found (same-found n content image ends free size from-slots found is))
 
   in_use-opened : entries_in_use image ≡ entries_in_use content ++ entry ∷ []
-  in_use-opened = entries_in_use-formed image born ∙ prefix-opened ∙ ap (λ (all : List (List ℕ)). all ++ entry ∷ [])
-      (sym (entries_in_use-formed content ready.born))
+  in_use-opened = rw (entries_in_use-formed image born, prefix-opened, ← entries_in_use-formed content ready.born)
 
   puts-opened : flat_map puts_of (entry ∷ []) ≡ puts
   puts-opened = append-nil (puts_of entry) ∙ puts_of-body puts 165 whole txn
@@ -150,6 +147,5 @@ module _ (n : ℕ) (puts : List Put) (content image : List ℕ) (ready : IsReady
     born = born;
     closed = closed-after;
     number = omega (arith, ready.number, ap length in_use-opened, length-append (entries_in_use content) (entry ∷ []));
-    all = ap (flat_map puts_of) in_use-opened ∙ flat_map-append puts_of (entries_in_use content) (entry ∷ [])
-        ∙ ap (λ (p : List Put). puts_in_use content ++ p) puts-opened;
+    all = rw (in_use-opened, flat_map-append, puts-opened);
   }

@@ -119,8 +119,7 @@ drop-puts_bytes (suc k) (put ∷ puts) end d whole lt =
       rest.0,
       ap (λ (n : ℕ). drop n (put_bytes put ++ flat_map put_bytes puts ++ end)) step
           ∙ sym (drop-drop (132 * k) 132 (put_bytes put ++ flat_map put_bytes puts ++ end))
-          ∙ ap (drop (132 * k)) (ap (drop 132) (append_assoc (put_bytes put) (flat_map put_bytes puts) end)
-          ∙ drop_at (put_bytes put) (flat_map put_bytes puts ++ end) 132 first)
+          ∙ ap (drop (132 * k)) (rw (append_assoc, drop_at))
           ∙ rest.1,
     )
 
@@ -142,12 +141,10 @@ module _ (puts : List Put) (gate : ℕ) (whole : FillSlots puts) (txn : IsTxn pu
       let put = get_or puts k none in
       let there = drop-puts_bytes k puts end none whole lt in
       let from : drop (2 + 132 * k) entry ≡ put_bytes put ++ there.0 = sym (drop-drop (132 * k) 2 entry) ∙ there.1 in
-      let split : drop (2 + 132 * k) entry ≡ number_bytes 4 put.slot ++ (put.bytes ++ there.0) = from
-      ∙ append_assoc (number_bytes 4 put.slot) put.bytes there.0 in
+      let split : drop (2 + 132 * k) entry ≡ number_bytes 4 put.slot ++ (put.bytes ++ there.0) = rw (from, append_assoc) in
       let place : 6 + 132 * k ≡ 2 + 132 * k + 4 = omega arith in
       let after : drop (6 + 132 * k) entry ≡ put.bytes ++ there.0 =
-      ap (λ (n : ℕ). drop n entry) place ∙ sym (drop-drop 4 (2 + 132 * k) entry) ∙ ap (drop 4) split
-      ∙ drop_at (number_bytes 4 put.slot) (put.bytes ++ there.0) 4 (length-number_bytes 4 put.slot) in
+      rw (place, ← drop-drop 4 (2 + 132 * k) entry, split, drop_at (number_bytes 4 put.slot) (put.bytes ++ there.0) 4 (length-number_bytes 4 put.slot)) in
       let below = All-get_or (λ (p : Put). p.slot < 2 ^ 20) puts k none lt (AreSlots-rise 0 puts txn.rise) in
       let full = All-get_or (λ (p : Put). length p.bytes ≡ 128) puts k none lt whole in
       same_put put (number_at 4 entry (2 + 132 * k)) (take 128 (drop (6 + 132 * k) entry))
@@ -201,21 +198,17 @@ entry-more puts k d old lt few whole is =
     let place : 2 + 132 * (k + 1) ≡ 2 + 132 * k + 132 = omega arith in
     let less : 542 - 132 * k - 132 ≡ 542 - 132 * (k + 1) = omega arith in
     let rest : drop (2 + 132 * (k + 1)) old ≡ replicate (542 - 132 * (k + 1)) 0 =
-    ap (λ (n : ℕ). drop n old) place ∙ sym (drop-drop 132 (2 + 132 * k) old)
-    ∙ ap (drop 132) (ap (drop (2 + 132 * k)) is ∙ drop_at front zeros (2 + 132 * k) long)
-    ∙ drop-replicate 132 (542 - 132 * k) 0 ∙ ap (λ (n : ℕ). replicate n 0) less in
+    rw (place, ← drop-drop, is, drop_at, drop-replicate, less) in
     let puts_bytes : flat_map put_bytes (take (k + 1) puts) ≡ flat_map put_bytes (take k puts) ++ put_bytes put =
-    ap (flat_map put_bytes) (take_more puts k d lt) ∙ flat_map-append put_bytes (take k puts) (put ∷ [])
-    ∙ ap (λ (list : List ℕ). flat_map put_bytes (take k puts) ++ list) (append-nil (put_bytes put)) in
+    rw (take_more puts k d lt, flat_map-append put_bytes (take k puts) (put ∷ []), append-nil (put_bytes put)) in
     let tail : List ℕ = drop (2 + 132 * (k + 1)) old in
     let zeros_then : List ℕ = replicate (542 - 132 * (k + 1)) 0 in
     let first : take (2 + 132 * k) old ++ put_bytes put ++ tail ≡ front ++ put_bytes put ++ tail = ap (λ (list : List ℕ). list ++ put_bytes put ++ tail)
     start in
     let second : front ++ put_bytes put ++ tail ≡ front ++ put_bytes put ++ zeros_then = ap (λ (list : List ℕ). front ++ put_bytes put ++ list) rest in
-    first ∙ second ∙ ap (λ (list : List ℕ). 0 ∷ length puts ∷ list ++ zeros_then) (sym puts_bytes)
+    rw (first, second, ← puts_bytes)
 
 pub entry-all : (puts : List Put) (entry : List ℕ)
     → entry ≡ 0 ∷ length puts ∷ flat_map put_bytes (take (length puts) puts) ++ replicate (542 - 132 * length puts) 0 → entry ≡ 0 ∷ entry_body puts
 unfolding entry_body
-entry-all puts entry is = is ∙ ap (λ (list : List Put). 0 ∷ length puts ∷ flat_map put_bytes list ++ replicate (542 - 132 * length puts) 0)
-    (take_all (length puts) puts (omega arith))
+entry-all puts entry is = rw (is, take_all (length puts) puts (omega arith))

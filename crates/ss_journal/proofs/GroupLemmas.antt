@@ -66,10 +66,7 @@ module _ (kind : Kind) (n : ℕ) (puts : List Put) (content : List ℕ) (same_ki
       entry-overwrite n content (165 ∷ body_of kind n puts) (gate_behind (544 * n + length (165 ∷ body_of kind n puts))) within (omega (arith, size-body))
 
   is_entry : entry_in image n ≡ 165 ∷ entry_body puts
-  is_entry =
-      ap (λ (k : Kind). entry_form k n (entry_bytes image n)) same-image
-      ∙ ap (entry_form kind n) (bytes-entry ∙ sym (entry_form-gate kind n 165 (entry_body puts)))
-      ∙ entry_form-twice kind n (165 ∷ entry_body puts)
+  is_entry = rw (same-image, bytes-entry, ← entry_form-gate, entry_form-twice)
 
   -- the gate behind it is closed
   closed-after : EndsAt (n + 1) image
@@ -173,7 +170,7 @@ module _ (kind : Kind) (n : ℕ) (puts : List Put) (content : List ℕ) (same_ki
   first_puts-more : (k : ℕ) → first_puts (suc k) ≡ first_puts k ++ part k puts
   first_puts-more k =
       let more : 4 * suc k ≡ 4 * (k + 1) = omega arith in
-      ap (λ (count : ℕ). take count puts) more ∙ take-part k puts
+      rw (more, take-part)
 
   -- the puts of entry k fit the map of those before it
   fit-part : (k : ℕ) → IsTrue (slots_fit (part k puts) (first_map k).extent)
@@ -232,8 +229,7 @@ module _ (kind : Kind) (n : ℕ) (puts : List Put) (content : List ℕ) (same_ki
           born = adds.born;
           closed = rw there at adds.closed;
           number = omega (arith, adds.number);
-          all = adds.all ∙ ap (λ (list : List Put). list ++ part k puts) had.0.all ∙ append_assoc (puts_in_use content) (first_puts k) (part k puts)
-              ∙ ap (λ (list : List Put). puts_in_use content ++ list) (sym (first_puts-more k));
+          all = rw (adds.all, had.0.all, append_assoc, ← first_puts-more);
           size = size kind next (part k puts) (with_first k) kind-first ready free fill txn ∙ had.0.size;
         }
 

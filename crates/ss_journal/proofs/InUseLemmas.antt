@@ -87,10 +87,8 @@ module _ (puts : List Put) (content : List ℕ) (born : IsTrue (is_born content)
     -- redo is idempotent
     again : StandsFor image in_use.found
     again =
-        let was : redo_entries 0 (entries_in_use content) (file_map content) ≡ stands in_use.found = ap
-        (λ (list : List (List ℕ)). redo_entries 0 list (file_map content)) (entries_in_use-formed content born) ∙ sym (redo-formed content born) ∙ in_use.map in
-        let its : redo image ≡ redo_entries 0 (entries_in_use content) (file_map image) = redo-formed image header.0
-        ∙ ap (λ (list : List (List ℕ)). redo_entries 0 list (file_map image)) same_entries in
+        let was : redo_entries 0 (entries_in_use content) (file_map content) ≡ stands in_use.found = rw (entries_in_use-formed, ← redo-formed, in_use.map) in
+        let its : redo image ≡ redo_entries 0 (entries_in_use content) (file_map image) = rw (redo-formed image header.0, same_entries) in
         rw its (redo_entries-idempotent 0 (entries_in_use content) (file_map content) in_use.found (file_map image) was part)
 
     -- the map stays, since the entries stand

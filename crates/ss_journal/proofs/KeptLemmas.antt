@@ -1,5 +1,5 @@
 -- A journal and the content of its disk: opened, settled, read and committed.
-use Rattle.ss_journal.proofs.Common.{Ok, Result, IsTrue, List, [], ap, arith, inl, inr, length, nat_lt, refl, subst, sym, ℕ, ⊎_elim, ◌<◌, ◌^◌, ◌∙◌, ◌≡◌}
+use Rattle.ss_journal.proofs.Common.{Ok, Result, IsTrue, List, [], ap, arith, inl, inr, length, nat_lt, refl, sym, ℕ, ⊎_elim, ◌<◌, ◌^◌, ◌∙◌, ◌≡◌}
 use Rattle.ss_journal.proofs.Common.{false, ◌≢◌, ◌≤◌, ◌⊎◌, both_ways, cases_Bool, cases_lt, cond-false, cond-true, le-ltb, lt-ltb, IsErr, OnOk, flat_map}
 use Rattle.ss_journal.proofs.Common.{NothingPending, Told, Failed, the_type, Leads, MakesDurable, ReadsPage, ReadsSlot, Settles, puts_of, slot_form, slot_in}
 use Rattle.ss_journal.proofs.Common.{Kind, IsShut, is_born, is_unborn, kind_of, slot_at, slots_in, EndsAt, IsClosed, IsInPhase, IsKept, IsShown, JournalState}
@@ -40,11 +40,11 @@ born-shown journal content other is = born_phase journal.phase journal.in_use co
 -- a read of the same journal
 pub ReadsSlot-as : {was journal : JournalState} {slot : ℕ} {result : Result (List ℕ) Failed} {old new : Told} → was ≡ journal
     → ReadsSlot was slot result old new → ReadsSlot journal slot result old new
-ReadsSlot-as {was} {journal} {slot} {result} {old} {new} same = subst (λ (j : JournalState). ReadsSlot j slot result old new) same
+ReadsSlot-as {was} {journal} {slot} {result} {old} {new} same is = rw same at is
 
 pub ReadsPage-as : {was journal : JournalState} {page : ℕ} {result : Result (List ℕ) Failed} {old new : Told} → was ≡ journal
     → ReadsPage was page result old new → ReadsPage journal page result old new
-ReadsPage-as {was} {journal} {page} {result} {old} {new} same = subst (λ (j : JournalState). ReadsPage j page result old new) same
+ReadsPage-as {was} {journal} {page} {result} {old} {new} same is = rw same at is
 
 -- a journal whose phase isn't the first
 pub not_first : (phase : Phase) → sameb the_type phase Unborn ≡ false → phase ≢ Unborn
@@ -166,7 +166,7 @@ module _ (journal : JournalState) (content : List ℕ) (found : SlotMap) (slot :
     map_is = (redo-born content kept.found born kept.map).0
 
     extent_is : journal.extent ≡ extent_after journal.waiting (slots_in (length content))
-    extent_is = sym kept.extent ∙ ap (λ (m : SlotMap). m.extent) map_is ∙ sym kept.waiting.extent
+    extent_is = rw (← kept.extent, map_is, ← kept.waiting.extent)
 
     -- the puts that wait, over the file
     pub born_bytes : with_puts journal.waiting (file_map content).bytes slot ≡ found.bytes slot
@@ -207,7 +207,7 @@ module _ (journal : JournalState) (content : List ℕ) (found : SlotMap) (slot :
 
   -- the bytes of a slot of the file, taken out of the form of the journal's kind
   pub slot_in-form : (bytes : List ℕ) → bytes ≡ slot_at content slot → slot_form journal.kind slot bytes ≡ slot_in content slot
-  slot_in-form bytes same = ap (λ (k : Kind). slot_form k slot bytes) kept.kind ∙ ap (slot_form (kind_of content) slot) same
+  slot_in-form bytes same = rw (kept.kind, same)
 
   -- a slot of an unformatted file, or from the extent on
   pub unused_bytes : IsTrue (is_unborn content) ⊎ (journal.extent ≤ slot) → zeros ≡ found.bytes slot

@@ -1,7 +1,7 @@
 -- The map of a file's slots, and maps that are the same.
 use Rattle.ss_journal.proofs.Common.{List, ap, arith, drop, inl, inr, length, refl, sym, ℕ, ◌++◌, ◌+◌, ◌<◌, ◌∙◌, ◌≡◌, ◌≤◌, cases_lt, cond-false}
 use Rattle.ss_journal.proofs.Common.{cond-true, le-ltb, lt-ltb, ext_get_or, get_or-drop, get_or-replicate, get_or-take, length-drop, length-replicate}
-use Rattle.ss_journal.proofs.Common.{length-take, slice_index, slot_form, slot_in, Kind, kind_of, slot_at, slot_place, slots_in, extent_after, SameMap}
+use Rattle.ss_journal.proofs.Common.{length-take, slice_index, slot_form, slot_in, kind_of, slot_at, slot_place, slots_in, extent_after, SameMap}
 use Rattle.ss_journal.proofs.Common.{SlotMap, blank_map, changed, file_map, zeros, Put}
 use Rattle.ss_journal.proofs.CheckLemmas.{slot_form-zeros}
 use Rattle.ss_journal.proofs.HeaderLemmas.{piece-same}
@@ -25,8 +25,7 @@ slot_within size slot lt = omega arith
 
 -- a slot with the same bytes in a file of the same kind says the same
 pub slot_in-same : (old new : List ℕ) (slot : ℕ) → kind_of new ≡ kind_of old → slot_at new slot ≡ slot_at old slot → slot_in new slot ≡ slot_in old slot
-slot_in-same old new slot kind bytes =
-    ap (λ (k : Kind). slot_form k slot (slot_at new slot)) kind ∙ ap (slot_form (kind_of old) slot) bytes
+slot_in-same old new slot kind bytes = rw (kind, bytes)
 
 -- a file of the same kind and length that is the same from the slots on has the same map
 pub file_map-same : (old new : List ℕ) → kind_of new ≡ kind_of old → length new ≡ length old

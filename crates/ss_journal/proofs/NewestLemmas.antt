@@ -216,8 +216,7 @@ rising-newest_after : (puts held : List Put) → IsTrue (slots_rise_from 0 (held
 rising-newest_after [] held rise = sym (append-nil held)
 rising-newest_after (put ∷ puts) held rise =
     let same : held ++ put ∷ puts ≡ (held ++ put ∷ []) ++ puts = sym (append_assoc held (put ∷ []) puts) in
-    ap (newest_after puts) (last-with_newest 0 held put puts rise)
-    ∙ rising-newest_after puts (held ++ put ∷ []) (rw same at rise) ∙ sym same
+    rw (last-with_newest 0 held put puts rise, rising-newest_after puts (held ++ put ∷ []) (rw same at rise), ← same)
 
 -- rising puts are their own newest
 pub first-newest_after : (puts : List Put) → IsTrue (slots_rise_from 0 puts) → newest_after puts [] ≡ puts
@@ -250,13 +249,9 @@ DoAs-staged base staged puts few extent rise staged_rise are fill does staged_fi
     let fits = fit-newest_after puts staged (extent_after base extent) staged_rise are staged_fit (rw after at fit) in
     let at = λ (slot : ℕ) (m : ℕ → List ℕ). m slot in
     record {
-      bytes = λ map slot. added.bytes map slot ∙ ap (at slot) (with_puts-append (base ++ staged) puts map)
-          ∙ ap (λ (m : ℕ → List ℕ). with_puts puts m slot) (with_puts-append base staged map)
-          ∙ sym (with_puts-newest_after puts staged staged_rise are (with_puts base map) slot)
-          ∙ sym (ap (at slot) (with_puts-append base (newest_after puts staged) map));
+      bytes = λ map slot. rw (added.bytes map slot, with_puts-append, with_puts-append, ← with_puts-newest_after, ← with_puts-append);
       fit = added.fit;
-      extent = added.extent ∙ extent_after-append (base ++ staged) puts extent ∙ ap (extent_after puts) after ∙ sym fits.1
-          ∙ sym (extent_after-append base (newest_after puts staged) extent);
+      extent = rw (added.extent, extent_after-append, after, ← fits.1, ← extent_after-append);
       whole = added.whole;
     }
 
@@ -307,7 +302,7 @@ All-part P k puts all = All-take P 4 (drop (4 * k) puts) (All-drop P (4 * k) put
 pub take-part : (k : ℕ) (puts : List Put) → take (4 * (k + 1)) puts ≡ take (4 * k) puts ++ part k puts
 take-part k puts =
     let more : 4 * (k + 1) ≡ 4 * k + 4 = omega arith in
-    ap (λ (n : ℕ). take n puts) more ∙ take-add (4 * k) 4 puts
+    rw (more, take-add)
 
 pub entry_count-all : (puts : List Put) → take (4 * entry_count (length puts)) puts ≡ puts
 entry_count-all puts = take_all (4 * entry_count (length puts)) puts (omega arith)
@@ -431,7 +426,5 @@ no-place puts k slot d rise below from apart map =
           rise-beside (get_or puts k d).slot (drop k puts) slot (omega (arith, least, other)) (rise-place puts k d rise lt).0
       | inr past ↦ rw drop_all
     ] in
-    ap (λ (list : List Put). with_puts list map slot) (sym (take-append-drop k puts))
-    ∙ ap (λ (m : ℕ → List ℕ). m slot) (with_puts-append (take k puts) (drop k puts) map)
-    ∙ with_puts-beside (drop k puts) (with_puts (take k puts) map) slot beside
-    ∙ with_puts-beside (take k puts) map slot (beside-below (take k puts) slot below)
+    rw (← take-append-drop k puts, with_puts-append (take k puts) (drop k puts) map, with_puts-beside (drop k puts) (with_puts (take k puts) map) slot beside)
+    (rw (with_puts-beside (take k puts) map slot (beside-below (take k puts) slot below)))

@@ -17,7 +17,7 @@ use Rattle.ss_journal.proofs.RedoLemmas.{entries_in_use-formed, puts_in_use-form
 -- an entry that was read, taken out of the form of its file's kind
 pub form-entry : (content : List ℕ) (kind : Kind) (n : ℕ) (entry : List ℕ) → kind ≡ kind_of content → entry ≡ entry_bytes content n
     → entry_form kind n entry ≡ entry_in content n
-form-entry content kind n entry same is = ap (λ (k : Kind). entry_form k n entry) same ∙ ap (entry_form (kind_of content) n) is
+form-entry content kind n entry same is = rw (same, is)
 
 -- its gate stays
 pub open-form : (kind : Kind) (n : ℕ) (entry form : List ℕ) → form ≡ entry_form kind n entry → IsTrue (is_open entry) → IsTrue (is_open form)
@@ -68,7 +68,7 @@ module _ (content : List ℕ) (n extent : ℕ) (puts : List Put) (read : IsReadT
     in_use = record {
       all = rw (sym (append-nil read.all) ∙ sym (ap (λ (list : List (List ℕ)). read.all ++ flat_map puts_of list) none) ∙ read.in_use) at read.does;
       found = read.current;
-      map = read.redone ∙ ap (λ (list : List (List ℕ)). redo_entries n list read.current) none;
+      map = rw (read.redone, none);
     };
     extent = read.same_extent;
   }
@@ -88,7 +88,7 @@ module _ (content : List ℕ) (n extent : ℕ) (puts : List Put) (read : IsReadT
       open_prefix-here = ap open_prefix (open_prefix-drop content n lt) ∙ cond-true (is_open (entry_in content n)) _ _ opened
 
       redo-here : redo content ≡ redo_entries n (entry_in content n ∷ open_prefix (drop (n + 1) (entries content))) read.current
-      redo-here = read.redone ∙ ap (λ (list : List (List ℕ)). redo_entries n list read.current) open_prefix-here
+      redo-here = rw (read.redone, open_prefix-here)
 
       pub IsReadTo-bad : IsFalse (is_good (entry_in content n) extent) → redo content ≡ bad_entry n
       IsReadTo-bad bad =

@@ -6,8 +6,7 @@ use Rattle.ss_journal.proofs.Common.{length-replicate, length-take, length-take-
 use Rattle.ss_journal.proofs.Common.{slot_at, slot_place, slots_in, slot_said, with_put, with_puts, zeros, Kind, Put}
 use Rattle.std.specs.List.{flat_map}
 use Rattle.std.proofs.Math.Seq.{drop-append-add}
-use Rattle.std.proofs.lemmas.List.{drop-append-le}
-use Rattle.std.proofs.lemmas.List.{get_or-set_other, get_or-set_same, take-append-le}
+use Rattle.std.proofs.lemmas.List.{drop-append-le, get_or-set_other, get_or-set_same, take-append-le}
 use Rattle.std.proofs.lemmas.Slice.{drop-put_mid, take-put_mid_below}
 use borrow.Rule.Slice.PartMut.{post_of, put_mid}
 use Rattle.ss_journal.specs.Page.{page_said}
@@ -118,19 +117,15 @@ slot_in_page-row f a (suc n) zero m is lt long =
 slot_in_page-row f a (suc n) (suc k) m is lt long =
     let rest = flat_map f (range_with_len (a + 1) n) in
     let place : 128 * suc k ≡ length (f a) + 128 * k = omega (arith, long a (omega arith) (omega arith)) in
-    ap (λ (p : ℕ). take 128 (drop p (f a ++ rest))) place
-    ∙ ap (take 128) (drop-append-add (f a) rest (128 * k))
-    ∙ slot_in_page-row f (a + 1) n k m (omega (arith, is)) (omega (arith, lt))
-    (λ j from below. long j (omega (arith, from)) (omega (arith, below)))
+    rw (place, drop-append-add (f a) rest (128 * k))
+    (rw (slot_in_page-row f (a + 1) n k m (omega (arith, is)) (omega (arith, lt)) (λ j from below. long j (omega (arith, from)) (omega (arith, below)))))
 
 -- and pages of the same slots are the same
 same_slots : (f g : ℕ → List ℕ) (a n : ℕ) → ((j : ℕ) → a ≤ j → j < a + n → f j ≡ g j)
     → flat_map f (range_with_len a n) ≡ flat_map g (range_with_len a n)
 same_slots f g a zero same = refl
 same_slots f g a (suc n) same =
-    ap (λ (slot : List ℕ). slot ++ flat_map f (range_with_len (a + 1) n)) (same a (omega arith) (omega arith))
-    ∙ ap (λ (rest : List ℕ). g a ++ rest)
-    (same_slots f g (a + 1) n (λ j from below. same j (omega (arith, from)) (omega (arith, below))))
+    rw (same a (omega arith) (omega arith), same_slots f g (a + 1) n (λ j from below. same j (omega (arith, from)) (omega (arith, below))))
 
 -- what a page says, of which each slot is in the form of the file or was taken out of it
 module _ (kind : Kind) (number : ℕ) (formed : List Bool) (bytes : List ℕ) (k : ℕ) where
@@ -146,8 +141,8 @@ module _ (kind : Kind) (number : ℕ) (formed : List Bool) (bytes : List ℕ) (k
         let size : length (slot_in_page bytes k) ≡ 128 =
         length-take-le 128 (drop (128 * k) bytes) (omega (arith, long, lt, length-drop (128 * k) bytes)) in
         elim (cases_Bool (get_or formed k false)) [
-          | inl is ↦ ap (λ (slot : List ℕ). length slot) (slot_said-formed is) ∙ size
-          | inr not ↦ ap (λ (slot : List ℕ). length slot) (slot_said-unformed not) ∙ length-slot_form kind (32 * number + k) _ ∙ size
+          | inl is ↦ rw (slot_said-formed, size)
+          | inr not ↦ rw (slot_said-unformed, length-slot_form, size)
         ]
 
 pub slot_in_page-said : (kind : Kind) (number : ℕ) (formed : List Bool) (bytes page : List ℕ) (k : ℕ) → page_said kind number formed bytes ≡ page
@@ -166,10 +161,7 @@ module _ (kind : Kind) (number : ℕ) (formed : List Bool) (old new slot : List 
       slot_said-formed kind number (set formed n true) new n (get_or-set_same formed n true false (omega (arith, many, lt))) ∙ written
 
   pub slot_said-others : (k : ℕ) → k < 32 → k ≢ n → slot_said kind number (set formed n true) new k ≡ slot_said kind number formed old k
-  slot_said-others k below apart =
-      ap (λ (is : Bool). cond is (slot_in_page new k) (slot_form kind (32 * number + k) (slot_in_page new k)))
-      (get_or-set_other formed n k true false apart)
-      ∙ ap (λ (list : List ℕ). cond (get_or formed k false) list (slot_form kind (32 * number + k) list)) (others k below apart)
+  slot_said-others k below apart = rw (get_or-set_other, others)
 
   -- it is what the slot said before, and so the page says the same
   pub page_said-formed : get_or formed n false ≡ false → slot ≡ slot_form kind (32 * number + n) (slot_in_page old n)

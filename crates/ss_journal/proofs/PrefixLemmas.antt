@@ -2,7 +2,7 @@
 use Rattle.ss_journal.proofs.Common.{inl, inr, IsFalse, IsTrue, List, [], ap, arith, drop, length, map, refl, suc, zero, ℕ, ◌+◌, ◌<◌, ◌∙◌, ◌∷◌}
 use Rattle.ss_journal.proofs.Common.{◌≡◌, ◌≤◌, zero-add, cases_Bool, cases_eq, cond-false, cond-true, All-cons, All-head, All-map, All-nil, All-tail}
 use Rattle.ss_journal.proofs.Common.{length-map-range_with_len, drop_more, get_or-drop, get_or-take, length-drop, length-take, range_with_len, All}
-use Rattle.ss_journal.proofs.Common.{slice_index, open_prefix, entry_form, entry_in, Kind, entry_bytes, kind_of, IsClosed, entry_place, is_open, opens}
+use Rattle.ss_journal.proofs.Common.{slice_index, open_prefix, entry_in, entry_bytes, kind_of, IsClosed, entry_place, is_open, opens}
 use Rattle.std.proofs.lemmas.Bool.{cond_both}
 use Rattle.std.proofs.lemmas.List.FromFn.{get_or-map-range_with_len}
 use Rattle.ss_journal.specs.Entries.{entries}
@@ -21,8 +21,7 @@ map-range-same f g from (suc n) same =
 
 -- an entry with the same bytes in a file of the same kind says the same
 pub entry_in-same : (old new : List ℕ) (n : ℕ) → kind_of new ≡ kind_of old → entry_bytes new n ≡ entry_bytes old n → entry_in new n ≡ entry_in old n
-entry_in-same old new n kind bytes =
-    ap (λ (k : Kind). entry_form k n (entry_bytes new n)) kind ∙ ap (entry_form (kind_of old) n) bytes
+entry_in-same old new n kind bytes = rw (kind, bytes)
 
 pub entries-same : (old new : List ℕ) → kind_of new ≡ kind_of old → 36864 ≤ length old → 36864 ≤ length new
     → ((place : ℕ) → 512 ≤ place → place < 36864 → slice_index new place ≡ slice_index old place) → entries new ≡ entries old
@@ -75,7 +74,7 @@ IsPrefix-length f from (suc m) (suc n) is = elim (cases_Bool (is_open (f from)))
       let step : open_prefix (map f (range_with_len from (suc m))) ≡ f from ∷ open_prefix (map f (range_with_len (from + 1) m)) = cond-true _ _ _ opened in
       let rest = IsPrefix-length f (from + 1) m n (omega (arith, is, ap length step)) in
       record {
-        prefix = step ∙ ap (λ (list : List (List ℕ)). f from ∷ list) rest.prefix;
+        prefix = rw (step, rest.prefix);
         opened = λ k low high. elim (cases_eq k from) [
           | inl same ↦ rw same opened
           | inr other ↦ rest.opened k (omega (arith, low, other)) (omega (arith, high))
@@ -96,10 +95,9 @@ open_prefix-run f from (suc m) zero le opened closed =
     cond-false _ _ _ (rw here at (closed (omega arith)))
 open_prefix-run f from (suc m) (suc n) le opened closed =
     let there : from + suc n ≡ from + 1 + n = omega arith in
-    cond-true _ _ _ (opened from (omega arith) (omega arith))
-    ∙ ap (λ (list : List (List ℕ)). f from ∷ list)
-    (open_prefix-run f (from + 1) m n (omega (arith, le)) (λ k low high. opened k (omega (arith, low)) (omega (arith, high)))
-    (λ lt. rw there at (closed (omega (arith, lt)))))
+    rw (cond-true _ _ _ (opened from (omega arith) (omega arith)))
+    (rw (open_prefix-run f (from + 1) m n (omega (arith, le)) (λ k low high. opened k (omega (arith, low)) (omega (arith, high)))
+    (λ lt. rw there at (closed (omega (arith, lt))))))
 
 -- the same of the entries of a file
 pub IsPrefix-entries : (image : List ℕ) (n : ℕ) → n ≡ length (open_prefix (entries image)) → IsPrefix (entry_in image) 0 64 n
@@ -122,8 +120,7 @@ pub open_prefix-drop : (image : List ℕ) (n : ℕ) → n < 64 → drop n (entri
 unfolding entries
 open_prefix-drop image n lt =
     let long = length-map-range_with_len (entry_in image) 0 64 in
-    drop_more (entries image) n [] (omega (arith, long)) ∙ ap (λ (entry : List ℕ). entry ∷ drop (n + 1) (entries image))
-    (get_or-map-range_with_len (entry_in image) 0 64 n n [] lt (zero-add n))
+    rw (drop_more (entries image) n [] (omega (arith, long)), get_or-map-range_with_len (entry_in image) 0 64 n n [] lt (zero-add n))
 
 pub open_prefix-long : (list : List (List ℕ)) → All (λ entry. length entry ≡ 544) list → All (λ entry. length entry ≡ 544) (open_prefix list)
 open_prefix-long [] long = long

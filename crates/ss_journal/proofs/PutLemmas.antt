@@ -36,7 +36,7 @@ with_puts-append (put ∷ first) second map = with_puts-append first second (wit
 -- where no later put is for the slot, this one counts if it is
 module _ (puts : List Put) (k slot : ℕ) (d : Put) (lt : k < length puts) (later : (map : ℕ → List ℕ) → with_puts (drop (k + 1) puts) map slot ≡ map slot) where
   from_here : (map : ℕ → List ℕ) → with_puts (drop k puts) map slot ≡ with_put (get_or puts k d) map slot
-  from_here map = ap (λ (list : List Put). with_puts list map slot) (drop_more puts k d lt) ∙ later (with_put (get_or puts k d) map)
+  from_here map = rw (drop_more puts k d lt, later (with_put (get_or puts k d) map))
 
   pub with_puts-newest : slot ≡ (get_or puts k d).slot → (map : ℕ → List ℕ) → with_puts puts map slot ≡ (get_or puts k d).bytes
   with_puts-newest same map =

@@ -118,9 +118,7 @@ overwrite-overwrite content first second at mid within there =
     ∙ drop-drop (length second) (at + length first) content
     ∙ ap (λ (n : ℕ). drop n content) (let same : at + length first + length second ≡ at + length (first ++ second) = omega
     (arith, length-append first second) in same) in
-    ap (λ (list : List ℕ). list ++ second ++ drop (mid + length second) (take at content ++ first ++ kept)) start
-    ∙ ap (λ (list : List ℕ). take at content ++ first ++ second ++ list) rest
-    ∙ ap (λ (list : List ℕ). list ++ drop (at + length (first ++ second)) content) (append_assoc (take at content) first second)
+    rw (start, rest, append_assoc (take at content) first second)
 
 -- a write over another, which it covers
 overwrite-again : (content first second : List ℕ) (at : ℕ) → at ≤ length content → length first ≤ length second

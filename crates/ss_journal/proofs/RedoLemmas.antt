@@ -133,10 +133,9 @@ redo_entries-again n (entry ∷ rest) old new its is le = elim (cases_Bool (is_g
   | inl good ↦
       let again = is_good-again entry old.extent new.extent good le in
       let stood : redo_entries (n + 1) rest (changed old (puts_of entry)) ≡ stands its = sym (cond-true _ _ _ good) ∙ is in
-      cond-true _ _ _ again.0
-      ∙ redo_entries-again (n + 1) rest (changed old (puts_of entry)) (changed new (puts_of entry)) its stood
+      rw (cond-true _ _ _ again.0) (redo_entries-again (n + 1) rest (changed old (puts_of entry)) (changed new (puts_of entry)) its stood
       (extent_after-mono (puts_of entry) old.extent new.extent again.1 le)
-      ∙ ap stands (sym (changed-append new (puts_of entry) (flat_map puts_of rest)))
+      ∙ ap stands (sym (changed-append new (puts_of entry) (flat_map puts_of rest))))
   | inr bad ↦ let other : bad_entry n ≡ stands its = sym (cond-false _ _ _ bad) ∙ is in absurd (cc)
 ]
 
@@ -168,7 +167,7 @@ pub redo-first_closed : (image : List ℕ) → IsTrue (is_born image) → IsClos
     → (redo image ≡ stands (file_map image)) × (puts_in_use image ≡ []) × (entries_in_use image ≡ [])
 redo-first_closed image born closed =
     let none = open_prefix-closed image closed in (
-      redo-formed image born ∙ ap (λ (list : List (List ℕ)). redo_entries 0 list (file_map image)) none,
+      rw (redo-formed, none),
       puts_in_use-formed image born ∙ ap (flat_map puts_of) none,
       entries_in_use-formed image born ∙ none,
     )

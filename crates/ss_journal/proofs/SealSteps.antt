@@ -1,5 +1,5 @@
 -- The steps of a journal: what is staged is sealed, room is made, and a transaction is committed.
-use Rattle.ss_journal.proofs.Common.{ap, arith, ◌*◌, ◌+◌, ◌≤◌, Err, List, Ok, Result, [], ◌∙◌, inl, inr, length, subst, sym, ℕ, ⊎_elim, ◌<◌, ◌≡◌, ◌⊎◌}
+use Rattle.ss_journal.proofs.Common.{ap, arith, ◌*◌, ◌+◌, ◌≤◌, Err, List, Ok, Result, [], ◌∙◌, inl, inr, length, sym, ℕ, ⊎_elim, ◌<◌, ◌≡◌, ◌⊎◌}
 use Rattle.ss_journal.proofs.Common.{on_ok_weaker, IsErr, OnOk, slice_index, joined, weaker, Told, overwrite, Failed, Commits, KeepsMap, KeepsShown, MakesRoom}
 use Rattle.ss_journal.proofs.Common.{Seals, Stages, entry_place, entry_count, group_bytes, IsBounded, IsKept, IsSealed, IsShown, JournalState, closed_behind}
 use Rattle.ss_journal.proofs.Common.{shown, staged_bytes, FillSlots, Kind, SlotMap, StandsFor, changed, Enters, Reaches, StaysShut, Settled, Put}
@@ -29,28 +29,28 @@ shown-joined was mid then old between new value result sealed also first second 
 -- the same of a journal that is named otherwise
 pub Seals-as : {was then journal : JournalState} {result : Result (Unit {0}) Failed} {old new : Told} → then ≡ journal → Seals was then result old new
     → Seals was journal result old new
-Seals-as {was} {then} {journal} {result} {old} {new} same = subst (λ (j : JournalState). Seals was j result old new) same
+Seals-as {was} {then} {journal} {result} {old} {new} same is = rw same at is
 
 -- the same of a journal that was named otherwise
 pub Seals-of : {was journal then : JournalState} {result : Result (Unit {0}) Failed} {old new : Told} → was ≡ journal → Seals was then result old new
     → Seals journal then result old new
-Seals-of {was} {journal} {then} {result} {old} {new} same = subst (λ (j : JournalState). Seals j then result old new) same
+Seals-of {was} {journal} {then} {result} {old} {new} same is = rw same at is
 
 -- what is staged begins with an open gate, and has its place among the entries
 pub gate-staged : (staged puts : List Put) → puts ≡ staged → (kind : Kind) (n : ℕ) → 0 < length staged → (bytes : List ℕ)
     → bytes ≡ closed_behind n (group_bytes kind n (entry_count (length puts)) puts) → slice_index bytes 0 ≡ 165
 gate-staged staged puts same kind n some bytes all =
     let spelled : bytes ≡ closed_behind n (group_bytes kind n (entry_count (length staged)) staged) =
-    all ∙ ap (λ (list : List Put). closed_behind n (group_bytes kind n (entry_count (length list)) list)) same in
+    rw (all, same) in
     let count : 0 < entry_count (length staged) = entry_count-some (length staged) some in
-    ap (λ (list : List ℕ). slice_index list 0) spelled ∙ opens-closed_behind kind n (entry_count (length staged)) staged count
+    rw (spelled, opens-closed_behind)
 
 pub fits-staged : (journal : JournalState) → IsBounded journal → (puts : List Put) → puts ≡ journal.staged → (bytes : List ℕ)
     → bytes ≡ closed_behind journal.sealed (group_bytes journal.kind journal.sealed (entry_count (length puts)) puts)
     → 544 * journal.sealed + length bytes ≤ 34816
 fits-staged journal bounded puts same bytes all =
     let spelled : bytes ≡ closed_behind journal.sealed (staged_bytes journal) =
-    all ∙ ap (λ (list : List Put). closed_behind journal.sealed (group_bytes journal.kind journal.sealed (entry_count (length list)) list)) same in
+    rw (all, same) in
     let size = length-group_bytes journal.kind journal.sealed (entry_count (length journal.staged)) journal.staged bounded.whole in
     omega (
       arith,
@@ -65,12 +65,11 @@ module _ (was is : JournalState) (n : ℕ) (first : n ≡ was.sealed) (bytes : L
     (phase : was.phase ≡ is.phase) (extent : is.extent ≡ was.extent) (in_use : is.in_use ≡ was.in_use) (waiting : is.waiting ≡ was.waiting)
     (sealed : IsSealed is) (kind : is.kind ≡ was.kind) where
   same : overwrite old.content (entry_place n) bytes ≡ shown was old.content
-  same = ap (λ (k : ℕ). overwrite old.content (entry_place k) bytes) first ∙ ap (overwrite old.content (entry_place was.sealed)) all ∙
-      sym (with_entries-some was.sealed (staged_bytes was) old.content (omega (
-        arith,
-        entry_count-some (length was.staged) some,
-        length-group_bytes was.kind was.sealed (entry_count (length was.staged)) was.staged whole,
-      )))
+  same = rw (first, all) (sym (with_entries-some was.sealed (staged_bytes was) old.content (omega (
+    arith,
+    entry_count-some (length was.staged) some,
+    length-group_bytes was.kind was.sealed (entry_count (length was.staged)) was.staged whole,
+  ))))
 
   content : new.content ≡ shown was old.content
   content = enters.written ∙ same

@@ -39,7 +39,7 @@ closed_behind-append : (n next : ℕ) (bytes entry : List ℕ) → 544 * n + len
     → closed_behind n (bytes ++ entry) ≡ bytes ++ closed_behind next entry
 closed_behind-append n next bytes entry there =
     let same : 544 * n + length (bytes ++ entry) ≡ 544 * next + length entry = omega (arith, there, length-append bytes entry) in
-    ap (λ (end : ℕ). (bytes ++ entry) ++ gate_behind end) same ∙ append_assoc bytes entry (gate_behind (544 * next + length entry))
+    rw (same, append_assoc)
 
 -- the gate behind entries that end before entry m, and behind those that are the last
 pub closed_behind-free : (n m : ℕ) (bytes : List ℕ) → 544 * n + length bytes ≡ 544 * m → m < 64 → bytes ++ 0 ∷ [] ≡ closed_behind n bytes

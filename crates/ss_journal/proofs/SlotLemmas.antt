@@ -104,7 +104,7 @@ module _ (kind : Kind) (put : Put) (content : List ℕ) (long : 36864 ≤ length
   place_within = omega (arith, long, fits)
 
   pub length-written : length written ≡ max (length content) (slot_place put.slot + 128)
-  length-written = length-overwrite content bytes (slot_place put.slot) place_within ∙ ap (λ (n : ℕ). max (length content) (slot_place put.slot + n)) size
+  length-written = rw (length-overwrite content bytes (slot_place put.slot) place_within, size)
 
   pub slots-written : slots_in (length written) ≡ next put.slot (slots_in (length content))
   slots-written = ap slots_in length-written ∙ slots_in-put (length content) put.slot long fits below
@@ -148,8 +148,7 @@ module _ (kind : Kind) (put : Put) (content : List ℕ) (long : 36864 ≤ length
       | inl same ↦
           let within : put.slot < slots_in (length written) = omega (arith, slots-written, lt-next put.slot (slots_in (length content)) fits) in
           let says : slot_in written put.slot ≡ put.bytes =
-          ap (λ (k : Kind). slot_form k put.slot (slot_at written put.slot)) (kind-written ∙ sym same_kind)
-          ∙ ap (slot_form kind put.slot) slot_at-written ∙ slot_form-twice kind put.slot put.bytes in
+          rw (kind-written, ← same_kind, slot_at-written, slot_form-twice) in
           let there : (file_map written).bytes put.slot ≡ put.bytes = cond-true _ _ _ (lt-ltb put.slot (slots_in (length written)) within) ∙ says in
           ap (file_map written).bytes same ∙ there ∙ sym (cond-true _ _ _ (eq-eqb slot put.slot same))
       | inr apart ↦ others-written slot apart ∙ sym (cond-false _ _ _ (ne_eqb slot put.slot apart))

@@ -81,7 +81,7 @@ module _ (was then : JournalState) (puts : List Put) (bounded : IsBounded was) (
     in_use = omega (arith, in_use-staged, free);
     few = rw (is.waiting, is.staged, is.sealed) (omega (arith, bounded.few, room-after puts was.staged was.waiting bounded.held rise-waiting are-slots));
     held = rw (is.waiting, is.staged) (held-after puts was.staged was.waiting bounded.held);
-    number = is.in_use ∙ ap (λ (n : ℕ). n + entry_count (length then.staged)) (sym is.sealed);
+    number = rw (is.in_use, ← is.sealed);
     whole = rw is.staged whole-staged;
   }
     where
@@ -156,10 +156,7 @@ module _ (was then : JournalState) (puts : List Put) (bounded : IsBounded was) (
     free-then = omega (arith, in_use-staged, is.in_use, count-same, free)
 
     more : shown then content ≡ with_entries was.sealed (group_bytes was.kind was.sealed (entry_count (length staged)) staged) content
-    more =
-        ap (λ (n : ℕ). with_entries n (group_bytes then.kind n (entry_count (length then.staged)) then.staged) content) is.sealed
-        ∙ ap (λ (k : Kind). with_entries was.sealed (group_bytes k was.sealed (entry_count (length then.staged)) then.staged) content) is.kind
-        ∙ ap (λ (list : List Put). with_entries was.sealed (group_bytes was.kind was.sealed (entry_count (length list)) list) content) is.staged
+    more = rw (is.sealed, is.kind, is.staged)
 
     added : AddsGroup was.sealed staged content (shown then content)
     added = rw more (AddsGroup-written was.kind was.sealed staged content kind-same room-then rise-then whole-staged free-then)

@@ -36,15 +36,14 @@ module _ (kind : Kind) (puts rest : List Put) (k n slot : ℕ) (old mid new : To
       let In = λ (put : Put). put.slot < 2 ^ 20 in
       let behind = drop (k + n) puts in
       let after : drop n rest ≡ behind = ap (drop n) left ∙ drop-drop n k puts in
-      let all : run ++ behind ≡ drop k puts = ap (λ (list : List Put). run ++ list) (sym after) ∙ take-append-drop n rest ∙ left in
+      let all : run ++ behind ≡ drop k puts = rw (← after, take-append-drop, left) in
       let room = rw (← left) at so_far.places in
       let within = within-run rest slot mid.content (omega (arith, some, neighbours)) room in
       let wrote : slots_written kind run mid.content ≡ new.content = slots_written-run kind rest slot n mid.content neighbours whole within
       ∙ sym step.written in
       record {
         tears = tears-run step;
-        written = ap (slots_written kind behind) (sym wrote) ∙ sym (slots_written-append kind run behind mid.content)
-            ∙ ap (λ (list : List Put). slots_written kind list mid.content) all ∙ so_far.written;
+        written = rw (← wrote, ← slots_written-append, all, so_far.written);
         places = rw wrote at (HasSlotsFor-append kind run behind mid.content (All-take In n rest (rw left (All-drop In k puts slots))) whole
             (rw all so_far.places));
       }

@@ -1,4 +1,4 @@
-use Rattle.ss_journal.proofs.Common.{◌≡◌, ◌<◌, List, [], length, ◌∙◌, ap, arith, All-nil, reads-none, step-none, Put, newest_after, extent_after}
+use Rattle.ss_journal.proofs.Common.{◌≡◌, ◌<◌, [], length, ap, arith, All-nil, reads-none, step-none, Put, newest_after, extent_after}
 use Rattle.std.proofs.lemmas.List.Elements.{All-same}
 use Rattle.std.proofs.lemmas.Result.{err_from_is_err_and}
 use Rattle.ss_journal.proofs.OpenLemmas.{IsReadTo-none, IsReadTo-next, IsReadTo-all, IsReadTo-shut, InUseAs-next, below-newest_after}
@@ -41,11 +41,9 @@ loop-n-preserved g c =
     let before = c.loop-n.invariant in
     let puts = c.in-Some.puts.items in
     let extent = c.loop-n.extent in
-    let more : c.add.new.self ≡ newest_after puts c.loop-n.waiting = c.add.ensures.kept
-    ∙ ap (λ (l : List Put). newest_after l c.loop-n.waiting) c.deref-in-Some.ensures.0 in
+    let more : c.add.new.self ≡ newest_after puts c.loop-n.waiting = rw (c.add.ensures.kept, c.deref-in-Some.ensures.0) in
     let whole = rw c.deref-in-Some.ensures.0 at c.add.ensures.whole in
-    let last : c.extent_after-extent.result ≡ extent_after puts extent = c.extent_after-extent.ensures
-    ∙ ap (λ (l : List Put). extent_after l extent) c.deref.ensures.0 in
+    let last : c.extent_after-extent.result ≡ extent_after puts extent = rw (c.extent_after-extent.ensures, c.deref.ensures.0) in
     let sound = rw c.in-Some.is at c.in_ok-puts.ensures.sound in
     let next = rw c.in-Some.is at c.in_ok-puts.ensures.entry in
     record {

@@ -1,4 +1,4 @@
-use Rattle.ss_journal.proofs.Common.{[], List, ap, arith, get_or, length, ℕ, ◌++◌, ◌∙◌, ◌≡◌, All-more, length-append, slot_form, Put}
+use Rattle.ss_journal.proofs.Common.{[], ap, arith, get_or, length, ◌≡◌, All-more, length-append, slot_form, Put}
 use Rattle.ss_journal.proofs.CheckLemmas.{length-slot_form}
 use Rattle.ss_journal.proofs.RunLemmas.{run_bytes-more}
 use Rattle.ss_journal.proofs.writing.run_bytes.Goals as goal
@@ -10,8 +10,7 @@ loop-put-preserved c =
     let put : Put = get_or c.args.run.now k d in
     let form = slot_form c.args.kind put.slot put.bytes in
     record {
-      value = c.add_slot.ensures.value ∙ ap (λ (bytes : List ℕ). bytes ++ form) c.loop-put.invariant.value
-          ∙ run_bytes-more c.args.kind c.args.run.now k d c.loop-put-test.true;
+      value = rw (c.add_slot.ensures.value, c.loop-put.invariant.value, run_bytes-more c.args.kind c.args.run.now k d c.loop-put-test.true);
       size = omega (
         arith,
         ap length c.add_slot.ensures.value,

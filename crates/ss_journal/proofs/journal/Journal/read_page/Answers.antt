@@ -1,5 +1,5 @@
-use Rattle.ss_journal.proofs.Common.{◌≡◌, ◌*◌, ◌+◌, ◌∙◌, ◌<◌, ◌^◌, inl, sym, ap, arith, rules, List, same_true, reads-none, step-none, the_type}
-use Rattle.ss_journal.proofs.Common.{Unborn, Put, slot_in_page, slot_form, with_puts}
+use Rattle.ss_journal.proofs.Common.{◌≡◌, ◌*◌, ◌+◌, ◌∙◌, ◌<◌, ◌^◌, inl, sym, ap, arith, rules, same_true, reads-none, step-none, the_type}
+use Rattle.ss_journal.proofs.Common.{Unborn, slot_in_page, slot_form}
 use Rattle.ss_journal.proofs.CheckLemmas.{slot_form-zeros}
 use Rattle.ss_journal.proofs.KeptLemmas.{ReadsPage-as, born-shown, not_first, page_bytes, slot_in-form, unborn-shown, unused_bytes}
 use Rattle.ss_journal.proofs.PageLemmas.{slot_in_page-zeros}
@@ -38,6 +38,6 @@ returns-in-Ok-clause-reads g c =
           slot_in-form _ _ found slot kept.shown is below _ (read.found k lt same.0 ∙ same.1))
           (λ used. c.new-read.ensures k lt ∙ ap (slot_form kind slot) (c.clear_unused.ensures.used k lt used))
           (λ past. c.new-read.ensures k lt ∙ ap (slot_form kind slot) (c.clear_unused.ensures.unused k lt past) ∙ slot_form-zeros kind slot)
-          (c.lay_puts.ensures k lt ∙ ap (λ (puts : List Put). with_puts puts (λ _. slot_in_page c.new-read.result k) slot) c.as_slice.ensures.all);
+          (rw (c.lay_puts.ensures k lt, c.as_slice.ensures.all));
       reads = read.reads;
     }))

@@ -6,7 +6,7 @@ use Rattle.ss_journal.proofs.journal.Journal.seal.Goals as goal
 pub add_entries-added-requires-clause-gate : goal.add_entries-added-requires-clause-gate
 add_entries-added-requires-clause-gate g c =
     let some : length c.self.inside.staged ≡ 0 → ⊥ = λ none. eqb-false (length c.as_slice.result.now) 0 (sym c.is_empty.ensures ∙ c.if-is_empty.false)
-    (ap (λ (list : List Put). length list) c.as_slice.ensures.all ∙ none) in
+    (rw (c.as_slice.ensures.all, none)) in
     gate-staged c.self.inside.staged c.as_slice-2.result.now c.as_slice-2.ensures.all c.self.inside.kind c.self.inside.sealed (omega (arith, some))
     c.as_slice-3.result.now (c.as_slice-3.ensures ∙ c.spell.ensures)
 
@@ -17,7 +17,7 @@ add_entries-added-requires-clause-few g c =
 pub returns-clause-seals : goal.returns-clause-seals
 returns-clause-seals g c =
     let some : length c.self.inside.staged ≡ 0 → ⊥ = λ none. eqb-false (length c.as_slice.result.now) 0 (sym c.is_empty.ensures ∙ c.if-is_empty.false)
-    (ap (λ (list : List Put). length list) c.as_slice.ensures.all ∙ none) in
+    (rw (c.as_slice.ensures.all, none)) in
     step-from c.in_ok-added.ensures.enters (λ told enters.
     let kept = rw (← c.self.view_is) at (c.requires.one_disk told) in
     let all = c.as_slice-3.ensures ∙ c.spell.ensures

@@ -1,4 +1,4 @@
-use Rattle.ss_journal.proofs.Common.{List, ap, arith, length, refl, ℕ, ◌+◌, ◌<◌, ◌∙◌, Put, entry_count, newest_after, extent_after}
+use Rattle.ss_journal.proofs.Common.{List, ap, arith, length, refl, ℕ, ◌+◌, ◌<◌, ◌∙◌, Put}
 use Rattle.ss_journal.proofs.NewestLemmas.{few-newest_after}
 use Rattle.ss_journal.proofs.PutLemmas.{AreSlots-rise}
 use Rattle.ss_journal.proofs.StageLemmas.{IsBounded-staged, has-staged, stages}
@@ -44,11 +44,11 @@ invariant_of-self c =
     IsBounded-staged _ _ puts c.self.invariant (rw (← c.self.view_is) at c.requires.settled) (rw c.deref-2.ensures.0 at c.add.ensures.whole) c.requires.txn
     (rw (← c.self.view_is) at c.requires.fit) free c.add.ensures.rise c.add-2.ensures.rise (record {
       phase = rw (← c.self.view_is) at c.requires.settled;
-      extent = c.extent_after-self-inside.ensures ∙ ap (λ (list : List Put). extent_after list c.self.inside.extent) c.deref.ensures.0;
-      in_use = ap (λ (n : ℕ). c.self.inside.sealed + n) (c.entry_count.ensures ∙ ap (λ (list : List Put). entry_count (length list)) c.as_slice.ensures.all);
-      waiting = c.add.ensures.kept ∙ ap (λ (list : List Put). newest_after list c.self.inside.waiting) c.deref-2.ensures.0;
+      extent = rw (c.extent_after-self-inside.ensures, c.deref.ensures.0);
+      in_use = ap (λ (n : ℕ). c.self.inside.sealed + n) (rw (c.entry_count.ensures, c.as_slice.ensures.all));
+      waiting = rw (c.add.ensures.kept, c.deref-2.ensures.0);
       sealed = refl;
-      staged = c.add-2.ensures.kept ∙ ap (λ (list : List Put). newest_after list c.self.inside.staged) c.deref-3.ensures.0;
+      staged = rw (c.add-2.ensures.kept, c.deref-3.ensures.0);
       kind = refl;
     })
 
@@ -59,11 +59,11 @@ returns-clause-stages c content =
     stages _ _ puts c.self.invariant (rw (← c.self.view_is) at c.requires.settled) (rw c.deref-2.ensures.0 at c.add.ensures.whole) c.requires.txn
     (rw (← c.self.view_is) at c.requires.fit) free c.add.ensures.rise c.add-2.ensures.rise (record {
       phase = rw (← c.self.view_is) at c.requires.settled;
-      extent = c.extent_after-self-inside.ensures ∙ ap (λ (list : List Put). extent_after list c.self.inside.extent) c.deref.ensures.0;
-      in_use = ap (λ (n : ℕ). c.self.inside.sealed + n) (c.entry_count.ensures ∙ ap (λ (list : List Put). entry_count (length list)) c.as_slice.ensures.all);
-      waiting = c.add.ensures.kept ∙ ap (λ (list : List Put). newest_after list c.self.inside.waiting) c.deref-2.ensures.0;
+      extent = rw (c.extent_after-self-inside.ensures, c.deref.ensures.0);
+      in_use = ap (λ (n : ℕ). c.self.inside.sealed + n) (rw (c.entry_count.ensures, c.as_slice.ensures.all));
+      waiting = rw (c.add.ensures.kept, c.deref-2.ensures.0);
       sealed = refl;
-      staged = c.add-2.ensures.kept ∙ ap (λ (list : List Put). newest_after list c.self.inside.staged) c.deref-3.ensures.0;
+      staged = rw (c.add-2.ensures.kept, c.deref-3.ensures.0);
       kind = refl;
     }) c.args.self.now content c.self.view_is
 
@@ -74,10 +74,10 @@ returns-clause-staged c =
     has-staged _ _ puts c.self.invariant (rw (← c.self.view_is) at c.requires.settled) (rw c.deref-2.ensures.0 at c.add.ensures.whole) c.requires.txn
     (rw (← c.self.view_is) at c.requires.fit) free c.add.ensures.rise c.add-2.ensures.rise (record {
       phase = rw (← c.self.view_is) at c.requires.settled;
-      extent = c.extent_after-self-inside.ensures ∙ ap (λ (list : List Put). extent_after list c.self.inside.extent) c.deref.ensures.0;
-      in_use = ap (λ (n : ℕ). c.self.inside.sealed + n) (c.entry_count.ensures ∙ ap (λ (list : List Put). entry_count (length list)) c.as_slice.ensures.all);
-      waiting = c.add.ensures.kept ∙ ap (λ (list : List Put). newest_after list c.self.inside.waiting) c.deref-2.ensures.0;
+      extent = rw (c.extent_after-self-inside.ensures, c.deref.ensures.0);
+      in_use = ap (λ (n : ℕ). c.self.inside.sealed + n) (rw (c.entry_count.ensures, c.as_slice.ensures.all));
+      waiting = rw (c.add.ensures.kept, c.deref-2.ensures.0);
       sealed = refl;
-      staged = c.add-2.ensures.kept ∙ ap (λ (list : List Put). newest_after list c.self.inside.staged) c.deref-3.ensures.0;
+      staged = rw (c.add-2.ensures.kept, c.deref-3.ensures.0);
       kind = refl;
     }) c.args.self.now c.self.view_is

@@ -1,4 +1,4 @@
-use Rattle.ss_journal.proofs.Common.{◌+◌, ◌∙◌, ◌≡◌, drop, get_or, List, [], ap, arith, length, sym, take_all, All-more, newest_after, Put}
+use Rattle.ss_journal.proofs.Common.{◌≡◌, get_or, List, [], ap, arith, length, take_all, All-more, newest_after, Put}
 use Rattle.std.proofs.lemmas.List.{at_drop_more}
 use Rattle.ss_journal.proofs.NewestLemmas.{few-with_newest}
 use Rattle.ss_journal.proofs.newest.Newest.add.Goals as goal
@@ -13,9 +13,7 @@ loop-put-preserved c =
     let more = few-with_newest put held in
     let grown = ap (λ (list : List Put). length list) c.put.ensures.kept in
     record {
-      kept = ap (newest_after (drop (k + 1) puts)) c.put.ensures.kept
-          ∙ sym (at_drop_more (λ (list : List Put). newest_after list held) puts k d c.loop-put-test.true)
-          ∙ c.loop-put.invariant.kept;
+      kept = rw (c.put.ensures.kept, ← at_drop_more (λ (list : List Put). newest_after list held) puts k d c.loop-put-test.true, c.loop-put.invariant.kept);
       few = omega (arith, more, grown, c.loop-put.invariant.few);
       whole = All-more (λ (p : Put). length p.bytes ≡ 128) puts k d c.loop-put-test.true c.loop-put.invariant.whole c.put.ensures.whole;
     }

@@ -1,4 +1,4 @@
-use Rattle.ss_journal.proofs.Common.{◌<◌, ◌≡◌, ◌∙◌, List, [], ap, arith, get_or, length, sym, cond-true, with_newest, Put}
+use Rattle.ss_journal.proofs.Common.{◌<◌, ◌≡◌, ◌∙◌, List, [], ap, arith, get_or, length, cond-true, with_newest, Put}
 use Rattle.std.proofs.Common.{set}
 use Rattle.std.proofs.lemmas.List.{get_or_read}
 use Rattle.ss_journal.proofs.NewestLemmas.{rise-with_newest, with_newest-insert, with_newest-set}
@@ -12,7 +12,7 @@ replaced c =
     let same = c.as_slice.ensures.value in
     let count = ap (λ (list : List Put). length list) same in
     with_newest-set c.args.put.now c.self.inside.puts.items c.count_below-place.result c.index.result.now (omega (arith, count))
-    (rw same at c.count_below-place.ensures.below) (sym (ap (λ (put : Put). put.slot) c.index.ensures) ∙ c.if-index-put.true)
+    (rw same at c.count_below-place.ensures.below) (rw (← c.index.ensures, c.if-index-put.true))
 
 -- or it comes between those below and those above
 inserted : (c : goal.After-insert) → c.insert.new.self.items ≡ with_newest c.args.put.now c.self.inside.puts.items
@@ -27,7 +27,7 @@ inserted c =
     let room = c.self.invariant.0 in
     let apart : place < length held → (get_or held place d).slot ≡ put.slot → ⊥ = elim c.else-place-len.branch [
       | else-place-len-via-then-place-len+else-index-put w ↦ λ lt is.
-          w.if-index-put.false (ap (λ (p : Put). p.slot) (get_or_read held place w.index.result.now lt w.index.ensures d) ∙ is)
+          w.if-index-put.false (rw (get_or_read held place w.index.result.now lt w.index.ensures d, is))
       | else-place-len-via-else-place-len w ↦ λ lt is. absurd (omega (arith, count, lt, w.if-place-len.false))
     ] in
     c.insert.ensures.items ∙ cond-true _ _ _ (c.insert.ensures.succeeds (omega (arith, count, seen, room)))
