@@ -1,6 +1,5 @@
 -- A stream whose windows are looked at one after the other, oldest first.
-use Rattle.std.proofs.Common.{◌≡◌, ◌∙◌, ℕ, ◌+◌, ◌<◌, List, [], ◌∷◌, ◌++◌, map, refl, sym, ap, subst, arith, append-nil}
-use Rattle.std.proofs.Common.{Option, Some, None, Ok, Err, Result}
+use Rattle.std.proofs.Common.{◌≡◌, ◌∙◌, ℕ, ◌+◌, ◌<◌, List, [], ◌∷◌, ◌++◌, map, refl, sym, ap, subst, arith, append-nil, Option, Some, None, Ok, Err, Result}
 use Rattle.std.specs.List.{Contains}
 use Rattle.std.proofs.lemmas.List.{map-append}
 use Rattle.std.proofs.lemmas.List.Elements.{recursion_from_All}
@@ -97,8 +96,7 @@ IsAsking-none disk records part query start begins kept =
         left = λ others s held.
             AreLeft-early s part.landmarks.landmarks query.kind query.from query.to [] begins.before (entries_in begins.rest) seen
             (recursion_from_All (λ (e : At × Entry). e.1.t_last < query.from) begins.before begins.early)
-            (subst (λ es. AreLeft s part.landmarks.landmarks query.kind query.from query.to [] es seen) split
-            (AreLeft-none others part s (shown_by records disk.told.content) query.kind query.from query.to held));
+            (rw split at (AreLeft-none others part s (shown_by records disk.told.content) query.kind query.from query.to held));
         kept = kept told;
         reads = reads-none disk.told;
       });
@@ -110,14 +108,13 @@ IsAsking-none disk records part query start begins kept =
 pub asking-at : {before now : DiskView} {records records_now : RecordsState} {part : StreamParts} {query : Query} {seen : Seen}
     {next place : Option At} → next ≡ place → IsAsking before now records records_now part query seen next →
     IsAsking before now records records_now part query seen place
-asking-at {before} {now} {records} {records_now} {part} {query} {seen} same asking =
-    subst (λ n. IsAsking before now records records_now part query seen n) same asking
+asking-at {before} {now} {records} {records_now} {part} {query} {seen} same asking = rw same at asking
 
 -- the window that changed is one of the stream
 pub changed-window : (why : ReadError) (slot : ℕ) (slots : List ℕ) → IfChanged (verdict_of_read {T = Seen} (Err why)) (λ at. at ≡ slot) →
     Contains slots slot → IfChanged (verdict_of_read {T = Seen} (Err why)) (Contains slots)
 changed-window error.Disk slot slots changed among = tt
-changed-window (error.Changed at) slot slots changed among = subst (Contains slots) (sym changed) among
+changed-window (error.Changed at) slot slots changed among = rw changed among
 
 -- what is known of all windows is known of the stream
 seen-whole : (part : StreamParts) (kind : Kind) (from to : ℕ) (seen : Seen) (s : Stream) → part.landmarks.landmarks ≡ s.landmarks →

@@ -1,5 +1,5 @@
 -- What windows that are read one after the other say of a range of times.
-use Rattle.std.proofs.Common.{◌≡◌, ◌∙◌, ℕ, zero, suc, ◌+◌, ◌-◌, ◌^◌, ◌<◌, ◌≤◌, ℤ, ◌+ℤ◌, sym, ap, ap₂, subst, arith}
+use Rattle.std.proofs.Common.{◌≡◌, ◌∙◌, ℕ, zero, suc, ◌+◌, ◌-◌, ◌^◌, ◌<◌, ◌≤◌, ℤ, ◌+ℤ◌, ap, ap₂, arith}
 use Rattle.std.specs.Prelude.{FitsSigned, unsigned_abs}
 use Rattle.std.proofs.lemmas.Int.{ints, clamps, to_z-of_z}
 use Rattle.std.specs.Int.{w128}
@@ -38,7 +38,7 @@ module _ (s : SplitFigures) (split : IsSplit s) where
       let is = high_sum-rest s x within in
       let small = low_sum-small s split (s.count - x) (omega arith) in
       let all = sum-small s split in
-      subst (λ z. unsigned_abs z < 2 ^ 107) (sym is) (omega (arith, ints))
+      rw is (omega (arith, ints))
 
   within-count : least_count s + (greatest_count s - least_count s) ≤ s.count
   within-count =
@@ -70,7 +70,7 @@ pub held-near : (z : ℤ) → IsNear z → held z ≡ z
 held-near z near = to_z-of_z w128 z (omega (arith, ints))
 
 pub near-held : (z : ℤ) → IsNear z → IsNear (held z)
-near-held z near = subst IsNear (sym (held-near z near)) near
+near-held z near = rw held-near near
 
 -- the sum of a whole window and of values of landmarks, as the code makes it
 module _ (sum marked : ℤ) (near : unsigned_abs sum < 2 ^ 104) (few : unsigned_abs marked ≤ 2 ^ 87) where
@@ -84,13 +84,13 @@ module _ (sum marked : ℤ) (near : unsigned_abs sum < 2 ^ 104) (few : unsigned_
   both-near = omega (arith, ints, near, few)
 
   pub known-fits : FitsSigned w128 (held sum +ℤ held marked)
-  known-fits = subst (FitsSigned w128) (sym held-both) (omega (arith, ints, near, few))
+  known-fits = rw held-both (omega (arith, ints, near, few))
 
   pub known-held : held (held sum +ℤ held marked) ≡ (sum +ℤ marked)
   known-held = ap held held-both ∙ held-near (sum +ℤ marked) both-near
 
   pub known-near : IsNear (held (held sum +ℤ held marked))
-  known-near = subst IsNear (sym known-held) both-near
+  known-near = rw known-held both-near
 
 -- a sum of three such numbers as the code makes it
 pub held-three : (a b d : ℤ) → IsNear a → IsNear b → IsNear d → held (held (held a +ℤ held b) +ℤ held d) ≡ ((a +ℤ b) +ℤ d)

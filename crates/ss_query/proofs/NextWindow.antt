@@ -110,7 +110,7 @@ module _ {s : Stream} {landmarks : List Landmark} {kind : Kind} {from to : ℕ} 
   IsNext-left left =
       let cut = first-window entry after left.windows left.spans in
       let times : map times_held (entry ∷ after) ≡ map times_of (cut.0 ∷ cut.1) = left.times ∙ ap (map times_of) cut.2 in
-      let stand : StandFrom (left.position + 1) left.time (cut.0 ∷ cut.1) = subst (λ ws. StandFrom (left.position + 1) left.time ws) cut.2 left.stand in
+      let stand : StandFrom (left.position + 1) left.time (cut.0 ∷ cut.1) = rw cut.2 at left.stand in
       let all : taken left.windows ≡ cut.0.summary.count + taken cut.1 = ap (λ ws. taken ws) cut.2 ∙ taken-cons cut.0 cut.1 in
       let next : (left.position + 1) + cut.0.summary.count ≡ left.position + cut.0.summary.count + 1 = omega arith in
       let possible = stand.1 in
@@ -134,7 +134,7 @@ module _ {s : Stream} {landmarks : List Landmark} {kind : Kind} {from to : ℕ} 
         later = omega (arith, late, soon);
         rises = omega (arith, some, long);
         few = omega (arith, all, left.few);
-        stand = subst (λ n. StandFrom n (cut.0.summary.t_last + 1) cut.1) next stand.3;
+        stand = rw next at stand.3;
       }
 
   module _ (next : IsNext s landmarks kind from to before entry after seen) where
@@ -189,9 +189,9 @@ module _ {s : Stream} {landmarks : List Landmark} {kind : Kind} {from to : ℕ} 
         let rises = next.rises in
         elim (cases_Bool (is_apart from to w)) [
           | inl apart ↦
-              subst Ends (sym (cond-true (is_apart from to w) seen (seen_with landmarks kind from to seen w) apart)) (omega arith, omega (arith, later, rises))
+              rw cond-true (omega arith, omega (arith, later, rises))
           | inr meets ↦
-              subst Ends (sym (cond-false (is_apart from to w) seen (seen_with landmarks kind from to seen w) meets)) (omega arith, omega arith)
+              rw cond-false (omega arith, omega arith)
         ]
 
     pub AreLeft-after : AreLeft s landmarks kind from to (before ++ entry ∷ []) after (seen_after landmarks kind from to seen w)
@@ -214,15 +214,13 @@ pub AreLeft-early : (s : Stream) (landmarks : List Landmark) (kind : Kind) (from
     (rest : List Entry) (seen : Seen) →
     AllByRecursion (λ (e : At × Entry). e.1.t_last < from) early → AreLeft s landmarks kind from to before (entries_in early ++ rest) seen →
     AreLeft s landmarks kind from to (before ++ entries_in early) rest seen
-AreLeft-early s landmarks kind from to before [] rest seen all left =
-    subst (λ es. AreLeft s landmarks kind from to es rest seen) (sym (append-nil before)) left
+AreLeft-early s landmarks kind from to before [] rest seen all left = rw append-nil left
 AreLeft-early s landmarks kind from to before (e ∷ es) rest seen all left =
     let next = IsNext-left left in
     let ends : e.1.t_last ≡ next.window.summary.t_last = ap (λ (p : ℕ × ℕ). p.1) next.time in
     let early = all.0 in
     let apart = apart-early from to next.window.summary.t_first next.window.summary.t_last (omega (arith, ends, early)) in
-    subst (λ l. AreLeft s landmarks kind from to l rest seen) (append_assoc before (e.1 ∷ []) (entries_in es))
-    (AreLeft-early s landmarks kind from to (before ++ e.1 ∷ []) es rest seen all.1 (left-apart next apart))
+    rw append_assoc at (AreLeft-early s landmarks kind from to (before ++ e.1 ∷ []) es rest seen all.1 (left-apart next apart))
 
 module _ {part : StreamParts} {from to : ℕ} {seen : Seen} {at : At} (line : IsLine part.line) (to_here : IsWalkedTo part from to seen (Some at)) where
   index-here : index_of part.line.entries at ≡ length to_here.before
@@ -263,15 +261,14 @@ module _ {part : StreamParts} {from to : ℕ} {seen : Seen} {at : At} (line : Is
         let i = index_of part.line.entries at in
         let here : slice_get (window_slots_of part) i ≡ Some entry.slot =
         slice_get-map (λ (e : Entry). e.slot) (entries_of part) i ∙ ap (option_map (λ (e : Entry). e.slot)) (slice_get-entry part.line.entries at entry read) in
-        subst (λ slot. slot < MOST_SLOTS) (get_or_from_slice_get (window_slots_of part) i entry.slot entry.slot here)
+        rw (get_or_from_slice_get (window_slots_of part) i entry.slot entry.slot here) at
         (All-get_or (λ slot. slot < MOST_SLOTS) (window_slots_of part) i entry.slot (slice_get_within (window_slots_of part) i entry.slot here) below)
 
     -- the next window, on a disk that tells
     pub IsNext-here : {kind : Kind} (s : Stream) →
         AreLeft s part.landmarks.landmarks kind from to (entries_in to_here.before) (entries_in to_here.rest) seen →
         IsNext s part.landmarks.landmarks kind from to (entries_in to_here.before) entry (entries_in after) seen
-    IsNext-here {kind} s left =
-        IsNext-left (subst (λ es. AreLeft s part.landmarks.landmarks kind from to (entries_in to_here.before) es seen) rest-entries left)
+    IsNext-here {kind} s left = IsNext-left (rw rest-entries at left)
 
     -- its record lies beside others, and it lies free among the landmarks
     pub record IsBeside (w : Window) (image : List ℕ) : Type 0 where
@@ -298,13 +295,11 @@ module _ {part : StreamParts} {from to : ℕ} {seen : Seen} {at : At} (line : Is
         let beside : List (ℕ × Option Record) = (head ∷ front) ++ behind in
         let has : HasRecords (one ∷ beside) image =
         HasRecords-permutation ((head ∷ front) ++ one ∷ behind) (one ∷ beside) image (IsPermutation-middle (head ∷ front) one behind)
-        (subst (λ l. HasRecords l image) all held.records) in
+        (rw all at held.records) in
         record {
           others = beside;
           has = subst (λ n. HasRecords ((entry.slot, Some (window_record n next.window)) ∷ beside) image) (sym held.agrees.number) has;
-          free = subst (λ ls. lies_free ls next.window ≡ true) (sym held.agrees.landmarks)
-              (list_all-middle (lies_free s.landmarks) next.gone next.window next.behind
-              (subst (λ ws. list_all (lies_free s.landmarks) ws ≡ true) next.is held.stream.free));
+          free = rw held.agrees.landmarks (list_all-middle (lies_free s.landmarks) next.gone next.window next.behind (rw next.is at held.stream.free));
         }
 
     pub moved-here : part.line.entries ≡ (to_here.before ++ (at, entry) ∷ []) ++ after
@@ -342,10 +337,7 @@ module _ {part : StreamParts} {from to : ℕ} {seen : Seen} {at : At} (line : Is
         (next : IsNext s part.landmarks.landmarks kind from to (entries_in to_here.before) entry (entries_in after) seen) →
         now ≡ seen_after part.landmarks.landmarks kind from to seen next.window →
         AreLeft s part.landmarks.landmarks kind from to (entries_in (to_here.before ++ (at, entry) ∷ [])) (entries_in after) now
-    AreLeft-more {kind} s now next is =
-        subst (AreLeft s part.landmarks.landmarks kind from to (entries_in (to_here.before ++ (at, entry) ∷ [])) (entries_in after)) (sym is)
-        (subst (λ es. AreLeft s part.landmarks.landmarks kind from to es (entries_in after) (seen_after part.landmarks.landmarks kind from to seen next.window))
-        (sym (map-append (λ (e : At × Entry). e.1) to_here.before ((at, entry) ∷ []))) (AreLeft-after next))
+    AreLeft-more {kind} s now next is = rw (is, map-append) (AreLeft-after next)
 
 -- the slot of a window is one of those of the windows
 pub Contains-slot : (part : StreamParts) (at : At) (entry : Entry) → entry_at part.line.entries at ≡ Some entry → Contains (window_slots_of part) entry.slot

@@ -1,6 +1,6 @@
 -- Where entries stand in a line.
 use Rattle.std.proofs.Common.{◌≡◌, ◌∙◌, ℕ, zero, suc, ◌+◌, ◌≤◌, true, false, cond, List, [], ◌∷◌, ◌++◌, length, map, refl}
-use Rattle.std.proofs.Common.{sym, ap, subst, arith, append_assoc, length-append, count_by, Option, Some, None, inl, inr}
+use Rattle.std.proofs.Common.{sym, ap, arith, append_assoc, length-append, count_by, Option, Some, None, inl, inr}
 use Rattle.std.specs.Prelude.{slice_get, IfSome}
 use Rattle.std.specs.List.{find, list_any}
 use Rattle.std.specs.Option.{option_map}
@@ -56,8 +56,7 @@ pub read-once : (entries before : List (At × Entry)) (at : At) (entry : Entry) 
     entries ≡ before ++ (at, entry) ∷ rest →
     count_by (is_at at) entries ≤ 1 → entry_at entries at ≡ Some read → entry ≡ read
 read-once entries before at entry rest read is few found =
-    find-read entries before at entry rest read is
-    (once-before (is_at at) before (at, entry) rest (is_at-same at entry) (subst (λ es. count_by (is_at at) es ≤ 1) is few)) found
+    find-read entries before at entry rest read is (once-before (is_at at) before (at, entry) rest (is_at-same at entry) (rw is at few)) found
 
 -- the first place
 pub IsAt-first : (entries : List (At × Entry)) (at : At) → Some at ≡ place_at entries 0 →
@@ -88,7 +87,7 @@ module _ (entries : List (At × Entry)) (left : At) (window : Entry) (before res
       let front = before ++ (left, window) ∷ [] in
       let moved : entries ≡ front ++ (right, there.0) ∷ there.1 = cut ∙ sym (append_assoc before ((left, window) ∷ []) ((right, there.0) ∷ there.1)) in
       let alone : list_any (is_at right) front ≡ false =
-      once-before (is_at right) front (right, there.0) there.1 (is_at-same right there.0) (subst (λ es. count_by (is_at right) es ≤ 1) moved (apart right)) in
+      once-before (is_at right) front (right, there.0) there.1 (is_at-same right there.0) (rw moved at (apart right)) in
       let one : there.0 ≡ next = read-once entries front right there.0 there.1 next moved (apart right) read in
       (there.1, cut ∙ ap (λ e. before ++ (left, window) ∷ (right, e) ∷ there.1) one, alone)
 

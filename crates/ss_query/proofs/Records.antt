@@ -1,5 +1,5 @@
 -- The records in the slots of an image, in whichever order, and those of windows among them.
-use Rattle.std.proofs.Common.{◌≡◌, ◌∙◌, ℕ, true, List, [], ◌∷◌, ◌++◌, length, map, filter, not, refl, sym, ap, ap₂, subst, arith, IsPermutation, Option, Some}
+use Rattle.std.proofs.Common.{◌≡◌, ◌∙◌, ℕ, true, List, [], ◌∷◌, ◌++◌, length, map, filter, not, refl, sym, ap, ap₂, arith, IsPermutation, Option, Some}
 use Rattle.std.specs.Prelude.{zip}
 use Rattle.std.specs.List.{AllByRecursion, range_with_len}
 use Rattle.std.proofs.lemmas.List.{length-map, map-append}
@@ -35,8 +35,7 @@ HasRecords-same slots others image first second =
     let same = StandsFor-same image first.found second.found first.map second.map in
     let few = (HasWholeSlots-StandsFor image first.found first.map).few in
     let found = occupied-same first.found second.found few same in
-    IsPermutation-trans slots (occupied second.found) others (subst (λ (l : List (ℕ × Option Record)). IsPermutation slots l) found first.occupied)
-    (IsPermutation-sym others (occupied second.found) second.occupied)
+    IsPermutation-trans slots (occupied second.found) others (rw found at first.occupied) (IsPermutation-sym others (occupied second.found) second.occupied)
 
 -- what the slots of a list spell
 spelled-filled : (bytes : ℕ → List ℕ) (slots : List ℕ) →
@@ -63,7 +62,7 @@ lies_free-read landmarks number entry w summary spelled read is free =
     let first : w.first ≡ entry.first = cc both in
     let same : w.summary ≡ summary = cc both in
     let window : w ≡ record { first = entry.first; summary = summary } = λ i. record { first = first i; summary = same i } in
-    subst (λ u. lies_free landmarks u ≡ true) window free
+    rw window at free
 
 zip-append : {X Y : Type 0} (xs us : List X) (ys vs : List Y) → length xs ≡ length ys → zip (xs ++ us) (ys ++ vs) ≡ zip xs ys ++ zip us vs
 zip-append [] us [] vs same = refl

@@ -1,5 +1,5 @@
 -- What is known of a range of times once the windows are read is what their answer is made of.
-use Rattle.std.proofs.Common.{◌≡◌, ◌∙◌, ℕ, ◌+◌, ◌<◌, ◌≤◌, Bool, true, false, List, [], ◌∷◌, ◌++◌, map, refl, sym, ap, ap₂, subst}
+use Rattle.std.proofs.Common.{◌≡◌, ◌∙◌, ℕ, ◌+◌, ◌<◌, ◌≤◌, Bool, true, false, List, [], ◌∷◌, ◌++◌, map, refl, sym, ap, ap₂}
 use Rattle.std.proofs.Common.{arith, Option, Some, None, inl, inr, append-nil, append_assoc}
 use Rattle.std.specs.Prelude.{◌&&◌, ◌||◌, nat_le, nat_lt, if◌then◌else◌, ℤ, pos, ◌+ℤ◌, fold, sum_by, option_map, IfSome}
 use Rattle.std.specs.List.{filter}
@@ -25,8 +25,7 @@ use Rattle.ss_model.specs.Tiling.{StandFrom}
 use Rattle.ss_model.specs.declared.types.Window.{Window}
 use Rattle.ss_model.proofs.SplitLemmas.{lies}
 use Rattle.ss_summary.specs.Figures.{Figures}
-use Rattle.ss_query.specs.Asked.{cut_of, joined_with, left_with, marks_seen}
-use Rattle.ss_query.specs.Asked.{presence_with, right_with, seen_after, seen_of, seen_with, whole_with}
+use Rattle.ss_query.specs.Asked.{cut_of, joined_with, left_with, marks_seen, presence_with, right_with, seen_after, seen_of, seen_with, whole_with}
 use Rattle.ss_query.specs.declared.asking.Seen.{Seen}
 use Rattle.ss_query.specs.declared.cut.Cut.{Cut}
 use Rattle.ss_query.proofs.Presences.{presence-more, presence-none, presence-skip, presence_of_kind}
@@ -85,7 +84,7 @@ IsSeen-skip landmarks kind from to seen ws w apart order is =
     let not_split : is_split from to w ≡ false = rw (not_whole, apart) refl in
     record {
       marked = is.marked;
-      known = subst (λ (vs : List Window). AreKnown seen.whole vs) (sym (filter-same (is_whole from to) ws w not_whole)) is.known;
+      known = rw filter-same is.known;
       cuts = is.cuts ∙ sym (ap (map (cut_of landmarks from to)) (filter-same (is_split from to) ws w not_split));
       left_behind = is.left_behind;
       right_behind = is.right_behind;
@@ -286,8 +285,8 @@ module _ (landmarks : List Landmark) (kind : Kind) (from to : ℕ) (seen : Seen)
       let same = right-early landmarks from to seen.left seen.right w tests.1 in
       record {
         all = ap₂ listed now same ∙ listed-first seen.left seen.right cut (left_early early) (right_early place.begins) ∙ cuts-push split;
-        left_behind = subst (λ o. IfSome o (λ s. from < w.summary.t_last + 1)) (sym now) (omega (arith, place.ends));
-        right_behind = subst (λ o. IfSome o (λ s. to + 1 < w.summary.t_last + 1)) (sym same) right_stays;
+        left_behind = rw now (omega (arith, place.ends));
+        right_behind = rw same right_stays;
       }
 
   cuts-late : is_split from to w ≡ true → from ≤ w.summary.t_first → Cuts
@@ -300,8 +299,8 @@ module _ (landmarks : List Landmark) (kind : Kind) (from to : ℕ) (seen : Seen)
       let out : to < w.summary.t_last = past from to w.summary.t_first w.summary.t_last late place.out in
       record {
         all = ap₂ listed same now ∙ listed-second seen.left seen.right cut (right_early place.begins) ∙ cuts-push split;
-        left_behind = subst (λ o. IfSome o (λ s. from < w.summary.t_last + 1)) (sym same) left_stays;
-        right_behind = subst (λ o. IfSome o (λ s. to + 1 < w.summary.t_last + 1)) (sym now) (omega (arith, out));
+        left_behind = rw same left_stays;
+        right_behind = rw now (omega (arith, out));
       }
 
   cuts-none : is_split from to w ≡ false → Cuts
@@ -310,8 +309,8 @@ module _ (landmarks : List Landmark) (kind : Kind) (from to : ℕ) (seen : Seen)
       let right = right-unsplit landmarks from to seen.left seen.right w unsplit in
       record {
         all = ap₂ listed left right ∙ cuts-same unsplit;
-        left_behind = subst (λ o. IfSome o (λ s. from < w.summary.t_last + 1)) (sym left) left_stays;
-        right_behind = subst (λ o. IfSome o (λ s. to + 1 < w.summary.t_last + 1)) (sym right) right_stays;
+        left_behind = rw left left_stays;
+        right_behind = rw right right_stays;
       }
 
   cuts-more : Cuts
@@ -345,17 +344,15 @@ IsSeen-after landmarks kind from to seen ws w is later rises =
     let P : Seen → Type 0 = λ now. IsSeen landmarks kind from to now (ws ++ w ∷ []) × (now.next_time ≤ w.summary.t_last + 1) in
     elim (cases_Bool (is_apart from to w)) [
       | inl apart ↦
-          subst P (sym (cond-true (is_apart from to w) seen (seen_with landmarks kind from to seen w) apart))
-          (IsSeen-skip landmarks kind from to seen ws w apart rises is, omega (arith, later, rises))
+          rw cond-true (IsSeen-skip landmarks kind from to seen ws w apart rises is, omega (arith, later, rises))
       | inr meets ↦
-          subst P (sym (cond-false (is_apart from to w) seen (seen_with landmarks kind from to seen w) meets))
-          (IsSeen-more landmarks kind from to seen ws w is later rises, omega arith)
+          rw cond-false (IsSeen-more landmarks kind from to seen ws w is later rises, omega arith)
     ]
 
 IsSeen-fold : (landmarks : List Landmark) (kind : Kind) (from to : ℕ) (seen : Seen) (gone : List Window) (first time : ℕ) (ws : List Window) →
     StandFrom first time ws → seen.next_time ≤ time → IsSeen landmarks kind from to seen gone →
     IsSeen landmarks kind from to (fold (seen_after landmarks kind from to) seen ws) (gone ++ ws)
-IsSeen-fold landmarks kind from to seen gone first time [] stand soon is = subst (λ ws. IsSeen landmarks kind from to seen ws) (sym (append-nil gone)) is
+IsSeen-fold landmarks kind from to seen gone first time [] stand soon is = rw append-nil is
 IsSeen-fold landmarks kind from to seen gone first time (w ∷ ws) stand soon is =
     let possible = stand.1 in
     let some = possible.count_low in
@@ -363,8 +360,7 @@ IsSeen-fold landmarks kind from to seen gone first time (w ∷ ws) stand soon is
     let begins = stand.2 in
     let next = seen_after landmarks kind from to seen w in
     let one = IsSeen-after landmarks kind from to seen gone w is (omega (arith, soon, begins)) (omega (arith, some, long)) in
-    subst (λ vs. IsSeen landmarks kind from to (fold (seen_after landmarks kind from to) next ws) vs) (append_assoc gone (w ∷ []) ws)
-    (IsSeen-fold landmarks kind from to next (gone ++ w ∷ []) (first + w.summary.count) (w.summary.t_last + 1) ws stand.3 one.1 one.0)
+    rw append_assoc at (IsSeen-fold landmarks kind from to next (gone ++ w ∷ []) (first + w.summary.count) (w.summary.t_last + 1) ws stand.3 one.1 one.0)
 
 pub IsSeen-seen_of : (kind : Kind) (from to : ℕ) (s : Stream) → IsStream s → IsSeen s.landmarks kind from to (seen_of kind from to s) s.windows
 IsSeen-seen_of kind from to s is =

@@ -1,13 +1,13 @@
 -- What a stream answers, by what is known of it.
-use Rattle.std.proofs.Common.{◌≡◌, ◌∙◌, Ok, Err, refl, ap, subst}
+use Rattle.std.proofs.Common.{◌≡◌, ◌∙◌, Ok, Err, refl, ap}
 use Rattle.ss_catalog.specs.declared.query.Query.{Query}
 use Rattle.ss_model.specs.Answers.{answer_of}
 use Rattle.ss_model.specs.declared.outcome.Outcome.{Outcome}
 use Rattle.ss_outside.proofs.StepLemmas.{step-as, step-verdict}
 use Rattle.ss_outside.specs.Disk.{DiskView}
 use Rattle.ss_outside.specs.Step.{Step}
-use Rattle.ss_outside.specs.Verdict.{UnlessFailed, fine}
-use Rattle.ss_records.specs.Kept.{AreKept, RecordsState}
+use Rattle.ss_outside.specs.Verdict.{fine}
+use Rattle.ss_records.specs.Kept.{RecordsState}
 use Rattle.ss_parts.specs.declared.parts.StreamParts.{StreamParts}
 use Rattle.ss_query.specs.Answered.{AnswersStream, IsAnswered, IsSeenAs, SeesStream}
 use Rattle.ss_query.specs.Asked.{outcome_seen, seen_of}
@@ -33,7 +33,7 @@ module _ {old new : DiskView} {part : StreamParts} {was is : RecordsState} (quer
   answer-err why step =
       step-verdict (same-verdict why) step (λ sees. record {
         answer = λ others s held. IsAnswered-err (seen_of query.kind query.from query.to s) (answer_of query s) why (sees.seen others s held);
-        kept = subst (λ v. UnlessFailed v (AreKept is new.told.content)) (same-verdict why) sees.kept;
+        kept = rw same-verdict at sees.kept;
         reads = sees.reads;
       })
 

@@ -1,5 +1,5 @@
 -- What a look at an entry tells, where its record was read.
-use Rattle.std.proofs.Common.{◌≡◌, ◌∙◌, ℕ, ◌≤◌, false, Ok, Err, refl, sym, ap, arith, subst}
+use Rattle.std.proofs.Common.{◌≡◌, ◌∙◌, ℕ, ◌≤◌, false, Ok, Err, refl, sym, ap, arith}
 use Rattle.std.specs.Prelude.{◌||◌, nat_lt}
 use Rattle.std.proofs.lemmas.Bool.{cond-false}
 use Rattle.std.proofs.lemmas.Bool.Decides.{nat_tests}
@@ -10,8 +10,8 @@ use Rattle.ss_model.specs.declared.types.Window.{Window}
 use Rattle.ss_outside.proofs.StepLemmas.{step-as, step-verdict}
 use Rattle.ss_outside.specs.Disk.{DiskView}
 use Rattle.ss_outside.specs.Step.{Step}
-use Rattle.ss_outside.specs.Verdict.{UnlessFailed, changed, fine}
-use Rattle.ss_records.specs.Kept.{AreKept, RecordsState}
+use Rattle.ss_outside.specs.Verdict.{changed, fine}
+use Rattle.ss_records.specs.Kept.{RecordsState}
 use Rattle.ss_parts.specs.Held.{span_held, span_of}
 use Rattle.ss_parts.specs.declared.parts.StreamParts.{StreamParts}
 use Rattle.ss_summary.specs.Figures.{Figures}
@@ -46,7 +46,7 @@ module _ {old new : DiskView} {part : StreamParts} {entry : Entry} {was is : Rec
       step-verdict (same-verdict why) step (λ read. record {
         window = λ others w has span times free follows.
             IsSeenAs-err w.summary (seen_after part.landmarks.landmarks query.kind query.from query.to seen w) why (read.window others w has span times free);
-        kept = subst (λ v. UnlessFailed v (AreKept is new.told.content)) (same-verdict why) read.kept;
+        kept = rw same-verdict at read.kept;
         reads = read.reads;
       })
 
@@ -56,8 +56,7 @@ module _ {old new : DiskView} {part : StreamParts} {entry : Entry} {was is : Rec
         Step (changed entry.slot) old new (SeesEntry part query entry seen was is (Err (error.Changed entry.slot)))
     seen-changed wrong =
         let seen_as : Step fine old new (SeesEntry part query entry seen was is (Err (error.Changed entry.slot))) = step-as step (λ read. record {
-          window = λ others w has span times free follows.
-              wrong (subst (λ (u : Window). Follows seen u) (sym (window-read entry w f span (read.window others w has span times free))) follows);
+          window = λ others w has span times free follows. wrong (rw (← window-read entry w f span (read.window others w has span times free)) at follows);
           kept = read.kept;
           reads = read.reads;
         }) in

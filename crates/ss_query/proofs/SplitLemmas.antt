@@ -1,8 +1,8 @@
 -- A window that lies free among landmarks, and that a range splits: its figures, by counts of free times.
-use Rattle.std.proofs.Common.{◌≡◌, ◌∙◌, ℕ, ◌+◌, ◌-◌, ◌≤◌, max, min, List, sym, ap₂, subst, arith, IsTrue}
+use Rattle.std.proofs.Common.{◌≡◌, ◌∙◌, ℕ, ◌+◌, ◌-◌, ◌≤◌, max, min, List, sym, ap₂, arith, IsTrue}
 use Rattle.std.specs.Prelude.{ℤ}
 use Rattle.ss_bounds.specs.Split.{IsSplit, SplitFigures}
-use Rattle.ss_bounds.specs.Times.{ends_in, split_of, times_inside, times_outside}
+use Rattle.ss_bounds.specs.Times.{ends_in, times_inside, times_outside}
 use Rattle.ss_bounds.proofs.RangeLemmas.{times_inside-times, times_inside-times_outside}
 use Rattle.ss_landmarks.specs.Free.{free, is_free}
 use Rattle.ss_landmarks.specs.Landmark.{Landmark}
@@ -60,16 +60,7 @@ module _ (landmarks : List Landmark) (from to : ℕ) (w : Window) (f : Figures) 
   split_figures-is =
       let all = free-parted landmarks from to f.t_first f.t_last in
       let outside : between - inside ≡ times_outside (is_free landmarks) from to f.t_first f.t_last = omega (arith, all, inside_is, between_is) in
-      subst (λ (g : Figures). ◌≡◌ {A = SplitFigures} (record {
-        count = f.count;
-        sum = sum;
-        min = least;
-        max = greatest;
-        ends = ends;
-        inside = inside;
-        outside = between - inside;
-      }) (split_of (is_free landmarks) from to g.count g.sum g.min g.max g.t_first g.t_last)) same
-      (figures-same f.count sum f.sum least f.min greatest f.max ends _ inside _ _ _ sum_is least_is greatest_is ends_is inside_is outside)
+      rw (← same) (figures-same f.count sum f.sum least f.min greatest f.max ends _ inside _ _ _ sum_is least_is greatest_is ends_is inside_is outside)
 
   pub IsSplit-figures : IsTrue (is_split from to w) → IsTrue (lies_free landmarks w) → IsPossible f → IsSplit (record {
     count = f.count;
@@ -80,5 +71,4 @@ module _ (landmarks : List Landmark) (from to : ℕ) (w : Window) (f : Figures) 
     inside = inside;
     outside = between - inside;
   })
-  IsSplit-figures split is_in possible =
-      subst IsSplit (sym split_figures-is) (IsSplit-window landmarks from to w split is_in (subst IsPossible same possible))
+  IsSplit-figures split is_in possible = rw split_figures-is (IsSplit-window landmarks from to w split is_in (rw same at possible))

@@ -1,8 +1,7 @@
-use Rattle.std.proofs.Common.{◌+◌, arith, refl, subst, sym}
+use Rattle.std.proofs.Common.{◌+◌, arith, refl}
 use Rattle.std.proofs.lemmas.Result.{err_from_is_err_and}
 use Rattle.ss_line.specs.Line.{index_of, place_at}
-use Rattle.ss_query.specs.Asked.{IsFewMarked}
-use Rattle.ss_query.proofs.AskedWindows.{IsAsking, IsAsking-more, IsAsking-none, all-look, asking-at, changed-window, failed-look, late-look}
+use Rattle.ss_query.proofs.AskedWindows.{IsAsking-more, IsAsking-none, all-look, asking-at, changed-window, failed-look, late-look}
 use Rattle.ss_query.proofs.Looks.{begun_by-near, begun_by-next}
 use Rattle.ss_query.proofs.MarkedTallies.{IsFewMarked-in}
 use Rattle.ss_query.proofs.NextWindow.{Contains-slot, StandsIn-here, left_from-less, slot-here}
@@ -10,9 +9,7 @@ use Rattle.ss_query.proofs.walking.see_from.Goals as goal
 
 pub loop-next-init : goal.loop-next-init
 loop-next-init g c = record {
-  asking = subst (λ seen. IsAsking (g.D.Disk.seen c.args.disk.now) (g.D.Disk.seen c.args.disk.now) c.args.records.now c.args.records.now c.args.part.now
-      c.args.query.now seen c.args.start) (sym c.nothing_seen-seen.ensures)
-      (IsAsking-none (g.D.Disk.seen c.args.disk.now) c.args.records.now c.args.part.now c.args.query.now c.args.start
+  asking = rw c.nothing_seen-seen.ensures (IsAsking-none (g.D.Disk.seen c.args.disk.now) c.args.records.now c.args.part.now c.args.query.now c.args.start
       c.requires.begins c.requires.one_disk);
   looks = omega arith;
   reads = omega arith;
@@ -81,14 +78,12 @@ loop-next-preserved g c =
 pub returns-then-query-entry-clause-marked : goal.returns-then-query-entry-clause-marked
 returns-then-query-entry-clause-marked g c =
     let line = c.loop-next.invariant.asking.line in
-    subst IsFewMarked (sym line.marked)
-    (IsFewMarked-in c.args.part.now.landmarks c.args.query.now.from c.args.query.now.to c.count-known.ensures.state)
+    rw line.marked (IsFewMarked-in c.args.part.now.landmarks c.args.query.now.from c.args.query.now.to c.count-known.ensures.state)
 
 pub returns-clause-marked : goal.returns-clause-marked
 returns-clause-marked g c =
     let line = c.loop-next.invariant.asking.line in
-    subst IsFewMarked (sym line.marked)
-    (IsFewMarked-in c.args.part.now.landmarks c.args.query.now.from c.args.query.now.to c.count-known.ensures.state)
+    rw line.marked (IsFewMarked-in c.args.part.now.landmarks c.args.query.now.from c.args.query.now.to c.count-known.ensures.state)
 
 pub returns-then-query-entry-clause-cuts : goal.returns-then-query-entry-clause-cuts
 returns-then-query-entry-clause-cuts g c = c.loop-next.invariant.asking.line.cuts
