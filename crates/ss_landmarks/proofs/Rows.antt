@@ -1,5 +1,6 @@
 -- Worked rows, each computed.
-use Rattle.std.proofs.Common.{◌≡◌, ℕ, ◌+◌, ◌-◌, ◌^◌, true, false, ℤ, pos, negsuc, List, [], ◌∷◌, ◌++◌, length, map, slice_get, take, drop, Some, None, refl, arith}
+use Rattle.std.proofs.Common.{◌≡◌, ℕ, ◌+◌, ◌-◌, ◌^◌, true, false, ℤ, pos, negsuc, List, [], ◌∷◌, ◌++◌, length, map, slice_get, take, drop, Some, None}
+use Rattle.std.proofs.Common.{refl, arith}
 use Rattle.ss_landmarks.specs.Landmark.{Landmark, all_values, opened_at, with_value, closed_at, change_last}
 use Rattle.ss_landmarks.specs.Newest.{newest_value}
 use Rattle.ss_landmarks.specs.Landmarks.{LandmarksState, opened}

@@ -14,39 +14,27 @@ use Rattle.ss_landmarks.specs.Landmark.{LandmarkValue}
 use Rattle.ss_landmarks.specs.Order.{RiseFrom}
 use Rattle.ss_landmarks.specs.Stored.{bare_value}
 use Rattle.ss_landmarks.specs.declared.stored.StoredValue.{StoredValue}
-use Rattle.ss_landmarks.specs.ValuesIn.{lies_in, total, least, greatest, lesser, greater}
-
-int_min_assoc : (a b c : ℤ) → int_min (int_min a b) c ≡ int_min a (int_min b c)
-int_min_assoc a b c = omega (arith, ints, clamps)
-
-int_min_comm : (a b : ℤ) → int_min a b ≡ int_min b a
-int_min_comm a b = omega (arith, ints, clamps)
-
-int_max_assoc : (a b c : ℤ) → int_max (int_max a b) c ≡ int_max a (int_max b c)
-int_max_assoc a b c = omega (arith, ints, clamps)
-
-int_max_comm : (a b : ℤ) → int_max a b ≡ int_max b a
-int_max_comm a b = omega (arith, ints, clamps)
+use Rattle.ss_landmarks.specs.ValuesIn.{lies_in, total, least, greatest, least_with, greatest_with}
 
 pub total_push : (values : List LandmarkValue) (value : LandmarkValue) → total (values ++ value ∷ []) ≡ total values +ℤ value.v
 total_push [] value = omega (arith, ints)
 total_push (x ∷ values) value = let rest = total_push values value in omega (arith, ints)
 
-lesser-lesser : (a b : ℤ) (o : Option ℤ) → lesser a (Some (lesser b o)) ≡ lesser b (Some (lesser a o))
-lesser-lesser a b None = int_min_comm a b
-lesser-lesser a b (Some c) = omega (arith, ints, clamps)
+least_with-least_with : (a b : ℤ) (o : Option ℤ) → least_with a (Some (least_with b o)) ≡ least_with b (Some (least_with a o))
+least_with-least_with a b None = omega (arith, ints, clamps)
+least_with-least_with a b (Some c) = omega (arith, ints, clamps)
 
-greater-greater : (a b : ℤ) (o : Option ℤ) → greater a (Some (greater b o)) ≡ greater b (Some (greater a o))
-greater-greater a b None = int_max_comm a b
-greater-greater a b (Some c) = omega (arith, ints, clamps)
+greatest_with-greatest_with : (a b : ℤ) (o : Option ℤ) → greatest_with a (Some (greatest_with b o)) ≡ greatest_with b (Some (greatest_with a o))
+greatest_with-greatest_with a b None = omega (arith, ints, clamps)
+greatest_with-greatest_with a b (Some c) = omega (arith, ints, clamps)
 
-pub least_push : (values : List LandmarkValue) (value : LandmarkValue) → least (values ++ value ∷ []) ≡ Some (lesser value.v (least values))
+pub least_push : (values : List LandmarkValue) (value : LandmarkValue) → least (values ++ value ∷ []) ≡ Some (least_with value.v (least values))
 least_push [] value = refl
-least_push (x ∷ values) value = ap Some (ap (lesser x.v) (least_push values value) ∙ lesser-lesser x.v value.v (least values))
+least_push (x ∷ values) value = ap Some (ap (least_with x.v) (least_push values value) ∙ least_with-least_with x.v value.v (least values))
 
-pub greatest_push : (values : List LandmarkValue) (value : LandmarkValue) → greatest (values ++ value ∷ []) ≡ Some (greater value.v (greatest values))
+pub greatest_push : (values : List LandmarkValue) (value : LandmarkValue) → greatest (values ++ value ∷ []) ≡ Some (greatest_with value.v (greatest values))
 greatest_push [] value = refl
-greatest_push (x ∷ values) value = ap Some (ap (greater x.v) (greatest_push values value) ∙ greater-greater x.v value.v (greatest values))
+greatest_push (x ∷ values) value = ap Some (ap (greatest_with x.v) (greatest_push values value) ∙ greatest_with-greatest_with x.v value.v (greatest values))
 
 -- a sum of values of 64 bits, one more of them, and that it is far within 128 bits
 module _ (n : ℕ) (sum v : ℤ) (low : neg_ℤ (pos (2 ^ 63 * n)) ≤ℤ sum) (high : sum ≤ℤ pos (2 ^ 63 * n)) (fits : FitsSigned w64 v) where

@@ -18,15 +18,15 @@ values_between landmarks a b = filter (lies_in a b) (all_values landmarks)
 abbrev pub is_among : ℤ → List LandmarkValue → Bool
 is_among v values = list_any (λ value. int_eq value.v v) values
 
--- the lesser of a value and of another, if there is one
-abbrev pub lesser : ℤ → Option ℤ → ℤ
-lesser v None = v
-lesser v (Some other) = int_min v other
+-- the least of a value and of another, if there is one
+abbrev pub least_with : ℤ → Option ℤ → ℤ
+least_with v None = v
+least_with v (Some other) = int_min v other
 
--- the greater of a value and of another, if there is one
-abbrev pub greater : ℤ → Option ℤ → ℤ
-greater v None = v
-greater v (Some other) = int_max v other
+-- the greatest of a value and of another, if there is one
+abbrev pub greatest_with : ℤ → Option ℤ → ℤ
+greatest_with v None = v
+greatest_with v (Some other) = int_max v other
 
 -- the sum of the values
 abbrev pub total : List LandmarkValue → ℤ
@@ -36,12 +36,12 @@ total (value ∷ values) = value.v +ℤ total values
 -- the least of the values; none of no values
 abbrev pub least : List LandmarkValue → Option ℤ
 least [] = None
-least (value ∷ values) = Some (lesser value.v (least values))
+least (value ∷ values) = Some (least_with value.v (least values))
 
 -- the greatest of the values; none of no values
 abbrev pub greatest : List LandmarkValue → Option ℤ
 greatest [] = None
-greatest (value ∷ values) = Some (greater value.v (greatest values))
+greatest (value ∷ values) = Some (greatest_with value.v (greatest values))
 
 -- the tally of some values: their count, sum, least and greatest
 abbrev pub tally_of : List LandmarkValue → Tally

@@ -3,7 +3,7 @@ ghost use Rattle.std.specs.Prelude.{◌≡◌, map, FitsSigned};
 ghost use Rattle.std.specs.Int.{w64};
 ghost use Rattle.std.specs.List.{All};
 ghost use Rattle.ss_landmarks.specs.Stored.{bare_value};
-ghost use Rattle.ss_landmarks.specs.ValuesIn.{tally_of, lesser, greater};
+ghost use Rattle.ss_landmarks.specs.ValuesIn.{tally_of, least_with, greatest_with};
 
 use crate::stored::StoredValue;
 
@@ -16,9 +16,9 @@ pub struct Tally {
     pub greatest: Option<i64>,
 }
 
-// The lesser of a value and of another, if there is one.
-fn lesser(v: i64, other: Option<i64>) -> i64
-    ensures { result ≡ lesser v other }
+// The least of a value and of another, if there is one.
+fn least_with(v: i64, other: Option<i64>) -> i64
+    ensures { result ≡ least_with v other }
 {
     match other {
         None => v,
@@ -26,9 +26,9 @@ fn lesser(v: i64, other: Option<i64>) -> i64
     }
 }
 
-// The greater of a value and of another, if there is one.
-fn greater(v: i64, other: Option<i64>) -> i64
-    ensures { result ≡ greater v other }
+// The greatest of a value and of another, if there is one.
+fn greatest_with(v: i64, other: Option<i64>) -> i64
+    ensures { result ≡ greatest_with v other }
 {
     match other {
         None => v,
@@ -48,8 +48,8 @@ pub fn tally_of(values: &[StoredValue]) -> Tally
     for value in values {
         count += 1;
         sum += i128::from(value.v);
-        least = Some(lesser(value.v, least));
-        greatest = Some(greater(value.v, greatest));
+        least = Some(least_with(value.v, least));
+        greatest = Some(greatest_with(value.v, greatest));
     }
     Tally {
         count,

@@ -12,7 +12,7 @@ use Rattle.ss_bounds.specs.Either.{greatest_in, least_in}
 use Rattle.ss_bounds.specs.Truth.{asked, total}
 use Rattle.ss_landmarks.specs.Landmark.{Landmark, LandmarkValue, all_values}
 use Rattle.ss_landmarks.specs.Landmarks.{AreKnown, LandmarksState}
-use Rattle.ss_landmarks.specs.ValuesIn.{greater, greatest, least, lesser, lies_in, tally_of, values_between}
+use Rattle.ss_landmarks.specs.ValuesIn.{greatest, greatest_with, least, least_with, lies_in, tally_of, values_between}
 use Rattle.ss_landmarks.specs.ValuesIn as marks
 use Rattle.ss_landmarks.proofs.OrderLemmas.{RiseFrom-all_values}
 use Rattle.ss_landmarks.proofs.ValueLemmas.{RiseFrom-fit}
@@ -40,12 +40,12 @@ total-alone (value ∷ values) = ap (λ z. value.v +ℤ z) (total-alone values)
 least-alone : (values : List LandmarkValue) → least values ≡ least_in (alone values)
 least-alone [] = refl
 least-alone (value ∷ []) = refl
-least-alone (value ∷ next ∷ values) = ap (λ o. Some (lesser value.v o)) (least-alone (next ∷ values))
+least-alone (value ∷ next ∷ values) = ap (λ o. Some (least_with value.v o)) (least-alone (next ∷ values))
 
 greatest-alone : (values : List LandmarkValue) → greatest values ≡ greatest_in (alone values)
 greatest-alone [] = refl
 greatest-alone (value ∷ []) = refl
-greatest-alone (value ∷ next ∷ values) = ap (λ o. Some (greater value.v o)) (greatest-alone (next ∷ values))
+greatest-alone (value ∷ next ∷ values) = ap (λ o. Some (greatest_with value.v o)) (greatest-alone (next ∷ values))
 
 module _ (landmarks : List Landmark) (from to : ℕ) where
   pub asked-marked : asked from to (marked_values landmarks) ≡ alone (values_between landmarks from to)

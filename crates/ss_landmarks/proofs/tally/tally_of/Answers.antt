@@ -6,7 +6,7 @@ use Rattle.std.proofs.lemmas.List.{map_more}
 use Rattle.std.proofs.lemmas.List.Elements.{All-get_or}
 use mir.Val.{to_z, of_z}
 use Rattle.ss_landmarks.specs.Stored.{bare_value}
-use Rattle.ss_landmarks.specs.ValuesIn.{total, least, greatest, lesser, greater}
+use Rattle.ss_landmarks.specs.ValuesIn.{total, least, greatest, least_with, greatest_with}
 use Rattle.ss_landmarks.specs.declared.stored.StoredValue.{StoredValue}
 use Rattle.ss_landmarks.proofs.ValueLemmas.{total_push, least_push, greatest_push, sum_low, sum_high, sum_fits}
 use Rattle.ss_landmarks.proofs.tally.tally_of.Goals as goal
@@ -24,9 +24,9 @@ loop-value-preserved c =
     ∷ [] = map_more bare_value values i d below in
     let done = map bare_value (take i values) in
     let sum : total (map bare_value (take (i + 1) values)) ≡ total done +ℤ v = ap total more ∙ total_push done (bare_value (get_or values i d)) in
-    let least_more : least (map bare_value (take (i + 1) values)) ≡ Some (lesser v (least done)) = ap least more ∙
+    let least_more : least (map bare_value (take (i + 1) values)) ≡ Some (least_with v (least done)) = ap least more ∙
     least_push done (bare_value (get_or values i d)) in
-    let greatest_more : greatest (map bare_value (take (i + 1) values)) ≡ Some (greater v (greatest done)) = ap greatest more ∙
+    let greatest_more : greatest (map bare_value (take (i + 1) values)) ≡ Some (greatest_with v (greatest done)) = ap greatest more ∙
     greatest_push done (bare_value (get_or values i d)) in
     let taken : c.from-sum.result ≡ v = c.from-sum.ensures ∙ same in
     let taken_fits : to_z w128 (of_z w128 c.from-sum.result) ≡ c.from-sum.result = to_z-of_z w128 c.from-sum.result (omega (arith, ints)) in
@@ -36,15 +36,16 @@ loop-value-preserved c =
     ap (λ (x : ℤ). to_z w128 (of_z w128 x)) added
     ∙ to_z-of_z w128 (before +ℤ v)
     (sum_fits i before v c.loop-value.invariant.low c.loop-value.invariant.high fits (omega (arith, below, c.well_formed.0.1))) in
-    let lesser_is : c.lesser.result ≡ lesser v (least done) = c.lesser.ensures ∙ ap (λ (x : ℤ). lesser x c.loop-value.least) same ∙
-    ap (lesser v) c.loop-value.invariant.least in
-    let greater_is : c.greater.result ≡ greater v (greatest done) = c.greater.ensures ∙ ap (λ (x : ℤ). greater x c.loop-value.greatest) same ∙
-    ap (greater v) c.loop-value.invariant.greatest in
+    let least_is : c.least_with.result ≡ least_with v (least done) = c.least_with.ensures ∙ ap (λ (x : ℤ). least_with x c.loop-value.least) same ∙
+    ap (least_with v) c.loop-value.invariant.least in
+    let greatest_is : c.greatest_with.result ≡ greatest_with v (greatest done) = c.greatest_with.ensures ∙
+    ap (λ (x : ℤ). greatest_with x c.loop-value.greatest) same ∙
+    ap (greatest_with v) c.loop-value.invariant.greatest in
     record {
       count = omega arith;
       sum = whole ∙ ap (λ (x : ℤ). x +ℤ v) c.loop-value.invariant.sum ∙ sym sum;
       low = rw whole (sum_low i before v c.loop-value.invariant.low c.loop-value.invariant.high fits);
       high = rw whole (sum_high i before v c.loop-value.invariant.low c.loop-value.invariant.high fits);
-      least = ap Some (to_z-of_z w64 c.lesser.result (omega (arith, ints)) ∙ lesser_is) ∙ sym least_more;
-      greatest = ap Some (to_z-of_z w64 c.greater.result (omega (arith, ints)) ∙ greater_is) ∙ sym greatest_more;
+      least = ap Some (to_z-of_z w64 c.least_with.result (omega (arith, ints)) ∙ least_is) ∙ sym least_more;
+      greatest = ap Some (to_z-of_z w64 c.greatest_with.result (omega (arith, ints)) ∙ greatest_is) ∙ sym greatest_more;
     }
