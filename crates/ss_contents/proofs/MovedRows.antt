@@ -56,7 +56,8 @@ windows-moved : map own_windows (moved_to_times readings (rebuilt 10 25 one read
 unfolding window_index
 windows-moved = refl
 
-counts-moved : map (count_in 10 25) (moved_to_times readings (rebuilt 10 25 one readings) ∷ readings ∷ moved_to_times readings (rebuilt 10 25 three readings) ∷ [])
+counts-moved : map (count_in 10 25) (moved_to_times readings (rebuilt 10 25 one readings) ∷ readings ∷
+    moved_to_times readings (rebuilt 10 25 three readings) ∷ [])
     ≡ 1 ∷ 2 ∷ 3 ∷ []
 unfolding window_index
 counts-moved = refl
