@@ -2,11 +2,11 @@
 use Rattle.ss_recover.proofs.Common.{[], ◌++◌, ◌+◌, ◌<◌, ◌==◌, ◌∙◌, ◌∷◌, ◌≡◌, ◌≤◌, AllByRecursion, and_parts, ap, ap₂, are_zeros, AreSlotsOf, arith, Bool}
 use Rattle.ss_recover.proofs.Common.{cases_Bool, cond-true, count_by, Created, created_by, doomed_among, doomed_found, doomed_slots, each-behind, eq-eqb}
 use Rattle.ss_recover.proofs.Common.{eqb-true, false, false_from_ne_true, filter, filter-map, filter_map-append, Found, Free, GoInTurn, inl, inr, is_doomed}
-use Rattle.ss_recover.proofs.Common.{is_drop_of, is_dropped, is_of, is_own, IsPermutation, IsPermutation-map, IsPermutation-sym, IsPermutation-trans, List}
-use Rattle.ss_recover.proofs.Common.{list_any, list_any-append, list_any-IsPermutation, map, map-append, map-id, map-map, may_go, None, not}
-use Rattle.ss_recover.proofs.Common.{not_from_false, occupied, Option, option_map_or, or_cases, or_from, or_left, or_right, range_with_len, Record}
-use Rattle.ss_recover.proofs.Common.{records_beside, refl, SlotMap, slots_found, Some, stands_by, Stream, stream_number, stream_of, streams_created, subst}
-use Rattle.ss_recover.proofs.Common.{suc, sym, true, true≢false, with_slot, without_slots, zero, ℕ}
+use Rattle.ss_recover.proofs.Common.{is_drop_of, is_dropped, is_of, is_own, IsPermutation, IsPermutation-map, IsPermutation-sym, IsPermutation-trans}
+use Rattle.ss_recover.proofs.Common.{IsStrictlyIncreasing, List, list_any, list_any-append, list_any-IsPermutation, live, map, map-append, map-id, map-map}
+use Rattle.ss_recover.proofs.Common.{may_go, None, not, not_from_false, occupied, Option, option_map_or, or_cases, or_from, or_left, or_right, range_with_len}
+use Rattle.ss_recover.proofs.Common.{Record, records_beside, refl, SlotMap, slots_found, Some, stands_by, Stream, stream_number, stream_of, streams_created}
+use Rattle.ss_recover.proofs.Common.{subst, suc, sym, true, true≢false, with_slot, without_slots, zero, ℕ}
 use Rattle.ss_recover.proofs.RunStanding.{doomed-same}
 use Rattle.ss_recover.specs.Conditions.{is_sound}
 use Rattle.ss_recover.proofs.HeldRecords.{all_walked, walked}
@@ -15,7 +15,7 @@ use Rattle.ss_recover.proofs.Permutations.{IsPermutation-filter}
 use Rattle.ss_recover.proofs.SoundNumbers.{each-false, is_numbered, numbered-cons, one-dropped, one-sound, stands_at}
 use Rattle.ss_codec.specs.declared.record.Record.TheVariants as records
 use Rattle.ss_codec.specs.Decoded.{decoded}
-use Rattle.ss_recover.proofs.InOrder.{Rise, Rise-filter, Rises-IsPermutation}
+use Rattle.ss_recover.proofs.InOrder.{increasing-Rise, Rise, Rise-filter, Rise-increasing, Rises-IsPermutation}
 use Rattle.ss_recover.proofs.SoundStreams.{digit}
 
 -- ---- numbers of dropped streams
@@ -244,12 +244,10 @@ Rise-range a (suc n) = (above a (a + 1) n (omega arith), Rise-range (a + 1) n)
     above low a (suc n) lt = (lt, above low (a + 1) n (omega arith))
 
 Rise-map : {X : Type 0} (key : X → ℕ) (xs : List X) → Rise (λ (s : ℕ). s) (map key xs) → Rise key xs
-Rise-map key [] rise = tt
-Rise-map key (x ∷ xs) rise = (all-from_map (λ k. key x < k) key xs rise.0, Rise-map key xs rise.1)
+Rise-map key xs rise = Rise-increasing key xs (subst IsStrictlyIncreasing (map-id (map key xs)) (increasing-Rise (λ (s : ℕ). s) (map key xs) rise))
 
 map-Rise : {X : Type 0} (key : X → ℕ) (xs : List X) → Rise key xs → Rise (λ (s : ℕ). s) (map key xs)
-map-Rise key [] rise = tt
-map-Rise key (x ∷ xs) rise = (map-all _ key xs rise.0, map-Rise key xs rise.1)
+map-Rise key xs rise = Rise-increasing (λ (s : ℕ). s) (map key xs) (subst IsStrictlyIncreasing (sym (map-id (map key xs))) (increasing-Rise key xs rise))
 
 -- the slots of what is found rise
 pub Rise-found : (all : List Found) (found : SlotMap) → map with_slot all ≡ occupied found → Rise (λ (f : Found). f.slot) all

@@ -1,16 +1,16 @@
 -- What rebuilding answers, from what was read and what the walk over it answers.
 use Rattle.ss_recover.proofs.Common.{[], ◌++◌, ◌+◌, ◌-◌, ◌<◌, ◌∙◌, ◌∷◌, ◌≡◌, ◌≢◌, ◌≤◌, Agrees, All, All-from_recursion, All-nil, AllAgree, AllByRecursion}
-use Rattle.ss_recover.proofs.Common.{AllEndBy, AllEndBy-later, ap, ap₂, AreBuilt, AreFound, AreKnown, AreWholeBeside, arith, bad_slot, bad_stream, BadSlot}
-use Rattle.ss_recover.proofs.Common.{BadStream, Bool, carries, Disk, doomed_found, EndByLast, ends-latest, EndsBy, entries_of, Entry, Err, false, filter}
-use Rattle.ss_recover.proofs.Common.{filter_map, fine, firsts-zip, flat_map, Found, found_key, Free, GathersAs, HasWholeSlots, IfOk, in_order, is_live}
-use Rattle.ss_recover.proofs.Common.{is_none, IsDistinct, IsLowestUnsound, IsPermutation, IsPermutation-append_left, IsPermutation-map, IsPermutation-sym}
-use Rattle.ss_recover.proofs.Common.{IsPermutation-trans, IsStream, IsStrictlyIncreasing, IsUsable, judged, key_of, Landmark, last_time, later, latest_of}
-use Rattle.ss_recover.proofs.Common.{length, length-map, List, list_any, live, lowest_bad_slot, lowest_bad_stream, map, map-append, MatchOption, max}
-use Rattle.ss_recover.proofs.Common.{MOST_VALUES, newest_time, no_memory, None, none-latest, Ok, Option, or_from, OutOfMemory, Parts, range_with_len}
-use Rattle.ss_recover.proofs.Common.{RebuildsAs, Record, records_held, records_in, RecoverError, recursion_from_All, refl, refused, Result, RiseToLast}
-use Rattle.ss_recover.proofs.Common.{same_name, SlotMap, slots_found, slots_held, Some, span_held, span_of, StandFrom, Stream, StreamParts, streams_carried}
-use Rattle.ss_recover.proofs.Common.{streams_made, subst, suc, sum_by-cons, sym, taken, TileFrom, times_held, times_of, TimesRise, true, Verdict}
-use Rattle.ss_recover.proofs.Common.{verdict_of_rebuild, WalksAs, Window, with_slot, without_slots, zero, zip, ℕ}
+use Rattle.ss_recover.proofs.Common.{AllEndBy, AllEndBy-later, ap, ap₂, AreBuilt, AreFound, AreKnown, AreWholeBeside, arith, bad_slot, BadSlot, BadStream}
+use Rattle.ss_recover.proofs.Common.{Bool, Disk, doomed_found, EndByLast, ends-latest, EndsBy, entries_of, Entry, Err, false, filter, filter_map, fine}
+use Rattle.ss_recover.proofs.Common.{firsts-zip, flat_map, Found, found_key, Free, GathersAs, HasWholeSlots, IfOk, in_order, is_live, is_none, IsDistinct}
+use Rattle.ss_recover.proofs.Common.{IsLowestUnsound, IsPermutation, IsPermutation-append_left, IsPermutation-map, IsPermutation-sym, IsPermutation-trans}
+use Rattle.ss_recover.proofs.Common.{IsStream, IsStrictlyIncreasing, IsUsable, judged, key_of, Landmark, last_time, later, latest_of, length, length-map, List}
+use Rattle.ss_recover.proofs.Common.{list_any, live, lowest_bad_slot, lowest_bad_stream, map, map-append, MatchOption, max, MOST_VALUES, newest_time}
+use Rattle.ss_recover.proofs.Common.{no_memory, None, none-latest, Ok, Option, or_from, OutOfMemory, Parts, range_with_len, RebuildsAs, Record, records_held}
+use Rattle.ss_recover.proofs.Common.{records_in, RecoverError, recursion_from_All, refl, refused, Result, RiseToLast, same_name, SlotMap, slots_found}
+use Rattle.ss_recover.proofs.Common.{slots_held, Some, span_held, span_of, StandFrom, Stream, StreamParts, streams_carried, streams_made, subst, suc}
+use Rattle.ss_recover.proofs.Common.{sum_by-cons, sym, taken, TileFrom, times_held, times_of, TimesRise, true, Verdict, verdict_of_rebuild, WalksAs, Window}
+use Rattle.ss_recover.proofs.Common.{with_slot, without_slots, zero, zip, ℕ}
 use Rattle.ss_codec.specs.Decoded.{decoded}
 use Rattle.ss_recover.specs.Carried.{spelled}
 use Rattle.ss_recover.specs.Parts.{carried}
@@ -103,19 +103,14 @@ no-bad-slot found some =
     position-none is_none (map (λ slot. decoded (found.bytes slot)) (range_with_len 0 found.extent))
     (no-none (λ slot. decoded (found.bytes slot)) 0 found.extent (λ k ge lt. some k (omega (arith, lt))))
 
-carried-bad_stream : (found : SlotMap) (n : ℕ) → lowest_bad_slot (spelled found) ≡ None → lowest_bad_stream (records_in (spelled found)) ≡ Some n →
-    carried found ≡ bad_stream n
+carried-is : (found : SlotMap) → carried found
+    ≡ judged (lowest_bad_slot (spelled found)) (lowest_bad_stream (records_in (spelled found))) (streams_carried (records_in (spelled found)))
 unfolding carried
-carried-bad_stream found n slot stream = λ i. judged (slot i) (stream i) (streams_carried (records_in (spelled found)))
+carried-is found = refl
 
 pub carried-bad_slot : (found : SlotMap) (n : ℕ) → lowest_bad_slot (spelled found) ≡ Some n → carried found ≡ bad_slot n
-unfolding carried
-carried-bad_slot found n slot = λ i. judged (slot i) (lowest_bad_stream (records_in (spelled found))) (streams_carried (records_in (spelled found)))
-
-carried-streams : (found : SlotMap) (streams : List Stream) → lowest_bad_slot (spelled found) ≡ None → lowest_bad_stream (records_in (spelled found)) ≡ None →
-    streams_carried (records_in (spelled found)) ≡ streams → carried found ≡ carries streams
-unfolding carried
-carried-streams found streams slot number same = λ i. judged (slot i) (number i) (same i)
+carried-bad_slot found n slot =
+    carried-is found ∙ ap (λ o. judged o (lowest_bad_stream (records_in (spelled found))) (streams_carried (records_in (spelled found)))) slot
 
 -- what is rebuilt is what the map carries
 pub rebuilds : (found : SlotMap) (all sorted : List Found) (result : Result Parts RecoverError) → HasWholeSlots found → AreFound all found →
@@ -126,18 +121,17 @@ rebuilds found all sorted (Ok parts) whole are usable order moved walks =
     let rs = records_in (spelled found) in
     let items = doomed_found false all ++ doomed_found true all in
     let rise = Rise-found all found are.occupied_by in
+    let none = lowest-made rs (without_slots all) (made-found found all whole are)
+    ∙ none_bad-AreSound (without_slots all) (sound_numbers parts streams all sorted built order moved) in
+    let same_streams = streams_carried-made rs (without_slots all) (made-found found all whole are) ∙ streams_carried-in_order (without_slots all)
+    ∙ ap (λ l. streams_made l l) (sym (ap without_slots order ∙ map-in_order key_of (λ (f : Found). f.holds) all)) in
     let same : parts.doomed.items ≡ slots_found (doomed_found false all) ++ slots_found (doomed_found true all) =
     built.doomed ∙ ap₂ (λ (a b : List ℕ). a ++ b) (slots-in_order false built.others all sorted built.of_others moved rise)
     (slots-in_order true built.heads all sorted built.of_heads moved rise) in
     record {
       streams = streams;
       doomed = map with_slot items;
-      carried =
-          carried-streams found streams (no-bad-slot found are.spelled_all)
-          (lowest-made (records_in (spelled found)) (without_slots all) (made-found found all whole are)
-          ∙ none_bad-AreSound (without_slots all) (sound_numbers parts streams all sorted built order moved))
-          (streams_carried-made rs (without_slots all) (made-found found all whole are) ∙ streams_carried-in_order (without_slots all)
-          ∙ ap (λ l. streams_made l l) (sym (ap without_slots order ∙ map-in_order key_of (λ (f : Found). f.holds) all)));
+      carried = carried-is found ∙ (λ i. judged (no-bad-slot found are.spelled_all i) (none i) (same_streams i));
       held = record {
         each = built.each;
         records = subst (IsPermutation (map with_slot items ++ flat_map records_held (zip parts.streams.items streams))) are.occupied_by
@@ -151,10 +145,10 @@ rebuilds found all sorted (Ok parts) whole are usable order moved walks =
 rebuilds found all sorted (Err (BadStream n)) whole are usable order moved walks =
     let rs = without_slots all in
     let in_records : without_slots sorted ≡ in_order key_of rs = ap without_slots order ∙ map-in_order key_of (λ (f : Found). f.holds) all in
-    carried-bad_stream found n (no-bad-slot found are.spelled_all)
-    (lowest-made (records_in (spelled found)) (without_slots all) (made-found found all whole are)
+    let bad = lowest-made (records_in (spelled found)) rs (made-found found all whole are)
     ∙ lowest-bad rs n (map-all IsUsable (λ (f : Found). f.holds) all (recursion_from_All (λ (f : Found). IsUsable f.holds) all usable))
-    (subst (IsLowestUnsound n) in_records walks))
+    (subst (IsLowestUnsound n) in_records walks) in
+    carried-is found ∙ (λ i. judged (no-bad-slot found are.spelled_all i) (bad i) (streams_carried (records_in (spelled found))))
 rebuilds found all sorted (Err (BadSlot n)) whole are usable order moved walks = absurd walks
 rebuilds found all sorted (Err Disk) whole are usable order moved walks = tt
 rebuilds found all sorted (Err OutOfMemory) whole are usable order moved walks = tt

@@ -143,7 +143,8 @@ IsState-carried rs sound fine most =
       count_by-le-length is_used rs,
     ) in
     subst IsState (sym (streams_carried-made rs us used ∙ streams_carried-in_order us ∙ ap (λ l. streams_made l l) (sym records)))
-    (IsState-sound all (all-in_order found_key (λ f. IsUsable f.holds) (map at us) (map-all _ at us (usable-used rs fine))) (Rises-in_order found_key (map at us))
+    (IsState-sound all (all-in_order found_key (λ f. IsUsable f.holds) (map at us) (map-all _ at us (usable-used rs fine)))
+    (Rises-in_order found_key (map at us))
     (map-all _ (λ (f : Found). f.holds) all each) few)
 
 pub IsState-carries : (found : SlotMap) (streams : List Stream) → found.extent ≤ MOST_SLOTS → carried found ≡ carries streams → IsState streams

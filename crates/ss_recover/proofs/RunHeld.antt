@@ -69,7 +69,8 @@ parts-found fs usable none =
     let ws = found_by is_window fs in
     let firsts = filter-same (λ (f : Found). not (is_value f.holds) && not (is_window f.holds)) (λ f. is_landmark f.holds) fs (all_weaker _ _
     (λ f kind. kind.0) fs at) in
-    let others = filter-same (λ (f : Found). is_value f.holds && not (is_window f.holds)) (λ f. is_value f.holds) fs (all_weaker _ _ (λ f kind. kind.1) fs at) in
+    let others = filter-same (λ (f : Found). is_value f.holds && not (is_window f.holds)) (λ f. is_value f.holds) fs (all_weaker _ _
+    (λ f kind. kind.1) fs at) in
     let last = filter-same (λ (f : Found). not (not (is_window f.holds))) (λ f. is_window f.holds) fs (all_weaker _ _ (λ f kind. kind.2) fs at) in
     IsPermutation-trans _ _ _ (IsPermutation-append_comm ws (found_by is_landmark fs ++ found_by is_value fs)) (subst (λ l. IsPermutation l fs)
     (λ i. (firsts i ++ others i) ++ last i) (in-three (λ (f : Found). not (is_window f.holds)) (λ f. is_value f.holds) fs))

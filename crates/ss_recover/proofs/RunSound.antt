@@ -1,13 +1,13 @@
 -- The records of a number are sound, among those of others, where they are a run.
-use Rattle.ss_recover.proofs.Common.{[], ◌&&◌, ◌*◌, ◌++◌, ◌+◌, ◌<◌, ◌==◌, ◌^◌, ◌||◌, ◌∙◌, ◌∷◌, ◌≡◌, ◌≤◌, AllByRecursion, and-true, and_parts, and_right, ap}
-use Rattle.ss_recover.proofs.Common.{append-nil, ap₂, are_marks, arith, Bool, cases_Bool, cond_both, Created, created_by, drop, each-behind, each-front}
-use Rattle.ss_recover.proofs.Common.{eq-eqb, eqb-true, false, filter-append, filter_map, filter_map-append, Found, found_key, found_number, Free, has_new_name}
-use Rattle.ss_recover.proofs.Common.{has_one_record, has_place, has_sound_values_in_order, has_sound_values_within, inl, inr, is_drop_of, is_dropped}
-use Rattle.ss_recover.proofs.Common.{is_mark_of, is_own, is_run, is_sound_in_order, IsUsable, keep_own_step, keep_step, landmarks_made, length}
-use Rattle.ss_recover.proofs.Common.{length-map, lies_free, List, list_all, list_any, list_any-append, map, map-append, marks_in, MOST_STREAMS, nat_lt}
-use Rattle.ss_recover.proofs.Common.{nat_tests, ne_eqb, not, not-true, or-false, or_from, own_len, place_of, Record, refl, Rises, same_name, step_number}
-use Rattle.ss_recover.proofs.Common.{stream_of, streams_created, subst, suc, sym, take, take-append-drop, tile, times_rise, true, Value, Window}
-use Rattle.ss_recover.proofs.Common.{window_of, window_record, windows_in, without_slots, ℕ}
+use Rattle.ss_recover.proofs.Common.{[], ◌&&◌, ◌*◌, ◌++◌, ◌+◌, ◌<◌, ◌==◌, ◌^◌, ◌||◌, ◌∙◌, ◌∷◌, ◌≡◌, ◌≤◌, AllByRecursion, and-true, and_right, ap, append-nil}
+use Rattle.ss_recover.proofs.Common.{ap₂, are_marks, arith, Bool, cond_both, Created, created_by, drop, each-behind, each-front, eq-eqb, eqb-true, false}
+use Rattle.ss_recover.proofs.Common.{filter-append, filter_map, filter_map-append, Found, found_key, found_number, Free, has_new_name, has_one_record}
+use Rattle.ss_recover.proofs.Common.{has_place, has_sound_values_in_order, has_sound_values_within, is_drop_of, is_dropped, is_mark_of, is_own, is_run}
+use Rattle.ss_recover.proofs.Common.{is_sound_in_order, IsUsable, keep_own_step, keep_step, landmarks_made, length, length-map, lies_free, List}
+use Rattle.ss_recover.proofs.Common.{list_all, list_any, list_any-append, map, map-append, marks_in, MOST_STREAMS, nat_lt, nat_tests, ne_eqb, not, or-false}
+use Rattle.ss_recover.proofs.Common.{or_from, own_len, place_of, Record, refl, Rises, same_name, step_number, stream_of, streams_created, subst, suc}
+use Rattle.ss_recover.proofs.Common.{sym, take, take-append-drop, tile, times_rise, true, Value, Window, window_of, window_record, windows_in, without_slots}
+use Rattle.ss_recover.proofs.Common.{ℕ}
 use Rattle.ss_recover.proofs.Lists.{all_append, all_both, all_weaker, map-all}
 use Rattle.ss_codec.specs.declared.record.Record.TheVariants as records
 use Rattle.ss_recover.proofs.SoundStreams.{own_step-one, own_step-parts, count-at, count-below, new-name}
@@ -111,11 +111,11 @@ drops-apart n [] apart = refl
 drops-apart n (records.Stream id name params dropped ∷ rs) apart = or_from _ _ (and_right _ _ (ne_eqb id n apart.0)) (drops-apart n rs apart.1)
 drops-apart n (_ ∷ rs) apart = drops-apart n rs apart.1
 
--- where no stream is created, no record is a stream's own, and none says that one was dropped
-pub alone-own : (rs : List Record) → filter_map created_by rs ≡ [] → list_any is_own rs ≡ false
-alone-own [] none = refl
-alone-own (records.Stream id name params dropped ∷ rs) none = cc
-alone-own (_ ∷ rs) none = alone-own rs none
+-- some record is a stream's own where some stream is created. Where none is, none says that one was dropped.
+own-any : (rs : List Record) → list_any is_own rs ≡ list_any (λ c. true) (streams_created rs)
+own-any [] = refl
+own-any (records.Stream id name params dropped ∷ rs) = refl
+own-any (_ ∷ rs) = own-any rs
 
 pub alone-drops : (n : ℕ) (rs : List Record) → filter_map created_by rs ≡ [] → is_dropped n rs ≡ false
 alone-drops n [] none = refl
@@ -127,13 +127,6 @@ pub own-alone : (rs : List Record) → list_any is_own rs ≡ false → filter_m
 own-alone [] none = refl
 own-alone (records.Stream id name params dropped ∷ rs) none = cc
 own-alone (_ ∷ rs) none = own-alone rs none
-
-own-created : (rs : List Record) (c : Created) (cs : List Created) → filter_map created_by rs ≡ c ∷ cs → list_any is_own rs ≡ true
-own-created rs c cs is =
-    elim (cases_Bool (list_any is_own rs)) [
-      | inl some ↦ some
-      | inr none ↦ (let empty = own-alone rs none in absurd (cc))
-    ]
 
 -- what is asked of a run whose first record alone is a stream's own
 asked : (dropped same drops own values : Bool) → same ≡ true → drops ≡ false → own ≡ false →
@@ -238,10 +231,12 @@ is_run-sound front (records.Stream id name params dropped) rest back lower own a
           ∙ (λ i. (few i == 1) && nat_lt (sym (length-map cs (λ (o : Created). o.name)) i) MOST_STREAMS && new i
           && (((dropped && eq-eqb id id refl i) || is_dropped id rest) || (has_sound_values_in_order rest id && keep i)))
           ∙ ap (λ b. nat_lt (length names) MOST_STREAMS && not (list_any (same_name name) names) && b) (asked dropped true (is_dropped id rest)
-          (list_any is_own rest) (has_sound_values_within (step_number params.within) rest id) refl (alone-drops id rest none) (alone-own rest none))
+          (list_any is_own rest) (has_sound_values_within (step_number params.within) rest id) refl (alone-drops id rest none)
+          (own-any rest ∙ ap (list_any (λ c. true)) none))
       | u ∷ us ↦ λ is.
           sound-never front (r ∷ rest) back id lower (refl, own) above (λ one. absurd (omega (arith, one, ap (λ (l : List Created). length l) is)))
-          ∙ sym (and_right _ _ (ap (λ b. not b && (dropped || has_sound_values_within (step_number params.within) rest id)) (own-created rest u us is)))
+          ∙ sym (and_right _ _ (ap (λ b. not b && (dropped || has_sound_values_within (step_number params.within) rest id))
+          (own-any rest ∙ ap (list_any (λ c. true)) is)))
     ] refl
 is_run-sound front r rest back lower own above usable rises =
     let low = usable.0.0 in
@@ -326,32 +321,6 @@ module _ (all front : List Found) (f : Found) (rest back : List Found) (is : IsR
   before-back =
       all_weaker _ _ (λ g more. all_append _ front (f ∷ rest) (all_weaker _ _ (λ p lt. omega (arith, lt, more)) front is.lower)
       (more, all_weaker _ _ (λ p same. omega (arith, same, more)) rest is.own)) back is.above
-
--- what the records of a run meet after a stream's own
-pub record MeetsRun (rest : List Record) (head : Created) : Type 0 where
-  pub alone : filter_map created_by rest ≡ []
-  pub tiles : tile (windows head.number rest) ≡ true
-  pub rising : times_rise (windows head.number rest) ≡ true
-  pub landmarks : are_marks (marks head.number rest) ≡ true
-  pub free : list_all (lies_free (landmarks_made (marks head.number rest))) (windows head.number rest) ≡ true
-  pub keeping : keep_step (step_number head.params.within) (windows head.number rest) ≡ true
-
-pub run-meets : (names : List (List ℕ)) (rest : List Record) (head : Created) →
-    is_run names (records.Stream head.number head.name head.params false ∷ rest) ≡ true → MeetsRun rest head
-run-meets names rest head run =
-    let both = and_parts _ _ (and_parts _ _ run).1 in
-    let within = and_parts _ _ both.1 in
-    let values = and_parts _ _ within.0 in
-    let first = and_parts _ _ values.0 in
-    let windows_meet = and_parts _ _ first.0 in
-    record {
-      alone = own-alone rest (not-true (list_any is_own rest) both.0);
-      tiles = windows_meet.0;
-      rising = windows_meet.1;
-      landmarks = first.1;
-      free = values.1;
-      keeping = within.1;
-    }
 
 -- what comes at or after a window is no record of a landmark or of a value
 no-marks : (n : ℕ) (rs : List Record) → AllByRecursion IsUsable rs → AllByRecursion (λ r. 2 ^ 64 ≤ place_of r) rs → marks n rs ≡ []

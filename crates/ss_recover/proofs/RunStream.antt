@@ -1,20 +1,21 @@
 -- Streams that records in order are of, one run after another.
 use Rattle.ss_recover.proofs.Common.{[], ◌&&◌, ◌++◌, ◌+◌, ◌<◌, ◌||◌, ◌∙◌, ◌∷◌, ◌≡◌, ◌≤◌, All-from_recursion, AllByRecursion, and-true, and_parts, ap}
-use Rattle.ss_recover.proofs.Common.{append_assoc, ap₂, arith, Bool, cond, count_by-le-length, Created, created_by, drop, each-behind, eq-eqb, false}
-use Rattle.ss_recover.proofs.Common.{filter-append, filter_map, Found, found_key, found_number, is_dropped, is_mark_of, is_own, is_run, is_sound_in_order}
-use Rattle.ss_recover.proofs.Common.{IsDistinct, IsDistinct-cons, IsDistinct-from_apart, IsState, IsStream, IsUsable, landmarks_made, length, length-append}
-use Rattle.ss_recover.proofs.Common.{length-drop, length-filter, length-map, List, list_any, list_any-append, live, ltb-true, map, map-append, marks_in}
-use Rattle.ss_recover.proofs.Common.{MOST_RECORDS, MOST_STREAMS, names_of, nat_lt, not, not-true, or-false, or_parts, own_len, Record, records_of, refl, Rises}
-use Rattle.ss_recover.proofs.Common.{same_name, same_name-swap, Stream, stream_made, stream_of, streams_made, streams_standing, subst, suc, sum_by-cons, sym}
-use Rattle.ss_recover.proofs.Common.{take, take-append-drop, true, Window, window_record, windows_in, without_slots, zero, ℕ}
+use Rattle.ss_recover.proofs.Common.{append_assoc, ap₂, are_marks, arith, Bool, cond, count_by-le-length, Created, created_by, drop, each-behind, eq-eqb}
+use Rattle.ss_recover.proofs.Common.{false, filter-append, filter_map, Found, found_key, found_number, has_sound_values_in_order, is_dropped, is_mark_of}
+use Rattle.ss_recover.proofs.Common.{is_own, is_run, is_sound_in_order, IsDistinct, IsDistinct-cons, IsDistinct-from_apart, IsState, IsStream, IsUsable}
+use Rattle.ss_recover.proofs.Common.{keep_step, landmarks_made, length, length-append, length-drop, length-filter, length-map, lies_free, List, list_all}
+use Rattle.ss_recover.proofs.Common.{list_any, list_any-append, live, ltb-true, map, map-append, marks_in, MOST_RECORDS, MOST_STREAMS, names_of, nat_lt, not}
+use Rattle.ss_recover.proofs.Common.{not-true, or-false, or_parts, own_len, Record, records_of, refl, Rises, same_name, same_name-swap, step_number, Stream}
+use Rattle.ss_recover.proofs.Common.{stream_made, stream_of, streams_made, streams_standing, subst, suc, sum_by-cons, sym, take, take-append-drop, tile}
+use Rattle.ss_recover.proofs.Common.{times_rise, true, Window, window_record, windows_in, without_slots, zero, ℕ}
 use Rattle.ss_recover.proofs.HeldRecords.{all_walked, walked}
 use Rattle.ss_recover.proofs.InOrder.{increasing-Rise, Rise}
 use Rattle.ss_recover.proofs.Marks.{length-marks_of, marks_of}
 use Rattle.ss_recover.proofs.MarksSoFar.{AreOf, AreOf-are_marks}
 use Rattle.ss_recover.proofs.SoundStreams.{IsInStep-keep_step, AreWindows-tile}
 use Rattle.ss_recover.proofs.Lists.{all-each, all-from_map, all-kept, all-passing, all_both, all_weaker, filter-none, map-all}
-use Rattle.ss_recover.proofs.RunSound.{AreBefore, alone-drops, before-back, dropped-run, IsRun, marks-run, MeetsRun, names_created, next-run, own-alone}
-use Rattle.ss_recover.proofs.RunSound.{run-meets, run-order, sound-run, windows-run}
+use Rattle.ss_recover.proofs.RunSound.{AreBefore, alone-drops, before-back, dropped-run, IsRun, marks-run, names_created, next-run, own-alone}
+use Rattle.ss_recover.proofs.RunSound.{run-order, sound-run, windows-run}
 use Rattle.ss_recover.proofs.RunStanding.{filter-const, gone_found, names_created-append, standing_found, stands_in, streams_made-append}
 use Rattle.ss_recover.proofs.SoundNumbers.{all-false}
 use Rattle.ss_recover.proofs.WholeSlots.{all-window_of}
@@ -147,30 +148,37 @@ module _ (all front : List Found) (slot : ℕ) (head : Created) (rest back : Lis
   abbrev ws : List Window
   ws = windows_in head.number (without_slots rest)
 
-  meets : MeetsRun (without_slots rest) head
-  meets = run-meets (names_created (without_slots front)) (without_slots rest) head run
+  asked : (has_sound_values_in_order (without_slots rest) head.number ≡ true) × (keep_step (step_number head.params.within) ws ≡ true)
+  asked = and_parts _ _ (and_parts _ _ (and_parts _ _ run).1).1
+
+  meets : ((tile ws && times_rise ws && are_marks ms) ≡ true) × (list_all (lies_free (landmarks_made ms)) ws ≡ true)
+  meets = and_parts _ _ asked.0
 
   usable-rest : AllByRecursion IsUsable (without_slots rest)
   usable-rest = map-all IsUsable (λ (f : Found). f.holds) rest is.usable.1
 
   marks-are : AreOf head.number ms (landmarks_made ms)
   marks-are = AreOf-are_marks head.number ms (all-passing (is_mark_of head.number) (without_slots rest))
-      (all-kept IsUsable (is_mark_of head.number) (without_slots rest) usable-rest) meets.landmarks
+      (all-kept IsUsable (is_mark_of head.number) (without_slots rest) usable-rest)
+      (and_parts (tile ws && times_rise ws) (are_marks ms) meets.0).1
 
   is-stream : IsStream (stream_made (without_slots rest) head)
-  is-stream = record {
-    target = is.usable.0.0;
-    number = is.usable.0.1;
-    windows = AreWindows-tile ws meets.tiles meets.rising
-        (all-window_of head.number (without_slots rest) (all_weaker _ _ (λ r usable _. usable) (without_slots rest) usable-rest));
-    steps = IsInStep-keep_step head.params ws meets.keeping;
-    landmarks = marks-are.landmarks;
-    free = meets.free;
-  }
+  is-stream =
+      let windows = and_parts (tile ws) (times_rise ws) (and_parts (tile ws && times_rise ws) (are_marks ms) meets.0).0 in
+      record {
+        target = is.usable.0.0;
+        number = is.usable.0.1;
+        windows = AreWindows-tile ws windows.0 windows.1
+            (all-window_of head.number (without_slots rest) (all_weaker _ _ (λ r usable _. usable) (without_slots rest) usable-rest));
+        steps = IsInStep-keep_step head.params ws asked.1;
+        landmarks = marks-are.landmarks;
+        free = meets.1;
+      }
 
   pub rest-order : without_slots rest ≡ marks_of head.number 1 (landmarks_made ms) ++ map (window_record head.number) ws
   rest-order =
-      run-order head.number (without_slots rest) (map-all _ (λ (f : Found). f.holds) rest is.own) usable-rest is.rises.1 meets.alone
+      run-order head.number (without_slots rest) (map-all _ (λ (f : Found). f.holds) rest is.own) usable-rest is.rises.1
+      (own-alone (without_slots rest) (none-own all front slot head false rest back is run))
       ∙ ap (λ l. l ++ map (window_record head.number) ws) marks-are.records
 
 -- A run comes before what is of streams.

@@ -1,11 +1,11 @@
 -- What a walk has of the records so far, and what the next run makes of it.
 use Rattle.ss_recover.proofs.Common.{[], ◌++◌, ◌<◌, ◌==◌, ◌∙◌, ◌∷◌, ◌≡◌, ◌≤◌, All, All-from_recursion, AllAgree, AllByRecursion, ap, append-nil, append_assoc}
-use Rattle.ss_recover.proofs.Common.{ap₂, AreBuilt, arith, BadSlot, BadStream, Bool, cond, Created, Disk, doomed_found, drop, EndsWalk, eq-eqb, Err, false}
-use Rattle.ss_recover.proofs.Common.{filter, filter-append, flat_map, Found, found_key, found_number, HasMore, HasNothing, IfErr, IfOk, is_dropped, is_own}
-use Rattle.ss_recover.proofs.Common.{is_run, is_sound_in_order, IsLowestUnsound, IsPermutation, IsPermutation-append_right, IsPermutation-map}
+use Rattle.ss_recover.proofs.Common.{ap₂, AreBuilt, AreSlotsOf, arith, BadSlot, BadStream, Bool, cond, Created, Disk, doomed_found, drop, EndsWalk, eq-eqb}
+use Rattle.ss_recover.proofs.Common.{Err, false, filter, filter-append, flat_map, Found, found_key, found_number, HasMore, HasNothing, IfErr, IfOk, is_dropped}
+use Rattle.ss_recover.proofs.Common.{is_own, is_run, is_sound_in_order, IsLowestUnsound, IsPermutation, IsPermutation-append_right, IsPermutation-map}
 use Rattle.ss_recover.proofs.Common.{IsPermutation-refl, IsPermutation-trans, IsUsable, length, List, list_any, list_any-append, map, map-append, MOST_RECORDS}
 use Rattle.ss_recover.proofs.Common.{names_in, not, Ok, or_left, or_right, OutOfMemory, own_len, Parts, Record, records_held, RecoverError, recursion_from_All}
-use Rattle.ss_recover.proofs.Common.{refl, Result, Rises, slots_found, stream_made, stream_of, StreamParts, streams_made, subst, sym, take, taken}
+use Rattle.ss_recover.proofs.Common.{refl, Result, Rises, slots_found, Stream, stream_made, stream_of, StreamParts, streams_made, subst, sym, take, taken}
 use Rattle.ss_recover.proofs.Common.{TakesAs, TakesStream, true, Walk, WalksAs, with_slot, without_slots, zip, ℕ}
 use Rattle.ss_recover.proofs.RunHeld.{AllAgree-append, held-agrees, held-append, held-found}
 use Rattle.ss_recover.proofs.Lists.{all-each, all-from_map, all_append, all_weaker, map-all}
@@ -186,19 +186,23 @@ AreBuilt-done walk parts all done ends order usable few =
     let gone : (own : Bool) → doomed_found own all ≡ gone_found us own all = λ own. doomed-gone us own all each_usable in
     let doomed = gone_found us false all ++ gone_found us true all in
     let kept = standing_found us all in
+    let slots-of : (own : Bool) (slots : List ℕ) → Rises (λ slot. slot) slots → IsPermutation slots (slots_found (gone_found us own all)) →
+    AreSlotsOf slots (doomed_found own all) =
+    λ own slots rising are. record { rising = rising; are = subst (λ l. IsPermutation slots (slots_found l)) (sym (gone own)) are } in
     let split : IsPermutation (doomed ++ kept) all = in-three (λ (f : Found). is_dropped (stream_of f.holds) us) (λ (f : Found). is_own f.holds) all in
     record {
       each = subst (λ ps. AllAgree ps (streams_made us us)) (sym ends.streams) done.each;
       records =
-          rw (ends.streams, gone false, gone true) (IsPermutation-trans _ _ _ (IsPermutation-append_right (map with_slot doomed) _ (map with_slot kept) done.records)
+          rw (ends.streams, gone false, gone true)
+          (IsPermutation-trans _ _ _ (IsPermutation-append_right (map with_slot doomed) _ (map with_slot kept) done.records)
           (subst (λ l. IsPermutation l (map with_slot all)) (map-append with_slot doomed kept) (IsPermutation-map with_slot (doomed ++ kept) all split)));
       state = IsState-sound all each_usable order done.sound few;
       sound = done.sound;
       others = ends.others;
       heads = ends.heads;
       doomed = ends.doomed;
-      of_others = record { rising = ends.others_rise; are = subst (IsPermutation ends.others) (done.others_are ∙ sym (ap slots_found (gone false))) ends.of_others };
-      of_heads = record { rising = ends.heads_rise; are = subst (IsPermutation ends.heads) (done.heads_are ∙ sym (ap slots_found (gone true))) ends.of_heads };
+      of_others = slots-of false ends.others ends.others_rise (subst (IsPermutation ends.others) done.others_are ends.of_others);
+      of_heads = slots-of true ends.heads ends.heads_rise (subst (IsPermutation ends.heads) done.heads_are ends.of_heads);
     }
 
 pub walks-end : (walk : Walk) (all left : List Found) → IsDoneTo all left walk → left ≡ [] → Rises found_key all → All (λ (f : Found). IsUsable f.holds) all →
