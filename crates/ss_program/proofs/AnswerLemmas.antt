@@ -1,14 +1,14 @@
 -- What a line brings, by what it means, and what sending it leaves.
-use Rattle.ss_program.proofs.Common.{⊎_elim, ◌≡◌, ℕ, ◌<◌, Bool, ◌++◌, ◌↔◌, List, [], ◌∷◌, length, Option, Some, None, IsSome, Ok, Err, Result, false}
+use Rattle.ss_program.proofs.Common.{◌≡◌, ℕ, ◌<◌, Bool, ◌++◌, ◌↔◌, List, [], ◌∷◌, length, Option, Some, None, IsSome, Ok, Err, Result, false}
 use Rattle.ss_program.proofs.Common.{common_steps, refl, sym, ap, ◌∙◌, subst, arith, inl, inr, cases_lt, cond-true, cond-false, le-leb, lt-leb, lt-ltb}
-use Rattle.ss_program.proofs.Common.{append-nil, length-append, flat_map, ◌+◌, nat_le, IsTrue, Event, Query, Refusal, unless_long, LONGEST_LINE, Command, Do}
+use Rattle.ss_program.proofs.Common.{append-nil, length-append, flat_map, nat_le, IsTrue, Event, Query, Refusal, unless_long, LONGEST_LINE, Command, Do}
 use Rattle.ss_program.proofs.Common.{Ask, Certify, Last, Values, Windows, event_name, added, answer-known, outcome_of, refuses_query, refuses_values, ack_of}
-use Rattle.ss_program.proofs.Common.{refuses, refuses_series, Stream, live, state, stream_named, Outcome, Ack, Failed, said_line, Reply, Answered, Refused}
-use Rattle.ss_program.proofs.Common.{WindowsHead, reads-none, KnowsNow, OnlyReads, DiskView, Told, shown-sealed, IsSealed, RecordsState, shown_by}
-use Rattle.ss_program.proofs.Common.{refuses_query_held, KeepsWithin, StandsForEither, Turns, StoreIsIn, StoreIsKept, StoreState, Stands, ApplyError}
-use Rattle.ss_program.proofs.Common.{refuses_query_held-is, Turns-reads, Turns-weaker, KeepsWithin-reads, AllAgree-recovered, Adds, IsOpen, at_sink}
+use Rattle.ss_program.proofs.Common.{refuses, refuses_series, Stream, state, stream_named, Outcome, Ack, Failed, said_line, Reply, Answered, Refused}
+use Rattle.ss_program.proofs.Common.{WindowsHead, DiskView, shown-sealed, IsSealed, RecordsState, shown_by}
+use Rattle.ss_program.proofs.Common.{refuses_query_held, StoreIsIn, StoreIsKept, StoreState, Stands, ApplyError}
+use Rattle.ss_program.proofs.Common.{refuses_query_held-is, AllAgree-recovered, IsOpen, at_sink}
 use Rattle.ss_program.proofs.Common.{accepted_in, command_in, framed_replies, answer_replies, brings_in, Brought, command_brings, History, history_after}
-use Rattle.ss_program.proofs.Common.{kept_in, meaning_in, only_replies, refused, text_said, the_event, unless_refused, window_rows, Sends, StandsAround}
+use Rattle.ss_program.proofs.Common.{kept_in, meaning_in, only_replies, refused, text_said, the_event, unless_refused, window_rows, Sends}
 use Rattle.ss_program.proofs.Common.{IsApplyStop, IsShowStop, IsStop, Status, HasRows, Question, question_command, newest_replies, newest_of, option_map, not}
 use Rattle.ss_program.proofs.Common.{is_some, first_that_applies, Unknown, ◌⊎◌}
 use Rattle.ss_command.specs.Grammar.{meaning}
@@ -202,36 +202,3 @@ module _ (speaker : Option ℕ) where
   meaning-some framed history (Err refusal) some = cc
   meaning-some framed history (Ok None) some = cc
   meaning-some framed history (Ok (Some command)) some = command-some framed history command some
-
--- A call that only reads adds nothing, where the line brings no event.
-pub Adds-reads : {T : Type 0} (history : History) (brought : Brought) (old new : Told) (result : Result T Status) →
-    (Stands history old.content → brought.event ≡ None) → KnowsNow old → OnlyReads old new → Adds history brought old new result
-Adds-reads history brought old new result none knows reads = record {
-  turns = Turns-weaker (Stands history) (Stands history) (Stands history) (StandsAround history brought) (Stands history)
-      (Stands (history_after history brought)) old new result (λ has. has) (λ has image is. inl is)
-      (λ has image is. subst (λ h. Stands h image) (sym (history-still history brought (none has))) is)
-      (Turns-reads (Stands history) (Stands history) old new result knows reads (λ has. has));
-  within = λ stands. KeepsWithin-reads result knows reads;
-}
-
--- and so doesn't no call
-pub Adds-none : {T : Type 0} (history : History) (brought : Brought) (disk : Told) (result : Result T Status) →
-    (Stands history disk.content → brought.event ≡ None) → KnowsNow disk → Adds history brought disk disk result
-Adds-none history brought disk result none knows = Adds-reads history brought disk disk result none knows (reads-none disk)
-
--- an event that the store applied, or not
-pub Adds-applied : {T : Type 0} (history : History) (event : Event) (old new : Told) (result : Result T Status) →
-    (Stands history old.content → refuses (state history) event ≡ None) →
-    Turns (Stands history) (StandsForEither history event) (Stands (history ++ added event ∷ [])) old new result →
-    (Stands history old.content → KeepsWithin (live (state history) + 1) result old new) →
-    Adds history (command_brings history (Do event)) old new result
-Adds-applied history event old new result accepted turns within =
-    let brought = command_brings history (Do event) in
-    let after = λ (has : Stands history old.content). ap (λ (b : Brought). history_after history b) (sym (brings-accepted false history event (accepted has))) in
-    record {
-      turns = Turns-weaker (Stands history) (Stands history) (StandsForEither history event) (StandsAround history brought)
-          (Stands (history ++ added event ∷ [])) (Stands (history_after history brought)) old new result (λ has. has)
-          (λ has image either. ⊎_elim (λ is. inl is) (λ is. inr (subst (λ h. Stands h image) (after has) is)) either)
-          (λ has image is. subst (λ h. Stands h image) (after has) is) turns;
-      within = within;
-    }

@@ -1,12 +1,12 @@
 -- A line of a session, by what it brings.
 use Rattle.ss_program.proofs.Common.{◌⊎◌, ◌≡◌, ℕ, ◌<◌, ◌++◌, List, [], ◌∷◌, length, Option, Some, None, Result, Ok, Err, refl, sym, ap, ◌∙◌, subst, arith}
-use Rattle.ss_program.proofs.Common.{append-nil, flat_map, IsTrue, OnOk, of_content, reads-none, KnowsNow, shown-sealed, DiskView, Told, RecordsState, shown_by}
+use Rattle.ss_program.proofs.Common.{append-nil, flat_map, IsTrue, OnOk, of_content, reads-none, KnowsNow, LeavesOnly, shown-sealed, DiskView, Told, RecordsState, shown_by}
 use Rattle.ss_program.proofs.Common.{said_line, Reply, TurnsHistory, StoreState, Stands, Amid, GoesAmid, IsAmid, Owed, StagesBrought, TakesBrought, TakesNone}
 use Rattle.ss_program.proofs.Common.{TakesTurn, amid, owed_by, with_text, IsOpen, Brought, History, history_after, nothing, text_said, IsAlone, HoldsTalk}
 use Rattle.ss_program.proofs.Common.{StandsAround, StandsWithin, StopsIn, appended, after_line, after_lines, text_of, Talk, Turn, after_turn, silent}
 use Rattle.ss_program.proofs.Common.{turn_brought, turn_of, Cursors, Sealing, Each, Shared, Status, OutOfMemory, TakesStarved, Step, disk_verdict}
 use Rattle.ss_program.proofs.AmidLemmas.{GoesAmid-none, Takes-next, Takes-then, said-all}
-use Rattle.ss_program.proofs.SealLemmas.{line-owed, line-stopped}
+use Rattle.ss_program.proofs.SealLemmas.{line-moments, line-owed, line-stopped}
 use Rattle.ss_program.proofs.SessionLemmas.{StopsIn-more, after_lines-push, moments-more, text_of-one, text_of-push}
 use Rattle.ss_program.proofs.StagingLemmas.{Turns-looked}
 
@@ -59,6 +59,14 @@ module _ (turn : Talk → Turn) (was is : RecordsState) (waiting : Option (List 
         (ap (λ (t : List ℕ). with_text (owed_by waiting) t) (sym (ap (λ (t : Turn). t.says) known ∙ said.0))) refl;
     stops = tt;
   }
+
+  -- a crash while it is done leaves what some first lines do
+  pub TakesTurn-moments : {T : Type 0} (result : Result T Status) → Turning turn was is result old new → (sealing : Sealing) (talk : Talk)
+      (ls : List (List ℕ)) (before : Option (List ℕ)) (line : List ℕ) → turn_of (after_lines talk ls) line ≡ turn (after_lines talk ls) →
+      IsAmid sealing talk ls before (amid was (owed_by waiting) held cursors) old → LeavesOnly old new (StandsWithin talk (ls ++ line ∷ []))
+  TakesTurn-moments result turns sealing talk ls before line known at =
+      line-moments sealing talk ls before (amid was (owed_by waiting) held cursors) old new knows at line is result
+      (turns-after result (after_lines talk ls) line known (turns (after_lines talk ls)))
 
   -- the run stops at a line to which something is said
   pub TakesTurn-stopped : {T : Type 0} (to : Amid) (status : Status) → held ≡ to.held → (status ≡ OutOfMemory → ⊥) →

@@ -80,7 +80,7 @@ pub use Rattle.ss_model.specs.Origins.{unfiltered_stream, unfiltered_window, as_
 pub use Rattle.ss_model.specs.Refusals.{first_that_applies, refuses, stands, IsHistory, refuses_reading}
 pub use Rattle.ss_model.specs.Series.{refuses_series, AnswersRow}
 pub use Rattle.ss_model.specs.Shown.{placed_of, row_of}
-pub use Rattle.ss_model.specs.State.{Stream, last_time, state, stream_named, Created, standing, standing_after, stream_after, live, stream_numbered}
+pub use Rattle.ss_model.specs.State.{Stream, last_time, state, stream_named, Created, standing, standing_after, stream_after, stream_numbered}
 pub use Rattle.ss_model.specs.Steps.{ack_of, stepped}
 pub use Rattle.ss_model.specs.Truth.{true_presence, is_one_of}
 pub use Rattle.ss_model.specs.Windows.{newest_time, taken, time_of_last}
@@ -103,7 +103,7 @@ pub use Rattle.ss_power.specs.Power.{power_length}
 pub use Rattle.ss_program.specs.Amid.{Amid, AreOwed, GoesAmid, HasRoomForReply, IsAmid, IsAtRest, IsReadyToServe, TakesFurther, TakesNone, one_line_more, owed_by, with_text, Owed}
 pub use Rattle.ss_program.specs.Amid.{StagesBrought, TakesBrought, TakesTurn, amid, OfAmid, TakesBytes, TakesLast, TakesOrdered, StagesFramed, staged_replies}
 pub use Rattle.ss_program.specs.Amid.{TakesStarved}
-pub use Rattle.ss_program.specs.Answer.{IsOpen, IsServing, Adds, at_sink, SendsRows, AsksQuery, AppliesEvent, DoesCommand, Shows}
+pub use Rattle.ss_program.specs.Answer.{IsOpen, IsServing, at_sink, SendsRows, AsksQuery, Shows}
 pub use Rattle.ss_program.specs.Answer.{IsTextBrought, IsRowsText, HasRows, question_command}
 pub use Rattle.ss_program.specs.Asked.{IsOrder, heard_of, rows_asked, IsAsked, NoneCloses, rows_asked_by, rows_asked_in}
 pub use Rattle.ss_program.specs.Certifying.{HasEvidence, FindsEvidence, IsSharp}
@@ -163,14 +163,13 @@ pub use Rattle.ss_sessions.specs.declared.order.Order.{Order}
 pub use Rattle.ss_sessions.specs.declared.order.Spoken.{Spoken}
 pub use Rattle.ss_sessions.specs.declared.order.Spoken.TheVariants.{Nothing, Unaddressed, To}
 pub use Rattle.ss_store.proofs.AskedStreams.{refuses_query_held-is, named-found, named-missing, refuses_query_held-known, refuses_query_held-unknown}
-pub use Rattle.ss_store.proofs.Calls.{Turns-answers, Turns-failed, Turns-reads, Turns-weaker, Turns-same}
-pub use Rattle.ss_store.proofs.Extents.{length-uses, records_in-kept}
+pub use Rattle.ss_store.proofs.Extents.{length-uses}
 pub use Rattle.ss_store.proofs.FoundAlike.{refuses-kept, said-kept, streams-kept, windows-kept, found-kept, unknown-kept}
 pub use Rattle.ss_store.proofs.KeptStates.{AllAgree-recovered, Recovers-StoreIsIn}
 pub use Rattle.ss_store.proofs.ReadRefusals.{refuses_reading_held-is, refuses_values_held-is}
 pub use Rattle.ss_store.proofs.Unformed.{Stands-unformed}
-pub use Rattle.ss_store.proofs.Uses.{IsShort-more, both, live-last}
-pub use Rattle.ss_store.proofs.Within.{KeepsWithin-answers, KeepsWithin-failed, KeepsWithin-reads, UsesAtMost-more}
+pub use Rattle.ss_store.proofs.Uses.{IsShort-more, both}
+pub use Rattle.ss_store.proofs.Within.{UsesAtMost-more}
 pub use Rattle.ss_store.specs.Asked.{refuses_query_held}
 pub use Rattle.ss_store.specs.Calls.{KeepsWithin, StandsForEither, Turns, TurnsHistory, SealsHistory}
 pub use Rattle.ss_store.specs.Causes.{OpensAs}

@@ -1,22 +1,27 @@
 -- A session over a generated file: what was answered so far, what is counted of it, and how it ends.
-use Rattle.ss_program.proofs.Common.{◌⊎◌, inl, inr, ◌≡◌, ℕ, zero, suc, ◌+◌, ◌++◌, List, [], ◌∷◌, length, map, take, Bool, true, false, cond, Option, None, Ok}
+use Rattle.ss_program.proofs.Common.{◌≡◌, ℕ, zero, suc, ◌+◌, ◌++◌, List, [], ◌∷◌, length, map, take, Bool, true, false, cond, Option, None, Ok}
 use Rattle.ss_program.proofs.Common.{Err, Result, refl, sym, ap, ◌∙◌, subst, append_assoc, arith, count_by, ⊤, flat_map, append-nil, length-append, map-append}
-use Rattle.ss_program.proofs.Common.{take-append-le, take-append-add, IsSayable, printed, Command, at_start, joined, now, of_content, weaker, KnowsNow}
-use Rattle.ss_program.proofs.Common.{LeavesOnly, NothingPending, Told, reply_line, Reply, state, OpensAs, Stands, StandsShort, OpenError, Adds, SendsRows}
+use Rattle.ss_program.proofs.Common.{take-append-le, take-append-add, IsSayable, printed, Command, joined, now, of_content, weaker, KnowsNow}
+use Rattle.ss_program.proofs.Common.{LeavesOnly, NothingPending, Told, reply_line, Reply, state, OpensAs, Stands, StandsShort, OpenError, SendsRows}
+use Rattle.ss_program.proofs.Common.{GoesAmid, TakesFurther, TakesNone, StagesBrought, SealsHistory, amid, owed_by, with_text, said_line, turn_of, turn_brought}
+use Rattle.ss_program.proofs.Common.{IsSealed, RecordsState, shown-sealed, no_cursors, Each, Talk, DiskFault, HoldsTalk}
 use Rattle.ss_program.proofs.Common.{Generates, StandsForAll, StandsForGenerated, generated_lines, first_lines, is_done, is_refused, last_six, summary, summary_lines}
-use Rattle.ss_program.proofs.Common.{Brought, History, brings, command_brings, history_after, meaning_brings, StandsShortForFirst, HoldsTalk, StandsWithin}
+use Rattle.ss_program.proofs.Common.{Brought, History, brings, command_brings, history_after, meaning_brings, StandsShortForFirst, StandsWithin}
 use Rattle.ss_program.proofs.Common.{AsRefused, status_of_open, appended, AppendsFront, AppendsLess, Sends, after_lines, plain_after, replies, plain_talk}
 use Rattle.ss_program.proofs.Common.{plain_over, HasRun, IsSingle, Tallies, Status, Done, SinkFault, Failed}
 use Rattle.ss_command.proofs.PrintLemmas.{meaning-printed}
 use Rattle.ss_generator.specs.Commands.{commands, of_round, of_rounds, opening, queries}
 use Rattle.ss_generator.specs.Numbers.{time, value}
 use Rattle.ss_program.specs.declared.generate.Tally.{Tally}
+use Rattle.ss_program.proofs.AmidLemmas.{GoesAmid-none, GoesAmid-then, IsAmid-begin}
+use Rattle.ss_program.proofs.BroughtLemmas.{TakesBrought-owed, TakesBrought-said, TakesTurn-moments}
 use Rattle.ss_program.proofs.OpeningLemmas.{unopened}
 use Rattle.ss_program.proofs.HeldLemmas.{StandsShortForFirst-within}
-use Rattle.ss_program.proofs.LeftLemmas.{Adds-left, Adds-moments, short_left}
 use Rattle.ss_program.proofs.OverLemmas.{accepted-over}
+use Rattle.ss_program.proofs.SealLemmas.{TakesNone-sent, TakesNone-unsealed, each-sent}
 use Rattle.ss_program.proofs.SendLemmas.{AppendsFront-all, appended-appended, appended-nil}
-use Rattle.ss_program.proofs.SessionLemmas.{StandsWithin-all, StandsWithin-before, after_lines-accepted, moments-more, plain_after-push, replies-append}
+use Rattle.ss_program.proofs.SessionLemmas.{after_lines-accepted, moments-more, replies-append}
+use Rattle.ss_program.proofs.TextLemmas.{said_line-some}
 
 -- a printed command brings what the command does
 pub brings-printed : (history : History) (command : Command) → IsSayable command → brings history (printed command) ≡ command_brings history command
@@ -46,132 +51,126 @@ unfolding commands
 single-commands seed count =
     (tt, single-append (of_rounds seed count) (queries (time seed count)) (single-rounds seed count) (tt, (tt, (tt, (tt, (tt, (tt, tt)))))))
 
--- no line was answered yet
-pub HasRun-start : (used : Option ℕ) (history : History) (disk : Told) (tally : Tally) → KnowsNow disk → NothingPending disk → StandsShort used history disk.content →
-    Tallies 0 [] tally → HasRun used history [] disk disk tally
-HasRun-start used history disk tally knows none stands tallies = record {
+-- a conversation of plain lines stays one
+plain_over-lines : (used : Option ℕ) (history : History) (ls : List (List ℕ)) → after_lines (plain_over used history) ls ≡ plain_over used (plain_after history ls)
+plain_over-lines used history [] = refl
+plain_over-lines used history (line ∷ ls) = plain_over-lines used (history_after history (brings history line)) ls
+
+-- so the turn of a printed command in it is what the command brings
+turn-printed : (used : Option ℕ) (history : History) (ls : List (List ℕ)) (command : Command) → IsSayable command →
+    turn_of (after_lines (plain_over used history) ls) (printed command)
+    ≡ turn_brought None (after_lines (plain_over used history) ls) (command_brings (after_lines (plain_over used history) ls).history command)
+turn-printed used history ls command sayable =
+    subst (λ (t : Talk). turn_of t (printed command) ≡ turn_brought None t (command_brings t.history command)) (sym (plain_over-lines used history ls))
+    (ap (λ b. turn_brought None (plain_over used (plain_after history ls)) b) (brings-printed (plain_after history ls) command sayable))
+
+-- The commands that were done, and those that are left, are all of the file. Those were taken as a session takes lines, each sealed by
+-- itself, whose replies go to a sink that doesn't tell what it holds.
+pub record IsAt (used : Option ℕ) (history : History) (seed count : ℕ) (left : List Command) (records : RecordsState) (old new : Told) (tally : Tally) : Type 0
+  where
+    pub done : List Command
+    pub all : commands seed count ≡ done ++ left
+    pub tallied : Tallies (length (map printed done)) (replies history (map printed done)) tally
+    pub goes : GoesAmid Each (plain_over used history) (map printed done) None (amid records (owed_by None) None no_cursors) old new
+
+pub IsAt-start : (used : Option ℕ) (history : History) (seed count : ℕ) (left : List Command) (records : RecordsState) (disk : Told) (tally : Tally) →
+    left ≡ commands seed count → KnowsNow disk → NothingPending disk → IsSealed records.journal → StandsShort used history disk.content → Tallies 0 [] tally →
+    IsAt used history seed count left records disk disk tally
+IsAt-start used history seed count left records disk tally all knows none sealed stands tallies = record {
+  done = [];
+  all = sym all;
   tallied = tallies;
-  stands = stands;
-  durable = none;
-  any_moment = at_start disk (StandsWithin (plain_over used history) []) knows
-      (of_content disk (StandsWithin (plain_over used history) []) none (StandsWithin-all (plain_over used history) [] disk.content stands));
+  goes = let at = amid records (owed_by None) None no_cursors in
+      GoesAmid-none Each (plain_over used history) [] None at disk knows
+      (IsAmid-begin Each (plain_over used history) [] None at disk refl refl (shown-sealed records.journal disk.content sealed) stands none refl refl);
 }
 
--- the history after plain lines, whatever is asked of the file
-plain_over-history : (used : Option ℕ) (history : History) (ls : List (List ℕ)) → (after_lines (plain_over used history) ls).history ≡ plain_after history ls
-plain_over-history used history [] = refl
-plain_over-history used history (line ∷ ls) = plain_over-history used (history_after history (brings history line)) ls
+-- A further command is done: its event, if any, is staged, and then it is sealed.
+module _ {used : Option ℕ} {history : History} {seed count : ℕ} {left rest : List Command} {was : RecordsState} {old now : Told} {tally : Tally}
+    (command : Command) (at : IsAt used history seed count left was old now tally) (next : left ≡ command ∷ rest) (sayable : IsSayable command) where
+  abbrev ls : List (List ℕ)
+  ls = map printed at.done
 
-holds-plain : (used : Option ℕ) (history : History) (ls : List (List ℕ)) (image : List ℕ) → StandsShort used (plain_after history ls) image →
-    HoldsTalk (after_lines (plain_over used history) ls) image
-holds-plain used history ls image stands =
-    short_left (plain_over used history) ls image
-    (subst (λ h. StandsShort used h image) (sym (plain_over-history used history ls)) stands)
+  abbrev talk : Talk
+  talk = plain_over used history
 
--- a line was answered, or a crash came while it was
-abbrev ShortAround : Option ℕ → History → Brought → List ℕ → Type 0
-ShortAround used history brought image = StandsShort used history image ⊎ StandsShort used (history_after history brought) image
+  abbrev brought : History → Brought
+  brought history = command_brings history command
 
-StandsWithin-line : (used : Option ℕ) (history : History) (ls : List (List ℕ)) (line : List ℕ) (image : List ℕ) →
-    ShortAround used (plain_after history ls) (brings (plain_after history ls) line) image → StandsWithin (plain_over used history) (ls ++ line ∷ []) image
-StandsWithin-line used history ls line image (inl stands) =
-    StandsWithin-before (plain_over used history) ls line image (holds-plain used history ls image stands)
-StandsWithin-line used history ls line image (inr stands) =
-    StandsWithin-all (plain_over used history) (ls ++ line ∷ []) image (holds-plain used history (ls ++ line ∷ []) image
-    (subst (λ h. StandsShort used h image) (sym (plain_after-push history ls line)) stands))
+  -- the moments before it and in it are among those of the whole file
+  moments-file : {end : Told} → LeavesOnly now end (StandsWithin talk (ls ++ printed command ∷ [])) →
+      LeavesOnly old end (StandsWithin talk (generated_lines seed count))
+  moments-file {end = end} run =
+      let all : generated_lines seed count ≡ (ls ++ printed command ∷ []) ++ map printed rest =
+      ap (λ cs. map printed cs) (at.all ∙ ap (λ cs. at.done ++ cs) next) ∙ map-append printed at.done (command ∷ rest)
+      ∙ sym (append_assoc ls (printed command ∷ []) (map printed rest)) in
+      subst (λ l. LeavesOnly old end (StandsWithin talk l)) (sym all)
+      (moments-more talk old end (ls ++ printed command ∷ []) (map printed rest)
+      (joined old now end (StandsWithin talk (ls ++ printed command ∷ []))
+      (moments-more talk old now ls (printed command ∷ []) at.goes.any_moment) run))
 
-moments-line : (used : Option ℕ) (history : History) (old new : Told) (ls : List (List ℕ)) (line : List ℕ) →
-    LeavesOnly old new (ShortAround used (plain_after history ls) (brings (plain_after history ls) line)) →
-    LeavesOnly old new (StandsWithin (plain_over used history) (ls ++ line ∷ []))
-moments-line used history old new ls line run =
-    weaker old new (ShortAround used (plain_after history ls) (brings (plain_after history ls) line))
-    (StandsWithin (plain_over used history) (ls ++ line ∷ [])) (StandsWithin-line used history ls line) run
+  -- the run stopped where it was staged
+  pub IsAt-stop : {mid : RecordsState} {then : Told} (status : Status) → KnowsNow then → StagesBrought brought was mid (Err status) now then →
+      LeavesOnly old then (StandsWithin talk (generated_lines seed count))
+  IsAt-stop {mid = mid} {then = then} status knows stages =
+      moments-file (TakesTurn-moments (λ here. turn_brought None here (brought here.history)) was mid None None no_cursors now then knows (Err status)
+      (λ here. stages.turns here.history) Each talk ls None (printed command) (turn-printed used history ls command sayable) at.goes.amid)
 
--- a command of the file was done, or a crash came while it was
-pub adds-line : {T : Type 0} (used : Option ℕ) (history : History) (old mid new : Told) (ls : List (List ℕ)) (command : Command) (tally : Tally) (result : Result T Status) →
-    HasRun used history ls old mid tally → IsSayable command → Adds (plain_after history ls) (command_brings (plain_after history ls) command) mid new result →
-    LeavesOnly old new (StandsWithin (plain_over used history) (ls ++ printed command ∷ []))
-adds-line used history old mid new ls command tally result ran sayable adds =
-    let here = plain_after history ls in
-    joined old mid new (StandsWithin (plain_over used history) (ls ++ printed command ∷ []))
-    (moments-more (plain_over used history) old mid ls (printed command ∷ []) ran.any_moment)
-    (moments-line used history mid new ls (printed command)
-    (subst (λ b. LeavesOnly mid new (ShortAround used here b)) (sym (brings-printed here command sayable))
-    (Adds-moments here (command_brings here command) mid new result adds used ran.durable ran.stands)))
+  module _ {mid is : RecordsState} {then new : Told} (reply : Reply) (knows : KnowsNow then) (stages : StagesBrought brought was mid (Ok reply) now then)
+      (new_knows : KnowsNow new) where
+    takes : (result : Result (Unit {0}) Status) →
+        TakesNone (amid mid (with_text (owed_by None) (said_line None reply)) None) (amid is (owed_by None) None) result then new →
+        TakesFurther Each talk ls (printed command ∷ []) None (amid was (owed_by None) None no_cursors) (amid is (owed_by None) None no_cursors) result now new
+    takes result seals =
+        TakesBrought-said None brought tt result (TakesBrought-owed None brought was mid None None now then knows reply tt stages) seals
+        no_cursors Each talk ls None (printed command) (turn-printed used history ls command sayable)
 
--- what a call answers
-abbrev replied : Reply → Result Reply Status
-replied reply = Ok reply
+    -- or where it was sealed
+    pub IsAt-unsealed : (e : Failed) → SealsHistory {T = Unit {0}} mid is (Err e) then new →
+        LeavesOnly old new (StandsWithin talk (generated_lines seed count))
+    IsAt-unsealed e seals =
+        moments-file ((takes (Err DiskFault)
+        (TakesNone-unsealed mid is (with_text (owed_by None) (said_line None reply)) (owed_by None) None then new e new_knows seals
+        (refl, said_line-some None reply))).stops at.goes.amid).any_moment
 
-pub HasRun-more : (used : Option ℕ) (history : History) (old mid new : Told) (ls : List (List ℕ)) (command : Command) (reply : Reply) (before after : Tally) →
-    HasRun used history ls old mid before → IsSayable command →
-    Adds (plain_after history ls) (command_brings (plain_after history ls) command) mid new (Ok reply) →
-    (command_brings (plain_after history ls) command).replies ≡ reply ∷ [] →
-    Tallies (length ls + 1) (replies history ls ++ reply ∷ []) after → HasRun used history (ls ++ printed command ∷ []) old new after
-HasRun-more used history old mid new ls command reply before after ran sayable adds one tallies =
-    let here = plain_after history ls in
-    let brought : brings here (printed command) ≡ command_brings here command = brings-printed here command sayable in
-    let all : replies history (ls ++ printed command ∷ []) ≡ replies history ls ++ reply ∷ [] =
-    replies-append history ls (printed command ∷ [])
-    ∙ ap (λ rs. replies history ls ++ rs) (append-nil (brings here (printed command)).replies ∙ ap (λ (b : Brought). b.replies) brought ∙ one) in
-    let then : history_after here (command_brings here command) ≡ plain_after history (ls ++ printed command ∷ []) =
-    sym (plain_after-push history ls (printed command) ∙ ap (λ b. history_after here b) brought) in
-    record {
-      tallied = subst (λ n. Tallies n (replies history (ls ++ printed command ∷ [])) after) (sym (length-append ls (printed command ∷ [])))
-          (subst (λ rs. Tallies (length ls + 1) rs after) (sym all) tallies);
-      stands = subst (λ h. StandsShort used h new.content) then (Adds-left here (command_brings here command) mid new (replied reply) adds used ran.stands);
-      durable = adds.turns.durable ran.durable;
-      any_moment = adds-line used history old mid new ls command before (Ok reply) ran sayable adds;
-    }
-
--- the commands that were done, and those that are left, are all of the file
-pub record IsAt (used : Option ℕ) (history : History) (seed count : ℕ) (left : List Command) (old new : Told) (tally : Tally) : Type 0 where
-  pub done : List Command
-  pub all : commands seed count ≡ done ++ left
-  pub ran : HasRun used history (map printed done) old new tally
-
-pub IsAt-start : (used : Option ℕ) (history : History) (seed count : ℕ) (left : List Command) (disk : Told) (tally : Tally) → left ≡ commands seed count →
-    KnowsNow disk → NothingPending disk → StandsShort used history disk.content → Tallies 0 [] tally → IsAt used history seed count left disk disk tally
-IsAt-start used history seed count left disk tally all knows none stands tallies =
-    record { done = []; all = sym all; ran = HasRun-start used history disk tally knows none stands tallies }
-
-pub IsAt-more : (used : Option ℕ) (history : History) (seed count : ℕ) (left rest : List Command) (command : Command) (old mid new : Told) (reply : Reply)
-    (before after : Tally)
-    (at : IsAt used history seed count left old mid before) → left ≡ command ∷ rest → IsSayable command →
-    Adds (plain_after history (map printed at.done)) (command_brings (plain_after history (map printed at.done)) command) mid new (Ok reply) →
-    (command_brings (plain_after history (map printed at.done)) command).replies ≡ reply ∷ [] →
-    ((lines : ℕ) (all : List Reply) → Tallies lines all before → Tallies (lines + 1) (all ++ reply ∷ []) after) →
-    IsAt used history seed count rest old new after
-IsAt-more used history seed count left rest command old mid new reply before after at next sayable adds one tallies =
-    let ls = map printed at.done in
-    record {
-      done = at.done ++ command ∷ [];
-      all = at.all ∙ ap (λ cs. at.done ++ cs) next ∙ sym (append_assoc at.done (command ∷ []) rest);
-      ran = subst (λ l. HasRun used history l old new after) (sym (map-append printed at.done (command ∷ [])))
-          (HasRun-more used history old mid new ls command reply before after at.ran sayable adds one (tallies (length ls) (replies history ls) at.ran.tallied));
-    }
-
--- a crash while a command of the file is done
-pub IsAt-stop : {T : Type 0} (used : Option ℕ) (history : History) (seed count : ℕ) (left rest : List Command) (command : Command) (old mid new : Told) (tally : Tally)
-    (result : Result T Status)
-    (at : IsAt used history seed count left old mid tally) → left ≡ command ∷ rest → IsSayable command →
-    Adds (plain_after history (map printed at.done)) (command_brings (plain_after history (map printed at.done)) command) mid new result →
-    LeavesOnly old new (StandsWithin (plain_over used history) (generated_lines seed count))
-IsAt-stop used history seed count left rest command old mid new tally result at next sayable adds =
-    let ls = map printed at.done in
-    let all : generated_lines seed count ≡ (ls ++ printed command ∷ []) ++ map printed rest =
-    ap (λ cs. map printed cs) (at.all ∙ ap (λ cs. at.done ++ cs) next) ∙ map-append printed at.done (command ∷ rest)
-    ∙ sym (append_assoc ls (printed command ∷ []) (map printed rest)) in
-    subst (λ l. LeavesOnly old new (StandsWithin (plain_over used history) l)) (sym all)
-    (moments-more (plain_over used history) old new (ls ++ printed command ∷ []) (map printed rest) (adds-line used history old mid new ls command tally result at.ran sayable
-    adds))
+    -- or it was done
+    pub IsAt-more : (u : Unit {0}) (after : Tally) → SealsHistory {E = Failed} mid is (Ok u) then new → IsSealed is.journal →
+        ((lines : ℕ) (all : List Reply) → Tallies lines all tally → Tallies (lines + 1) (all ++ reply ∷ []) after) →
+        IsAt used history seed count rest is old new after
+    IsAt-more u after seals sealed tallies =
+        let here = after_lines talk ls in
+        let replied : replies history (ls ++ printed command ∷ []) ≡ replies history ls ++ reply ∷ [] =
+        replies-append history ls (printed command ∷ [])
+        ∙ ap (λ rs. replies history ls ++ rs) (append-nil (brings (plain_after history ls) (printed command)).replies
+        ∙ ap (λ (b : Brought). b.replies) (brings-printed (plain_after history ls) command sayable)
+        ∙ ap (λ (t : Talk). (brought t.history).replies) (sym (plain_over-lines used history ls)) ∙ stages.reply here.history at.goes.amid.shown.0) in
+        let lines : map printed (at.done ++ command ∷ []) ≡ ls ++ printed command ∷ [] = map-append printed at.done (command ∷ []) in
+        record {
+          done = at.done ++ command ∷ [];
+          all = at.all ∙ ap (λ cs. at.done ++ cs) next ∙ sym (append_assoc at.done (command ∷ []) rest);
+          tallied = subst (λ l. Tallies (length l) (replies history l) after) (sym lines)
+              (subst (λ n. Tallies n (replies history (ls ++ printed command ∷ [])) after) (sym (length-append ls (printed command ∷ [])))
+              (subst (λ rs. Tallies (length ls + 1) rs after) (sym replied) (tallies (length ls) (replies history ls) at.tallied)));
+          goes = subst (λ l. GoesAmid Each talk l None (amid is (owed_by None) None no_cursors) old new) (sym lines)
+              (GoesAmid-then Each talk ls (printed command ∷ []) None (amid was (owed_by None) None no_cursors) old now new
+              (amid is (owed_by None) None no_cursors) at.goes ((takes (Ok tt)
+              (TakesNone-sent mid is (with_text (owed_by None) (said_line None reply)) (owed_by None) None None then new u (Ok tt) new_knows
+              (shown-sealed is.journal new.content sealed) seals refl (each-sent 1) (λ bytes less. (refl, less)) refl)).goes at.goes.amid));
+        }
 
 -- all commands were done
-pub IsAt-end : (used : Option ℕ) (history : History) (seed count : ℕ) (left : List Command) (old new : Told) (tally : Tally) → IsAt used history seed count left old new tally →
-    left ≡ [] →
+pub IsAt-end : (used : Option ℕ) (history : History) (seed count : ℕ) (left : List Command) (records : RecordsState) (old new : Told) (tally : Tally) →
+    IsAt used history seed count left records old new tally → IsSealed records.journal → left ≡ [] →
     HasRun used history (generated_lines seed count) old new tally
-IsAt-end used history seed count left old new tally at none =
-    subst (λ cs. HasRun used history (map printed cs) old new tally) (sym (at.all ∙ ap (λ cs. at.done ++ cs) none ∙ append-nil at.done)) at.ran
+IsAt-end used history seed count left records old new tally at sealed none =
+    let ls = map printed at.done in
+    subst (λ cs. HasRun used history (map printed cs) old new tally) (sym (at.all ∙ ap (λ cs. at.done ++ cs) none ∙ append-nil at.done)) (record {
+      tallied = at.tallied;
+      stands = subst (λ (t : Talk). HoldsTalk t new.content) (plain_over-lines used history ls)
+          (subst (HoldsTalk (after_lines (plain_over used history) ls)) (shown-sealed records.journal new.content sealed) at.goes.amid.shown);
+      durable = at.goes.amid.durable;
+      any_moment = at.goes.any_moment;
+    })
 
 -- a text was sent, and then another, or less than it
 pub Sends-then : (before held after : Option (List ℕ)) (a b : List ℕ) (sent : Result (Unit {0}) Failed) → held ≡ appended before a →

@@ -1,8 +1,8 @@
 -- Images that stand for a history and are no longer than it allows.
-use Rattle.ss_program.proofs.Common.{◌⊎◌, ◌+◌, ⊎_elim, inl, inr, ℕ, List, [], None, Option, Some, Result, Ok, Err, arith, subst, sym, on_ok_weaker, OnOk, max}
+use Rattle.ss_program.proofs.Common.{◌+◌, ℕ, List, None, Option, Some, Result, Ok, Err, arith, subst, sym, on_ok_weaker, OnOk, max}
 use Rattle.ss_program.proofs.Common.{weaker, LeavesOnly, NothingPending, Told, KeepsWithin, Turns, Stands, IsShort, StandsShort, UsesAtMost, most_needed}
-use Rattle.ss_program.proofs.Common.{IsShort-more, both, live-last, Adds, Brought, History, history_after, the_event, HoldsTalk, StandsAround, after_lines}
-use Rattle.ss_program.proofs.Common.{Talk, Status}
+use Rattle.ss_program.proofs.Common.{both, History, HoldsTalk, after_lines}
+use Rattle.ss_program.proofs.Common.{Talk}
 use Rattle.ss_program.proofs.SessionLemmas.{after_lines-used}
 
 -- of a conversation after some lines it is asked as of the one before
@@ -18,34 +18,6 @@ short_left talk ls image short = subst (λ used. StandsShort used (after_lines t
 ok_both : {T E : Type 0} (A B : Type 0) (result : Result T E) → OnOk result A → OnOk result B → OnOk result (A × B)
 ok_both A B (Ok value) a b = (a, b)
 ok_both A B (Err e) a b = tt
-
--- what a line adds, by how many slots are used
-module _ {T : Type 0} (history : History) (brought : Brought) (old new : Told) (result : Result T Status) (adds : Adds history brought old new result) where
-  within-most : (n : ℕ) → Stands history old.content →
-      Turns (UsesAtMost (max n (most_needed history + 1))) (UsesAtMost (max n (most_needed history + 1))) (UsesAtMost (max n (most_needed history + 1)))
-      old new result
-  within-most n stands = adds.within stands (max n (most_needed history + 1)) (omega (arith, live-last [] history))
-
-  pub Adds-left : (used : Option ℕ) → StandsShort used history old.content → OnOk result (StandsShort used (history_after history brought) new.content)
-  Adds-left None has = on_ok_weaker result (λ (is : Stands (history_after history brought) new.content). (is, tt)) (adds.turns.content has.0)
-  Adds-left (Some n) has =
-      ok_both (Stands (history_after history brought) new.content) (IsShort (Some n) (history_after history brought) new.content) result
-      (adds.turns.content has.0)
-      (on_ok_weaker result (λ (uses : IsShort (Some n) history new.content). IsShort-more (Some n) history (the_event brought.event) new.content uses)
-      ((within-most n has.0).content has.1))
-
-  pub Adds-moments : (used : Option ℕ) → NothingPending old → StandsShort used history old.content →
-      LeavesOnly old new (λ image. StandsShort used history image ⊎ StandsShort used (history_after history brought) image)
-  Adds-moments None none has =
-      weaker old new (StandsAround history brought) (λ image. StandsShort None history image ⊎ StandsShort None (history_after history brought) image)
-      (λ image. ⊎_elim (λ stands. inl (stands, tt)) (λ stands. inr (stands, tt))) (adds.turns.any_moment none has.0)
-  Adds-moments (Some n) none has =
-      let uses = UsesAtMost (max n (most_needed history + 1)) in
-      weaker old new (λ image. StandsAround history brought image × uses image)
-      (λ image. StandsShort (Some n) history image ⊎ StandsShort (Some n) (history_after history brought) image)
-      (λ image left. ⊎_elim (λ stands. inl (stands, left.1)) (λ stands. inr (stands, IsShort-more (Some n) history (the_event brought.event) image left.1))
-      left.0)
-      (both old new (StandsAround history brought) uses (adds.turns.any_moment none has.0) ((within-most n has.0).any_moment none has.1))
 
 -- opening a store keeps the history, and uses no more slots
 module _ {T E : Type 0} {history : History} {old new : Told} {result : Result T E}

@@ -195,6 +195,10 @@ module _ (sealing : Sealing) (talk : Talk) (ls : List (List ℕ)) (before : Opti
           (StandsWithin here (at.rest ++ line ∷ [])) within-line
           (turns.any_moment at.durable talk.used (after_lines here at.within.0).history is-there is-shown)
 
+      -- which are among those of all lines
+      pub line-moments : LeavesOnly old new (StandsWithin talk (ls ++ line ∷ []))
+      line-moments = moments-out talk old new (ls ++ line ∷ []) at.out (at.rest ++ line ∷ []) are-line moments-line
+
       -- the run stopped at the line
       pub line-stopped : (waiting : Option (List ℕ)) (status : Status) → from.owed ≡ owed_by waiting → (status ≡ OutOfMemory → ⊥) →
           0 < length (turn_of (after_lines talk ls) line).says → StopsIn sealing talk (ls ++ line ∷ []) old new before from.held status
@@ -231,7 +235,7 @@ module _ (sealing : Sealing) (talk : Talk) (ls : List (List ℕ)) (before : Opti
               durable = shows.durable at.durable;
               cursors = sym cursors ∙ ap (λ (t : Talk). t.cursors) (sym push);
             };
-            any_moment = moments-out talk old new (ls ++ line ∷ []) at.out (at.rest ++ line ∷ []) are-line moments-line;
+            any_moment = line-moments;
           }
 
 -- all was brought to the disk, and what was owed was sent, or less than it

@@ -11,6 +11,13 @@ module _ {old mid new : DiskView} {v : Verdict} {R Q S : Told → Told → Type 
     told = λ told. joins (first.tells ∙ told) (first.told told) (second.told (first.tells ∙ told));
   }
 
+module _ {old now then new : DiskView} {v : Verdict} {R Q P S : Told → Told → Type 0} where
+  -- three of them
+  pub step-third : Step fine old now R → Step fine now then Q → Step v then new P →
+      (IsTrue then.tells → R old.told now.told → Q now.told then.told → P then.told new.told → S old.told new.told) → Step v old new S
+  step-third first second third joins =
+      step-told (step-told {S = λ a b. R a now.told × Q now.told b} first second (λ told r q. (r, q))) third (λ told both p. joins told both.0 both.1 p)
+
 module _ {old new : DiskView} {v : Verdict} {R S : Told → Told → Type 0} where
   -- what follows of a step at whose start the disk tells, or at whose end
   pub step-given : Step v old new R → (IsTrue old.tells → R old.told new.told → S old.told new.told) → Step v old new S

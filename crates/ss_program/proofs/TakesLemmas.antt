@@ -1,10 +1,9 @@
 -- What a line does to the devices: what is shown, and what is added and replied.
-use Rattle.ss_program.proofs.Common.{◌≡◌, ℕ, Bool, List, Option, None, Ok, Err, Result, IfErr, refl, sym, subst, IsErr, arith, common_steps, reads-none}
-use Rattle.ss_program.proofs.Common.{step-none, KnowsNow, OnlyReads, DiskView, OfContent, Told, Step, Counted, fine, verdict, Failed, Reply, IsSealed}
-use Rattle.ss_program.proofs.Common.{RecordsState, StoreState, Stands, AsksQuery, DoesCommand, IsOpen, Shows, at_sink, over, Brought, History, appended}
+use Rattle.ss_program.proofs.Common.{◌≡◌, ℕ, Bool, List, Option, Ok, Err, Result, IfErr, refl, sym, subst, IsErr, arith, common_steps, reads-none}
+use Rattle.ss_program.proofs.Common.{step-none, OnlyReads, DiskView, OfContent, Step, Counted, fine, verdict, Failed}
+use Rattle.ss_program.proofs.Common.{StoreState, Stands, IsOpen, Shows, at_sink, over, History, appended}
 use Rattle.ss_program.proofs.Common.{AppendsLess, Puts, Sends, IsApplyStop, IsDiskStop, IsShowStop, disk_verdict, ended, sink_verdict, Status, Done, Usage}
 use Rattle.ss_program.proofs.Common.{RefusedStore, DiskFault, SourceFault, SinkFault, OutOfMemory, InputLimit, RecordChanged, OnOk}
-use Rattle.ss_program.proofs.AnswerLemmas.{Adds-reads, Stands-only_replies}
 
 -- the disk was only read, and then a text was sent
 pub Shows-sent : (text : History → List ℕ → Type 0) (old new : DiskView) (store : StoreState) (before after : Option (List ℕ)) (had has : ℕ)
@@ -108,12 +107,3 @@ show-memory tells result stop is = grind (arith, common_steps)
 -- the sink's count where a call of the store stopped the run
 pub apply-counted : (tells : Bool) (n : ℕ) (status : Status) → IsApplyStop tells status → Counted (sink_verdict status) n n
 apply-counted tells n status stop = grind (arith, common_steps)
-
--- a query is a command that adds nothing, and is answered of the content where nothing is staged
-pub DoesCommand-asked : (was : RecordsState) (brought : History → Brought) (result : Result Reply Status) (old new : Told) → IsSealed was.journal →
-    KnowsNow old → ((history : History) → (brought history).event ≡ None) → AsksQuery was brought result old new → DoesCommand brought result old new
-DoesCommand-asked was brought result old new sealed knows none asks = record {
-  adds = λ history. Adds-reads history (brought history) old new result (λ _. none history) knows asks.reads;
-  reply = λ history stands. asks.reply history (Stands-only_replies was old.content history sealed stands);
-  untouched = λ _. asks.reads;
-}

@@ -1,13 +1,12 @@
 -- What answering and showing leaves.
-use Rattle.std.specs.Prelude.{◌≡◌, ℕ, ◌+◌, List, [], ◌∷◌, flat_map, map, slice_get, false, IsSome, IfOk, IfErr, IfSome, OnOk, ⊤}
-use Rattle.std.specs.Prelude.{OnErr, Option, Some, Result, Ok, Err}
-use Rattle.ss_catalog.specs.declared.event.Event.{Event}
+use Rattle.std.specs.Prelude.{◌≡◌, ℕ, List, [], ◌∷◌, flat_map, map, slice_get, false, IfOk, IfErr, IfSome, OnOk, ⊤}
+use Rattle.std.specs.Prelude.{Option, Some, Result, Ok, Err}
 use Rattle.ss_command.specs.declared.command.Command.{Command}
 use Rattle.ss_command.specs.declared.command.Command.TheVariants.{Do, Ask, Last}
 use Rattle.ss_line.specs.Line.{index_of}
 use Rattle.ss_line.specs.declared.entry.At.{At}
 use Rattle.ss_model.specs.Shown.{placed_of}
-use Rattle.ss_model.specs.State.{Stream, live, state, stream_numbered}
+use Rattle.ss_model.specs.State.{Stream, state, stream_numbered}
 use Rattle.ss_model.specs.declared.types.Placed.{Placed}
 use Rattle.ss_outside.specs.Crash.{OnlyReads}
 use Rattle.ss_outside.specs.Disk.{DiskView, OfContent, Told}
@@ -18,18 +17,16 @@ use Rattle.ss_report.specs.Text.{said_line}
 use Rattle.ss_report.specs.declared.reply.Reply.{Reply}
 use Rattle.ss_journal.specs.Kept.{IsSealed}
 use Rattle.ss_records.specs.Kept.{RecordsState, shown_by}
-use Rattle.ss_store.specs.Calls.{KeepsWithin, Turns}
 use Rattle.ss_store.specs.Kept.{StoreIsKept, StoreState, part_numbered}
 use Rattle.ss_store.specs.Recover.{Stands}
 use Rattle.ss_program.specs.Devices.{Devices}
-use Rattle.ss_program.specs.Line.{Brought, History, command_brings, history_after, text_said, window_rows}
-use Rattle.ss_program.specs.Progress.{StandsAround}
+use Rattle.ss_program.specs.Line.{Brought, History, command_brings, text_said, window_rows}
 use Rattle.ss_program.specs.Sent.{Sends}
 use Rattle.ss_program.specs.Status.{disk_verdict, ended, sink_verdict, IsShowStop}
 use Rattle.ss_program.specs.declared.answer.Question.{Question}
 use Rattle.ss_program.specs.declared.answer.Question.TheVariants as questions
 use Rattle.ss_program.specs.declared.status.Status.{Status}
-use Rattle.ss_program.specs.declared.status.Status.TheVariants.{OutOfMemory, SinkFault}
+use Rattle.ss_program.specs.declared.status.Status.TheVariants.{SinkFault}
 
 -- The store can be called: it hasn't stopped, and the disk is as it left it.
 pub record IsServing (disk : DiskView) (store : StoreState) : Type 0 where
@@ -49,28 +46,6 @@ SendsRows speaker before after rows result = Sends before after (flat_map (said_
 abbrev pub at_sink : Result Unit Failed → Result Unit Status
 at_sink (Ok u) = Ok u
 at_sink (Err e) = Err SinkFault
-
--- What a line brings is added to the history that the disk stands for, wholly or not at all, also in a crash. No image uses more slots than
--- the content did, or than the records that the history needs, and one.
-pub record Adds {T : Type 0} (history : History) (brought : Brought) (old new : Told) (result : Result T Status) : Type 0 where
-  pub turns : Turns (Stands history) (StandsAround history brought) (Stands (history_after history brought)) old new result
-  pub within : Stands history old.content → KeepsWithin (live (state history) + 1) result old new
-
--- A command has one reply, the only one that it brings.
-abbrev pub RepliesOne : (History → Brought) → Result Reply Status → Told → Type 0
-RepliesOne brought result old =
-    (history : History) → Stands history old.content → IfOk result (λ reply. (brought history).replies ≡ reply ∷ [])
-
--- A command is done whose one reply is answered. Where memory runs out, nothing was done.
-pub record DoesCommand (brought : History → Brought) (result : Result Reply Status) (old new : Told) : Type 0 where
-  pub adds : (history : History) → Adds history (brought history) old new result
-  pub reply : RepliesOne brought result old
-  pub untouched : ended result ≡ OutOfMemory → OnlyReads old new
-
--- An event is applied. The run stops only at one that isn't refused.
-pub record AppliesEvent (event : Event) (result : Result Reply Status) (old new : Told) : Type 0 where
-  pub does : DoesCommand (λ history. command_brings history (Do event)) result old new
-  pub accepted : (history : History) → Stands history old.content → OnErr result (IsSome (command_brings history (Do event)).event)
 
 -- a command shows rows, which don't wait
 abbrev pub HasRows : Command → Type 0

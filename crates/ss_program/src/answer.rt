@@ -1,6 +1,5 @@
-// What is asked is answered, or shown in rows, and an event is applied.
+// What is asked is answered, or shown in rows.
 ghost use Rattle.std.specs.Prelude.{◌≡◌, ◌+◌, ◌≤◌, [], ◌∷◌, ℕ, List, drop, flat_map, length, take, Some, IsSome, IfErr, IfSome, OnOk};
-ghost use Rattle.ss_catalog.specs.Events.{IsInTime};
 ghost use Rattle.ss_command.specs.Printed.{IsCommandInTime};
 ghost use Rattle.ss_landmarks.specs.Landmark.{all_values};
 ghost use Rattle.ss_landmarks.specs.declared.landmarks.TheConstants.{MOST_LANDMARK_SLOTS};
@@ -11,13 +10,13 @@ ghost use Rattle.ss_outside.specs.Verdict.{Counted, verdict};
 ghost use Rattle.ss_report.specs.Text.{said_line};
 ghost use Rattle.ss_store.specs.Kept.{StoreIsIn, part_numbered};
 ghost use Rattle.ss_store.specs.Recover.{Stands};
-ghost use Rattle.ss_program.specs.Answer.{AppliesEvent, AsksQuery, HasRows, IsOpen, IsRowsText, IsServing, IsTextBrought, ReadsRow, SendsRows, Shows};
+ghost use Rattle.ss_program.specs.Answer.{AsksQuery, HasRows, IsOpen, IsRowsText, IsServing, IsTextBrought, ReadsRow, SendsRows, Shows};
 ghost use Rattle.ss_program.specs.Answer.{at_sink, question_command};
 ghost use Rattle.ss_program.specs.Devices.{over};
 ghost use Rattle.ss_program.specs.Line.{History, command_brings, stream_rows, text_said, value_rows, window_rows, IsSpeaker};
 ghost use Rattle.ss_program.specs.Sent.{Puts, Sends};
 ghost use Rattle.ss_program.specs.declared.status.Status.{Status};
-ghost use Rattle.ss_program.specs.Status.{disk_verdict, ended, IsApplyStop, IsDiskStop};
+ghost use Rattle.ss_program.specs.Status.{disk_verdict, ended, IsDiskStop};
 ghost use Rattle.ss_command.specs.declared.command.Command.TheVariants.{Values, Windows, List as ListAll};
 
 use crate::certifying::show_certificate;
@@ -25,13 +24,13 @@ use crate::sending::send;
 use crate::series::show_series;
 use crate::status::Status;
 use arrayvec::ArrayString;
-use ss_catalog::{Event, Name, Query, Refusal, StreamId};
+use ss_catalog::{Name, Query, Refusal, StreamId};
 use ss_command::Command;
 use ss_line::At;
 use ss_model::Placed;
 use ss_outside::{Disk, Failed, Sink};
 use ss_report::{Reply, said_text};
-use ss_store::{ApplyError, AskError, Store, ValueRange};
+use ss_store::{AskError, Store, ValueRange};
 
 /// The status where a sink failed.
 pub fn at_sink(sent: Result<(), Failed>) -> Result<(), Status>
@@ -237,26 +236,6 @@ fn show_values<K: Sink>(
             send_reply(speaker, &Reply::ValuesHead(range.count), sink)?;
             send_values(speaker, store, range, sink)
         }
-    }
-}
-
-/// Applies an event, and answers the reply to it.
-pub fn apply<D: Disk>(store: &mut Store, event: &Event, disk: &mut D) -> Result<Reply, Status>
-    requires in_time { IsInTime event.now }
-    requires open { IsOpen (D.seen disk.old) store.old }
-    ensures applies { Step (disk_verdict (ended result)) (D.seen disk.old) (D.seen disk.new) (AppliesEvent event.now result) }
-    ensures open { OnOk result (IsOpen (D.seen disk.new) store.new) }
-    ensures status { IfErr result (IsApplyStop (D.seen disk.old).tells) }
-    // Want of memory is told over every disk where no call of it was made.
-    ensures starved { IfErr result (λ status. status ≡ Status.OutOfMemory → disk.new ≡ disk.old) }
-{
-    match store.apply(disk, event) {
-        Ok(ack) => Ok(Reply::Done(ack)),
-        Err(ApplyError::Refused(refusal)) => Ok(Reply::Refused(refusal)),
-        Err(ApplyError::OutOfMemory) => Err(Status::OutOfMemory),
-        Err(ApplyError::Disk) => Err(Status::DiskFault),
-        Err(ApplyError::Changed { .. }) => Err(Status::RecordChanged),
-        Err(ApplyError::Stopped) => unreachable!(),
     }
 }
 

@@ -6,7 +6,8 @@ ghost use Rattle.ss_generator.specs.declared.TheConstants.{MOST_COUNT};
 ghost use Rattle.ss_outside.specs.Disk.{Between};
 ghost use Rattle.ss_outside.specs.Step.{Step};
 ghost use Rattle.ss_outside.specs.Verdict.{Counted, verdict};
-ghost use Rattle.ss_program.specs.Answer.{DoesCommand, IsOpen};
+ghost use Rattle.ss_program.specs.Amid.{StagesBrought};
+ghost use Rattle.ss_program.specs.Answer.{IsOpen, IsServing};
 ghost use Rattle.ss_program.specs.Devices.{over};
 ghost use Rattle.ss_program.specs.Ending.{Ends, IsUnfed};
 ghost use Rattle.ss_program.specs.Generated.{GeneratesFrom, counted_line, first_lines, last_six, summary_lines};
@@ -15,9 +16,10 @@ ghost use Rattle.ss_program.specs.Sent.{Puts, Sends};
 ghost use Rattle.ss_program.specs.Status.{disk_verdict, ended, sink_verdict, IsApplyStop, IsStop};
 ghost use Rattle.ss_program.specs.Tally.{IsSingle, RunsAll, Tallies};
 
-use crate::answer::{Question, apply, ask, send_replies};
+use crate::answer::{Question, ask, send_replies};
 use crate::refuse::refuse;
 use crate::sending::send;
+use crate::staging::stage;
 use crate::status::Status;
 use arrayvec::{ArrayString, ArrayVec};
 use ss_command::{Command, put_number};
@@ -83,18 +85,22 @@ impl Tally {
     }
 }
 
-// Does what a command of the file says, and answers the reply to it.
-fn reply_to<D: Disk>(store: &mut Store, command: &Command, disk: &mut D) -> Result<Reply, Status>
+// Does in memory what a command of the file says, and answers the reply to it.
+fn stage_command<D: Disk>(
+    store: &mut Store,
+    command: &Command,
+    disk: &mut D,
+) -> Result<Reply, Status>
     requires single { IsSingle command.now }
     requires in_time { IsCommandInTime command.now }
-    requires open { IsOpen (D.seen disk.old) store.old }
-    ensures does { Step (disk_verdict (ended result)) (D.seen disk.old) (D.seen disk.new)
-        (DoesCommand (λ history. command_brings history command.now) result) }
-    ensures open { OnOk result (IsOpen (D.seen disk.new) store.new) }
+    requires serves { IsServing (D.seen disk.old) store.old }
+    ensures stages { Step (disk_verdict (ended result)) (D.seen disk.old) (D.seen disk.new)
+        (StagesBrought (λ history. command_brings history command.now) store.old.records store.new.records result) }
+    ensures serves { OnOk result (IsServing (D.seen disk.new) store.new) }
     ensures status { IfErr result (IsApplyStop (D.seen disk.old).tells) }
 {
     match command {
-        Command::Do(event) => apply(store, event, disk),
+        Command::Do(event) => stage(store, event, disk),
         Command::Ask(query) => ask(store, &Question::Query(*query), disk),
         Command::Certify { .. }
         | Command::Series(_)
@@ -105,7 +111,7 @@ fn reply_to<D: Disk>(store: &mut Store, command: &Command, disk: &mut D) -> Resu
     }
 }
 
-// Does what all commands of the file say.
+// Does what all commands of the file say, and brings each to the disk before the next.
 fn run_all<D: Disk>(store: &mut Store, seed: u64, count: u32, disk: &mut D) -> Result<Tally, Status>
     requires some { 1 ≤ count }
     requires few { count ≤ MOST_COUNT }
@@ -116,8 +122,11 @@ fn run_all<D: Disk>(store: &mut Store, seed: u64, count: u32, disk: &mut D) -> R
     let mut generator = Generator::new(seed, count);
     let mut tally = Tally::new();
     while let Some(command) = generator.next() {
-        let reply = reply_to(store, &command, disk)?;
-        tally.take(reply);
+        let reply = stage_command(store, &command, disk)?;
+        match store.seal(disk) {
+            Ok(()) => tally.take(reply),
+            Err(_) => return Err(Status::DiskFault),
+        }
     }
     Ok(tally)
 }

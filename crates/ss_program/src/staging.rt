@@ -203,8 +203,8 @@ pub fn say<D: Disk, K: Sink>(
     say_text(store, waiting, text.as_str().as_bytes(), disk, sink)
 }
 
-// Stages an event, and answers the reply to it. Where memory runs out the store can still be called, and shows what it did.
-fn stage<D: Disk>(store: &mut Store, event: &Event, disk: &mut D) -> Result<Reply, Status>
+/// Stages an event, and answers the reply to it. Where memory runs out the store can still be called, and shows what it did.
+pub fn stage<D: Disk>(store: &mut Store, event: &Event, disk: &mut D) -> Result<Reply, Status>
     requires in_time { IsInTime event.now }
     requires serves { IsServing (D.seen disk.old) store.old }
     ensures stages { Step (disk_verdict (ended result)) (D.seen disk.old) (D.seen disk.new)

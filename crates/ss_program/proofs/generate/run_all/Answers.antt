@@ -1,6 +1,7 @@
-use Rattle.ss_program.proofs.Common.{◌≡◌, ℕ, Err, List, Option, length, map, sym, ap, subst, rules, arith, printed, Command, step-as, step-none, step-then}
-use Rattle.ss_program.proofs.Common.{NothingPending, StandsShort, History, plain_after}
-use Rattle.ss_program.proofs.GenerateLemmas.{AreSingle, IsAt, IsAt-end, IsAt-more, IsAt-start, IsAt-stop, single-commands}
+use Rattle.ss_program.proofs.Common.{◌≡◌, ◌∙◌, ℕ, Err, List, Option, length, sym, ap, subst, rules, arith, Command, step-as, step-none}
+use Rattle.ss_program.proofs.Common.{NothingPending, StandsShort, History}
+use Rattle.ss_program.proofs.GenerateLemmas.{AreSingle, IsAt, IsAt-end, IsAt-more, IsAt-start, IsAt-stop, IsAt-unsealed, single-commands}
+use Rattle.ss_program.proofs.StepLemmas.{step-third, step-told}
 use Rattle.ss_program.proofs.generate.run_all.Goals as goal
 
 pub loop-command-init : goal.loop-command-init
@@ -16,9 +17,9 @@ loop-command-init g c =
       refused = omega (arith, lines, refused);
       is_open = c.requires.open;
       at = step-none disk (λ old now. NothingPending old → (used : Option ℕ) (history : History) → StandsShort used history old.content →
-          IsAt used history c.args.seed c.args.count c.new-generator.result old now c.new-tally.result) (λ told none used history stands.
-          IsAt-start used history c.args.seed c.args.count c.new-generator.result disk.told c.new-tally.result c.new-generator.ensures.commands
-          (g.met.D.Disk.knows_now c.args.disk.now told) none stands c.new-tally.ensures);
+          IsAt used history c.args.seed c.args.count c.new-generator.result c.args.store.now.records old now c.new-tally.result) (λ told none used history stands.
+          IsAt-start used history c.args.seed c.args.count c.new-generator.result c.args.store.now.records disk.told c.new-tally.result c.new-generator.ensures.commands
+          (g.met.D.Disk.knows_now c.args.disk.now told) none c.requires.open.sealed stands c.new-tally.ensures);
     }
 
 pub loop-command-preserved : goal.loop-command-preserved
@@ -26,46 +27,51 @@ loop-command-preserved g c =
     let next = c.in-Some.ensures.next in
     let fewer = ap (λ (cs : List Command). length cs) next in
     let inv = c.loop-command.invariant in
-    let old = (g.D.Disk.seen c.args.disk.now).told in
-    let mid = (g.D.Disk.seen c.loop-command.disk).told in
-    let new = (g.D.Disk.seen c.reply_to.new.disk).told in
+    let stages = c.in_ok-reply.ensures.stages in
+    let seals = c.in-Ok.ensures.seals in
     record {
       single = (subst (λ cs. AreSingle cs) next inv.single).1;
       lines = omega (arith, c.take.ensures.lines, inv.lines, fewer);
       done = c.take.ensures.done;
       refused = c.take.ensures.refused;
-      is_open = c.in_ok-reply.ensures.open;
-      at = step-then inv.at c.in_ok-reply.ensures.does (λ first does none used history stands.
-          let at = first none used history stands in
-          let here = plain_after history (map printed at.done) in
-          IsAt-more used history c.args.seed c.args.count c.loop-command.generator c.next.new.self c.in-Some.command old mid new c.in_ok-reply.reply
-          c.loop-command.tally c.take.new.self at next c.in-Some.ensures.sayable (does.adds here) (does.reply here at.ran.stands.0) c.take.ensures.tallies);
+      is_open = record {
+        serves = record { runs = c.in-Ok.ensures.runs; kept = λ told. (seals.told (sym seals.tells ∙ told)).kept };
+        sealed = c.in-Ok.ensures.sealed.sealed;
+      };
+      at = step-third inv.at stages seals (λ told at staged sealed none used history stands.
+          IsAt-more c.in-Some.command (at none used history stands) next c.in-Some.ensures.sayable c.in_ok-reply.reply
+          (g.met.D.Disk.knows_now c.stage_command.new.disk told) staged (g.met.D.Disk.knows_now c.seal.new.disk (seals.tells ∙ told)) c.in-Ok.field-0 c.take.new.self sealed.history
+          c.in-Ok.ensures.sealed.sealed c.take.ensures.tallies);
     }
 
 pub returns-in_err-reply-clause-runs : goal.returns-in_err-reply-clause-runs
 returns-in_err-reply-clause-runs g c =
-    let view = g.D.Disk.seen c.args.disk.now in
-    let then = g.D.Disk.seen c.reply_to.new.disk in
-    let old = view.told in
-    let mid = (g.D.Disk.seen c.loop-command.disk).told in
-    let new = then.told in
     let status = c.in_err-reply.field-0.0 in
     let same : c.from_residual.result ≡ Err status = search rules in
-    rw same
-    (step-then c.loop-command.invariant.at c.in_err-reply.ensures.does (λ first does. record {
+    let stages = c.in_err-reply.ensures.stages in
+    rw same (step-told c.loop-command.invariant.at stages (λ told at staged. record {
+      ok = tt;
+      stops = λ none used history stands. IsAt-stop c.in-Some.command (at none used history stands) c.in-Some.ensures.next c.in-Some.ensures.sayable
+          status (g.met.D.Disk.knows_now c.stage_command.new.disk (stages.tells ∙ told)) staged;
+    }))
+
+pub returns-in-Err-clause-runs : goal.returns-in-Err-clause-runs
+returns-in-Err-clause-runs g c =
+    let seals = c.in-Err.ensures.seals in
+    step-third c.loop-command.invariant.at c.in_ok-reply.ensures.stages seals (λ told at staged sealed. record {
       ok = tt;
       stops = λ none used history stands.
-          let at = first none used history stands in
-          IsAt-stop used history c.args.seed c.args.count c.loop-command.generator c.next.new.self c.in-Some.command old mid new
-          c.loop-command.tally (Err status) at c.in-Some.ensures.next c.in-Some.ensures.sayable (does.adds (plain_after history (map printed at.done)));
-    }))
+          IsAt-unsealed c.in-Some.command (at none used history stands) c.in-Some.ensures.next c.in-Some.ensures.sayable
+          c.in_ok-reply.reply (g.met.D.Disk.knows_now c.stage_command.new.disk told) staged
+          (g.met.D.Disk.knows_now c.seal.new.disk (seals.tells ∙ told)) c.in-Err.field-0 sealed.history;
+    })
 
 pub returns-clause-runs : goal.returns-clause-runs
 returns-clause-runs g c =
     let old = (g.D.Disk.seen c.args.disk.now).told in
     let new = (g.D.Disk.seen c.loop-command.disk).told in
     step-as c.loop-command.invariant.at (λ at. record {
-      ok = λ none used history stands. IsAt-end used history c.args.seed c.args.count c.loop-command.generator old new c.loop-command.tally (at none used history stands)
-          c.in_default.ensures.next.0;
+      ok = λ none used history stands. IsAt-end used history c.args.seed c.args.count c.loop-command.generator c.loop-command.store.records old new
+          c.loop-command.tally (at none used history stands) c.loop-command.invariant.is_open.sealed c.in_default.ensures.next.0;
       stops = tt;
     })

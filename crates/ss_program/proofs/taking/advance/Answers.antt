@@ -1,5 +1,5 @@
 use Rattle.ss_program.proofs.Common.{◌≡◌, ◌++◌, Ok, Err, take, ap, sym, ◌∙◌, subst, rules, option_copied, TellsStep, step_under_way, step-as, step-none, GoesAmid}
-use Rattle.ss_program.proofs.Common.{TakesBytes, amid, owed_by, ended, kept_so_far, kept_step, steps_so_far}
+use Rattle.ss_program.proofs.Common.{TakesBytes, amid, owed_by, kept_so_far, kept_step, steps_so_far}
 use Rattle.ss_program.proofs.AmidLemmas.{GoesAmid-none}
 use Rattle.ss_program.proofs.InputLemmas.{Stops-piece, Takes-kept, advance-told}
 use Rattle.ss_program.proofs.taking.advance.Goals as goal
