@@ -59,7 +59,7 @@ pub use Rattle.ss_recover.specs.Rebuilt.{HasParts, Rebuilds, RebuildsAs, verdict
 pub use Rattle.ss_recover.specs.Runs.{AreBuilt, AreSlotsOf, doomed_found, has_sound_values_in_order, has_sound_values_within, is_run, is_sound_in_order}
 pub use Rattle.ss_recover.specs.Runs.{IsLowestUnsound, marks_in, may_stand, stream_made, streams_made, WalksAs, windows_in}
 pub use Rattle.ss_recover.specs.Shown.{AddsName, AreMade, AreWindowsOf, all_closed, BuildsAs, EndsWalk, found_by, found_number, Grows, has_said_last}
-pub use Rattle.ss_recover.specs.Shown.{HasMarkRoom, HasMore, HasNothing, head_found, is_after, is_landmark, is_value, is_window, IsHeldOf, IsInside}
+pub use Rattle.ss_recover.specs.Shown.{HasMarkRoom, HasMore, HasNothing, is_after, is_landmark, is_value, is_window, IsHeldOf, IsInside}
 pub use Rattle.ss_recover.specs.Shown.{marks_shown, MarksShown, may_add, may_open, MayClose, MayCome, names_in, own_len, seen_next, TakesAs, TakesStream}
 pub use Rattle.ss_recover.specs.Shown.{with_closing, with_found}
 pub use Rattle.ss_recover.specs.Usable.{HasValidTimes, with_slot, IsUsable, slots_found, without_slots}

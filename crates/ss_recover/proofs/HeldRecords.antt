@@ -1,12 +1,12 @@
 -- The records of streams, as a walk takes them and as they are held, and those that the slots of a map spell.
 use Rattle.ss_recover.proofs.Common.{[], ◌++◌, ◌<◌, ◌∙◌, ◌∷◌, ◌≡◌, Agrees, all_value_records, all_values, AllAgree, AllByRecursion, ap, append-nil}
-use Rattle.ss_recover.proofs.Common.{append_assoc, ap₂, AreHeld, arith, cons_option, Created, created_by, each-behind, entries_of, Entry, eq-eqb, false, filter}
+use Rattle.ss_recover.proofs.Common.{append_assoc, ap₂, AreHeld, arith, cons_option, Created, created_by, entries_of, Entry, eq-eqb, false, filter}
 use Rattle.ss_recover.proofs.Common.{filter-append, filter_map, filter_map-append, flat_map, flat_map-append, Free, HasWholeSlots, is_mark_of, is_none}
-use Rattle.ss_recover.proofs.Common.{IsPermutation, IsPermutation-map, IsPermutation-refl, IsPermutation-trans, landmark_records, length, length-append}
-use Rattle.ss_recover.proofs.Common.{length-map, List, list_any, list_any-IsPermutation, map, map-append, map-map, mark_slots, marks_held, None, occupied}
-use Rattle.ss_recover.proofs.Common.{Option, range_with_len, Record, records_held, records_in, refl, seconds-zip, SlotMap, slots_held, Some, span_held, span_of}
-use Rattle.ss_recover.proofs.Common.{stands_by, Stream, stream_number, stream_of, stream_record, StreamParts, subst, sym, Window, window_of, window_record}
-use Rattle.ss_recover.proofs.Common.{window_slots, zip, ℕ, ℤ}
+use Rattle.ss_recover.proofs.Common.{IsPermutation, IsPermutation-map, IsPermutation-refl, IsPermutation-trans, landmark_records, length}
+use Rattle.ss_recover.proofs.Common.{length-append, length-map, List, list_any, list_any-IsPermutation, map, map-append, map-map, mark_slots, marks_held, None}
+use Rattle.ss_recover.proofs.Common.{occupied, Option, range_with_len, Record, records_held, records_in, refl, seconds-zip, SlotMap, slots_held, Some}
+use Rattle.ss_recover.proofs.Common.{span_held, span_of, stands_by, Stream, stream_number, stream_of, stream_record, StreamParts, subst, sym, Value, Window}
+use Rattle.ss_recover.proofs.Common.{window_of, window_record, window_slots, zip, ℕ, ℤ}
 use Rattle.ss_recover.specs.Carried.{spelled}
 use Rattle.ss_recover.proofs.InOrder.{Rise, Rise-split}
 use Rattle.ss_recover.proofs.Lists.{all-each, all_append, map-all}
@@ -107,11 +107,6 @@ all-own P s own = each-walked (λ r. P (stream_of r)) s own (λ n values start f
 pub all-all_walked : (P : ℕ → Type 0) (ss : List Stream) → AllByRecursion (λ s. P s.number) ss → AllByRecursion (λ r. P (stream_of r)) (all_walked ss)
 all-all_walked P [] all = tt
 all-all_walked P (s ∷ ss) all = all_append _ (walked s) (all_walked ss) (all-own P s all.0) (all-all_walked P ss all.1)
-
--- what holds of the numbers of their records holds of streams
-pub each-all_walked : (P : ℕ → Type 0) (ss : List Stream) → AllByRecursion (λ r. P (stream_of r)) (all_walked ss) → AllByRecursion (λ s. P s.number) ss
-each-all_walked P [] all = tt
-each-all_walked P (s ∷ ss) all = (all.0, each-all_walked P ss (each-behind _ (walked s) (all_walked ss) all))
 
 -- those of lower and of greater numbers are of other streams
 own-each : (xs ys : List Stream) → Rise (λ s. s.number) (xs ++ ys) → AllByRecursion (HasOwn (xs ++ ys)) ys

@@ -1,15 +1,15 @@
 -- What is held of a stream agrees with the one that its records make, and has these records.
 use Rattle.ss_recover.proofs.Common.{[], ◌&&◌, ◌++◌, ◌+◌, ◌∙◌, ◌∷◌, ◌≡◌, Agrees, all_value_records, AllAgree, AllByRecursion, ap, append-nil, append_assoc}
-use Rattle.ss_recover.proofs.Common.{ap₂, Bool, cond, Created, Entry, false, filter, filter-append, filter-map, flat_map, Found, found_by, Free, head_found}
-use Rattle.ss_recover.proofs.Common.{in_slots, is_landmark, is_own, is_value, is_window, IsHeldOf, IsPermutation, IsPermutation-append_comm}
-use Rattle.ss_recover.proofs.Common.{IsPermutation-cons, IsPermutation-map, IsPermutation-trans, IsUsable, Landmark, landmark_record, landmark_records}
-use Rattle.ss_recover.proofs.Common.{landmarks_made, LandmarkValue, later, latest_of, List, map, map-append, map-map, marks_in, newest_time, not}
-use Rattle.ss_recover.proofs.Common.{Record, records_held, refl, slots_found, Some, Stream, stream_made, stream_record, StreamParts, subst, sym, true, Value}
+use Rattle.ss_recover.proofs.Common.{ap₂, Bool, cond, Created, Entry, false, filter, filter-append, filter-map, flat_map, Found, found_by, Free, in_slots}
+use Rattle.ss_recover.proofs.Common.{is_landmark, is_own, is_value, is_window, IsHeldOf, IsPermutation, IsPermutation-append_comm, IsPermutation-cons}
+use Rattle.ss_recover.proofs.Common.{IsPermutation-map, IsPermutation-trans, IsUsable, Landmark, landmark_record, landmark_records, landmarks_made}
+use Rattle.ss_recover.proofs.Common.{LandmarkValue, later, latest_of, List, map, map-append, map-map, marks_in, newest_time, not, Record}
+use Rattle.ss_recover.proofs.Common.{records_held, refl, slots_found, Some, Stream, stream_made, stream_record, StreamParts, subst, sym, true, Value}
 use Rattle.ss_recover.proofs.Common.{value_records, Window, window_record, windows_held, windows_in, with_slot, without_slots, zip, ℕ}
 use Rattle.ss_line.specs.declared.entry.At.{At}
 use Rattle.ss_recover.proofs.Lists.{all-each, all_both, all_weaker, filter-none, filter-same, map-all}
 use Rattle.ss_recover.proofs.Marks.{each-mark_of, marks_of}
-use Rattle.ss_recover.proofs.RunStanding.{filter-const, in-three}
+use Rattle.ss_recover.proofs.RunStanding.{filter-const, in-three, own_found}
 use Rattle.ss_codec.specs.declared.record.Record.TheVariants as records
 
 -- of the records of landmarks, those of the landmarks and the others
@@ -119,7 +119,7 @@ module _ (part : StreamParts) (slot : ℕ) (head : Created) (rest : List Found) 
         in_slots slots rs ≡ map with_slot (found_by p rest)
     in-found p slots rs at are = ap₂ in_slots at are ∙ slots-records (found_by p rest)
 
-    windows-held : windows_held (part, s) ≡ map with_slot (head_found slot head ∷ found_by is_window rest)
+    windows-held : windows_held (part, s) ≡ map with_slot (own_found slot head false ∷ found_by is_window rest)
     windows-held =
         let none = filter-none is_window (marks_of head.number 1 ls)
         (each-mark_of (λ r. is_window r ≡ false) head.number (λ n values start finish. refl) (λ n index t v. refl) 1 ls) in
@@ -139,9 +139,9 @@ module _ (part : StreamParts) (slot : ℕ) (head : Created) (rest : List Found) 
 
     -- its records are those that were found, in another order
     pub held-found : AllByRecursion (λ (f : Found). IsUsable f.holds) rest → AllByRecursion (λ (f : Found). is_own f.holds ≡ false) rest →
-        IsPermutation (records_held (part, s)) (map with_slot (head_found slot head ∷ rest))
+        IsPermutation (records_held (part, s)) (map with_slot (own_found slot head false ∷ rest))
     held-found usable none =
-        let h = head_found slot head in
+        let h = own_found slot head false in
         let fs = found_by is_window rest in
         let us = found_by is_landmark rest ++ found_by is_value rest in
         let parts : records_held (part, s) ≡ map with_slot (h ∷ (fs ++ us)) =

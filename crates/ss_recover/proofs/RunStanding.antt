@@ -2,7 +2,7 @@
 use Rattle.ss_recover.proofs.Common.{[], ◌&&◌, ◌++◌, ◌∙◌, ◌∷◌, ◌≡◌, AllByRecursion, and-false, and-true, ap, Bool, cases_Bool, cond, Created, created_by}
 use Rattle.ss_recover.proofs.Common.{false, filter, filter_map-append, Found, Free, if◌then◌else◌, inl, inr, is_doomed, is_dropped, is_own, IsPermutation}
 use Rattle.ss_recover.proofs.Common.{IsPermutation-append_left, IsPermutation-sym, IsPermutation-trans, IsUsable, List, map, map-append, not, Record, refl}
-use Rattle.ss_recover.proofs.Common.{stands_by, stream_made, stream_of, streams_created, streams_made, streams_standing, subst, true}
+use Rattle.ss_recover.proofs.Common.{stands_by, stream_made, stream_of, streams_created, streams_made, streams_standing, subst, true, ℕ}
 use Rattle.ss_recover.proofs.Lists.{filter-all, filter-none}
 use Rattle.ss_recover.proofs.RunSound.{names_created}
 use Rattle.ss_codec.specs.declared.record.Record.TheVariants as records
@@ -15,6 +15,10 @@ names_created-append rs qs =
 pub streams_made-append : (us rs qs : List Record) → streams_made us (rs ++ qs) ≡ streams_made us rs ++ streams_made us qs
 streams_made-append us rs qs =
     ap (map (stream_made us)) (filter_map-append stands_by rs qs) ∙ map-append (stream_made us) (streams_standing rs) (streams_standing qs)
+
+-- a stream's own record in its slot
+abbrev pub own_found : ℕ → Created → Bool → Found
+own_found slot head dropped = record { slot = slot; holds = records.Stream head.number head.name head.params dropped }
 
 -- ---- records of dropped streams and those of streams that stand
 

@@ -16,7 +16,7 @@ use Rattle.ss_recover.proofs.SoundStreams.{IsInStep-keep_step, AreWindows-tile}
 use Rattle.ss_recover.proofs.Lists.{all-each, all-from_map, all-kept, all-passing, all_both, all_weaker, filter-none, map-all}
 use Rattle.ss_recover.proofs.RunSound.{AreBefore, alone-drops, before-back, dropped-run, IsRun, marks-run, names_created, next-run, own-alone}
 use Rattle.ss_recover.proofs.RunSound.{run-order, sound-run, windows-run}
-use Rattle.ss_recover.proofs.RunStanding.{filter-const, gone_found, names_created-append, standing_found, stands_in, streams_made-append}
+use Rattle.ss_recover.proofs.RunStanding.{filter-const, gone_found, names_created-append, own_found, standing_found, stands_in, streams_made-append}
 use Rattle.ss_recover.proofs.SoundNumbers.{all-false}
 use Rattle.ss_recover.proofs.WholeSlots.{all-window_of}
 use Rattle.ss_codec.specs.declared.record.Record.TheVariants as records
@@ -72,10 +72,6 @@ alone-stands : (rs : List Record) → filter_map created_by rs ≡ [] → stream
 alone-stands [] none = refl
 alone-stands (records.Stream id name params dropped ∷ rs) none = cc
 alone-stands (_ ∷ rs) none = alone-stands rs none
-
--- a stream's own record in its slot
-abbrev pub own_found : ℕ → Created → Bool → Found
-own_found slot head dropped = record { slot = slot; holds = records.Stream head.number head.name head.params dropped }
 
 -- A run whose first record is a stream's own.
 module _ (all front : List Found) (slot : ℕ) (head : Created) (dropped : Bool) (rest back : List Found)

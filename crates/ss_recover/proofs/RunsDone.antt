@@ -5,13 +5,13 @@ use Rattle.ss_recover.proofs.Common.{Err, false, filter, filter-append, flat_map
 use Rattle.ss_recover.proofs.Common.{is_own, is_run, is_sound_in_order, IsLowestUnsound, IsPermutation, IsPermutation-append_right, IsPermutation-map}
 use Rattle.ss_recover.proofs.Common.{IsPermutation-refl, IsPermutation-trans, IsUsable, length, List, list_any, list_any-append, map, map-append, MOST_RECORDS}
 use Rattle.ss_recover.proofs.Common.{names_in, not, Ok, or_left, or_right, OutOfMemory, own_len, Parts, Record, records_held, RecoverError, recursion_from_All}
-use Rattle.ss_recover.proofs.Common.{refl, Result, Rises, slots_found, Stream, stream_made, stream_of, StreamParts, streams_made, subst, sym, take, taken}
+use Rattle.ss_recover.proofs.Common.{refl, Result, Rises, slots_found, stream_made, stream_of, StreamParts, streams_made, subst, sym, take, taken}
 use Rattle.ss_recover.proofs.Common.{TakesAs, TakesStream, true, Walk, WalksAs, with_slot, without_slots, zip, ℕ}
 use Rattle.ss_recover.proofs.RunHeld.{AllAgree-append, held-agrees, held-append, held-found}
 use Rattle.ss_recover.proofs.Lists.{all-each, all-from_map, all_append, all_weaker, map-all}
 use Rattle.ss_recover.proofs.RunSound.{AreBefore, before-back, IsRun, names_created, next-run, sound-run, whole-run}
-use Rattle.ss_recover.proofs.RunStanding.{doomed-gone, gone_found, in-three, names_created-append, standing_found, stands_in, streams_made-append}
-use Rattle.ss_recover.proofs.RunStream.{heads-gone, IsState-sound, made-run, names-run, others-each, others-gone, own_found, rest-order, stands-run}
+use Rattle.ss_recover.proofs.RunStanding.{doomed-gone, gone_found, in-three, names_created-append, own_found, standing_found, stands_in, streams_made-append}
+use Rattle.ss_recover.proofs.RunStream.{heads-gone, IsState-sound, made-run, names-run, others-each, others-gone, rest-order, stands-run}
 use Rattle.ss_codec.specs.declared.record.Record.TheVariants as records
 use Rattle.std.proofs.lemmas.List.Sorted.{IsPermutation-append}
 

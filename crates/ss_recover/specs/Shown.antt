@@ -85,10 +85,6 @@ abbrev pub is_window : Record → Bool
 is_window (records.Window id first summary) = true
 is_window _ = false
 
--- the stream's own record
-abbrev pub head_found : ℕ → Created → Found
-head_found slot head = record { slot = slot; holds = records.Stream head.number head.name head.params false }
-
 abbrev pub found_by : (Record → Bool) → List Found → List Found
 found_by p all = filter (λ (f : Found). p f.holds) all
 
