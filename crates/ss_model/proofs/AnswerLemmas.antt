@@ -1,18 +1,17 @@
 -- What the answers of states hold.
-use Rattle.ss_model.proofs.Common.{◌≡◌, ℕ, Bool, true, false, List, [], map, refl, ap, sym, ◌∙◌, subst, Some, None, inl, inr, IsSome, arith, Option}
-use Rattle.ss_model.proofs.Common.{option_map, is_some, filter, cases_Bool, ints, is_guess, Kind, Query, AreAllSplit, is_free, Point, HasEnds, HoldsTruth}
-use Rattle.ss_model.proofs.Common.{IsExactOutcome, IsOfKind, answer_of, split_by, landmarks_of, marked_of, values_of, Happened, is_split, split_figures}
-use Rattle.ss_model.proofs.Common.{split_windows, marked_values, SameOutlines, IsHistory, stands, IsStream, Created, Stream, standing, stream_after}
-use Rattle.ss_model.proofs.Common.{stream_named, RiseAtFree, rule_of, windows, Outcome, Window}
+use Rattle.ss_model.proofs.Common.{◌≡◌, ℕ, Bool, true, false, List, [], map, refl, ap, sym, ◌∙◌, subst, Some, None, inl, inr, IsSome, arith, Option, option_map}
+use Rattle.ss_model.proofs.Common.{is_some, filter, cases_Bool, ints, is_guess, Kind, Query, AreAllSplit, is_free, Point, HasEnds, HoldsTruth, IsExactOutcome}
+use Rattle.ss_model.proofs.Common.{IsOfKind, answer_of, split_by, landmarks_of, marked_of, values_of, Happened, is_split, split_figures, split_windows}
+use Rattle.ss_model.proofs.Common.{marked_values, AllKeptAlike, IsHistory, stands, IsStream, Created, Stream, standing, stream_after, stream_named, RiseAtFree}
+use Rattle.ss_model.proofs.Common.{rule_of, windows, Outcome, Window}
 use Rattle.ss_catalog.specs.declared.query.Kind.TheVariants as kinds
 use Rattle.ss_bounds.proofs.GuessLemmas.{count_guess-within, sum_guess-within}
-use Rattle.ss_model.specs.Answers.{answer_of_kind, interval_query, outcome_of}
-use Rattle.ss_model.specs.Answers.{refuses_query, unguessed}
+use Rattle.ss_model.specs.Answers.{answer_of_kind, interval_query, outcome_of, refuses_query, unguessed}
 use Rattle.ss_model.specs.Interval.{known_count, known_sum}
 use Rattle.ss_model.specs.State.{state}
 use Rattle.ss_model.proofs.HistoryLemmas.{IsState-state}
-use Rattle.ss_model.proofs.IntervalLemmas.{AreExactlyOf, AreOf-exactly, count-lies, sum-lies, least-HoldsExtreme, greatest-HoldsExtreme}
-use Rattle.ss_model.proofs.IntervalLemmas.{count-exact, sum-exact, least-exact, greatest-exact}
+use Rattle.ss_model.proofs.IntervalLemmas.{AreExactlyOf, AreOf-exactly, count-lies, sum-lies, least-HoldsExtreme, greatest-HoldsExtreme, count-exact, sum-exact}
+use Rattle.ss_model.proofs.IntervalLemmas.{least-exact, greatest-exact}
 use Rattle.ss_model.proofs.OutlineLemmas.{read-outlines}
 use Rattle.ss_model.proofs.PieceLemmas.{AreExactlyOf-windows}
 use Rattle.ss_model.proofs.PresenceLemmas.{presence-holds}
@@ -143,7 +142,7 @@ answer-known streams query accepted = elim (cases_Bool (stands query.name stream
   | inr unknown ↦ (let wrong = rw unknown at accepted in cc)
 ]
 
-pub refused-alike : (streams others : List Stream) (query : Query) → SameOutlines streams others → refuses_query streams query ≡ refuses_query others query
+pub refused-alike : (streams others : List Stream) (query : Query) → AllKeptAlike streams others → refuses_query streams query ≡ refuses_query others query
 unfolding refuses_query
 refused-alike streams others query same =
     let known = read-outlines is_some (λ s u alike. refl) query.name streams others same in

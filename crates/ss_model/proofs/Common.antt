@@ -70,7 +70,8 @@ pub use Rattle.ss_model.specs.Joins.{JoinsDue}
 pub use Rattle.ss_model.specs.Marks.{has_open, later, latest_of, lies_free, marked_values, with_closed, with_marked, with_opened}
 pub use Rattle.ss_model.specs.Newest.{newer, newest_in, newest_of}
 pub use Rattle.ss_model.specs.NewestTruth.{HoldsNewest, IsNewest, NewestLiesWithin, kept_point}
-pub use Rattle.ss_model.specs.Outline.{Outline, SameOutline, SameOutlines, outline_named, outline_of}
+pub use Rattle.ss_model.specs.KeptAlike.{AllKeptAlike, AreKeptAlike}
+pub use Rattle.ss_model.specs.Outline.{Outline, outline_named, outline_of}
 pub use Rattle.ss_model.specs.Refusals.{IsHistory, first_that_applies, has_all_records, has_all_streams, has_most_values, is_before, is_early, is_opening}
 pub use Rattle.ss_model.specs.Refusals.{is_past, of_outline, refuses, refuses_reading, stands}
 pub use Rattle.ss_model.specs.Series.{AnswersRow, refuses_series}

@@ -4,7 +4,7 @@ use Rattle.ss_model.proofs.Common.{Some, suc, drop, subst, take, inl, inr, All, 
 use Rattle.ss_model.proofs.Common.{cases_Bool, eq-eqb, ne_eqb, get_or-append_seam, get_or_append_left, length-append, length-map, take-append-drop, All-head}
 use Rattle.ss_model.proofs.Common.{All-tail, filter-append, sum_by-append, sum_by-cons, IsDistinct-head, IsDistinct-tail, IsDistinct-cons, same_name, Drop}
 use Rattle.ss_model.proofs.Common.{Unknown, stands, IsState, IsStream, Stream, live, names_of, numbers_of, records_of, stream_named, ack_of, stepped}
-use Rattle.ss_model.proofs.Common.{without_named}
+use Rattle.ss_model.proofs.Common.{without_named, first_that_applies, is_some, option_map, outline_of, Option}
 use Rattle.std.specs.Prelude.{filter}
 use Rattle.std.specs.List.{AllPairs, remove}
 use Rattle.std.proofs.Math.Seq.{drop-cons}
@@ -17,7 +17,6 @@ use Rattle.ss_model.specs.Refusals.{refuses}
 use Rattle.ss_model.specs.Steps.{said_of, stepped_from}
 use Rattle.ss_model.proofs.NameLemmas.{same_name-Decides, same_name-differ, same_name-same, same_name-swap}
 use Rattle.ss_model.proofs.FoundLemmas.{IsFound, stands-others}
-use Rattle.ss_model.proofs.Common.{first_that_applies, is_some, option_map, outline_of, Option}
 use Rattle.ss_model.proofs.StepLemmas.{filter-map}
 
 -- ---- a state of some of the streams of one
@@ -117,14 +116,15 @@ stream_named-without name other (s ∷ ss) apart =
 pub ack_of-dropped : (name : List ℕ) (streams : List Stream) → ack_of name (without_named name streams) ≡ record { n = 0; k = 0 }
 ack_of-dropped name streams = ap said_of (stream_named-dropped name streams)
 
--- a drop is refused where no stream of the name stands, and for nothing else
-refused-unknown : (o : Option Stream) → first_that_applies ((not (is_some (option_map outline_of o)), Unknown) ∷ []) ≡ (if is_some o then None else Some Unknown)
-refused-unknown None = refl
-refused-unknown (Some s) = refl
+unstood-refused : (o : Option Stream) →
+    first_that_applies ((not (is_some (option_map outline_of o)), Unknown) ∷ []) ≡ (if is_some o then None else Some Unknown)
+unstood-refused None = refl
+unstood-refused (Some s) = refl
 
+-- a drop is refused where no stream of the name stands, and for nothing else
 pub refuses-drop : (streams : List Stream) (name : List ℕ) → refuses streams (Drop name) ≡ (if stands name streams then None else Some Unknown)
 unfolding refuses
-refuses-drop streams name = refused-unknown (stream_named name streams)
+refuses-drop streams name = unstood-refused (stream_named name streams)
 
 -- ---- one stream taken out from among the others
 

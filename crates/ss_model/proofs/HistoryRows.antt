@@ -1,16 +1,17 @@
 -- Worked rows of histories, their states and refusals, each computed.
-use Rattle.ss_model.proofs.Common.{◌≡◌, ℕ, ◌+◌, ◌-◌, ◌^◌, true, false, List, [], ◌∷◌, ◌++◌, map, take, refl, Some, None, pos, negsuc, Option, Event}
-use Rattle.ss_model.proofs.Common.{Create, Value, Open, Drop, exp, power, Refusal, Param, Exists, Unknown, New, Old, Origin, CanBeSaid, Given, Happened}
-use Rattle.ss_model.proofs.Common.{added, given_after, landmarks_of, values_of, Stream, next_number, live, last_time, IsHistory, has_all_records}
-use Rattle.ss_model.proofs.Common.{has_all_streams, IsState, ack_of, stepped, without_named, row_of, placed_of, Window, MOST_RECORDS}
+use Rattle.ss_model.proofs.Common.{◌≡◌, ℕ, ◌+◌, ◌-◌, ◌^◌, true, false, List, [], ◌∷◌, ◌++◌, map, take, refl, Some, None, pos, negsuc, Option, Event, Create}
+use Rattle.ss_model.proofs.Common.{Value, Open, Drop, exp, power, Refusal, Param, Exists, Unknown, New, Old, Origin, CanBeSaid, Given, Happened, added}
+use Rattle.ss_model.proofs.Common.{given_after, landmarks_of, values_of, Stream, next_number, live, last_time, IsHistory, has_all_records, event_name}
+use Rattle.ss_model.proofs.Common.{first_that_applies, has_all_streams, numbers_of, outline_named, IsState, ack_of, stepped, without_named, row_of, placed_of}
+use Rattle.ss_model.proofs.Common.{Window, MOST_RECORDS}
 use Rattle.std.proofs.Common.{codes}
 use Rattle.std.specs.Prelude.{◌≤◌, length, replicate}
 use Rattle.ss_power.specs.Power.{power_length}
 use Rattle.ss_windowing.specs.Windowing.{window_index}
-use Rattle.ss_catalog.specs.declared.refusal.Refusal.TheVariants.{Streams, Time, StreamFull}
+use Rattle.ss_catalog.specs.declared.refusal.Refusal.TheVariants.{StoreFull, Streams, StreamFull, Time}
 use Rattle.ss_summary.specs.Filters.{bit_of, filter_of, full, union}
 use Rattle.ss_model.specs.State.{state}
-use Rattle.ss_model.specs.Refusals.{refuses, refuses_reading}
+use Rattle.ss_model.specs.Refusals.{refusals, refuses, refuses_reading}
 use Rattle.ss_model.specs.Steps.{stepped_from}
 use Rattle.ss_model.proofs.Rows.{readings_windows}
 use Rattle.ss_model.proofs.HistoryLemmas.{GoesOn-push, IsHistory-nil, IsHistory_push}
@@ -140,9 +141,18 @@ refusals-almost_full : refuses almost_full (Value a (2 ^ 40 + 1) (pos 0)) ≡ No
 unfolding refuses almost_full a
 refusals-almost_full = refl
 
--- no further record has a place where 2^20 stand
+-- no further record has a place where 2^20 stand, and an event is refused by how many the state needs
 records-limit : map has_all_records (1048575 ∷ 1048576 ∷ []) ≡ false ∷ true ∷ []
 records-limit = refl
+
+creates-limit : map (λ records. first_that_applies (refusals None [] records (Create a (exp 2 1 1)))) (1048575 ∷ 1048576 ∷ []) ≡ None ∷ Some StoreFull ∷ []
+unfolding a
+creates-limit = refl
+
+refuses-counted : (streams : List Stream) (event : Event) →
+    refuses streams event ≡ first_that_applies (refusals (outline_named (event_name event) streams) (numbers_of streams) (live streams) event)
+unfolding refuses
+refuses-counted streams event = refl
 
 -- a row says the number of its stream, and not its place
 shown-number : map (λ s. (row_of s).id.0) (bare 7 ∷ []) ≡ 7 ∷ []

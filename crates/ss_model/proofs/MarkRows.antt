@@ -1,8 +1,8 @@
 -- Worked rows of histories with landmarks, their states and refusals, each computed.
 use Rattle.ss_model.proofs.Common.{◌≡◌, ℕ, ◌+◌, ◌^◌, Bool, true, false, not, List, [], ◌∷◌, ◌++◌, map, take, refl, Some, None, pos, Option, Event, Create}
 use Rattle.ss_model.proofs.Common.{Value, Open, Close, exp, power, Refusal, Landmark, opened_at, filter_of, full, union, New, Old, landmarks_of, marked_of}
-use Rattle.ss_model.proofs.Common.{values_of, Happened, added, has_open, first_that_applies, is_before, is_some, of_outline, outline_named, row_of, Stream, last_time, live}
-use Rattle.ss_model.proofs.Common.{ack_of, stepped, Window}
+use Rattle.ss_model.proofs.Common.{values_of, Happened, added, has_open, first_that_applies, is_before, is_some, of_outline, outline_named, row_of, Stream}
+use Rattle.ss_model.proofs.Common.{last_time, live, ack_of, stepped, Window}
 use Rattle.std.proofs.Common.{codes}
 use Rattle.ss_power.specs.Power.{power_length}
 use Rattle.ss_windowing.specs.Windowing.{window_index}

@@ -1,9 +1,9 @@
 -- Where values are from changes nothing but the filters of windows.
 use Rattle.ss_model.proofs.Common.{ℤ, ◌+ℤ◌, int_min, int_max, get_or, refl, ap, ap₂, sym, ◌∙◌, subst, inl, inr, arith, cases_Bool, length-map, map-append}
 use Rattle.ss_model.proofs.Common.{Event, Create, Value, Open, Close, Drop, Figures, unfiltered, Point, Origin, Old, greatest, least, summary_of, time_at_end}
-use Rattle.ss_model.proofs.Common.{boundaries, Given, Happened, creates, given_after, given_to, is_for, values_of, landmarks_of, nothing_given, has_open}
-use Rattle.ss_model.proofs.Common.{later, latest_of, Created, Stream, standing, standing_after, stream_after, Rule, rule_of, newest_time, stretches, taken}
-use Rattle.ss_model.proofs.Common.{time_at, windows, Window, SameOutline, SameOutlines, IsHistory, refuses}
+use Rattle.ss_model.proofs.Common.{boundaries, Given, Happened, creates, given_after, given_to, is_for, values_of, landmarks_of, nothing_given, has_open, later}
+use Rattle.ss_model.proofs.Common.{latest_of, Created, Stream, standing, standing_after, stream_after, Rule, rule_of, newest_time, stretches, taken, time_at}
+use Rattle.ss_model.proofs.Common.{windows, Window, AreKeptAlike, AllKeptAlike, IsHistory, refuses}
 use Rattle.std.specs.Prelude.{◌≡◌, ℕ, zero, suc, ◌+◌, ◌-◌, ◌<◌, true, List, [], ◌∷◌, ◌++◌, map, take, drop, length}
 use Rattle.std.proofs.lemmas.List.{take-map, drop-map}
 use Rattle.std.proofs.lemmas.List.Folds.{fold-map}
@@ -162,7 +162,7 @@ newest-unfiltered [] = refl
 newest-unfiltered (w ∷ []) = refl
 newest-unfiltered (w ∷ v ∷ ws) = newest-unfiltered (v ∷ ws)
 
-outline-unfiltered : (s : Stream) → SameOutline (unfiltered_stream s) s
+outline-unfiltered : (s : Stream) → AreKeptAlike (unfiltered_stream s) s
 outline-unfiltered s = record {
   number = refl;
   name = refl;
@@ -173,7 +173,7 @@ outline-unfiltered s = record {
   last_time = ap (λ t. later t (latest_of s.landmarks)) (newest-unfiltered s.windows);
 }
 
-pub outlines-unfiltered : (ss : List Stream) → SameOutlines (map unfiltered_stream ss) ss
+pub outlines-unfiltered : (ss : List Stream) → AllKeptAlike (map unfiltered_stream ss) ss
 outlines-unfiltered [] = tt
 outlines-unfiltered (s ∷ ss) = (outline-unfiltered s, outlines-unfiltered ss)
 

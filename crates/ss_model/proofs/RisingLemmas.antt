@@ -1,12 +1,11 @@
 -- The values of a stream of a history that lie outside landmarks stand at rising times, and no landmark covers any of them.
-use Rattle.ss_model.proofs.Common.{◌≡◌, ℕ, ◌+◌, ◌<◌, ◌≤◌, Bool, true, false, not, ◌&&◌, List, [], ◌∷◌, ◌++◌, map, refl, ap, sym, ◌∙◌, subst, arith, Some}
-use Rattle.ss_model.proofs.Common.{None, length, inl, inr, All, ◌==◌, option_map_or, cases_Bool, nat_tests, All-head, All-tail, event_name, same_name, Event}
-use Rattle.ss_model.proofs.Common.{Create, Value, Open, Close, Drop, is_free, Landmark, open_landmark, AreLandmarks, Point, Origin, Given, given_after}
-use Rattle.ss_model.proofs.Common.{given_to, is_for, landmarks_of, values_of, Happened, has_open, later, latest_of, with_closed, with_marked, with_opened}
-use Rattle.ss_model.proofs.Common.{IsHistory, is_before, is_early, is_opening, is_past, refuses, IsStream, rule_of, Created, Stream, standing, stream_after}
-use Rattle.ss_model.proofs.Common.{Outline, of_outline, option_map, outline_of, stream_named, last_time, RiseAtFree, time_of_last}
-use Rattle.std.proofs.Common.{ℤ}
-use Rattle.std.proofs.Common.{Option, is_some}
+use Rattle.ss_model.proofs.Common.{◌≡◌, ℕ, ◌+◌, ◌<◌, ◌≤◌, Bool, true, false, not, ◌&&◌, List, [], ◌∷◌, ◌++◌, map, refl, ap, sym, ◌∙◌, subst, arith, Some, None}
+use Rattle.ss_model.proofs.Common.{length, inl, inr, All, ◌==◌, option_map_or, cases_Bool, nat_tests, All-head, All-tail, event_name, same_name, Event, Create}
+use Rattle.ss_model.proofs.Common.{Value, Open, Close, Drop, is_free, Landmark, open_landmark, AreLandmarks, Point, Origin, Given, given_after, given_to}
+use Rattle.ss_model.proofs.Common.{is_for, landmarks_of, values_of, Happened, has_open, later, latest_of, with_closed, with_marked, with_opened, IsHistory}
+use Rattle.ss_model.proofs.Common.{is_before, is_early, is_opening, is_past, refuses, IsStream, rule_of, Created, Stream, standing, stream_after, Outline}
+use Rattle.ss_model.proofs.Common.{of_outline, option_map, outline_of, stream_named, last_time, RiseAtFree, time_of_last}
+use Rattle.std.proofs.Common.{ℤ, Option, is_some}
 use Rattle.ss_summary.specs.Summaries as summaries
 use Rattle.ss_model.specs.State.{state}
 use Rattle.ss_model.proofs.EventLemmas.{given_to-created, given_to-event, given_to-other}

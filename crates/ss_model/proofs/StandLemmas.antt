@@ -1,13 +1,13 @@
 -- What every state meets, through one step.
-use Rattle.ss_model.proofs.Common.{◌≡◌, ℕ, ◌+◌, ◌<◌, ◌≤◌, Bool, false, not, List, [], ◌∷◌, ◌++◌, length, refl, ap, sym, ◌∙◌, arith, None, Some, subst, inl}
-use Rattle.ss_model.proofs.Common.{inr, All, Option, FitsSigned, nat_le, ◌==◌, w64, list_any, cases_Bool, cond-false, cond-true, cond_both}
-use Rattle.ss_model.proofs.Common.{eqb-false, not-false, nat_tests, length_push, length-append, length-map, map-append, All-nil, All-head, All-tail, All-cons, All-append}
-use Rattle.ss_model.proofs.Common.{All-push, sum_by-append, sum_by-cons, LAST_STREAM, LAST_TIME, Event, Create, Value, Open, Close, Drop, Params, IsPossible}
-use Rattle.ss_model.proofs.Common.{summary_of, MOST_VALUES, Point, Origin, closed, closed_onto, joined_window, may_join, IsInStep, CanBeSaid, has_open}
-use Rattle.ss_model.proofs.Common.{with_closed, with_marked, with_opened, has_all_records, is_before, is_early, has_most_values, is_past, of_outline, outline_named, outline_of, refuses}
-use Rattle.ss_model.proofs.Common.{IsStream, IsState, Rule, rule_of, Stream, next_number, numbers_of, names_of, stream_named, values_in, last_time, live}
-use Rattle.ss_model.proofs.Common.{records_of, change_named, single_window, with_taken, with_plain_value, MOST_RECORDS, Window}
-use Rattle.ss_model.proofs.Common.{Outline, option_map}
+use Rattle.ss_model.proofs.Common.{◌≡◌, ℕ, ◌+◌, ◌<◌, ◌≤◌, Bool, false, not, List, [], ◌∷◌, ◌++◌, length, refl, ap, sym, ◌∙◌, arith, None, Some, subst, inl, inr}
+use Rattle.ss_model.proofs.Common.{All, Option, FitsSigned, nat_le, ◌==◌, w64, list_any, cases_Bool, cond-false, cond-true, cond_both, eqb-false, not-false}
+use Rattle.ss_model.proofs.Common.{nat_tests, length_push, length-append, length-map, map-append, All-nil, All-head, All-tail, All-cons, All-append, All-push}
+use Rattle.ss_model.proofs.Common.{sum_by-append, sum_by-cons, LAST_STREAM, LAST_TIME, Event, Create, Value, Open, Close, Drop, Params, IsPossible, summary_of}
+use Rattle.ss_model.proofs.Common.{MOST_VALUES, Point, Origin, closed, closed_onto, joined_window, may_join, IsInStep, CanBeSaid, has_open, with_closed}
+use Rattle.ss_model.proofs.Common.{with_marked, with_opened, has_all_records, is_before, is_early, has_most_values, is_past, of_outline, outline_named}
+use Rattle.ss_model.proofs.Common.{outline_of, refuses, IsStream, IsState, Rule, rule_of, Stream, next_number, numbers_of, names_of, stream_named, values_in}
+use Rattle.ss_model.proofs.Common.{last_time, live, records_of, change_named, single_window, with_taken, with_plain_value, MOST_RECORDS, Window, Outline}
+use Rattle.ss_model.proofs.Common.{option_map}
 use Rattle.std.proofs.Common.{ℤ}
 use Rattle.std.specs.List.{IsDistinct}
 use Rattle.std.proofs.lemmas.Bool.{or_parts}
@@ -19,8 +19,8 @@ use Rattle.ss_model.specs.Steps.{stepped_from}
 use Rattle.ss_model.proofs.DropLemmas.{IsState-without}
 use Rattle.ss_model.proofs.FoundLemmas.{IsFound, found, changed-found, stream_named-at, below_next, IsStrictlyIncreasing_push, IsDistinct_push, All-around}
 use Rattle.ss_model.proofs.StepLemmas.{CanCreate, CanAppend, CanOpenAt, CanCloseAt, CanCreate-refuses, CanAppend-refuses, CanOpenAt-refuses, CanCloseAt-refuses}
-use Rattle.ss_model.proofs.StreamLemmas.{IsStream-closed, IsStream-marked, IsStream-opened, IsStream-value, past-early, records_of-closed}
-use Rattle.ss_model.proofs.StreamLemmas.{records_of-marked, records_of-opened}
+use Rattle.ss_model.proofs.StreamLemmas.{IsStream-closed, IsStream-marked, IsStream-opened, IsStream-value, past-early, records_of-closed, records_of-marked}
+use Rattle.ss_model.proofs.StreamLemmas.{records_of-opened}
 use Rattle.ss_model.proofs.Tiles.{AreWindows-nil}
 
 -- closing makes no windows

@@ -1,13 +1,12 @@
 -- The state of a history with one more event.
 use Rattle.ss_model.proofs.Common.{◌≡◌, ℕ, Bool, not, true, false, List, [], ◌∷◌, ◌++◌, map, refl, ap, sym, ◌∙◌, arith, None, Some, inl, inr, if◌then◌else◌}
-use Rattle.ss_model.proofs.Common.{cases_Bool, cond_both, map-append, fold-append, common_steps, event_name, same_name, Event, Create, Value, Open, Close}
-use Rattle.ss_model.proofs.Common.{Drop, Params, Refusal, has_target, Point, Origin, Given, creates, given_after, given_to, Happened, has_open, with_closed}
-use Rattle.ss_model.proofs.Common.{with_opened, rule_of, Created, Stream, next_number, numbers_of, live, standing_after, standing, stream_after, stream_named, stands}
-use Rattle.ss_model.proofs.Common.{has_all_streams, has_all_records, is_before, is_early, has_most_values, is_past, first_that_applies, of_outline, outline_named, outline_of}
-use Rattle.ss_model.proofs.Common.{change_named, with_taken, with_plain_value, without_named, windows}
+use Rattle.ss_model.proofs.Common.{cases_Bool, cond_both, map-append, fold-append, common_steps, event_name, same_name, Event, Create, Value, Open, Close, Drop}
+use Rattle.ss_model.proofs.Common.{Params, Refusal, has_target, Point, Origin, Given, creates, given_after, given_to, Happened, has_open, with_closed}
+use Rattle.ss_model.proofs.Common.{with_opened, rule_of, Created, Stream, next_number, numbers_of, live, standing_after, standing, stream_after, stream_named}
+use Rattle.ss_model.proofs.Common.{stands, has_all_streams, has_all_records, is_before, is_early, has_most_values, is_past, first_that_applies, of_outline}
+use Rattle.ss_model.proofs.Common.{outline_named, outline_of, change_named, with_taken, with_plain_value, without_named, windows, option_map}
 use Rattle.std.proofs.Common.{ℤ}
 use Rattle.std.specs.Prelude.{Option, filter, is_some}
-use Rattle.ss_model.proofs.Common.{option_map}
 use Rattle.ss_catalog.specs.declared.refusal.Refusal.TheVariants as refusal
 use Rattle.ss_model.specs.State.{state}
 use Rattle.ss_model.specs.Refusals.{refuses}

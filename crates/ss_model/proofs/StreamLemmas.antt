@@ -1,10 +1,10 @@
 -- A stream with one more event is a stream again.
 use Rattle.ss_model.proofs.Common.{◌≡◌, ℕ, ◌+◌, ◌<◌, ◌≤◌, true, false, not, ◌&&◌, List, [], ◌∷◌, ◌++◌, length, refl, ap, sym, subst, ◌∙◌, arith, None, Some}
 use Rattle.ss_model.proofs.Common.{MatchOption, inl, inr, FitsSigned, ◌==◌, is_some, w64, list_all, option_map_or, and_from, and_parts, cases_Bool, eq-eqb}
-use Rattle.ss_model.proofs.Common.{eqb-true, not-false, nat_tests, length_push, All-nil, All-push, list_all-append, LAST_TIME, is_free, Landmark}
-use Rattle.ss_model.proofs.Common.{LandmarkValue, all_values, closed_at, open_landmark, opened_at, IsPossible, summary_of, MOST_VALUES, Point, closed}
-use Rattle.ss_model.proofs.Common.{IsInStep, JoinsDue, has_open, lies_free, with_closed, with_marked, with_opened, is_before, is_early, is_opening, is_past}
-use Rattle.ss_model.proofs.Common.{IsStream, outline_of, rule_of, Stream, last_time, records_of, values_in, single_window, with_plain_value, newest_time, Window}
+use Rattle.ss_model.proofs.Common.{eqb-true, not-false, nat_tests, length_push, All-nil, All-push, list_all-append, LAST_TIME, is_free, Landmark, LandmarkValue}
+use Rattle.ss_model.proofs.Common.{all_values, closed_at, open_landmark, opened_at, IsPossible, summary_of, MOST_VALUES, Point, closed, IsInStep, JoinsDue}
+use Rattle.ss_model.proofs.Common.{has_open, lies_free, with_closed, with_marked, with_opened, is_before, is_early, is_opening, is_past, IsStream, outline_of}
+use Rattle.ss_model.proofs.Common.{rule_of, Stream, last_time, records_of, values_in, single_window, with_plain_value, newest_time, Window}
 use Rattle.std.proofs.Common.{ℤ, Option}
 use Rattle.std.specs.Prelude.{IsNone}
 use Rattle.ss_landmarks.specs.Landmark as landmark

@@ -12,6 +12,7 @@ pub mod Refusals
 pub mod Standing
 pub mod Steps
 pub mod Shown
+pub mod KeptAlike
 pub mod Outline
 pub mod Origins
 pub mod Truth

@@ -6,7 +6,7 @@ ghost use Rattle.ss_catalog.specs.declared.query.Query.{Query};
 ghost use Rattle.ss_model.specs.Answers.{HasEnds, HoldsTruth, IsExactOutcome, IsOfKind, interval_query, outcome_of};
 ghost use Rattle.ss_model.specs.Answers.{refuses_query, split_by};
 ghost use Rattle.ss_model.specs.History.{marked_of, values_of, Happened};
-ghost use Rattle.ss_model.specs.Outline.{SameOutlines};
+ghost use Rattle.ss_model.specs.KeptAlike.{AllKeptAlike};
 ghost use Rattle.ss_model.specs.Refusals.{IsHistory};
 ghost use Rattle.ss_model.specs.State.{Stream, state};
 ghost use Rattle.ss_model.specs.declared.outcome.Outcome.{Outcome};
@@ -26,7 +26,7 @@ pub fn outcomes_hold_the_truth()
 /// A query that isn't refused has an answer. It is refused alike in states of which a store keeps the same in memory.
 pub fn queries_are_refused_or_answered()
     ensures answered { (streams : List Stream) (query : Query) → refuses_query streams query ≡ None → IsSome (outcome_of streams query) }
-    ensures outlines { (streams others : List Stream) (query : Query) → SameOutlines streams others →
+    ensures outlines { (streams others : List Stream) (query : Query) → AllKeptAlike streams others →
         refuses_query streams query ≡ refuses_query others query }
 {}
 
