@@ -8,17 +8,17 @@ pub use Rattle.ss_codec.proofs.RecordLemmas.{decoded-spelling, decoded-Spells, i
 pub use Rattle.ss_codec.proofs.RecordLemmas.{IsWindow-is_valid, spelling-free, Spells-decoded}
 pub use Rattle.ss_codec.specs.declared.record.Record.{Record}
 pub use Rattle.ss_codec.specs.declared.record.Record.TheVariants.{Free, Value}
-pub use Rattle.ss_journal.proofs.MapLemmas.{SameMap-refl, slot_within}
-pub use Rattle.ss_journal.proofs.RedoLemmas.{redo-born, redo-neither, redo-unborn, StandsFor-from, StandsFor-parts, StandsFor-same}
-pub use Rattle.ss_journal.proofs.StepLemmas.{after-step, step-from, step-pair, step-refused}
+pub use Rattle.ss_journal.proofs.MapLemmas.{SameMap-refl}
+pub use Rattle.ss_journal.proofs.RedoLemmas.{StandsFor-from, StandsFor-same}
+pub use Rattle.ss_journal.proofs.StepLemmas.{step-from, step-pair, step-refused}
 pub use Rattle.ss_journal.specs.Kept.{IsKept, IsSealed, JournalState, shown}
-pub use Rattle.ss_journal.specs.Puts.{FillSlots, with_put, with_puts}
-pub use Rattle.ss_journal.specs.Redo.{blank_map, changed, file_map, not_a_store, puts_in_use, redo, SameMap, SlotMap, stands, StandsFor, zeros}
+pub use Rattle.ss_journal.specs.Puts.{with_put}
+pub use Rattle.ss_journal.specs.Redo.{changed, SameMap, SlotMap, StandsFor, zeros}
 pub use Rattle.ss_journal.specs.declared.format.TheConstants.{MOST_SLOTS}
 pub use Rattle.ss_journal.specs.declared.put.Put.{Put}
 pub use Rattle.ss_landmarks.proofs.OrderLemmas.{cases-finish, RiseFrom_push}
 pub use Rattle.ss_landmarks.proofs.TimeLemmas.{AllEndBy-later}
-pub use Rattle.ss_landmarks.specs.Free.{free, is_free, is_up_to}
+pub use Rattle.ss_landmarks.specs.Free.{is_up_to}
 pub use Rattle.ss_landmarks.specs.Landmark.{all_values, change_last, closed_at, Landmark, LandmarkValue, open_landmark, opened_at, with_value}
 pub use Rattle.ss_landmarks.specs.Landmarks.{AreKnown}
 pub use Rattle.ss_landmarks.specs.Order.{AllEndBy, AreLandmarks, CanOpen, EndsBy, FollowFrom, IsLandmark, RiseFrom}
@@ -60,13 +60,13 @@ pub use Rattle.ss_recover.specs.Runs.{AreBuilt, AreSlotsOf, doomed_found, has_so
 pub use Rattle.ss_recover.specs.Runs.{IsLowestUnsound, marks_in, may_stand, stream_made, streams_made, WalksAs, windows_in}
 pub use Rattle.ss_recover.specs.Shown.{AddsName, AreMade, AreWindowsOf, all_closed, BuildsAs, EndsWalk, found_by, found_number, Grows, has_said_last}
 pub use Rattle.ss_recover.specs.Shown.{HasMarkRoom, HasMore, HasNothing, is_after, is_landmark, is_value, is_window, IsHeldOf, IsInside}
-pub use Rattle.ss_recover.specs.Shown.{marks_shown, MarksShown, may_add, may_open, MayClose, MayCome, names_in, own_len, seen_next, TakesAs, TakesStream}
+pub use Rattle.ss_recover.specs.Shown.{marks_shown, MarksShown, may_add, may_open, MayClose, MayCome, names_in, run_len, seen_next, TakesAs, TakesStream}
 pub use Rattle.ss_recover.specs.Shown.{with_closing, with_found}
 pub use Rattle.ss_recover.specs.Usable.{HasValidTimes, with_slot, IsUsable, slots_found, without_slots}
 pub use Rattle.ss_recover.specs.declared.found.Found.{Found}
 pub use Rattle.ss_recover.specs.declared.gathering.Gathered.{Gathered}
 pub use Rattle.ss_recover.specs.declared.marking.Last.{Last}
-pub use Rattle.ss_recover.specs.declared.marking.Seen.{Seen}
+pub use Rattle.ss_recover.specs.declared.marking.MarksSeen.{MarksSeen}
 pub use Rattle.ss_recover.specs.declared.parts.Parts.{Parts}
 pub use Rattle.ss_parts.specs.declared.parts.StreamParts.{StreamParts}
 pub use Rattle.ss_recover.specs.declared.recover_error.RecoverError.{RecoverError}
@@ -81,19 +81,19 @@ pub use Rattle.std.proofs.Common.{ap₂, arith, Bool, cond, drop, eqb, Err, fals
 pub use Rattle.std.proofs.Common.{IsPermutation, IsTrue, leb, leb-true, length, length-append, List, ltb, map, MatchOption, max, min, nat_eq, None, not}
 pub use Rattle.std.proofs.Common.{Ok, Option, pos, refl, replicate, Result, rules, set, Some, subst, suc, swap, sym, take, true, zero, ℕ, ℤ}
 pub use Rattle.std.proofs.Math.Bool.{and-false, and-true, and_assoc, or-false}
-pub use Rattle.std.proofs.Math.Seq.{drop-append_seam, drop-cons, take-add, take-append_seam}
+pub use Rattle.std.proofs.Math.Seq.{drop-cons}
 pub use Rattle.std.proofs.lemmas.Bool.{and_cases, and_from, and_left, and_parts, and_right, cases_Bool, cases_eq, cases_lt, cases_order, cond-false, cond-true}
 pub use Rattle.std.proofs.lemmas.Bool.{cond_both, eq-eqb, eqb-true, false_from_ne_true, le-leb, le-ltb, leb-false, lt-leb, lt-ltb, ltb-true, ne_eqb, not-true}
 pub use Rattle.std.proofs.lemmas.Bool.{not_from_false, or_cases, or_from, or_left, or_parts, or_right, true≢false}
 pub use Rattle.std.proofs.lemmas.Bool.Decides.{nat_tests}
-pub use Rattle.std.proofs.lemmas.List.{drop-drop, length-drop, length-map, length-replicate, length-set, length-take, map-append, map-id, take-append-drop}
-pub use Rattle.std.proofs.lemmas.List.{take_all, take_more, take_rest}
+pub use Rattle.std.proofs.lemmas.List.{length-drop, length-map, length-set, length-take, map-append, map-id, take-append-drop}
+pub use Rattle.std.proofs.lemmas.List.{take_more}
 pub use Rattle.std.proofs.lemmas.List.Concat.{flat_map-append}
-pub use Rattle.std.proofs.lemmas.List.Elements.{All-drop, All-from_recursion, All-head, All-nil, All-push, All-tail, All-take, filter-append, filter_map-append}
+pub use Rattle.std.proofs.lemmas.List.Elements.{All-from_recursion, All-head, All-nil, All-push, All-tail, filter-append, filter_map-append}
 pub use Rattle.std.proofs.lemmas.List.Elements.{recursion_from_All}
 pub use Rattle.std.proofs.lemmas.List.Folds.{list_all-append, list_any-append}
 pub use Rattle.std.proofs.lemmas.List.FromFn.{get_or-map-range_with_len, length-map-range_with_len, length-range_with_len}
-pub use Rattle.std.proofs.lemmas.List.Sorted.{All-permutation, answers_always, IsNonDecreasingBy-from_sort, IsPartitionedBy-leb, IsPartitionPoint-from_clause}
+pub use Rattle.std.proofs.lemmas.List.Sorted.{All-permutation, answers_always, IsNonDecreasingBy-from_sort}
 pub use Rattle.std.proofs.lemmas.List.Sorted.{IsPermutation-append_comm, IsPermutation-append_left, IsPermutation-append_right, IsPermutation-cons}
 pub use Rattle.std.proofs.lemmas.List.Sorted.{IsPermutation-keeps, IsPermutation-map, IsPermutation-middle, IsPermutation-refl, IsPermutation-sym}
 pub use Rattle.std.proofs.lemmas.List.Sorted.{IsPermutation-trans, length_permutation, list_any-IsPermutation, sum_by-IsPermutation}

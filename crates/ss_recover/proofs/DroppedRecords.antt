@@ -9,7 +9,8 @@ use Rattle.ss_recover.proofs.Common.{stream_number, stream_of, streams_carried, 
 use Rattle.ss_recover.proofs.Common.{true≢false, window_of, without_numbered, ℕ}
 use Rattle.ss_recover.specs.Conditions.{is_sound}
 use Rattle.ss_recover.proofs.InOrder.{all-in_order}
-use Rattle.ss_recover.proofs.Lists.{all-each, all_append, all_both, all_weaker, filter-all, filter_map-kept, kept}
+use Rattle.ss_model.proofs.FoundLemmas.{each-append}
+use Rattle.ss_recover.proofs.Lists.{all-each, all_both, all_weaker, filter-all, filter_map-kept, kept}
 use Rattle.ss_recover.proofs.SoundStreams.{digit, none-passes, own_step-fewer, stands_alone}
 use Rattle.ss_recover.proofs.SoundNumbers.{all-false, AreSound, HaveSameValues, is_numbered, is_sound-kept, none-stands, none_bad-AreSound, one-dropped}
 use Rattle.ss_recover.proofs.SoundNumbers.{one-sound, standing-any, stream_carried-same}
@@ -75,7 +76,7 @@ numbers-without P xs ys r id is all =
     let back = each-behind P (filter_map stream_number xs) (id ∷ filter_map stream_number ys) parts in (
       back.0,
       subst (AllByRecursion P) (sym (filter_map-append stream_number xs (records.Free ∷ ys)))
-          (all_append P (filter_map stream_number xs) (filter_map stream_number ys)
+          (each-append P (filter_map stream_number xs) (filter_map stream_number ys)
           (each-front P (filter_map stream_number xs) (id ∷ filter_map stream_number ys) parts) back.1),
     )
 

@@ -50,7 +50,7 @@ own_step-each (s ∷ ss) rise each =
           ss (all-from_map (λ (c : Created). s.number < c.number) created ss rise.0) (own_step-each ss rise.1 each.1),
     )
 
--- the streams of a state, where what is made of their records is made of records
+-- the streams of a state, where whatever is made of their records is made of these
 module _ (streams : List Stream) (records : List Record) (state : IsState streams)
     (made : (Y : Type 0) (f : Record → Option Y) → f Free ≡ None → IsPermutation (filter_map f (all_walked streams)) (filter_map f records)) where
   rise_created : Rise (λ (s : Created). s.number) (map created streams)

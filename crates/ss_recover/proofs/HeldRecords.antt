@@ -9,7 +9,8 @@ use Rattle.ss_recover.proofs.Common.{span_held, span_of, stands_by, Stream, stre
 use Rattle.ss_recover.proofs.Common.{window_of, window_record, window_slots, zip, ℕ, ℤ}
 use Rattle.ss_recover.specs.Carried.{spelled}
 use Rattle.ss_recover.proofs.InOrder.{Rise, Rise-split}
-use Rattle.ss_recover.proofs.Lists.{all-each, all_append, map-all}
+use Rattle.ss_model.proofs.FoundLemmas.{each-append}
+use Rattle.ss_recover.proofs.Lists.{all-each, map-all}
 use Rattle.ss_recover.proofs.Marks.{each-mark_of, IsPermutation-walked, length-all_value_records, length-landmark_records, marks_of, own-marks}
 use Rattle.ss_recover.proofs.RunSound.{marks-own, windows-own}
 use Rattle.ss_recover.proofs.WholeSlots.{filter_map-filled, list_any-filled, zeros_are_free}
@@ -61,7 +62,7 @@ each-walked : (P : Record → Type 0) (s : Stream) → P (stream_record s) →
     ((n index t : ℕ) (v : ℤ) → P (records.Value s.number n index t v)) → ((w : Window) → P (window_record s.number w)) → AllByRecursion P (walked s)
 each-walked P s own landmark value window = (
   own,
-  all_append P (marks_of s.number 1 s.landmarks) (map (window_record s.number) s.windows) (each-mark_of P s.number landmark value 1 s.landmarks)
+  each-append P (marks_of s.number 1 s.landmarks) (map (window_record s.number) s.windows) (each-mark_of P s.number landmark value 1 s.landmarks)
       (map-all P (window_record s.number) s.windows (all-each (λ w. P (window_record s.number w)) window s.windows)),
 )
 
@@ -73,7 +74,7 @@ standing-all_walked ss = made-same stands_by created_by (all_walked ss) (go ss) 
   where
     go : (ss : List Stream) → AllByRecursion (λ r. stands_by r ≡ created_by r) (all_walked ss)
     go [] = tt
-    go (s ∷ ss) = all_append _ (walked s) (all_walked ss) (stands-walked s) (go ss)
+    go (s ∷ ss) = each-append _ (walked s) (all_walked ss) (stands-walked s) (go ss)
 
 pub own-windows : (number : ℕ) (ws : List Window) → filter_map (window_of number) (map (window_record number) ws) ≡ ws
 own-windows number [] = refl
@@ -106,7 +107,7 @@ all-own P s own = each-walked (λ r. P (stream_of r)) s own (λ n values start f
 
 pub all-all_walked : (P : ℕ → Type 0) (ss : List Stream) → AllByRecursion (λ s. P s.number) ss → AllByRecursion (λ r. P (stream_of r)) (all_walked ss)
 all-all_walked P [] all = tt
-all-all_walked P (s ∷ ss) all = all_append _ (walked s) (all_walked ss) (all-own P s all.0) (all-all_walked P ss all.1)
+all-all_walked P (s ∷ ss) all = each-append _ (walked s) (all_walked ss) (all-own P s all.0) (all-all_walked P ss all.1)
 
 -- those of lower and of greater numbers are of other streams
 own-each : (xs ys : List Stream) → Rise (λ s. s.number) (xs ++ ys) → AllByRecursion (HasOwn (xs ++ ys)) ys

@@ -8,7 +8,7 @@ use Rattle.ss_recover.proofs.Common.{Landmark, landmarks_in, LandmarkValue, Last
 use Rattle.ss_recover.proofs.Common.{length-append, List, list_all, lt-ltb, ltb-true, map, map-append, Marked, marked_by, marked_on, marked_with, marks_in}
 use Rattle.ss_recover.proofs.Common.{MarksShown, MatchOption, max, may_add, may_open, MayClose, MayCome, MOST_RECORDS, nat_le, nat_lt, nat_tests, None}
 use Rattle.ss_recover.proofs.Common.{nothing_marked, open_landmark, opened_at, Option, option_and_then, option_map_or, option_to_list, Record}
-use Rattle.ss_recover.proofs.Common.{recursion_from_All, refl, Seen, seen_next, slots_found, Some, stream_of, subst, sym, true, with_closing, with_found}
+use Rattle.ss_recover.proofs.Common.{recursion_from_All, refl, MarksSeen, seen_next, slots_found, Some, stream_of, subst, sym, true, with_closing, with_found}
 use Rattle.ss_recover.proofs.Common.{with_value, without_slots, ℕ}
 use Rattle.std.specs.Prelude.{option_map}
 use Rattle.ss_landmarks.specs.Order.{CanClose, IsClosedBefore}
@@ -35,7 +35,7 @@ next_from l = fold max l.start (map (λ (value : LandmarkValue). value.t + 1) l.
 abbrev last_of : ℕ → Landmark → Last
 last_of said l = record { finish = l.finish; said = said; values = length l.values; from = next_from l }
 
-abbrev seen : Marked → Seen
+abbrev seen : Marked → MarksSeen
 seen m = record { count = length (landmarks_in m); last = option_map (last_of m.said) m.last }
 
 abbrev marked : List Landmark → Option Landmark → ℕ → Marked
@@ -64,7 +64,7 @@ same-add before l said number index t =
     (and_assoc (index == length l.values + 1) (nat_le l.start t) (list_all (λ (value : LandmarkValue). nat_lt value.t t) l.values)
     ∙ ap (λ b. index == length l.values + 1 && b) (after-values l.start t l.values))
 
-same-if : (b c : Bool) (next : Marked) (s : Seen) → b ≡ c → (b ≡ true → s ≡ seen next) → cond c (Some s) None ≡ option_map seen (cond b (Some next) None)
+same-if : (b c : Bool) (next : Marked) (s : MarksSeen) → b ≡ c → (b ≡ true → s ≡ seen next) → cond c (Some s) None ≡ option_map seen (cond b (Some next) None)
 same-if true c next s same is = ap (λ d. cond d (Some s) None) (sym same) ∙ ap Some (is refl)
 same-if false c next s same is = ap (λ d. cond d (Some s) None) (sym same)
 
@@ -100,7 +100,7 @@ seen-with before last said (records.Stream number name params dropped) = refl
 seen-with before last said (records.Window number first summary) = refl
 
 -- the records that are left may come, and the last landmark has all its values then
-abbrev pub ends_whole : Seen → List Record → Bool
+abbrev pub ends_whole : MarksSeen → List Record → Bool
 ends_whole seen [] = has_said_last seen.last
 ends_whole seen (r ∷ rs) = option_map_or (λ next. ends_whole next rs) (seen_next seen r) false
 

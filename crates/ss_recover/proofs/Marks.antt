@@ -9,7 +9,8 @@ use Rattle.ss_recover.proofs.Common.{LATEST_TIME, le-leb, length, length-append,
 use Rattle.ss_recover.proofs.Common.{nothing_marked, Option, option_map_or, place_of, Record, recursion_from_All, refl, RiseFrom, Some, Stream, stream_record}
 use Rattle.ss_recover.proofs.Common.{subst, sym, true, value_records, values_said, window_record, with_value, ℕ, ℤ}
 use Rattle.ss_recover.proofs.InOrder.{in_order-IsPermutation, Rise}
-use Rattle.ss_recover.proofs.Lists.{all-each, all_append, all_weaker, filter-all, list_all-each}
+use Rattle.ss_model.proofs.FoundLemmas.{each-append}
+use Rattle.ss_recover.proofs.Lists.{all-each, all_weaker, filter-all, list_all-each}
 use Rattle.ss_codec.specs.declared.record.Record.TheVariants as records
 
 -- the records of landmarks numbered from here on, each followed by those of its values
@@ -99,7 +100,7 @@ module _ (P : Record → Type 0) (number : ℕ)
   each-mark_of n [] = tt
   each-mark_of n (l ∷ ls) = (
     landmark n (values_said l) l.start l.finish,
-    all_append P (value_records number n 1 l.values) (marks_of number (n + 1) ls) (each-value_record n 1 l.values) (each-mark_of (n + 1) ls),
+    each-append P (value_records number n 1 l.values) (marks_of number (n + 1) ls) (each-value_record n 1 l.values) (each-mark_of (n + 1) ls),
   )
 
 -- the records of a stream as a walk takes them, and as they are held
@@ -267,7 +268,7 @@ all-marks-from : (number n low : ℕ) (ls : List Landmark) → low ≤ n * 2 ^ 3
 all-marks-from number n low [] le = tt
 all-marks-from number n low (l ∷ ls) le = (
   omega (arith, le),
-  all_append _ (value_records number n 1 l.values) (marks_of number (n + 1) ls)
+  each-append _ (value_records number n 1 l.values) (marks_of number (n + 1) ls)
       (all-values-from number n 1 low l.values (omega (arith, le))) (all-marks-from number (n + 1) low ls (omega (arith, le))),
 )
 
@@ -275,7 +276,7 @@ Rise-values : (number n index : ℕ) (values : List LandmarkValue) (rest : List 
     AllByRecursion (λ r. (n + 1) * 2 ^ 32 ≤ place_of r) rest → Rise place_of rest → Rise place_of (value_records number n index values ++ rest)
 Rise-values number n index [] rest few above rise = rise
 Rise-values number n index (value ∷ values) rest few above rise = (
-  all_append _ (value_records number n (index + 1) values) rest
+  each-append _ (value_records number n (index + 1) values) rest
       (all_weaker _ _ (λ r le. omega (arith, le))
       (value_records number n (index + 1) values) (all-values-from number n (index + 1) (n * 2 ^ 32 + (index + 1)) values (omega arith)))
       (all_weaker _ _ (λ r le. omega (arith, le, few)) rest above),
@@ -290,7 +291,7 @@ Rise-marks_of number n (l ∷ ls) few =
     let long = length-append values rest in
     let own = length-value_records number n 1 l.values in
     let above = all-marks-from number (n + 1) ((n + 1) * 2 ^ 32) ls (omega arith) in (
-      all_append _ values rest
+      each-append _ values rest
           (all_weaker _ _ (λ r le. omega (arith, le)) values (all-values-from number n 1 (n * 2 ^ 32 + 1) l.values (omega arith)))
           (all_weaker _ _ (λ r le. omega (arith, le)) rest above),
       Rise-values number n 1 l.values rest (omega (arith, few, long, own)) above (Rise-marks_of number (n + 1) ls (omega (arith, few, long))),

@@ -5,10 +5,11 @@ use Rattle.ss_recover.proofs.Common.{filter-append, filter_map, filter_map-appen
 use Rattle.ss_recover.proofs.Common.{has_place, has_sound_values_in_order, has_sound_values_within, is_drop_of, is_dropped, is_mark_of, is_own, is_run}
 use Rattle.ss_recover.proofs.Common.{is_sound_in_order, IsUsable, keep_own_step, keep_step, landmarks_made, length, length-map, lies_free, List}
 use Rattle.ss_recover.proofs.Common.{list_all, list_any, list_any-append, map, map-append, marks_in, MOST_STREAMS, nat_lt, nat_tests, ne_eqb, not, or-false}
-use Rattle.ss_recover.proofs.Common.{or_from, own_len, place_of, Record, refl, Rises, same_name, step_number, stream_of, streams_created, subst, suc}
+use Rattle.ss_recover.proofs.Common.{or_from, run_len, place_of, Record, refl, Rises, same_name, step_number, stream_of, streams_created, subst, suc}
 use Rattle.ss_recover.proofs.Common.{sym, take, take-append-drop, tile, times_rise, true, Value, Window, window_of, window_record, windows_in, without_slots}
 use Rattle.ss_recover.proofs.Common.{ℕ}
-use Rattle.ss_recover.proofs.Lists.{all_append, all_both, all_weaker, map-all}
+use Rattle.ss_model.proofs.FoundLemmas.{each-append}
+use Rattle.ss_recover.proofs.Lists.{all_both, all_weaker, map-all}
 use Rattle.ss_codec.specs.declared.record.Record.TheVariants as records
 use Rattle.ss_recover.proofs.SoundStreams.{own_step-one, own_step-parts, count-at, count-below, new-name}
 
@@ -25,7 +26,7 @@ key-le a b p q small_p small_q le = omega arith
 key-place : (a b p q : ℕ) → a * 2 ^ 65 + p ≤ b * 2 ^ 65 + q → b ≡ a → p ≤ q
 key-place a b p q le same = let same' : b * 2 ^ 65 ≡ a * 2 ^ 65 = ap (λ (n : ℕ). n * 2 ^ 65) same in omega (arith, le, same')
 
--- their streams rise, and in one stream their places
+-- the numbers of the streams of sorted records rise, and so do their places in one stream
 streams-rise : (fs : List Found) → Rises found_key fs → AllByRecursion (λ f. IsUsable f.holds) fs → Rises found_number fs
 streams-rise [] rises usable = tt
 streams-rise (f ∷ fs) rises usable = (
@@ -48,26 +49,26 @@ Rises-parts key (x ∷ xs) ys rises = let rest = Rises-parts key xs ys rises.1 i
 
 -- the first records that are of a number, and those behind them
 module _ (n : ℕ) where
-  pub own-taken : (fs : List Found) → AllByRecursion (λ f. found_number f ≡ n) (take (own_len n fs) fs)
+  pub own-taken : (fs : List Found) → AllByRecursion (λ f. found_number f ≡ n) (take (run_len n fs) fs)
   own-taken [] = tt
   own-taken (f ∷ fs) =
-      cond_both (found_number f == n) (suc (own_len n fs)) 0 (λ (k : ℕ). AllByRecursion (λ g. found_number g ≡ n) (take k (f ∷ fs)))
+      cond_both (found_number f == n) (suc (run_len n fs)) 0 (λ (k : ℕ). AllByRecursion (λ g. found_number g ≡ n) (take k (f ∷ fs)))
       (λ is. (eqb-true _ _ is, own-taken fs)) (λ other. tt)
 
   above-dropped : (fs : List Found) → AllByRecursion (λ f. n ≤ found_number f) fs → Rises found_number fs →
-      AllByRecursion (λ f. n < found_number f) (drop (own_len n fs) fs)
+      AllByRecursion (λ f. n < found_number f) (drop (run_len n fs) fs)
   above-dropped [] low rises = tt
   above-dropped (f ∷ fs) low rises =
-      cond_both (found_number f == n) (suc (own_len n fs)) 0 (λ (k : ℕ). AllByRecursion (λ g. n < found_number g) (drop k (f ∷ fs)))
+      cond_both (found_number f == n) (suc (run_len n fs)) 0 (λ (k : ℕ). AllByRecursion (λ g. n < found_number g) (drop k (f ∷ fs)))
       (λ is. above-dropped fs low.1 rises.1) (λ other.
       let least = low.0 in
       let above : n < found_number f = grind (arith, nat_tests) in
       (above, all_weaker _ _ (λ g le. omega (arith, above, le)) fs rises.0))
 
-  pub own-within : (fs : List Found) → own_len n fs ≤ length fs
+  pub own-within : (fs : List Found) → run_len n fs ≤ length fs
   own-within [] = omega arith
   own-within (f ∷ fs) =
-      cond_both (found_number f == n) (suc (own_len n fs)) 0 (λ (k : ℕ). k ≤ suc (length fs)) (λ is. omega (arith, own-within fs)) (λ other. omega arith)
+      cond_both (found_number f == n) (suc (run_len n fs)) 0 (λ (k : ℕ). k ≤ suc (length fs)) (λ is. omega (arith, own-within fs)) (λ other. omega arith)
 
 -- ---- the records of a number are sound, among those of others, where they are a run
 
@@ -258,12 +259,12 @@ pub record IsRun (all front : List Found) (f : Found) (rest back : List Found) :
 
 -- the next ones, where records of lower numbers came
 pub next-run : (all front : List Found) (f : Found) (tail rest back : List Found) → all ≡ front ++ f ∷ tail → AreBefore front (f ∷ tail) →
-    AllByRecursion (λ g. IsUsable g.holds) all → Rises found_key all → rest ≡ take (own_len (found_number f) tail) tail →
-    back ≡ drop (own_len (found_number f) tail) tail → IsRun all front f rest back
+    AllByRecursion (λ g. IsUsable g.holds) all → Rises found_key all → rest ≡ take (run_len (found_number f) tail) tail →
+    back ≡ drop (run_len (found_number f) tail) tail → IsRun all front f rest back
 next-run all front f tail rest back whole before usable order rest_is back_is =
     let n = found_number f in
     let own = subst (AllByRecursion (λ g. found_number g ≡ n)) (sym rest_is) (own-taken n tail) in
-    let split : rest ++ back ≡ tail = ap₂ ◌++◌ rest_is back_is ∙ take-append-drop (own_len n tail) tail in
+    let split : rest ++ back ≡ tail = ap₂ ◌++◌ rest_is back_is ∙ take-append-drop (run_len n tail) tail in
     let parted : all ≡ front ++ ((f ∷ rest) ++ back) = whole ∙ ap (λ l. front ++ f ∷ l) (sym split) in
     let usable_left = each-behind _ front ((f ∷ rest) ++ back) (subst (AllByRecursion (λ g. IsUsable g.holds)) parted usable) in
     let order_left = (Rises-parts found_key front ((f ∷ rest) ++ back) (subst (Rises found_key) parted order)).1 in
@@ -319,7 +320,7 @@ module _ (all front : List Found) (f : Found) (rest back : List Found) (is : IsR
   -- what comes before a run and the run itself come before what comes behind it
   pub before-back : AreBefore (front ++ f ∷ rest) back
   before-back =
-      all_weaker _ _ (λ g more. all_append _ front (f ∷ rest) (all_weaker _ _ (λ p lt. omega (arith, lt, more)) front is.lower)
+      all_weaker _ _ (λ g more. each-append _ front (f ∷ rest) (all_weaker _ _ (λ p lt. omega (arith, lt, more)) front is.lower)
       (more, all_weaker _ _ (λ p same. omega (arith, same, more)) rest is.own)) back is.above
 
 -- what comes at or after a window is no record of a landmark or of a value

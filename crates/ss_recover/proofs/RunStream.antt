@@ -5,7 +5,7 @@ use Rattle.ss_recover.proofs.Common.{false, filter-append, filter_map, Found, fo
 use Rattle.ss_recover.proofs.Common.{is_own, is_run, is_sound_in_order, IsDistinct, IsDistinct-cons, IsDistinct-from_apart, IsState, IsStream, IsUsable}
 use Rattle.ss_recover.proofs.Common.{keep_step, landmarks_made, length, length-append, length-drop, length-filter, length-map, lies_free, List, list_all}
 use Rattle.ss_recover.proofs.Common.{list_any, list_any-append, live, ltb-true, map, map-append, marks_in, MOST_RECORDS, MOST_STREAMS, names_of, nat_lt, not}
-use Rattle.ss_recover.proofs.Common.{not-true, or-false, or_parts, own_len, Record, records_of, refl, Rises, same_name, same_name-swap, step_number, Stream}
+use Rattle.ss_recover.proofs.Common.{not-true, or-false, or_parts, run_len, Record, records_of, refl, Rises, same_name, same_name-swap, step_number, Stream}
 use Rattle.ss_recover.proofs.Common.{stream_made, stream_of, streams_made, streams_standing, subst, suc, sum_by-cons, sym, take, take-append-drop, tile}
 use Rattle.ss_recover.proofs.Common.{times_rise, true, Window, window_record, windows_in, without_slots, zero, ℕ}
 use Rattle.ss_recover.proofs.HeldRecords.{all_walked, walked}
@@ -240,13 +240,13 @@ behind-step all front slot head false rest back is run kept ss above behind =
     }
 
 -- those of some records that are of streams that stand, and the streams that they make
-abbrev Stand : List Found → List Found → List Found → Type 0
-Stand all front left =
+abbrev IsStandingAmong : List Found → List Found → List Found → Type 0
+IsStandingAmong all front left =
     AreBehind front (without_slots (standing_found (without_slots all) left)) (streams_made (without_slots all) (without_slots left))
 
 behind-run : (all front : List Found) (slot : ℕ) (r : Record) (rest back : List Found) → IsRun all front (record { slot = slot; holds = r }) rest back →
-    is_run (names_created (without_slots front)) (r ∷ without_slots rest) ≡ true → Stand all (front ++ record { slot = slot; holds = r } ∷ rest) back →
-    Stand all front ((record { slot = slot; holds = r } ∷ rest) ++ back)
+    is_run (names_created (without_slots front)) (r ∷ without_slots rest) ≡ true → IsStandingAmong all (front ++ record { slot = slot; holds = r } ∷ rest) back →
+    IsStandingAmong all front ((record { slot = slot; holds = r } ∷ rest) ++ back)
 behind-run all front slot (records.Stream id name params dropped) rest back is run behind =
     let us = without_slots all in
     let head : Created = record { number = id; name = name; params = params } in
@@ -263,10 +263,10 @@ behind-run all front slot (records.Stream id name params dropped) rest back is r
     rw (stands, made) (behind-step all front slot head dropped rest back is run _ _ (standing-above us id back is.above) behind)
 behind-run all front slot _ rest back is run behind = absurd (cc)
 
--- where each number is sound
+-- the walk goes on to the end where the number of each record that is left is sound
 walk : (all : List Found) (most : ℕ) (front left : List Found) → all ≡ front ++ left → length left ≤ most → AreBefore front left →
     AllByRecursion (λ f. IsUsable f.holds) all → Rises found_key all →
-    AllByRecursion (λ f. is_sound_in_order (without_slots all) (found_number f) ≡ true) left → Stand all front left
+    AllByRecursion (λ f. is_sound_in_order (without_slots all) (found_number f) ≡ true) left → IsStandingAmong all front left
 walk all most front [] whole few before usable order sound = record {
   order = refl;
   sound = tt;
@@ -277,7 +277,7 @@ walk all most front [] whole few before usable order sound = record {
 }
 walk all zero front (f ∷ tail) whole few before usable order sound = absurd (omega (arith, few))
 walk all (suc most) front (f ∷ tail) whole few before usable order sound =
-    let k = own_len (found_number f) tail in
+    let k = run_len (found_number f) tail in
     let rest = take k tail in
     let back = drop k tail in
     let is = next-run all front f tail rest back whole before usable order refl refl in
@@ -285,7 +285,7 @@ walk all (suc most) front (f ∷ tail) whole few before usable order sound =
     (subst (AllByRecursion (λ g. is_sound_in_order (without_slots all) (found_number g) ≡ true)) (sym (take-append-drop k tail)) sound.1) in
     let behind = walk all most (front ++ f ∷ rest) back (is.whole ∙ sym (append_assoc front (f ∷ rest) back)) (omega (arith, few, length-drop k tail))
     (before-back all front f rest back is) usable order sounds in
-    subst (λ l. Stand all front (f ∷ l)) (take-append-drop k tail)
+    subst (λ l. IsStandingAmong all front (f ∷ l)) (take-append-drop k tail)
     (behind-run all front f.slot f.holds rest back is (sym (sound-run all front f rest back is) ∙ sound.0) behind)
 
 pub IsState-sound : (all : List Found) → AllByRecursion (λ f. IsUsable f.holds) all → Rises found_key all →

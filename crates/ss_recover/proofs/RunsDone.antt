@@ -4,11 +4,12 @@ use Rattle.ss_recover.proofs.Common.{ap₂, AreBuilt, AreSlotsOf, arith, BadSlot
 use Rattle.ss_recover.proofs.Common.{Err, false, filter, filter-append, flat_map, Found, found_key, found_number, HasMore, HasNothing, IfErr, IfOk, is_dropped}
 use Rattle.ss_recover.proofs.Common.{is_own, is_run, is_sound_in_order, IsLowestUnsound, IsPermutation, IsPermutation-append_right, IsPermutation-map}
 use Rattle.ss_recover.proofs.Common.{IsPermutation-refl, IsPermutation-trans, IsUsable, length, List, list_any, list_any-append, map, map-append, MOST_RECORDS}
-use Rattle.ss_recover.proofs.Common.{names_in, not, Ok, or_left, or_right, OutOfMemory, own_len, Parts, Record, records_held, RecoverError, recursion_from_All}
+use Rattle.ss_recover.proofs.Common.{names_in, not, Ok, or_left, or_right, OutOfMemory, run_len, Parts, Record, records_held, RecoverError, recursion_from_All}
 use Rattle.ss_recover.proofs.Common.{refl, Result, Rises, slots_found, stream_made, stream_of, StreamParts, streams_made, subst, sym, take, taken}
 use Rattle.ss_recover.proofs.Common.{TakesAs, TakesStream, true, Walk, WalksAs, with_slot, without_slots, zip, ℕ}
 use Rattle.ss_recover.proofs.RunHeld.{AllAgree-append, held-agrees, held-append, held-found}
-use Rattle.ss_recover.proofs.Lists.{all-each, all-from_map, all_append, all_weaker, map-all}
+use Rattle.ss_model.proofs.FoundLemmas.{each-append}
+use Rattle.ss_recover.proofs.Lists.{all-each, all-from_map, all_weaker, map-all}
 use Rattle.ss_recover.proofs.RunSound.{AreBefore, before-back, IsRun, names_created, next-run, sound-run, whole-run}
 use Rattle.ss_recover.proofs.RunStanding.{doomed-gone, gone_found, in-three, names_created-append, own_found, standing_found, stands_in, streams_made-append}
 use Rattle.ss_recover.proofs.RunStream.{heads-gone, IsState-sound, made-run, names-run, others-each, others-gone, rest-order, stands-run}
@@ -55,7 +56,7 @@ module _ (us : List Record) (names : List (List ℕ)) (parts : List StreamParts)
     others_are = slots-both _ others others' done.others_are more.others_are;
     heads_are = slots-both _ heads heads' done.heads_are more.heads_are;
     sound = subst (AllByRecursion (λ r. is_sound_in_order us (stream_of r) ≡ true)) (sym whole)
-        (all_append _ (without_slots fs) (without_slots gs) done.sound more.sound);
+        (each-append _ (without_slots fs) (without_slots gs) done.sound more.sound);
   }
 
 -- the same of a walk
@@ -128,11 +129,11 @@ IsDoneTo-none all walk none =
 
 -- the next records, as many as are of the number of the first
 module _ (all left : List Found) (walk : Walk) (to : IsDoneTo all left walk) (order : Rises found_key all) (usable : All (λ (f : Found). IsUsable f.holds) all)
-    (f : Found) (tail : List Found) (is : left ≡ f ∷ tail) (n len : ℕ) (number : n ≡ found_number f) (long : len ≡ own_len n tail) (rest back : List Found)
+    (f : Found) (tail : List Found) (is : left ≡ f ∷ tail) (n len : ℕ) (number : n ≡ found_number f) (long : len ≡ run_len n tail) (rest back : List Found)
     (rest_is : rest ≡ take len tail) (back_is : back ≡ drop len tail) where
   next : IsRun all to.front f rest back
   next =
-      let same = long ∙ ap (λ m. own_len m tail) number in
+      let same = long ∙ ap (λ m. run_len m tail) number in
       next-run all to.front f tail rest back (to.whole ∙ ap (λ l. to.front ++ l) is) (subst (AreBefore to.front) is to.before)
       (recursion_from_All (λ (g : Found). IsUsable g.holds) all usable) order (rest_is ∙ ap (λ (k : ℕ). take k tail) same)
       (back_is ∙ ap (λ (k : ℕ). drop k tail) same)
@@ -168,8 +169,8 @@ module _ (all left : List Found) (walk : Walk) (to : IsDoneTo all left walk) (or
             ∙ or_right (list_any own (without_slots to.front)) _ (or_left (own f.holds) (list_any own (without_slots rest ++ without_slots back))
             (eq-eqb (found_number f) (found_number f) refl));
         unsound = sound-run all to.front f rest back next ∙ ap (λ ns. is_run ns (without_slots (f ∷ rest))) (sym to.done.names_are) ∙ runs.1;
-        lower = map-all _ (λ (g : Found). g.holds) all (subst (AllByRecursion Sound) (sym next.whole) (all_append Sound to.front ((f ∷ rest) ++ back)
-            (all_weaker _ Sound (λ g sound lt. sound) to.front front_sound) (all_append Sound (f ∷ rest) back
+        lower = map-all _ (λ (g : Found). g.holds) all (subst (AllByRecursion Sound) (sym next.whole) (each-append Sound to.front ((f ∷ rest) ++ back)
+            (all_weaker _ Sound (λ g sound lt. sound) to.front front_sound) (each-append Sound (f ∷ rest) back
             (all_weaker _ Sound (λ g same lt. absurd (omega (arith, same, lt))) (f ∷ rest) (refl, next.own))
             (all_weaker _ Sound (λ g above lt. absurd (omega (arith, above, lt))) back next.above))));
       })

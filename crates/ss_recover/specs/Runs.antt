@@ -69,7 +69,8 @@ is_sound_in_order records number =
     && has_new_name number (streams_created records)
     && (is_dropped number records || stands_sound_in_order records number)
 
--- the stream that records make of one that is created, and those that all records make of the ones that some of them say stand
+-- the stream that records in order make of one that is created (`stream_carried` sorts them first), and what all records make of the
+-- streams that some of them create and don't drop
 abbrev pub stream_made : List Record → Streams.Created → Streams.Stream
 stream_made records head = record {
   number = head.number;

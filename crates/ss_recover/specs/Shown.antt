@@ -33,7 +33,7 @@ use Rattle.ss_recover.specs.declared.parts.Parts.{Parts}
 use Rattle.ss_parts.specs.declared.parts.StreamParts.{StreamParts}
 use Rattle.ss_recover.specs.declared.marking.Last.{Last}
 use Rattle.ss_recover.specs.declared.marking.Marks.{Marks}
-use Rattle.ss_recover.specs.declared.marking.Seen.{Seen}
+use Rattle.ss_recover.specs.declared.marking.MarksSeen.{MarksSeen}
 use Rattle.ss_recover.specs.declared.windows.Windows.{Windows}
 use Rattle.ss_recover.specs.declared.walking.Walk.{Walk}
 use Rattle.ss_recover.specs.declared.recover_error.RecoverError.{RecoverError}
@@ -46,7 +46,7 @@ abbrev pub has_said_last : Option Last → Bool
 has_said_last last = option_map_or (λ c. is_none c.finish || c.values == c.said) last true
 
 -- a landmark of this number may open then
-abbrev pub may_open : Seen → ℕ → ℕ → Bool
+abbrev pub may_open : MarksSeen → ℕ → ℕ → Bool
 may_open seen number start =
     number == seen.count + 1
     && option_map_or (λ c. (is_none c.finish || c.values == c.said) && option_map_or (λ finish. nat_lt finish start) c.finish false) seen.last true
@@ -56,7 +56,7 @@ abbrev pub may_add : ℕ → Last → ℕ → ℕ → ℕ → Bool
 may_add count c number index t = number == count && (index == c.values + 1 && nat_le c.from t && is_up_to t c.finish)
 
 -- what is known then, if the record may come
-abbrev pub seen_next : Seen → Record → Option Seen
+abbrev pub seen_next : MarksSeen → Record → Option MarksSeen
 seen_next seen (records.Landmark id number values start finish) =
     if may_open seen number start
     then Some (record { count = number; last = Some (record { finish = finish; said = values; values = 0; from = start }) })
@@ -276,6 +276,6 @@ pub record EndsWalk (walk : Walk) (parts : Parts) : Type 0 where
 abbrev pub found_number : Found → ℕ
 found_number f = stream_of f.holds
 
-abbrev pub own_len : ℕ → List Found → ℕ
-own_len n [] = 0
-own_len n (f ∷ fs) = if found_number f == n then suc (own_len n fs) else 0
+abbrev pub run_len : ℕ → List Found → ℕ
+run_len n [] = 0
+run_len n (f ∷ fs) = if found_number f == n then suc (run_len n fs) else 0

@@ -31,12 +31,12 @@ pub struct Last {
 
 // How many landmarks came, and what is known of the last one.
 #[derive(Clone, Copy)]
-pub struct Seen {
+pub struct MarksSeen {
     pub count: u32,
     pub last: Option<Last>,
 }
 
-impl Seen {
+impl MarksSeen {
     // Whether the last landmark has the values that its record says, if it is to close.
     fn has_said(self) -> bool
         ensures { result ≡ has_said_last self.last }
@@ -76,7 +76,7 @@ impl Seen {
     }
 
     // The same after one more record, if it may come. Others than those of landmarks and of values change nothing.
-    fn with(self, holds: &Record) -> Option<Seen>
+    fn with(self, holds: &Record) -> Option<MarksSeen>
         requires { IsUsable holds.now }
         ensures { result ≡ seen_next self holds.now }
     {
@@ -92,7 +92,7 @@ impl Seen {
                 if !self.may_open(number, start) {
                     return None;
                 }
-                Some(Seen {
+                Some(MarksSeen {
                     count: number,
                     last: Some(Last {
                         finish,
@@ -112,7 +112,7 @@ impl Seen {
                 if !self.may_add(last, number, index, t) {
                     return None;
                 }
-                Some(Seen {
+                Some(MarksSeen {
                     count: number,
                     last: Some(Last {
                         values: index,
@@ -131,7 +131,7 @@ pub fn are_marks(id: u32, found: &[Found]) -> bool
     requires own { All (λ f. stream_of f.holds ≡ id) found.now }
     ensures { result ≡ are_marks (marks_in id (without_slots found.now)) }
 {
-    let mut seen = Seen {
+    let mut seen = MarksSeen {
         count: 0,
         last: None,
     };
@@ -184,6 +184,7 @@ impl Marks {
         ensures err { IfErr result (λ error. error ≡ OutOfMemory) }
     {
         self.close();
+        // Asked for the proof alone, here and below: with their number comes what holds of all landmarks.
         let _ = self.landmarks.count();
         self.landmarks.reserve()?;
         self.landmarks.start(start, slot);

@@ -6,7 +6,7 @@ ghost use Rattle.ss_model.specs.declared.types.TheConstants.{MOST_RECORDS};
 ghost use Rattle.ss_recover.specs.Doomed.{is_own};
 ghost use Rattle.ss_recover.specs.Order.{Rises, found_key, stream_of};
 ghost use Rattle.ss_recover.specs.Runs.{WalksAs, may_stand};
-ghost use Rattle.ss_recover.specs.Shown.{AddsName, EndsWalk, HasMore, HasNothing, TakesAs, names_in, own_len};
+ghost use Rattle.ss_recover.specs.Shown.{AddsName, EndsWalk, HasMore, HasNothing, TakesAs, names_in, run_len};
 ghost use Rattle.ss_recover.specs.Usable.{IsUsable, slots_found, without_slots};
 ghost use Rattle.ss_recover.specs.declared.recover_error.RecoverError.TheVariants.{OutOfMemory};
 
@@ -186,8 +186,8 @@ impl Walk {
 }
 
 // How many of the first records are of the stream of a number.
-fn own_len(id: u32, found: &[Found]) -> usize
-    ensures { result ≡ own_len id found.now }
+fn run_len(id: u32, found: &[Found]) -> usize
+    ensures { result ≡ run_len id found.now }
 {
     for at in 0..found.len() {
         if stream_of(&found[at].holds) != id {
@@ -214,7 +214,7 @@ pub fn streams_of<L: Ledger>(
     let mut left = all;
     while let Some((first, tail)) = left.split_first() {
         let id = stream_of(&first.holds);
-        let (rest, back) = tail.split_at(own_len(id, tail));
+        let (rest, back) = tail.split_at(run_len(id, tail));
         walk.take(alloc, id, first, rest, &mut steps)?;
         left = back;
     }
