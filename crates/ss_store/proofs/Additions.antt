@@ -1,9 +1,9 @@
 -- A value that is put after the windows of a stream, as a window of its own.
 use Rattle.ss_store.proofs.Common.{◌≡◌, ◌∙◌, inl, ℕ, ◌+◌, ◌-◌, ◌<◌, ℤ, Bool, false, List, [], ◌∷◌, ◌++◌, map, refl, sym, ap, ap₂, subst, arith, IsPermutation}
 use Rattle.ss_store.proofs.Common.{Option, None, Some, Result, nat_tests, map-append, IsPermutation-append_left, IsPermutation-sym, IsPermutation-to_front}
-use Rattle.ss_store.proofs.Common.{Told, MOST_VALUES, RecordsState, Record, AreKnown, LandmarksState, Entry, Figures, summary_of, params_of, New, closed}
+use Rattle.ss_store.proofs.Common.{Told, MOST_VALUES, RecordsState, Record, LandmarksState, Entry, Figures, summary_of, params_of, New, closed}
 use Rattle.ss_store.proofs.Common.{closed_stream, has_open, later, latest_of, is_past, rule_of, IsStream, Stream, last_time, values_in, single_window}
-use Rattle.ss_store.proofs.Common.{with_plain_value, newest_time, taken, Window, IsStream-single, taken-append, Agrees, TileFrom, TimesRise, entries_of}
+use Rattle.ss_store.proofs.Common.{with_plain_value, newest_time, taken, Window, IsStream-single, taken-append, Agrees, TileFrom, entries_of}
 use Rattle.ss_store.proofs.Common.{mark_slots, records_held, slots_held, span_held, span_of, stream_record, times_held, times_of, window_record, window_slots}
 use Rattle.ss_store.proofs.Common.{windows_held, StreamParts, TurnsShown, IsHalfway, IsOrdered, values_held, with_single, with_windows, IsHeldIn, LiveSlotsGo}
 use Rattle.ss_store.proofs.Common.{StagesRecord, HasRecords, HasRecords-permutation, zip-held, IsPermutation-same}
@@ -44,14 +44,13 @@ module _ (part new : StreamParts) (slot t : ℕ) (added : IsAdded part new slot 
 
   pub TileFrom-added : TileFrom 1 (entries_of part) → values_held (entries_of part) < MOST_VALUES → TileFrom 1 (entries_of new)
   TileFrom-added tiles room =
-      subst (λ es. TileFrom 1 es) (sym added.entries)
-      (TileFrom-push (entries_of part) (single_entry (values_held (entries_of part) + 1) t slot) tiles refl refl (omega arith))
+      rw added.entries (TileFrom-push (entries_of part) (single_entry (values_held (entries_of part) + 1) t slot) tiles refl refl (omega arith))
 
   pub IsOrdered-added : IsOrdered part → values_held (entries_of part) < MOST_VALUES → is_past part.last_time t ≡ false → IsOrdered new
   IsOrdered-added ordered room later = record {
     tiles = TileFrom-added ordered.tiles room;
-    times = rw added.last_time (subst (λ es. TimesRise 0 t es) (sym added.entries)
-        (rise-added part.last_time t (entries_of part) (single_entry (values_held (entries_of part) + 1) t slot) later refl refl ordered.times));
+    times = rw (added.last_time, added.entries)
+        (rise-added part.last_time t (entries_of part) (single_entry (values_held (entries_of part) + 1) t slot) later refl refl ordered.times);
   }
 
   pub LiveSlotsGo-added : (live live_now : List Bool) → LiveSlotsGo [] (slot ∷ []) live live_now → LiveSlotsGo (slots_held part) (slots_held new) live live_now
@@ -62,9 +61,7 @@ module _ (part new : StreamParts) (slot t : ℕ) (added : IsAdded part new slot 
       ap₂ (λ (s : ℕ) (es : List Entry). s ∷ map (λ (e : Entry). e.slot) es) added.own_slot added.entries
       ∙ ap (λ l. part.slot ∷ l) (map-append (λ (e : Entry). e.slot) (entries_of part) (single_entry (values_held (entries_of part) + 1) t slot ∷ [])) in
       LiveSlotsGo-permutation (slots_held part) (slots_held part) (slot ∷ slots_held part) (slots_held new) live live_now
-      (IsPermutation-same (slots_held part) (slots_held part) refl)
-      (subst (λ m. IsPermutation (slot ∷ slots_held part) (window_slots new ++ m)) (sym stay)
-      (subst (λ l. IsPermutation (slot ∷ slots_held part) (l ++ marks)) (sym now)
+      (IsPermutation-same (slots_held part) (slots_held part) refl) (rw stay (subst (λ l. IsPermutation (slot ∷ slots_held part) (l ++ marks)) (sym now)
       (IsPermutation-append_left marks (slot ∷ window_slots part) (window_slots part ++ slot ∷ [])
       (IsPermutation-sym (window_slots part ++ slot ∷ []) (slot ∷ window_slots part) (IsPermutation-to_front (window_slots part) slot)))))
       (LiveSlotsGo-beside (slots_held part) [] (slot ∷ []) live live_now go)
@@ -80,12 +77,10 @@ module _ (part new : StreamParts) (slot t : ℕ) (added : IsAdded part new slot 
     held = values_held-windows s.windows (entries_of part) stream.windows agrees.positions
 
     past_all : is_past (last_time s) t ≡ false
-    past_all = subst (λ o. is_past o t ≡ false) agrees.last_time past
+    past_all = rw agrees.last_time at past
 
     IsStream-added : IsStream (with_single s t v)
-    IsStream-added =
-        IsStream-single s (t, v, New) stream (subst (λ ls. has_open ls ≡ false) agrees.landmarks plain) past_all (subst (λ n. n < MOST_VALUES) held room)
-        (subst (λ f. IsPossible f) is possible)
+    IsStream-added = IsStream-single s (t, v, New) stream (rw agrees.landmarks at plain) past_all (rw held at room) (rw is at possible)
 
     Agrees-single : Agrees new (with_single s t v)
     unfolding single
@@ -105,7 +100,7 @@ module _ (part new : StreamParts) (slot t : ℕ) (added : IsAdded part new slot 
           ∙ map-append times_held (entries_of part) (single_entry (values_held (entries_of part) + 1) t slot ∷ [])
           ∙ ap (λ (xs : List (ℕ × ℕ)). xs ++ (t, t) ∷ []) agrees.times ∙ sym (map-append times_of s.windows (single_window (values_in s + 1) (t, v, New) ∷ []));
       landmarks = ap (λ (l : LandmarksState). l.landmarks) added.landmarks ∙ agrees.landmarks;
-      known = subst AreKnown (sym added.landmarks) agrees.known;
+      known = rw added.landmarks agrees.known;
       last_time =
           let newest = newest_time_push s.windows (single_window (values_in s + 1) (t, v, New)) in
           added.last_time ∙ sym (later-past (newest_time s.windows) (latest_of s.landmarks) t past_all)
@@ -134,11 +129,9 @@ module _ (part new : StreamParts) (slot t : ℕ) (added : IsAdded part new slot 
           agrees = Agrees-single;
           stream = IsStream-added;
           records = HasRecords-permutation (added_record ∷ (records_held (part, s) ++ others)) (records_held (new, with_single s t v) ++ others) image
-              (subst (λ l. IsPermutation (added_record ∷ l) (records_held (new, with_single s t v) ++ others)) (sym (records_held-apart part s others))
+              (rw records_held-apart
               (records_held-changed part new s (s.windows ++ single_window (values_in s + 1) (t, v, New) ∷ []) (added_record ∷ windows_held (part, s)) others
-              added.landmarks
-              (subst (λ l. IsPermutation (added_record ∷ windows_held (part, s)) l) (sym records_single)
-              (IsPermutation-sym (windows_held (part, s) ++ added_record ∷ []) (added_record ∷ windows_held (part, s))
+              added.landmarks (rw records_single (IsPermutation-sym (windows_held (part, s) ++ added_record ∷ []) (added_record ∷ windows_held (part, s))
               (IsPermutation-to_front (windows_held (part, s)) added_record))))) has;
         }
 

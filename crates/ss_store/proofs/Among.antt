@@ -1,8 +1,8 @@
 -- One stream among others: its records beside theirs, and what stands in its place afterwards.
 use Rattle.ss_store.proofs.Common.{◌≡◌, ℕ, zero, suc, ◌<◌, ◌≤◌, Bool, false, List, [], ◌∷◌, ◌++◌, length, flat_map, remove, slice_set, zip, refl, ap, sym}
-use Rattle.ss_store.proofs.Common.{subst, ◌∙◌, arith, IsPermutation, Option, None, Some, MatchOption, ⊤, nat_tests, length-set, map-set, All-get_or, All-nil}
+use Rattle.ss_store.proofs.Common.{◌∙◌, arith, IsPermutation, Option, None, Some, MatchOption, ⊤, nat_tests, length-set, map-set, All-get_or, All-nil}
 use Rattle.ss_store.proofs.Common.{All-set, IsPermutation-sym, IsPermutation-trans, get_or_from_slice_get, none-some, same_Some, slice_get_within, Record}
-use Rattle.ss_store.proofs.Common.{SlotMap, StandsFor, Landmark, AreKnown, LandmarksState, AllEndBy, EndsBy, AllEndBy-later, closed_state, closed_stream}
+use Rattle.ss_store.proofs.Common.{SlotMap, StandsFor, Landmark, AreKnown, AllEndBy, EndsBy, AllEndBy-later, closed_state, closed_stream}
 use Rattle.ss_store.proofs.Common.{is_past, rule_of, IsState, IsStream, Stream, values_in, IsStream-joined, AllAgree, AreWhole, Agrees, EndByLast, RiseToLast}
 use Rattle.ss_store.proofs.Common.{TileFrom, entries_of, records_held, slots_held, StreamParts, carried, carried-AreHeld, HasWholeSlots-StandsFor, IsOrdered}
 use Rattle.ss_store.proofs.Common.{IsPartlyJoined, IsSameStream, with_windows, IsHeldIn, Recovers, recovered_from, recovered_of, AreSomeLive, LiveSlotsGo}
@@ -34,7 +34,7 @@ pub Agrees-at : (parts : List StreamParts) (streams : List Stream) (place : ℕ)
     slice_get parts place ≡ Some part → (s : Stream) × (slice_get streams place ≡ Some s) × Agrees part s
 Agrees-at [] streams place part each at = absurd (none-some part at)
 Agrees-at (p ∷ ps) [] place part each at = absurd each
-Agrees-at (p ∷ ps) (s ∷ ss) zero part each at = (s, refl, subst (λ q. Agrees q s) (same_Some p part at) each.0)
+Agrees-at (p ∷ ps) (s ∷ ss) zero part each at = (s, refl, rw (same_Some p part at) at each.0)
 Agrees-at (p ∷ ps) (s ∷ ss) (suc place) part each at = Agrees-at ps ss place part each.1 at
 
 -- the same where the stream is known
@@ -42,12 +42,11 @@ pub Agrees-both : (parts : List StreamParts) (streams : List Stream) (place : �
     slice_get parts place ≡ Some part → slice_get streams place ≡ Some s → Agrees part s
 Agrees-both parts streams place part s each at stream_at =
     let found = Agrees-at parts streams place part each at in
-    subst (Agrees part) (same_Some found.0 s (sym found.1 ∙ stream_at)) found.2
+    rw (same_Some found.0 s (sym found.1 ∙ stream_at)) at found.2
 
 pub IsStream-at : (streams : List Stream) (place : ℕ) (s : Stream) → IsState streams → slice_get streams place ≡ Some s → IsStream s
 IsStream-at streams place s state at =
-    subst IsStream (get_or_from_slice_get streams place s s at)
-    (All-get_or IsStream streams place s (slice_get_within streams place s at) state.each)
+    rw (get_or_from_slice_get streams place s s at) at (All-get_or IsStream streams place s (slice_get_within streams place s at) state.each)
 
 pub IsHeldIn-at : (parts : List StreamParts) (streams : List Stream) (place : ℕ) (part : StreamParts) (s : Stream) (image : List ℕ) →
     AllAgree parts streams → IsState streams → slice_get parts place ≡ Some part → slice_get streams place ≡ Some s →
@@ -81,13 +80,10 @@ HasRecords-back parts streams place part s image each inside has =
     let long = length-AllAgree parts streams each in
     let pairs = slice_set (zip parts streams) place (part, s) in
     let at : slice_get pairs place ≡ Some (part, s) =
-    subst (λ l. slice_get l place ≡ Some (part, s)) (zip-set parts streams place part s)
-    (slice_get-zip (slice_set parts place part) (slice_set streams place s) place part s
+    rw zip-set at (slice_get-zip (slice_set parts place part) (slice_set streams place s) place part s
     (slice_get-set parts place part inside) (slice_get-set streams place s (omega arith))) in
     let moved : IsPermutation (records_held (part, s) ++ others_of place parts streams) (flat_map records_held pairs) =
-    subst (λ l. IsPermutation (records_held (part, s) ++ flat_map records_held l) (flat_map records_held pairs))
-    (remove-set (zip parts streams) place (part, s))
-    (IsPermutation-parted records_held pairs place (part, s) at) in
+    rw remove-set at (IsPermutation-parted records_held pairs place (part, s) at) in
     record {
       found = has.found;
       map = has.map;
@@ -133,14 +129,13 @@ Recovers-partly parts streams place s image each inside state partly =
     let joined = IsStream-joined n s partly.windows stream partly.joins in
     let few = length-JoinsDue rule n s.windows partly.windows partly.joins in
     let state_now : IsState (slice_set streams place now) =
-    subst IsState (set-set streams place s now) (IsState-shorter was place s partly.windows state at joined few) in
+    rw set-set at (IsState-shorter was place s partly.windows state at joined few) in
     let has = HasRecords-set parts streams place partly.part now image each inside partly.held in
     let closes : closed_state (slice_set streams place now) ≡ closed_state was =
     map-set closed_stream streams place now
     ∙ ap (slice_set (closed_state streams) place) (closed_stream-joined s partly.windows stream.windows partly.joins)
     ∙ sym (map-set closed_stream streams place s) in
-    subst (λ l. Recovers l image) closes
-    (Recovers-held (slice_set parts place partly.part) (slice_set streams place now) image has.0 state_now has.1)
+    rw closes at (Recovers-held (slice_set parts place partly.part) (slice_set streams place now) image has.0 state_now has.1)
 
 -- the slots of one part, and those of the others, are live
 slots-parted : (parts : List StreamParts) (live : List Bool) (place : ℕ) (part : StreamParts) → AreWhole parts live → slice_get parts place ≡ Some part →
@@ -152,9 +147,9 @@ slots-parted parts live place part whole at =
 pub AreWhole-at : (parts : List StreamParts) (live : List Bool) (place : ℕ) (part : StreamParts) → AreWhole parts live →
     slice_get parts place ≡ Some part → IsOrdered part × AreSomeLive (slots_held part) live
 AreWhole-at parts live place part whole at =
-    let tiles = subst (λ (p : StreamParts). TileFrom 1 (entries_of p)) (get_or_from_slice_get parts place part part at)
+    let tiles = rw (get_or_from_slice_get parts place part part at) at
     (All-get_or (λ (p : StreamParts). TileFrom 1 (entries_of p)) parts place part (slice_get_within parts place part at) whole.tiles) in
-    let times = subst RiseToLast (get_or_from_slice_get parts place part part at)
+    let times = rw (get_or_from_slice_get parts place part part at) at
     (All-get_or RiseToLast parts place part (slice_get_within parts place part at) whole.times) in
     (record { tiles = tiles; times = times }, (flat_map slots_held (remove parts place), slots-parted parts live place part whole at))
 
@@ -163,7 +158,7 @@ pub Marks-at : (parts : List StreamParts) (live : List Bool) (place : ℕ) (part
     slice_get parts place ≡ Some part → AreKnown part.landmarks × EndByLast part
 Marks-at parts live place part whole at =
     let P : StreamParts → Type 0 = λ p. AreKnown p.landmarks × EndByLast p in
-    subst P (get_or_from_slice_get parts place part part at) (All-get_or P parts place part (slice_get_within parts place part at) whole.landmarks)
+    rw (get_or_from_slice_get parts place part part at) at (All-get_or P parts place part (slice_get_within parts place part at) whole.landmarks)
 
 -- the same stream in its place, however its windows and landmarks have changed
 pub AreWhole-changed : (parts : List StreamParts) (live live_now : List Bool) (place : ℕ) (part now : StreamParts) → AreWhole parts live →
@@ -176,8 +171,7 @@ AreWhole-changed parts live live_now place part now whole at same_id same_name o
     let parted = slots-parted parts live place part whole at in
     let changed = slice_set parts place now in
     let moved : IsPermutation (slots_held now ++ others) (flat_map slots_held changed) =
-    subst (λ l. IsPermutation (slots_held now ++ flat_map slots_held l) (flat_map slots_held changed)) (remove-set parts place now)
-    (IsPermutation-parted slots_held changed place now (slice_get-set parts place now inside)) in
+    rw remove-set at (IsPermutation-parted slots_held changed place now (slice_get-set parts place now inside)) in
     record {
       few = omega (arith, whole.few, length-set parts place now);
       numbers = rw (map-set_same (λ (p : StreamParts). p.id.0) parts place part now at (ap (λ i. i.0) same_id)) whole.numbers;
@@ -211,15 +205,14 @@ IsNoEarlier-past (Some last) (Some u) t same past =
 all_end-later : (was now : Option ℕ) (landmarks : List Landmark) → IsNoEarlier was now →
     MatchOption was (landmarks ≡ []) (λ last. AllEndBy last landmarks) → MatchOption now (landmarks ≡ []) (λ last. AllEndBy last landmarks)
 all_end-later None None landmarks later end = end
-all_end-later None (Some t) landmarks later end = subst (λ ls. AllEndBy t ls) (sym end) (All-nil (EndsBy t))
+all_end-later None (Some t) landmarks later end = rw end (All-nil (EndsBy t))
 all_end-later (Some last) None landmarks later end = absurd later
 all_end-later (Some last) (Some t) landmarks later end = AllEndBy-later landmarks last t later end
 
 -- the landmarks end by the last time where they are as they were, and it is no earlier
 pub EndByLast-later : (part now : StreamParts) → now.landmarks ≡ part.landmarks → IsNoEarlier part.last_time now.last_time → EndByLast part → EndByLast now
 EndByLast-later part now same later end =
-    all_end-later part.last_time now.last_time now.landmarks.landmarks later
-    (subst (λ (l : LandmarksState). MatchOption part.last_time (l.landmarks ≡ []) (λ last. AllEndBy last l.landmarks)) (sym same) end)
+    all_end-later part.last_time now.last_time now.landmarks.landmarks later (rw same end)
 
 -- with the same landmarks
 pub AreWhole-set : (parts : List StreamParts) (live live_now : List Bool) (place : ℕ) (part now : StreamParts) → AreWhole parts live →
@@ -228,4 +221,4 @@ pub AreWhole-set : (parts : List StreamParts) (live live_now : List Bool) (place
 AreWhole-set parts live live_now place part now whole at same later ordered go =
     let marks = Marks-at parts live place part whole at in
     AreWhole-changed parts live live_now place part now whole at same.id same.name ordered
-    (subst AreKnown (sym same.landmarks) marks.0, EndByLast-later part now same.landmarks later marks.1) go
+    (rw same.landmarks marks.0, EndByLast-later part now same.landmarks later marks.1) go

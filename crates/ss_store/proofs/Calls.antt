@@ -1,6 +1,6 @@
 -- What calls in a row make of what a disk stands for, also in a crash. In each lemma the disks are plain values: a caller
 -- strips the premise that the disk tells.
-use Rattle.ss_store.proofs.Common.{List, Ok, Result, subst, sym, ℕ, on_ok_weaker, IsErr, of_content, read_leaves, reads-none, nothing_pending-same, weaker}
+use Rattle.ss_store.proofs.Common.{List, Ok, Result, ℕ, on_ok_weaker, IsErr, of_content, read_leaves, reads-none, nothing_pending-same, weaker}
 use Rattle.ss_store.proofs.Common.{KnowsNow, OnlyReads, NothingPending, Told, on_err, on_ok, OnOk, LeavesOnly, CrashTriple, Turns}
 use Rattle.ss_outside.proofs.CrashLemmas.{joined}
 
@@ -77,7 +77,7 @@ pub Turns-reads : {T E : Type 0} (P M : List ℕ → Type 0) (old new : Told) (r
     (P old.content → M old.content) → Turns P M P old new result
 Turns-reads P M old new result knows reads gives =
     CrashTriple-reads (P old.content) (P new.content) M old new result knows reads
-    (λ has. on_ok result (let e = reads.same.content in subst P (sym e) has)) (λ has none. of_content old M none (gives has))
+    (λ has. on_ok result (let e = reads.same.content in rw e has)) (λ has none. of_content old M none (gives has))
 
 -- no call
 pub Turns-same : {T E : Type 0} (P M : List ℕ → Type 0) (disk : Told) (result : Result T E) → KnowsNow disk → (P disk.content → M disk.content) →

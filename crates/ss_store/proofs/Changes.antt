@@ -1,5 +1,5 @@
 -- What a transaction of puts makes of the records in the slots of an image, and of the slots that are live.
-use Rattle.ss_store.proofs.Common.{Bool, IsPermutation, IsTrue, List, Option, Some, [], ap, arith, cond, false, inl, inr, length, not, refl, set, suc, subst}
+use Rattle.ss_store.proofs.Common.{Bool, IsPermutation, IsTrue, List, Option, Some, [], ap, arith, cond, false, inl, inr, length, not, refl, set, suc}
 use Rattle.ss_store.proofs.Common.{sym, true, zero, ◌+◌, ◌∷◌, ◌<◌, ◌≡◌, ◌≢◌, ◌≤◌, ◌∙◌, ℕ, cases_Bool, cases_eq, cond-false, cond-true, cond_both, not-false}
 use Rattle.ss_store.proofs.Common.{nat_tests, IsPermutation-cons, IsPermutation-trans, max, nat_eq, nat_le, nat_lt, IsTxn, extent_after, slots_fit, SlotMap}
 use Rattle.ss_store.proofs.Common.{StandsFor, changed, MOST_SLOTS, Put, StandsFor-from, StandsFor-same, SameMap-refl, AreKept, RecordsState, shown_by}
@@ -52,8 +52,7 @@ module _ (slot : ℕ) (r : Record) (valid : IsTrue (is_valid r)) (some : r ≢ F
 
   pub LiveSlotsGo-added : (live : List Bool) → slot < length live → is_live live slot ≡ false →
       LiveSlotsGo [] (slot ∷ []) live (live_after (record_put slot r ∷ []) live)
-  LiveSlotsGo-added live below free =
-      subst (λ (b : Bool). LiveSlotsGo [] (slot ∷ []) live (set live slot b)) (sym live-put) (LiveSlotsGo-taken live slot below free)
+  LiveSlotsGo-added live below free = rw live-put (LiveSlotsGo-taken live slot below free)
 
   -- a record in place of that of the slot
   pub moves-replaced : (first : Option Record) (others : List (ℕ × Option Record)) (found : SlotMap) →
@@ -119,18 +118,13 @@ module _ (kept freed : ℕ) (r : Record) (valid : IsTrue (is_valid r)) (some : r
 
   live_orders : (first : Bool) (live : List Bool) → AreTwoLive live kept freed → live_slots (live_after (orders first) live) ≡ live_slots (set live freed false)
   unfolding orders
-  live_orders true live two =
-      subst (λ (b : Bool). live_slots (set (set live kept b) freed false) ≡ live_slots (set live freed false))
-      (sym (live-put kept r valid some)) (live_slots-kept_first live kept freed two)
-  live_orders false live two =
-      subst (λ (b : Bool). live_slots (set (set live freed false) kept b) ≡ live_slots (set live freed false))
-      (sym (live-put kept r valid some)) (live_slots-freed_first live kept freed two)
+  live_orders true live two = rw live-put (live_slots-kept_first live kept freed two)
+  live_orders false live two = rw live-put (live_slots-freed_first live kept freed two)
 
   pub LiveSlotsGo-paired : (live : List Bool) → AreTwoLive live kept freed →
       LiveSlotsGo (kept ∷ freed ∷ []) (kept ∷ []) live (live_after (pair_put kept freed r) live)
   unfolding orders
-  LiveSlotsGo-paired live two others is =
-      subst (λ (l : List ℕ). IsPermutation (kept ∷ others) l) (sym (live_orders (nat_lt kept freed) live two)) (LiveSlotsGo-freed live kept freed two others is)
+  LiveSlotsGo-paired live two others is = rw live_orders (LiveSlotsGo-freed live kept freed two others is)
 
 -- two puts whose slots rise, and that lie below the extent
 IsTxn-two : (a b : Put) → a.slot < b.slot → b.slot < MOST_SLOTS → IsTxn (a ∷ b ∷ [])
@@ -159,13 +153,11 @@ module _ (kept freed : ℕ) (r : Record) where
   pub IsTxn-pair : kept ≢ freed → kept < MOST_SLOTS → freed < MOST_SLOTS → IsTxn (pair_put kept freed r)
   IsTxn-pair apart kept_below freed_below = elim (cases_Bool (nat_lt kept freed)) [
     | inl rise ↦
-        subst IsTxn (sym (cond-true (nat_lt kept freed) (record_put kept r ∷ zeros_put freed ∷ []) (zeros_put freed ∷ record_put kept r ∷ []) rise))
-        (IsTxn-two (record_put kept r) (zeros_put freed) (ltb-true kept freed rise) freed_below)
+        rw cond-true (IsTxn-two (record_put kept r) (zeros_put freed) (ltb-true kept freed rise) freed_below)
     | inr fall ↦
         let order : freed ≤ kept = ltb-false kept freed fall in
         let less : freed < kept = elim (cases_eq kept freed) [ inl same ↦ absurd (apart same) | inr other ↦ omega arith ] in
-        subst IsTxn (sym (cond-false (nat_lt kept freed) (record_put kept r ∷ zeros_put freed ∷ []) (zeros_put freed ∷ record_put kept r ∷ []) fall))
-        (IsTxn-two (zeros_put freed) (record_put kept r) less kept_below)
+        rw cond-false (IsTxn-two (zeros_put freed) (record_put kept r) less kept_below)
   ]
 
   pub slots_fit-pair : (extent : ℕ) → kept < extent → freed < extent → IsTrue (slots_fit (pair_put kept freed r) extent)

@@ -1,9 +1,9 @@
 -- The records of dropped streams are cleared: what each that goes leaves, and what the seal makes of it.
 use Rattle.ss_store.proofs.Common.{◌≡◌, ◌∙◌, ℕ, suc, ◌<◌, ◌≤◌, List, [], ◌∷◌, ◌++◌, length, get_or, map, take, drop, ap, arith, refl, subst, sym}
-use Rattle.ss_store.proofs.Common.{append_assoc, Bool, IsPermutation, Ok, Option, None, Some, Result, length-map, on_ok_weaker, IsErr, OnOk, reads-none}
+use Rattle.ss_store.proofs.Common.{append_assoc, Bool, Ok, Option, None, Some, Result, length-map, on_ok_weaker, IsErr, OnOk, reads-none}
 use Rattle.ss_store.proofs.Common.{weaker, KnowsNow, Told, KeepsShown, IsSealed, SlotMap, StandsFor, changed, RecordsState, Record, closed_state, Stream}
 use Rattle.ss_store.proofs.Common.{occupied-freed, HasWholeSlots-StandsFor, TurnsShown, ClearsSlots, HasDoomed, StagesChange, StagesClearing, Recovers}
-use Rattle.ss_store.proofs.Common.{recovered_of, AreSomeLive, LiveSlotsGo, live_slots, zeros_put, StaysOr}
+use Rattle.ss_store.proofs.Common.{recovered_of, AreSomeLive, LiveSlotsGo, zeros_put, StaysOr}
 use Rattle.std.proofs.Math.Seq.{drop-cons, take-suc}
 use Rattle.std.proofs.lemmas.List.{drop_all, get_or-map, take-append-drop}
 use Rattle.ss_recover.proofs.DroppedMaps.{carried-goes}
@@ -77,10 +77,7 @@ StagesFirst-more {F} k slots was between is old mid new value result inside know
     let at : get_or slots k 0 ≡ e.0 = ap (λ (l : List ℕ). get_or l k 0) (sym same) ∙ get_or-map slot_of doomed k none 0 within in
     let recovers = Recovers (closed_state streams) in
     TurnsShown-then {F = F} was between is (HasDoomed doomed held streams) recovers (HasDoomed (e ∷ rest) held streams) recovers
-    (HasDoomed rest held streams) recovers old mid new value result knows
-    (subst (λ (l : List (ℕ × Option Record)).
-    TurnsShown {E = F} was between (HasDoomed doomed held streams) recovers (HasDoomed l held streams) old mid (Ok value))
-    (drop-cons doomed k none within) (first doomed held streams same))
+    (HasDoomed rest held streams) recovers old mid new value result knows (rw (drop-cons doomed k none within) at (first doomed held streams same))
     (TurnsShown-gone e rest held streams between is mid new result
     (subst (λ (n : ℕ). StagesChange (zeros_put n ∷ []) between is result mid new) at change)) (λ image left. left) (λ image left. left)
 
@@ -90,9 +87,7 @@ pub StagesClearing-all : {T E : Type 0} (k : ℕ) (slots : List ℕ) (was is : R
 StagesClearing-all k slots was is old new result end first doomed held streams same =
     let long : length doomed ≡ length slots = sym (length-map doomed (λ (e : ℕ × Option Record). e.0)) ∙ ap length same in
     let none : drop k doomed ≡ [] = drop_all k doomed (omega (arith, long, end)) in
-    subst (λ (l : List (ℕ × Option Record)).
-    TurnsShown was is (HasDoomed doomed held streams) (Recovers (closed_state streams)) (HasDoomed l held streams) old new result) none
-    (first doomed held streams same)
+    rw none at (first doomed held streams same)
 
 -- or a call failed
 pub StagesClearing-failed : {S F T E : Type 0} (k : ℕ) (slots : List ℕ) (was between is : RecordsState) (old new : Told) (step : Result S F)
@@ -131,7 +126,7 @@ AreSomeLive-next k slots live mid inside some gone =
     let parts : slots ≡ take k slots ++ slot ∷ rest = sym (take-append-drop k slots) ∙ ap (λ (l : List ℕ). take k slots ++ l) (drop-cons slots k 0 inside) in
     let all : slots ++ some.0 ≡ take k slots ++ slot ∷ (rest ++ some.0) =
     ap (λ (l : List ℕ). l ++ some.0) parts ∙ append_assoc (take k slots) (slot ∷ rest) some.0 in
-    (rest ++ some.0, gone (slot ∷ (rest ++ some.0)) (subst (λ (l : List ℕ). IsPermutation l (live_slots live)) all some.1))
+    (rest ++ some.0, gone (slot ∷ (rest ++ some.0)) (rw all at some.1))
 
 pub LiveSlotsGo-more : (k : ℕ) (slots : List ℕ) (live mid now : List Bool) → k < length slots → LiveSlotsGo (take k slots) [] live mid →
     LiveSlotsGo (get_or slots k 0 ∷ []) [] mid now → LiveSlotsGo (take (suc k) slots) [] live now
@@ -139,4 +134,4 @@ LiveSlotsGo-more k slots live mid now inside first second others is =
     let slot = get_or slots k 0 in
     let parts : take (suc k) slots ++ others ≡ take k slots ++ slot ∷ others =
     ap (λ (l : List ℕ). l ++ others) (take-suc slots k 0 inside) ∙ append_assoc (take k slots) (slot ∷ []) others in
-    second others (first (slot ∷ others) (subst (λ (l : List ℕ). IsPermutation l (live_slots live)) parts is))
+    second others (first (slot ∷ others) (rw parts at is))

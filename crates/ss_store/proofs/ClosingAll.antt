@@ -1,5 +1,5 @@
 -- Streams that are closed one after another, as they lie in an image.
-use Rattle.ss_store.proofs.Common.{◌≡◌, ℕ, zero, suc, ◌<◌, ◌≤◌, List, [], ◌∷◌, length, flat_map, slice_set, zip, refl, ap, sym, subst, ◌∙◌, arith, inl, inr}
+use Rattle.ss_store.proofs.Common.{◌≡◌, ℕ, zero, suc, ◌<◌, ◌≤◌, List, [], ◌∷◌, length, flat_map, slice_set, zip, refl, ap, sym, ◌∙◌, arith, inl, inr}
 use Rattle.ss_store.proofs.Common.{Option, Some, Result, Ok, All, Contains, cases_lt, All-head, All-tail, Contains-append_right, none-some, KnowsNow, Told}
 use Rattle.ss_store.proofs.Common.{Record, closed, closed_state, closed_stream, rule_of, IsState, IsStream, Stream, values_in, JoinsDue-closed}
 use Rattle.ss_store.proofs.Common.{IsStream-joined, AllAgree, records_held, StreamParts, ReadError, Turns, IsFirm, Verdict, ChangedIsHeld, window_slots_of}
@@ -72,13 +72,12 @@ IsState-until (suc n) streams state =
     elim (cases_lt n (length streams)) [
       | inl inside ↦
           let found = slice_get-within streams n inside in
-          subst IsState (closed_until-set n streams found.0 found.1)
-          (IsState-closed (closed_until n streams) n found.0 before (closed_until-at n streams ∙ found.1))
-      | inr past ↦ subst IsState (closed_until-past n streams past ∙ sym (closed_until-past (suc n) streams (omega arith))) before
+          rw (closed_until-set n streams found.0 found.1) at (IsState-closed (closed_until n streams) n found.0 before (closed_until-at n streams ∙ found.1))
+      | inr past ↦ rw (closed_until-past n streams past ∙ sym (closed_until-past (suc n) streams (omega arith))) at before
     ]
 
 pub IsState-closed_state : (streams : List Stream) → IsState streams → IsState (closed_state streams)
-IsState-closed_state streams state = subst IsState (closed_until-all (length streams) streams refl) (IsState-until (length streams) streams state)
+IsState-closed_state streams state = rw closed_until-all at (IsState-until (length streams) streams state)
 
 pub closed_state-again : (streams : List Stream) → IsState streams → closed_state (closed_state streams) ≡ closed_state streams
 closed_state-again streams state =
@@ -114,13 +113,10 @@ Turns-closed_one parts part now all place old new result at inside state closes 
     (λ has image partly.
     let same : slice_set mixed place s ≡ mixed = set-same mixed place s stream_at in
     let is : Recovers (closed_state (slice_set mixed place s)) image =
-    Recovers-partly parts mixed place s image has.agree (within has.agree) (subst IsState (sym same) state_now) partly in
-    subst (λ l. Recovers l image) (ap closed_state same ∙ closed_state-until place all state.each) is)
-    (λ has image held.
+    Recovers-partly parts mixed place s image has.agree (within has.agree) (rw same state_now) partly in
+    rw (ap closed_state same ∙ closed_state-until place all state.each) at is) (λ has image held.
     let both = HasRecords-set parts mixed place now (closed_stream s) image has.agree (within has.agree) held in
-    subst (λ l. AreHeldIn (slice_set parts place now) l image) (closed_until-set place all s found.1)
-    (record { agree = both.0; records = both.1 }))
-    (closes others s)
+    rw (← closed_until-set place all s found.1) (record { agree = both.0; records = both.1 })) (closes others s)
 
 -- before the first
 pub Turns-open : {T E : Type 0} (parts now : List StreamParts) (all : List Stream) (old new : Told) (result : Result T E) → AllAgree parts all →
@@ -171,8 +167,7 @@ pub Turns-all : (was now : List StreamParts) (place : ℕ) (before after : Told)
     Turns {T = Unit {0}} {E = ReadError} (AreHeldIn was all) (Recovers (closed_state all)) (AreHeldIn now (closed_state all)) before after (Ok tt)
 Turns-all was now place before after closes end all state agree =
     let long = length-AllAgree was all agree in
-    subst (λ l. Turns {T = Unit {0}} {E = ReadError} (AreHeldIn was all) (Recovers (closed_state all)) (AreHeldIn now l) before after (Ok tt))
-    (closed_until-all place all (omega arith)) (closes all state long)
+    rw (closed_until-all place all (omega arith)) at (closes all state long)
 
 -- what one of the streams holds, some of them holds
 Contains-set : (parts : List StreamParts) (place : ℕ) (was now : StreamParts) (slot : ℕ) → slice_get parts place ≡ Some was →

@@ -14,7 +14,7 @@ joins_more : (s : Stream) (between new : List Window) → JoinsDue (rule_of s.pa
     JoinsDue (rule_of s.params) (values_in (with_windows s between)) between new → JoinsDue (rule_of s.params) (values_in s) s.windows new
 joins_more s between new first second =
     JoinsDue-append (rule_of s.params) (values_in s) s.windows between new first
-    (subst (λ n. JoinsDue (rule_of s.params) n between new) (taken-JoinsDue (rule_of s.params) (values_in s) s.windows between first) second)
+    (rw (taken-JoinsDue (rule_of s.params) (values_in s) s.windows between first) at second)
 
 module _ (others : List (ℕ × Option Record)) (s : Stream) (between : List Window) (first : JoinsDue (rule_of s.params) (values_in s) s.windows between) where
   IsJoinedIn-more : (part : StreamParts) (image : List ℕ) → IsJoinedIn others part (with_windows s between) image → IsJoinedIn others part s image
@@ -69,11 +69,11 @@ closes others part s n image stream all none is =
     values_held-windows is.windows (entries_of part) is.held.stream.windows is.held.agrees.positions in
     let count : n ≡ values_in s = all ∙ held ∙ taken-JoinsDue rule (values_in s) s.windows is.windows is.joins in
     let entries : NoEntriesAreDue rule (values_in s) (entries_of part) =
-    subst (λ k. NoEntriesAreDue rule k (entries_of part)) count (subst (λ p. NoEntriesAreDue (rule_of p) n (entries_of part)) params none) in
+    rw count at (subst (λ p. NoEntriesAreDue (rule_of p) n (entries_of part)) params none) in
     let end : is.windows ≡ closed rule (values_in s) s.windows =
     closed-only_end rule (values_in s) s.windows is.windows stream.windows is.joins
     (NoneIsDue-entries rule (values_in s) (entries_of part) is.windows is.held.agrees.positions is.held.agrees.times entries) in
-    subst (λ ws. IsHeldIn others part (with_windows s ws) image) end is.held
+    rw end at is.held
 
 pub TurnsShown-closes : {E : Type 0} (was is : RecordsState) (others : List (ℕ × Option Record)) (part now : StreamParts) (s : Stream) (n : ℕ)
     (old new : Told) → n ≡ values_held (entries_of now) →

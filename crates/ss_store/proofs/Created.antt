@@ -1,5 +1,5 @@
 -- A stream that is created: what is held then, and the records.
-use Rattle.ss_store.proofs.Common.{◌≡◌, ℕ, ◌<◌, Bool, true, false, List, [], ◌∷◌, ◌++◌, length, map, flat_map, zip, refl, ap, sym, ◌∙◌, subst, arith, None}
+use Rattle.ss_store.proofs.Common.{◌≡◌, ℕ, ◌<◌, Bool, true, false, List, [], ◌∷◌, ◌++◌, length, map, flat_map, zip, refl, ap, sym, ◌∙◌, arith, None}
 use Rattle.ss_store.proofs.Common.{Some, Option, inl, inr, Result, IsPermutation, nat_le, ◌==◌, list_any, IsStrictlyIncreasing, cases_Bool, nat_tests}
 use Rattle.ss_store.proofs.Common.{append-nil, length_push, length-map, map-append, All-push, IsPermutation-append_comm, IsPermutation-trans, Told, same_name}
 use Rattle.ss_store.proofs.Common.{MOST_STREAMS, LAST_STREAM, Create, Params, StreamId, Record, New, AreKnown, LandmarksState, params_of, closed_state}
@@ -64,7 +64,7 @@ Agrees-created part streams name params fresh number = record {
   positions = rw fresh.entries refl;
   times = rw fresh.entries refl;
   landmarks = ap (λ (l : LandmarksState). l.landmarks) fresh.landmarks;
-  known = subst AreKnown (sym fresh.landmarks) AreKnown-none;
+  known = rw fresh.landmarks AreKnown-none;
   last_time = fresh.last_time;
 }
 
@@ -89,7 +89,7 @@ all-pushed parts streams part name params each fresh number =
     ∙ ap (flat_map records_held) (zip-push parts streams part s (length-AllAgree parts streams each))
     ∙ flat_map-append records_held (zip parts streams) ((part, s) ∷ [])
     ∙ ap (λ l. all ++ l) (append-nil (records_held (part, s)) ∙ one) in
-    subst (λ l. IsPermutation (first ∷ all) l) (sym is) (IsPermutation-append_comm (first ∷ []) all)
+    rw is (IsPermutation-append_comm (first ∷ []) all)
 
 -- no merge is due in a state with a new stream, where none was before
 closed-created : (streams : List Stream) (name : List ℕ) (params : Params) → closed_state streams ≡ streams →
@@ -106,8 +106,7 @@ module _ (parts : List StreamParts) (streams : List Stream) (part : StreamParts)
 
   pub AllAgree-created : AllAgree (parts ++ part ∷ []) (stepped streams (Create name params))
   AllAgree-created =
-      subst (λ ss. AllAgree (parts ++ part ∷ []) ss) (sym (stepped-create streams name params))
-      (AllAgree-push parts streams part (created_in streams name params) each (Agrees-created part streams name params fresh number-of))
+      rw stepped-create (AllAgree-push parts streams part (created_in streams name params) each (Agrees-created part streams name params fresh number-of))
 
   pub HasRecords-created : (image : List ℕ) →
       HasRecords ((part.slot, Some (records.Stream part.id.0 name params false)) ∷ flat_map records_held (zip parts streams)) image →
@@ -122,8 +121,7 @@ module _ (parts : List StreamParts) (streams : List Stream) (part : StreamParts)
       Recovers (stepped streams (Create name params)) image
   Recovers-created image state none closed has =
       let now = IsState-stepped New streams (Create name params) state tt none in
-      subst (λ l. Recovers l image) (closed-created streams name params closed)
-      (Recovers-held (parts ++ part ∷ []) (stepped streams (Create name params)) image AllAgree-created now (HasRecords-created image has))
+      rw closed-created at (Recovers-held (parts ++ part ∷ []) (stepped streams (Create name params)) image AllAgree-created now (HasRecords-created image has))
 
 -- what is kept after a create, and the step that it makes
 module _ (store : StoreState) (content : List ℕ) (kept : StoreIsIn store content) (part : StreamParts) (name : List ℕ) (params : Params)
@@ -154,10 +152,9 @@ module _ (store : StoreState) (content : List ℕ) (kept : StoreIsIn store conte
       let after : (image : List ℕ) → HasRecords pushed image → Recovers (stepped kept.streams (Create name params)) image =
       λ image has. Recovers-created store.streams kept.streams part name params kept.agree fresh number image kept.state none kept.closed has in
       let before : (image : List ℕ) → HasRecords others image → Recovers kept.streams image =
-      λ image has. subst (λ l. Recovers l image) kept.closed (Recovers-held store.streams kept.streams image kept.agree kept.state has) in
+      λ image has. rw kept.closed at (Recovers-held store.streams kept.streams image kept.agree kept.state has) in
       StepsState-turns (Create name params) was_records is_records old new call kept.streams (HasRecords others) (HasRecords others) (HasRecords pushed)
-      (subst (λ c. Recovers kept.streams c) (sym same) (Recovers-StoreIsIn store content kept)) (subst (λ c. HasRecords others c) (sym same) kept.held)
-      (λ image left. inl (before image left)) after (stages others)
+      (rw same (Recovers-StoreIsIn store content kept)) (rw same kept.held) (λ image left. inl (before image left)) after (stages others)
 
 -- over every disk
 none-named : (name : List ℕ) (parts : List StreamParts) → part_named name parts ≡ None →
@@ -187,7 +184,7 @@ AreWhole-created parts live live_now part name params whole fresh number room no
     (below_next numbers) in
     let apart : list_any (same_name part.name) (map (λ (p : StreamParts). p.name) parts) ≡ false = rw fresh.name_is (none-named name parts none) in
     let slots : slots_held part ≡ part.slot ∷ [] = rw (fresh.entries, fresh.landmarks) refl in
-    let known : AreKnown part.landmarks = subst AreKnown (sym fresh.landmarks) AreKnown-none in
+    let known : AreKnown part.landmarks = rw fresh.landmarks AreKnown-none in
     let ends : EndByLast part = rw fresh.last_time (ap (λ (l : LandmarksState). l.landmarks) fresh.landmarks) in
     let all = flat_map slots_held parts in
     let is : flat_map slots_held (parts ++ part ∷ []) ≡ all ++ part.slot ∷ [] =
@@ -200,8 +197,7 @@ AreWhole-created parts live live_now part name params whole fresh number room no
       tiles = All-push (λ (p : StreamParts). TileFrom 1 (entries_of p)) parts part whole.tiles (rw fresh.entries tt);
       times = All-push RiseToLast parts part whole.times (rw (fresh.last_time, fresh.entries) refl);
       landmarks = All-push (λ (p : StreamParts). AreKnown p.landmarks × EndByLast p) parts part whole.landmarks (known, ends);
-      slots = subst (λ l. IsPermutation l (live_slots live_now)) (sym is)
-          (IsPermutation-trans (all ++ part.slot ∷ []) (part.slot ∷ all) (live_slots live_now) (IsPermutation-append_comm all (part.slot ∷ []))
+      slots = rw is (IsPermutation-trans (all ++ part.slot ∷ []) (part.slot ∷ all) (live_slots live_now) (IsPermutation-append_comm all (part.slot ∷ []))
           (go all whole.slots));
     }
 

@@ -1,5 +1,5 @@
 -- A store in which a stream is created: what is known before the write, and what the store does then.
-use Rattle.ss_store.proofs.Common.{◌≡◌, ◌∙◌, ◌∷◌, ◌++◌, ◌+◌, ◌≤◌, ℕ, Bool, true, false, List, [], flat_map, zip, arith, refl, sym, subst, Err, None, Ok, Result}
+use Rattle.ss_store.proofs.Common.{◌≡◌, ◌∙◌, ◌∷◌, ◌++◌, ◌+◌, ◌≤◌, ℕ, Bool, true, false, List, [], flat_map, zip, arith, refl, sym, Err, None, Ok, Result}
 use Rattle.ss_store.proofs.Common.{DiskView, OfContent, Step, Told, failed, fine, Failed, Create, Params, StreamId, refuses, IsSettled, RecordsState}
 use Rattle.ss_store.proofs.Common.{shown_by, records_held, HeldStream, StreamParts, IsNew, Applies, StagesAtCost, StepsState, IsSound, StoreIsIn, StoreIsKept}
 use Rattle.ss_store.proofs.Common.{StoreState, refuses_held, LiveSlotsGo, StagesRecord, Disk}
@@ -26,7 +26,7 @@ pub creating : (held : List HeldStream) {records : RecordsState} {stopped : Bool
 creating held {name = name} {params = params} {part = part} disk same one_disk sound runs none fresh is_new = record {
   takes = taking held disk same one_disk sound runs none;
   fresh = fresh;
-  is_new = subst (λ (s : StoreState). IsNew s name params part.id.0 part.slot) (sym same) is_new;
+  is_new = rw same is_new;
 }
 
 module _ {store : StoreState} {catalog : List (List ℕ × StreamId)} {name : List ℕ} {params : Params} {part : StreamParts} {before : DiskView}

@@ -1,5 +1,5 @@
 -- How many windows stand after an event, by what is replied to it.
-use Rattle.ss_store.proofs.Common.{◌≡◌, ℕ, ◌+◌, ◌-◌, ◌*◌, ◌<◌, ◌≤◌, List, length, slice_set, sym, ◌∙◌, subst, Option, IfSome, length-map, StreamId, rule_of}
+use Rattle.ss_store.proofs.Common.{◌≡◌, ℕ, ◌+◌, ◌-◌, ◌*◌, ◌<◌, ◌≤◌, List, length, slice_set, sym, ◌∙◌, Option, IfSome, length-map, StreamId, rule_of}
 use Rattle.ss_store.proofs.Common.{params_of, cover, steps_met, TileFrom, entries_of, StreamParts, IsTaker, ends_held, values_held, NoEntriesAreDue, IsSound}
 use Rattle.ss_store.proofs.Common.{StoreState, part_named}
 use Rattle.ss_store.proofs.Spared.{part_named-set}
@@ -22,7 +22,5 @@ KeepsToTarget-taken store catalog name t place slot now n k sound taker same val
     let steps = steps_met rule.step (ends_held (entries_of now)) in
     let count : length (entries_of now) ≡ k = length-map now.line.entries (λ e. e.1) ∙ sym windows in
     let bound : k + 1 ≤ 2 * (cover rule.lengths n + steps - 1) =
-    subst (λ m. k + 1 ≤ 2 * (cover rule.lengths m + steps - 1)) (sym values)
-    (subst (λ m. m + 1 ≤ 2 * (cover rule.lengths (values_held (entries_of now)) + steps - 1)) count
-    (length-none_due rule (entries_of now) tiles none (subst (λ m. 0 < m) values some))) in
-    subst (λ o. KeepsToTarget o n k) (sym (part_named-set name store.streams place taker.part now sound.numbers taker.named taker.at same)) bound
+    rw values (rw count at (length-none_due rule (entries_of now) tiles none (rw values at some))) in
+    rw (part_named-set name store.streams place taker.part now sound.numbers taker.named taker.at same) bound

@@ -1,16 +1,13 @@
 -- A store in which a stream is dropped: what is held then, and what the event does.
 use Rattle.ss_store.proofs.Common.{◌≡◌, ◌∙◌, ℕ, zero, suc, ◌<◌, Bool, true, false, List, [], ◌∷◌, ◌++◌, length, map, flat_map, remove, zip, refl, ap, sym}
-use Rattle.ss_store.proofs.Common.{subst, arith, inl, inr, Err, Ok, Result, Some, IsPermutation, get_or, ◌==◌, AllByRecursion, IsDistinct, list_any}
-use Rattle.ss_store.proofs.Common.{cases_eq, eq-eqb, ne_eqb, length-map, IsPermutation-append_comm, IsPermutation-append_left, IsPermutation-trans}
-use Rattle.ss_store.proofs.Common.{get_or_from_slice_get, slice_get-map, slice_get_within, DiskView, OfContent, Told, Step, failed, fine, Failed, IsSettled}
-use Rattle.ss_store.proofs.Common.{Record, Option}
-use Rattle.ss_store.proofs.Common.{same_name, Drop, StreamId, AreKnown, Entry, AreKept, RecordsState, shown_by, closed_state, closed_stream}
-use Rattle.ss_store.proofs.Common.{IsState, Stream, numbers_of, stepped, Ack, same_name-Decides, same_name-swap, HasRecords, is_of, records_beside}
-use Rattle.ss_store.proofs.Common.{without_numbered, AllAgree, AreWhole, EndByLast, RiseToLast, TileFrom, entries_of, mark_slots, occupied, records_held}
-use Rattle.ss_store.proofs.Common.{slots_held, HeldStream, StreamParts, held_parts, all_weaker, HasWholeSlots-StandsFor, Applies, RecoversToEither}
-use Rattle.ss_store.proofs.Common.{StepsState, said_of_held}
-use Rattle.ss_store.proofs.Common.{StagesAtCost, IsHeldBeside, RecoversWithOrWithout, StagesDrop, slots_in_turn, IsSound, StoreIsIn, StoreIsKept, StoreState}
-use Rattle.ss_store.proofs.Common.{entry_of}
+use Rattle.ss_store.proofs.Common.{arith, inl, inr, Err, Ok, Result, Some, IsPermutation, get_or, ◌==◌, AllByRecursion, IsDistinct, list_any, cases_eq, eq-eqb}
+use Rattle.ss_store.proofs.Common.{ne_eqb, length-map, IsPermutation-append_comm, IsPermutation-append_left, IsPermutation-trans, get_or_from_slice_get}
+use Rattle.ss_store.proofs.Common.{slice_get-map, slice_get_within, DiskView, OfContent, Told, Step, failed, fine, Failed, IsSettled, Record, Option, same_name}
+use Rattle.ss_store.proofs.Common.{Drop, StreamId, AreKnown, Entry, AreKept, RecordsState, shown_by, closed_state, closed_stream, IsState, Stream, numbers_of}
+use Rattle.ss_store.proofs.Common.{stepped, Ack, same_name-Decides, same_name-swap, HasRecords, is_of, records_beside, without_numbered, AllAgree, AreWhole}
+use Rattle.ss_store.proofs.Common.{EndByLast, RiseToLast, TileFrom, entries_of, mark_slots, occupied, records_held, slots_held, HeldStream, StreamParts}
+use Rattle.ss_store.proofs.Common.{held_parts, all_weaker, HasWholeSlots-StandsFor, Applies, RecoversToEither, StepsState, said_of_held, StagesAtCost}
+use Rattle.ss_store.proofs.Common.{IsHeldBeside, RecoversWithOrWithout, StagesDrop, slots_in_turn, IsSound, StoreIsIn, StoreIsKept, StoreState, entry_of}
 use Rattle.ss_store.proofs.Common.{part_named, refuses_held, Recovers, AreSomeLive, LiveSlotsGo, live_slots, Disk, carried-AreHeld}
 use Rattle.std.proofs.Common.{slice_get}
 use Rattle.std.proofs.lemmas.List.Edits.{length-remove}
@@ -82,8 +79,7 @@ names-apart : (name : List ℕ) (parts : List StreamParts) (place : ℕ) (part :
     IsAtPlace name place parts part → AllByRecursion (λ (p : StreamParts). same_name name p.name ≡ false) (remove parts place)
 names-apart name parts place part distinct is =
     let its : name ≡ part.name = (same_name-Decides name part.name).0 (find-passes (λ (p : StreamParts). same_name name p.name) parts part is.named) in
-    subst (λ n. AllByRecursion (λ (p : StreamParts). same_name n p.name ≡ false) (remove parts place)) (sym its)
-    (others-differ same_name same_name-swap (λ (p : StreamParts). p.name) parts place part is.at distinct)
+    rw its (others-differ same_name same_name-swap (λ (p : StreamParts). p.name) parts place part is.at distinct)
 
 IsSound-dropped : (store : StoreState) (catalog : List (List ℕ × StreamId)) (name : List ℕ) (place : ℕ) (part : StreamParts) (now : RecordsState)
     (stopped : Bool) → IsSound store catalog → store.stopped ≡ false → IsAtPlace name place store.streams part →
@@ -96,8 +92,7 @@ IsSound-dropped store catalog name place part now stopped sound runs is goes =
     let passes : List ℕ × StreamId → Bool = λ e. same_name name e.0 in
     let inside = slice_get_within parts place part is.at in
     let apart : AllByRecursion (λ (e : List ℕ × StreamId). passes e ≡ false) (remove (map entry_of parts) place) =
-    subst (λ l. AllByRecursion (λ (e : List ℕ × StreamId). passes e ≡ false) l) (map-remove entry_of parts place)
-    (map-all (λ (e : List ℕ × StreamId). passes e ≡ false) entry_of (remove parts place) (names-apart name parts place part whole.names is)) in
+    rw map-remove at (map-all (λ (e : List ℕ × StreamId). passes e ≡ false) entry_of (remove parts place) (names-apart name parts place part whole.names is)) in
     let at : slice_get (map entry_of parts) place ≡ Some (entry_of part) = rw (slice_get-map entry_of parts place, is.at) refl in
     let named : passes (entry_of part) ≡ true = find-passes (λ (p : StreamParts). same_name name p.name) parts part is.named in
     record {
@@ -150,7 +145,7 @@ module _ (parts : List StreamParts) (streams : List Stream) (name : List ℕ) (p
   stepped-remove = stepped-drop streams name ∙ without-name
 
   pub IsState-remove : IsState (remove streams place)
-  IsState-remove = subst IsState without-name (IsState-without name streams state)
+  IsState-remove = rw without-name at (IsState-without name streams state)
 
   -- none of the others' records has its number
   none-beside : list_any (is_of s.number) (records_beside (others_of place parts streams)) ≡ false
@@ -160,8 +155,7 @@ module _ (parts : List StreamParts) (streams : List Stream) (name : List ℕ) (p
       (λ u other. eq-swap u.number s.number ∙ other) (remove streams place)
       (others-differ (λ a b. a == b) eq-swap (λ (u : Stream). u.number) streams place s here (numbers-differ (numbers_of streams) state.numbers)) in
       let pairs : AllByRecursion (λ (p : StreamParts × Stream). (p.1.number == s.number) ≡ false) (remove (zip parts streams) place) =
-      subst (λ l. AllByRecursion (λ (p : StreamParts × Stream). (p.1.number == s.number) ≡ false) l)
-      (zip-remove parts streams place (length-AllAgree parts streams each))
+      rw (zip-remove parts streams place (length-AllAgree parts streams each)) at
       (all-zip (λ (u : Stream). (u.number == s.number) ≡ false) (remove parts place) (remove streams place) apart) in
       none-of-all s.number (remove (zip parts streams) place) pairs
 
@@ -183,22 +177,19 @@ module _ (parts : List StreamParts) (streams : List Stream) (name : List ℕ) (p
   -- without it
   HasRecords-remove : (image : List ℕ) → HasRecords (others_of place parts streams) image →
       HasRecords (flat_map records_held (zip (remove parts place) (remove streams place))) image
-  HasRecords-remove image has =
-      subst (λ l. HasRecords (flat_map records_held l) image) (sym (zip-remove parts streams place (length-AllAgree parts streams each))) has
+  HasRecords-remove image has = rw (zip-remove parts streams place (length-AllAgree parts streams each)) has
 
   Recovers-remove : (image : List ℕ) → closed_state streams ≡ streams → HasRecords (others_of place parts streams) image →
       Recovers (stepped streams (Drop name)) image
-  Recovers-remove image closed has =
-      subst (λ l. Recovers l image) (closed-remove streams place closed ∙ sym stepped-remove)
+  Recovers-remove image closed has = rw (closed-remove streams place closed ∙ sym stepped-remove) at
       (Recovers-held (remove parts place) (remove streams place) image (AllAgree-remove parts streams place each) IsState-remove
       (HasRecords-remove image has))
 
   -- what a crash leaves
   either-dropped : (image : List ℕ) → closed_state streams ≡ streams → RecoversWithOrWithout s.number streams image →
       RecoversToEither streams (Drop name) image
-  either-dropped image closed (inl still) = inl (subst (λ l. Recovers l image) closed still)
-  either-dropped image closed (inr gone) =
-      inr (subst (λ l. Recovers l image) (ap closed_state without-number ∙ closed-remove streams place closed ∙ sym stepped-remove) gone)
+  either-dropped image closed (inl still) = inl (rw closed at still)
+  either-dropped image closed (inr gone) = inr (rw (ap closed_state without-number ∙ closed-remove streams place closed ∙ sym stepped-remove) at gone)
 
 -- ---- the store
 

@@ -80,8 +80,7 @@ module _ (part : StreamParts) (others : List (ℕ × Option Record)) (s : Stream
       let carried_then = carried-dropped has.found put streams (record { number = s.number; name = s.name; params = s.params }) rest whole is_put
       has.carried moved in
       let now : IsPermutation ((part.slot, Some r) ∷ rest) (occupied (changed has.found (put ∷ []))) =
-      subst (λ (q : Record). IsPermutation ((part.slot, Some q) ∷ rest) (occupied (changed has.found (put ∷ [])))) same
-      (moves-replaced part.slot (dropped_record part) valid some (Some (stream_record s)) rest has.found moved) in
+      rw (← same) (moves-replaced part.slot (dropped_record part) valid some (Some (stream_record s)) rest has.found moved) in
       record {
         found = has.found;
         map = has.map;

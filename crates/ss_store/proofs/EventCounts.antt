@@ -1,11 +1,11 @@
 -- How many events gave a stream what it has: as many as its history has of it after its last create.
-use Rattle.ss_store.proofs.Common.{◌≡◌, ◌≢◌, ◌∙◌, ℕ, ℤ, ◌+◌, true, false, List, [], ◌∷◌, ◌++◌, length, refl, ap, sym, arith, subst, None, Some, inl, inr}
+use Rattle.ss_store.proofs.Common.{◌≡◌, ◌≢◌, ◌∙◌, ℕ, ℤ, ◌+◌, true, false, List, [], ◌∷◌, ◌++◌, length, refl, ap, sym, arith, None, Some, inl, inr}
 use Rattle.ss_store.proofs.Common.{cond, is_some, All, count_by, cases_Bool, not-false, append-nil, length_push, filter-append, sum_by-cons}
 use Rattle.ss_store.proofs.Common.{event_name, Event, Create, Value, Drop, Params, Landmark, LandmarkValue, all_values, change_last, closed_at}
 use Rattle.ss_store.proofs.Common.{opened_at, FollowFrom, cases-finish, all_values-close, all_values-open, all_values-take, Happened, events_of, landmarks_of}
 use Rattle.ss_store.proofs.Common.{has_open, with_closed, with_marked, with_opened, IsHistory, refuses, IsStream, Stream, stream_named}
 use Rattle.ss_store.proofs.Common.{IsState-state, same_name-Decides, same_name-same, All-state, CanAppend-refuses, state-push, is_closed, mark_events}
-use Rattle.std.specs.Prelude.{not, Option, MatchOption}
+use Rattle.std.specs.Prelude.{not}
 use Rattle.std.specs.List.{after_last}
 use Rattle.std.proofs.lemmas.List.Sums.{sum_by_push}
 use Rattle.ss_catalog.specs.declared.event.Event.TheVariants.{Open, Close}
@@ -77,11 +77,11 @@ count-closed from (l ∷ []) t follow begun = elim (cases-finish l.finish) [
 ]
 count-closed from (l ∷ next ∷ ls) t follow begun = elim (cases-finish l.finish) [
   | inl none ↦
-      (let last : next ∷ ls ≡ [] = subst (λ (f : Option ℕ). MatchOption f (next ∷ ls ≡ []) (λ finish. FollowFrom (finish + 1) (next ∷ ls))) none follow.2 in
+      (let last : next ∷ ls ≡ [] = rw none at follow.2 in
       cc)
   | inr closed ↦
       (let later : FollowFrom (closed.0 + 1) (next ∷ ls) =
-      subst (λ (f : Option ℕ). MatchOption f (next ∷ ls ≡ []) (λ finish. FollowFrom (finish + 1) (next ∷ ls))) closed.1 follow.2 in
+      rw closed.1 at follow.2 in
       let still : has_open (next ∷ ls) ≡ true = rw closed.1 at begun in
       let rest = count-closed (closed.0 + 1) (next ∷ ls) t later still in
       let more = sum_by-cons (λ (x : Landmark). cond (is_closed x) 1 0) l (change_last (closed_at t) (next ∷ ls)) in
@@ -125,11 +125,11 @@ named-state history name whole known =
     let each : All (λ (s : Stream). s.landmarks ≡ landmarks_of history s.name) (state history) =
     All-state (λ (s : Stream). s.landmarks ≡ landmarks_of history s.name) history (λ c. refl) in
     let one = (All-around (λ (s : Stream). s.landmarks ≡ landmarks_of history s.name) at.before at.stream at.after
-    (subst (All (λ (s : Stream). s.landmarks ≡ landmarks_of history s.name)) at.is each)).one in
+    (rw at.is at each)).one in
     record {
       stream = at.stream;
       found = ap (stream_named name) at.is ∙ stream_named-at name at.before at.stream at.after at.none_before at.named;
-      is = (All-around IsStream at.before at.stream at.after (subst (All IsStream) at.is was.each)).one;
+      is = (All-around IsStream at.before at.stream at.after (rw at.is at was.each)).one;
       name_is = named;
       landmarks = one ∙ ap (landmarks_of history) (sym named);
     }
@@ -185,8 +185,8 @@ counted-close history name t origin whole accepted =
     let test : of_outline (outline_named name (state history)) (λ s. not (has_open s.landmarks)) ≡ not (has_open at.stream.landmarks) =
     ap (λ o. of_outline (option_map outline_of o) (λ s. not (has_open s.landmarks))) at.found in
     let begun : has_open at.stream.landmarks ≡ true = not-false (has_open at.stream.landmarks) (sym test ∙ can.begun) in
-    let marks = mark_events-closed (landmarks_of history name) t (subst (FollowFrom 0) at.landmarks at.is.landmarks)
-    (subst (λ ls. has_open ls ≡ true) at.landmarks begun) in
+    let marks = mark_events-closed (landmarks_of history name) t (rw at.landmarks at at.is.landmarks)
+    (rw at.landmarks at begun) in
     omega (arith, marks)
 
 -- an event for the stream of a name
@@ -194,22 +194,18 @@ counted-own : (history : List Happened) (event : Event) (origin : Origin) → Is
     name ≡ event_name event → stands name (state (history ++ (event, origin) ∷ [])) ≡ true →
     IsCountedFor (history ++ (event, origin) ∷ []) name
 counted-own history (Create other params) origin before on name is known =
-    subst (IsCountedFor (history ++ (Create other params, origin) ∷ [])) (sym is)
-    (ap weight (given_to-created history other params origin (same_name-same other)) ∙ sym (ap length (events_of-created history other params origin)))
+    rw is (ap weight (given_to-created history other params origin (same_name-same other)) ∙ sym (ap length (events_of-created history other params origin)))
 counted-own history (Value other t v) origin before on name is known =
     let can = CanAppend-refuses (state history) other t v on.accepted in
-    subst (IsCountedFor (history ++ (Value other t v, origin) ∷ [])) (sym is)
-    (counted-event history other (Value other t v) origin (same_name-same other) refl (before on.before other can.known)
+    rw is (counted-event history other (Value other t v) origin (same_name-same other) refl (before on.before other can.known)
     (weight-value origin (given_to history other) other t v))
 counted-own history (Open other t) origin before on name is known =
     let can = CanOpenAt-refuses (state history) other t on.accepted in
     let marks = mark_events-opened (landmarks_of history other) t in
-    subst (IsCountedFor (history ++ (Open other t, origin) ∷ [])) (sym is)
-    (counted-event history other (Open other t) origin (same_name-same other) refl (before on.before other can.known) (omega (arith, marks)))
+    rw is (counted-event history other (Open other t) origin (same_name-same other) refl (before on.before other can.known) (omega (arith, marks)))
 counted-own history (Close other t) origin before on name is known =
     let can = CanCloseAt-refuses (state history) other t on.accepted in
-    subst (IsCountedFor (history ++ (Close other t, origin) ∷ [])) (sym is)
-    (counted-event history other (Close other t) origin (same_name-same other) refl (before on.before other can.known)
+    rw is (counted-event history other (Close other t) origin (same_name-same other) refl (before on.before other can.known)
     (counted-close history other t origin on.before on.accepted))
 counted-own history (Drop other) origin before on name is known =
     let gone : stands other (state (history ++ (Drop other, origin) ∷ [])) ≡ false = ap is_some (named-dropped history other origin on) in

@@ -1,12 +1,11 @@
 -- How many events a stream has taken, by what is held of it.
-use Rattle.ss_store.proofs.Common.{◌≡◌, ◌∙◌, ℕ, zero, suc, ◌+◌, ◌-◌, ◌*◌, ◌≤◌, Bool, true, List, [], ◌∷◌, length, refl, ap, arith, cond, inl, inr, subst}
-use Rattle.ss_store.proofs.Common.{Some, All, is_some, slice_get, ◌==◌, count_by, cases_Bool, All-get_or, sum_by-cons}
-use Rattle.ss_store.proofs.Common.{get_or_from_slice_get, none-some, same_Some, slice_get_within, same_name, Landmark, open_landmark, FollowFrom}
-use Rattle.ss_store.proofs.Common.{cases-finish, MOST_VALUES, Happened, events_of, landmarks_of, values_of, IsHistory, rule_of, Stream, state, values_in}
-use Rattle.ss_store.proofs.Common.{IsState-state, same_name-same, All-state, AllAgree, AreWhole, TileFrom, entries_of, StreamParts, events_held, is_closed}
-use Rattle.ss_store.proofs.Common.{mark_events, values_held, part_numbered}
+use Rattle.ss_store.proofs.Common.{◌≡◌, ◌∙◌, ℕ, zero, suc, ◌+◌, ◌-◌, ◌*◌, ◌≤◌, Bool, true, List, [], ◌∷◌, length, refl, ap, arith, cond, inl, inr, Some, All}
+use Rattle.ss_store.proofs.Common.{is_some, slice_get, ◌==◌, count_by, cases_Bool, All-get_or, sum_by-cons, get_or_from_slice_get, none-some, same_Some}
+use Rattle.ss_store.proofs.Common.{slice_get_within, same_name, Landmark, open_landmark, FollowFrom, cases-finish, MOST_VALUES, Happened, events_of}
+use Rattle.ss_store.proofs.Common.{landmarks_of, values_of, IsHistory, rule_of, Stream, state, values_in, IsState-state, same_name-same, All-state, AllAgree}
+use Rattle.ss_store.proofs.Common.{AreWhole, TileFrom, entries_of, StreamParts, events_held, is_closed, mark_events, values_held, part_numbered}
 use Rattle.std.proofs.Common.{◌^◌, min}
-use Rattle.std.specs.Prelude.{MatchOption, Option}
+use Rattle.std.specs.Prelude.{Option}
 use Rattle.ss_landmarks.specs.declared.landmarks.TheConstants.{MOST_LANDMARK_SLOTS}
 use Rattle.ss_model.specs.Refusals.{stands}
 use Rattle.ss_model.proofs.Stretches.{taken-windows}
@@ -26,11 +25,11 @@ pub count-open : (from : ℕ) (ls : List Landmark) → FollowFrom from ls →
 count-open from [] follow = refl
 count-open from (l ∷ ls) follow = elim (cases-finish l.finish) [
   | inl none ↦
-      (let last : ls ≡ [] = subst (λ (f : Option ℕ). MatchOption f (ls ≡ []) (λ finish. FollowFrom (finish + 1) ls)) none follow.2 in
+      (let last : ls ≡ [] = rw none at follow.2 in
       rw (last, none) refl)
   | inr closed ↦
       (let later : FollowFrom (closed.0 + 1) ls =
-      subst (λ (f : Option ℕ). MatchOption f (ls ≡ []) (λ finish. FollowFrom (finish + 1) ls)) closed.1 follow.2 in
+      rw closed.1 at follow.2 in
       let rest = count-open (closed.0 + 1) ls later in
       let more : count_by is_closed (l ∷ ls) ≡ 1 + count_by is_closed ls =
       sum_by-cons (λ (x : Landmark). cond (is_closed x) 1 0) l ls ∙ ap (λ (f : Option ℕ). cond (is_some f) 1 0 + count_by is_closed ls) closed.1 in
@@ -43,7 +42,7 @@ count-open from (l ∷ ls) follow = elim (cases-finish l.finish) [
 
 -- what holds of each holds of the one at a place
 All-at : {X : Type 0} (P : X → Type 0) (xs : List X) (place : ℕ) (x : X) → All P xs → slice_get xs place ≡ Some x → P x
-All-at P xs place x all at = subst P (get_or_from_slice_get xs place x x at) (All-get_or P xs place x (slice_get_within xs place x at) all)
+All-at P xs place x all at = rw (get_or_from_slice_get xs place x x at) at (All-get_or P xs place x (slice_get_within xs place x at) all)
 
 stands-at : (streams : List Stream) (place : ℕ) (s : Stream) → slice_get streams place ≡ Some s → stands s.name streams ≡ true
 stands-at [] place s at = absurd (none-some s at)

@@ -1,8 +1,7 @@
 -- What a store holds, at a history for which its image stands: what is said of a stream, and the stream that is found.
-use Rattle.ss_store.proofs.Common.{◌≡◌, ℕ, true, List, [], ◌∷◌, length, Option, Some, None, refl, ap, sym, subst, inl, inr, ◌==◌, option_map}
-use Rattle.ss_store.proofs.Common.{cases_Bool, same_name, Event, StreamId, Happened, refuses, IsStream, Stream, state, stream_named}
-use Rattle.ss_store.proofs.Common.{stream_numbered, AllAgree, StreamParts, said_of_held, SomeAgree, StoreIsIn, StoreState, part_named, part_numbered}
-use Rattle.ss_store.proofs.Common.{refuses_held, Stands}
+use Rattle.ss_store.proofs.Common.{◌≡◌, ℕ, true, List, [], ◌∷◌, length, Option, Some, None, refl, ap, sym, inl, inr, ◌==◌, option_map, cases_Bool, same_name}
+use Rattle.ss_store.proofs.Common.{Event, StreamId, Happened, refuses, IsStream, Stream, state, stream_named, stream_numbered, AllAgree, StreamParts}
+use Rattle.ss_store.proofs.Common.{said_of_held, SomeAgree, StoreIsIn, StoreState, part_named, part_numbered, refuses_held, Stands}
 use Rattle.std.proofs.Common.{IfSome}
 use Rattle.ss_model.specs.Steps.{ack_of, said_of}
 use Rattle.ss_model.proofs.WithinLemmas.{IfSome-find}
@@ -45,7 +44,7 @@ pub windows_alike : (part : Option StreamParts) (o : Option Stream) (s : Stream)
 windows_alike None o s is agree = tt
 windows_alike (Some part) None s is agree = absurd agree
 windows_alike (Some part) (Some t) s is agree =
-    let same : t ≡ s = cc in subst (λ u. length part.line.entries ≡ length u.windows) same (length-Agrees part t agree)
+    let same : t ≡ s = cc in rw same at (length-Agrees part t agree)
 
 pub windows-kept : (store : StoreState) (image : List ℕ) (history : List Happened) (number : ℕ) (s : Stream) →
     StoreIsIn store image → Stands history image →
@@ -79,12 +78,12 @@ both_found (p ∷ ps) (s ∷ ss) name part each named numbered =
     elim (cases_Bool (same_name name p.name)) [
       | inl found ↦ (let here : Some p ≡ Some part = rw found at named in let same : part ≡ p = cc in
           let number : (part.id.0 == p.id.0) ≡ true =
-          subst (λ q. (part.id.0 == q.id.0) ≡ true) same (find-passes (λ (q : StreamParts). part.id.0 == q.id.0) (p ∷ ps) part numbered) in
+          rw (← same) (find-passes (λ (q : StreamParts). part.id.0 == q.id.0) (p ∷ ps) part numbered) in
           (s, rw (name_same, found) refl, rw (number_same, number) refl))
       | inr other ↦ elim (cases_Bool (part.id.0 == p.id.0)) [
         | inl hit ↦ (let here : Some p ≡ Some part = rw hit at numbered in let same : part ≡ p = cc in
             let passes : same_name name p.name ≡ true =
-            subst (λ q. same_name name q.name ≡ true) same (find-passes (λ (q : StreamParts). same_name name q.name) (p ∷ ps) part named) in
+            rw same at (find-passes (λ (q : StreamParts). same_name name q.name) (p ∷ ps) part named) in
             cc)
         | inr miss ↦ (let rest = both_found ps ss name part each.1 (rw other at named) (rw miss at numbered) in
             (rest.0, rw (name_same, other) rest.1, rw (number_same, miss) rest.2))
@@ -97,8 +96,7 @@ pub found_alike : (parts : List StreamParts) (streams : List Stream) (name : Lis
 found_alike parts streams name id None each named number numbered = cc
 found_alike parts streams name id (Some part) each named number numbered =
     let same : id ≡ part.id = cc in
-    subst (λ (i : StreamId). (s : Stream) × (stream_named name streams ≡ Some s) × (stream_numbered i.0 streams ≡ Some s)) (sym same)
-    (both_found parts streams name part each (sym named) (subst (λ (i : StreamId). part_numbered i.0 parts ≡ Some part) same numbered))
+    rw same (both_found parts streams name part each (sym named) (rw same at numbered))
 
 pub found-kept : (store : StoreState) (image : List ℕ) (history : List Happened) (name : List ℕ) (id : StreamId) →
     StoreIsIn store image → Stands history image →

@@ -1,7 +1,7 @@
 -- What is held of one stream among others.
-use Rattle.ss_store.proofs.Common.{◌≡◌, ◌∙◌, ℕ, ◌<◌, Bool, List, [], ◌∷◌, ◌++◌, Some, sym, ap, subst, get_or, length, map-append, map-set, option_map}
+use Rattle.ss_store.proofs.Common.{◌≡◌, ◌∙◌, ℕ, ◌<◌, Bool, List, [], ◌∷◌, ◌++◌, Some, sym, ap, get_or, length, map-append, map-set, option_map}
 use Rattle.ss_store.proofs.Common.{remove, slice_get, slice_get-get_or, slice_get-map, slice_set, All, All-get_or, All-set, length-map, HeldStream, IsScheduled}
-use Rattle.ss_store.proofs.Common.{Index, IsKeyed, RecordsState, StoreState, held_parts}
+use Rattle.ss_store.proofs.Common.{Index, RecordsState, StoreState, held_parts}
 use Rattle.std.proofs.Math.ListN.{get_or-map}
 use Rattle.ss_store.proofs.KeyedWindows.{IsScheduled-same}
 use Rattle.ss_store.proofs.Removed.{map-remove}
@@ -34,9 +34,7 @@ parts-at held place otherwise inside =
 -- the stream at a place has its index
 pub IsScheduled-at : (held : List HeldStream) (place : ℕ) {stream : HeldStream} → All IsScheduled held → place < length (held_parts held) →
     stream ≡ get_or held place stream → IsScheduled stream
-IsScheduled-at held place {stream} all inside read =
-    subst IsScheduled (sym read)
-    (All-get_or IsScheduled held place stream (subst (λ n. place < n) (length-map held (λ (h : HeldStream). h.part)) inside) all)
+IsScheduled-at held place {stream} all inside read = rw read (All-get_or IsScheduled held place stream (rw length-map at inside) all)
 
 -- a stream that changes, but for its target and the windows in its line, keeps its index
 pub AreScheduled-other : (held : List HeldStream) (place : ℕ) {stream : HeldStream} (now : HeldStream) → All IsScheduled held →
@@ -44,6 +42,5 @@ pub AreScheduled-other : (held : List HeldStream) (place : ℕ) {stream : HeldSt
     now.part.line.entries ≡ stream.part.line.entries → now.index ≡ stream.index → All IsScheduled (slice_set held place now)
 AreScheduled-other held place {stream} now all inside read target entries index =
     All-set IsScheduled held place now
-    (IsScheduled-same stream now target entries (ap (λ (i : Index). i.schedule.target) index)
-    (λ n es keyed. subst (λ (i : Index). IsKeyed n es i.schedule) (sym index) keyed) (ap (λ (i : Index). i.times) index)
+    (IsScheduled-same stream now target entries (ap (λ (i : Index). i.schedule.target) index) (λ n es keyed. rw index keyed) (ap (λ (i : Index). i.times) index)
     (IsScheduled-at held place all inside read)) all

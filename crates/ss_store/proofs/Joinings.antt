@@ -1,5 +1,5 @@
 -- A transaction that joins two neighbours, in which a crash may come.
-use Rattle.ss_store.proofs.Common.{◌≡◌, ◌∙◌, ◌⊎◌, ⊎_elim, ℕ, ◌<◌, arith, ap, ap₂, map, Bool, List, [], ◌∷◌, ◌++◌, refl, sym, subst, Option, Some, None, Err}
+use Rattle.ss_store.proofs.Common.{◌≡◌, ◌∙◌, ◌⊎◌, ⊎_elim, ℕ, ◌<◌, arith, ap, ap₂, map, Bool, List, [], ◌∷◌, ◌++◌, refl, sym, Option, Some, None, Err}
 use Rattle.ss_store.proofs.Common.{Ok, Result, Contains, IsErr, map-append, Contains-append_right, on_ok_weaker, IsPermutation-sym, KnowsNow, OnlyReads, Told}
 use Rattle.ss_store.proofs.Common.{weaker, shown, on_err, RecordsState, shown_by, Record, Landmark, At, Entry, Figures, joined, Rule, rule_of, params_of}
 use Rattle.ss_store.proofs.Common.{lies_free, Stream, Window, entries_of, records_held, slots_held, span_held, span_of, window_record, times_held, times_of}
@@ -86,8 +86,7 @@ module _ (others : List (ℕ × Option Record)) (part new : StreamParts) (s : St
             held = record {
               agrees = j.agrees;
               stream = j.stream;
-              records = HasRecords-permutation joint (records_held (new, with_windows s j.windows) ++ others) image j.is
-                  (subst (λ f. HasRecords ((w.slot, Some (records.Window part.id.0 w.first f)) ∷ j.beside) image) summary_is has);
+              records = HasRecords-permutation joint (records_held (new, with_windows s j.windows) ++ others) image j.is (rw (← summary_is) has);
             };
           }
 
@@ -123,9 +122,7 @@ module _ (others : List (ℕ × Option Record)) (part new : StreamParts) (s : St
       TurnsShown-then {S = Figures} {F = ReadError} old_records read_records new_records (IsHeldIn others part s) (IsPartlyJoined others s)
       (IsHeldIn others part s) (IsPartlyJoined others s) (IsJoinedIn others new s) (IsPartlyJoined others s) old mid after summary result knows_mid
       (TurnsShown-reads old_records read_records (IsHeldIn others part s) (IsPartlyJoined others s) old mid (Ok summary) knows reads journal)
-      (TurnsShown-pair read_records new_records mid after summary result
-      (subst (λ (content : List ℕ). ReadsBoth part.id.0 part.landmarks.landmarks w v content (λ is. summary ≡ is)) (sym same_shown) read) stages)
-      (λ image left. left) (λ image left. left)
+      (TurnsShown-pair read_records new_records mid after summary result (rw same_shown read) stages) (λ image left. left) (λ image left. left)
 
 -- where the records weren't read nothing was staged
 pub TurnsShown-not_read : {T E : Type 0} (others : List (ℕ × Option Record)) (part : StreamParts) (s : Stream) (after : Type 0)
@@ -164,4 +161,4 @@ IfChanged-window T part w v pair (fault.Changed slot) one =
     ap (λ es. map slot_of es) pair.was ∙ map-append slot_of pair.front (w ∷ v ∷ pair.rest) in
     let here : Contains after slot =
     ⊎_elim (λ first. (0, omega arith, sym first)) (λ second. (1, omega arith, sym second)) one in
-    subst (λ slots. Contains slots slot) (sym held) (Contains-append_right (map slot_of pair.front) after slot here)
+    rw held (Contains-append_right (map slot_of pair.front) after slot here)

@@ -1,7 +1,6 @@
 -- What a store holds, and the state of an image that has its records. What an image recovers to is a property of its map.
-use Rattle.ss_store.proofs.Common.{◌≡◌, ℕ, List, refl, sym, subst, ◌∙◌, SlotMap, StandsFor, redo, stands, not_a_store, bad_entry, SameMap-refl}
-use Rattle.ss_store.proofs.Common.{StandsFor-from, Happened, IsState, Stream, state, AllAgree, StoreIsIn, StoreState, Recovers, Stands, recovered_from}
-use Rattle.ss_store.proofs.Common.{recovers}
+use Rattle.ss_store.proofs.Common.{◌≡◌, ℕ, List, refl, sym, ◌∙◌, SlotMap, StandsFor, redo, stands, not_a_store, bad_entry, SameMap-refl, StandsFor-from}
+use Rattle.ss_store.proofs.Common.{Happened, IsState, Stream, state, AllAgree, StoreIsIn, StoreState, Recovers, Stands, recovered_from, recovers}
 use Rattle.ss_journal.specs.Redo.{Redone}
 use Rattle.ss_store.specs.Recover.{recover}
 use Rattle.ss_store.proofs.Among.{Recovers-held, recover-StandsFor}
@@ -15,14 +14,12 @@ Recovers-same first second image one two =
 
 -- and that of what is kept is the one that is held
 pub Recovers-StoreIsIn : (store : StoreState) (image : List ℕ) (kept : StoreIsIn store image) → Recovers kept.streams image
-Recovers-StoreIsIn store image kept =
-    subst (λ l. Recovers l image) kept.closed (Recovers-held store.streams kept.streams image kept.agree kept.state kept.held)
+Recovers-StoreIsIn store image kept = rw kept.closed at (Recovers-held store.streams kept.streams image kept.agree kept.state kept.held)
 
 pub AllAgree-recovered : (store : StoreState) (image : List ℕ) (streams : List Stream) → StoreIsIn store image → Recovers streams image →
     AllAgree store.streams streams × IsState streams
 AllAgree-recovered store image streams kept is =
-    subst (λ l. AllAgree store.streams l × IsState l) (Recovers-same kept.streams streams image (Recovers-StoreIsIn store image kept) is)
-    (kept.agree, kept.state)
+    rw (← Recovers-same kept.streams streams image (Recovers-StoreIsIn store image kept) is) (kept.agree, kept.state)
 
 -- what recovers to streams stands for a map
 redone-stands : (redone : Redone) (streams : List Stream) → recovered_from redone ≡ recovers streams → (found : SlotMap) × (redone ≡ stands found)

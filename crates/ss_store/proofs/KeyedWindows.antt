@@ -98,15 +98,12 @@ held-few (e ∷ es) tiles = (last-held 1 e es tiles).1
 
 -- windows that were joined as far as they are due have no pair that may be one
 none_due-same : (was now : StreamParts) → now.target ≡ was.target → now.line.entries ≡ was.line.entries → NoneAreDue was → NoneAreDue now
-none_due-same was now target entries none =
-    subst (λ t. NoEntriesAreDue (rule_of (params_of t)) (values_held (entries_of now)) (entries_of now)) (sym target)
-    (subst (λ es. NoEntriesAreDue (rule_of (params_of was.target)) (values_held (entries_in es)) (entries_in es)) (sym entries) none)
+none_due-same was now target entries none = rw (target, entries) none
 
 keyed-same : (was now : StreamParts) (old new : ScheduleState) → now.line.entries ≡ was.line.entries →
     ((n : ℕ) (entries : List (At × Entry)) → IsKeyed n entries old → IsKeyed n entries new) → IsKeyed (values_held (entries_of was)) was.line.entries old →
     IsKeyed (values_held (entries_of now)) now.line.entries new
-keyed-same was now old new entries keep keyed =
-    keep (values_held (entries_of now)) now.line.entries (subst (λ es. IsKeyed (values_held (entries_in es)) es old) (sym entries) keyed)
+keyed-same was now old new entries keep keyed = keep (values_held (entries_of now)) now.line.entries (rw entries keyed)
 
 -- a stream with other room, and an index that says the same
 pub IsScheduled-same : (was now : HeldStream) → now.part.target ≡ was.part.target → now.part.line.entries ≡ was.part.line.entries →
@@ -142,8 +139,8 @@ pub IsScheduled-none : (held : HeldStream) → held.index.schedule.target ≡ he
 IsScheduled-none held target none keyed timed = (
   record {
     target = target;
-    keyed = subst (λ es. IsKeyed (values_held (entries_in es)) es held.index.schedule) (sym none) keyed;
+    keyed = rw none keyed;
     timed = timed ∙ ap (λ es. map begun_at es) (sym none);
   },
-  subst (λ es. NoEntriesAreDue (rule_of (params_of held.part.target)) (values_held (entries_in es)) (entries_in es)) (sym none) tt,
+  rw none tt,
 )

@@ -1,10 +1,9 @@
 -- The slots that are live, and where they go.
 use Rattle.ss_store.proofs.Common.{Bool, IsPermutation, List, Some, [], append_assoc, ap, ap₂, arith, cond, false, filter, inl, inr, length, not, refl, set}
-use Rattle.ss_store.proofs.Common.{suc, subst, sym, true, zero, ◌+◌, ◌++◌, ◌-◌, ◌∷◌, ◌<◌, ◌≡◌, ◌≢◌, ◌≤◌, ◌∙◌, ℕ, sum_by, AllByRecursion, range_with_len}
-use Rattle.ss_store.proofs.Common.{both_ways, cases_Bool, cases_eq, cond-false, cond-true, eq-eqb, ne_eqb, nat_tests, length-set, filter-append}
-use Rattle.ss_store.proofs.Common.{recursion_from_All, All-permutation, IsPermutation-append_left, IsPermutation-cons, IsPermutation-middle}
-use Rattle.ss_store.proofs.Common.{IsPermutation-sym, IsPermutation-trans, sum_by-cons, is_live, all_weaker, IsPermutation-same, IsPermutation-turn}
-use Rattle.ss_store.proofs.Common.{AreSomeLive, LiveSlotsGo, live_slots}
+use Rattle.ss_store.proofs.Common.{suc, sym, true, zero, ◌+◌, ◌++◌, ◌-◌, ◌∷◌, ◌<◌, ◌≡◌, ◌≢◌, ◌≤◌, ◌∙◌, ℕ, sum_by, AllByRecursion, range_with_len, both_ways}
+use Rattle.ss_store.proofs.Common.{cases_Bool, cases_eq, cond-false, cond-true, eq-eqb, ne_eqb, nat_tests, length-set, filter-append, recursion_from_All}
+use Rattle.ss_store.proofs.Common.{All-permutation, IsPermutation-append_left, IsPermutation-cons, IsPermutation-middle, IsPermutation-sym, IsPermutation-trans}
+use Rattle.ss_store.proofs.Common.{sum_by-cons, is_live, all_weaker, IsPermutation-same, IsPermutation-turn, AreSomeLive, LiveSlotsGo, live_slots}
 use Rattle.std.proofs.Common.{nat_eq}
 use Rattle.std.proofs.lemmas.Bool.{not-true}
 use Rattle.std.proofs.lemmas.List.Quantifiers.{position-Some}
@@ -46,7 +45,7 @@ pub LiveSlotsGo-beside : (beside slots now : List ℕ) (live live_now : List Boo
     LiveSlotsGo (slots ++ beside) (now ++ beside) live live_now
 LiveSlotsGo-beside beside slots now live live_now go others is =
     let there = go (beside ++ others) (rw append_assoc at is) in
-    subst (λ (l : List ℕ). IsPermutation l (live_slots live_now)) (sym (append_assoc now beside others)) there
+    rw append_assoc there
 
 -- the order of the slots says nothing
 pub LiveSlotsGo-permutation : (slots slots' now now' : List ℕ) (live live_now : List Bool) → IsPermutation slots slots' → IsPermutation now now' →
@@ -232,8 +231,7 @@ IsOneLive-permutation live slot rest moved =
     record {
       below = below;
       is = is;
-      others = subst (λ (l : List ℕ). IsPermutation l (live_slots freed)) left
-          (subst (λ (l : List ℕ). IsPermutation (filter (is_beside slot) (slot ∷ rest)) l) right kept);
+      others = rw (right, left) at kept;
     }
 
 -- a slot that is live is made live again

@@ -1,5 +1,5 @@
 -- A look at a store: the part that is read, and what a failure leaves.
-use Rattle.ss_store.proofs.Common.{◌≡◌, ◌∙◌, ℕ, true, false, List, get_or, sym, ap, subst, Some, None, Err, IsTrue, IsSome, slice_get, DiskView, IfChanged}
+use Rattle.ss_store.proofs.Common.{◌≡◌, ◌∙◌, ℕ, true, false, List, get_or, sym, ap, Some, None, Err, IsTrue, IsSome, slice_get, DiskView, IfChanged}
 use Rattle.ss_store.proofs.Common.{IsFirm, HeldStream, StreamParts, held_parts, verdict_of_read, ReadError, Looks, ask_of_fault, verdict_of_ask, StoreState}
 use Rattle.ss_store.proofs.Common.{part_numbered, AskError}
 use Rattle.std.specs.Prelude.{Option}
@@ -22,35 +22,33 @@ pub IsPartAt-read : (held : List HeldStream) {parts : List StreamParts} {number 
     slice_get parts place ≡ part_numbered number parts → IsSome (part_numbered number parts) → stream ≡ get_or held place stream →
     IsPartAt parts number place stream.part
 IsPartAt-read held {parts} {number} {place} {stream} same at stands read =
-    let is : stream.part ≡ get_or parts place stream.part = subst (λ l. stream.part ≡ get_or l place stream.part) same (parts-read held place read) in
+    let is : stream.part ≡ get_or parts place stream.part = rw same at (parts-read held place read) in
     let numbered = read-at parts place (part_numbered number parts) stream.part at stands is in
     record { numbered = numbered; at = at ∙ numbered }
 
 -- an error of reading, as a store answers it: no other verdict
 pub IfChanged-ask : (T U : Type 0) (P : ℕ → Type 0) (why : ReadError) (e : AskError) → e ≡ ask_of_fault why →
     IfChanged (verdict_of_read {T = T} (Err why)) P → IfChanged (verdict_of_ask {T = U} (Err e)) P
-IfChanged-ask T U P error.Disk e is changed = subst (λ x. IfChanged (verdict_of_ask {T = U} (Err x)) P) (sym is) tt
-IfChanged-ask T U P (error.Changed slot) e is changed = subst (λ x. IfChanged (verdict_of_ask {T = U} (Err x)) P) (sym is) changed
+IfChanged-ask T U P error.Disk e is changed = rw is tt
+IfChanged-ask T U P (error.Changed slot) e is changed = rw is changed
 
 -- what is left where a look failed: the store has stopped
 pub Looks-failed : {before after : DiskView} (T : Type 0) (why : ReadError) (e : AskError) (old new : StoreState) → e ≡ ask_of_fault why →
     new.stopped ≡ true → new.streams ≡ old.streams → new.records.live ≡ old.records.live →
     (IsTrue before.tells → IsFirm (verdict_of_read {T = T} (Err why))) → Looks (verdict_of_ask {T = T} (Err e)) old new before after
-Looks-failed {before} {after} T error.Disk e old new is stopped streams live firm =
-    subst (λ x. Looks (verdict_of_ask {T = T} (Err x)) old new before after) (sym is) (record {
-      stands = λ runs. (let wrong : true ≡ false = sym stopped ∙ runs in cc);
-      streams = streams;
-      live = live;
-      journal = tt;
-      stops = stopped;
-      firm = λ told. tt;
-    })
-Looks-failed {before} {after} T (error.Changed slot) e old new is stopped streams live firm =
-    subst (λ x. Looks (verdict_of_ask {T = T} (Err x)) old new before after) (sym is) (record {
-      stands = λ runs. (let wrong : true ≡ false = sym stopped ∙ runs in cc);
-      streams = streams;
-      live = live;
-      journal = tt;
-      stops = stopped;
-      firm = λ told. absurd (firm told);
-    })
+Looks-failed {before} {after} T error.Disk e old new is stopped streams live firm = rw is (record {
+  stands = λ runs. (let wrong : true ≡ false = sym stopped ∙ runs in cc);
+  streams = streams;
+  live = live;
+  journal = tt;
+  stops = stopped;
+  firm = λ told. tt;
+})
+Looks-failed {before} {after} T (error.Changed slot) e old new is stopped streams live firm = rw is (record {
+  stands = λ runs. (let wrong : true ≡ false = sym stopped ∙ runs in cc);
+  streams = streams;
+  live = live;
+  journal = tt;
+  stops = stopped;
+  firm = λ told. absurd (firm told);
+})

@@ -1,18 +1,14 @@
 -- A store in which the landmarks of a stream take a mark: what is known before the call, and what the store does then.
-use Rattle.ss_store.proofs.Common.{◌≡◌, ◌∙◌, ℕ, ◌<◌, ◌≤◌, Bool, true, false, List, get_or, slice_set, length, map, ap, arith, inl, refl, sym, subst, Err}
-use Rattle.ss_store.proofs.Common.{None, Ok}
-use Rattle.ss_store.proofs.Common.{DiskView, OfContent, Step, failed, fine, Failed, LAST_TIME, StreamId, event_name, MOST_SLOTS}
-use Rattle.ss_store.proofs.Common.{LandmarksState, has_open, RecordsState, shown_by, entries_of, mark_slots, HeldStream, StreamParts, held_parts, IsMarker}
-use Rattle.ss_store.proofs.Common.{Applies}
-use Rattle.ss_store.proofs.Common.{leaves_no_value, is_plain_value, StagesAtCost, KeepsWhole, values_held, IsHeldIn, IsSound, same_name}
-use Rattle.ss_store.proofs.Common.{StoreIsIn, StoreIsKept, StoreState, of_part, refuses_held, without_spare, CanMark, FitsMark, IsInOpen, IsItsSlot, event_of}
-use Rattle.ss_store.proofs.Common.{slots_used, with_mark, Disk, Mark}
+use Rattle.ss_store.proofs.Common.{◌≡◌, ◌∙◌, ℕ, ◌<◌, ◌≤◌, Bool, true, false, List, get_or, slice_set, length, map, ap, arith, inl, refl, sym, subst, Err, None}
+use Rattle.ss_store.proofs.Common.{Ok, DiskView, OfContent, Step, failed, fine, Failed, LAST_TIME, StreamId, event_name, MOST_SLOTS, LandmarksState, has_open}
+use Rattle.ss_store.proofs.Common.{RecordsState, shown_by, entries_of, mark_slots, HeldStream, StreamParts, held_parts, IsMarker, Applies, leaves_no_value}
+use Rattle.ss_store.proofs.Common.{is_plain_value, StagesAtCost, KeepsWhole, values_held, IsHeldIn, IsSound, same_name, StoreIsIn, StoreIsKept, StoreState}
+use Rattle.ss_store.proofs.Common.{of_part, refuses_held, without_spare, CanMark, FitsMark, IsInOpen, IsItsSlot, event_of, slots_used, with_mark, Disk, Mark}
 use Rattle.ss_store.specs.Changing.{CanTakeMark, HasNoLessRoom, HasSameWindows, TakesMark}
 use Rattle.ss_store.specs.declared.marking.Mark.TheVariants as marks
 use Rattle.ss_query.specs.declared.read_error.ReadError.TheVariants as fault
 use Rattle.ss_store.proofs.IndexedStreams.{parts-read, stored}
 use Rattle.ss_store.proofs.MarkedCalls.{CanBeSaid-mark, mark_refusal-same}
-use Rattle.ss_store.proofs.Named.{IsAtPlace}
 use Rattle.ss_store.proofs.Refusals.{of_part-named, refuses_held-is}
 use Rattle.ss_store.proofs.Spared.{IsSpared-marks, part-read, same_name-part}
 use Rattle.ss_store.proofs.Taking.{IsTakingAt, applies-taken, applies-untaken, ordered-spared, pair, recovers-before, same-spared, taking, with_stream}
@@ -60,7 +56,7 @@ pub taking-mark : (held : List HeldStream) {records : RecordsState} {stopped : B
     HasNoLessRoom stream.part.landmarks marks → IsTakingMark (stored held records stopped) catalog name t mark place slot stream.part marks disk
 taking-mark held {records} {stopped} {name = name} {t = t} {mark = mark} {place = place} {slot = slot} {stream = stream} {marks = marks} disk same
     one_disk sound runs marker none early begun read room =
-    let its = subst (λ (s : StoreState). IsMarker s name t mark place slot) (sym same) marker in
+    let its = rw (← same) at marker in
     let takes = taking held disk same one_disk sound runs none in
     let part = part-read (held_parts held) place its.part stream.part its.at (parts-read held place read) in
     record {
@@ -69,7 +65,7 @@ taking-mark held {records} {stopped} {name = name} {t = t} {mark = mark} {place 
       begun = λ own. ap (λ (s : StoreState). of_part name s.streams (λ part. has_open part.landmarks.landmarks)) same ∙ begun own;
       is = record {
         takes = takes;
-        stands = subst (λ n. IsAtPlace n place (held_parts held) its.part) (sym (event_name-mark name t mark)) (record { named = its.named; at = its.at });
+        stands = rw event_name-mark (record { named = its.named; at = its.at });
         room = IsSpared-marks (stored held records stopped) place its.part stream.part part its.at (takes.sound.whole takes.runs) marks room.landmarks
             room.slots room.value_slots room.room_grows room.value_room_grows room.known;
       };

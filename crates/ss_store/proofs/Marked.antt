@@ -1,5 +1,5 @@
 -- A stream whose landmarks take an event: what it is afterwards, and which records and slots it has.
-use Rattle.ss_store.proofs.Common.{◌≡◌, ◌∙◌, ℕ, zero, suc, ℤ, ◌+◌, ◌≤◌, true, not, ◌&&◌, List, [], ◌∷◌, ◌++◌, length, map, zip, refl, ap, ap₂, sym, subst}
+use Rattle.ss_store.proofs.Common.{◌≡◌, ◌∙◌, ℕ, zero, suc, ℤ, ◌+◌, ◌≤◌, true, not, ◌&&◌, List, [], ◌∷◌, ◌++◌, length, map, zip, refl, ap, ap₂, sym}
 use Rattle.ss_store.proofs.Common.{arith, append_assoc, length-append, IsPermutation, Option, None, Some, IsTrue, ⊤, slice_index, All-cons, All-head, All-nil}
 use Rattle.ss_store.proofs.Common.{All-tail, IsPermutation-append_left, IsPermutation-append_right, IsPermutation-middle, IsPermutation-sym}
 use Rattle.ss_store.proofs.Common.{IsPermutation-to_front, IsPermutation-trans, LAST_TIME, StreamId, is_valid, Record, IsValue-is_valid, Landmark}
@@ -9,8 +9,7 @@ use Rattle.ss_store.proofs.Common.{newest_time, Agrees, all_value_records, entri
 use Rattle.ss_store.proofs.Common.{stream_record, times_held, value_records, window_record, window_slots, windows_held, StreamParts, latest_of-last}
 use Rattle.ss_store.proofs.Common.{length-all_value_records, length-landmark_records, IsPermutation-same, outline_held, CanMark, landmarks_after}
 use Rattle.ss_store.proofs.Common.{mark_record, mark_refusal, slots_after, value_slots_after, values_open, with_mark, Mark, Open, Close}
-use Rattle.std.proofs.Common.{is_some, max}
-use Rattle.std.proofs.Common.{append-nil}
+use Rattle.std.proofs.Common.{is_some, max, append-nil}
 use Rattle.ss_codec.specs.declared.record.Record.TheVariants as records
 use Rattle.ss_model.proofs.StreamLemmas.{IsStream-closed, IsStream-marked, IsStream-opened, newest-past}
 use Rattle.ss_parts.specs.Held.{values_said}
@@ -67,8 +66,7 @@ module _ (number : ℕ) (slots value_slots : List ℕ) (ls : List Landmark) (hav
       let is : marks_in number (slots ++ slot ∷ []) value_slots (with_opened ls t)
       ≡ (in_slots slots (landmark_records number 1 ls) ++ (slot, Some r) ∷ []) ++ in_slots value_slots (all_value_records number 1 ls) =
       λ i. first i ++ in_slots value_slots (second i) in
-      subst (IsPermutation ((slot, Some r) ∷ marks_in number slots value_slots ls)) (sym is)
-      (pushed-first (in_slots slots (landmark_records number 1 ls)) (in_slots value_slots (all_value_records number 1 ls)) (slot, Some r))
+      rw is (pushed-first (in_slots slots (landmark_records number 1 ls)) (in_slots value_slots (all_value_records number 1 ls)) (slot, Some r))
 
   module _ (has : HasOpen 0 ls) where
     -- of the landmark that is open
@@ -118,10 +116,7 @@ module _ (number : ℕ) (slots value_slots : List ℕ) (ls : List Landmark) (hav
         let is : marks_in number slots (value_slots ++ slot ∷ []) (with_marked ls t v)
         ≡ in_slots slots (landmark_records number 1 ls) ++ (in_slots value_slots (all_value_records number 1 ls) ++ (slot, Some r) ∷ []) =
         λ i. in_slots slots (first i) ++ last i in
-        subst (λ n. IsPermutation ((slot, Some (records.Value number n (length has.last.values + 1) t v)) ∷ marks_in number slots value_slots ls)
-        (marks_in number slots (value_slots ++ slot ∷ []) (with_marked ls t v))) (sym count)
-        (subst (IsPermutation ((slot, Some r) ∷ marks_in number slots value_slots ls)) (sym is)
-        (pushed-second (in_slots slots (landmark_records number 1 ls)) (in_slots value_slots (all_value_records number 1 ls)) (slot, Some r)))
+        rw (count, is) (pushed-second (in_slots slots (landmark_records number 1 ls)) (in_slots value_slots (all_value_records number 1 ls)) (slot, Some r))
 
     -- landmarks that differ in the last, with the same values: its record alone differs
     pub marks-last : (now : List Landmark) (l : Landmark) (firsts : List ℕ) (slot : ℕ) → slots ≡ firsts ++ slot ∷ [] → now ≡ has.before ++ l ∷ [] →
@@ -152,7 +147,7 @@ module _ (number : ℕ) (slots value_slots : List ℕ) (ls : List Landmark) (hav
         ∙ ap (λ values. all_value_records number 1 has.before ++ value_records number k 1 values) same ∙ sym values-before in
         let whole : marks_in number slots value_slots now ≡ (front ++ (slot, Some r) ∷ []) ++ back =
         λ i. first i ++ in_slots value_slots (second i) in
-        subst (IsPermutation ((slot, Some r) ∷ (front ++ back))) (sym whole) (pushed-first front back (slot, Some r))
+        rw whole (pushed-first front back (slot, Some r))
 
 -- the last of some slots
 pub last-slot : (slots : List ℕ) (k slot : ℕ) → k + 1 ≡ length slots → slice_index slots k ≡ slot → (firsts : List ℕ) × (slots ≡ firsts ++ slot ∷ [])
@@ -217,7 +212,7 @@ begun-has : (ls : List Landmark) → HasOpen 0 ls → has_open ls ≡ true
 begun-has ls has = ap is_some has.found
 
 can-agrees : (part : StreamParts) (t : ℕ) (mark : Mark) (s : Stream) → Agrees part s → CanMark part.landmarks.landmarks t mark → CanMark s.landmarks t mark
-can-agrees part t mark s agrees can = subst (λ ls. CanMark ls t mark) agrees.landmarks can
+can-agrees part t mark s agrees can = rw agrees.landmarks at can
 
 have-agrees : (part : StreamParts) (s : Stream) → Agrees part s → HaveSlots part.landmarks.slots part.landmarks.value_slots s.landmarks
 have-agrees part s agrees = record {
@@ -315,8 +310,7 @@ marks-added part slot t Open s adding can agrees stream =
     let is : mark_record part t Open ≡ records.Landmark s.number (length s.landmarks + 1) 0 t None =
     λ i. records.Landmark (number i) (length (landmarks i) + 1) 0 t None in
     let now = marks_in s.number (part.landmarks.slots ++ slot ∷ []) part.landmarks.value_slots (with_opened s.landmarks t) in
-    subst (λ r. IsPermutation ((slot, Some r) ∷ marks_held (part, s)) now) (sym is)
-    (marks-opened s.number part.landmarks.slots part.landmarks.value_slots s.landmarks (have-agrees part s agrees) t slot)
+    rw is (marks-opened s.number part.landmarks.slots part.landmarks.value_slots s.landmarks (have-agrees part s agrees) t slot)
 marks-added part slot t (Value v) s adding can agrees stream =
     let has = HasOpen-can (takes t) s.landmarks stream.landmarks (can-agrees part t (Value v) s agrees can) in
     let number = agrees.number in
@@ -327,6 +321,5 @@ marks-added part slot t (Value v) s adding can agrees stream =
     let is : mark_record part t (Value v) ≡ records.Value s.number (length s.landmarks) (length has.last.values + 1) t v =
     same ∙ ap (λ n. records.Value s.number (length s.landmarks) (n + 1) t v) values in
     let now = marks_in s.number part.landmarks.slots (part.landmarks.value_slots ++ slot ∷ []) (with_marked s.landmarks t v) in
-    subst (λ r. IsPermutation ((slot, Some r) ∷ marks_held (part, s)) now) (sym is)
-    (marks-valued s.number part.landmarks.slots part.landmarks.value_slots s.landmarks (have-agrees part s agrees) t has slot v)
+    rw is (marks-valued s.number part.landmarks.slots part.landmarks.value_slots s.landmarks (have-agrees part s agrees) t has slot v)
 marks-added part slot t Close s adding can agrees stream = absurd adding

@@ -19,7 +19,7 @@ use Rattle.ss_store.proofs.ShownCalls.{TurnsShown-weaker}
 use Rattle.ss_store.proofs.LiveSlots.{AreSomeLive-permutation, LiveSlotsGo-beside, LiveSlotsGo-permutation}
 use Rattle.ss_store.proofs.OpenMarks.{HasOpen, HasOpen-can, change-has, closes, count-has, start-has, takes, values-has}
 use Rattle.ss_store.proofs.Marked.{Agrees-mark, HaveSlots, IsAdding, IsMarked, IsStream-mark, last-slot, marks-added, marks-last}
-use Rattle.ss_store.proofs.Marked.{marks_after, marks_in, moved-beside, moved-in, pushed-first, pushed-second, same_window_slots, same_windows}
+use Rattle.ss_store.proofs.Marked.{marks_after, moved-beside, moved-in, pushed-first, pushed-second, same_window_slots, same_windows}
 
 -- ---- the call
 
@@ -64,7 +64,7 @@ module _ (part new : StreamParts) (slot t : ℕ) (mark : Mark) (marked : IsMarke
       let r = mark_record part t mark in
       Turns-mark records_was records_is before ((slot, Some r) ∷ before) old after result (λ agrees stream. IsPermutation-refl before)
       (λ agrees stream.
-      subst (λ ms. IsPermutation ((slot, Some r) ∷ before) ((windows_held (part, s) ++ ms) ++ others)) (sym (marks_after part new slot t mark marked s))
+      rw (marks_after part new slot t mark marked s)
       (moved-in (windows_held (part, s)) (marks_held (part, s)) _ others (slot, Some r) (marks-added part slot t mark s adding can agrees stream)))
       (adds before)
 
@@ -110,8 +110,7 @@ Turns-replaced part new slot t marked can accepted early valid known last others
     Turns-mark part new slot t Close marked can accepted early valid others s records_was records_is ((slot, Some was) ∷ rest) ((slot, Some r) ∷ rest)
     old after result
     (λ agrees stream.
-    moved-in (windows_held (part, s)) ms (marks_held (part, s)) others (slot, Some was)
-    (subst (λ l. IsPermutation ((slot, Some was) ∷ ms) (marks_in s.number part.landmarks.slots part.landmarks.value_slots l)) agrees.landmarks
+    moved-in (windows_held (part, s)) ms (marks_held (part, s)) others (slot, Some was) (rw (← agrees.landmarks)
     (marks-last s.number part.landmarks.slots part.landmarks.value_slots ls have t has ls has.last last.firsts slot last.is has.is refl)))
     (λ agrees stream.
     let number = agrees.number in
@@ -122,11 +121,8 @@ Turns-replaced part new slot t marked can accepted early valid known last others
     let closed = marks-last s.number part.landmarks.slots part.landmarks.value_slots ls have t has (with_closed ls t) (closed_at t has.last)
     last.firsts slot last.is
     (change-has (closed_at t) 0 ls has) refl in
-    subst (λ l. IsPermutation ((slot, Some r) ∷ rest) ((windows_held (part, s) ++ l) ++ others)) (sym (marks_after part new slot t Close marked s))
-    (moved-in (windows_held (part, s)) ms _ others (slot, Some r)
-    (subst (λ l. IsPermutation ((slot, Some r) ∷ ms) (marks_in s.number part.landmarks.slots part.landmarks.value_slots (with_closed l t))) agrees.landmarks
-    (subst (λ x. IsPermutation ((slot, Some x) ∷ ms) (marks_in s.number part.landmarks.slots part.landmarks.value_slots (with_closed ls t))) (sym is) closed))))
-    (replaces (Some was) rest)
+    rw (marks_after part new slot t Close marked s) (moved-in (windows_held (part, s)) ms _ others (slot, Some r)
+    (rw (← agrees.landmarks) (rw (← is) at closed)))) (replaces (Some was) rest)
 
 -- ---- the slots afterwards
 
@@ -147,7 +143,7 @@ LiveSlotsGo-mark_added part new slot t mark marked adding live live_now go =
     let values = marked.value_slots in
     let is : slots_held new ≡ ws ++ now = λ i. windows i ++ (own i ++ values i) in
     LiveSlotsGo-permutation (slots_held part) (slots_held part) (slot ∷ slots_held part) (slots_held new) live live_now (IsPermutation-refl (slots_held part))
-    (subst (IsPermutation (slot ∷ slots_held part)) (sym is) (moved-beside ws (mark_slots part) now slot (mark_slots-added part slot mark adding)))
+    (rw is (moved-beside ws (mark_slots part) now slot (mark_slots-added part slot mark adding)))
     (LiveSlotsGo-beside (slots_held part) [] (slot ∷ []) live live_now go)
 
 -- the same slots
@@ -158,8 +154,7 @@ LiveSlotsGo-closed part new slot t marked live live_now same others is =
     let own = marked.slots in
     let values = marked.value_slots in
     let slots : slots_held new ≡ slots_held part = λ i. windows i ++ (own i ++ values i) in
-    subst (λ l. IsPermutation (slots_held new ++ others) (live_slots l)) (sym same)
-    (subst (λ l. IsPermutation (l ++ others) (live_slots live)) (sym slots) is)
+    rw same (subst (λ l. IsPermutation (l ++ others) (live_slots live)) (sym slots) is)
 
 -- the open landmark's slot is live
 pub AreSomeLive-last : (part : StreamParts) (slot : ℕ) (live : List Bool) → IsLastSlot part slot → AreSomeLive (slots_held part) live →
@@ -168,7 +163,7 @@ AreSomeLive-last part slot live last some =
     let ws = window_slots part in
     let rest = last.firsts ++ part.landmarks.value_slots in
     let marks : IsPermutation (slot ∷ rest) (mark_slots part) =
-    subst (λ l. IsPermutation (slot ∷ rest) (l ++ part.landmarks.value_slots)) (sym last.is) (pushed-first last.firsts part.landmarks.value_slots slot) in
+    rw last.is (pushed-first last.firsts part.landmarks.value_slots slot) in
     let moved : IsPermutation (slot ∷ (ws ++ rest)) (slots_held part) = moved-beside ws rest (mark_slots part) slot marks in
     let first = AreSomeLive-permutation (slots_held part) (slot ∷ (ws ++ rest)) live (IsPermutation-sym (slot ∷ (ws ++ rest)) (slots_held part) moved) some in
     ((ws ++ rest) ++ first.0, first.1)
@@ -247,7 +242,7 @@ IsMarked-marked_part part slot t mark known can valid early room value_room = re
 -- ---- by what the event is
 
 pub IsAdding-is : (mark : Mark) → (mark ≡ Open) ⊎ ((v : ℤ) × (mark ≡ Value v)) → IsAdding mark
-IsAdding-is mark is = ⊎_elim (λ same. subst IsAdding (sym same) tt) (λ same. subst IsAdding (sym same.1) tt) is
+IsAdding-is mark is = ⊎_elim (λ same. rw same tt) (λ same. rw same.1 tt) is
 
 -- a new record uses one slot more
 pub slots_used-adding : (mark : Mark) (slot : ℕ) → IsAdding mark → slots_used mark slot ≡ slot + 1

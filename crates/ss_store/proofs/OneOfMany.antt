@@ -1,5 +1,5 @@
 -- One element of a list, and the others.
-use Rattle.ss_store.proofs.Common.{◌≡◌, ℕ, zero, suc, ◌<◌, List, [], ◌∷◌, ◌++◌, length, map, flat_map, remove, slice_set, zip, refl, ap, sym, subst, ◌∙◌}
+use Rattle.ss_store.proofs.Common.{◌≡◌, ℕ, zero, suc, ◌<◌, List, [], ◌∷◌, ◌++◌, length, map, flat_map, remove, slice_set, zip, refl, ap, sym, ◌∙◌}
 use Rattle.ss_store.proofs.Common.{arith, IsPermutation, Some, IsPermutation-append_comm, IsPermutation-append_left, IsPermutation-append_right}
 use Rattle.ss_store.proofs.Common.{IsPermutation-refl, IsPermutation-trans, none-some, same_Some}
 use Rattle.std.proofs.Common.{slice_get}
@@ -15,8 +15,7 @@ IsPermutation-exchange xs ys zs =
 pub IsPermutation-parted : {X Y : Type 0} (f : X → List Y) (xs : List X) (i : ℕ) (x : X) → slice_get xs i ≡ Some x →
     IsPermutation (f x ++ flat_map f (remove xs i)) (flat_map f xs)
 IsPermutation-parted f [] i x at = absurd (none-some x at)
-IsPermutation-parted f (y ∷ ys) zero x at =
-    subst (λ z. IsPermutation (f z ++ flat_map f ys) (f y ++ flat_map f ys)) (same_Some y x at) (IsPermutation-refl (f y ++ flat_map f ys))
+IsPermutation-parted f (y ∷ ys) zero x at = rw (← (same_Some y x at)) (IsPermutation-refl (f y ++ flat_map f ys))
 IsPermutation-parted f (y ∷ ys) (suc i) x at =
     IsPermutation-trans (f x ++ (f y ++ flat_map f (remove ys i))) (f y ++ (f x ++ flat_map f (remove ys i))) (f y ++ flat_map f ys)
     (IsPermutation-exchange (f x) (f y) (flat_map f (remove ys i)))

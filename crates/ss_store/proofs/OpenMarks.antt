@@ -1,18 +1,15 @@
 -- The open landmark among landmarks in order, and their times once one opens, takes a value or closes.
-use Rattle.ss_store.proofs.Common.{◌≡◌, ◌∙◌, ℕ, ◌+◌, ◌<◌, ◌≤◌, Bool, true, false, not, List, [], ◌∷◌, ◌++◌, length, refl, ap, sym, subst, arith}
+use Rattle.ss_store.proofs.Common.{◌≡◌, ◌∙◌, ℕ, ◌+◌, ◌<◌, ◌≤◌, Bool, true, false, not, List, [], ◌∷◌, ◌++◌, length, refl, ap, sym, arith}
 use Rattle.ss_store.proofs.Common.{length-append, Option, None, Some, MatchOption, inl, inr, All, nat_le, list_all, and_parts}
 use Rattle.ss_store.proofs.Common.{cases_Bool, cond-false, cond-true, not-false, nat_tests, All-cons, All-head, All-nil, All-push, All-tail}
 use Rattle.ss_store.proofs.Common.{Refusal, Landmark, LandmarkValue, all_values, change_last, closed_at, open_landmark, opened_at, with_value, AllEndBy}
 use Rattle.ss_store.proofs.Common.{CanClose, EndsBy, FollowFrom, cases-finish, AllEndBy-later, AreKnown, MOST_SLOTS, has_open, later, latest_in, latest_of}
 use Rattle.ss_store.proofs.Common.{lies_free, first_that_applies, is_before, is_opening, is_past, newest_time, Window, EndByLast, mark_slots, StreamParts}
 use Rattle.ss_store.proofs.Common.{latest_of-last, has_most_values, is_early, outline_held, CanMark, IsInOpen, landmarks_after, mark_refusal, values_open, Mark, Open, Close}
-use Rattle.std.proofs.Common.{max}
-use Rattle.std.proofs.Common.{IfSome, IsNone, is_none, is_some}
+use Rattle.std.proofs.Common.{max, is_none, is_some}
 use Rattle.ss_landmarks.specs.Free.{covers, is_free}
 use Rattle.ss_landmarks.specs.Order.{AreLandmarks, CanOpen, CanTake, IsClosedBefore, IsLandmark}
-use Rattle.ss_landmarks.specs.declared.landmarks.TheConstants.{LATEST_TIME}
-use Rattle.ss_landmarks.proofs.TimeLemmas.{AllEndBy-close, AllEndBy-open, AllEndBy-take, CanClose-after, CanOpen-after, CanTake-after}
-use Rattle.ss_landmarks.proofs.TimeLemmas.{CanTake-first}
+use Rattle.ss_landmarks.proofs.TimeLemmas.{AllEndBy-close, AllEndBy-open, AllEndBy-take, CanClose-after, CanOpen-after, CanTake-after, CanTake-first}
 use Rattle.ss_model.proofs.MarkLemmas.{LiesFree-lies_free}
 use Rattle.ss_model.proofs.StreamLemmas.{first-is_opening, none-is_some, none-open}
 use Rattle.ss_recover.proofs.MarksSoFar.{latest_in-closed, latest_in-value}
@@ -33,9 +30,9 @@ pub record HasOpen (from : ℕ) (ls : List Landmark) : Type 0 where
 
 ends-before : (from start finish : ℕ) (l : Landmark) → IsLandmark l → l.finish ≡ Some finish → finish + 1 ≤ start → EndsBy start l
 ends-before from start finish l is some before =
-    let ends = subst (λ (f : Option ℕ). IfSome f (λ t. (l.start ≤ t) × (t ≤ LATEST_TIME) × All (λ value. value.t ≤ t) l.values)) some is.finish in (
+    let ends = rw some at is.finish in (
       omega (arith, ends.0),
-      subst (λ (f : Option ℕ). IfSome f (λ t. t ≤ start)) (sym some) (omega arith),
+      rw some (omega arith),
       λ k d below. let at = ends.2 k d below in omega (arith, at),
     )
 
@@ -43,7 +40,7 @@ pub HasOpen-follow : (from : ℕ) (ls : List Landmark) → FollowFrom from ls �
 HasOpen-follow from [] follow begun = absurd (let wrong : false ≡ true = begun in cc)
 HasOpen-follow from (l ∷ ls) follow begun = elim (cases-finish l.finish) [
   | inl none ↦
-      (let alone : ls ≡ [] = subst (λ (f : Option ℕ). MatchOption f (ls ≡ []) (λ t. FollowFrom (t + 1) ls)) none follow.2 in
+      (let alone : ls ≡ [] = rw none at follow.2 in
       record {
         before = [];
         last = l;
@@ -54,7 +51,7 @@ HasOpen-follow from (l ∷ ls) follow begun = elim (cases-finish l.finish) [
         ends = All-nil (EndsBy l.start);
       })
   | inr some ↦
-      (let behind = subst (λ (f : Option ℕ). MatchOption f (ls ≡ []) (λ t. FollowFrom (t + 1) ls)) some.1 follow.2 in
+      (let behind = rw some.1 at follow.2 in
       let passed : open_landmark (l ∷ ls) ≡ open_landmark ls = cond-false (is_none l.finish) (Some l) (open_landmark ls) (ap is_none some.1) in
       let rest = HasOpen-follow (some.0 + 1) ls behind (ap is_some (sym passed) ∙ begun) in
       let here = ends-before from rest.last.start some.0 l follow.1 some.1 rest.late in
@@ -79,7 +76,7 @@ pub HasOpen-can : (P : Landmark → Type 0) (ls : List Landmark) → AreLandmark
 HasOpen-can P ls order can = HasOpen-follow 0 ls order (open-some P (open_landmark ls) can)
 
 pub open-has : (P : Landmark → Type 0) (from : ℕ) (ls : List Landmark) (has : HasOpen from ls) → MatchOption (open_landmark ls) ⊥ P → P has.last
-open-has P from ls has can = subst (λ (o : Option Landmark). MatchOption o ⊥ P) has.found can
+open-has P from ls has can = rw has.found at can
 
 -- the last one is changed, and the others stay
 pub change-last : (change : Landmark → Landmark) (before : List Landmark) (l : Landmark) →
@@ -100,21 +97,20 @@ AllEndBy-closed from t [] follow can = All-nil (EndsBy t)
 AllEndBy-closed from t (l ∷ ls) follow can =
     let closed = All-head (IsClosedBefore t) l ls can in
     elim (cases-finish l.finish) [
-      | inl none ↦ absurd (subst (λ (f : Option ℕ). MatchOption f ⊥ (λ finish. finish < t)) none closed)
+      | inl none ↦ absurd (rw none at closed)
       | inr some ↦
-          (let past : some.0 < t = subst (λ (f : Option ℕ). MatchOption f ⊥ (λ finish. finish < t)) some.1 closed in
-          let behind = subst (λ (f : Option ℕ). MatchOption f (ls ≡ []) (λ t. FollowFrom (t + 1) ls)) some.1 follow.2 in
+          (let past : some.0 < t = rw some.1 at closed in
+          let behind = rw some.1 at follow.2 in
           All-cons (EndsBy t) l ls (ends-before from t some.0 l follow.1 some.1 (omega (arith, past)))
           (AllEndBy-closed (some.0 + 1) t ls behind (All-tail (IsClosedBefore t) l ls can)))
     ]
 
 -- one that is open ends by a time that isn't before its opening nor before its values
 ends-open : (t : ℕ) (l : Landmark) → l.finish ≡ None → l.start ≤ t → All (λ (value : LandmarkValue). value.t ≤ t) l.values → EndsBy t l
-ends-open t l begun start values = (start, subst (λ (f : Option ℕ). IfSome f (λ finish. finish ≤ t)) (sym begun) tt, values)
+ends-open t l begun start values = (start, rw begun tt, values)
 
 AllEndBy-open_last : (t : ℕ) (ls : List Landmark) (has : HasOpen 0 ls) → has.last.start ≤ t → EndsBy t has.last → AllEndBy t ls
-AllEndBy-open_last t ls has start ends =
-    subst (AllEndBy t) (sym has.is) (All-push (EndsBy t) has.before has.last (AllEndBy-later has.before has.last.start t start has.ends) ends)
+AllEndBy-open_last t ls has start ends = rw has.is (All-push (EndsBy t) has.before has.last (AllEndBy-later has.before has.last.start t start has.ends) ends)
 
 abbrev pub takes : ℕ → Landmark → Type 0
 takes t l = (l.start ≤ t) × All (λ value. value.t < t) l.values
@@ -148,8 +144,7 @@ latest_of-changed : (change : Landmark → Landmark) (t : ℕ) (ls : List Landma
     latest_in (change has.last) ≡ t → latest_of (change_last change ls) ≡ Some t
 latest_of-changed change t ls has start is =
     ap latest_of (change-has change 0 ls has)
-    ∙ latest_of-last has.before (change has.last)
-    (subst (λ u. AllEndBy u has.before) (sym is) (AllEndBy-later has.before has.last.start t start has.ends)) ∙ ap Some is
+    ∙ latest_of-last has.before (change has.last) (rw is (AllEndBy-later has.before has.last.start t start has.ends)) ∙ ap Some is
 
 pub latest_of-after : (ls : List Landmark) (t : ℕ) (mark : Mark) → AreLandmarks ls → CanMark ls t mark → latest_of (landmarks_after ls t mark) ≡ Some t
 latest_of-after ls t Open order can = latest_of-last ls (opened_at t) (AllEndBy-can ls t Open order can)
@@ -176,7 +171,7 @@ newest-free ls [] old free is = cc
 newest-free ls (w ∷ []) old free is =
     let lies = LiesFree-lies_free ls w (and_parts (lies_free ls w) true free).0 in
     let same : w.summary.t_last ≡ old = cc in
-    subst (λ t. is_free ls t ≡ true) same lies.last
+    rw same at lies.last
 newest-free ls (w ∷ v ∷ ws) old free is = newest-free ls (v ∷ ws) old (and_parts (lies_free ls w) (list_all (lies_free ls) (v ∷ ws)) free).1 is
 
 -- and before the opening of one that is open
@@ -194,8 +189,7 @@ free-before (x ∷ xs) l t begun free = elim (cases_Bool (covers x t)) [
 
 pub newest-open : (ls : List Landmark) (has : HasOpen 0 ls) (ws : List Window) (old : ℕ) → list_all (lies_free ls) ws ≡ true → newest_time ws ≡ Some old →
     old < has.last.start
-newest-open ls has ws old free is =
-    free-before has.before has.last old has.begun (subst (λ (l : List Landmark). is_free l old ≡ true) has.is (newest-free ls ws old free is))
+newest-open ls has ws old free is = free-before has.before has.last old has.begun (rw has.is at (newest-free ls ws old free is))
 
 -- ---- what may follow, over every disk
 
@@ -210,9 +204,8 @@ abbrev EndByTime : Option ℕ → List Landmark → Type 0
 EndByTime o ls = MatchOption o (ls ≡ []) (λ last. AllEndBy last ls)
 
 CanOpen-past : (o : Option ℕ) (ls : List Landmark) (t : ℕ) → EndByTime o ls → has_open ls ≡ false → is_past o t ≡ false → CanOpen ls t
-CanOpen-past None ls t ends none past = subst (λ l. CanOpen l t) (sym ends) (All-nil (IsClosedBefore t))
-CanOpen-past (Some last) ls t ends none past =
-    CanOpen-after ls last t ends (subst IsNone (sym (none-is_some (open_landmark ls) none)) refl) (lt-is_past last t past)
+CanOpen-past None ls t ends none past = rw ends (All-nil (IsClosedBefore t))
+CanOpen-past (Some last) ls t ends none past = CanOpen-after ls last t ends (rw (none-is_some (open_landmark ls) none)) (lt-is_past last t past)
 
 CanTake-past : (o : Option ℕ) (ls : List Landmark) (t : ℕ) → EndByTime o ls → has_open ls ≡ true → is_past o t ≡ false → CanTake ls t
 CanTake-past None ls t ends begun past = absurd (none-open ls begun ends)

@@ -1,9 +1,9 @@
 -- What opening reads, and what it leaves of the disk.
-use Rattle.ss_store.proofs.Common.{◌≡◌, ◌≤◌, ℕ, List, arith, flat_map, zip, refl, ap, subst, sym, ◌∙◌, Result, Ok, Err, IsErr, KnowsNow, OnlyReads, Told}
+use Rattle.ss_store.proofs.Common.{◌≡◌, ◌≤◌, ℕ, List, arith, flat_map, zip, refl, ap, ◌∙◌, Result, Ok, Err, IsErr, KnowsNow, OnlyReads, Told}
 use Rattle.ss_store.proofs.Common.{IfUndone, IsFirm, Verdict, IsKept, IsSealed, JournalState, shown, SlotMap, StandsFor, SameMap-refl, StandsFor-from}
 use Rattle.ss_store.proofs.Common.{shown-sealed, AreKept, RecordsState, closed_state, IsState, Stream, state, AllAgree, records_held, Parts, StreamParts}
 use Rattle.ss_store.proofs.Common.{KeepsWithin, Turns, OpensStore, OpensAs, SettlesAll, verdict_of_opening, verdict_of_read, StoreIsKept, StoreState}
-use Rattle.ss_store.proofs.Common.{HasRecords, HasRebuilt, HasRebuiltBeside, IsRebuilt, Recovers, Stands, recovered_from, recovered_of, OpenError, ReadError}
+use Rattle.ss_store.proofs.Common.{HasRebuilt, HasRebuiltBeside, IsRebuilt, Recovers, Stands, recovered_from, recovered_of, OpenError, ReadError}
 use Rattle.ss_outside.specs.Verdict as verdicts
 use Rattle.ss_journal.specs.Calls.{verdict_of_open}
 use Rattle.ss_journal.specs.Kept as Journals
@@ -76,14 +76,12 @@ firm-recover T recovering.OutOfMemory = tt
 pub StandsFor-kept : (journal : JournalState) (content : List ℕ) (kept : IsKept journal content) → IsSealed journal → StandsFor content kept.shown.found
 StandsFor-kept journal content kept sealed =
     let found = kept.shown.found in
-    subst (λ (image : List ℕ). StandsFor image found) (shown-sealed journal content sealed)
-    (StandsFor-from (shown journal content) found found kept.shown.map (SameMap-refl found))
+    rw shown-sealed at (StandsFor-from (shown journal content) found found kept.shown.map (SameMap-refl found))
 
 -- the extent of the map of a content that records keep is theirs
 extent-opened : (records : RecordsState) (content : List ℕ) (found : SlotMap) → AreKept records content → IsSealed records.journal →
     StandsFor content found → found.extent ≡ records.journal.extent
-extent-opened records content found kept sealed is =
-    extent-kept records content found kept (subst (λ (image : List ℕ). StandsFor image found) (sym (shown-sealed records.journal content sealed)) is)
+extent-opened records content found kept sealed is = extent-kept records content found kept (rw shown-sealed is)
 
 -- What was rebuilt of the records of a journal that is kept.
 pub IsRebuilt-from : (journal : JournalState) (parts : Parts) (content : List ℕ) → IsSealed journal → IsKept journal content →
@@ -111,8 +109,7 @@ Recovers-rebuilt slots parts content is = Recovers-beside slots parts is.streams
 pub Recovers-closed : (now : List StreamParts) (streams : List Stream) (image : List ℕ) → IsState streams → AllAgree now (closed_state streams) →
     HasRebuilt now (closed_state streams) image → Recovers (closed_state streams) image
 Recovers-closed now streams image state agree has =
-    subst (λ l. Recovers l image) (closed_state-again streams state)
-    (Recovers-held now (closed_state streams) image agree (IsState-closed_state streams state) has)
+    rw closed_state-again at (Recovers-held now (closed_state streams) image agree (IsState-closed_state streams state) has)
 
 -- a call that leaves the state of what was rebuilt keeps the state
 pub KeepsState-rebuilt : {T E : Type 0} (slots : List ℕ) (parts : List StreamParts) (old new : Told) (result : Result T E)
@@ -121,8 +118,7 @@ pub KeepsState-rebuilt : {T E : Type 0} (slots : List ℕ) (parts : List StreamP
     Turns (HasRebuiltBeside slots parts is.streams) M Q old new result → KeepsState old new result
 KeepsState-rebuilt slots parts old new result is M Q crash after turns streams =
     let same : Recovers streams old.content → (image : List ℕ) → Recovers (closed_state is.streams) image → Recovers streams image =
-    λ has image left. subst (λ l. Recovers l image)
-    (Recovers-same (closed_state is.streams) streams old.content (Recovers-rebuilt slots parts old.content is) has) left in
+    λ has image left. rw (Recovers-same (closed_state is.streams) streams old.content (Recovers-rebuilt slots parts old.content is) has) at left in
     Turns-weaker (HasRebuiltBeside slots parts is.streams) (Recovers streams) M (Recovers streams) Q (Recovers streams) old new result
     (λ has. is.records) (λ has image left. same has image (crash image left)) (λ has image left. same has image (after image left)) turns
 
@@ -134,7 +130,7 @@ module _ (slots : List ℕ) (parts now : List StreamParts) (old read new : Told)
       Turns (HasRebuiltBeside slots parts is.streams) (Recovers (closed_state is.streams)) (HasRebuilt now (closed_state is.streams)) read new step
 
   pub held_read : HasRebuiltBeside slots parts is.streams read.content
-  held_read = subst (HasRebuiltBeside slots parts is.streams) (sym reads.same.content) is.records
+  held_read = rw reads.same.content is.records
 
   closed-from_start : {T E : Type 0} (step : Result T E) → Closes step →
       Turns (HasRebuiltBeside slots parts is.streams) (Recovers (closed_state is.streams)) (HasRebuilt now (closed_state is.streams)) old new step
@@ -178,8 +174,7 @@ module _ (slots : List ℕ) (parts now : List StreamParts) (old read new : Told)
           streams = closed_state is.streams;
           state = IsState-closed_state is.streams is.state;
           agree = rw same agree;
-          held = subst (λ (image : List ℕ). HasRecords (all store.streams) image) (sym (shown-sealed store.records.journal new.content sealed))
-              (rw same (closes.content held_read));
+          held = rw (shown-sealed, same) (closes.content held_read);
           closed = closed_state-again is.streams is.state;
         };
       }

@@ -2,12 +2,11 @@
 use Rattle.ss_store.proofs.Common.{◌≡◌, ◌∙◌, ℕ, ◌+◌, ◌-◌, ◌<◌, ◌≤◌, true, false, List, [], ◌∷◌, ◌++◌, map, length, refl, sym, ap, ap₂, subst, arith}
 use Rattle.ss_store.proofs.Common.{append_assoc, length-append, IsPermutation, Option, Some, list_all, list_any, and_parts, map-append}
 use Rattle.ss_store.proofs.Common.{IsPermutation-append_left, IsPermutation-cons, IsPermutation-middle, IsPermutation-sym, IsPermutation-trans, Record}
-use Rattle.ss_store.proofs.Common.{Landmark, AreKnown, LandmarksState, StandsIn, entry_at, index_of, is_at, At, Entry, joined, params_of, joined_window}
-use Rattle.ss_store.proofs.Common.{last_position, may_join, JoinsDue, later, latest_of, lies_free, Rule, may_be_one, rule_of, IsStream, Stream, values_in}
-use Rattle.ss_store.proofs.Common.{AreWindows, Window, IsStream-joined, Agrees, TileFrom, all_value_records, entries_of, in_slots, landmark_records}
-use Rattle.ss_store.proofs.Common.{mark_slots, marks_held, records_held, slots_held, span_held, span_of, stream_record, window_record, times_held, times_of}
-use Rattle.ss_store.proofs.Common.{window_slots, windows_held, StreamParts, values_held, with_windows, AreDue, may_be_joined, entries_in, index-once}
-use Rattle.ss_store.proofs.Common.{joined_entry, zip-held}
+use Rattle.ss_store.proofs.Common.{Landmark, LandmarksState, StandsIn, entry_at, index_of, is_at, At, Entry, joined, params_of, joined_window, last_position}
+use Rattle.ss_store.proofs.Common.{may_join, JoinsDue, later, latest_of, lies_free, Rule, may_be_one, rule_of, IsStream, Stream, values_in, AreWindows, Window}
+use Rattle.ss_store.proofs.Common.{IsStream-joined, Agrees, TileFrom, all_value_records, entries_of, in_slots, landmark_records, mark_slots, marks_held}
+use Rattle.ss_store.proofs.Common.{records_held, slots_held, span_held, span_of, stream_record, window_record, times_held, times_of, window_slots, windows_held}
+use Rattle.ss_store.proofs.Common.{StreamParts, values_held, with_windows, AreDue, may_be_joined, entries_in, index-once, joined_entry, zip-held}
 use Rattle.std.specs.Prelude.{zip, IsTrue}
 use Rattle.std.proofs.lemmas.List.Folds.{list_all-append}
 use Rattle.ss_codec.specs.declared.record.Record.TheVariants as records
@@ -160,8 +159,7 @@ AreSlots-joined rule n part new w v same same_landmarks pair =
       was = subst (λ l. IsPermutation (l ++ marks) (w.slot ∷ v.slot ∷ ((front ++ slots pair.rest) ++ marks))) (sym was)
           (IsPermutation-append_left marks (front ++ w.slot ∷ v.slot ∷ slots pair.rest) (w.slot ∷ v.slot ∷ (front ++ slots pair.rest))
           (IsPermutation-two front w.slot v.slot (slots pair.rest)));
-      is = subst (λ m. IsPermutation (window_slots new ++ m) (w.slot ∷ ((front ++ slots pair.rest) ++ marks))) (sym stay)
-          (subst (λ l. IsPermutation (l ++ marks) (w.slot ∷ ((front ++ slots pair.rest) ++ marks))) (sym is)
+      is = rw stay (subst (λ l. IsPermutation (l ++ marks) (w.slot ∷ ((front ++ slots pair.rest) ++ marks))) (sym is)
           (IsPermutation-append_left marks (front ++ w.slot ∷ slots pair.rest) (w.slot ∷ (front ++ slots pair.rest))
           (IsPermutation-middle front w.slot (slots pair.rest))));
     }
@@ -185,7 +183,7 @@ ArePair-read part left right w v due tiles read_left read_right =
     let pair = AreJoined-due rule n part.line.entries left right due w v read_left read_right in
     record {
       joined = pair;
-      tiled = subst (λ es. AreTiled w v (values_held es)) (sym pair.was) (AreTiled-seam pair.front w v pair.rest (subst (λ es. TileFrom 1 es) pair.was tiles));
+      tiled = rw pair.was (AreTiled-seam pair.front w v pair.rest (rw pair.was at tiles));
       slots = AreSlots-joined rule n part (one_part part (joined_line due)) w v refl refl pair;
     }
 
@@ -258,7 +256,7 @@ records_held-changed part new s ws now others same moved =
     let is : records_held (new, with_windows s ws) ++ others ≡ windows_held (new, with_windows s ws) ++ marks =
     records_held-apart new (with_windows s ws) others
     ∙ ap (λ m. windows_held (new, with_windows s ws) ++ (m ++ others)) (marks_held-same part new s ws same) in
-    subst (λ l. IsPermutation (now ++ marks) l) (sym is) (IsPermutation-append_left marks now (windows_held (new, with_windows s ws)) moved)
+    rw is (IsPermutation-append_left marks now (windows_held (new, with_windows s ws)) moved)
 
 -- two of some windows that lie free
 lie_free-two : (ls : List Landmark) (before : List Window) (one two : Window) (behind : List Window) →
@@ -279,7 +277,7 @@ module _ (others : List (ℕ × Option Record)) (part new : StreamParts) (s : St
       (ap (λ es. map times_held es) (sym pair.was) ∙ agrees.times)
 
   stand : AreWindows (theirs.before ++ theirs.one ∷ theirs.two ∷ theirs.behind)
-  stand = subst (λ ws. AreWindows ws) theirs.is stream.windows
+  stand = rw theirs.is at stream.windows
 
   ws : List Window
   ws = theirs.before ++ joined_window theirs.one theirs.two ∷ theirs.behind
@@ -357,19 +355,17 @@ module _ (others : List (ℕ × Option Record)) (part new : StreamParts) (s : St
       let marks : List (ℕ × Option Record) = marks_held (part, s) ++ others in
       let rest : List (ℕ × Option Record) = (front ++ back) ++ marks in
       let free = lie_free-two s.landmarks theirs.before theirs.one theirs.two theirs.behind
-      (subst (λ l. IsTrue (list_all (lies_free s.landmarks) l)) theirs.is stream.free) in
+      (rw theirs.is at stream.free) in
       let was : IsPermutation (records_held (part, s) ++ others)
       ((w.slot, Some (window_record s.number theirs.one)) ∷ (v.slot, Some (window_record s.number theirs.two)) ∷ rest) =
-      subst (λ l. IsPermutation l ((w.slot, Some (window_record s.number theirs.one)) ∷ (v.slot, Some (window_record s.number theirs.two)) ∷ rest))
-      (sym (records_held-apart part s others ∙ ap (λ l. l ++ marks) was_records))
+      rw (records_held-apart part s others ∙ ap (λ l. l ++ marks) was_records)
       (IsPermutation-append_left marks (front ++ (w.slot, Some (window_record s.number theirs.one)) ∷ (v.slot, Some (window_record s.number theirs.two)) ∷ back)
       ((w.slot, Some (window_record s.number theirs.one)) ∷ (v.slot, Some (window_record s.number theirs.two)) ∷ (front ++ back))
       (IsPermutation-two front (w.slot, Some (window_record s.number theirs.one)) (v.slot, Some (window_record s.number theirs.two)) back)) in
       let joint : ℕ × Option Record = (w.slot, Some (window_record s.number (joined_window theirs.one theirs.two))) in
       let is : IsPermutation (joint ∷ rest) (records_held (new, with_windows s ws) ++ others) =
       records_held-changed part new s ws (joint ∷ (front ++ back)) others same.landmarks
-      (subst (λ l. IsPermutation (joint ∷ (front ++ back)) l) (sym is_records)
-      (IsPermutation-sym (front ++ joint ∷ back) (joint ∷ (front ++ back)) (IsPermutation-middle front joint back))) in
+      (rw is_records (IsPermutation-sym (front ++ joint ∷ back) (joint ∷ (front ++ back)) (IsPermutation-middle front joint back))) in
       record {
         one = theirs.one;
         two = theirs.two;
@@ -392,13 +388,11 @@ module _ (others : List (ℕ × Option Record)) (part new : StreamParts) (s : St
           positions = positions;
           times = times;
           landmarks = ap (λ (l : LandmarksState). l.landmarks) same.landmarks ∙ agrees.landmarks;
-          known = subst AreKnown (sym same.landmarks) agrees.known;
+          known = rw same.landmarks agrees.known;
           last_time = same.last_time ∙ agrees.last_time
               ∙ ap (λ o. later o (latest_of s.landmarks)) (sym (newest_time-JoinsDue (rule_of s.params) (values_in s) s.windows ws joins));
         };
         stream = IsStream-joined (values_in s) s ws stream joins;
         is = subst (λ n. IsPermutation ((w.slot, Some (records.Window n w.first (joined theirs.one.summary theirs.two.summary))) ∷ rest)
-            (records_held (new, with_windows s ws) ++ others)) (sym number)
-            (subst (λ f. IsPermutation ((w.slot, Some (records.Window s.number f (joined theirs.one.summary theirs.two.summary))) ∷ rest)
-            (records_held (new, with_windows s ws) ++ others)) (sym start) is);
+            (records_held (new, with_windows s ws) ++ others)) (sym number) (rw (← start) at is);
       }

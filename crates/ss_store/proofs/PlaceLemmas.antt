@@ -1,9 +1,8 @@
 -- Where parts of rising numbers stand.
 use Rattle.ss_store.proofs.Common.{◌≡◌, ℕ, zero, suc, ◌+◌, ◌-◌, ◌<◌, ◌≤◌, Bool, true, false, List, [], ◌∷◌, ◌++◌, length, get_or, take, refl, ap, sym, ◌∙◌}
-use Rattle.ss_store.proofs.Common.{subst, arith, None, Some, inl, inr, slice_get, IsSome, ◌==◌, ◌||◌, position_or_len, list_any, IsStrictlyIncreasing}
-use Rattle.ss_store.proofs.Common.{cases_lt, eqb-true, eq-eqb, ne_eqb, length-map, map-append, find_at, list_any-append, AllPairs-from_increasing}
-use Rattle.ss_store.proofs.Common.{passes_at_first, slice_get_within, get_or_from_slice_get, LAST_STREAM, next_number, StreamParts, numbers_held}
-use Rattle.ss_store.proofs.Common.{part_numbered}
+use Rattle.ss_store.proofs.Common.{arith, None, Some, inl, inr, slice_get, IsSome, ◌==◌, ◌||◌, position_or_len, list_any, IsStrictlyIncreasing, cases_lt}
+use Rattle.ss_store.proofs.Common.{eqb-true, eq-eqb, ne_eqb, length-map, map-append, find_at, list_any-append, AllPairs-from_increasing, passes_at_first}
+use Rattle.ss_store.proofs.Common.{slice_get_within, get_or_from_slice_get, LAST_STREAM, next_number, StreamParts, numbers_held, part_numbered}
 use Rattle.std.proofs.lemmas.Bool.{cases_order}
 use Rattle.std.proofs.Math.Seq.{get_or-append_seam}
 use Rattle.std.proofs.lemmas.Grind.{common_steps}
@@ -132,8 +131,7 @@ TellsNext-last parts w rising some last few =
     let below = below-last us w rises in
     let within : (k : ℕ) → k < length (numbers_held us) → get_or (numbers_held us) k 0 < w.id.0 =
     λ k inside. below k (omega (arith, length-map us (λ (s : StreamParts). s.id.0))) in
-    subst (λ ss. TellsNext ss w.id.0) is
-    (record {
+    rw (← is) (record {
       next = rw (map-append (λ (s : StreamParts). s.id.0) us (w ∷ [])) (next_number-push (numbers_held us) w.id.0 within);
       taken =
           rw (

@@ -1,5 +1,5 @@
 -- Two records that are read one after the other.
-use Rattle.ss_store.proofs.Common.{◌≡◌, ℕ, ◌<◌, Bool, List, ◌∷◌, ◌++◌, length, ap₂, sym, subst, arith, Option, Err, range_with_len, All-filter}
+use Rattle.ss_store.proofs.Common.{◌≡◌, ℕ, ◌<◌, Bool, List, ◌∷◌, ◌++◌, length, ap₂, arith, Option, Err, range_with_len, All-filter}
 use Rattle.ss_store.proofs.Common.{All-from_recursion, All-head, All-permutation, IsPermutation-sym, shown, RecordsState, shown_by, is_live, Record, Figures}
 use Rattle.ss_store.proofs.Common.{range-within, IsPermutation-turn, IsRead, AreSomeLive, live_slots, HasRecords, ReadError, HasRecords-permutation}
 use Rattle.std.proofs.Common.{All}
@@ -33,5 +33,4 @@ shown-same was is old new journal content = ap₂ shown journal content
 pub HasRecords-second : (first second : ℕ × Option Record) (others : List (ℕ × Option Record)) (old new : List ℕ) → new ≡ old →
     HasRecords (first ∷ second ∷ others) old → HasRecords (second ∷ first ∷ others) new
 HasRecords-second first second others old new same has =
-    subst (λ image. HasRecords (second ∷ first ∷ others) image) (sym same)
-    (HasRecords-permutation (first ∷ second ∷ others) (second ∷ first ∷ others) old (IsPermutation-turn first second others) has)
+    rw same (HasRecords-permutation (first ∷ second ∷ others) (second ∷ first ∷ others) old (IsPermutation-turn first second others) has)

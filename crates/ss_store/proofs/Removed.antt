@@ -1,6 +1,6 @@
 -- One element that is taken out of a list.
 use Rattle.ss_store.proofs.Common.{◌≡◌, ℕ, zero, suc, ◌<◌, Bool, true, false, not, List, [], ◌∷◌, length, map, filter, remove, zip, refl, ap, sym, ◌∙◌, ◌+◌}
-use Rattle.ss_store.proofs.Common.{subst, arith, None, Some, get_or, inl, inr, All, ◌==◌, cases_Bool, AllByRecursion, IsStrictlyIncreasing, All-cons}
+use Rattle.ss_store.proofs.Common.{arith, None, Some, get_or, inl, inr, All, ◌==◌, cases_Bool, AllByRecursion, IsStrictlyIncreasing, All-cons}
 use Rattle.ss_store.proofs.Common.{All-head, All-tail, AllPairs-from_increasing, none-some, same_Some, all_weaker}
 use Rattle.std.proofs.Common.{slice_get}
 use Rattle.std.specs.Prelude.{find}
@@ -49,7 +49,7 @@ IsDistinct-remove same (k ∷ ks) (suc i) distinct = (all-remove (λ y. same k y
 
 pub all-place : {X : Type 0} (P : X → Type 0) (xs : List X) (i : ℕ) (x : X) → AllByRecursion P xs → slice_get xs i ≡ Some x → P x
 all-place P [] i x all at = absurd (none-some x at)
-all-place P (y ∷ ys) zero x all at = subst P (same_Some y x at) all.0
+all-place P (y ∷ ys) zero x all at = rw (same_Some y x at) at all.0
 all-place P (y ∷ ys) (suc i) x all at = all-place P ys i x all.1 at
 
 -- what holds of the second of each pair
@@ -63,8 +63,7 @@ pub others-differ : {X K : Type 0} (same : K → K → Bool) → ((a b : K) → 
     slice_get xs i ≡ Some x → IsDistinct same (map key xs) → AllByRecursion (λ y. same (key x) (key y) ≡ false) (remove xs i)
 unfolding IsDistinct
 others-differ same swap key [] i x at distinct = absurd (none-some x at)
-others-differ same swap key (y ∷ ys) zero x at distinct =
-    subst (λ z. AllByRecursion (λ u. same (key z) (key u) ≡ false) ys) (same_Some y x at) (all-from_map (λ k. same (key y) k ≡ false) key ys distinct.0)
+others-differ same swap key (y ∷ ys) zero x at distinct = rw (same_Some y x at) at (all-from_map (λ k. same (key y) k ≡ false) key ys distinct.0)
 others-differ same swap key (y ∷ ys) (suc i) x at distinct = (
   swap (key x) (key y) ∙ all-place (λ u. same (key y) (key u) ≡ false) ys i x (all-from_map (λ k. same (key y) k ≡ false) key ys distinct.0) at,
   others-differ same swap key ys i x at distinct.1,

@@ -1,5 +1,5 @@
 -- The times of windows: they rise, and an index of them leads to the first window that matters.
-use Rattle.ss_store.proofs.Common.{◌≡◌, ◌∙◌, ℕ, ◌+◌, ◌<◌, ◌≤◌, false, List, [], ◌∷◌, ◌++◌, map, length, take, refl, sym, ap, ap₂, subst, arith, append_assoc}
+use Rattle.ss_store.proofs.Common.{◌≡◌, ◌∙◌, ℕ, ◌+◌, ◌<◌, ◌≤◌, false, List, [], ◌∷◌, ◌++◌, map, length, take, refl, sym, ap, ap₂, arith, append_assoc}
 use Rattle.ss_store.proofs.Common.{Option, Some, None, MatchOption, length-append, nat_tests, map-append, All-cons, All-head, All-nil, All-tail, entry_at}
 use Rattle.ss_store.proofs.Common.{index_of, place_at, At, Entry, joined_entry, later, is_past, RiseToLast, TileFrom, TimesRise, entries_of, StreamParts}
 use Rattle.ss_store.proofs.Common.{BeginsNear, entries_in, index-once, take-seam, IsOrdered, IsTimed, begun_at}
@@ -175,7 +175,7 @@ BeginsAt-sought part times from at timed rise last =
       rest = (at, there.entry) ∷ there.rest;
       is = there.is;
       early = weaker there.entry.t_first from there.front (omega (arith, begun, by))
-          (ends-early 0 any.0 there.front (at, there.entry) there.rest (subst (λ es. TimesRise 0 any.0 (entries_in es)) there.is any.1)).0;
+          (ends-early 0 any.0 there.front (at, there.entry) there.rest (rw (← there.is) any.1)).0;
       place = refl;
     }
 
@@ -207,7 +207,7 @@ BeginsNear-sought entries times from at timed last =
       rest = (at, there.entry) ∷ there.rest;
       is = there.is;
       place = refl;
-      behind = begin-late from there.rest (subst (λ ts. All (λ (p : ℕ × At). from < p.0) ts) (sym there.later) last.later);
+      behind = begin-late from there.rest (rw there.later last.later);
     }
 
 pub BeginsNear-first : (entries : List (At × Entry)) (times : List (ℕ × At)) (from : ℕ) (start : Option At) → start ≡ place_at entries 0 →
@@ -217,8 +217,7 @@ BeginsNear-first entries times from start is timed late = record {
   rest = entries;
   is = refl;
   place = is;
-  behind = All-drop (λ (e : At × Entry). from < e.1.t_first) 1 entries
-      (begin-late from entries (subst (λ ts. All (λ (p : ℕ × At). from < p.0) ts) timed late));
+  behind = All-drop (λ (e : At × Entry). from < e.1.t_first) 1 entries (begin-late from entries (rw timed at late));
 }
 
 -- the times after a window was put behind the others, and after two were joined
@@ -268,14 +267,12 @@ pub begin-next : (entries : List (At × Entry)) (at : At) (e : Entry) (times : L
     IsTimed (take (index_of entries at) entries) times → TimesRise 0 last (entries_in entries) → All (λ (p : ℕ × At). p.0 < e.t_first) times
 begin-next entries at e times last read timed rise =
     let next = IsNext-read entries at e read in
-    subst (λ (ts : List (ℕ × At)). All (λ (p : ℕ × At). p.0 < e.t_first) ts) (sym (timed ∙ ap (λ es. map begun_at es) next.here))
-    (begin-early 0 last next.before (at, e) next.rest (subst (λ es. TimesRise 0 last (entries_in es)) next.is rise)).0
+    rw (timed ∙ ap (λ es. map begun_at es) next.here) (begin-early 0 last next.before (at, e) next.rest (rw next.is at rise)).0
 
 -- and it comes behind them
 pub IsTimed-next : (entries : List (At × Entry)) (at : At) (e : Entry) (times now : List (ℕ × At)) → entry_at entries at ≡ Some e →
     IsTimed (take (index_of entries at) entries) times → now ≡ times ++ (e.t_first, at) ∷ [] → IsTimed (take (index_of entries at + 1) entries) now
 IsTimed-next entries at e times now read timed is =
     let next = IsNext-read entries at e read in
-    subst (λ es. IsTimed es now) (sym next.more)
-    (IsTimed-added next.before (next.before ++ (at, e) ∷ []) now at e e.t_first refl refl
+    rw next.more (IsTimed-added next.before (next.before ++ (at, e) ∷ []) now at e e.t_first refl refl
     (is ∙ ap (λ (ts : List (ℕ × At)). ts ++ (e.t_first, at) ∷ []) (timed ∙ ap (λ es. map begun_at es) next.here)))

@@ -1,10 +1,9 @@
 -- Events that were staged are sealed: what the store shows comes to the disk.
-use Rattle.ss_store.proofs.Common.{◌≡◌, ◌∙◌, ◌⊎◌, ⊎_elim, Bool, true, List, [], ◌∷◌, ◌++◌, ℕ, Err, Ok, Result, arith, inl, inr, subst, sym, on_ok_weaker}
-use Rattle.ss_store.proofs.Common.{IsErr, OnOk, ⊤, now, weaker, KnowsNow, LeavesOnly, DiskView, NothingPending, Told, Step, failed, fine, Failed, event_name}
-use Rattle.ss_store.proofs.Common.{Event, HasSealed, KeepsShown, IsSealed, StandsFor, shown-sealed, step-next, on_err, Happened, added, Stream, stepped, Ack}
-use Rattle.ss_store.proofs.Common.{SealsRecords, RecordsState, shown_by, StreamParts, Applies, IsFew, SealsStore, RecoversToEither, StagesEvent}
-use Rattle.ss_store.proofs.Common.{StandsForEither, StepsState, TurnsShown, said_of_held, StoreIsIn, StoreIsKept, StoreState, part_named, refuses_held}
-use Rattle.ss_store.proofs.Common.{Recovers, Stands, IsShort, StandsShort}
+use Rattle.ss_store.proofs.Common.{◌≡◌, ◌∙◌, ◌⊎◌, ⊎_elim, Bool, true, List, [], ◌∷◌, ◌++◌, ℕ, Err, Ok, Result, arith, inl, inr, sym, on_ok_weaker, IsErr, OnOk}
+use Rattle.ss_store.proofs.Common.{⊤, now, weaker, KnowsNow, LeavesOnly, DiskView, NothingPending, Told, Step, failed, fine, Failed, Event, HasSealed}
+use Rattle.ss_store.proofs.Common.{KeepsShown, IsSealed, StandsFor, shown-sealed, step-next, on_err, Happened, added, Stream, stepped, Ack, SealsRecords}
+use Rattle.ss_store.proofs.Common.{RecordsState, shown_by, Applies, SealsStore, RecoversToEither, StagesEvent, StandsForEither, StepsState, TurnsShown}
+use Rattle.ss_store.proofs.Common.{StoreIsIn, StoreIsKept, StoreState, refuses_held, Recovers, Stands, IsShort, StandsShort}
 use Rattle.std.specs.Prelude.{IsTrue, None}
 use Rattle.ss_outside.proofs.CrashLemmas.{joined}
 use Rattle.ss_query.specs.declared.read_error.ReadError.TheVariants as fault
@@ -77,12 +76,12 @@ SealsStore-records was is stopped old new result seals kept = record {
 -- what was reached of what is shown is reached of the content, where nothing is staged any more
 of_shown : {T E : Type 0} (is : RecordsState) (content : List ℕ) (P : List ℕ → Type 0) (result : Result T E) → OnOk result (IsSealed is.journal) →
     OnOk result (P (shown_by is content)) → OnOk result (P content)
-of_shown is content P (Ok value) sealed has = subst P (shown-sealed is.journal content sealed) has
+of_shown is content P (Ok value) sealed has = rw shown-sealed at has
 of_shown is content P (Err e) sealed has = tt
 
 module _ (event : Event) (was between : RecordsState) (old mid : Told) (at_rest : IsSealed was.journal) where
   shown-first : (history : List Happened) → Stands history old.content → Stands history (shown_by was old.content)
-  shown-first history has = subst (λ (i : List ℕ). Stands history i) (sym (shown-sealed was.journal old.content at_rest)) has
+  shown-first history has = rw shown-sealed has
 
   left-staged : {T E : Type 0} (result : Result T E) (history : List Happened) → StagesEvent event was between result old mid → NothingPending old →
       Stands history old.content → LeavesOnly old mid (StandsForEither history event)
@@ -147,8 +146,8 @@ module _ (event : Event) (old between new : StoreState) (before mid after : Disk
         StepsState-answers event old.records new.records before.told after.told u (Ok ack)
         (StepsState-sealed event old.records between.records new.records before.told mid.told after.told ack (Ok u) (knows then) steps its.state));
     stands = λ run told. (seals.told (sym seals.tells ∙ told)).kept;
-    ack = subst (λ (parts : List StreamParts). ack ≡ said_of_held (part_named (event_name event) parts)) (sym same) staged.ack;
-    decay = λ plain. subst (λ (parts : List StreamParts). IsFew parts event ack) (sym same) (staged.decay plain);
+    ack = rw same staged.ack;
+    decay = λ plain. rw same (staged.decay plain);
     empty = staged.empty;
     refused = staged.refused;
     same = tt;

@@ -1,5 +1,5 @@
 -- What was staged of a stream is sealed: the value and the joins come to the disk together.
-use Rattle.ss_store.proofs.Common.{inr, ℕ, ℤ, List, ◌++◌, Ok, Option, Result, subst, sym, IsErr, OnOk, KnowsNow, Told, IsFirm, Verdict, fine, Failed}
+use Rattle.ss_store.proofs.Common.{inr, ℕ, ℤ, List, ◌++◌, Ok, Option, Result, IsErr, OnOk, KnowsNow, Told, IsFirm, Verdict, fine, Failed}
 use Rattle.ss_store.proofs.Common.{IsSealed, shown-sealed, on_err, SealsRecords, AreKept, RecordsState, Record, New, closed, closed_stream, rule_of, Stream}
 use Rattle.ss_store.proofs.Common.{values_in, with_plain_value, JoinsDue-closed, records_held, StreamParts, IsHeldIn, verdict_of_read, ReadError}
 use Rattle.ss_store.proofs.Common.{StagesAtCost, IsHalfway, IsPartlyJoined, with_single, with_windows}
@@ -36,8 +36,7 @@ module _ (part : StreamParts) (during after : List (ℕ × Option Record) → St
   firm_shown : (v : Verdict) (between : RecordsState) (result : Result (Unit {0}) ReadError) (mid : Told) →
       StagesStream v part during after was between result old mid → (others : List (ℕ × Option Record)) (s : Stream) →
       IsHeldIn others part s old.content → IsFirm v
-  firm_shown v between result mid stages others s held =
-      stages.firm others s (subst (λ (content : List ℕ). IsHeldIn others part s content) (sym (shown-sealed was.journal old.content at_rest)) held)
+  firm_shown v between result mid stages others s held = stages.firm others s (rw shown-sealed held)
 
   -- it was not sealed, since the call failed
   pub TurnsStream-not_sealed : {most : ℕ} (v : Verdict) (between is : RecordsState) (result : Result (Unit {0}) ReadError) (mid : Told)

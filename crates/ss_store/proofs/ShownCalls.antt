@@ -1,10 +1,9 @@
 -- What calls in a row make of what records show, of which some is staged, and what a seal makes of it. In each lemma the disks
 -- are plain values: a caller strips the premise that the disk tells.
-use Rattle.ss_store.proofs.Common.{◌≡◌, ◌⊎◌, ⊎_elim, inl, inr, ℕ, List, [], ◌∷◌, Err, Ok, Option, Result, length, refl, subst, sym, IsPermutation}
-use Rattle.ss_store.proofs.Common.{on_ok_weaker, IsErr, OnOk, now, weaker, KnowsNow, LeavesOnly, OnlyReads, NothingPending}
-use Rattle.ss_store.proofs.Common.{Told, KeepsShown, IsSealed, JournalState, shown, SlotMap, StandsFor, changed, Put, SameMap-refl, StandsFor-also}
-use Rattle.ss_store.proofs.Common.{StandsFor-from, StandsFor-same, shown-sealed, on_err, on_ok, AreKept, RecordsState, shown_by, Record, occupied, HasRecords}
-use Rattle.ss_store.proofs.Common.{StandsLike, StaysOr, Turns, TurnsShown}
+use Rattle.ss_store.proofs.Common.{◌≡◌, ◌⊎◌, ⊎_elim, inl, inr, ℕ, List, [], ◌∷◌, Err, Ok, Option, Result, length, refl, IsPermutation, on_ok_weaker, IsErr}
+use Rattle.ss_store.proofs.Common.{OnOk, now, weaker, KnowsNow, LeavesOnly, OnlyReads, NothingPending, Told, KeepsShown, IsSealed, SlotMap, StandsFor, changed}
+use Rattle.ss_store.proofs.Common.{Put, SameMap-refl, StandsFor-also, StandsFor-from, StandsFor-same, shown-sealed, on_err, on_ok, AreKept, RecordsState}
+use Rattle.ss_store.proofs.Common.{shown_by, Record, occupied, HasRecords, StandsLike, StaysOr, Turns, TurnsShown}
 use Rattle.ss_store.proofs.Calls.{CrashTriple-answers, CrashTriple-failed, CrashTriple-reads, CrashTriple-then, CrashTriple-weaker}
 use Rattle.ss_outside.proofs.CrashLemmas.{joined}
 use Rattle.ss_journal.specs.Groups.{entry_count, group_bytes}
@@ -29,7 +28,7 @@ pub StaysOr-later : (old mid : Told) (M L : List ℕ → Type 0) → ((image : L
 StaysOr-later old mid M L gives between image left = elim left.1 [
   | inl is ↦
       let stays : (found : SlotMap) → StandsFor mid.content found → StandsFor image found =
-      λ found stands. left.2 found (subst (λ (i : List ℕ). StandsFor i found) (sym is) stands) in
+      λ found stands. left.2 found (rw is stands) in
       (between.0, between.1, λ found stands. stays found (between.2 found stands))
   | inr has ↦ (left.0, inr (gives left.0 has), left.2)
 ]
@@ -61,7 +60,7 @@ pub TurnsShown-reads : {T E : Type 0} (was is : RecordsState) (P M : List ℕ �
 TurnsShown-reads was is P M old new result knows reads same =
     CrashTriple-reads (P (shown_by was old.content)) (P (shown_by is new.content)) (StaysOr old M) old new result knows reads
     (λ has. on_ok_weaker result (λ (journal : is.journal ≡ was.journal).
-    subst (λ (j : JournalState). P (shown j new.content)) (sym journal) (subst (λ (i : List ℕ). P (shown was.journal i)) (sym reads.same.content) has))
+    rw (journal, reads.same.content) has)
     same)
     (λ has none image left. StaysOr-stays old M image (none image left))
 
@@ -163,21 +162,19 @@ TurnsShown-changed {F} was between is found old mid puts value result kept kept_
 sealed_content : {T E : Type 0} (is : RecordsState) (Q : List ℕ → Type 0) (new : Told) (result : Result T E) (found : SlotMap) →
     ((other : List ℕ) → StandsFor other found → Q other) → OnOk result (IsSealed is.journal) →
     OnOk result (StandsFor (shown_by is new.content) found) → OnOk result (Q new.content)
-sealed_content is Q new (Ok value) found gives sealed stands =
-    subst Q (shown-sealed is.journal new.content sealed) (gives (shown_by is new.content) stands)
+sealed_content is Q new (Ok value) found gives sealed stands = rw shown-sealed at (gives (shown_by is new.content) stands)
 sealed_content is Q new (Err e) found gives sealed stands = tt
 
 -- What was staged since nothing was is sealed.
 module _ (was : RecordsState) (P M L : List ℕ → Type 0) (old : Told) (at_rest : IsSealed was.journal)
     (of_before : (image : List ℕ) → P image → L image) (of_crash : (image : List ℕ) → M image → L image) (maps : IsOfMap L) where
   shown_before : P old.content → P (shown_by was old.content)
-  shown_before has = subst P (sym (shown-sealed was.journal old.content at_rest)) has
+  shown_before has = rw shown-sealed has
 
   -- a crash before the seal
   left : (has : P old.content) (image : List ℕ) → StaysOr old M image → L image
   left has image stays =
-      of_map-like L maps image
-      (stays.0, ⊎_elim (λ same. of_before stays.0 (subst P (sym same) has)) (λ some. of_crash stays.0 some) stays.1, stays.2)
+      of_map-like L maps image (stays.0, ⊎_elim (λ same. of_before stays.0 (rw same has)) (λ some. of_crash stays.0 some) stays.1, stays.2)
 
   module _ {S F T E : Type 0} (between is : RecordsState) (Q : List ℕ → Type 0) (mid new : Told) where
     -- it was not sealed, since the call failed

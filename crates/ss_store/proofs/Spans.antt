@@ -1,5 +1,5 @@
 -- Positions of the entries of a line.
-use Rattle.ss_store.proofs.Common.{◌≡◌, ◌∙◌, ℕ, ◌+◌, ◌≤◌, List, [], ◌∷◌, ◌++◌, map, refl, sym, ap, subst, arith, append_assoc, MOST_VALUES, Entry}
+use Rattle.ss_store.proofs.Common.{◌≡◌, ◌∙◌, ℕ, ◌+◌, ◌≤◌, List, [], ◌∷◌, ◌++◌, map, refl, sym, ap, arith, append_assoc, MOST_VALUES, Entry}
 use Rattle.ss_store.proofs.Common.{last_position, may_join, Rule, may_be_one, AreWindows, taken, Window, TileFrom, span_held, span_of, times_held, times_of}
 use Rattle.ss_store.proofs.Common.{joined_entry, values_held, NoEntriesAreDue, may_be_joined}
 use Rattle.ss_model.specs.Decay.{NoneIsDue}
@@ -56,8 +56,8 @@ AreTiled-seam front w v rest tiles =
       some = behind.2.1;
       next = behind.2.3.0;
       some_behind = behind.2.3.1;
-      last = subst (λ n. v.last ≤ n) (sym all) most.0;
-      few = subst (λ n. n ≤ MOST_VALUES) (sym all) most.1;
+      last = rw all most.0;
+      few = rw all most.1;
     }
 
 pub TileFrom-joined : (first : ℕ) (front : List Entry) (w v : Entry) (rest : List Entry) → TileFrom first (front ++ w ∷ v ∷ rest) →
@@ -120,7 +120,7 @@ values-behind us w (v ∷ vs) (e ∷ []) tiles same = absurd (cc)
 values-behind us w (v ∷ vs) (e ∷ f ∷ fs) tiles same =
     let rest : map span_held (f ∷ fs) ≡ map span_of (v ∷ vs) = cc in
     let seam = append_assoc us (w ∷ []) (v ∷ vs) in
-    values-behind (us ++ w ∷ []) v vs (f ∷ fs) (subst (λ (zs : List Window). AreWindows zs) (sym seam) tiles) rest ∙ ap (λ (zs : List Window). taken zs) seam
+    values-behind (us ++ w ∷ []) v vs (f ∷ fs) (rw seam tiles) rest ∙ ap (λ (zs : List Window). taken zs) seam
 
 -- entries hold as many values as the windows at the same positions
 pub values_held-windows : (ws : List Window) (es : List Entry) → AreWindows ws → map span_held es ≡ map span_of ws → values_held es ≡ taken ws

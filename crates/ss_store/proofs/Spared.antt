@@ -1,10 +1,9 @@
 -- A stream that was given room, and what stands in the place of one.
-use Rattle.ss_store.proofs.Common.{◌≡◌, zero, suc, ◌≤◌, ℕ, Bool, true, List, [], ◌∷◌, ◌++◌, length, map, get_or, slice_set}
-use Rattle.ss_store.proofs.Common.{refl, ap, sym, ◌∙◌, subst, arith, Some, Option, AllZip, position_or_len}
-use Rattle.ss_store.proofs.Common.{IsStrictlyIncreasing, find_at, get_or_from_slice_get, none-some, same_Some, slice_get_within, same_name}
-use Rattle.ss_store.proofs.Common.{Record, Stream, Ack, AreKnown, LandmarksState, LineState, params_of, AreWhole, Agrees}
-use Rattle.ss_store.proofs.Common.{entries_of, records_held, span_held, times_held, StreamParts, said_of_held}
-use Rattle.ss_store.proofs.Common.{values_held, IsHeldIn, SameButSpare, StoreState, numbers_held, part_named, without_spare, HasRecords}
+use Rattle.ss_store.proofs.Common.{◌≡◌, zero, suc, ◌≤◌, ℕ, Bool, true, List, [], ◌∷◌, ◌++◌, length, map, get_or, slice_set, refl, ap, sym, ◌∙◌, subst, arith}
+use Rattle.ss_store.proofs.Common.{Some, Option, AllZip, position_or_len, IsStrictlyIncreasing, find_at, get_or_from_slice_get, none-some, same_Some}
+use Rattle.ss_store.proofs.Common.{slice_get_within, same_name, Record, Stream, Ack, AreKnown, LandmarksState, LineState, params_of, AreWhole, Agrees}
+use Rattle.ss_store.proofs.Common.{entries_of, records_held, span_held, times_held, StreamParts, said_of_held, values_held, IsHeldIn, SameButSpare, StoreState}
+use Rattle.ss_store.proofs.Common.{numbers_held, part_named, without_spare, HasRecords}
 use Rattle.std.proofs.Common.{slice_get}
 use Rattle.std.proofs.lemmas.List.Folds.{find-set}
 use Rattle.ss_store.specs.Kept.{KeepsSpare}
@@ -22,24 +21,20 @@ pub record IsSpared (was now : StreamParts) : Type 0 where
 module _ (store : StoreState) (place : ℕ) (part was : StreamParts) (is : part ≡ was) (at : slice_get store.streams place ≡ Some part)
     (whole : AreWhole store.streams store.records.live) where
   pub IsSpared-line : (line : LineState) → line.entries ≡ was.line.entries → was.line.spare ≤ line.spare → IsSpared part (record was { line = line })
-  IsSpared-line line entries grows =
-      subst (λ (p : StreamParts). IsSpared p (record was { line = line })) (sym is)
-      (record {
-        same = rw entries refl;
-        spare = record { line = grows; room = omega arith; value_room = omega arith };
-        known = subst (λ (p : StreamParts). AreKnown p.landmarks) is (Marks-at store.streams store.records.live place part whole at).0;
-      })
+  IsSpared-line line entries grows = rw is (record {
+    same = rw entries refl;
+    spare = record { line = grows; room = omega arith; value_room = omega arith };
+    known = rw is at (Marks-at store.streams store.records.live place part whole at).0;
+  })
 
   pub IsSpared-marks : (landmarks : LandmarksState) → landmarks.landmarks ≡ was.landmarks.landmarks → landmarks.slots ≡ was.landmarks.slots →
       landmarks.value_slots ≡ was.landmarks.value_slots → was.landmarks.room ≤ landmarks.room → was.landmarks.value_room ≤ landmarks.value_room →
       AreKnown landmarks → IsSpared part (record was { landmarks = landmarks })
-  IsSpared-marks landmarks same slots value_slots room value_room known =
-      subst (λ (p : StreamParts). IsSpared p (record was { landmarks = landmarks })) (sym is)
-      (record {
-        same = rw (same, slots, value_slots) refl;
-        spare = record { line = omega arith; room = room; value_room = value_room };
-        known = known;
-      })
+  IsSpared-marks landmarks same slots value_slots room value_room known = rw is (record {
+    same = rw (same, slots, value_slots) refl;
+    spare = record { line = omega arith; room = room; value_room = value_room };
+    known = known;
+  })
 
 Agrees-IsSpared : (was now : StreamParts) (s : Stream) → IsSpared was now → Agrees was s → Agrees now s
 Agrees-IsSpared was now s spared agrees = record {
@@ -98,8 +93,7 @@ SameButSpare-same store = record { streams = refl; spares = KeepsSpare-same stor
 pub KeepsSpare-set : (parts : List StreamParts) (place : ℕ) (was now : StreamParts) → slice_get parts place ≡ Some was → KeepsSpare was now →
     AllZip KeepsSpare parts (slice_set parts place now)
 KeepsSpare-set [] place was now at keeps = absurd (none-some was at)
-KeepsSpare-set (part ∷ parts) zero was now at keeps =
-    (subst (λ (p : StreamParts). KeepsSpare p now) (sym (same_Some part was at)) keeps, KeepsSpare-same parts)
+KeepsSpare-set (part ∷ parts) zero was now at keeps = (rw (same_Some part was at) keeps, KeepsSpare-same parts)
 KeepsSpare-set (part ∷ parts) (suc place) was now at keeps = (KeepsSpare-one part, KeepsSpare-set parts place was now at keeps)
 
 -- what was read at the place

@@ -1,7 +1,7 @@
 -- Calls that make a step of the state that records show, and so stage an event after the history.
-use Rattle.ss_store.proofs.Common.{◌≡◌, ◌⊎◌, ◌+◌, ℕ, List, [], ◌∷◌, ◌++◌, sym, ◌∙◌, subst, refl, None, Some, Option, Result, Ok, Err, inl, inr, on_ok_weaker}
-use Rattle.ss_store.proofs.Common.{◌↔◌, of_content, KnowsNow, DiskView, Told, IfUndone, Event, Refusal, New, CanBeSaid, Happened, added, refuses, Stream}
-use Rattle.ss_store.proofs.Common.{live, state, stepped, state-push, Ack, StandsFor, RecordsState, shown_by, RecoversToEither, StagesEvent, StandsForEither}
+use Rattle.ss_store.proofs.Common.{◌≡◌, ◌⊎◌, ◌+◌, ℕ, List, [], ◌∷◌, ◌++◌, sym, ◌∙◌, refl, None, Some, Option, Result, Ok, Err, inl, inr, on_ok_weaker}
+use Rattle.ss_store.proofs.Common.{◌↔◌, of_content, KnowsNow, DiskView, Told, IfUndone, Event, Refusal, CanBeSaid, Happened, added, refuses, Stream}
+use Rattle.ss_store.proofs.Common.{live, state, stepped, state-push, Ack, RecordsState, shown_by, RecoversToEither, StagesEvent, StandsForEither}
 use Rattle.ss_store.proofs.Common.{StaysWithin, StepsState, TurnsShown, Applies, verdict_of_apply, StoreIsKept, StoreState, refuses_held, ApplyError}
 use Rattle.ss_store.proofs.Common.{Recovers, Stands, IsShort, StandsShort, records_held_in}
 use Rattle.std.specs.Prelude.{IsTrue}
@@ -22,8 +22,8 @@ pub StepsState-turns : {T E : Type 0} (event : Event) (was is : RecordsState) (o
 StepsState-turns event was is old new result streams P M Q before has crash after turns =
     λ all.
     TurnsShown-weaker was is P (Recovers all) M (RecoversToEither all event) Q (Recovers (stepped all event)) old new result (λ same. has)
-    (λ same image left. subst (λ l. RecoversToEither l event image) (Recovers-same streams all (shown_by was old.content) before same) (crash image left))
-    (λ same image left. subst (λ l. Recovers (stepped l event) image) (Recovers-same streams all (shown_by was old.content) before same) (after image left))
+    (λ same image left. rw (Recovers-same streams all (shown_by was old.content) before same) at (crash image left))
+    (λ same image left. rw (Recovers-same streams all (shown_by was old.content) before same) at (after image left))
     turns
 
 -- the step is told by another answer
@@ -45,7 +45,7 @@ Stands-push : (history : List Happened) (event : Event) (content image : List �
     refuses (state history) event ≡ None → Recovers (stepped (state history) event) image → Stands (history ++ added event ∷ []) image
 Stands-push history event content image said stands none is = record {
   is_history = IsHistory_push history (added event) (record { before = stands.is_history; said = said; accepted = none });
-  state = subst (λ l. Recovers l image) (sym (state-push history event New none)) is;
+  state = rw state-push is;
 }
 
 -- and so a call that makes a step of the state stages an event after each history of it, where the event isn't refused
@@ -72,8 +72,7 @@ StagesEvent-accepted event was is old new result said none steps records few wit
           (λ image like. inl (StandsShort-also used sealed old.content image before (like its.0 its.1)))
           (λ image left short. elim left.1 [
             | inl same ↦
-                inl (StandsShort-also used sealed old.content image before
-                (left.2 its.0 (subst (λ (i : List ℕ). StandsFor i its.0) (sym same) its.1)))
+                inl (StandsShort-also used sealed old.content image before (left.2 its.0 (rw same its.1)))
             | inr either ↦ elim either [
               | inl still ↦
                   inr (
@@ -132,9 +131,7 @@ module _ {X : Type 0} (event : Event) (old new : StoreState) (seen : X → DiskV
 
   unchanged : (e : ApplyError) → KnowsNow (seen was).told → is ≡ was →
       StagesEvent {T = Ack} event old.records new.records (Err e) (seen was).told (seen is).told
-  unchanged e knows same =
-      subst (λ (d : X). StagesEvent {T = Ack} event old.records new.records (Err e) (seen was).told (seen d).told) (sym same)
-      (StagesEvent-uncalled event old.records new.records (seen was).told e knows)
+  unchanged e knows same = rw same (StagesEvent-uncalled event old.records new.records (seen was).told e knows)
 
   few : StoreIsKept old (seen was).told.content → (history : List Happened) → Stands history shown → live (state history) ≡ records_held_in old
   few kept history stands = sym (records_in-kept old (seen was).told.content history kept stands)

@@ -1,5 +1,5 @@
 -- What a survey says of the first of some streams that are held.
-use Rattle.ss_store.proofs.Common.{◌≡◌, ◌∙◌, ℕ, zero, suc, ◌+◌, ◌<◌, ◌≤◌, List, [], ◌∷◌, length, flat_map, take, get_or, refl, sym, ap, subst, arith, All}
+use Rattle.ss_store.proofs.Common.{◌≡◌, ◌∙◌, ℕ, zero, suc, ◌+◌, ◌<◌, ◌≤◌, List, [], ◌∷◌, length, flat_map, take, get_or, refl, sym, ap, arith, All}
 use Rattle.ss_store.proofs.Common.{sum_by, add-one, length-map, length-flat_map, All-head, All-tail, length-flat_map-take, sum_by-cons, all_values, AreKnown}
 use Rattle.ss_store.proofs.Common.{closed_state, closed_stream, IsState, IsStream, Stream, Agrees, AllAgree, slots_held, StreamParts, survey_of, Survey}
 use Rattle.std.proofs.Math.Seq.{take-length}
@@ -27,7 +27,7 @@ counted-at (p ∷ ps) [] n part each are inside at = absurd each
 counted-at (p ∷ ps) (s ∷ ss) zero part each are inside at = (
   s,
   All-head IsStream s ss are,
-  subst (λ (q : StreamParts). Agrees q s) (sym at) each.0,
+  rw (sym at) at each.0,
   omega (arith, sum_by-cons (λ (u : Stream). length (closed_stream u).windows) s []),
 )
 counted-at (p ∷ ps) (s ∷ ss) (suc n) part each are inside at =

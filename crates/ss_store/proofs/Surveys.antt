@@ -4,8 +4,7 @@ use Rattle.ss_store.proofs.Common.{append_assoc, length-append, Some, None, inl,
 use Rattle.ss_store.proofs.Common.{StandsIn, entry_at, index_of, is_at, place_at, At, Entry, closed, joined_window, may_join, closed_stream, Rule, rule_of}
 use Rattle.ss_store.proofs.Common.{IsStream, Stream, values_in, Window, Agrees, TileFrom, entries_of, span_held, span_of, times_held, times_of, StreamParts}
 use Rattle.ss_store.proofs.Common.{values_held, may_be_joined, entries_in, index-once, read-once}
-use Rattle.std.proofs.Common.{if◌then◌else◌}
-use Rattle.std.proofs.Common.{count_by}
+use Rattle.std.proofs.Common.{if◌then◌else◌, count_by}
 use Rattle.ss_model.specs.Closed.{closed_onto}
 use Rattle.ss_store.proofs.HeldCounts.{values_held-Agrees}
 use Rattle.ss_query.proofs.Places.{IsAt-first, neighbour, nothing_behind}
@@ -81,7 +80,7 @@ IsCounted-first rule n entries at entry place read apart tiles =
     let found = IsAt-first entries at place in
     let same : found.0 ≡ entry = read-once entries [] at found.0 found.1 entry found.2 (apart at) read in
     let is : entries ≡ (at, entry) ∷ found.1 = found.2 ∙ ap (λ (e : Entry). (at, e) ∷ found.1) same in
-    let tiled : TileFrom 1 (entry ∷ entries_in found.1) = subst (λ es. TileFrom 1 (entries_in es)) is tiles in
+    let tiled : TileFrom 1 (entry ∷ entries_in found.1) = rw is at tiles in
     let here = tiled.0 in
     record {
       before = [];
@@ -130,7 +129,7 @@ windows_left-counted rule n entries at first count counted read =
     let all = (index-counted rule n entries at first count counted).1 in
     let some = counted.few in
     let total = windows_left rule n (entries_in entries) in
-    let left : count + 0 ≡ total = subst (λ es. count + windows_behind rule n first (entries_in es) ≡ total) none counted.left in (
+    let left : count + 0 ≡ total = rw none at counted.left in (
       omega (arith, left),
       omega (arith, all, some),
     )
@@ -164,12 +163,11 @@ IsCounted-next rule n entries at right first count next counted alone tiles plac
     let all : entries_in entries ≡ entries_in before ++ window ∷ next ∷ entries_in rest =
     ap (λ es. entries_in es) found.1 ∙ map-append (λ (e : At × Entry). e.1) before ((at, window) ∷ (right, next) ∷ rest) in
     let tiled : AreTiled window next (values_held (entries_in entries)) =
-    subst (λ es. AreTiled window next (values_held es)) (sym all)
-    (AreTiled-seam (entries_in before) window next (entries_in rest) (subst (λ es. TileFrom 1 es) all tiles)) in
+    rw all (AreTiled-seam (entries_in before) window next (entries_in rest) (rw all at tiles)) in
     let behind : counted.rest ≡ (right, next) ∷ rest = same_rest before (at, window) counted.rest ((right, next) ∷ rest) (sym counted.is ∙ found.1) in
     let total = windows_left rule n (entries_in entries) in
     let left : count + windows_behind rule n first (next ∷ entries_in rest) ≡ total =
-    subst (λ es. count + windows_behind rule n first (entries_in es) ≡ total) behind counted.left in
+    rw behind at counted.left in
     let index_left = ap (λ es. index_of es at) counted.is ∙ index-once before at window counted.rest counted.once in
     let index_right = ap (λ es. index_of es right) moved ∙ index-once front right next rest found.2 in
     let long = ap (λ es. length es) moved ∙ length-append front ((right, next) ∷ rest) in

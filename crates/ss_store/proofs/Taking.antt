@@ -31,7 +31,7 @@ pub taking : {event : Event} (held : List HeldStream) {records : RecordsState} {
     (disk : DiskView) → stored held records stopped ≡ view → OfContent disk (StoreIsKept view) → IsSound (stored held records stopped) catalog →
     view.stopped ≡ false → refuses_held view.streams event ≡ None → IsTaking event (stored held records stopped) catalog disk
 taking {event} held disk same one_disk sound runs none = record {
-  one_disk = subst (λ (s : StoreState). OfContent disk (StoreIsKept s)) (sym same) one_disk;
+  one_disk = rw same one_disk;
   sound = sound;
   runs = ap (λ (s : StoreState). s.stopped) same ∙ runs;
   none = ap (λ (s : StoreState). refuses_held s.streams event) same ∙ none;
@@ -182,14 +182,12 @@ module _ {event : Event} {store : StoreState} {catalog : List (List ℕ × Strea
         IsHeldIn beside now next image →
         AllAgree (slice_set store.streams place now) streams
         × HasRecords (flat_map records_held (zip (slice_set store.streams place now) streams)) image
-    in-place now next streams image same held =
-        subst (λ l. AllAgree (slice_set store.streams place now) l × HasRecords (flat_map records_held (zip (slice_set store.streams place now) l)) image)
-        same (HasRecords-set store.streams kept.streams place now next image kept.agree inside held)
+    in-place now next streams image same held = rw same at (HasRecords-set store.streams kept.streams place now next image kept.agree inside held)
 
     pub recovers-before : (image : List ℕ) → IsHeldIn beside spared pair.stream image → Recovers kept.streams image
     recovers-before image held =
         let both = in-place spared pair.stream kept.streams image (set-same kept.streams place pair.stream pair.here) held in
-        subst (λ l. Recovers l image) kept.closed (Recovers-held (slice_set store.streams place spared) kept.streams image both.0 kept.state both.1)
+        rw kept.closed at (Recovers-held (slice_set store.streams place spared) kept.streams image both.0 kept.state both.1)
 
     in-spared : StoreIsIn (with_stream spared store.records store.stopped) (shown_by store.records before.told.content)
     in-spared =
@@ -213,8 +211,7 @@ module _ {event : Event} {store : StoreState} {catalog : List (List ℕ × Strea
       recovers-after : (image : List ℕ) → IsHeldIn beside now next image → Recovers (stepped kept.streams event) image
       recovers-after image held =
           let both = in-place now next (stepped kept.streams event) image step.is held in
-          subst (λ l. Recovers l image) step.closed
-          (Recovers-held (slice_set store.streams place now) (stepped kept.streams event) image both.0 state-then both.1)
+          rw step.closed at (Recovers-held (slice_set store.streams place now) (stepped kept.streams event) image both.0 state-then both.1)
 
   pub stands-spared : StandsOn (with_stream spared store.records store.stopped) before
   stands-spared run told =

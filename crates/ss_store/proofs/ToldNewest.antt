@@ -1,5 +1,5 @@
 -- What a look for the newest value of a stream tells, of what a store shows.
-use Rattle.ss_store.proofs.Common.{◌≡◌, ◌∙◌, ℕ, ◌+◌, false, List, length, map, sym, ap, subst, Some, None, Ok, option_map, slice_get, IsStrictlyIncreasing}
+use Rattle.ss_store.proofs.Common.{◌≡◌, ◌∙◌, ℕ, ◌+◌, false, List, length, map, sym, ap, Some, None, Ok, option_map, slice_get}
 use Rattle.ss_store.proofs.Common.{DiskView, Step, fine, reads-none, step-none, newest_value, index_of, At, Happened, known_exactly, newest_in, newest_of}
 use Rattle.ss_store.proofs.Common.{newest_told, IsState, Stream, state, stream_named, stream_numbered, placed_of, Newest, Placed, shown_by, AllAgree, Agrees}
 use Rattle.ss_store.proofs.Common.{StreamParts, ShowsWindow, StandsOn, StoreState, part_named, part_numbered, TellsNewest, newest_place, Recovers, Stands}
@@ -22,7 +22,7 @@ IsFound-both : (parts : List StreamParts) (streams : List Stream) (name : List �
 IsFound-both parts streams name number part agree state by_name by_number =
     let first = AreFound-named parts streams name part agree state by_name in
     let second = AreFound-numbered parts streams number part agree state by_number in
-    let rising = subst IsStrictlyIncreasing (sym (numbers-AllAgree parts streams agree)) state.numbers in
+    let rising = rw (← numbers-AllAgree parts streams agree) at state.numbers in
     let place = places-same parts second.place first.place part rising second.at first.at in
     record {
       stream = first.stream;

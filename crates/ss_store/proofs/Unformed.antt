@@ -1,5 +1,5 @@
 -- What a file stands for that isn't formed.
-use Rattle.ss_store.proofs.Common.{◌≡◌, ℕ, List, [], ◌∷◌, filter, map, IsTrue, refl, ap, sym, subst, not, IsPermutation, range_with_len, IsPermutation-refl}
+use Rattle.ss_store.proofs.Common.{◌≡◌, ℕ, List, [], ◌∷◌, filter, map, IsTrue, refl, ap, not, range_with_len, IsPermutation-refl}
 use Rattle.ss_store.proofs.Common.{is_unborn, StandsFor, blank_map, zeros, SameMap-refl, StandsFor-from, are_zeros, occupied, Recovers, Stands}
 use Rattle.ss_journal.proofs.RedoLemmas.{redo-unborn}
 use Rattle.ss_model.specs.State.{state}
@@ -23,6 +23,5 @@ Stands-unformed image unborn =
     let found = blank_map image in
     let is : StandsFor image found = StandsFor-from image found found (redo-unborn image unborn) (SameMap-refl found) in
     let recovers : Recovers [] image =
-    Recovers-held [] [] image tt IsState-nil
-    (record { found = found; map = is; occupied = subst (IsPermutation []) (sym (none-occupied image)) (IsPermutation-refl []) }) in
-    record { is_history = IsHistory-nil; state = subst (λ l. Recovers l image) (sym state-nil) recovers }
+    Recovers-held [] [] image tt IsState-nil (record { found = found; map = is; occupied = rw none-occupied (IsPermutation-refl []) }) in
+    record { is_history = IsHistory-nil; state = rw state-nil recovers }

@@ -1,6 +1,6 @@
 -- How many slots a history allows, and images that use no more.
-use Rattle.ss_store.proofs.Common.{◌≡◌, ◌+◌, ◌≤◌, ◌++◌, ⊎_elim, inl, inr, ℕ, List, [], ◌∷◌, None, Option, Result, Some, ap, append_assoc, arith, subst}
-use Rattle.ss_store.proofs.Common.{sym, append-nil, on_ok_weaker, OnOk, max, weaker, LeavesOnly, NothingPending, Told, on_ok, SlotMap, StandsFor, Happened}
+use Rattle.ss_store.proofs.Common.{◌≡◌, ◌+◌, ◌≤◌, ◌++◌, ⊎_elim, inl, inr, ℕ, List, [], ◌∷◌, None, Option, Result, Some, ap, append_assoc, arith}
+use Rattle.ss_store.proofs.Common.{append-nil, on_ok_weaker, OnOk, max, weaker, LeavesOnly, NothingPending, Told, on_ok, SlotMap, StandsFor, Happened}
 use Rattle.ss_store.proofs.Common.{live, state, RecordsState, shown_by, StaysWithin, IsShort, StandsShort, UsesAtMost, most_needed, StaysOr}
 use Rattle.ss_store.specs.Uses.{most_needed_from}
 use Rattle.ss_store.proofs.KeptStates.{Stands-of_map}
@@ -13,7 +13,7 @@ live-first before [] = omega arith
 live-first before (event ∷ after) = omega arith
 
 pub live-last : (before after : List Happened) → live (state (before ++ after)) ≤ most_needed_from before after
-live-last before [] = subst (λ h. live (state h) ≤ live (state before)) (sym (append-nil before)) (omega arith)
+live-last before [] = rw append-nil (omega arith)
 live-last before (event ∷ after) =
     let rest = live-last (before ++ event ∷ []) after in
     let same = ap (λ h. live (state h)) (append_assoc before (event ∷ []) after) in
@@ -74,7 +74,7 @@ module _ {T E : Type 0} (was is : RecordsState) (old new : Told) (result : Resul
       let most = max n (most_needed history + 1) in
       weaker old new (λ image. StaysOr old M image × StaysOr old (UsesAtMost most) image) L
       (λ image left. elim left.1.1 [
-        | inl same ↦ of_content image (λ found stands. left.1.2 found (subst (λ (i : List ℕ). StandsFor i found) (sym same) stands))
+        | inl same ↦ of_content image (λ found stands. left.1.2 found (rw same stands))
         | inr uses ↦ of_moved image left.0 (of_map-like (UsesAtMost most) (UsesAtMost-of_map most) image (left.1.0, uses, left.1.2))
       ])
       (both old new (StaysOr old M) (StaysOr old (UsesAtMost most)) run ((within.turns most (allowed n)).any_moment none short))

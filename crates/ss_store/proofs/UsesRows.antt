@@ -1,5 +1,5 @@
 -- How many slots an image uses and a history needs, where the definitions leave no room.
-use Rattle.ss_store.proofs.Common.{◌≡◌, ◌⊎◌, ◌+◌, ◌*◌, ℕ, List, [], ◌∷◌, None, Ok, Some, arith, pos, refl, subst, sym, max, replicate, ⊤, LeavesOnly}
+use Rattle.ss_store.proofs.Common.{◌≡◌, ◌⊎◌, ◌+◌, ◌*◌, ℕ, List, [], ◌∷◌, None, Ok, Some, arith, pos, refl, max, replicate, ⊤, LeavesOnly}
 use Rattle.ss_store.proofs.Common.{NothingPending, Told, Failed, exp, blank_map, stands, SameMap-refl, StandsFor-from, StandsFor-same, Happened, added}
 use Rattle.ss_store.proofs.Common.{RecordsState, shown_by, OpensStore, SealsStore, KeepsWithin, StandsLike, StaysWithin, StoreState, Stands, IsShort}
 use Rattle.ss_store.proofs.Common.{StandsShort, UsesAtMost, most_needed, OpenError}
@@ -120,18 +120,18 @@ uses-three uses =
 -- a call that may use two slots makes no file of two one of three, and a crash within it leaves none of three
 module _ {T E : Type 0} (value : T) (old new : Told) where
   keeps-three : KeepsWithin {E = E} 2 (Ok value) old new → old.content ≡ two_slots → new.content ≡ three_slots → ⊥
-  keeps-three keeps was is = uses-three (subst (UsesAtMost 2) is ((keeps 2 (omega arith)).content (subst (UsesAtMost 2) (sym was) uses-two)))
+  keeps-three keeps was is = uses-three (rw is at ((keeps 2 (omega arith)).content (rw was uses-two)))
 
   keeps-crash : KeepsWithin {E = E} 2 (Ok value) old new → old.content ≡ two_slots → NothingPending old → LeavesOnly old new (UsesAtMost 2)
-  keeps-crash keeps was none = (keeps 2 (omega arith)).any_moment none (subst (UsesAtMost 2) (sym was) uses-two)
+  keeps-crash keeps was none = (keeps 2 (omega arith)).any_moment none (rw was uses-two)
 
   -- nor does one that stages, of what is shown
   module _ (was is : RecordsState) (stays : StaysWithin {E = E} 2 was is (Ok value) old new) (shown : shown_by was old.content ≡ two_slots) where
     shows-two : UsesAtMost 2 (shown_by was old.content)
-    shows-two = subst (UsesAtMost 2) (sym shown) uses-two
+    shows-two = rw shown uses-two
 
     stays-three : shown_by is new.content ≡ three_slots → ⊥
-    stays-three then = uses-three (subst (UsesAtMost 2) then ((stays.turns 2 (omega arith)).content shows-two))
+    stays-three then = uses-three (rw then at ((stays.turns 2 (omega arith)).content shows-two))
 
     stays-crash : NothingPending old → LeavesOnly old new (StandsLike (λ image. (image ≡ old.content) ⊎ UsesAtMost 2 image))
     stays-crash none = (stays.turns 2 (omega arith)).any_moment none shows-two

@@ -1,9 +1,8 @@
 -- A store one of whose streams takes a value outside landmarks: what is known before the call, and what the store does then.
-use Rattle.ss_store.proofs.Common.{◌≡◌, ◌∙◌, ℕ, ℤ, ◌+◌, ◌<◌, ◌≤◌, Bool, true, false, List, flat_map, get_or, slice_set, length, ap, arith, inl, inr}
-use Rattle.ss_store.proofs.Common.{sym, subst}
-use Rattle.ss_store.proofs.Common.{Err, None, Ok, Some, DiskView, OfContent, Step, fine, Value, StreamId, LineState, CanBeSaid, New, with_plain_value}
-use Rattle.ss_store.proofs.Common.{has_open, AreKnown, EndByLast, RecordsState, shown_by, entries_of, slots_held, StreamParts, IsTaker, Applies, StagesAtCost}
-use Rattle.ss_store.proofs.Common.{ChangedIsHeld, NoneAreDue, RecoversToEither, Recovers, apply_of_fault, verdict_of_read, IsHalfway, IsSameStream, values_held}
+use Rattle.ss_store.proofs.Common.{◌≡◌, ◌∙◌, ℕ, ℤ, ◌+◌, ◌<◌, ◌≤◌, Bool, true, false, List, flat_map, get_or, slice_set, length, ap, arith, inl, inr, sym, Err}
+use Rattle.ss_store.proofs.Common.{None, Ok, Some, DiskView, OfContent, Step, fine, Value, StreamId, LineState, CanBeSaid, New, with_plain_value, has_open}
+use Rattle.ss_store.proofs.Common.{AreKnown, EndByLast, RecordsState, shown_by, entries_of, slots_held, StreamParts, IsTaker, Applies, StagesAtCost}
+use Rattle.ss_store.proofs.Common.{ChangedIsHeld, NoneAreDue, RecoversToEither, apply_of_fault, verdict_of_read, IsHalfway, IsSameStream, values_held}
 use Rattle.ss_store.proofs.Common.{with_single, held_parts, HeldStream, Index, IsReservedFor, StandsAfter, is_past, IsSound, StoreIsIn, StoreIsKept, StoreState}
 use Rattle.ss_store.proofs.Common.{refuses_held, same_name, ReadError}
 use Rattle.ss_line.specs.declared.line.TheConstants.{MOST_PLACES}
@@ -38,7 +37,7 @@ pub taking-value : (held : List HeldStream) {records : RecordsState} {stopped : 
     IsTakingValue (stored held records stopped) catalog name t v place slot stream.part line disk
 taking-value held {records} {stopped} {name = name} {t = t} {place = place} {slot = slot} {stream = stream} {line = line} disk same one_disk sound runs
     taker none said read entries grows =
-    let its = subst (λ (s : StoreState). IsTaker s name t place slot) (sym same) taker in
+    let its = rw (← same) at taker in
     let takes = taking held disk same one_disk sound runs none in
     let part = part-read (held_parts held) place its.part stream.part its.at (parts-read held place read) in
     record {
@@ -100,7 +99,7 @@ module _ {store : StoreState} {catalog : List (List ℕ × StreamId)} {name : Li
   either kept image (inl still) = inl (recovers-before it.is kept image still)
   either kept image (inr partly) =
       let s = (pair it.is kept).stream in
-      inr (subst (λ l. Recovers l image) (closed-partly kept.streams name t v place s (may kept) kept.closed)
+      inr (rw (closed-partly kept.streams name t v place s (may kept) kept.closed) at
       (Recovers-partly store.streams kept.streams place (with_single s t v) image kept.agree (inside it.is)
       (IsState-single kept.streams name t v place s (may kept)) partly))
 
@@ -108,7 +107,7 @@ module _ {store : StoreState} {catalog : List (List ℕ × StreamId)} {name : Li
     -- the landmarks stay
     pub marks-taken : now.last_time ≡ Some t → AreKnown now.landmarks × EndByLast now
     marks-taken last = (
-      subst AreKnown (sym same.landmarks) it.is.room.known,
+      rw same.landmarks it.is.room.known,
       EndByLast-later (record was { line = line }) now same.landmarks (IsNoEarlier-past was.last_time now.last_time t last later-taker) (ends-spared it.is),
     )
 

@@ -1,11 +1,10 @@
 -- A stream that takes a value, or whose landmarks take an event: the state with it.
-use Rattle.ss_store.proofs.Common.{◌≡◌, ℕ, zero, suc, ◌+◌, ◌<◌, ℤ, true, false, List, [], ◌∷◌, ◌++◌, drop, get_or, slice_set, refl, ap, sym, ◌∙◌, subst}
-use Rattle.ss_store.proofs.Common.{arith, None, Some, inl, inr, AllByRecursion, IsDistinct, cases_Bool, length-set, length_push, map-set, All-set}
-use Rattle.ss_store.proofs.Common.{get_or_from_slice_get, none-some, same_Some, slice_get_within, same_name, Event, Value, MOST_VALUES, New, closed}
-use Rattle.ss_store.proofs.Common.{closed_state, closed_stream, CanBeSaid, is_past, refuses, rule_of, IsState, IsStream, Stream, last_time, records_of}
-use Rattle.ss_store.proofs.Common.{values_in, has_open, with_closed, with_opened, single_window, stepped, with_plain_value}
-use Rattle.ss_store.proofs.Common.{same_name-Decides, CanAppend-refuses, IsStream-single, taken-append, with_single, with_windows, IsInOpen, event_of}
-use Rattle.ss_store.proofs.Common.{with_mark, Mark}
+use Rattle.ss_store.proofs.Common.{◌≡◌, ℕ, zero, suc, ◌+◌, ◌<◌, ℤ, true, false, List, [], ◌∷◌, ◌++◌, drop, get_or, slice_set, refl, ap, sym, ◌∙◌, arith, None}
+use Rattle.ss_store.proofs.Common.{Some, inl, inr, AllByRecursion, IsDistinct, cases_Bool, length-set, length_push, map-set, All-set, get_or_from_slice_get}
+use Rattle.ss_store.proofs.Common.{none-some, same_Some, slice_get_within, same_name, Event, Value, MOST_VALUES, New, closed, closed_state, closed_stream}
+use Rattle.ss_store.proofs.Common.{CanBeSaid, is_past, refuses, rule_of, IsState, IsStream, Stream, last_time, records_of, values_in, has_open, with_closed}
+use Rattle.ss_store.proofs.Common.{with_opened, single_window, stepped, with_plain_value, same_name-Decides, CanAppend-refuses, IsStream-single, taken-append}
+use Rattle.ss_store.proofs.Common.{with_single, with_windows, IsInOpen, event_of, with_mark, Mark}
 use Rattle.std.proofs.Common.{slice_get}
 use Rattle.std.proofs.lemmas.List.Sums.{sum_by-set}
 use Rattle.std.proofs.lemmas.Map.Keys.{IsDistinct-head, IsDistinct-tail}
@@ -24,7 +23,7 @@ use Rattle.ss_store.proofs.Among.{IsStream-at}
 apart-at : (n : List ℕ) (streams : List Stream) (k : ℕ) (s : Stream) → AllByRecursion (λ y. same_name n y ≡ false) (names_of streams) →
     slice_get streams k ≡ Some s → same_name n s.name ≡ false
 apart-at n [] k s apart at = absurd (none-some s at)
-apart-at n (u ∷ us) zero s apart at = subst (λ (x : Stream). same_name n x.name ≡ false) (same_Some u s at) apart.0
+apart-at n (u ∷ us) zero s apart at = rw (same_Some u s at) at apart.0
 apart-at n (u ∷ us) (suc k) s apart at = apart-at n us k s apart.1 at
 
 map-changed_apart : (name : List ℕ) (change : Stream → Stream) (streams : List Stream) → AllByRecursion (λ y. same_name name y ≡ false) (names_of streams) →
@@ -40,7 +39,7 @@ map-changed name change (u ∷ us) zero s distinct at same =
     let is : u ≡ s = same_Some u s at in
     let named : same_name name u.name ≡ true = rw is same in
     let name_is : u.name ≡ name = sym ((same_name-Decides name u.name).0 named) in
-    let others = subst (λ n. AllByRecursion (λ y. same_name n y ≡ false) (names_of us)) name_is (IsDistinct-head same_name u.name (names_of us) distinct) in
+    let others = rw name_is at (IsDistinct-head same_name u.name (names_of us) distinct) in
     rw (named, map-changed_apart name change us others) (ap (λ (x : Stream). change x ∷ us) is)
 map-changed name change (u ∷ us) (suc k) s distinct at same =
     let later = map-changed name change us k s (IsDistinct-tail same_name u.name (names_of us) distinct) at same in
@@ -94,7 +93,7 @@ pub closed-at : (streams : List Stream) (place : ℕ) (s : Stream) → closed_st
 closed-at [] place s closed_before at = absurd (none-some s at)
 closed-at (u ∷ us) zero s closed_before at =
     let here : closed_stream u ≡ u = ap (λ (l : List Stream). get_or l 0 u) closed_before in
-    subst (λ x. closed_stream x ≡ x) (same_Some u s at) here
+    rw (same_Some u s at) at here
 closed-at (u ∷ us) (suc k) s closed_before at = closed-at us k s (ap (drop 1) closed_before) at
 
 -- and an event of landmarks touches no window

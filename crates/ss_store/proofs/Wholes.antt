@@ -1,7 +1,7 @@
 -- What changes of one stream in a row keep over every disk, and what joins in a row make of it.
-use Rattle.ss_store.proofs.Common.{◌∙◌, ℕ, Bool, List, Option, Ok, Result, arith, refl, subst, sym, length, ◌-◌, ◌≤◌, ◌≡◌, KnowsNow, DiskView, Told, Step}
+use Rattle.ss_store.proofs.Common.{◌∙◌, ℕ, Option, Ok, Result, arith, refl, length, ◌-◌, ◌≤◌, ◌≡◌, KnowsNow, DiskView, Told, Step}
 use Rattle.ss_store.proofs.Common.{fine, HasSealed, IsSettled, RecordsState, entries_of, slots_held, StreamParts, StagesAtCost, KeepsWhole, IsOrdered}
-use Rattle.ss_store.proofs.Common.{IsSameStream, values_held, with_windows, HeldStream, IsKeyedFor, StandsAfter, LiveSlotsGo, ReadError}
+use Rattle.ss_store.proofs.Common.{IsSameStream, values_held, with_windows, HeldStream, IsKeyedFor, StandsAfter, ReadError}
 use Rattle.ss_store.specs.Changing.{JoinsWindows, KeepsAtRest}
 use Rattle.ss_store.proofs.Closings.{JoinsEach-more, JoinsEach-none}
 use Rattle.ss_store.proofs.LiveSlots.{LiveSlotsGo-none, LiveSlotsGo-then}
@@ -49,7 +49,7 @@ pub KeepsAtRest-sealed : {part now : StreamParts} {was between is : RecordsState
 KeepsAtRest-sealed {part} {now} {was} {between} {is} {used} whole live sealed = record {
   whole = record {
     ordered = whole.ordered;
-    live = subst (λ (l : List Bool). LiveSlotsGo (slots_held part) (slots_held now) was.live l) (sym live) whole.live;
+    live = rw live whole.live;
     settled = sealed.settled;
     extent = omega (arith, whole.extent, sealed.extent);
   };

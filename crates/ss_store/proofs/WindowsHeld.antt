@@ -1,5 +1,5 @@
 -- One window of a stream that is held: its entry, and its place in the line.
-use Rattle.ss_store.proofs.Common.{◌≡◌, ℕ, zero, suc, ◌+◌, ◌<◌, ◌≤◌, Bool, List, [], ◌∷◌, ◌++◌, length, ap, sym, ◌∙◌, subst, arith, Some, slice_get}
+use Rattle.ss_store.proofs.Common.{◌≡◌, ℕ, zero, suc, ◌+◌, ◌<◌, ◌≤◌, Bool, List, [], ◌∷◌, ◌++◌, length, ap, sym, ◌∙◌, arith, Some, slice_get}
 use Rattle.ss_store.proofs.Common.{option_map, ◌==◌, All, AllByRecursion, range_with_len, All-filter, All-from_recursion, All-get_or, recursion_from_All}
 use Rattle.ss_store.proofs.Common.{find_at, All-permutation, IsPermutation-sym, get_or_from_slice_get, none-some, same_Some, slice_get-map, slice_get_within}
 use Rattle.ss_store.proofs.Common.{MOST_SLOTS, entry_at, index_of, At, Entry, is_live, MOST_VALUES, AreWhole, TileFrom, entries_of, mark_slots, slots_held}
@@ -11,7 +11,7 @@ TileFrom-at : (first : ℕ) (es : List Entry) (i : ℕ) (e : Entry) → TileFrom
 TileFrom-at first [] i e tiles at = absurd (none-some e at)
 TileFrom-at first (x ∷ xs) zero e tiles at =
     let same = same_Some x e at in
-    subst (λ (y : Entry). (y.first ≤ y.last) × (y.last ≤ MOST_VALUES)) same (tiles.1, tiles.2)
+    rw (← same) (tiles.1, tiles.2)
 TileFrom-at first (x ∷ xs) (suc i) e tiles at = TileFrom-at (x.last + 1) xs i e tiles.3 at
 
 pub first_at : {X : Type 0} (xs ys : List X) (i : ℕ) (x : X) → slice_get xs i ≡ Some x → slice_get (xs ++ ys) i ≡ Some x
@@ -36,7 +36,7 @@ pub window_slots-below : (parts : List StreamParts) (live : List Bool) (place : 
 window_slots-below parts live place part whole all here =
     let P : ℕ → Type 0 = λ slot. slot < length live in
     let below = each-front P (window_slots part) (mark_slots part) (slots-below (slots_held part) live (AreWhole-at parts live place part whole here).1) in
-    subst (λ n. All (λ slot. slot < n) (window_slots_of part)) all (All-from_recursion P (window_slots_of part) below.1)
+    rw all at (All-from_recursion P (window_slots_of part) below.1)
 
 -- what is known of the entry of a window, in a store that is whole
 pub record IsEntry (e : Entry) : Type 0 where
@@ -56,7 +56,7 @@ IsEntry-at parts live place part at e whole all here is =
     record {
       some = tile.0;
       most = tile.1;
-      slot = subst (λ s. s < MOST_SLOTS) (get_or_from_slice_get (window_slots_of part) i e.slot e.slot slot)
+      slot = rw (get_or_from_slice_get (window_slots_of part) i e.slot e.slot slot) at
           (All-get_or (λ s. s < MOST_SLOTS) (window_slots_of part) i e.slot (slice_get_within (window_slots_of part) i e.slot slot)
           (window_slots-below parts live place part whole all here));
     }

@@ -59,7 +59,7 @@ record-at part s i e w at window =
 -- what each of some passes, the one at a place passes
 list_all-at : {X : Type 0} (test : X → Bool) (xs : List X) (i : ℕ) (x : X) → slice_get xs i ≡ Some x → list_all test xs ≡ true → test x ≡ true
 list_all-at test [] i x at all = absurd (none-some x at)
-list_all-at test (y ∷ ys) zero x at all = subst (λ z. test z ≡ true) (same_Some y x at) (and_parts (test y) (list_all test ys) all).0
+list_all-at test (y ∷ ys) zero x at all = rw (same_Some y x at) at (and_parts (test y) (list_all test ys) all).0
 list_all-at test (y ∷ ys) (suc i) x at all = list_all-at test ys i x at (and_parts (test y) (list_all test ys) all).1
 
 -- one record is first, and the others come after it
@@ -93,8 +93,7 @@ IsKeptWindow-at store content kept number part at e numbered is =
       others = remove all (suc i);
       has = subst (λ n. HasRecords ((e.slot, Some (window_record n window.0)) ∷ remove all (suc i)) content) (sym held.agrees.number)
           (has-first all (suc i) (e.slot, Some (window_record s.number window.0)) content here held.records);
-      free = subst (λ ls. lies_free ls window.0 ≡ true) (sym held.agrees.landmarks)
-          (list_all-at (lies_free s.landmarks) s.windows i window.0 window.1 held.stream.free);
+      free = rw (← held.agrees.landmarks) at (list_all-at (lies_free s.landmarks) s.windows i window.0 window.1 held.stream.free);
     }
 
 -- what is read of it
@@ -164,4 +163,4 @@ module _ {part : StreamParts} {entry : Entry} (is : RecordsState) (store : Store
 -- the entry at a place, in the part that was read
 pub entry-read : {o : Option StreamParts} {read : StreamParts} {e : Entry} (at : At) → o ≡ Some read →
     IfSome o (λ part. entry_at part.line.entries at ≡ Some e) → entry_at read.line.entries at ≡ Some e
-entry-read {e = e} at same is = subst (λ (p : Option StreamParts). IfSome p (λ part. entry_at part.line.entries at ≡ Some e)) same is
+entry-read {e = e} at same is = rw same at is

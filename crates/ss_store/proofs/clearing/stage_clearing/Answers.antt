@@ -1,5 +1,4 @@
-use Rattle.ss_store.proofs.Common.{◌∙◌, ℕ, List, [], Ok, arith, refl, subst, suc, add-one, err_from_is_err_and, step-as, step-none, after-step, step-next}
-use Rattle.ss_store.proofs.Common.{LiveSlotsGo}
+use Rattle.ss_store.proofs.Common.{◌∙◌, Ok, arith, refl, suc, add-one, err_from_is_err_and, step-as, step-none, after-step, step-next}
 use Rattle.std.proofs.lemmas.List.{take_all}
 use Rattle.ss_store.proofs.Clearings.{AreSomeLive-next, LiveSlotsGo-more, StagesClearing-all, StagesClearing-failed, StagesFirst-more, StagesFirst-none}
 use Rattle.ss_store.proofs.Costs.{StagesAtCost-answers, StagesAtCost-none, StagesAtCost-then}
@@ -61,6 +60,4 @@ returns-clause-clears g c =
     (StagesClearing-all _ c.args.doomed.now c.args.records.now c.loop-slot.records _ _ _ (omega arith)))
 
 pub returns-clause-live : goal.returns-clause-live
-returns-clause-live g c =
-    subst (λ (l : List ℕ). LiveSlotsGo l [] c.args.records.now.live c.loop-slot.records.live)
-    (take_all c.loop-slot.slot-index c.args.doomed.now (omega arith)) c.loop-slot.invariant.live
+returns-clause-live g c = rw (take_all c.loop-slot.slot-index c.args.doomed.now (omega arith)) at c.loop-slot.invariant.live

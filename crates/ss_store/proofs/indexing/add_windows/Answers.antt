@@ -1,5 +1,5 @@
-use Rattle.ss_store.proofs.Common.{◌∙◌, ◌+◌, ap, arith, map, subst, sym, take, Some, StandsIn, index_of, IsKeyed, index_of-first, index_of-next, none-first}
-use Rattle.ss_store.proofs.Common.{entries_of, IsTimed, begun_at}
+use Rattle.ss_store.proofs.Common.{◌∙◌, ◌+◌, ap, arith, map, sym, take, Some, StandsIn, index_of, index_of-first, index_of-next, none-first}
+use Rattle.ss_store.proofs.Common.{entries_of, begun_at}
 use Rattle.ss_store.proofs.KeyedWindows.{FollowUpTo-take, FollowUpTo-tiles, StandsIn-below, none_past, take-all, take-none}
 use Rattle.ss_store.proofs.Rising.{TimesRise-any}
 use Rattle.ss_store.proofs.indexing.add_windows.Goals as goal
@@ -9,7 +9,7 @@ returns-in_default g c =
     let none = none-first c.args.part.now.line.entries (sym c.in_default.is ∙ c.first.ensures.value) in
     record {
       target = c.requires.target;
-      keyed = subst (λ es. IsKeyed c.args.n es c.args.index.now.schedule) (sym none) c.requires.fresh;
+      keyed = rw none c.requires.fresh;
       timed = c.requires.none ∙ ap (λ es. map begun_at es) (sym none);
     }
 
@@ -97,6 +97,6 @@ returns g c =
     (sym c.in_default-1₀.is ∙ c.neighbours.ensures.behind) in
     record {
       target = c.loop-next.invariant.target;
-      keyed = subst (λ es. IsKeyed c.args.n es c.loop-next.index.schedule) (take-all c.args.part.now.line.entries _ none) c.loop-next.invariant.keyed;
-      timed = subst (λ es. IsTimed es c.loop-next.index.times) (take-all c.args.part.now.line.entries _ none) c.loop-next.invariant.timed;
+      keyed = rw take-all at c.loop-next.invariant.keyed;
+      timed = rw take-all at c.loop-next.invariant.timed;
     }

@@ -1,13 +1,11 @@
-use Rattle.ss_store.proofs.Common.{◌≤◌, sym, subst, [], MOST_VALUES, entries_of}
-use Rattle.ss_store.specs.Indexed.{IsKeyedAt}
+use Rattle.ss_store.proofs.Common.{[], entries_of}
 use Rattle.ss_store.proofs.KeyedWindows.{held-few}
 use Rattle.ss_store.proofs.indexing.held_with_index.Goals as goal
 
 pub add_windows-requires-clause-fresh : goal.add_windows-requires-clause-fresh
 add_windows-requires-clause-fresh g c =
     c.reserve_places.ensures.keyed c.values_held-n.result []
-    (c.new-index.ensures.keyed c.values_held-n.result
-    (subst (λ n. n ≤ MOST_VALUES) (sym c.values_held-n.ensures.value) (held-few (entries_of c.args.part) c.requires.tiles)))
+    (c.new-index.ensures.keyed c.values_held-n.result (rw c.values_held-n.ensures.value (held-few (entries_of c.args.part) c.requires.tiles)))
 
 pub returns-clause-keyed : goal.returns-clause-keyed
-returns-clause-keyed g c = subst (λ n. IsKeyedAt n c.args.part c.add_windows.new.index) c.values_held-n.ensures.value c.in_ok-add_windows.ensures
+returns-clause-keyed g c = rw c.values_held-n.ensures.value at c.in_ok-add_windows.ensures

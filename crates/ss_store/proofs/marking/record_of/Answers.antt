@@ -1,4 +1,4 @@
-use Rattle.ss_store.proofs.Common.{◌+◌, arith, refl, rules, subst, CanMark}
+use Rattle.ss_store.proofs.Common.{◌+◌, arith, refl, rules}
 use Rattle.ss_codec.proofs.RecordLemmas.{is_valid-IsLandmark, is_valid-IsValue}
 use Rattle.ss_store.proofs.OpenMarks.{HasOpen-can, closes, count-has, few-marks, open-has, start-has, takes}
 use Rattle.ss_store.proofs.marking.record_of.Goals as goal
@@ -18,7 +18,7 @@ pub returns-in-Value-clause-valid : goal.returns-in-Value-clause-valid
 returns-in-Value-clause-valid c =
     let ls = c.args.part.now.landmarks.landmarks in
     let few = few-marks c.args.part.now c.count-number.ensures.state c.requires.few in
-    let has = HasOpen-can (takes c.args.t) ls c.count-number.ensures.state.order (subst (λ m. CanMark ls c.args.t m) c.in-Value.is c.requires.can) in
+    let has = HasOpen-can (takes c.args.t) ls c.count-number.ensures.state.order (rw c.in-Value.is at c.requires.can) in
     is_valid-IsValue c.number_of-id.result c.count-number.result (c.open_figures-start.result.1 + 1) c.args.t _ c.number_of-id.type_inv
     (omega (arith, count-has ls has, c.count-number.ensures.value)) c.count-number.type_inv (omega arith)
     (omega (arith, few.1, c.open_figures-start.ensures.values)) c.requires.time (search rules)
@@ -27,7 +27,7 @@ pub returns-in-Close-clause-valid : goal.returns-in-Close-clause-valid
 returns-in-Close-clause-valid c =
     let ls = c.args.part.now.landmarks.landmarks in
     let few = few-marks c.args.part.now c.count-number.ensures.state c.requires.few in
-    let can = subst (λ m. CanMark ls c.args.t m) c.in-Close.is c.requires.can in
+    let can = rw c.in-Close.is at c.requires.can in
     let has = HasOpen-can (closes c.args.t) ls c.count-number.ensures.state.order can in
     let at = open-has (closes c.args.t) 0 ls has can in
     is_valid-IsLandmark c.number_of-id.result c.count-number.result c.open_figures-start.result.1 c.open_figures-start.result.0 _ c.number_of-id.type_inv

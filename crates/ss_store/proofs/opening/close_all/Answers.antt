@@ -1,5 +1,5 @@
 use Rattle.ss_store.proofs.Common.{◌≡◌, ◌∙◌, ◌<◌, arith, refl, suc, length, slice_set, Ok, add-one, err_from_is_err_and, step-as}
-use Rattle.ss_store.proofs.Common.{All, All-get_or, All-nil, All-push, All-set, ap, length-map, map, subst, sym, take, AreWhole, HeldStream, IsKeyedFor, IsScheduled, held_parts}
+use Rattle.ss_store.proofs.Common.{All-get_or, All-nil, All-push, All-set, ap, length-map, map, take, HeldStream, IsKeyedFor, IsScheduled, held_parts}
 use Rattle.std.proofs.lemmas.List.{take_more_set}
 use Rattle.ss_store.proofs.Common.{step-none, step-then, after-step, closed_state, entry_of, Recovers, reads-none}
 use Rattle.std.proofs.Common.{slice_index_or}
@@ -27,7 +27,7 @@ loop-place-init g c = record {
   whole = c.requires.whole;
   entries = refl;
   keyed = c.requires.keyed;
-  closed = subst (All IsScheduled) (sym (take-none c.args.streams.now)) (All-nil IsScheduled);
+  closed = rw (← take-none c.args.streams.now) at (All-nil IsScheduled);
 }
 
 pub close_windows-requires-clause-ordered : goal.close_windows-requires-clause-ordered
@@ -121,8 +121,7 @@ loop-place-preserved g c =
       });
       at_rest = (after.whole.whole.settled, after.whole.sealed);
       extent = omega (arith, before.extent, after.whole.whole.extent);
-      whole = subst (λ parts. AreWhole parts c.close_windows.new.records.live) (sym set)
-          (AreWhole-set now c.loop-place.records.live c.close_windows.new.records.live place part new before.whole at same
+      whole = rw set (AreWhole-set now c.loop-place.records.live c.close_windows.new.records.live place part new before.whole at same
           (IsNoEarlier-same part.last_time new.last_time after.holds.last_time) after.whole.whole.ordered after.whole.whole.live);
       entries = ap (map entry_of) set ∙ map-set_same entry_of now place part new at (λ i. (same.name i, same.id i)) ∙ before.entries;
       keyed = All-set IsKeyedFor held place c.close_windows.new.self after.scheduled.0 before.keyed;
@@ -147,8 +146,7 @@ returns-clause-closes g c =
     })
 
 pub returns-clause-scheduled : goal.returns-clause-scheduled
-returns-clause-scheduled g c =
-    subst (All IsScheduled) (take-all c.loop-place.streams c.loop-place.place (omega arith)) c.loop-place.invariant.closed
+returns-clause-scheduled g c = rw (take-all c.loop-place.streams c.loop-place.place (omega arith)) at c.loop-place.invariant.closed
 
 pub close_windows-requires-clause-keyed : goal.close_windows-requires-clause-keyed
 close_windows-requires-clause-keyed g c =

@@ -1,4 +1,4 @@
-use Rattle.ss_store.proofs.Common.{subst, sym, List, ℕ, err_from_is_err_and, reads-joined, step-then, IsKept, StandsFor, after-step}
+use Rattle.ss_store.proofs.Common.{err_from_is_err_and, reads-joined, step-then, after-step}
 use Rattle.ss_outside.proofs.StepLemmas.{step-verdict}
 use Rattle.ss_store.proofs.Opens.{IsRebuilt-from, OpensAs-journal, OpensAs-recover, StandsFor-kept, firm-journal, firm-recover, verdict-journal}
 use Rattle.ss_store.proofs.Opens.{verdict-recover}
@@ -23,8 +23,7 @@ returns-in_err-journal-clause-unchanged g c =
     rw (p.1, p.2) (firm-journal (Unit {0}) c.in_err-journal.field-0.0)
 
 pub rebuild-requires-clause-one_disk : goal.rebuild-requires-clause-one_disk
-rebuild-requires-clause-one_disk g c =
-    after-step c.in_ok-journal.ensures.opens (λ told has. subst (IsKept c.in_ok-journal.journal) (sym has.reads.same.content) has.opens)
+rebuild-requires-clause-one_disk g c = after-step c.in_ok-journal.ensures.opens (λ told has. rw has.reads.same.content has.opens)
 
 pub returns-in_err-read-clause-reads : goal.returns-in_err-read-clause-reads
 returns-in_err-read-clause-reads g c =
@@ -36,7 +35,7 @@ returns-in_err-read-clause-reads g c =
     let is = StandsFor-kept c.in_ok-journal.journal _ first.opens c.in_ok-journal.ensures.sealed in
     record {
       rebuilt = tt;
-      opens = OpensAs-recover _ found why is (second.carried found (subst (λ (content : List ℕ). StandsFor content found) (sym first.reads.same.content) is));
+      opens = OpensAs-recover _ found why is (second.carried found (rw first.reads.same.content is));
       kept = tt;
       reads = reads-joined _ _ _ first.reads second.reads;
     }))
@@ -50,7 +49,7 @@ pub returns-clause-reads : goal.returns-clause-reads
 returns-clause-reads g c =
     step-then c.in_ok-journal.ensures.opens c.in_ok-read.ensures.rebuilds (λ first second. record {
       rebuilt = IsRebuilt-from c.in_ok-journal.journal c.in_ok-read.read.1 _ c.in_ok-journal.ensures.sealed first.opens
-          (λ found is. second.carried found (subst (λ (content : List ℕ). StandsFor content found) (sym first.reads.same.content) is));
+          (λ found is. second.carried found (rw first.reads.same.content is));
       opens = tt;
       kept = second.kept;
       reads = reads-joined _ _ _ first.reads second.reads;

@@ -1,5 +1,5 @@
-use Rattle.ss_store.proofs.Common.{◌≤◌, [], Ok, arith, flat_map, refl, subst, sym, List, Bool, err_from_is_err_and, on_ok_weaker, Failed, step-as, step-then}
-use Rattle.ss_store.proofs.Common.{after-step, closed_state, slots_held, HasRebuilt, HasRebuiltBeside, Recovers, AreSomeLive, LiveSlotsGo, held_parts}
+use Rattle.ss_store.proofs.Common.{◌≤◌, Ok, arith, flat_map, refl, err_from_is_err_and, on_ok_weaker, Failed, step-as, step-then}
+use Rattle.ss_store.proofs.Common.{after-step, closed_state, slots_held, HasRebuilt, HasRebuiltBeside, Recovers, held_parts}
 use Rattle.ss_journal.proofs.StepLemmas.{step-pair}
 use Rattle.ss_store.proofs.Calls.{Turns-failed, Turns-joined}
 use Rattle.ss_store.proofs.Settlings.{AreWhole-cleared, Turns-settled, Turns-unsettled}
@@ -20,9 +20,7 @@ returns-in_err-settle-clause-settles g c =
     }))
 
 pub clear_all-requires-clause-live : goal.clear_all-requires-clause-live
-clear_all-requires-clause-live g c =
-    subst (λ (live : List Bool). AreSomeLive c.args.doomed.now live) (sym c.settle.ensures.live)
-    (flat_map slots_held (held_parts c.args.streams.now), c.requires.whole.slots)
+clear_all-requires-clause-live g c = rw c.settle.ensures.live (flat_map slots_held (held_parts c.args.streams.now), c.requires.whole.slots)
 
 pub clear_all-requires-clause-one_disk : goal.clear_all-requires-clause-one_disk
 clear_all-requires-clause-one_disk g c = after-step c.in_ok-settle.ensures.settles (λ told has. has.kept)
@@ -46,7 +44,7 @@ returns-in_err-clear_all-clause-settles g c =
 pub close_all-requires-clause-whole : goal.close_all-requires-clause-whole
 close_all-requires-clause-whole g c =
     AreWhole-cleared c.args.doomed.now (held_parts c.args.streams.now) c.args.records.now.live c.clear_all.new.records.live c.requires.whole
-    (subst (λ (live : List Bool). LiveSlotsGo c.args.doomed.now [] live c.clear_all.new.records.live) c.settle.ensures.live c.in_ok-clear_all.ensures.live)
+    (rw c.settle.ensures.live at c.in_ok-clear_all.ensures.live)
 
 pub close_all-requires-clause-one_disk : goal.close_all-requires-clause-one_disk
 close_all-requires-clause-one_disk g c = after-step c.in_ok-clear_all.ensures.clears (λ told has. has.kept)

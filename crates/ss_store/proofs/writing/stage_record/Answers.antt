@@ -1,5 +1,5 @@
-use Rattle.ss_store.proofs.Common.{Bool, List, Some, [], ap, ap₂, arith, refl, subst, sym, ◌∷◌, ◌≡◌, ◌≤◌, ◌∙◌, err_from_is_err_and, extent_after, step-from}
-use Rattle.ss_store.proofs.Common.{live_after, HasRecords, LiveSlotsGo, record_put}
+use Rattle.ss_store.proofs.Common.{Some, [], ap, ap₂, arith, refl, ◌∷◌, ◌≡◌, ◌≤◌, ◌∙◌, err_from_is_err_and, extent_after, step-from}
+use Rattle.ss_store.proofs.Common.{live_after, HasRecords, record_put}
 use Rattle.ss_journal.specs.Kept.{IsRunning}
 use Rattle.ss_store.proofs.Changes.{LiveSlotsGo-added, extent_after-next, moves-added}
 use Rattle.ss_store.proofs.Costs.{StagesAtCost-no_room, StagesAtCost-staged}
@@ -51,5 +51,4 @@ returns-clause-live g c =
     let free = lowest_free-is_free live slot c.requires.free in
     let is : c.stage.new.self.live ≡ live_after (record_put slot c.args.written.now ∷ []) live =
     c.stage.ensures.live ∙ ap₂ live_after c.put_of.ensures c.make_room.ensures.live in
-    subst (λ (now : List Bool). LiveSlotsGo [] (slot ∷ []) live now) (sym is)
-    (LiveSlotsGo-added slot c.args.written.now c.requires.valid c.requires.some live free.0 free.1)
+    rw is (LiveSlotsGo-added slot c.args.written.now c.requires.valid c.requires.some live free.0 free.1)

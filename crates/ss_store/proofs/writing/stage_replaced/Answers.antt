@@ -1,5 +1,5 @@
-use Rattle.ss_store.proofs.Common.{IsTrue, List, Option, Some, [], ap₂, arith, refl, subst, sym, ◌∷◌, ◌<◌, ◌∙◌, ℕ, ap, err_from_is_err_and, IsTxn}
-use Rattle.ss_store.proofs.Common.{extent_after, slots_fit, StandsFor, changed, MOST_SLOTS, Put, live_after, Record, step-from, HasRecords, record_put}
+use Rattle.ss_store.proofs.Common.{List, Option, Some, [], ap₂, arith, refl, ◌∷◌, ◌<◌, ◌∙◌, ℕ, ap, err_from_is_err_and}
+use Rattle.ss_store.proofs.Common.{extent_after, StandsFor, changed, MOST_SLOTS, live_after, Record, step-from, HasRecords, record_put}
 use Rattle.ss_store.proofs.Changes.{IsTxn-one, extent_after-one, live_after-again, moves-replaced, slots_fit-one}
 use Rattle.ss_store.proofs.Costs.{StagesAtCost-no_room, StagesAtCost-staged}
 use Rattle.ss_store.proofs.LiveSlots.{IsOneLive-permutation}
@@ -10,16 +10,14 @@ pub stage-requires-clause-txn : goal.stage-requires-clause-txn
 stage-requires-clause-txn g c =
     let one = IsOneLive-permutation c.args.records.now.live c.args.slot c.requires.live.0 c.requires.live.1 in
     let below : c.args.slot < MOST_SLOTS = omega (arith, one.below, c.live.ensures.sound.slots) in
-    subst IsTxn (sym c.put_of.ensures) (IsTxn-one (record_put c.args.slot c.args.written.now) below)
+    rw c.put_of.ensures (IsTxn-one (record_put c.args.slot c.args.written.now) below)
 
 pub stage-requires-clause-fit : goal.stage-requires-clause-fit
 stage-requires-clause-fit g c =
     let one = IsOneLive-permutation c.args.records.now.live c.args.slot c.requires.live.0 c.requires.live.1 in
     let below = c.live.ensures.sound.below (λ stopped. absurd (cc)) in
     let extent = c.args.records.now.journal.extent in
-    subst (λ (e : ℕ). IsTrue (slots_fit c.put_of.result.items e)) (sym c.in_ok-make_room.ensures.made.extent)
-    (subst (λ (l : List Put). IsTrue (slots_fit l extent)) (sym c.put_of.ensures)
-    (slots_fit-one (record_put c.args.slot c.args.written.now) extent (below c.args.slot one.is)))
+    rw (c.in_ok-make_room.ensures.made.extent, c.put_of.ensures) (slots_fit-one (record_put c.args.slot c.args.written.now) extent (below c.args.slot one.is))
 
 pub returns-clause-extent : goal.returns-clause-extent
 returns-clause-extent g c =

@@ -1,5 +1,5 @@
-use Rattle.ss_store.proofs.Common.{Bool, IsTrue, List, Option, Some, [], ap₂, arith, refl, subst, sym, ◌∷◌, ◌<◌, ◌≡◌, ◌∙◌, ℕ, ap, err_from_is_err_and, IsTxn}
-use Rattle.ss_store.proofs.Common.{extent_after, slots_fit, MOST_SLOTS, Put, live_after, Record, step-from, HasRecords, LiveSlotsGo, pair_put}
+use Rattle.ss_store.proofs.Common.{List, Option, Some, ap₂, arith, refl, ◌∷◌, ◌<◌, ◌≡◌, ◌∙◌, ℕ, ap, err_from_is_err_and}
+use Rattle.ss_store.proofs.Common.{extent_after, MOST_SLOTS, live_after, Record, step-from, HasRecords, pair_put}
 use Rattle.ss_store.proofs.ShownCalls.{TurnsShown-failed, TurnsShown-keeps, TurnsShown-staged}
 use Rattle.ss_store.proofs.Changes.{IsTxn-pair, LiveSlotsGo-paired, moves-paired, extent_after-pair, slots_fit-pair}
 use Rattle.ss_store.proofs.Costs.{StagesAtCost-no_room, StagesAtCost-staged}
@@ -25,16 +25,15 @@ stage-requires-clause-txn g c =
     let slots = c.live.ensures.sound.slots in
     let kept_below : c.args.kept < MOST_SLOTS = omega (arith, two.kept_below, slots) in
     let freed_below : c.args.freed < MOST_SLOTS = omega (arith, two.freed_below, slots) in
-    subst IsTxn (sym c.pair_of.ensures) (IsTxn-pair c.args.kept c.args.freed c.args.written.now two.apart kept_below freed_below)
+    rw c.pair_of.ensures (IsTxn-pair c.args.kept c.args.freed c.args.written.now two.apart kept_below freed_below)
 
 pub stage-requires-clause-fit : goal.stage-requires-clause-fit
 stage-requires-clause-fit g c =
     let two = AreTwoLive-some c.args.records.now.live c.args.kept c.args.freed c.requires.live in
     let below = c.live.ensures.sound.below (λ stopped. absurd (cc)) in
     let extent = c.args.records.now.journal.extent in
-    subst (λ (e : ℕ). IsTrue (slots_fit c.pair_of.result.items e)) (sym c.in_ok-make_room.ensures.made.extent)
-    (subst (λ (l : List Put). IsTrue (slots_fit l extent)) (sym c.pair_of.ensures)
-    (slots_fit-pair c.args.kept c.args.freed c.args.written.now extent (below c.args.kept two.kept_live) (below c.args.freed two.freed_live)))
+    rw (c.in_ok-make_room.ensures.made.extent, c.pair_of.ensures)
+    (slots_fit-pair c.args.kept c.args.freed c.args.written.now extent (below c.args.kept two.kept_live) (below c.args.freed two.freed_live))
 
 pub returns-clause-extent : goal.returns-clause-extent
 returns-clause-extent g c =
@@ -79,5 +78,4 @@ returns-clause-live g c =
     let two = AreTwoLive-some live kept freed c.requires.live in
     let is : c.stage.new.self.live ≡ live_after (pair_put kept freed c.args.written.now) live =
     c.stage.ensures.live ∙ ap₂ live_after c.pair_of.ensures c.make_room.ensures.live in
-    subst (λ (now : List Bool). LiveSlotsGo (kept ∷ freed ∷ []) (kept ∷ []) live now) (sym is)
-    (LiveSlotsGo-paired kept freed c.args.written.now c.requires.valid c.requires.some live two)
+    rw is (LiveSlotsGo-paired kept freed c.args.written.now c.requires.valid c.requires.some live two)

@@ -1,5 +1,5 @@
-use Rattle.ss_store.proofs.Common.{Bool, IsTrue, List, [], ap₂, arith, refl, subst, sym, ◌∷◌, ◌<◌, ◌≡◌, ◌∙◌, ℕ, ap, err_from_is_err_and, IsTxn, extent_after}
-use Rattle.ss_store.proofs.Common.{slots_fit, StandsFor, changed, MOST_SLOTS, Put, live_after, step-from, LiveSlotsGo, zeros_put}
+use Rattle.ss_store.proofs.Common.{List, [], ap₂, arith, refl, ◌∷◌, ◌<◌, ◌≡◌, ◌∙◌, ℕ, ap, err_from_is_err_and, extent_after}
+use Rattle.ss_store.proofs.Common.{StandsFor, changed, MOST_SLOTS, live_after, step-from, zeros_put}
 use Rattle.ss_store.proofs.Changes.{IsTxn-one, LiveSlotsGo-zeros, extent_after-one, slots_fit-one}
 use Rattle.ss_store.proofs.Costs.{StagesAtCost-no_room, StagesAtCost-staged}
 use Rattle.ss_store.proofs.LiveSlots.{IsOneLive-permutation}
@@ -10,16 +10,14 @@ pub stage-requires-clause-txn : goal.stage-requires-clause-txn
 stage-requires-clause-txn g c =
     let one = IsOneLive-permutation c.args.records.now.live c.args.slot c.requires.live.0 c.requires.live.1 in
     let below : c.args.slot < MOST_SLOTS = omega (arith, one.below, c.live.ensures.sound.slots) in
-    subst IsTxn (sym c.zeros_of.ensures) (IsTxn-one (zeros_put c.args.slot) below)
+    rw c.zeros_of.ensures (IsTxn-one (zeros_put c.args.slot) below)
 
 pub stage-requires-clause-fit : goal.stage-requires-clause-fit
 stage-requires-clause-fit g c =
     let one = IsOneLive-permutation c.args.records.now.live c.args.slot c.requires.live.0 c.requires.live.1 in
     let below = c.live.ensures.sound.below (λ stopped. absurd (cc)) in
     let extent = c.args.records.now.journal.extent in
-    subst (λ (e : ℕ). IsTrue (slots_fit c.zeros_of.result.items e)) (sym c.in_ok-make_room.ensures.made.extent)
-    (subst (λ (l : List Put). IsTrue (slots_fit l extent)) (sym c.zeros_of.ensures)
-    (slots_fit-one (zeros_put c.args.slot) extent (below c.args.slot one.is)))
+    rw (c.in_ok-make_room.ensures.made.extent, c.zeros_of.ensures) (slots_fit-one (zeros_put c.args.slot) extent (below c.args.slot one.is))
 
 pub returns-clause-extent : goal.returns-clause-extent
 returns-clause-extent g c =
@@ -58,4 +56,4 @@ returns-clause-live g c =
     let live = c.args.records.now.live in
     let is : c.stage.new.self.live ≡ live_after (zeros_put c.args.slot ∷ []) live =
     c.stage.ensures.live ∙ ap₂ live_after c.zeros_of.ensures c.make_room.ensures.live in
-    subst (λ (now : List Bool). LiveSlotsGo (c.args.slot ∷ []) [] live now) (sym is) (LiveSlotsGo-zeros live c.args.slot)
+    rw is (LiveSlotsGo-zeros live c.args.slot)

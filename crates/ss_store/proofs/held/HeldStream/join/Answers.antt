@@ -1,8 +1,7 @@
-use Rattle.ss_store.proofs.Common.{◌≡◌, ◌∙◌, ℕ, List, [], ◌∷◌, ◌++◌, map, refl, sym, ap, subst, arith, Err, MatchOption, At, Entry, err_from_is_err_and}
-use Rattle.ss_store.proofs.Common.{is_valid-IsWindow, joined, IsKeyed, rule_of, params_of, TileFrom, TimesRise, entries_of, IsRead, step-from, step-next}
-use Rattle.ss_store.proofs.Common.{IsPartlyJoined, values_held, IsHeldIn, IsJoinedIn, AreSomeLive, LiveSlotsGo, IsTimed, begun_at}
-use Rattle.ss_store.proofs.Joinings.{AreSomeLive-two, IfChanged-window, IsFirm-read, LiveSlotsGo-two, TurnsShown-join}
-use Rattle.ss_store.proofs.Joinings.{TurnsShown-not_read, read-held}
+use Rattle.ss_store.proofs.Common.{◌≡◌, ◌∙◌, ℕ, List, [], ◌∷◌, ◌++◌, map, refl, sym, ap, arith, Err, At, Entry, err_from_is_err_and}
+use Rattle.ss_store.proofs.Common.{is_valid-IsWindow, joined, rule_of, params_of, entries_of, IsRead, step-from, step-next}
+use Rattle.ss_store.proofs.Common.{IsPartlyJoined, values_held, IsHeldIn, IsJoinedIn, IsTimed, begun_at}
+use Rattle.ss_store.proofs.Joinings.{AreSomeLive-two, IfChanged-window, IsFirm-read, LiveSlotsGo-two, TurnsShown-join, TurnsShown-not_read, read-held}
 use Rattle.ss_store.proofs.Pairs.{AreJoined, ArePair-read, AreSlots-joined, JoinsHeld-pair, StandsIn-left}
 use Rattle.ss_store.proofs.Pairs.{StandsIn-right, joined_line, next_is, one_part, one_part-same}
 use Rattle.ss_store.proofs.KeyedWindows.{AreDue-pair}
@@ -42,7 +41,7 @@ read_joined-requires-clause-neighbours g c =
     record {
       first = pair.tiled.first;
       side_by_side = pair.tiled.next;
-      later = TimesRise-seam 0 rise.0 pair.joined.front w v pair.joined.rest (subst (λ es. TimesRise 0 rise.0 es) pair.joined.was rise.1);
+      later = TimesRise-seam 0 rise.0 pair.joined.front w v pair.joined.rest (rw (← pair.joined.was) rise.1);
       few = omega (arith, pair.tiled.last, pair.tiled.few);
     }
 
@@ -81,7 +80,7 @@ pub stage_two-requires-clause-live : goal.stage_two-requires-clause-live
 stage_two-requires-clause-live g c =
     let pair = ArePair-read c.args.self.now.part c.args.pair.left c.args.pair.right c.get-window.result c.get-next.result (AreDue-pair c.args.self.now c.args.pair c.requires.due) c.requires.due.ordered.tiles
     c.get-window.ensures.entry c.get-next.ensures.entry in
-    subst (λ live. AreSomeLive (c.get-window.result.slot ∷ c.get-next.result.slot ∷ []) live) (sym c.read_joined.ensures.live)
+    rw c.read_joined.ensures.live
     (AreSomeLive-two c.args.self.now.part (one_part c.args.self.now.part (joined_line (AreDue-pair c.args.self.now c.args.pair c.requires.due)))
     c.get-window.result
     c.get-next.result c.args.records.now.live pair.slots c.requires.live)
@@ -127,9 +126,7 @@ line g c =
     let due = AreDue-pair c.args.self.now c.args.pair c.requires.due in
     let pair = ArePair-read c.args.self.now.part c.args.pair.left c.args.pair.right c.get-window.result c.get-next.result due c.requires.due.ordered.tiles
     c.get-window.ensures.entry c.get-next.ensures.entry in
-    subst (λ es. AreJoined (rule_of (params_of c.args.self.now.part.target)) (values_held (entries_of c.args.self.now.part)) c.args.self.now.part.line.entries es
-    c.get-window.result c.get-next.result)
-    (sym (c.merged.ensures.joined due.pair)) pair.joined
+    rw (c.merged.ensures.joined due.pair) pair.joined
 
 pub returns-clause-joins : goal.returns-clause-joins
 returns-clause-joins g c =
@@ -160,7 +157,7 @@ timed_joined g c =
     let next = next_is (rule_of (params_of part.target)) (values_held (entries_of part)) part.line.entries c.args.pair.left c.args.pair.right due
     c.get-window.result c.get-next.result c.get-window.ensures.entry c.get-next.ensures.entry in
     let was = IsTimed-seam c.args.self.now.index.times it.before c.args.pair.left c.args.pair.right it.window it.next it.rest
-    (subst (λ es. IsTimed es c.args.self.now.index.times) it.is c.requires.due.keyed.timed) in
+    (rw it.is at c.requires.due.keyed.timed) in
     IsTimed-joined c.merged.new.self.times c.merged.new.line.entries it.before c.args.pair.left it.window it.next it.rest (c.merged.ensures.joined it)
     (c.merged.ensures.times front (map begun_at it.rest) c.args.pair.right
     (was ∙ ap (λ (e : Entry). front ++ (e.t_first, c.args.pair.right) ∷ map begun_at it.rest) next))
@@ -179,26 +176,20 @@ returns-clause-stands g c =
     record {
       whole = record {
         ordered = record {
-          tiles = subst (λ es. TileFrom 1 es) (sym pair.is)
-              (TileFrom-joined 1 pair.front w v pair.rest (subst (λ es. TileFrom 1 es) pair.was c.requires.due.ordered.tiles));
-          times = subst (λ (es : List Entry). MatchOption part.last_time (es ≡ []) (λ last. TimesRise 0 last es)) (sym pair.is)
-              (rise-joined part.last_time pair.front w v pair.rest
-              (subst (λ (es : List Entry). MatchOption part.last_time (es ≡ []) (λ last. TimesRise 0 last es)) pair.was c.requires.due.ordered.times));
+          tiles = rw pair.is (TileFrom-joined 1 pair.front w v pair.rest (rw pair.was at c.requires.due.ordered.tiles));
+          times = rw pair.is (rise-joined part.last_time pair.front w v pair.rest (rw pair.was at c.requires.due.ordered.times));
         };
-        live = LiveSlotsGo-two part new w v c.args.records.now.live c.stage_two.new.records.live slots
-            (subst (λ live. LiveSlotsGo (w.slot ∷ v.slot ∷ []) (w.slot ∷ []) live c.stage_two.new.records.live) c.read_joined.ensures.live done.live);
+        live = LiveSlotsGo-two part new w v c.args.records.now.live c.stage_two.new.records.live slots (rw c.read_joined.ensures.live at done.live);
         settled = done.settled;
         extent = rw (done.extent, c.in_ok-read_joined.ensures.journal) (omega arith);
       };
       holds = record { values = all; last_time = refl };
       keyed = record {
         target = c.merged.ensures.target ∙ c.requires.due.keyed.target;
-        keyed = subst (λ n. IsKeyed n c.merged.new.line.entries c.merged.new.self.schedule) (c.values_held-n.ensures.value ∙ sym all)
-            c.merged.ensures.keyed;
+        keyed = rw (c.values_held-n.ensures.value ∙ sym all) at c.merged.ensures.keyed;
         timed = timed_joined g c;
       };
     }
 
 pub merged-requires-clause-keyed : goal.merged-requires-clause-keyed
-merged-requires-clause-keyed g c =
-    subst (λ n. IsKeyed n c.args.self.now.part.line.entries c.args.self.now.index.schedule) (sym c.values_held-n.ensures.value) c.requires.due.keyed.keyed
+merged-requires-clause-keyed g c = rw c.values_held-n.ensures.value c.requires.due.keyed.keyed

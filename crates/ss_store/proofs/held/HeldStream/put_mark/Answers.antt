@@ -1,5 +1,5 @@
-use Rattle.ss_store.proofs.Common.{Some, arith, refl, subst, sym, err_from_is_err_and, step-as, DiskView, RecordsState, AllEndBy-later, entries_of}
-use Rattle.ss_store.proofs.Common.{StreamParts, IsOrdered, KeepsWhole, landmarks_after, slots_used}
+use Rattle.ss_store.proofs.Common.{Some, arith, refl, err_from_is_err_and, step-as, DiskView, AllEndBy-later, entries_of}
+use Rattle.ss_store.proofs.Common.{StreamParts, IsOrdered, landmarks_after}
 use Rattle.ss_store.proofs.Calls.{CrashTriple-answers, CrashTriple-failed}
 use Rattle.ss_store.proofs.Marked.{IsMarked}
 use Rattle.ss_store.proofs.MarkedCalls.{AreSomeLive-last, FitsMark-valid, IsAdding-is, IsLastSlot-is, IsMarked-marked_part, LiveSlotsGo-mark_added}
@@ -111,8 +111,7 @@ returns-clause-whole g c =
     elim c.match-mark.branch [
       | in-Open+in_ok-stage_record-in-Open w ↦
           (let done = w.in_ok-stage_record-in-Open.ensures in
-          subst (λ (r : RecordsState). KeepsWhole part new was r (slots_used mark slot)) (sym w.records-is)
-          (record {
+          rw w.records-is (record {
             ordered = ordered_marked g c;
             live = LiveSlotsGo-mark_added part new slot t mark (marked g c) (IsAdding-is mark w.in-Open.is) was.live w.stage_record.new.records.live
                 done.live;
@@ -121,8 +120,7 @@ returns-clause-whole g c =
           }))
       | in-Close+in_ok-stage_replaced-in-Close w ↦
           (let done = w.in_ok-stage_replaced-in-Close.ensures in
-          subst (λ (r : RecordsState). KeepsWhole part new was r (slots_used mark slot)) (sym w.records-is)
-          (record {
+          rw w.records-is (record {
             ordered = ordered_marked g c;
             live = LiveSlotsGo-mark_closed part new slot t mark w.in-Close.is (marked g c) was.live w.stage_replaced.new.records.live
                 w.stage_replaced.ensures.live;

@@ -1,7 +1,6 @@
-use Rattle.ss_store.proofs.Common.{◌≡◌, ◌∙◌, ℕ, ◌+◌, List, [], ◌∷◌, ◌++◌, map, refl, ap, arith, length, length-append, subst, sym, take, Some, w64}
-use Rattle.ss_store.proofs.Common.{map-append, err_from_is_err_and, is_valid-IsWindow, LineState, index_of, IsKeyed, NoPairFits, take-seam, rule_of}
-use Rattle.ss_store.proofs.Common.{params_of, At, Entry, step-as, summary_of, entries_of, StreamParts, New, IsHalfway, values_held, with_single, IsHeldIn}
-use Rattle.ss_store.proofs.Common.{begun_at}
+use Rattle.ss_store.proofs.Common.{◌≡◌, ◌∙◌, ℕ, ◌+◌, List, [], ◌∷◌, ◌++◌, map, refl, ap, arith, length, length-append, subst, take, Some, w64, map-append}
+use Rattle.ss_store.proofs.Common.{err_from_is_err_and, is_valid-IsWindow, LineState, index_of, IsKeyed, NoPairFits, take-seam, rule_of, params_of, At, Entry}
+use Rattle.ss_store.proofs.Common.{step-as, summary_of, entries_of, StreamParts, New, IsHalfway, values_held, with_single, IsHeldIn, begun_at}
 use Rattle.std.proofs.Math.Facts.{to_z-of_z}
 use Rattle.ss_schedule.specs.Keyed.{merge_rule}
 use Rattle.ss_schedule.proofs.KeyedLemmas.{IsKeyed-next}
@@ -107,9 +106,7 @@ add_window-requires-clause-keyed g c =
     let front : take (index_of c.push-at.new.self.entries c.push-at.result) c.push-at.new.self.entries ≡ part.line.entries =
     ap (λ es. take (index_of es c.push-at.result) es) c.push-at.ensures.pushed
     ∙ ap (λ k. take k (part.line.entries ++ (c.push-at.result, entry) ∷ [])) index ∙ take-seam part.line.entries ((c.push-at.result, entry) ∷ []) in
-    subst (λ n. IsKeyed (n + 1) (take (index_of c.push-at.new.self.entries c.push-at.result) c.push-at.new.self.entries) c.args.self.now.index.schedule)
-    (sym c.values_held-position.ensures.value)
-    (subst (λ es. IsKeyed (values_held (entries_of part) + 1) es c.args.self.now.index.schedule) (sym front) later)
+    rw (c.values_held-position.ensures.value, front) later
 
 pub add_window-requires-clause-follow : goal.add_window-requires-clause-follow
 add_window-requires-clause-follow g c =
@@ -151,7 +148,7 @@ returns-clause-stands g c =
       keyed = record {
         target = c.add_window.ensures.target ∙ c.requires.can.reserved.target;
         keyed = subst (λ n. IsKeyed n line.entries c.add_window.new.self.schedule) (omega (arith, all, c.values_held-position.ensures.value))
-            (subst (λ es. IsKeyed (c.values_held-position.result + 1) es c.add_window.new.self.schedule) whole c.add_window.ensures.keyed);
+            (rw whole at c.add_window.ensures.keyed);
         timed = IsTimed-added part.line.entries line.entries c.add_window.new.self.times c.push-at.result entry c.args.t c.push-at.ensures.pushed refl
             (c.add_window.ensures.placed (map begun_at part.line.entries) (record { 0 = 0 }) c.requires.can.reserved.noted);
       };

@@ -1,5 +1,5 @@
-use Rattle.ss_store.proofs.Common.{◌∙◌, refl, sym, subst, arith, Ok, err_from_is_err_and, step-as, step-none, after-step, step-next, rule_of, params_of}
-use Rattle.ss_store.proofs.Common.{entries_of, slots_held, IsKeyed, NoEntriesAreDue}
+use Rattle.ss_store.proofs.Common.{◌∙◌, refl, sym, arith, Ok, err_from_is_err_and, step-as, step-none, after-step, step-next, rule_of, params_of}
+use Rattle.ss_store.proofs.Common.{entries_of, slots_held, NoEntriesAreDue}
 use Rattle.ss_store.proofs.KeyedWindows.{NoEntriesAreDue-pairs}
 use Rattle.ss_store.proofs.Closings.{IsSameStream-more, TurnsShown-closes}
 use Rattle.ss_store.proofs.LiveSlots.{AreSomeLive-go}
@@ -22,9 +22,7 @@ loop-pair-init g c = (
 )
 
 pub due-requires : goal.due-requires
-due-requires g c =
-    subst (λ n. IsKeyed n c.loop-pair.self.part.line.entries c.loop-pair.self.index.schedule)
-    (c.loop-pair.invariant.0.stands.holds.values ∙ sym c.values_held-n.ensures.value) c.loop-pair.invariant.0.stands.keyed.keyed
+due-requires g c = rw (c.loop-pair.invariant.0.stands.holds.values ∙ sym c.values_held-n.ensures.value) at c.loop-pair.invariant.0.stands.keyed.keyed
 
 pub join-requires-clause-due : goal.join-requires-clause-due
 join-requires-clause-due g c = record {
@@ -99,6 +97,4 @@ returns-clause-closes g c =
     }))
 
 pub returns-clause-none_due : goal.returns-clause-none_due
-returns-clause-none_due g c =
-    subst (λ n. NoEntriesAreDue (rule_of (params_of c.loop-pair.self.part.target)) n (entries_of c.loop-pair.self.part))
-    (c.values_held-n.ensures.value ∙ sym c.loop-pair.invariant.0.stands.holds.values) (none_due g c)
+returns-clause-none_due g c = rw (c.values_held-n.ensures.value ∙ sym c.loop-pair.invariant.0.stands.holds.values) at (none_due g c)

@@ -1,6 +1,5 @@
-use Rattle.ss_store.proofs.Common.{◌≡◌, None, Some, true, false, refl, ap, sym, ◌∙◌, subst, length, flat_map, is_some, nat_le, Create, has_target}
-use Rattle.ss_store.proofs.Common.{next_number, MOST_RECORDS, slots_held, StoreState, held_parts, has_all_streams, numbers_held, part_named, refuses_held}
-use Rattle.ss_catalog.specs.declared.refusal.Refusal.TheVariants.{Exists, Streams, StoreFull}
+use Rattle.ss_store.proofs.Common.{◌≡◌, true, false, refl, ap, sym, ◌∙◌, length, flat_map, is_some, nat_le, has_target}
+use Rattle.ss_store.proofs.Common.{next_number, MOST_RECORDS, slots_held, StoreState, held_parts, has_all_streams, numbers_held, part_named}
 use Rattle.ss_store.proofs.Named.{is_some-listed}
 use Rattle.ss_store.proofs.Refusals.{not-true, none_is_some, refuses_held-create}
 use Rattle.ss_store.proofs.store.Store.admit.Goals as goal
@@ -16,8 +15,7 @@ returns-then-is_some-clause-refused c =
     let target : has_target c.args.params ≡ true = c.in-Ok.ensures.exactly.0 refl in
     let listed = is_some-listed c.args.name.now parts c.self.inside.catalog c.self.invariant.0.listed in
     let known : is_some (part_named c.args.name.now parts) ≡ true = cc in
-    subst (λ (s : StoreState). refuses_held s.streams (Create c.args.name.now c.args.params) ≡ Some Exists) c.self.view_is
-    (refuses_held-create parts c.args.name.now c.args.params true true _ _ target known refl refl)
+    rw (← c.self.view_is) (refuses_held-create parts c.args.name.now c.args.params true true _ _ target known refl refl)
 
 pub returns-in_default-next_id-clause-refused : goal.returns-in_default-next_id-clause-refused
 returns-in_default-next_id-clause-refused c =
@@ -26,8 +24,7 @@ returns-in_default-next_id-clause-refused c =
     let listed = is_some-listed c.args.name.now parts c.self.inside.catalog c.self.invariant.0.listed in
     let new : is_some (part_named c.args.name.now parts) ≡ false = cc in
     let full : has_all_streams (numbers_held parts) ≡ true = rw (← c.deref.ensures.value) (c.in_default-next_id.ensures.none.0 refl) in
-    subst (λ (s : StoreState). refuses_held s.streams (Create c.args.name.now c.args.params) ≡ Some Streams) c.self.view_is
-    (refuses_held-create parts c.args.name.now c.args.params true false true _ target new full refl)
+    rw (← c.self.view_is) (refuses_held-create parts c.args.name.now c.args.params true false true _ target new full refl)
 
 pub returns-in-Some-free_slot-clause-accepted : goal.returns-in-Some-free_slot-clause-accepted
 returns-in-Some-free_slot-clause-accepted c =
@@ -40,8 +37,7 @@ returns-in-Some-free_slot-clause-accepted c =
     let stored : nat_le MOST_RECORDS (length (flat_map slots_held parts)) ≡ false =
     ap (λ (s : StoreState). nat_le MOST_RECORDS (length (flat_map slots_held s.streams))) c.self.view_is
     ∙ not-true _ (λ full. let wrong : true ≡ false = c.in-Some-free_slot.ensures.full.1 full in cc) in
-    subst (λ (s : StoreState). refuses_held s.streams (Create c.args.name.now c.args.params) ≡ None) c.self.view_is
-    (refuses_held-create parts c.args.name.now c.args.params true false false false target new free stored)
+    rw (← c.self.view_is) (refuses_held-create parts c.args.name.now c.args.params true false false false target new free stored)
 
 pub returns-in-None-clause-refused : goal.returns-in-None-clause-refused
 returns-in-None-clause-refused c =
@@ -53,8 +49,7 @@ returns-in-None-clause-refused c =
     rw (← c.deref.ensures.value) (not-true _ (λ yes. let wrong : true ≡ false = c.in-Some.ensures.none.1 yes in cc)) in
     let stored : nat_le MOST_RECORDS (length (flat_map slots_held parts)) ≡ true =
     ap (λ (s : StoreState). nat_le MOST_RECORDS (length (flat_map slots_held s.streams))) c.self.view_is ∙ c.in-None.ensures.full.0 refl in
-    subst (λ (s : StoreState). refuses_held s.streams (Create c.args.name.now c.args.params) ≡ Some StoreFull) c.self.view_is
-    (refuses_held-create parts c.args.name.now c.args.params true false false true target new free stored)
+    rw (← c.self.view_is) (refuses_held-create parts c.args.name.now c.args.params true false false true target new free stored)
 
 pub returns-in-Some-free_slot-clause-new : goal.returns-in-Some-free_slot-clause-new
 returns-in-Some-free_slot-clause-new c =

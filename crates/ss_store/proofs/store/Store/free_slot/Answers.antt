@@ -1,5 +1,4 @@
-use Rattle.ss_store.proofs.Common.{◌∙◌, ap, arith, subst, IfSome, IsNone, ◌↔◌, nat_le, slots_held, MOST_RECORDS, StoreState, held_parts}
-use Rattle.std.specs.Prelude.{IsTrue, length, flat_map, ◌≤◌}
+use Rattle.ss_store.proofs.Common.{◌∙◌, ap, arith, StoreState, held_parts}
 use Rattle.ss_store.proofs.LiveCounts.{is_full-exactly, low-slots}
 use Rattle.ss_store.proofs.store.Store.free_slot.Goals as goal
 
@@ -7,7 +6,7 @@ pub returns-clause-full : goal.returns-clause-full
 returns-clause-full c =
     let parts = held_parts c.self.inside.streams.items in
     let whole = c.self.invariant.0.whole (ap (λ (s : StoreState). s.stopped) c.self.view_is ∙ c.requires) in
-    subst (λ (s : StoreState). IsNone c.lowest_free.result ↔ IsTrue (nat_le MOST_RECORDS (length (flat_map slots_held s.streams)))) c.self.view_is
+    rw (← c.self.view_is)
     (is_full-exactly parts c.self.inside.records.live c.lowest_free.result whole (omega (arith, c.live-live.ensures.most, c.live-live.ensures.value))
     c.lowest_free.ensures.full)
 
@@ -15,5 +14,4 @@ pub returns-clause-low : goal.returns-clause-low
 returns-clause-low c =
     let parts = held_parts c.self.inside.streams.items in
     let whole = c.self.invariant.0.whole (ap (λ (s : StoreState). s.stopped) c.self.view_is ∙ c.requires) in
-    subst (λ (s : StoreState). IfSome c.lowest_free.result (λ slot. slot ≤ length (flat_map slots_held s.streams))) c.self.view_is
-    (low-slots parts c.self.inside.records.live c.lowest_free.result whole c.lowest_free.ensures.few)
+    rw (← c.self.view_is) (low-slots parts c.self.inside.records.live c.lowest_free.result whole c.lowest_free.ensures.few)

@@ -1,7 +1,7 @@
-use Rattle.ss_store.proofs.Common.{◌≡◌, ◌∙◌, sym, ap, subst, arith, false, length, map, refl, List, length-map, err_from_is_err_and, after-step, step-from}
-use Rattle.ss_store.proofs.Common.{step-next, HeldStream, IsSound, IsScheduled, entry_of, held_parts}
+use Rattle.ss_store.proofs.Common.{◌≡◌, ◌∙◌, sym, ap, arith, false, length, map, refl, List, length-map, err_from_is_err_and, after-step, step-from}
+use Rattle.ss_store.proofs.Common.{step-next, HeldStream, entry_of, held_parts}
 use Rattle.ss_store.proofs.IndexedStreams.{stored}
-use Rattle.std.proofs.Common.{vec_len, All, Vec}
+use Rattle.std.proofs.Common.{vec_len, Vec}
 use Rattle.std.specs.Global.{Global}
 use Rattle.std.specs.Vec.{with_items}
 use Rattle.std.proofs.lemmas.List.{with_items_is}
@@ -38,9 +38,8 @@ invariant_of-result g c =
     let same_parts = ap held_parts c.deref_mut.ensures.value ∙ c.in_ok-streams.ensures.parts in
     let same = items_are c.in_ok-streams.streams now c.deref_mut.result.now done.entries c.deref_mut.ensures.len in
     let listed = c.in_ok-catalog.ensures ∙ ap (map entry_of) (c.deref.ensures.value ∙ sym same_parts) ∙ sym done.entries in (
-      subst (λ held. IsSound (stored held c.settle_all.new.records false) c.in_ok-catalog.catalog) (sym same)
-          (record { listed = listed; numbers = done.whole.numbers; settled = λ runs. done.at_rest.0; whole = λ runs. done.whole }),
-      λ run. subst (All IsScheduled) (sym same) done.scheduled,
+      rw same (record { listed = listed; numbers = done.whole.numbers; settled = λ runs. done.at_rest.0; whole = λ runs. done.whole }),
+      λ run. rw same done.scheduled,
     )
 
 pub returns-in_err-records-clause-opens : goal.returns-in_err-records-clause-opens

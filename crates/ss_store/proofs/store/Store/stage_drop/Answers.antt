@@ -1,5 +1,4 @@
-use Rattle.ss_store.proofs.Common.{◌≡◌, ◌∙◌, List, ℕ, ap, arith, false, length, refl, subst, sym, true, Drop, Unknown, IsScheduled}
-use Rattle.ss_store.proofs.Common.{StoreState, AreSomeLive, held_parts}
+use Rattle.ss_store.proofs.Common.{◌≡◌, ◌∙◌, ap, arith, false, length, refl, true, Drop, Unknown, IsScheduled, StoreState, held_parts}
 use Rattle.ss_store.proofs.Spared.{SameButSpare-same}
 use Rattle.ss_store.proofs.Applying.{Applies-refused, Applies-starved}
 use Rattle.ss_store.proofs.Costs.{StagesAtCost-answers, StagesAtCost-failed, StagesAtCost-none}
@@ -41,7 +40,7 @@ stage_doomed-requires-clause-live g c =
     c.remove-stream.ensures.value (c.deref.ensures.value ∙ c.in-Ok.ensures) in
     let is = dropping c.self.inside.streams.items
     (g.D.Disk.seen c.args.disk.now) c.self.view_is c.requires.one_disk c.self.invariant.0 c.requires.runs its.stands in
-    subst (λ (l : List ℕ). AreSomeLive l c.self.inside.records.live) (sym its.slots) (live-slots is)
+    rw its.slots (live-slots is)
 
 pub stage_doomed-requires-clause-one_disk : goal.stage_doomed-requires-clause-one_disk
 stage_doomed-requires-clause-one_disk g c =

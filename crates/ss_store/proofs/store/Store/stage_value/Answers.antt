@@ -1,5 +1,4 @@
-use Rattle.ss_store.proofs.Common.{◌≡◌, ◌<◌, ℕ, List, arith, refl, subst, sym, true, false, w64, ap, length, At, to_z-of_z, Value, All-set, IsScheduled}
-use Rattle.std.proofs.Common.{All}
+use Rattle.ss_store.proofs.Common.{◌≡◌, arith, refl, true, false, w64, ap, length, to_z-of_z, Value, All-set, IsScheduled}
 use Rattle.ss_store.proofs.Applying.{Applies-refused, Applies-starved}
 use Rattle.ss_store.proofs.Costs.{StagesAtCost-answers, StagesAtCost-failed, StagesAtCost-none}
 use Rattle.ss_store.proofs.IndexedStreams.{IsScheduled-at, parts-set, stored}
@@ -26,8 +25,7 @@ reserve_window-requires g c =
     c.index_mut-stream.ensures.value in
     record {
       few = few-taker it;
-      later = subst (λ (ts : List (ℕ × At)). All (λ (e : ℕ × At). e.0 < c.args.t) ts) (sym scheduled.0.timed)
-          (begin-by_last c.index_mut-stream.result.now.part.last_time c.args.t c.index_mut-stream.result.now.part.line.entries
+      later = rw scheduled.0.timed (begin-by_last c.index_mut-stream.result.now.part.last_time c.args.t c.index_mut-stream.result.now.part.line.entries
           (ordered-spared it.is).times (later-taker it));
     }
 

@@ -1,4 +1,4 @@
-use Rattle.ss_store.proofs.Common.{◌≡◌, ◌∙◌, ◌+◌, ◌++◌, Some, ap, arith, subst, sym, take, append-nil, length-map, index_of, At, Entry, entries_in}
+use Rattle.ss_store.proofs.Common.{◌≡◌, ◌∙◌, ◌+◌, ◌++◌, Some, ap, arith, sym, take, append-nil, length-map, index_of, At, Entry, entries_in}
 use Rattle.ss_store.proofs.Common.{index_of-first, index_of-next, slice_get-entry}
 use Rattle.ss_store.proofs.KeyedWindows.{none_past, take-all, take-none}
 use Rattle.ss_store.proofs.WindowSlots.{slots-more, entry_slots}
@@ -35,8 +35,7 @@ loop-next-preserved g c =
     record {
       stands = rw c.in-Some-1₀.is at c.neighbours.ensures.stand.1;
       put = c.in_ok-push-2.ensures.items ∙ slots-more was c.loop-next.slots.items es (index_of entries c.in-Some-1₀.next) c.get-in-Some-1₀.result
-          (subst (λ n. c.loop-next.slots.items ≡ was ++ entry_slots (take n es)) (sym next) c.loop-next.invariant.put)
-          (slice_get-entry entries c.in-Some-1₀.next c.get-in-Some-1₀.result c.get-in-Some-1₀.ensures.entry);
+          (rw next c.loop-next.invariant.put) (slice_get-entry entries c.in-Some-1₀.next c.get-in-Some-1₀.result c.get-in-Some-1₀.ensures.entry);
     }
 
 pub returns : goal.returns

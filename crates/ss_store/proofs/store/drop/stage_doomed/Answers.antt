@@ -1,5 +1,4 @@
-use Rattle.ss_store.proofs.Common.{◌≡◌, ◌∙◌, List, ℕ, arith, refl, subst, sym, true, err_from_is_err_and, is_valid, after-step, step-from, step-next}
-use Rattle.ss_store.proofs.Common.{AreSomeLive}
+use Rattle.ss_store.proofs.Common.{◌≡◌, ◌∙◌, arith, refl, sym, true, err_from_is_err_and, is_valid, after-step, step-from, step-next}
 use Rattle.ss_store.proofs.Dropping.{TurnsShown-dropped, TurnsShown-undropped, own-live}
 use Rattle.ss_store.proofs.Costs.{StagesAtCost-failed, StagesAtCost-then}
 use Rattle.ss_store.proofs.store.drop.stage_doomed.Goals as goal
@@ -9,8 +8,7 @@ stage_replaced-requires-clause-some g c = λ free. let wrong = sym c.record_of.e
 
 pub stage_replaced-requires-clause-live : goal.stage_replaced-requires-clause-live
 stage_replaced-requires-clause-live g c =
-    own-live c.args.part.now c.args.records.now.live
-    (subst (λ (l : List ℕ). AreSomeLive l c.args.records.now.live) c.requires.slots c.requires.live)
+    own-live c.args.part.now c.args.records.now.live (rw c.requires.slots at c.requires.live)
 
 pub stage_clearing-requires-clause-live : goal.stage_clearing-requires-clause-live
 stage_clearing-requires-clause-live g c = rw c.stage_replaced.ensures.live c.requires.live
