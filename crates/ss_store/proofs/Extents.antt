@@ -2,7 +2,8 @@
 use Rattle.ss_store.proofs.Common.{◌≡◌, ◌+◌, ◌*◌, ◌<◌, ◌≤◌, ℕ, List, [], ◌∷◌, Ok, ap, arith, length, cond_both, if◌then◌else◌, max}
 use Rattle.ss_store.proofs.Common.{DiskView, Told, Verdict, Event, HasSealed, entries, is_good, puts_of, is_born, is_unborn, slots_in, IsSealed, JournalState}
 use Rattle.ss_store.proofs.Common.{SlotMap, StandsFor, bad_entry, blank_map, changed, not_a_store, stands, MOST_SLOTS, Happened, live}
-use Rattle.ss_store.proofs.Common.{state, Ack, shown_by, Applies, Looks, OpensStore, AllGrowLittle, GrowsLittle, records_held_in, StoreIsKept, StoreState, Stands}
+use Rattle.ss_store.proofs.Common.{state, Ack, shown_by, Applies, Looks, OpensStore, AllGrowLittle, GrowsLittle, records_held_in, StoreIsKept, StoreState}
+use Rattle.ss_store.proofs.Common.{Stands}
 use Rattle.ss_store.proofs.Common.{UsesAtMost}
 use Rattle.ss_outside.specs.Verdict as verdicts
 use Rattle.ss_outside.specs.Verdict.{OnFine}

@@ -3,8 +3,10 @@ use Rattle.ss_store.proofs.Common.{◌≡◌, ◌∙◌, ◌⊎◌, ⊎_elim, �
 use Rattle.ss_store.proofs.Common.{Ok, Result, Contains, IsErr, map-append, Contains-append_right, on_ok_weaker, IsPermutation-sym, KnowsNow, OnlyReads, Told}
 use Rattle.ss_store.proofs.Common.{weaker, shown, on_err, RecordsState, shown_by, Record, Landmark, At, Entry, Figures, joined, Rule, rule_of, params_of}
 use Rattle.ss_store.proofs.Common.{lies_free, Stream, Window, entries_of, records_held, slots_held, span_held, span_of, window_record, times_held, times_of}
-use Rattle.ss_store.proofs.Common.{CrashTriple, StreamParts, TurnsShown, IsRead, verdict_of_read, IfChanged, IsFirm, ChangedIsHeld, window_slots_of, IsPartlyJoined}
-use Rattle.ss_store.proofs.Common.{values_held, with_windows, IsHeldIn, IsJoinedIn, AreSomeLive, LiveSlotsGo, HasRecords, ReadError, HasRecords-permutation, StaysOr}
+use Rattle.ss_store.proofs.Common.{CrashTriple, StreamParts, TurnsShown, IsRead, verdict_of_read, IfChanged, IsFirm, ChangedIsHeld, window_slots_of}
+use Rattle.ss_store.proofs.Common.{IsPartlyJoined}
+use Rattle.ss_store.proofs.Common.{values_held, with_windows, IsHeldIn, IsJoinedIn, AreSomeLive, LiveSlotsGo, HasRecords, ReadError, HasRecords-permutation}
+use Rattle.ss_store.proofs.Common.{StaysOr}
 use Rattle.std.specs.Prelude.{IsTrue}
 use Rattle.ss_codec.specs.declared.record.Record.TheVariants as records
 use Rattle.ss_store.specs.Slots.{StagesTwo}

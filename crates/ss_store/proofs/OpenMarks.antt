@@ -5,7 +5,8 @@ use Rattle.ss_store.proofs.Common.{cases_Bool, cond-false, cond-true, not-false,
 use Rattle.ss_store.proofs.Common.{Refusal, Landmark, LandmarkValue, all_values, change_last, closed_at, open_landmark, opened_at, with_value, AllEndBy}
 use Rattle.ss_store.proofs.Common.{CanClose, EndsBy, FollowFrom, cases-finish, AllEndBy-later, AreKnown, MOST_SLOTS, has_open, later, latest_in, latest_of}
 use Rattle.ss_store.proofs.Common.{lies_free, first_that_applies, is_before, is_opening, is_past, newest_time, Window, EndByLast, mark_slots, StreamParts}
-use Rattle.ss_store.proofs.Common.{latest_of-last, has_most_values, is_early, outline_held, CanMark, IsInOpen, landmarks_after, mark_refusal, values_open, Mark, Open, Close}
+use Rattle.ss_store.proofs.Common.{latest_of-last, has_most_values, is_early, outline_held, CanMark, IsInOpen, landmarks_after, mark_refusal, values_open, Mark}
+use Rattle.ss_store.proofs.Common.{Open, Close}
 use Rattle.std.proofs.Common.{max, is_none, is_some}
 use Rattle.ss_landmarks.specs.Free.{covers, is_free}
 use Rattle.ss_landmarks.specs.Order.{AreLandmarks, CanOpen, CanTake, IsClosedBefore, IsLandmark}

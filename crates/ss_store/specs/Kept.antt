@@ -102,8 +102,8 @@ outline_held part = record {
   values = values_held (entries_of part);
 }
 
-abbrev pub outline_of_part : List ℕ → List StreamParts → Option Outline
-outline_of_part name parts = option_map outline_held (part_named name parts)
+abbrev pub outline_held_named : List ℕ → List StreamParts → Option Outline
+outline_held_named name parts = option_map outline_held (part_named name parts)
 
 -- how many records are held
 abbrev pub live_held : List StreamParts → ℕ
@@ -123,7 +123,7 @@ is_of_landmark parts (Drop name) = false
 
 -- why an event is refused by what is held of the streams, where it is
 unfoldable pub refuses_held : List StreamParts → Event → Option Refusal
-refuses_held parts event = first_that_applies (refusals (outline_of_part (event_name event) parts) (numbers_held parts) (live_held parts) event)
+refuses_held parts event = first_that_applies (refusals (outline_held_named (event_name event) parts) (numbers_held parts) (live_held parts) event)
 
 -- a stream as it is listed, by what is held of it
 abbrev pub row_of_held : StreamParts → StreamRow

@@ -54,7 +54,8 @@ IsClosing Open = ⊥
 IsClosing (Value v) = ⊥
 IsClosing Close = ⊤
 
--- why a stream doesn't take it at a time, where it doesn't and there is room for one more record, by what is held of it
+-- why a stream doesn't take it at a time, where it doesn't, by what is held of it alone: no test of such an event reads the numbers of
+-- streams, and where no record stands there is room for one
 abbrev pub mark_refusal : StreamParts → ℕ → Mark → Option Refusal
 mark_refusal part t mark = first_that_applies (refusals (Some (outline_held part)) [] 0 (event_of part.name t mark))
 

@@ -1,5 +1,5 @@
 // Laws of stores and their disks, each the contract of a function that does nothing.
-ghost use Rattle.std.specs.Prelude.{◌≡◌, ◌+◌, ◌-◌, ◌*◌, ◌<◌, ◌≤◌, max, ℕ, Bool, IsTrue, List, [], length, flat_map, Ok};
+ghost use Rattle.std.specs.Prelude.{◌≡◌, ◌+◌, ◌-◌, ◌*◌, ◌<◌, ◌≤◌, max, ℕ, Bool, IsTrue, List, [], length, Ok};
 ghost use Rattle.ss_outside.specs.Verdict.{OnFine, Verdict};
 ghost use Rattle.ss_catalog.specs.declared.event.Event.{Event};
 ghost use Rattle.ss_catalog.specs.declared.query.Query.{Query};
@@ -19,7 +19,7 @@ ghost use Rattle.ss_model.specs.Newest.{refuses_values};
 ghost use Rattle.ss_model.specs.Refusals.{refuses, refuses_reading};
 ghost use Rattle.ss_model.specs.Standing.{IsState};
 ghost use Rattle.ss_model.specs.State.{Stream, live, state, stream_named, stream_numbered, values_in};
-ghost use Rattle.ss_parts.specs.Held.{Agrees, AllAgree, AreWhole, TileFrom, entries_of, slots_held};
+ghost use Rattle.ss_parts.specs.Held.{Agrees, AllAgree, AreWhole, TileFrom, entries_of};
 ghost use Rattle.ss_parts.specs.declared.parts.StreamParts.{StreamParts};
 ghost use Rattle.ss_model.specs.Standing.{IsStream};
 ghost use Rattle.ss_model.specs.declared.types.Ack.{Ack};
@@ -28,7 +28,7 @@ ghost use Rattle.ss_store.specs.Asked.{refuses_query_held};
 ghost use Rattle.ss_store.specs.Extents.{AllGrowLittle, GrowsLittle, records_held_in};
 ghost use Rattle.ss_store.specs.Held.{ends_held, values_held};
 ghost use Rattle.ss_store.specs.Joining.{NoEntriesAreDue};
-ghost use Rattle.ss_store.specs.Kept.{SomeAgree, StoreIsKept, StoreState, part_named, part_numbered, refuses_held};
+ghost use Rattle.ss_store.specs.Kept.{SomeAgree, StoreIsKept, StoreState, live_held, part_named, part_numbered, refuses_held};
 ghost use Rattle.ss_store.specs.Newest.{refuses_reading_held, refuses_values_held};
 ghost use Rattle.ss_store.specs.Recover.{Recovers, Stands};
 
@@ -61,7 +61,7 @@ pub fn what_is_held_counts_alike()
     ensures records { (parts : List StreamParts) (streams : List Stream) (bits : List Bool) → AllAgree parts streams →
         AreWhole parts bits → live_count bits ≡ live streams }
     ensures slots { (parts : List StreamParts) (streams : List Stream) → AllAgree parts streams →
-        length (flat_map slots_held parts) ≡ live streams }
+        live_held parts ≡ live streams }
 {}
 
 /// Where no two neighbours may be one, at most 2(K + B - 1) - 1 windows stand, where K target windows cover the values, and the

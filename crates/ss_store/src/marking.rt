@@ -94,6 +94,7 @@ pub fn reserve(landmarks: &mut Landmarks) -> Result<(), AllocError>
     ensures grown { HasNoLessRoom landmarks.old landmarks.new }
 {
     let reserved = landmarks.reserve();
+    // Asked for the proof alone, here and below: with their number comes what holds of all landmarks.
     let _count = landmarks.count();
     reserved
 }

@@ -63,6 +63,7 @@ impl Store {
         ensures full { IsNone result ↔ IsTrue (has_all_records (live_held self.now.streams)) }
         ensures low { IfSome result (λ slot. slot ≤ live_held self.now.streams) }
     {
+        // Asked for the proof alone: with the slots that are live comes what holds of all records.
         let _live = self.records.live();
         self.records.lowest_free()
     }

@@ -1,5 +1,5 @@
 // What a disk holds, counted without a write.
-ghost use Rattle.std.specs.Prelude.{◌≡◌, ◌≤◌, All, IsTrue, List, flat_map, length};
+ghost use Rattle.std.specs.Prelude.{◌≡◌, ◌≤◌, All, IsTrue, List, length};
 ghost use Rattle.ss_journal.specs.declared.format.TheConstants.{MOST_SLOTS};
 ghost use Rattle.ss_steps.specs.Steps.{IsFresh};
 ghost use Rattle.ss_target.specs.Rule.{rule_of};
@@ -8,13 +8,14 @@ ghost use Rattle.ss_windowing.specs.declared.decay.TheConstants.{MOST_VALUES};
 ghost use Rattle.ss_model.specs.ClosedState.{closed_state, closed_stream};
 ghost use Rattle.ss_model.specs.Standing.{IsState, IsStream};
 ghost use Rattle.ss_model.specs.State.{Stream};
-ghost use Rattle.ss_parts.specs.Held.{Agrees, AllAgree, TileFrom, entries_of, slots_held};
+ghost use Rattle.ss_parts.specs.Held.{Agrees, AllAgree, TileFrom, entries_of};
 ghost use Rattle.ss_outside.specs.Step.{Step};
 ghost use Rattle.ss_outside.specs.Verdict.{IsFirm};
 ghost use Rattle.ss_store.specs.Applied.{SurveysStore};
 ghost use Rattle.ss_store.specs.Errors.{verdict_of_opening};
 ghost use Rattle.ss_store.specs.Joining.{may_be_joined};
 ghost use Rattle.ss_store.specs.Surveyed.{survey_of};
+ghost use Rattle.ss_store.specs.Kept.{live_held};
 
 use crate::closing::values_held;
 use crate::opening::read_all;
@@ -58,6 +59,7 @@ fn closed_windows<L: Ledger>(part: &StreamParts, steps: &mut Steps<L>) -> u32
     let Some(mut at) = part.line.first() else {
         return 0;
     };
+    // Asked for the proof alone, here and below: with its length comes what holds of each line.
     let _len = part.line.len();
     let n = values_held(part, steps);
     let mut first = part.line.get(at, steps);
@@ -76,7 +78,7 @@ fn closed_windows<L: Ledger>(part: &StreamParts, steps: &mut Steps<L>) -> u32
 // What some streams have, once the merges that are due are made.
 fn surveyed<L: Ledger>(streams: &[StreamParts], steps: &mut Steps<L>) -> Survey
     requires tiles { All (λ part. TileFrom 1 (entries_of part)) streams.now }
-    requires few { length (flat_map slots_held streams.now) ≤ MOST_SLOTS }
+    requires few { live_held streams.now ≤ MOST_SLOTS }
     ensures { (all : List Stream) → IsState all → AllAgree streams.now all → result ≡ survey_of (closed_state all) }
 {
     let mut survey = Survey {
@@ -98,7 +100,7 @@ fn surveyed<L: Ledger>(streams: &[StreamParts], steps: &mut Steps<L>) -> Survey
 fn surveyed_in<L: Ledger>(streams: &[StreamParts], blank: Blank) -> Survey
     requires fresh { IsFresh L.name L.parts blank }
     requires tiles { All (λ part. TileFrom 1 (entries_of part)) streams.now }
-    requires few { length (flat_map slots_held streams.now) ≤ MOST_SLOTS }
+    requires few { live_held streams.now ≤ MOST_SLOTS }
     ensures { (all : List Stream) → IsState all → AllAgree streams.now all → result ≡ survey_of (closed_state all) }
 {
     surveyed(streams, &mut Steps::<L>::new(blank))

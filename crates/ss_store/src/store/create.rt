@@ -48,6 +48,7 @@ fn record_of(id: u32, name: &Name, params: Params) -> Record
     ensures value { result ≡ record_kinds.Stream id name.now params false }
     ensures valid { IsTrue (is_valid result) }
 {
+    // Asked for the proof alone, here and below: the bytes of a name are a name, and a step is a number of 32 bits.
     let _word = name.as_bytes();
     // A step is a number of 32 bits.
     let _step = step_number(params.within);

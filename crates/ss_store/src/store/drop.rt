@@ -35,6 +35,7 @@ fn push_window_slots<L: Ledger>(
 ) -> Result<(), AllocError>
     ensures { OnOk result (slots.new.items ≡ slots.old.items ++ map (λ e. e.slot) (map (λ e. e.1) line.now.entries)) }
 {
+    // Asked for the proof alone, here and below: with its length comes what holds of each line.
     let _len = line.len();
     let Some(mut at) = line.first() else {
         return Ok(());

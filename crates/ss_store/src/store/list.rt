@@ -108,6 +108,7 @@ impl Store {
             IfSome result (λ after. index_of part.line.entries after ≡ index_of part.line.entries at + 1)) }
     {
         let line = &self.part(id).line;
+        // Asked for the proof alone: with its length comes what holds of each line.
         let _len = line.len();
         line.neighbours(at, &mut Steps::<L>::new(blank)).1
     }

@@ -15,7 +15,7 @@ use ss_parts::StreamParts;
 use ss_steps::Steps;
 use std::sync::ledger::{Blank, Ledger};
 
-// Why the landmarks of a stream don't take a mark at a time.
+// Why a stream doesn't take a mark at a time.
 fn refuses(stream: &StreamParts, t: u64, mark: Mark) -> Option<Refusal>
     requires { IsInOpen mark → has_open stream.now.landmarks.landmarks ≡ true }
     ensures some { IfSome result (λ r. mark_refusal stream.now t mark ≡ Some r) }
@@ -94,6 +94,7 @@ impl Store {
         if let Some(refusal) = refuses(stream, t, mark) {
             return Err(refusal);
         }
+        // Asked for the proof alone: with the slots that are live comes what holds of all records.
         let _live = self.records.live();
         match self.slot_for(stream, mark) {
             Some(slot) => Ok((place, slot)),

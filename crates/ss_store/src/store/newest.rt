@@ -65,6 +65,7 @@ fn newest_place<L: Ledger>(part: &StreamParts, steps: &mut Steps<L>) -> Option<A
     ensures stands { IfSome result (StandsIn part.now.line.entries) }
     ensures last { IfSome result (λ at. index_of part.now.line.entries at + 1 ≡ length part.now.line.entries) }
 {
+    // Asked for the proof alone: with its length comes what holds of each line.
     let _len = part.line.len();
     let at = part.line.last()?;
     let entry = part.line.get(at, steps);

@@ -66,6 +66,7 @@ impl Store {
         ensures some { result.first ≤ result.last }
         ensures most { result.last ≤ MOST_VALUES }
     {
+        // Asked for the proof alone: with the slots that are live comes what holds of all records.
         let _live = self.records.live();
         self.part(id).line.get(at, steps)
     }

@@ -155,6 +155,7 @@ impl Store {
         ensures running { result ≢ Err AskError.Stopped }
         ensures unrefused { (r : Refusal) → result ≢ Err (AskError.Refused r) }
     {
+        // Asked for the proof alone: with the slots that are live comes what holds of all records.
         let _live = self.records.live();
         let place = self.place(id);
         let mut steps = Steps::<L>::new(steps);

@@ -37,6 +37,7 @@ impl Store {
             return Err(Refusal::Range);
         }
         let landmarks = &self.part(id).landmarks;
+        // Asked for the proof alone: with their number comes what holds of all landmarks.
         let _values = landmarks.values();
         let (first, count) = landmarks.places_in(from, to);
         Ok(ValueRange { id, first, count })

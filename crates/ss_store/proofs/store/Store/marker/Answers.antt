@@ -1,4 +1,5 @@
-use Rattle.ss_store.proofs.Common.{◌≡◌, ◌∙◌, true, List, ℕ, Option, refl, ap, arith, slice_get, Refusal, has_open, StreamParts, StoreState, held_parts, has_all_records, live_held}
+use Rattle.ss_store.proofs.Common.{◌≡◌, ◌∙◌, true, List, ℕ, Option, refl, ap, arith, slice_get, Refusal, has_open, StreamParts, StoreState, held_parts}
+use Rattle.ss_store.proofs.Common.{has_all_records, live_held}
 use Rattle.ss_store.proofs.Common.{of_part, refuses_held, IsInOpen, event_of, mark_refusal, slot_refusal, Mark}
 use Rattle.ss_store.proofs.Among.{Marks-at}
 use Rattle.ss_store.proofs.Found.{IsAtPlace-found, inside-found, none-found}
@@ -26,7 +27,8 @@ begun-part store name mark place part at marked own = rw at.named at (marked own
 -- what is judged of the stream of the name
 judged : (store : StoreState) (name : List ℕ) (t : ℕ) (mark : Mark) (place : ℕ) (part : StreamParts) (why : Option Refusal) →
     IsAtPlace name place store.streams part → (IsInOpen mark → of_part name store.streams (λ part. has_open part.landmarks.landmarks) ≡ true) →
-    or_else (mark_refusal part t mark) (slot_refusal mark (has_all_records (live_held store.streams))) ≡ why → refuses_held store.streams (event_of name t mark) ≡ why
+    or_else (mark_refusal part t mark) (slot_refusal mark (has_all_records (live_held store.streams))) ≡ why →
+    refuses_held store.streams (event_of name t mark) ≡ why
 judged store name t mark place part why at marked is =
     refuses_held-mark store.streams name t mark part (has_all_records (live_held store.streams)) at.named
     (λ own. begun-part store name mark place part at marked own) refl ∙ is
@@ -41,13 +43,15 @@ pub returns-in-Some-slot_for-clause-accepted : goal.returns-in-Some-slot_for-cla
 returns-in-Some-slot_for-clause-accepted c =
     let is = IsAtPlace-found c.self.inside.streams.items c.args.name.now (ap (λ (s : StoreState). s.streams) c.self.view_is) c.in-Some.is c.requires.found c.index.ensures in
     judged c.args.self.now c.args.name.now c.args.t c.args.mark c.in-Some.place c.index.result.now.part _ is c.requires.marked
-    (ap (λ o. or_else o (slot_refusal c.args.mark (has_all_records (live_held c.args.self.now.streams)))) c.in_default-refuses.ensures.none ∙ c.in-Some-slot_for.ensures.some)
+    (ap (λ o. or_else o (slot_refusal c.args.mark (has_all_records (live_held c.args.self.now.streams)))) c.in_default-refuses.ensures.none
+    ∙ c.in-Some-slot_for.ensures.some)
 
 pub returns-in-None-clause-refused : goal.returns-in-None-clause-refused
 returns-in-None-clause-refused c =
     let is = IsAtPlace-found c.self.inside.streams.items c.args.name.now (ap (λ (s : StoreState). s.streams) c.self.view_is) c.in-Some.is c.requires.found c.index.ensures in
     judged c.args.self.now c.args.name.now c.args.t c.args.mark c.in-Some.place c.index.result.now.part _ is c.requires.marked
-    (ap (λ o. or_else o (slot_refusal c.args.mark (has_all_records (live_held c.args.self.now.streams)))) c.in_default-refuses.ensures.none ∙ c.in-None.ensures.none refl)
+    (ap (λ o. or_else o (slot_refusal c.args.mark (has_all_records (live_held c.args.self.now.streams)))) c.in_default-refuses.ensures.none
+    ∙ c.in-None.ensures.none refl)
 
 pub returns-in-Some-slot_for-clause-marker : goal.returns-in-Some-slot_for-clause-marker
 returns-in-Some-slot_for-clause-marker c =

@@ -1,4 +1,5 @@
-use Rattle.ss_store.proofs.Common.{◌≡◌, ◌∙◌, ℕ, List, Some, true, false, get_or, refl, ap, sym, arith, nat_le, nat_tests, entries_of, HeldStream, StreamParts, held_parts}
+use Rattle.ss_store.proofs.Common.{◌≡◌, ◌∙◌, ℕ, List, Some, true, false, get_or, refl, ap, sym, arith, nat_le, nat_tests, entries_of, HeldStream, StreamParts}
+use Rattle.ss_store.proofs.Common.{held_parts}
 use Rattle.ss_store.proofs.Common.{MOST_VALUES, has_open, is_past, values_held, StoreState, has_all_records, live_held, of_part, IsPlaceOf}
 use Rattle.std.specs.Prelude.{Option}
 use Rattle.ss_store.proofs.Found.{IsAtPlace-found, inside-found, none-found}
