@@ -22,7 +22,8 @@ pub said-kept : (store : StoreState) (image : List ℕ) (history : List Happened
     said_of_held (part_named name store.streams) ≡ ack_of name (state history)
 said-kept store image history name kept stands =
     let both = AllAgree-recovered store image (state history) kept stands.state in
-    said_alike (part_named name store.streams) (stream_named name (state history)) (IfSome-find IsStream (λ s. same_name name s.name) (state history) both.1.each)
+    said_alike (part_named name store.streams) (stream_named name (state history))
+    (IfSome-find IsStream (λ s. same_name name s.name) (state history) both.1.each)
     (SomeAgree-named store.streams (state history) name both.0)
 
 -- what is refused

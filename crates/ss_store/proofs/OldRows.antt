@@ -46,7 +46,8 @@ as_it_left = image_of no_entry no_entry
 
 -- it stands for the same events as old
 state-old : Recovers (state (as_old readings)) as_it_left
-unfolding state recover redo is_born kind_of slot_form entry_form entries carried spelled is_sound decoded record_in stream_in window_in params_in is_valid spelling Names.is_name
+unfolding state recover redo is_born kind_of slot_form entry_form entries carried spelled is_sound decoded record_in stream_in window_in params_in is_valid
+    spelling Names.is_name
     Possible.is_possible bit_of filter_of full has union Fields.with_field Numbers.number_at Numbers.number_bytes window_index Marks.lies_free
 state-old = refl
 
@@ -85,7 +86,8 @@ grown = as_old (take 6 readings) ++ map added (drop 6 readings)
 
 state-grown : Recovers (state grown) (image_of no_entry no_entry
     (a_slot ∷ window_slot 0 1 (first_four full) ∷ window_slot 0 5 (next_two full) ∷ window_slot 0 7 (value 70 (pos 7)) ∷ []))
-unfolding state recover redo is_born kind_of slot_form entry_form entries carried spelled is_sound decoded record_in stream_in window_in params_in is_valid spelling Names.is_name
+unfolding state recover redo is_born kind_of slot_form entry_form entries carried spelled is_sound decoded record_in stream_in window_in params_in is_valid
+    spelling Names.is_name
     Possible.is_possible bit_of filter_of full has union Fields.with_field Numbers.number_at Numbers.number_bytes window_index Marks.lies_free
 state-grown = refl
 
@@ -98,7 +100,8 @@ state-waiting : Recovers (state grown) (image_of no_entry no_entry
     ∷ window_slot 0 6 (value 60 (pos 2))
     ∷ window_slot 0 7 (value 70 (pos 7))
     ∷ []))
-unfolding state recover redo is_born kind_of slot_form entry_form entries carried spelled is_sound decoded record_in stream_in window_in params_in is_valid spelling Names.is_name
+unfolding state recover redo is_born kind_of slot_form entry_form entries carried spelled is_sound decoded record_in stream_in window_in params_in is_valid
+    spelling Names.is_name
     Possible.is_possible bit_of filter_of full has union Fields.with_field Numbers.number_at Numbers.number_bytes window_index Marks.lies_free
 state-waiting = refl
 

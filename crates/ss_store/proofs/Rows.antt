@@ -77,7 +77,8 @@ unfolding recover redo is_born kind_of slot_form entry_form is_unborn carried sp
 recover-no_byte = refl
 
 recover-no_slot : recover (image_of no_entry no_entry []) ≡ recovers []
-unfolding recover redo is_born kind_of slot_form entry_form entries carried spelled is_sound decoded record_in stream_in window_in params_in is_valid spelling Names.is_name
+unfolding recover redo is_born kind_of slot_form entry_form entries carried spelled is_sound decoded record_in stream_in window_in params_in is_valid spelling
+    Names.is_name
     Possible.is_possible bit_of filter_of full has union Fields.with_field Numbers.number_at Numbers.number_bytes Marks.lies_free
 recover-no_slot = refl
 
@@ -90,13 +91,15 @@ abbrev not_formed : List ℕ
 not_formed = slice_set (image_of no_entry no_entry (damaged ∷ [])) 0 164
 
 recover-not_formed : recover not_formed ≡ recovers []
-unfolding recover redo is_born kind_of slot_form entry_form is_unborn carried spelled is_sound decoded record_in stream_in window_in params_in is_valid spelling Names.is_name
+unfolding recover redo is_born kind_of slot_form entry_form is_unborn carried spelled is_sound decoded record_in stream_in window_in params_in is_valid
+    spelling Names.is_name
     Possible.is_possible bit_of filter_of full has union Fields.with_field Numbers.number_at Numbers.number_bytes Marks.lies_free
 recover-not_formed = refl
 
 -- a stream without values
 recover-stream : recover (image_of no_entry no_entry (a_slot ∷ [])) ≡ recovers (a_stream [])
-unfolding recover redo is_born kind_of slot_form entry_form entries carried spelled is_sound decoded record_in stream_in window_in params_in is_valid spelling Names.is_name
+unfolding recover redo is_born kind_of slot_form entry_form entries carried spelled is_sound decoded record_in stream_in window_in params_in is_valid spelling
+    Names.is_name
     Possible.is_possible bit_of filter_of full has union Fields.with_field Numbers.number_at Numbers.number_bytes Marks.lies_free
 recover-stream = refl
 
@@ -118,7 +121,8 @@ abbrev merged : List Stream
 merged = a_stream (window 1 (fives 2 10 20) ∷ window 3 (fives 1 30 30) ∷ [])
 
 recover-waiting : recover (image_of no_entry no_entry (a_slot ∷ first ∷ second ∷ third ∷ [])) ≡ recovers merged
-unfolding recover redo is_born kind_of slot_form entry_form entries carried spelled is_sound decoded record_in stream_in window_in params_in is_valid spelling Names.is_name
+unfolding recover redo is_born kind_of slot_form entry_form entries carried spelled is_sound decoded record_in stream_in window_in params_in is_valid spelling
+    Names.is_name
     Possible.is_possible bit_of filter_of full has union Fields.with_field Numbers.number_at Numbers.number_bytes window_index Marks.lies_free
 recover-waiting = refl
 
@@ -134,23 +138,27 @@ stream_within step windows = record { number = 0; name = a; params = within step
 
 recover-two_steps : recover (waiting_within 20) ≡
     recovers (stream_within 20 (window 1 (fives 1 10 10) ∷ window 2 (fives 1 20 20) ∷ window 3 (fives 1 30 30) ∷ []))
-unfolding recover redo is_born kind_of slot_form entry_form entries carried spelled is_sound decoded record_in stream_in window_in params_in is_valid spelling Names.is_name
+unfolding recover redo is_born kind_of slot_form entry_form entries carried spelled is_sound decoded record_in stream_in window_in params_in is_valid spelling
+    Names.is_name
     Possible.is_possible bit_of filter_of full has union Fields.with_field Numbers.number_at Numbers.number_bytes window_index Marks.lies_free
 recover-two_steps = refl
 
 recover-one_step : recover (waiting_within 25) ≡ recovers (stream_within 25 (window 1 (fives 2 10 20) ∷ window 3 (fives 1 30 30) ∷ []))
-unfolding recover redo is_born kind_of slot_form entry_form entries carried spelled is_sound decoded record_in stream_in window_in params_in is_valid spelling Names.is_name
+unfolding recover redo is_born kind_of slot_form entry_form entries carried spelled is_sound decoded record_in stream_in window_in params_in is_valid spelling
+    Names.is_name
     Possible.is_possible bit_of filter_of full has union Fields.with_field Numbers.number_at Numbers.number_bytes window_index Marks.lies_free
 recover-one_step = refl
 
 -- a window that crosses a boundary is damage, unless its stream is dropped
 recover-crossing : recover (image_of no_entry no_entry (stream_slot 0 a (within 20) ∷ both ∷ third ∷ [])) ≡ damaged_stream 0
-unfolding recover redo is_born kind_of slot_form entry_form entries carried spelled is_sound decoded record_in stream_in window_in params_in is_valid spelling Names.is_name
+unfolding recover redo is_born kind_of slot_form entry_form entries carried spelled is_sound decoded record_in stream_in window_in params_in is_valid spelling
+    Names.is_name
     Possible.is_possible bit_of filter_of full has union Fields.with_field Numbers.number_at Numbers.number_bytes window_index Marks.lies_free
 recover-crossing = refl
 
 recover-crossing_dropped : recover (image_of no_entry no_entry (spelling (records.Stream 0 a (within 20) true) ∷ both ∷ third ∷ [])) ≡ recovers []
-unfolding recover redo is_born kind_of slot_form entry_form entries carried spelled is_sound decoded record_in stream_in window_in params_in is_valid spelling Names.is_name
+unfolding recover redo is_born kind_of slot_form entry_form entries carried spelled is_sound decoded record_in stream_in window_in params_in is_valid spelling
+    Names.is_name
     Possible.is_possible bit_of filter_of full has union Fields.with_field Numbers.number_at Numbers.number_bytes window_index Marks.lies_free
 recover-crossing_dropped = refl
 
@@ -158,14 +166,16 @@ recover-crossing_dropped = refl
 recover-window_in_entry : recover
     (image_of (entry_of (put 3 third ∷ [])) no_entry (a_slot ∷ first ∷ second ∷ []))
     ≡ recovers merged
-unfolding recover redo is_born kind_of slot_form entry_form entries is_good puts_of entry_body carried spelled is_sound decoded record_in stream_in window_in params_in is_valid spelling
+unfolding recover redo is_born kind_of slot_form entry_form entries is_good puts_of entry_body carried spelled is_sound decoded record_in stream_in window_in
+    params_in is_valid spelling
     Names.is_name Possible.is_possible bit_of filter_of full has union Fields.with_field Numbers.number_at Numbers.number_bytes window_index Marks.lies_free
 recover-window_in_entry = refl
 
 recover-stream_in_entry : recover
     (image_of (entry_of (put 0 a_slot ∷ [])) no_entry (zeros ∷ first ∷ second ∷ third ∷ []))
     ≡ recovers merged
-unfolding recover redo is_born kind_of slot_form entry_form entries is_good puts_of entry_body carried spelled is_sound decoded record_in stream_in window_in params_in is_valid spelling
+unfolding recover redo is_born kind_of slot_form entry_form entries is_good puts_of entry_body carried spelled is_sound decoded record_in stream_in window_in
+    params_in is_valid spelling
     Names.is_name Possible.is_possible bit_of filter_of full has union Fields.with_field Numbers.number_at Numbers.number_bytes window_index Marks.lies_free
 recover-stream_in_entry = refl
 
@@ -173,19 +183,22 @@ recover-stream_in_entry = refl
 recover-merge_in_entry : recover
     (image_of (entry_of (put 1 both ∷ put 2 zeros ∷ [])) no_entry (a_slot ∷ first ∷ second ∷ third ∷ []))
     ≡ recovers merged
-unfolding recover redo is_born kind_of slot_form entry_form entries is_good puts_of entry_body carried spelled is_sound decoded record_in stream_in window_in params_in is_valid spelling
+unfolding recover redo is_born kind_of slot_form entry_form entries is_good puts_of entry_body carried spelled is_sound decoded record_in stream_in window_in
+    params_in is_valid spelling
     Names.is_name Possible.is_possible bit_of filter_of full has union Fields.with_field Numbers.number_at Numbers.number_bytes window_index Marks.lies_free
 recover-merge_in_entry = refl
 
 recover-merge_in_part : recover
     (image_of (entry_of (put 1 both ∷ put 2 zeros ∷ [])) no_entry (a_slot ∷ both ∷ damaged ∷ third ∷ []))
     ≡ recovers merged
-unfolding recover redo is_born kind_of slot_form entry_form entries is_good puts_of entry_body carried spelled is_sound decoded record_in stream_in window_in params_in is_valid spelling
+unfolding recover redo is_born kind_of slot_form entry_form entries is_good puts_of entry_body carried spelled is_sound decoded record_in stream_in window_in
+    params_in is_valid spelling
     Names.is_name Possible.is_possible bit_of filter_of full has union Fields.with_field Numbers.number_at Numbers.number_bytes window_index Marks.lies_free
 recover-merge_in_part = refl
 
 recover-merge_made : recover (image_of no_entry no_entry (a_slot ∷ both ∷ zeros ∷ third ∷ [])) ≡ recovers merged
-unfolding recover redo is_born kind_of slot_form entry_form entries carried spelled is_sound decoded record_in stream_in window_in params_in is_valid spelling Names.is_name
+unfolding recover redo is_born kind_of slot_form entry_form entries carried spelled is_sound decoded record_in stream_in window_in params_in is_valid spelling
+    Names.is_name
     Possible.is_possible bit_of filter_of full has union Fields.with_field Numbers.number_at Numbers.number_bytes window_index Marks.lies_free
 recover-merge_made = refl
 
@@ -193,7 +206,8 @@ recover-merge_made = refl
 recover-two_entries : recover
     (image_of (entry_of (put 2 second ∷ [])) (entry_of (put 1 both ∷ put 2 zeros ∷ [])) (a_slot ∷ first ∷ damaged ∷ third ∷ []))
     ≡ recovers merged
-unfolding recover redo is_born kind_of slot_form entry_form entries is_good puts_of entry_body carried spelled is_sound decoded record_in stream_in window_in params_in is_valid spelling
+unfolding recover redo is_born kind_of slot_form entry_form entries is_good puts_of entry_body carried spelled is_sound decoded record_in stream_in window_in
+    params_in is_valid spelling
     Names.is_name Possible.is_possible bit_of filter_of full has union Fields.with_field Numbers.number_at Numbers.number_bytes window_index Marks.lies_free
 recover-two_entries = refl
 
@@ -201,7 +215,8 @@ recover-two_entries = refl
 recover-after_closed : recover
     (image_of no_entry (entry_of (put 0 zeros ∷ [])) (a_slot ∷ first ∷ second ∷ third ∷ []))
     ≡ recovers merged
-unfolding recover redo is_born kind_of slot_form entry_form entries carried spelled is_sound decoded record_in stream_in window_in params_in is_valid spelling Names.is_name
+unfolding recover redo is_born kind_of slot_form entry_form entries carried spelled is_sound decoded record_in stream_in window_in params_in is_valid spelling
+    Names.is_name
     Possible.is_possible bit_of filter_of full has union Fields.with_field Numbers.number_at Numbers.number_bytes entry_body window_index Marks.lies_free
 recover-after_closed = refl
 
@@ -209,7 +224,8 @@ recover-after_closed = refl
 recover-cut : recover
     (image_of no_entry no_entry (a_slot ∷ first ∷ second ∷ third ∷ take 127 damaged ∷ []))
     ≡ recovers merged
-unfolding recover redo is_born kind_of slot_form entry_form entries carried spelled is_sound decoded record_in stream_in window_in params_in is_valid spelling Names.is_name
+unfolding recover redo is_born kind_of slot_form entry_form entries carried spelled is_sound decoded record_in stream_in window_in params_in is_valid spelling
+    Names.is_name
     Possible.is_possible bit_of filter_of full has union Fields.with_field Numbers.number_at Numbers.number_bytes window_index Marks.lies_free
 recover-cut = refl
 
@@ -259,17 +275,20 @@ one_by_one = image_of no_entry no_entry
 recover-readings : recover
     as_they_came
     ≡ recovers (a_stream (window 1 (first_four filter_of_four) ∷ window 5 (next_two filter_of_two) ∷ window 7 (value 70 (pos 7)) ∷ []))
-unfolding recover redo is_born kind_of slot_form entry_form entries carried spelled is_sound decoded record_in stream_in window_in params_in is_valid spelling Names.is_name
+unfolding recover redo is_born kind_of slot_form entry_form entries carried spelled is_sound decoded record_in stream_in window_in params_in is_valid spelling
+    Names.is_name
     Possible.is_possible bit_of filter_of full has union Fields.with_field Numbers.number_at Numbers.number_bytes window_index Marks.lies_free
 recover-readings = refl
 
 pub state-readings : Recovers (state (map added readings)) as_they_came
-unfolding state recover redo is_born kind_of slot_form entry_form entries carried spelled is_sound decoded record_in stream_in window_in params_in is_valid spelling Names.is_name
+unfolding state recover redo is_born kind_of slot_form entry_form entries carried spelled is_sound decoded record_in stream_in window_in params_in is_valid
+    spelling Names.is_name
     Possible.is_possible bit_of filter_of full has union Fields.with_field Numbers.number_at Numbers.number_bytes window_index Marks.lies_free
 state-readings = refl
 
 state-unmerged : Recovers (state (map added readings)) one_by_one
-unfolding state recover redo is_born kind_of slot_form entry_form entries carried spelled is_sound decoded record_in stream_in window_in params_in is_valid spelling Names.is_name
+unfolding state recover redo is_born kind_of slot_form entry_form entries carried spelled is_sound decoded record_in stream_in window_in params_in is_valid
+    spelling Names.is_name
     Possible.is_possible bit_of filter_of full has union Fields.with_field Numbers.number_at Numbers.number_bytes window_index Marks.lies_free
 state-unmerged = refl
 
@@ -300,7 +319,8 @@ b_stream = record {
 recover-two_streams : recover
     two_streams
     ≡ recovers (a_stream (window 1 (fives 1 10 10) ∷ window 2 (fives 1 20 20) ∷ []) ++ b_stream ∷ [])
-unfolding recover redo is_born kind_of slot_form entry_form entries carried spelled is_sound decoded record_in stream_in window_in params_in is_valid spelling Names.is_name
+unfolding recover redo is_born kind_of slot_form entry_form entries carried spelled is_sound decoded record_in stream_in window_in params_in is_valid spelling
+    Names.is_name
     Possible.is_possible bit_of filter_of full has union Fields.with_field Numbers.number_at Numbers.number_bytes window_index power_length Marks.lies_free
 recover-two_streams = refl
 
@@ -314,7 +334,8 @@ unfolding recover redo is_born kind_of slot_form entry_form is_unborn
 recover-short = refl
 
 recover-other_magic : recover (slice_set (image_of no_entry no_entry (a_slot ∷ [])) 8 51) ≡ no_store
-unfolding recover redo is_born kind_of slot_form entry_form is_unborn carried spelled is_sound decoded record_in stream_in window_in params_in is_valid spelling Names.is_name
+unfolding recover redo is_born kind_of slot_form entry_form is_unborn carried spelled is_sound decoded record_in stream_in window_in params_in is_valid
+    spelling Names.is_name
     Possible.is_possible bit_of filter_of full has union Fields.with_field Numbers.number_at Numbers.number_bytes Marks.lies_free
 recover-other_magic = refl
 
@@ -322,13 +343,15 @@ recover-other_magic = refl
 recover-damaged_entry : recover
     (image_of (entry_of (put 0 zeros ∷ [])) (entry_of (put 5 a_slot ∷ [])) (damaged ∷ []))
     ≡ damaged_entry 1
-unfolding recover redo is_born kind_of slot_form entry_form entries is_good puts_of entry_body carried spelled is_sound decoded record_in stream_in window_in params_in is_valid spelling
+unfolding recover redo is_born kind_of slot_form entry_form entries is_good puts_of entry_body carried spelled is_sound decoded record_in stream_in window_in
+    params_in is_valid spelling
     Names.is_name Possible.is_possible bit_of filter_of full has union Fields.with_field Numbers.number_at Numbers.number_bytes Marks.lies_free
 recover-damaged_entry = refl
 
 -- a damaged slot, which is told before a damaged stream
 recover-damaged_slot : recover (image_of no_entry no_entry (second ∷ a_slot ∷ damaged ∷ [])) ≡ damaged_slot 2
-unfolding recover redo is_born kind_of slot_form entry_form entries carried spelled is_sound decoded record_in stream_in window_in params_in is_valid spelling Names.is_name
+unfolding recover redo is_born kind_of slot_form entry_form entries carried spelled is_sound decoded record_in stream_in window_in params_in is_valid spelling
+    Names.is_name
     Possible.is_possible bit_of filter_of full has union Fields.with_field Numbers.number_at Numbers.number_bytes Marks.lies_free
 recover-damaged_slot = refl
 
@@ -336,20 +359,23 @@ recover-damaged_slot = refl
 recover-mended_slot : recover
     (image_of (entry_of (put 1 first ∷ [])) no_entry (a_slot ∷ damaged ∷ []))
     ≡ recovers (a_stream (window 1 (fives 1 10 10) ∷ []))
-unfolding recover redo is_born kind_of slot_form entry_form entries is_good puts_of entry_body carried spelled is_sound decoded record_in stream_in window_in params_in is_valid spelling
+unfolding recover redo is_born kind_of slot_form entry_form entries is_good puts_of entry_body carried spelled is_sound decoded record_in stream_in window_in
+    params_in is_valid spelling
     Names.is_name Possible.is_possible bit_of filter_of full has union Fields.with_field Numbers.number_at Numbers.number_bytes window_index Marks.lies_free
 recover-mended_slot = refl
 
 -- a damaged stream: its second window is missing, in the slots or by an entry in use
 recover-damaged_stream : recover (image_of no_entry no_entry (a_slot ∷ first ∷ third ∷ [])) ≡ damaged_stream 0
-unfolding recover redo is_born kind_of slot_form entry_form entries carried spelled is_sound decoded record_in stream_in window_in params_in is_valid spelling Names.is_name
+unfolding recover redo is_born kind_of slot_form entry_form entries carried spelled is_sound decoded record_in stream_in window_in params_in is_valid spelling
+    Names.is_name
     Possible.is_possible bit_of filter_of full has union Fields.with_field Numbers.number_at Numbers.number_bytes Marks.lies_free
 recover-damaged_stream = refl
 
 recover-damaged_by_entry : recover
     (image_of (entry_of (put 2 zeros ∷ [])) no_entry (a_slot ∷ first ∷ second ∷ third ∷ []))
     ≡ damaged_stream 0
-unfolding recover redo is_born kind_of slot_form entry_form entries is_good puts_of entry_body carried spelled is_sound decoded record_in stream_in window_in params_in is_valid spelling
+unfolding recover redo is_born kind_of slot_form entry_form entries is_good puts_of entry_body carried spelled is_sound decoded record_in stream_in window_in
+    params_in is_valid spelling
     Names.is_name Possible.is_possible bit_of filter_of full has union Fields.with_field Numbers.number_at Numbers.number_bytes Marks.lies_free
 recover-damaged_by_entry = refl
 
@@ -368,14 +394,16 @@ abbrev moment : List Happened
 moment = map added (events.Create a (exp 2 1 1) ∷ events.Open a 100 ∷ events.Value a 100 (pos 7) ∷ events.Close a 100 ∷ [])
 
 state-moment : Recovers (state moment) (image_of no_entry no_entry (a_slot ∷ mark_slot ∷ mark_value_slot ∷ []))
-unfolding state recover redo is_born kind_of slot_form entry_form entries carried spelled is_sound decoded record_in stream_in window_in landmark_in value_in finish_in params_in is_valid
+unfolding state recover redo is_born kind_of slot_form entry_form entries carried spelled is_sound decoded record_in stream_in window_in landmark_in value_in
+    finish_in params_in is_valid
     spelling Names.is_name Possible.is_possible bit_of filter_of full has union Fields.with_field Numbers.number_at Numbers.number_bytes Marks.lies_free
 state-moment = refl
 
 -- so it is where the closing is in an entry that is in use
 state-closing : Recovers (state moment)
     (image_of (entry_of (put 1 mark_slot ∷ [])) no_entry (a_slot ∷ open_slot ∷ mark_value_slot ∷ []))
-unfolding state recover redo is_born kind_of slot_form entry_form entries is_good puts_of entry_body carried spelled is_sound decoded record_in stream_in window_in landmark_in value_in
+unfolding state recover redo is_born kind_of slot_form entry_form entries is_good puts_of entry_body carried spelled is_sound decoded record_in stream_in
+    window_in landmark_in value_in
     finish_in params_in is_valid spelling Names.is_name Possible.is_possible bit_of filter_of full has union Fields.with_field Numbers.number_at
     Numbers.number_bytes Marks.lies_free
 state-closing = refl
@@ -385,7 +413,8 @@ abbrev opening : List Happened
 opening = map added (events.Create a (exp 2 1 1) ∷ events.Open a 100 ∷ events.Value a 100 (pos 7) ∷ [])
 
 state-opening : Recovers (state opening) (image_of no_entry no_entry (a_slot ∷ open_slot ∷ mark_value_slot ∷ []))
-unfolding state recover redo is_born kind_of slot_form entry_form entries carried spelled is_sound decoded record_in stream_in window_in landmark_in value_in finish_in params_in is_valid
+unfolding state recover redo is_born kind_of slot_form entry_form entries carried spelled is_sound decoded record_in stream_in window_in landmark_in value_in
+    finish_in params_in is_valid
     spelling Names.is_name Possible.is_possible bit_of filter_of full has union Fields.with_field Numbers.number_at Numbers.number_bytes Marks.lies_free
 state-opening = refl
 
@@ -402,17 +431,20 @@ recover-around : recover
       windows = window 1 (fives 2 10 50) ∷ [];
       landmarks = record { start = 20; finish = Some 40; values = [] } ∷ [];
     } ∷ [])
-unfolding recover redo is_born kind_of slot_form entry_form entries carried spelled is_sound decoded record_in stream_in window_in landmark_in value_in finish_in params_in is_valid
+unfolding recover redo is_born kind_of slot_form entry_form entries carried spelled is_sound decoded record_in stream_in window_in landmark_in value_in
+    finish_in params_in is_valid
     spelling Names.is_name Possible.is_possible bit_of filter_of full has union Fields.with_field Numbers.number_at Numbers.number_bytes Marks.lies_free
 recover-around = refl
 
 recover-covered_end : recover (image_of no_entry no_entry (a_slot ∷ landmark_slot ∷ window_slot 0 1 (fives 2 10 30) ∷ [])) ≡ damaged_stream 0
-unfolding recover redo is_born kind_of slot_form entry_form entries carried spelled is_sound decoded record_in stream_in window_in landmark_in value_in finish_in params_in is_valid
+unfolding recover redo is_born kind_of slot_form entry_form entries carried spelled is_sound decoded record_in stream_in window_in landmark_in value_in
+    finish_in params_in is_valid
     spelling Names.is_name Possible.is_possible bit_of filter_of full has union Fields.with_field Numbers.number_at Numbers.number_bytes Marks.lies_free
 recover-covered_end = refl
 
 -- a value of a landmark that has no record
 recover-no_landmark : recover (image_of no_entry no_entry (a_slot ∷ zeros ∷ mark_value_slot ∷ [])) ≡ damaged_stream 0
-unfolding recover redo is_born kind_of slot_form entry_form entries carried spelled is_sound decoded record_in stream_in window_in landmark_in value_in finish_in params_in is_valid
+unfolding recover redo is_born kind_of slot_form entry_form entries carried spelled is_sound decoded record_in stream_in window_in landmark_in value_in
+    finish_in params_in is_valid
     spelling Names.is_name Possible.is_possible bit_of filter_of full has union Fields.with_field Numbers.number_at Numbers.number_bytes Marks.lies_free
 recover-no_landmark = refl

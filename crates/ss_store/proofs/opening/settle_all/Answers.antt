@@ -12,7 +12,8 @@ returns-in_err-settle-clause-settles g c =
     rw (p.1, p.2)
     (step-as c.in_err-settle.ensures.settles (λ settled. record {
       turns = λ all state agree.
-          Turns-unsettled c.args.doomed.now (held_parts c.args.streams.now) all (HasRebuilt (held_parts c.args.streams.now) (closed_state all)) _ _ _ _ refl settled.keeps_map;
+          Turns-unsettled c.args.doomed.now (held_parts c.args.streams.now) all
+          (HasRebuilt (held_parts c.args.streams.now) (closed_state all)) _ _ _ _ refl settled.keeps_map;
       agree = λ all state agree has. tt;
       firm = λ all state agree has. tt;
       kept = tt;

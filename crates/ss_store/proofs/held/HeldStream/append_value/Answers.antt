@@ -20,7 +20,8 @@ returns-in_err-put_value-clause-takes g c =
     StagesAtCost-failed _ refl (omega arith) (omega arith) put (λ single. record {
       turns = λ others s.
           TurnsShown-failed c.args.records.now c.put_value.new.records c.put_value.new.records (IsHeldIn others part s) (IsHalfway others part s t v)
-          (IsHeldIn others c.put_value.new.self.part (with_single s t v)) (IsHeldIn others c.put_value.new.self.part (with_plain_value s (t, v, New))) _ _ _ _ refl
+          (IsHeldIn others c.put_value.new.self.part (with_single s t v))
+          (IsHeldIn others c.put_value.new.self.part (with_plain_value s (t, v, New))) _ _ _ _ refl
           (single.turns others s);
       firm = single.firm;
     })))

@@ -14,17 +14,20 @@ use Rattle.ss_store.proofs.held.HeldStream.join.Goals as goal
 
 pub get-window-requires : goal.get-window-requires
 get-window-requires g c =
-    StandsIn-left (rule_of (params_of c.args.self.now.part.target)) (values_held (entries_of c.args.self.now.part)) c.args.self.now.part.line.entries c.args.pair.left
+    StandsIn-left (rule_of (params_of c.args.self.now.part.target))
+    (values_held (entries_of c.args.self.now.part)) c.args.self.now.part.line.entries c.args.pair.left
     c.args.pair.right (AreDue-pair c.args.self.now c.args.pair c.requires.due)
 
 pub get-next-requires : goal.get-next-requires
 get-next-requires g c =
-    StandsIn-right (rule_of (params_of c.args.self.now.part.target)) (values_held (entries_of c.args.self.now.part)) c.args.self.now.part.line.entries c.args.pair.left
+    StandsIn-right (rule_of (params_of c.args.self.now.part.target))
+    (values_held (entries_of c.args.self.now.part)) c.args.self.now.part.line.entries c.args.pair.left
     c.args.pair.right (AreDue-pair c.args.self.now c.args.pair c.requires.due)
 
 pub read_joined-requires-clause-live : goal.read_joined-requires-clause-live
 read_joined-requires-clause-live g c =
-    let pair = ArePair-read c.args.self.now.part c.args.pair.left c.args.pair.right c.get-window.result c.get-next.result (AreDue-pair c.args.self.now c.args.pair c.requires.due) c.requires.due.ordered.tiles
+    let pair = ArePair-read c.args.self.now.part c.args.pair.left c.args.pair.right c.get-window.result c.get-next.result
+    (AreDue-pair c.args.self.now c.args.pair c.requires.due) c.requires.due.ordered.tiles
     c.get-window.ensures.entry c.get-next.ensures.entry in
     AreSomeLive-two c.args.self.now.part (one_part c.args.self.now.part (joined_line (AreDue-pair c.args.self.now c.args.pair c.requires.due)))
     c.get-window.result
@@ -69,7 +72,8 @@ returns-in_err-read_joined-clause-joins g c =
 
 pub stage_two-requires-clause-valid : goal.stage_two-requires-clause-valid
 stage_two-requires-clause-valid g c =
-    let tiled = (ArePair-read c.args.self.now.part c.args.pair.left c.args.pair.right c.get-window.result c.get-next.result (AreDue-pair c.args.self.now c.args.pair c.requires.due) c.requires.due.ordered.tiles
+    let tiled = (ArePair-read c.args.self.now.part c.args.pair.left c.args.pair.right c.get-window.result c.get-next.result
+    (AreDue-pair c.args.self.now c.args.pair c.requires.due) c.requires.due.ordered.tiles
     c.get-window.ensures.entry c.get-next.ensures.entry).tiled in
     let count = c.in_ok-read_joined.ensures.count in
     is_valid-IsWindow c.args.self.now.part.id.0 c.get-window.result.first c.in_ok-read_joined.field-0 (omega arith) tiled.first
@@ -78,7 +82,8 @@ stage_two-requires-clause-valid g c =
 
 pub stage_two-requires-clause-live : goal.stage_two-requires-clause-live
 stage_two-requires-clause-live g c =
-    let pair = ArePair-read c.args.self.now.part c.args.pair.left c.args.pair.right c.get-window.result c.get-next.result (AreDue-pair c.args.self.now c.args.pair c.requires.due) c.requires.due.ordered.tiles
+    let pair = ArePair-read c.args.self.now.part c.args.pair.left c.args.pair.right c.get-window.result c.get-next.result
+    (AreDue-pair c.args.self.now c.args.pair c.requires.due) c.requires.due.ordered.tiles
     c.get-window.ensures.entry c.get-next.ensures.entry in
     rw c.read_joined.ensures.live
     (AreSomeLive-two c.args.self.now.part (one_part c.args.self.now.part (joined_line (AreDue-pair c.args.self.now c.args.pair c.requires.due)))
@@ -120,7 +125,8 @@ returns-in_err-read_joined-clause-changed g c =
 
 -- the line that is left, and what it is to the line before
 line : (g : _) (c : goal.After-merged g) →
-    AreJoined (rule_of (params_of c.args.self.now.part.target)) (values_held (entries_of c.args.self.now.part)) c.args.self.now.part.line.entries c.merged.new.line.entries
+    AreJoined (rule_of (params_of c.args.self.now.part.target))
+    (values_held (entries_of c.args.self.now.part)) c.args.self.now.part.line.entries c.merged.new.line.entries
     c.get-window.result c.get-next.result
 line g c =
     let due = AreDue-pair c.args.self.now c.args.pair c.requires.due in

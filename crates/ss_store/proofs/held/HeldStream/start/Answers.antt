@@ -3,11 +3,13 @@ use Rattle.ss_store.proofs.held.HeldStream.start.Goals as goal
 
 pub returns-in-Some-clause-begins : goal.returns-in-Some-clause-begins
 returns-in-Some-clause-begins c =
-    BeginsAt-sought c.args.self.now.part c.args.self.now.index.times c.args.from c.in-Some.at c.requires.timed c.requires.times (rw c.in-Some.is at c.seek.ensures)
+    BeginsAt-sought c.args.self.now.part c.args.self.now.index.times c.args.from c.in-Some.at c.requires.timed c.requires.times
+    (rw c.in-Some.is at c.seek.ensures)
 
 pub returns-in-Some-clause-near : goal.returns-in-Some-clause-near
 returns-in-Some-clause-near c =
-    BeginsNear-sought c.args.self.now.part.line.entries c.args.self.now.index.times c.args.from c.in-Some.at c.requires.timed (rw c.in-Some.is at c.seek.ensures)
+    BeginsNear-sought c.args.self.now.part.line.entries c.args.self.now.index.times c.args.from c.in-Some.at c.requires.timed
+    (rw c.in-Some.is at c.seek.ensures)
 
 pub returns-in-None-clause-begins : goal.returns-in-None-clause-begins
 returns-in-None-clause-begins c = BeginsAt-first c.args.self.now.part.line.entries c.args.from c.first.result c.first.ensures.value

@@ -12,7 +12,8 @@ index-requires c =
 pub returns-in-Some : goal.returns-in-Some
 returns-in-Some c =
     let part = c.index.result.now.part in
-    let is = IsAtPlace-found c.self.inside.streams.items c.args.name.now (ap (λ (s : StoreState). s.streams) c.self.view_is) c.in-Some.is c.requires c.index.ensures in
+    let is = IsAtPlace-found c.self.inside.streams.items c.args.name.now
+    (ap (λ (s : StoreState). s.streams) c.self.view_is) c.in-Some.is c.requires c.index.ensures in
     c.is_some.ensures ∙ ap is_some c.opened.ensures.value ∙ is_some-option_map _ (open_landmark part.landmarks.landmarks)
     ∙ sym (of_part-named c.args.self.now.streams c.args.name.now part (λ p. has_open p.landmarks.landmarks) is.named)
 

@@ -35,20 +35,23 @@ judged store name t mark place part why at marked is =
 
 pub returns-in-Some-refuses-clause-refused : goal.returns-in-Some-refuses-clause-refused
 returns-in-Some-refuses-clause-refused c =
-    let is = IsAtPlace-found c.self.inside.streams.items c.args.name.now (ap (λ (s : StoreState). s.streams) c.self.view_is) c.in-Some.is c.requires.found c.index.ensures in
+    let is = IsAtPlace-found c.self.inside.streams.items c.args.name.now
+    (ap (λ (s : StoreState). s.streams) c.self.view_is) c.in-Some.is c.requires.found c.index.ensures in
     judged c.args.self.now c.args.name.now c.args.t c.args.mark c.in-Some.place c.index.result.now.part _ is c.requires.marked
     (ap (λ o. or_else o (slot_refusal c.args.mark (has_all_records (live_held c.args.self.now.streams)))) c.in-Some-refuses.ensures.some)
 
 pub returns-in-Some-slot_for-clause-accepted : goal.returns-in-Some-slot_for-clause-accepted
 returns-in-Some-slot_for-clause-accepted c =
-    let is = IsAtPlace-found c.self.inside.streams.items c.args.name.now (ap (λ (s : StoreState). s.streams) c.self.view_is) c.in-Some.is c.requires.found c.index.ensures in
+    let is = IsAtPlace-found c.self.inside.streams.items c.args.name.now
+    (ap (λ (s : StoreState). s.streams) c.self.view_is) c.in-Some.is c.requires.found c.index.ensures in
     judged c.args.self.now c.args.name.now c.args.t c.args.mark c.in-Some.place c.index.result.now.part _ is c.requires.marked
     (ap (λ o. or_else o (slot_refusal c.args.mark (has_all_records (live_held c.args.self.now.streams)))) c.in_default-refuses.ensures.none
     ∙ c.in-Some-slot_for.ensures.some)
 
 pub returns-in-None-clause-refused : goal.returns-in-None-clause-refused
 returns-in-None-clause-refused c =
-    let is = IsAtPlace-found c.self.inside.streams.items c.args.name.now (ap (λ (s : StoreState). s.streams) c.self.view_is) c.in-Some.is c.requires.found c.index.ensures in
+    let is = IsAtPlace-found c.self.inside.streams.items c.args.name.now
+    (ap (λ (s : StoreState). s.streams) c.self.view_is) c.in-Some.is c.requires.found c.index.ensures in
     judged c.args.self.now c.args.name.now c.args.t c.args.mark c.in-Some.place c.index.result.now.part _ is c.requires.marked
     (ap (λ o. or_else o (slot_refusal c.args.mark (has_all_records (live_held c.args.self.now.streams)))) c.in_default-refuses.ensures.none
     ∙ c.in-None.ensures.none refl)

@@ -23,20 +23,23 @@ index-requires g c =
 
 pub returns-in-Err-clause-applies : goal.returns-in-Err-clause-applies
 returns-in-Err-clause-applies g c =
-    let is = IsAtPlace-found c.self.inside.streams.items c.args.name.now (ap (λ (s : StoreState). s.streams) c.self.view_is) c.in-Some.is c.requires.found c.index.ensures in
+    let is = IsAtPlace-found c.self.inside.streams.items c.args.name.now
+    (ap (λ (s : StoreState). s.streams) c.self.view_is) c.in-Some.is c.requires.found c.index.ensures in
     Applies-starved (Drop c.args.name.now) c.args.self.now c.args.self.now
     (refuses_held-dropped c.args.self.now.streams c.args.name.now c.index.result.now.part is.named) _ (SameButSpare-same c.args.self.now)
     (λ run. c.requires.one_disk) (g.met.D.Disk.knows_now c.args.disk.now)
 
 pub stage_doomed-requires-clause-slots : goal.stage_doomed-requires-clause-slots
 stage_doomed-requires-clause-slots g c =
-    let its = IsTakenOut-found c.self.inside.streams.items c.args.name.now (ap (λ (s : StoreState). s.streams) c.self.view_is) c.in-Some.is c.requires.found c.index.ensures
+    let its = IsTakenOut-found c.self.inside.streams.items c.args.name.now
+    (ap (λ (s : StoreState). s.streams) c.self.view_is) c.in-Some.is c.requires.found c.index.ensures
     c.remove-stream.ensures.value (c.deref.ensures.value ∙ c.in-Ok.ensures) in
     its.slots
 
 pub stage_doomed-requires-clause-live : goal.stage_doomed-requires-clause-live
 stage_doomed-requires-clause-live g c =
-    let its = IsTakenOut-found c.self.inside.streams.items c.args.name.now (ap (λ (s : StoreState). s.streams) c.self.view_is) c.in-Some.is c.requires.found c.index.ensures
+    let its = IsTakenOut-found c.self.inside.streams.items c.args.name.now
+    (ap (λ (s : StoreState). s.streams) c.self.view_is) c.in-Some.is c.requires.found c.index.ensures
     c.remove-stream.ensures.value (c.deref.ensures.value ∙ c.in-Ok.ensures) in
     let is = dropping c.self.inside.streams.items
     (g.D.Disk.seen c.args.disk.now) c.self.view_is c.requires.one_disk c.self.invariant.0 c.requires.runs its.stands in
@@ -49,7 +52,8 @@ stage_doomed-requires-clause-one_disk g c =
 
 pub invariant_of-self : goal.invariant_of-self
 invariant_of-self g c =
-    let its = IsTakenOut-found c.self.inside.streams.items c.args.name.now (ap (λ (s : StoreState). s.streams) c.self.view_is) c.in-Some.is c.requires.found c.index.ensures
+    let its = IsTakenOut-found c.self.inside.streams.items c.args.name.now
+    (ap (λ (s : StoreState). s.streams) c.self.view_is) c.in-Some.is c.requires.found c.index.ensures
     c.remove-stream.ensures.value (c.deref.ensures.value ∙ c.in-Ok.ensures) in
     let is = dropping c.self.inside.streams.items
     (g.D.Disk.seen c.args.disk.now) c.self.view_is c.requires.one_disk c.self.invariant.0 c.requires.runs its.stands in
@@ -61,7 +65,8 @@ invariant_of-self g c =
 
 pub invariant_of-self-in-Err-stage_doomed : goal.invariant_of-self-in-Err-stage_doomed
 invariant_of-self-in-Err-stage_doomed g c =
-    let its = IsTakenOut-found c.self.inside.streams.items c.args.name.now (ap (λ (s : StoreState). s.streams) c.self.view_is) c.in-Some.is c.requires.found c.index.ensures
+    let its = IsTakenOut-found c.self.inside.streams.items c.args.name.now
+    (ap (λ (s : StoreState). s.streams) c.self.view_is) c.in-Some.is c.requires.found c.index.ensures
     c.remove-stream.ensures.value (c.deref.ensures.value ∙ c.in-Ok.ensures) in
     let is = dropping c.self.inside.streams.items
     (g.D.Disk.seen c.args.disk.now) c.self.view_is c.requires.one_disk c.self.invariant.0 c.requires.runs its.stands in (
@@ -71,7 +76,8 @@ invariant_of-self-in-Err-stage_doomed g c =
 
 pub returns-in-Ok-stage_doomed-clause-applies : goal.returns-in-Ok-stage_doomed-clause-applies
 returns-in-Ok-stage_doomed-clause-applies g c =
-    let its = IsTakenOut-found c.self.inside.streams.items c.args.name.now (ap (λ (s : StoreState). s.streams) c.self.view_is) c.in-Some.is c.requires.found c.index.ensures
+    let its = IsTakenOut-found c.self.inside.streams.items c.args.name.now
+    (ap (λ (s : StoreState). s.streams) c.self.view_is) c.in-Some.is c.requires.found c.index.ensures
     c.remove-stream.ensures.value (c.deref.ensures.value ∙ c.in-Ok.ensures) in
     let is = dropping c.self.inside.streams.items
     (g.D.Disk.seen c.args.disk.now) c.self.view_is c.requires.one_disk c.self.invariant.0 c.requires.runs its.stands in
@@ -80,7 +86,8 @@ returns-in-Ok-stage_doomed-clause-applies g c =
 
 pub returns-clause-applies : goal.returns-clause-applies
 returns-clause-applies g c =
-    let its = IsTakenOut-found c.self.inside.streams.items c.args.name.now (ap (λ (s : StoreState). s.streams) c.self.view_is) c.in-Some.is c.requires.found c.index.ensures
+    let its = IsTakenOut-found c.self.inside.streams.items c.args.name.now
+    (ap (λ (s : StoreState). s.streams) c.self.view_is) c.in-Some.is c.requires.found c.index.ensures
     c.remove-stream.ensures.value (c.deref.ensures.value ∙ c.in-Ok.ensures) in
     let is = dropping c.self.inside.streams.items
     (g.D.Disk.seen c.args.disk.now) c.self.view_is c.requires.one_disk c.self.invariant.0 c.requires.runs its.stands in
@@ -95,7 +102,8 @@ returns-in-Err-clause-costs g c told = StagesAtCost-none _ (g.met.D.Disk.knows_n
 
 pub returns-in-Ok-stage_doomed-clause-costs : goal.returns-in-Ok-stage_doomed-clause-costs
 returns-in-Ok-stage_doomed-clause-costs g c told =
-    let its = IsTakenOut-found c.self.inside.streams.items c.args.name.now (ap (λ (s : StoreState). s.streams) c.self.view_is) c.in-Some.is c.requires.found c.index.ensures
+    let its = IsTakenOut-found c.self.inside.streams.items c.args.name.now
+    (ap (λ (s : StoreState). s.streams) c.self.view_is) c.in-Some.is c.requires.found c.index.ensures
     c.remove-stream.ensures.value (c.deref.ensures.value ∙ c.in-Ok.ensures) in
     let few = few-slots (held_parts c.self.inside.streams.items) c.in-Some.place c.remove-stream.result.part its.stands.at in
     rw (← c.self.view_is)
@@ -104,7 +112,8 @@ returns-in-Ok-stage_doomed-clause-costs g c told =
 
 pub returns-clause-costs : goal.returns-clause-costs
 returns-clause-costs g c told =
-    let its = IsTakenOut-found c.self.inside.streams.items c.args.name.now (ap (λ (s : StoreState). s.streams) c.self.view_is) c.in-Some.is c.requires.found c.index.ensures
+    let its = IsTakenOut-found c.self.inside.streams.items c.args.name.now
+    (ap (λ (s : StoreState). s.streams) c.self.view_is) c.in-Some.is c.requires.found c.index.ensures
     c.remove-stream.ensures.value (c.deref.ensures.value ∙ c.in-Ok.ensures) in
     let few = few-slots (held_parts c.self.inside.streams.items) c.in-Some.place c.remove-stream.result.part its.stands.at in
     rw (← c.self.view_is)

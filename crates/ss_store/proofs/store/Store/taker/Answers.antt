@@ -22,7 +22,8 @@ IsPlain-found held {parts} {found} {place} {stream} name same is place_is read p
 
 pub returns-in_default-clause-refused : goal.returns-in_default-clause-refused
 returns-in_default-clause-refused g c v =
-    refuses_held-unknown c.args.self.now.streams c.args.name.now c.args.t v (none-found c.args.self.now.streams c.args.name.now c.in_default.is c.requires.found)
+    refuses_held-unknown c.args.self.now.streams c.args.name.now c.args.t v
+    (none-found c.args.self.now.streams c.args.name.now c.in_default.is c.requires.found)
 
 pub index-requires : goal.index-requires
 index-requires g c =
@@ -32,7 +33,8 @@ index-requires g c =
 pub returns-then-is_past-clause-refused : goal.returns-then-is_past-clause-refused
 returns-then-is_past-clause-refused g c v =
     let part = c.index.result.now.part in
-    let its = IsPlain-found c.self.inside.streams.items c.args.name.now (ap (λ (s : StoreState). s.streams) c.self.view_is) c.in-Some.is c.requires.found c.index.ensures
+    let its = IsPlain-found c.self.inside.streams.items c.args.name.now
+    (ap (λ (s : StoreState). s.streams) c.self.view_is) c.in-Some.is c.requires.found c.index.ensures
     c.requires.plain in
     let past : is_past part.last_time c.args.t ≡ true = cc in
     refuses_held-value c.args.self.now.streams c.args.name.now c.args.t v part true _ _ its.is.named its.plain past refl refl
@@ -40,7 +42,8 @@ returns-then-is_past-clause-refused g c v =
 pub returns-then-values_held-ge-MOST_VALUES-clause-refused : goal.returns-then-values_held-ge-MOST_VALUES-clause-refused
 returns-then-values_held-ge-MOST_VALUES-clause-refused g c v =
     let part = c.index.result.now.part in
-    let its = IsPlain-found c.self.inside.streams.items c.args.name.now (ap (λ (s : StoreState). s.streams) c.self.view_is) c.in-Some.is c.requires.found c.index.ensures
+    let its = IsPlain-found c.self.inside.streams.items c.args.name.now
+    (ap (λ (s : StoreState). s.streams) c.self.view_is) c.in-Some.is c.requires.found c.index.ensures
     c.requires.plain in
     let later : is_past part.last_time c.args.t ≡ false = cc in
     let full : nat_le MOST_VALUES (values_held (entries_of part)) ≡ true = rw (← c.values_held.ensures.value) (grind (arith, nat_tests)) in
@@ -49,7 +52,8 @@ returns-then-values_held-ge-MOST_VALUES-clause-refused g c v =
 pub returns-in-Some-free_slot-clause-accepted : goal.returns-in-Some-free_slot-clause-accepted
 returns-in-Some-free_slot-clause-accepted g c v =
     let part = c.index.result.now.part in
-    let its = IsPlain-found c.self.inside.streams.items c.args.name.now (ap (λ (s : StoreState). s.streams) c.self.view_is) c.in-Some.is c.requires.found c.index.ensures
+    let its = IsPlain-found c.self.inside.streams.items c.args.name.now
+    (ap (λ (s : StoreState). s.streams) c.self.view_is) c.in-Some.is c.requires.found c.index.ensures
     c.requires.plain in
     let later : is_past part.last_time c.args.t ≡ false = cc in
     let few : nat_le MOST_VALUES (values_held (entries_of part)) ≡ false = rw (← c.values_held.ensures.value) (grind (arith, nat_tests)) in
@@ -60,7 +64,8 @@ returns-in-Some-free_slot-clause-accepted g c v =
 pub returns-in-None-clause-refused : goal.returns-in-None-clause-refused
 returns-in-None-clause-refused g c v =
     let part = c.index.result.now.part in
-    let its = IsPlain-found c.self.inside.streams.items c.args.name.now (ap (λ (s : StoreState). s.streams) c.self.view_is) c.in-Some.is c.requires.found c.index.ensures
+    let its = IsPlain-found c.self.inside.streams.items c.args.name.now
+    (ap (λ (s : StoreState). s.streams) c.self.view_is) c.in-Some.is c.requires.found c.index.ensures
     c.requires.plain in
     let later : is_past part.last_time c.args.t ≡ false = cc in
     let few : nat_le MOST_VALUES (values_held (entries_of part)) ≡ false = rw (← c.values_held.ensures.value) (grind (arith, nat_tests)) in
@@ -71,7 +76,8 @@ pub returns-in-Some-free_slot-clause-taker : goal.returns-in-Some-free_slot-clau
 returns-in-Some-free_slot-clause-taker g c =
     let parts = c.args.self.now.streams in
     let part = c.index.result.now.part in
-    let its = IsPlain-found c.self.inside.streams.items c.args.name.now (ap (λ (s : StoreState). s.streams) c.self.view_is) c.in-Some.is c.requires.found c.index.ensures
+    let its = IsPlain-found c.self.inside.streams.items c.args.name.now
+    (ap (λ (s : StoreState). s.streams) c.self.view_is) c.in-Some.is c.requires.found c.index.ensures
     c.requires.plain in
     let later : is_past part.last_time c.args.t ≡ false = cc in
     let stored : has_all_records (live_held parts) ≡ false = not-true _ (λ full. let wrong : true ≡ false = c.in-Some-free_slot.ensures.full.1 full in cc) in

@@ -11,7 +11,8 @@ returns-in_err-at-clause-place g c =
 pub returns-then-is_newer-clause-place : goal.returns-then-is_newer-clause-place
 returns-then-is_newer-clause-place g c =
     let value = newest_value c.args.part.now.landmarks.landmarks in
-    let last = last-read c.args.part.now.line c.in_ok-at.at c.get-entry.result c.len-len.ensures.line (sym c.in_ok-at.was ∙ c.last.ensures.value) c.get-entry.ensures.entry in
+    let last = last-read c.args.part.now.line c.in_ok-at.at c.get-entry.result c.len-len.ensures.line
+    (sym c.in_ok-at.was ∙ c.last.ensures.value) c.get-entry.ensures.entry in
     let newer : is_newer value c.get-entry.result.t_last ≡ true = sym c.is_newer.ensures ∙ c.if-is_newer.true in
     sym (ap (place_if_newer value) last ∙ ap (λ b. if b then Some c.in_ok-at.at else None) newer)
 
@@ -22,6 +23,7 @@ returns-then-is_newer-clause-last g c =
 pub returns-else-is_newer-clause-place : goal.returns-else-is_newer-clause-place
 returns-else-is_newer-clause-place g c =
     let value = newest_value c.args.part.now.landmarks.landmarks in
-    let last = last-read c.args.part.now.line c.in_ok-at.at c.get-entry.result c.len-len.ensures.line (sym c.in_ok-at.was ∙ c.last.ensures.value) c.get-entry.ensures.entry in
+    let last = last-read c.args.part.now.line c.in_ok-at.at c.get-entry.result c.len-len.ensures.line
+    (sym c.in_ok-at.was ∙ c.last.ensures.value) c.get-entry.ensures.entry in
     let newer : is_newer value c.get-entry.result.t_last ≡ false = sym c.is_newer.ensures ∙ c.if-is_newer.false in
     sym (ap (place_if_newer value) last ∙ ap (λ b. if b then Some c.in_ok-at.at else None) newer)
