@@ -21,7 +21,7 @@ masked-twice : (bytes mask : List ℕ) → masked (masked bytes mask) mask ≡ b
 masked-twice bytes [] = refl
 masked-twice [] (m ∷ mask) = refl
 masked-twice (byte ∷ bytes) (m ∷ mask) =
-    let first : bit_xor (bit_xor byte m) m ≡ byte = xor_assoc byte m m ∙ ap (bit_xor byte) (xor_self m) ∙ xor_zero_r byte in
+    let first : bit_xor (bit_xor byte m) m ≡ byte = simp (xor_assoc, xor_self, xor_zero_r) in
     rw (first, masked-twice bytes mask) refl
 
 -- bytes that end before the place stay

@@ -1,4 +1,4 @@
-use Rattle.ss_journal.proofs.Common.{List, ap, arith, length, refl, ℕ, ◌+◌, ◌<◌, ◌∙◌, Put}
+use Rattle.ss_journal.proofs.Common.{List, ap, arith, length, refl, ℕ, ◌+◌, ◌∙◌, Put}
 use Rattle.ss_journal.proofs.NewestLemmas.{few-newest_after}
 use Rattle.ss_journal.proofs.PutLemmas.{AreSlots-rise}
 use Rattle.ss_journal.proofs.StageLemmas.{IsBounded-staged, has-staged, stages}
@@ -12,10 +12,10 @@ add-requires-2-clause-slots c = rw c.deref-3.ensures.0 (AreSlots-rise 0 _ c.requ
 
 pub entry_count-requires : goal.entry_count-requires
 entry_count-requires c =
-    let free : c.self.inside.in_use < 64 = rw (← c.self.view_is) at c.requires.room in
+    let needs = rw (← c.self.view_is) at c.requires in
     omega (
       arith,
-      free,
+      needs.room,
       c.self.invariant.number,
       ap (λ (list : List Put). length list) (c.as_slice.ensures.all ∙ c.add-2.ensures.kept),
       few-newest_after c.deref-3.result.now c.self.inside.staged,
@@ -25,10 +25,10 @@ entry_count-requires c =
 
 pub overflow_add-self : goal.overflow_add-self
 overflow_add-self c =
-    let free : c.self.inside.in_use < 64 = rw (← c.self.view_is) at c.requires.room in
+    let needs = rw (← c.self.view_is) at c.requires in
     omega (
       arith,
-      free,
+      needs.room,
       c.self.invariant.number,
       c.entry_count.ensures,
       ap (λ (list : List Put). length list) (c.as_slice.ensures.all ∙ c.add-2.ensures.kept),
@@ -40,10 +40,10 @@ overflow_add-self c =
 pub invariant_of-self : goal.invariant_of-self
 invariant_of-self c =
     let puts = c.args.txn.now.items in
-    let free : c.self.inside.in_use < 64 = rw (← c.self.view_is) at c.requires.room in
-    IsBounded-staged _ _ puts c.self.invariant (rw (← c.self.view_is) at c.requires.settled) (rw c.deref-2.ensures.0 at c.add.ensures.whole) c.requires.txn
-    (rw (← c.self.view_is) at c.requires.fit) free c.add.ensures.rise c.add-2.ensures.rise (record {
-      phase = rw (← c.self.view_is) at c.requires.settled;
+    let needs = rw (← c.self.view_is) at c.requires in
+    IsBounded-staged _ _ puts c.self.invariant needs.settled (rw c.deref-2.ensures.0 at c.add.ensures.whole) c.requires.txn
+    needs.fit needs.room c.add.ensures.rise c.add-2.ensures.rise (record {
+      phase = needs.settled;
       extent = rw (c.extent_after-self-inside.ensures, c.deref.ensures.0);
       in_use = ap (λ (n : ℕ). c.self.inside.sealed + n) (rw (c.entry_count.ensures, c.as_slice.ensures.all));
       waiting = rw (c.add.ensures.kept, c.deref-2.ensures.0);
@@ -55,10 +55,10 @@ invariant_of-self c =
 pub returns-clause-stages : goal.returns-clause-stages
 returns-clause-stages c content =
     let puts = c.args.txn.now.items in
-    let free : c.self.inside.in_use < 64 = rw (← c.self.view_is) at c.requires.room in
-    stages _ _ puts c.self.invariant (rw (← c.self.view_is) at c.requires.settled) (rw c.deref-2.ensures.0 at c.add.ensures.whole) c.requires.txn
-    (rw (← c.self.view_is) at c.requires.fit) free c.add.ensures.rise c.add-2.ensures.rise (record {
-      phase = rw (← c.self.view_is) at c.requires.settled;
+    let needs = rw (← c.self.view_is) at c.requires in
+    stages _ _ puts c.self.invariant needs.settled (rw c.deref-2.ensures.0 at c.add.ensures.whole) c.requires.txn
+    needs.fit needs.room c.add.ensures.rise c.add-2.ensures.rise (record {
+      phase = needs.settled;
       extent = rw (c.extent_after-self-inside.ensures, c.deref.ensures.0);
       in_use = ap (λ (n : ℕ). c.self.inside.sealed + n) (rw (c.entry_count.ensures, c.as_slice.ensures.all));
       waiting = rw (c.add.ensures.kept, c.deref-2.ensures.0);
@@ -70,10 +70,10 @@ returns-clause-stages c content =
 pub returns-clause-staged : goal.returns-clause-staged
 returns-clause-staged c =
     let puts = c.args.txn.now.items in
-    let free : c.self.inside.in_use < 64 = rw (← c.self.view_is) at c.requires.room in
-    has-staged _ _ puts c.self.invariant (rw (← c.self.view_is) at c.requires.settled) (rw c.deref-2.ensures.0 at c.add.ensures.whole) c.requires.txn
-    (rw (← c.self.view_is) at c.requires.fit) free c.add.ensures.rise c.add-2.ensures.rise (record {
-      phase = rw (← c.self.view_is) at c.requires.settled;
+    let needs = rw (← c.self.view_is) at c.requires in
+    has-staged _ _ puts c.self.invariant needs.settled (rw c.deref-2.ensures.0 at c.add.ensures.whole) c.requires.txn
+    needs.fit needs.room c.add.ensures.rise c.add-2.ensures.rise (record {
+      phase = needs.settled;
       extent = rw (c.extent_after-self-inside.ensures, c.deref.ensures.0);
       in_use = ap (λ (n : ℕ). c.self.inside.sealed + n) (rw (c.entry_count.ensures, c.as_slice.ensures.all));
       waiting = rw (c.add.ensures.kept, c.deref-2.ensures.0);
