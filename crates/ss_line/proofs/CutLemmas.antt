@@ -1,7 +1,6 @@
 -- An entry less in a line that is held, and another in place of one.
-use Rattle.std.proofs.Common.{◌≡◌, ◌≢◌, ◌∙◌, sym, ap, refl, subst, ℕ, zero, suc, ◌+◌, ◌≤◌, nat_eq, nat_lt, List, ◌∷◌}
-use Rattle.std.proofs.Common.{length}
-use Rattle.std.proofs.Common.{count_by, arith, set, inl, inr, get_or, Some, vec_capacity}
+use Rattle.std.proofs.Common.{◌≡◌, ◌≢◌, ◌∙◌, sym, ap, refl, ℕ, zero, suc, ◌+◌, ◌≤◌, nat_eq, nat_lt, List, ◌∷◌, length, count_by, arith, set, inl, inr, get_or}
+use Rattle.std.proofs.Common.{Some, vec_capacity}
 use Rattle.std.proofs.lemmas.Bool.{eq-eqb, cases_eq, cases_lt}
 use Rattle.std.proofs.lemmas.List.{length-set}
 use Rattle.std.proofs.lemmas.List.Edits.{length-remove}
@@ -14,10 +13,9 @@ use Rattle.ss_line.specs.declared.chain.Chain.{Chain}
 use Rattle.ss_line.specs.Line.{LineState, StandsIn, is_at, index_of, place_at, place_before}
 use Rattle.ss_line.specs.Chain.{node_entry, behind_in, before_in, Links, GivesBack, WritesEntry}
 use Rattle.ss_line.specs.Held.{IsHeld}
-use Rattle.ss_line.proofs.IndexLemmas.{counted, entry_there, place_at-index, not_placed, not_before, one_index, place_at-differ, place_before-differ}
-use Rattle.ss_line.proofs.IndexLemmas.{nothing, place_at-set, place_before-set}
-use Rattle.ss_line.proofs.IndexLemmas.{slice_get-remove_below, slice_get-remove_above, place_at-remove_below, place_at-remove_above}
-use Rattle.ss_line.proofs.IndexLemmas.{place_before-remove_below, place_before-remove_above, slice_get-set_same, slice_get-set_other}
+use Rattle.ss_line.proofs.IndexLemmas.{counted, entry_there, place_at-index, not_placed, not_before, one_index, place_at-differ, place_before-differ, nothing}
+use Rattle.ss_line.proofs.IndexLemmas.{place_at-set, place_before-set, slice_get-remove_below, slice_get-remove_above, place_at-remove_below}
+use Rattle.ss_line.proofs.IndexLemmas.{place_at-remove_above, place_before-remove_below, place_before-remove_above, slice_get-set_same, slice_get-set_other}
 use Rattle.ss_line.proofs.HeldLemmas.{one, one-le, is_place, apart}
 
 module _ (line : LineState) (old : Chain) (len : ℕ) (held : IsHeld line old len) (at : At) (stands : StandsIn line.entries at) where
@@ -128,7 +126,7 @@ module _ (line : LineState) (old : Chain) (len : ℕ) (held : IsHeld line old le
           | inl here ↦ (
               let same : (at, entry) ≡ e = (let there = slice_get-set_same line.entries index (at, entry) stands in
               let read = ap (slice_get with_entry) here in cc) in
-              subst (λ (e : At × Entry). node_entry new e.0 ≡ Some e.1) same writes.there)
+              rw (← same) writes.there)
           | inr other ↦ (
               let was = sym (slice_get-set_other line.entries index k (at, entry) other) ∙ is in
               writes.entries e.0 (λ same. absurd (other (one_index (is_at at) line.entries k index e _ was (entry_there line.entries at stands).1

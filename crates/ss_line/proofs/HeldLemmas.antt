@@ -1,7 +1,6 @@
 -- A line as it is held: what is read in it, and what each change leaves.
-use Rattle.std.proofs.Common.{◌≡◌, ◌∙◌, sym, ap, refl, subst, ℕ, zero, suc, ◌+◌, ◌<◌, ◌≤◌, Bool, true, false, cond, nat_eq, nat_lt}
-use Rattle.std.proofs.Common.{List, [], ◌∷◌, length}
-use Rattle.std.proofs.Common.{count_by, arith, get_or, inl, inr, Option, Some, None, IfSome}
+use Rattle.std.proofs.Common.{◌≡◌, ◌∙◌, sym, ap, refl, ℕ, zero, suc, ◌+◌, ◌<◌, ◌≤◌, Bool, true, false, cond, nat_eq, nat_lt, List, [], ◌∷◌, length, count_by}
+use Rattle.std.proofs.Common.{arith, get_or, inl, inr, Option, Some, None, IfSome}
 use Rattle.std.proofs.lemmas.Bool.{eq-eqb, cases_lt, cond-false, le-ltb}
 use Rattle.std.proofs.lemmas.List.Folds.{find_at}
 use Rattle.std.proofs.lemmas.Option.{slice_get-get_or, slice_get_read}
@@ -54,8 +53,7 @@ entries_from-linked chain (entry ∷ entries) kept linked =
 -- a join of the places that these are
 pub Links-same : (old new : Chain) (before behind left right : Option At) → before ≡ left → behind ≡ right → Links old before behind new →
     Links old left right new
-Links-same old new before behind left right same_left same_right joins =
-    subst (λ (o : Option At). Links old o right new) same_left (subst (λ (o : Option At). Links old before o new) same_right joins)
+Links-same old new before behind left right same_left same_right joins = rw (same_right, same_left) at joins
 
 -- an empty line is held by no place
 module _ (chain : Chain) (none : HasNoPlace chain) where
@@ -96,7 +94,7 @@ module _ (line : LineState) (chain : Chain) (len : ℕ) (held : IsHeld line chai
 
   -- so it is held by its own reading
   pub IsHeld-line_of : IsHeld (line_of chain len line.spare) chain len
-  IsHeld-line_of = subst (λ (l : LineState). IsHeld l chain len) (sym line_of-held) held
+  IsHeld-line_of = rw line_of-held held
 
   pub apart : (at : At) → count_by (is_at at) line.entries ≤ 1
   apart at = omega (arith, held.once at, one-le (nat_lt at.0 (length chain.nodes.items)))

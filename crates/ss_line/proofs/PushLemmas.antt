@@ -1,7 +1,6 @@
 -- An entry more in a line that is held.
-use Rattle.std.proofs.Common.{◌≡◌, ◌≢◌, ◌∙◌, sym, ap, refl, subst, ℕ, suc, ◌+◌, ◌<◌, ◌≤◌, nat_eq, nat_lt, List, [], ◌∷◌}
-use Rattle.std.proofs.Common.{◌++◌, length}
-use Rattle.std.proofs.Common.{count_by, arith, inl, inr, length-append, Option, Some, None, IfSome, IsSome, ◌⊎◌, vec_capacity}
+use Rattle.std.proofs.Common.{◌≡◌, ◌≢◌, ◌∙◌, sym, ap, refl, ℕ, suc, ◌+◌, ◌<◌, ◌≤◌, nat_eq, nat_lt, List, [], ◌∷◌, ◌++◌, length, count_by, arith, inl, inr}
+use Rattle.std.proofs.Common.{length-append, Option, Some, None, IfSome, IsSome, ◌⊎◌, vec_capacity}
 use Rattle.std.proofs.lemmas.Bool.{eq-eqb, ne_eqb, cases_eq, cases_lt, cond-true, cond-false, lt-ltb, le-ltb}
 use Rattle.std.proofs.lemmas.List.Sums.{sum_by-cons, sum_by_push}
 use Rattle.std.proofs.lemmas.Option.{slice_get_within}
@@ -11,7 +10,7 @@ use Rattle.ss_line.specs.declared.entry.At.{At}
 use Rattle.ss_line.specs.declared.entry.Entry.{Entry}
 use Rattle.ss_line.specs.declared.chain.Chain.{Chain}
 use Rattle.ss_line.specs.Line.{LineState, StandsIn, is_at, place_before}
-use Rattle.ss_line.specs.Chain.{HasNode, node_entry, behind_in, before_in, Links, TakesPlace}
+use Rattle.ss_line.specs.Chain.{HasNode, behind_in, before_in, Links, TakesPlace}
 use Rattle.ss_line.specs.Held.{IsHeld}
 use Rattle.ss_line.proofs.IndexLemmas.{counted, entry_there, place_at-past, not_placed, not_before, place_at-differ, place_before-differ}
 use Rattle.ss_line.proofs.IndexLemmas.{slice_get-append_below, slice_get-append_last, place_at-push_below, place_at-push_last, place_at-push_past}
@@ -70,7 +69,7 @@ module _ (line : LineState) (old : Chain) (len : ℕ) (held : IsHeld line old le
   room_or_free (free ∷ frees) is = inl refl
 
   pub place-room : IsSome old.free ⊎ (length old.nodes.items < vec_capacity old.nodes)
-  place-room = subst (λ (o : Option At). IsSome o ⊎ (length old.nodes.items < vec_capacity old.nodes)) (sym held.free) (room_or_free held.frees refl)
+  place-room = rw held.free (room_or_free held.frees refl)
 
   module _ (entry : Entry) (at : At) (new : Chain) (takes : TakesPlace old entry at new) where
     -- what is known where these are the free places
@@ -124,12 +123,7 @@ module _ (line : LineState) (old : Chain) (len : ℕ) (held : IsHeld line old le
 
     pub IsTaken-place : IsTaken line old at new
     IsTaken-place =
-        taken-free held.frees refl
-        (subst (λ (o : Option At). MatchOption o (at.0 ≡ length old.nodes.items) (λ free. at ≡ free)) held.free takes.place)
-        (subst (λ (o : Option At). MatchOption o (new.free ≡ None) (λ free. new.free ≡ behind_in old (Some free))) held.free takes.free)
-        (subst (λ (o : Option At). MatchOption o (length new.nodes.items ≡ length old.nodes.items + 1)
-        (λ free. length new.nodes.items ≡ length old.nodes.items))
-        held.free takes.nodes)
+        taken-free held.frees refl (rw held.free at takes.place) (rw held.free at takes.free) (rw held.free at takes.nodes)
 
     -- no entry stands there
     pub place-fresh : ¬ StandsIn line.entries at
@@ -186,7 +180,7 @@ module _ (line : LineState) (old : Chain) (len : ℕ) (held : IsHeld line old le
               | inr past ↦ (
                   let here : k ≡ n = omega (arith, past, more, slice_get_within _ k e is) in
                   let same : (at, entry) ≡ e = (let there = slice_get-append_last line.entries (at, entry) k here in cc) in
-                  subst (λ (e : At × Entry). node_entry ended e.0 ≡ Some e.1) same (ends.entries at ∙ joins.entries at ∙ takes.there))
+                  rw (← same) (ends.entries at ∙ joins.entries at ∙ takes.there))
             ];
             behind = λ k le. elim (cases_lt k n) [
               | inl lt ↦ ap (behind_in ended) (place_before-push line.entries (at, entry) k (omega (arith, lt))) ∙

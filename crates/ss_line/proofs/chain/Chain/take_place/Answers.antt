@@ -1,5 +1,4 @@
-use Rattle.std.proofs.Common.{◌≡◌, ◌≢◌, ◌∙◌, sym, ap, arith, refl, subst, ◌+◌, ◌++◌, ◌∷◌, [], ℕ, List, length, length-append}
-use Rattle.std.proofs.Common.{slice_get, Option, Some, None, is_ok}
+use Rattle.std.proofs.Common.{◌≡◌, ◌≢◌, ◌∙◌, sym, ap, arith, refl, subst, ◌++◌, ◌∷◌, [], ℕ, List, length, length-append, slice_get, Option, Some, None, is_ok}
 use Rattle.std.proofs.lemmas.Bool.{cond-true}
 use Rattle.std.specs.Option.{option_and_then, MatchOption}
 use Rattle.ss_line.specs.declared.entry.At.{At}
@@ -40,10 +39,8 @@ returns-in-None c =
       entries = λ other differ. ap (option_and_then (λ (n : Node). Some n.entry)) (others other differ);
       behind = λ other differ. behind-kept old new at others other refl differ;
       before = λ other differ. before-kept old new at others other refl differ;
-      place = subst (λ (o : Option At). MatchOption o (c.len.result ≡ length old.nodes.items) (λ free. at ≡ free)) (sym c.in-None.is) end;
+      place = rw c.in-None.is end;
       free = subst (λ (o : Option At). MatchOption o (old.free ≡ None) (λ free. old.free ≡ behind_in old (Some free))) (sym c.in-None.is) c.in-None.is;
-      nodes = subst (λ (o : Option At). MatchOption o (length c.push.new.self.items ≡ length old.nodes.items + 1)
-          (λ free. length c.push.new.self.items ≡ length old.nodes.items)) (sym c.in-None.is)
-          (omega (arith, ap length pushed, length-append old.nodes.items (node ∷ [])));
+      nodes = rw c.in-None.is (omega (arith, ap length pushed, length-append old.nodes.items (node ∷ [])));
       capacity = omega (arith, c.push.ensures.capacity);
     }
