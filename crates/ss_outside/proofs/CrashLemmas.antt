@@ -1,5 +1,5 @@
 -- How "a crash at any moment" goes on from call to call.
-use Rattle.std.proofs.Common.{inl, inr, ◌⊎◌, ⊎_elim, ℕ, List, refl, ◌∙◌, subst, sym, arith}
+use Rattle.std.proofs.Common.{inl, inr, ◌⊎◌, ⊎_elim, ℕ, List, refl, ◌∙◌, sym, arith}
 use Rattle.ss_outside.specs.Crash.{Elapses, KnowsNow, OnlyReads, LeavesOnly}
 use Rattle.ss_outside.specs.Disk.{Told, Torn, BecomesPending, StaysSame, NothingPending}
 
@@ -12,7 +12,7 @@ after_write at count old new P (inr none) stays torn image is = stays image ((no
 
 -- with nothing pending, a property of the content is one of each image
 pub of_content : (disk : Told) (P : List ℕ → Type 0) → NothingPending disk → P disk.content → (image : List ℕ) → disk.may_leave image → P image
-of_content disk P only has image is = subst P (sym (only image is)) has
+of_content disk P only has image is = rw (only image is) has
 
 -- before the first call
 pub at_start : (disk : Told) (P : List ℕ → Type 0) → KnowsNow disk → ((image : List ℕ) → disk.may_leave image → P image) → LeavesOnly disk disk P

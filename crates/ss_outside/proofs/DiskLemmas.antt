@@ -1,5 +1,5 @@
 -- What may stand on a disk after its calls.
-use Rattle.std.proofs.Common.{◌≡◌, ◌⊎◌, inl, inr, ℕ, ◌+◌, ◌-◌, ◌<◌, ◌≤◌, min, max, List, [], ◌∷◌, length, get_or, map, cond, refl, sym, ◌∙◌, subst, arith}
+use Rattle.std.proofs.Common.{◌≡◌, ◌⊎◌, inl, inr, ℕ, ◌+◌, ◌-◌, ◌<◌, ◌≤◌, min, max, List, [], ◌∷◌, length, get_or, map, cond, refl, sym, ◌∙◌, arith}
 use lib.Dec.{ltb}
 use Rattle.std.specs.Prelude.{EachIndex}
 use Rattle.std.specs.List.{range_with_len}
@@ -114,8 +114,7 @@ module _ (content bytes : List ℕ) (at : ℕ) (within : at ≤ length content) 
     ]
     | inr is ↦
         let there : at + (place - at) ≡ place = omega (arith, is.0) in
-        let same = subst (λ p. get_or (overwrite content at bytes) p 0 ≡ get_or bytes (place - at) 0) there
-        (get_or-overwrite_inside (place - at) (omega (arith, is.0, is.1))) in
+        let same = rw there at (get_or-overwrite_inside (place - at) (omega (arith, is.0, is.1))) in
         omega (arith, same, new_bytes (place - at) (omega (arith, is.0, is.1)))
   ]
 

@@ -1,5 +1,5 @@
 -- What the calls of a disk in memory leave, as every disk says it.
-use Rattle.std.proofs.Common.{◌≡◌, ◌⊎◌, inl, inr, ⊎_elim, ℕ, ◌+◌, List, [], ◌∷◌, length, Result, Ok, Err, refl, sym, ◌∙◌, ap, subst, arith}
+use Rattle.std.proofs.Common.{◌≡◌, ◌⊎◌, inl, inr, ⊎_elim, ℕ, ◌+◌, List, [], ◌∷◌, length, Result, Ok, Err, refl, sym, ◌∙◌, ap, arith}
 use Rattle.std.specs.Prelude.{IsErr, OnOk, OnErr, MatchResult}
 use Rattle.ss_outside.proofs.CrashLemmas.{reads-none}
 use Rattle.ss_outside.proofs.DiskLemmas.{only_image, torn_is_image, image_is_torn}
@@ -16,7 +16,7 @@ stepped s call = replay-append (fresh s.start) s.changes (call ∷ [])
 
 -- each image is one of the disk model
 in_model : (s : DiskState) → IsConsistent s → (image : List ℕ) → Leaves s image → IsImage s.synced s.pending s.longest image
-in_model s sound image (inl same) = subst (IsImage s.synced s.pending s.longest) (sym same) sound.own
+in_model s sound image (inl same) = rw same sound.own
 in_model s sound image (inr model) = model
 
 module _ (old new : MemDiskState) where
@@ -28,12 +28,12 @@ module _ (old new : MemDiskState) where
         → good_syncs new.changes ≡ good_syncs old.changes → BecomesPending at (length bytes) (told_by old) (told_by new)
     pends content sound_old sound_new is same = let s = now old in record {
       nothing_else = λ image left.
-          let model = subst (λ (t : DiskState). IsImage t.synced t.pending t.longest image) is (in_model (now new) sound_new image left) in
+          let model = rw is at (in_model (now new) sound_new image left) in
           let from = image_is_torn s.synced s.pending s.longest at (length bytes) image sound_old.bytes sound_old.short model in
           (from.0, inr from.1, from.2);
       each = λ was image left torn.
           let model = torn_is_image s.synced s.pending s.longest at (length bytes) was image (in_model s sound_old was left) torn in
-          inr (subst (λ (t : DiskState). IsImage t.synced t.pending t.longest image) (sym is) model);
+          inr (rw is model);
       syncs = same;
     }
 
@@ -46,21 +46,20 @@ module _ (old new : MemDiskState) where
     pending_written sound_old sound_new (Err e) none (inl tore) =
         inl (pends _ sound_old sound_new (ap now tore.1 ∙ stepped (failed old) (Tore at (length bytes)))
         (omega (arith, ap (λ (s : MemDiskState). good_syncs s.changes) tore.1, good_syncs-push old.changes (Tore at (length bytes)))))
-    pending_written sound_old sound_new (Err e) none (inr short) =
-        inr (refl, subst (λ (s : MemDiskState). StaysSame (told_by old) (told_by s)) (sym short.1) (reads-none (told_by old)).same)
+    pending_written sound_old sound_new (Err e) none (inr short) = inr (refl, rw short.1 (reads-none (told_by old)).same)
 
     pub time_written : (result : Result (Unit {0}) Failed) → OnOk result (new ≡ with_change (answered old) (Wrote at bytes))
         → OnErr result ((IsListed old × (new ≡ with_change (failed old) (Tore at (length bytes)))) ⊎ (¬ Suffices old (length bytes) × (new ≡ starved old)))
         → Elapses (told_by old) (told_by new)
-    time_written (Ok done) is none = subst (λ (s : MemDiskState). Elapses (told_by old) (told_by s)) (sym is) (time_push old (Wrote at bytes))
-    time_written (Err e) none (inl tore) = subst (λ (s : MemDiskState). Elapses (told_by old) (told_by s)) (sym tore.1) (time_push old (Tore at (length bytes)))
-    time_written (Err e) none (inr short) = subst (λ (s : MemDiskState). Elapses (told_by old) (told_by s)) (sym short.1) (reads-none (told_by old)).time
+    time_written (Ok done) is none = rw is (time_push old (Wrote at bytes))
+    time_written (Err e) none (inl tore) = rw tore.1 (time_push old (Tore at (length bytes)))
+    time_written (Err e) none (inr short) = rw short.1 (reads-none (told_by old)).time
 
   pub time_synced : (result : Result (Unit {0}) Failed) → OnOk result (¬ IsListed old × (new ≡ with_change (answered old) Synced))
       → OnErr result ((IsListed old × (new ≡ failed old)) ⊎ (¬ IsListed old × ¬ Suffices old 0 × (new ≡ starved old))) → Elapses (told_by old) (told_by new)
-  time_synced (Ok done) is none = subst (λ (s : MemDiskState). Elapses (told_by old) (told_by s)) (sym is.1) (time_push old Synced)
-  time_synced (Err e) none (inl listed) = subst (λ (s : MemDiskState). Elapses (told_by old) (told_by s)) (sym listed.1) (reads-none (told_by old)).time
-  time_synced (Err e) none (inr short) = subst (λ (s : MemDiskState). Elapses (told_by old) (told_by s)) (sym short.2) (reads-none (told_by old)).time
+  time_synced (Ok done) is none = rw is.1 (time_push old Synced)
+  time_synced (Err e) none (inl listed) = rw listed.1 (reads-none (told_by old)).time
+  time_synced (Err e) none (inr short) = rw short.2 (reads-none (told_by old)).time
 
   pub state_synced : (result : Result (Unit {0}) Failed) → OnOk result (¬ IsListed old × (new ≡ with_change (answered old) Synced))
       → OnErr result ((IsListed old × (new ≡ failed old)) ⊎ (¬ IsListed old × ¬ Suffices old 0 × (new ≡ starved old))) →
@@ -81,7 +80,7 @@ module _ (old new : MemDiskState) where
   content_synced (Err e) is = ap (λ (s : DiskState). s.content) is
 
   only_content : now new ≡ fresh (now old).content → (image : List ℕ) → Leaves (now new) image → image ≡ (now old).content
-  only_content is image left = ⊎_elim (λ same. same) (only_image (now old).content image) (subst (λ (s : DiskState). Leaves s image) is left)
+  only_content is image left = ⊎_elim (λ same. same) (only_image (now old).content image) (rw is at left)
 
   pub durable_synced : (result : Result (Unit {0}) Failed) → MatchResult result (λ _. now new ≡ fresh (now old).content) (λ _. now new ≡ now old)
       → OnOk result (NothingPending (told_by new))
@@ -91,11 +90,11 @@ module _ (old new : MemDiskState) where
   pub no_other_synced : (result : Result (Unit {0}) Failed) → MatchResult result (λ _. now new ≡ fresh (now old).content) (λ _. now new ≡ now old)
       → (image : List ℕ) → (told_by new).may_leave image → (told_by old).may_leave image
   no_other_synced (Ok done) is image left = inl (only_content is image left)
-  no_other_synced (Err e) is image left = subst (λ (s : DiskState). Leaves s image) is left
+  no_other_synced (Err e) is image left = rw is at left
 
   pub same_synced : (result : Result (Unit {0}) Failed)
       → OnErr result ((IsListed old × (new ≡ failed old)) ⊎ (¬ IsListed old × ¬ Suffices old 0 × (new ≡ starved old)))
       → OnErr result (StaysSame (told_by old) (told_by new))
   same_synced (Ok done) none = tt
-  same_synced (Err e) (inl listed) = subst (λ (s : MemDiskState). StaysSame (told_by old) (told_by s)) (sym listed.1) (reads-none (told_by old)).same
-  same_synced (Err e) (inr short) = subst (λ (s : MemDiskState). StaysSame (told_by old) (told_by s)) (sym short.2) (reads-none (told_by old)).same
+  same_synced (Err e) (inl listed) = rw listed.1 (reads-none (told_by old)).same
+  same_synced (Err e) (inr short) = rw short.2 (reads-none (told_by old)).same

@@ -1,5 +1,5 @@
 -- What the calls of a disk in memory keep.
-use Rattle.std.proofs.Common.{◌≡◌, ℕ, ◌+◌, ◌-◌, ◌≤◌, List, [], ◌∷◌, ◌++◌, length, take, drop, refl, sym, ◌∙◌, ap, subst, arith}
+use Rattle.std.proofs.Common.{◌≡◌, ℕ, ◌+◌, ◌-◌, ◌≤◌, List, [], ◌∷◌, ◌++◌, length, take, drop, refl, sym, ◌∙◌, ap, arith}
 use Rattle.std.proofs.lemmas.List.{take-append-drop}
 use Rattle.ss_outside.specs.Disk.{overwrite, AreBytes, Torn}
 use Rattle.ss_outside.specs.MemDisk.{DiskCall, Wrote, Tore, Synced, DiskState, fresh, pend, step, replay, IsConsistent}
@@ -27,7 +27,7 @@ module _ (start : List ℕ) (calls after : List DiskCall) (held : List ℕ) (sou
       → (held ≡ (replay (fresh start) after).content) × IsConsistent (replay (fresh start) after)
   kept_more call is holds then =
       let more = ap (replay (fresh start)) is ∙ replay-append (fresh start) calls (call ∷ []) in
-      (holds ∙ sym (ap (λ (s : DiskState). s.content) more), subst IsConsistent (sym more) then)
+      (holds ∙ sym (ap (λ (s : DiskState). s.content) more), rw more then)
 
   pub kept_wrote : (at : ℕ) (bytes : List ℕ) → after ≡ calls ++ Wrote at bytes ∷ [] → held ≡ overwrite (replay (fresh start) calls).content at bytes →
       at ≤ length (replay (fresh start) calls).content → AreBytes bytes

@@ -1,6 +1,6 @@
 -- How a disk in memory goes on from call to call.
 use Rattle.std.proofs.Common.{◌≡◌, ◌⊎◌, inl, inr, ℕ, zero, suc, ◌+◌, ◌<◌, ◌≤◌, max, List, [], ◌∷◌, ◌++◌, length, length-append, add-zero, get_or, map}
-use Rattle.std.proofs.Common.{filter, take, drop, refl, sym, ◌∙◌, ap, subst, arith}
+use Rattle.std.proofs.Common.{filter, take, drop, refl, sym, ◌∙◌, ap, arith}
 use Rattle.std.specs.Prelude.{All}
 use Rattle.std.proofs.lemmas.Bool.{cases_lt}
 use Rattle.std.proofs.lemmas.List.{take-append-le, drop-append-le, take_all, drop_at, take_more, get_or-map, length-map, length_push, length-take-le}
@@ -60,7 +60,7 @@ synced-write s Synced is = absurd is
 pub counts_sync : (calls : List DiskCall) → CountsToSync (length calls + 1) (calls ++ Synced ∷ [])
 counts_sync calls = record {
   within = omega (arith, length_push calls Synced);
-  since = subst AreWrites (sym (drop_all (length calls + 1) (calls ++ Synced ∷ []) (omega (arith, length_push calls Synced)))) tt;
+  since = rw (drop_all (length calls + 1) (calls ++ Synced ∷ []) (omega (arith, length_push calls Synced))) tt;
   nothing_pending = λ start.
       ap (replay (fresh start)) (take_all (length calls + 1) (calls ++ Synced ∷ []) (omega (arith, length_push calls Synced))) ∙
       replay-append (fresh start) calls (Synced ∷ [])
@@ -71,7 +71,7 @@ pub counts_write : (synced : ℕ) (calls : List DiskCall) (call : DiskCall) → 
     CountsToSync synced (calls ++ call ∷ [])
 counts_write synced calls call is write = record {
   within = omega (arith, is.within, length_push calls call);
-  since = subst AreWrites (sym (drop-append-le synced calls (call ∷ []) is.within)) (AreWrites-push (drop synced calls) call is.since write);
+  since = rw (drop-append-le synced calls (call ∷ []) is.within) (AreWrites-push (drop synced calls) call is.since write);
   nothing_pending = λ start.
       ap (replay (fresh start)) (take-append-le synced calls (call ∷ []) is.within) ∙ is.nothing_pending start
       ∙ ap fresh (sym (ap (λ (s : DiskState). s.synced) (replay-append (fresh start) calls (call ∷ [])) ∙
@@ -119,9 +119,7 @@ good_syncs-push calls call =
 module _ (pool : List ℕ) (changes : List Change) (calls : List DiskCall) (kept : map (call_of pool) changes ≡ calls) (k : ℕ) (lt : k < length changes)
     (d : Change) where
   calls_more : take (k + 1) calls ≡ take k calls ++ call_of pool (get_or changes k d) ∷ []
-  calls_more =
-      subst (λ (l : List DiskCall). take (k + 1) l ≡ take k l ++ call_of pool (get_or changes k d) ∷ []) kept
-      (take_more (map (call_of pool) changes) k (call_of pool d) (omega (arith, lt, length-map changes (call_of pool)))
+  calls_more = rw kept at (take_more (map (call_of pool) changes) k (call_of pool d) (omega (arith, lt, length-map changes (call_of pool)))
       ∙ ap (λ (c : DiskCall). take k (map (call_of pool) changes) ++ c ∷ []) (get_or-map (call_of pool) changes k d (call_of pool d) lt))
 
   pub replay_more : (s : DiskState) (change : Change) → get_or changes k d ≡ change →
@@ -134,8 +132,7 @@ module _ (pool : List ℕ) (changes : List Change) (calls : List DiskCall) (kept
   counts_more_sync is =
       let more : take (k + 1) calls ≡ take k calls ++ Synced ∷ [] = calls_more ∙ ap (λ (c : Change). take k calls ++ call_of pool c ∷ []) is in
       let size : length (take k calls) ≡ k = length-take-le k calls (omega (arith, lt, ap length kept, length-map changes (call_of pool))) in
-      subst (λ (l : List DiskCall). CountsToSync (k + 1) l) (sym more)
-      (subst (λ (n : ℕ). CountsToSync (n + 1) (take k calls ++ Synced ∷ [])) size (counts_sync (take k calls)))
+      rw more (rw size at (counts_sync (take k calls)))
 
   pub syncs_more_sync : get_or changes k d ≡ Sync → good_syncs (take (k + 1) calls) ≡ good_syncs (take k calls) + 1
   syncs_more_sync is = ap good_syncs (calls_more ∙ ap (λ (c : Change). take k calls ++ call_of pool c ∷ []) is) ∙ good_syncs-push (take k calls) Synced
@@ -152,8 +149,7 @@ module _ (pool : List ℕ) (changes : List Change) (calls : List DiskCall) (kept
 
   pub counts_more_write : (synced : ℕ) → CountsToSync synced (take k calls) → (get_or changes k d ≡ Sync → ⊥) → CountsToSync synced (take (k + 1) calls)
   counts_more_write synced is other =
-      subst (λ (l : List DiskCall). CountsToSync synced l) (sym calls_more)
-      (counts_write synced (take k calls) (call_of pool (get_or changes k d)) is (write-unless_sync (get_or changes k d) other))
+      rw calls_more (counts_write synced (take k calls) (call_of pool (get_or changes k d)) is (write-unless_sync (get_or changes k d) other))
     where
       write-unless_sync : (change : Change) → (change ≡ Sync → ⊥) → AreWrites (call_of pool change ∷ [])
       write-unless_sync (Bytes at from count) other = tt
@@ -175,5 +171,5 @@ module _ (pool : List ℕ) (changes : List Change) (calls : List DiskCall) (kept
   pub no_sync : AreWrites calls → get_or changes k d ≡ Sync → ⊥
   no_sync are is =
       no_sync_at calls k (call_of pool d) are (omega (arith, lt, ap length kept, length-map changes (call_of pool)))
-      (subst (λ (l : List DiskCall). get_or l k (call_of pool d) ≡ Synced) kept (get_or-map (call_of pool) changes k d (call_of pool d) lt ∙
+      (rw kept at (get_or-map (call_of pool) changes k d (call_of pool d) lt ∙
       ap (call_of pool) is))

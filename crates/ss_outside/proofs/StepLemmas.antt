@@ -1,9 +1,9 @@
 -- Steps of a disk, one after another.
-use Rattle.std.proofs.Common.{◌≡◌, refl, ◌∙◌, subst, ℕ, List, Result, Ok, Err, ⊎_elim, arith}
+use Rattle.std.proofs.Common.{◌≡◌, refl, ◌∙◌, ℕ, List, Result, Ok, Err, ⊎_elim, arith}
 use Rattle.std.specs.Prelude.{IsTrue}
 use Rattle.ss_outside.specs.Disk.{DiskView, SyncsAtMost, Told}
 use Rattle.ss_outside.specs.Step.{Step, Syncs, WritesAt}
-use Rattle.ss_outside.specs.Verdict.{Verdict, Counted, fine}
+use Rattle.ss_outside.specs.Verdict.{Verdict, fine}
 use Rattle.ss_outside.specs.declared.source.Failed.{Failed}
 
 -- no call
@@ -19,7 +19,7 @@ module _ {old new : DiskView} {v : Verdict} {R S : Told → Told → Type 0} whe
   pub step-verdict : {w : Verdict} → v ≡ w → Step v old new R → (R old.told new.told → S old.told new.told) → Step w old new S
   step-verdict same step gives = record {
     tells = step.tells;
-    counted = subst (λ w. Counted w old.faults new.faults) same step.counted;
+    counted = rw same at step.counted;
     told = λ told. gives (step.told told);
   }
 
@@ -28,7 +28,7 @@ module _ {old mid new : DiskView} {v : Verdict} {R Q S : Told → Told → Type 
   pub step-then : Step fine old mid R → Step v mid new Q → (R old.told mid.told → Q mid.told new.told → S old.told new.told) → Step v old new S
   step-then first second joins = record {
     tells = second.tells ∙ first.tells;
-    counted = subst (λ before. Counted v before new.faults) first.counted second.counted;
+    counted = rw first.counted at second.counted;
     told = λ told. joins (first.told told) (second.told (first.tells ∙ told));
   }
 

@@ -1,5 +1,5 @@
 -- Rows that pin what each verdict says, and what is said of a disk that tells.
-use Rattle.std.proofs.Common.{◌≡◌, ℕ, ◌≤◌, List, IsTrue, Ok, Err, refl, sym, subst}
+use Rattle.std.proofs.Common.{◌≡◌, ℕ, ◌≤◌, List, IsTrue, Ok, Err, refl}
 use Rattle.ss_outside.specs.Disk.{DiskView, Told, Between, OfContent, WhereTold}
 use Rattle.ss_outside.specs.Step.{Step}
 use Rattle.ss_outside.specs.Verdict.{Verdict, Counted, IfChanged, IfUndone, IsFirm, OnFailed, OnFine, OnNoMemory, OnRefused, Rose, UnlessFailed}
@@ -85,7 +85,7 @@ module _ (old new : DiskView) where
   Between-tells R told has = has told
 
   Step-tells : (v : Verdict) (R : Told → Told → Type 0) → Step v old new R → IsTrue old.tells → IsTrue new.tells × R old.told new.told
-  Step-tells v R step told = (subst IsTrue (sym step.tells) told, step.told told)
+  Step-tells v R step told = (rw step.tells told, step.told told)
 
   Step-counted : (v : Verdict) (R : Told → Told → Type 0) → Step v old new R → Counted v old.faults new.faults
   Step-counted v R step = step.counted

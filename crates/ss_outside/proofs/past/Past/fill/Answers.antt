@@ -31,7 +31,7 @@ loop-change-preserved c =
           (fresh c.args.image.now.items) (Bytes w.in-Bytes.at w.in-Bytes.from w.in-Bytes.count) w.in-Bytes.is in
           let bytes = take w.in-Bytes.count (drop w.in-Bytes.from pool) in
           let room : LiesWithin (length pool) (Bytes w.in-Bytes.at w.in-Bytes.from w.in-Bytes.count) =
-          subst (LiesWithin (length pool)) w.in-Bytes.is (all c.loop-change.change-index (Bytes 0 0 0) c.loop-change-test.true) in
+          rw w.in-Bytes.is at (all c.loop-change.change-index (Bytes 0 0 0) c.loop-change-test.true) in
           let size : length bytes ≡ w.in-Bytes.count =
           omega (arith, room.0, length-take w.in-Bytes.count (drop w.in-Bytes.from pool), length-drop w.in-Bytes.from pool) in
           let content = overwrite before.content w.in-Bytes.at bytes in
