@@ -1,10 +1,11 @@
 -- A line of a session, by what it brings.
 use Rattle.ss_program.proofs.Common.{◌⊎◌, ◌≡◌, ℕ, ◌<◌, ◌++◌, List, [], ◌∷◌, length, Option, Some, None, Result, Ok, Err, refl, sym, ap, ◌∙◌, subst, arith}
-use Rattle.ss_program.proofs.Common.{append-nil, flat_map, IsTrue, OnOk, of_content, reads-none, KnowsNow, LeavesOnly, shown-sealed, DiskView, Told, RecordsState, shown_by}
-use Rattle.ss_program.proofs.Common.{said_line, Reply, TurnsHistory, StoreState, Stands, Amid, GoesAmid, IsAmid, Owed, StagesBrought, TakesBrought, TakesNone}
-use Rattle.ss_program.proofs.Common.{TakesTurn, amid, owed_by, with_text, IsOpen, Brought, History, history_after, nothing, text_said, IsAlone, HoldsTalk}
-use Rattle.ss_program.proofs.Common.{StandsAround, StandsWithin, StopsIn, appended, after_line, after_lines, text_of, Talk, Turn, after_turn, silent}
-use Rattle.ss_program.proofs.Common.{turn_brought, turn_of, Cursors, Sealing, Each, Shared, Status, OutOfMemory, TakesStarved, Step, disk_verdict}
+use Rattle.ss_program.proofs.Common.{append-nil, flat_map, IsTrue, OnOk, of_content, reads-none, KnowsNow, LeavesOnly, shown-sealed, DiskView, Told}
+use Rattle.ss_program.proofs.Common.{RecordsState, shown_by, said_line, Reply, TurnsHistory, StoreState, Stands, Amid, GoesAmid, IsAmid, Owed, StagesBrought}
+use Rattle.ss_program.proofs.Common.{TakesBrought, TakesNone, TakesTurn, amid, owed_by, with_text, IsOpen, Brought, History, history_after, nothing}
+use Rattle.ss_program.proofs.Common.{text_said, IsAlone, HoldsTalk, StandsAround, StandsWithin, StopsIn, appended, after_line, after_lines, text_of, Talk}
+use Rattle.ss_program.proofs.Common.{Turn, after_turn, silent, turn_brought, turn_of, Cursors, Sealing, Each, Shared, Status, OutOfMemory, TakesStarved, Step}
+use Rattle.ss_program.proofs.Common.{disk_verdict}
 use Rattle.ss_program.proofs.AmidLemmas.{GoesAmid-none, Takes-next, Takes-then, said-all}
 use Rattle.ss_program.proofs.SealLemmas.{line-moments, line-owed, line-stopped}
 use Rattle.ss_program.proofs.SessionLemmas.{StopsIn-more, after_lines-push, moments-more, text_of-one, text_of-push}

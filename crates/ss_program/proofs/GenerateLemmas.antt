@@ -52,7 +52,8 @@ single-commands seed count =
     (tt, single-append (of_rounds seed count) (queries (time seed count)) (single-rounds seed count) (tt, (tt, (tt, (tt, (tt, (tt, tt)))))))
 
 -- a conversation of plain lines stays one
-plain_over-lines : (used : Option ℕ) (history : History) (ls : List (List ℕ)) → after_lines (plain_over used history) ls ≡ plain_over used (plain_after history ls)
+plain_over-lines : (used : Option ℕ) (history : History) (ls : List (List ℕ)) →
+    after_lines (plain_over used history) ls ≡ plain_over used (plain_after history ls)
 plain_over-lines used history [] = refl
 plain_over-lines used history (line ∷ ls) = plain_over-lines used (history_after history (brings history line)) ls
 

@@ -17,9 +17,10 @@ loop-command-init g c =
       refused = omega (arith, lines, refused);
       is_open = c.requires.open;
       at = step-none disk (λ old now. NothingPending old → (used : Option ℕ) (history : History) → StandsShort used history old.content →
-          IsAt used history c.args.seed c.args.count c.new-generator.result c.args.store.now.records old now c.new-tally.result) (λ told none used history stands.
-          IsAt-start used history c.args.seed c.args.count c.new-generator.result c.args.store.now.records disk.told c.new-tally.result c.new-generator.ensures.commands
-          (g.met.D.Disk.knows_now c.args.disk.now told) none c.requires.open.sealed stands c.new-tally.ensures);
+          IsAt used history c.args.seed c.args.count c.new-generator.result c.args.store.now.records old now c.new-tally.result)
+          (λ told none used history stands.
+          IsAt-start used history c.args.seed c.args.count c.new-generator.result c.args.store.now.records disk.told c.new-tally.result
+          c.new-generator.ensures.commands (g.met.D.Disk.knows_now c.args.disk.now told) none c.requires.open.sealed stands c.new-tally.ensures);
     }
 
 pub loop-command-preserved : goal.loop-command-preserved
@@ -40,8 +41,8 @@ loop-command-preserved g c =
       };
       at = step-third inv.at stages seals (λ told at staged sealed none used history stands.
           IsAt-more c.in-Some.command (at none used history stands) next c.in-Some.ensures.sayable c.in_ok-reply.reply
-          (g.met.D.Disk.knows_now c.stage_command.new.disk told) staged (g.met.D.Disk.knows_now c.seal.new.disk (seals.tells ∙ told)) c.in-Ok.field-0 c.take.new.self sealed.history
-          c.in-Ok.ensures.sealed.sealed c.take.ensures.tallies);
+          (g.met.D.Disk.knows_now c.stage_command.new.disk told) staged
+          (g.met.D.Disk.knows_now c.seal.new.disk (seals.tells ∙ told)) c.in-Ok.field-0 c.take.new.self sealed.history c.in-Ok.ensures.sealed.sealed c.take.ensures.tallies);
     }
 
 pub returns-in_err-reply-clause-runs : goal.returns-in_err-reply-clause-runs
