@@ -132,7 +132,7 @@ pub use Rattle.ss_program.specs.Sent.{appended, AppendsLess, Sends, SaysLine, Ap
 pub use Rattle.ss_program.specs.Series.{AnswersQuery, IsSeriesText}
 pub use Rattle.ss_program.specs.Session.{plain_after, text_of, after_lines, after_line, accepted, report, report_so_far, replies, NoneCreates}
 pub use Rattle.ss_program.specs.Status.{IsApplyStop, IsDiskStop, IsShowStop, IsStop, EndsAs, EndsServing, disk_verdict, exit_number, sink_verdict}
-pub use Rattle.ss_program.specs.Status.{source_verdict, ended}
+pub use Rattle.ss_program.specs.Status.{source_verdict, ended, Continues}
 pub use Rattle.ss_program.specs.Steps.{steps, kept_so_far, kept_step, steps_so_far, is_in_pieces}
 pub use Rattle.ss_program.specs.Talk.{plain_talk, Talk, turn_of, Turn, after_turn, silent, turn_brought, begun, begun_over, is_framed, kept_spoken, meant_turn}
 pub use Rattle.ss_program.specs.Talk.{turn_in, turn_spoken, writing, event_turn, plain_over, turn_to, kept_framed, kept_offered, kept_turn, turn_said}

@@ -3,7 +3,8 @@ use Rattle.ss_program.proofs.Common.{◌≡◌, ℕ, Bool, List, Option, Ok, Err
 use Rattle.ss_program.proofs.Common.{step-none, OnlyReads, DiskView, OfContent, Step, Counted, fine, verdict, Failed}
 use Rattle.ss_program.proofs.Common.{StoreState, Stands, IsOpen, Shows, at_sink, over, History, appended}
 use Rattle.ss_program.proofs.Common.{AppendsLess, Puts, Sends, IsApplyStop, IsDiskStop, IsShowStop, disk_verdict, ended, sink_verdict, Status, Done, Usage}
-use Rattle.ss_program.proofs.Common.{RefusedStore, DiskFault, SourceFault, SinkFault, OutOfMemory, InputLimit, RecordChanged, OnOk}
+use Rattle.ss_program.proofs.AnswerLemmas.{IsStop-apply, IsStop-show}
+use Rattle.ss_program.proofs.Common.{Continues, IsStop, RefusedStore, DiskFault, SourceFault, SinkFault, OutOfMemory, InputLimit, RecordChanged, OnOk}
 
 -- the disk was only read, and then a text was sent
 pub Shows-sent : (text : History → List ℕ → Type 0) (old new : DiskView) (store : StoreState) (before after : Option (List ℕ)) (had has : ℕ)
@@ -107,3 +108,18 @@ show-memory tells result stop is = grind (arith, common_steps)
 -- the sink's count where a call of the store stopped the run
 pub apply-counted : (tells : Bool) (n : ℕ) (status : Status) → IsApplyStop tells status → Counted (sink_verdict status) n n
 apply-counted tells n status stop = grind (arith, common_steps)
+
+-- so the run stops there
+pub Continues-apply : {T then : Type 0} (tells : Bool) (n : ℕ) (status : Status) → IsApplyStop tells status →
+    Continues {T = T} IsStop tells n n then (Err status)
+Continues-apply tells n status stop = record { ready = tt; status = IsStop-apply tells status stop; counted = apply-counted tells n status stop }
+
+-- what stops the run where something is said stops it where an event is done
+pub Continues-shown : {then : Type 0} {had has : ℕ} (result : Result (Unit {0}) Status) (mid old : Bool) → mid ≡ old →
+    Continues IsShowStop mid had has then result → Continues IsStop old had has then result
+Continues-shown (Ok u) mid old same goes = record { ready = goes.ready; status = tt; counted = goes.counted }
+Continues-shown (Err status) mid old same goes = record {
+  ready = tt;
+  status = IsStop-show old status (subst (λ (t : Bool). IsShowStop t status) same goes.status);
+  counted = goes.counted;
+}

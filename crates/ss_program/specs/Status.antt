@@ -1,6 +1,6 @@
 -- The exit statuses.
-use Rattle.std.specs.Prelude.{◌≡◌, ℕ, Bool, IsTrue, Result, Ok, Err, ⊤}
-use Rattle.ss_outside.specs.Verdict.{Verdict, failed, fine}
+use Rattle.std.specs.Prelude.{◌≡◌, ℕ, Bool, IsTrue, Result, Ok, Err, IfErr, OnOk, ⊤}
+use Rattle.ss_outside.specs.Verdict.{Counted, Verdict, failed, fine}
 use Rattle.ss_program.specs.declared.status.Status.{Status}
 use Rattle.ss_program.specs.declared.status.Status.TheVariants.{
   Done,
@@ -71,6 +71,12 @@ sink_verdict status = fine
 abbrev pub ended : {T : Type 0} → Result T Status → Status
 ended (Ok value) = Done
 ended (Err status) = status
+
+-- The run goes on after a call, and this is so then, or it stops with a status that has its cause. The sink's count goes by the answer.
+pub record Continues {T : Type 0} (stop : Bool → Status → Type 0) (tells : Bool) (had has : ℕ) (then : Type 0) (result : Result T Status) : Type 0 where
+  pub ready : OnOk result then
+  pub status : IfErr result (stop tells)
+  pub counted : Counted (sink_verdict (ended result)) had has
 
 -- a number is that of a status
 abbrev pub EndsAs : ℕ → Status → Type 0

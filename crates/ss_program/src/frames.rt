@@ -1,14 +1,13 @@
 // Frames: a line whose event is written as its frame, and a frame whose event is applied.
-ghost use Rattle.std.specs.Prelude.{◌≡◌, ◌≤◌, length, None, Some, IfErr, IfSome, OnOk};
+ghost use Rattle.std.specs.Prelude.{◌≡◌, ◌≤◌, length, None, Some, IfSome};
 ghost use Rattle.ss_catalog.specs.Events.{IsInTime};
 ghost use Rattle.ss_command.specs.Grammar.{meaning};
 ghost use Rattle.ss_command.specs.Printed.{IsCommandInTime};
 ghost use Rattle.ss_frames.specs.Frame.{frame_in};
 ghost use Rattle.ss_outside.specs.Step.{Step};
-ghost use Rattle.ss_outside.specs.Verdict.{Counted};
 ghost use Rattle.ss_program.specs.Amid.{HasRoomForReply, IsReadyToServe, TakesBrought, TakesTurn, amid, owed_by};
 ghost use Rattle.ss_program.specs.Line.{event_asked, frame_brings};
-ghost use Rattle.ss_program.specs.Status.{disk_verdict, ended, sink_verdict, IsStop};
+ghost use Rattle.ss_program.specs.Status.{Continues, disk_verdict, ended, IsStop};
 ghost use Rattle.ss_program.specs.Talk.{event_turn, meant_turn};
 ghost use Rattle.ss_sessions.specs.Cursors.{Cursors};
 
@@ -37,9 +36,8 @@ fn write_event_frame<D: Disk, K: Sink>(
     ensures takes { (cursors : Cursors) → Step (disk_verdict (ended result)) (D.seen disk.old) (D.seen disk.new)
         (TakesTurn (λ talk. event_turn talk event.now) (amid store.old.records (owed_by waiting.old) (K.held sink.old) cursors)
         (amid store.new.records (owed_by waiting.new) (K.held sink.new) cursors) result) }
-    ensures ready { OnOk result (IsReadyToServe (D.seen disk.new) store.new waiting.new) }
-    ensures status { IfErr result (IsStop (D.seen disk.old).tells) }
-    ensures counted { Counted (sink_verdict (ended result)) (K.faults sink.old) (K.faults sink.new) }
+    ensures continues { Continues IsStop (D.seen disk.old).tells (K.faults sink.old) (K.faults sink.new)
+        (IsReadyToServe (D.seen disk.new) store.new waiting.new) result }
 {
     if let Event::Drop { .. } = event {
         return Ok(());
@@ -91,9 +89,8 @@ pub fn write_line_frame<D: Disk, K: Sink>(
     ensures takes { (cursors : Cursors) → Step (disk_verdict (ended result)) (D.seen disk.old) (D.seen disk.new)
         (TakesTurn (λ talk. meant_turn talk (meaning line.now)) (amid store.old.records (owed_by waiting.old) (K.held sink.old) cursors)
         (amid store.new.records (owed_by waiting.new) (K.held sink.new) cursors) result) }
-    ensures ready { OnOk result (IsReadyToServe (D.seen disk.new) store.new waiting.new) }
-    ensures status { IfErr result (IsStop (D.seen disk.old).tells) }
-    ensures counted { Counted (sink_verdict (ended result)) (K.faults sink.old) (K.faults sink.new) }
+    ensures continues { Continues IsStop (D.seen disk.old).tells (K.faults sink.old) (K.faults sink.new)
+        (IsReadyToServe (D.seen disk.new) store.new waiting.new) result }
 {
     match parse(line) {
         Ok(Some(command)) => match event_of(&command) {
@@ -118,9 +115,8 @@ fn offer_frame<D: Disk, K: Sink>(
     ensures takes { Step (disk_verdict (ended result)) (D.seen disk.old) (D.seen disk.new)
         (TakesBrought None (λ history. frame_brings history (Some frame.now)) (amid store.old.records (owed_by waiting.old) (K.held sink.old))
         (amid store.new.records (owed_by waiting.new) (K.held sink.new)) result) }
-    ensures ready { OnOk result (IsReadyToServe (D.seen disk.new) store.new waiting.new) }
-    ensures status { IfErr result (IsStop (D.seen disk.old).tells) }
-    ensures counted { Counted (sink_verdict (ended result)) (K.faults sink.old) (K.faults sink.new) }
+    ensures continues { Continues IsStop (D.seen disk.old).tells (K.faults sink.old) (K.faults sink.new)
+        (IsReadyToServe (D.seen disk.new) store.new waiting.new) result }
 {
     match due(store, frame) {
         Due::Next => take_event(false, None, store, waiting, &frame.event, disk, sink),
@@ -142,9 +138,8 @@ pub fn take_offered<D: Disk, K: Sink>(
     ensures takes { Step (disk_verdict (ended result)) (D.seen disk.old) (D.seen disk.new)
         (TakesBrought None (λ history. frame_brings history (frame_in piece.now)) (amid store.old.records (owed_by waiting.old) (K.held sink.old))
         (amid store.new.records (owed_by waiting.new) (K.held sink.new)) result) }
-    ensures ready { OnOk result (IsReadyToServe (D.seen disk.new) store.new waiting.new) }
-    ensures status { IfErr result (IsStop (D.seen disk.old).tells) }
-    ensures counted { Counted (sink_verdict (ended result)) (K.faults sink.old) (K.faults sink.new) }
+    ensures continues { Continues IsStop (D.seen disk.old).tells (K.faults sink.old) (K.faults sink.new)
+        (IsReadyToServe (D.seen disk.new) store.new waiting.new) result }
 {
     match decode_piece(piece) {
         None => say_refusal(None, store, waiting, Refusal::Frame, disk, sink),

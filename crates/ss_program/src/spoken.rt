@@ -1,9 +1,8 @@
 // Lines by the form of their input: what a plain line says is done, and what a line of sessions says to one of these.
-ghost use Rattle.std.specs.Prelude.{◌<◌, ◌≤◌, length, None, IfErr, IfOk, IfSome, OnOk};
+ghost use Rattle.std.specs.Prelude.{◌<◌, ◌≤◌, length, None, IfOk, IfSome};
 ghost use Rattle.std.specs.Option.{option_copied};
 ghost use Rattle.ss_command.specs.Grammar.{meaning};
 ghost use Rattle.ss_outside.specs.Step.{Step};
-ghost use Rattle.ss_outside.specs.Verdict.{Counted};
 ghost use Rattle.ss_sessions.specs.Cursors.{Cursors};
 ghost use Rattle.ss_sessions.specs.Grammar.{spoken_of};
 ghost use Rattle.ss_sessions.specs.Said.{IsOrderInTime};
@@ -11,7 +10,7 @@ ghost use Rattle.ss_sessions.specs.declared.TheConstants.{SESSIONS};
 ghost use Rattle.ss_program.specs.Amid.{HasRoomForReply, IsReadyToServe, TakesBrought, TakesOrdered, TakesTurn, amid, owed_by};
 ghost use Rattle.ss_program.specs.Cursor.{close_brings, next_brings, open_brings, order_in};
 ghost use Rattle.ss_program.specs.Line.{meaning_in};
-ghost use Rattle.ss_program.specs.Status.{disk_verdict, ended, sink_verdict, IsStop};
+ghost use Rattle.ss_program.specs.Status.{Continues, disk_verdict, ended, IsStop};
 ghost use Rattle.ss_program.specs.Talk.{kept_turn, turn_spoken, turn_to};
 
 use crate::answer::at_sink;
@@ -45,9 +44,8 @@ fn take_open<D: Disk, K: Sink>(
         (TakesOrdered session (λ history cursors. open_brings history cursors session name.now)
         (amid store.old.records (owed_by waiting.old) (K.held sink.old) sessions.old)
         (amid store.new.records (owed_by waiting.new) (K.held sink.new) sessions.new) result) }
-    ensures ready { OnOk result (IsReadyToServe (D.seen disk.new) store.new waiting.new) }
-    ensures status { IfErr result (IsStop (D.seen disk.old).tells) }
-    ensures counted { Counted (sink_verdict (ended result)) (K.faults sink.old) (K.faults sink.new) }
+    ensures continues { Continues IsStop (D.seen disk.old).tells (K.faults sink.old) (K.faults sink.new)
+        (IsReadyToServe (D.seen disk.new) store.new waiting.new) result }
 {
     match open_cursor(sessions, session, store, name, disk) {
         Ok(reply) => say(Some(session), store, waiting, &reply, disk, sink),
@@ -74,9 +72,8 @@ fn take_next<D: Disk, K: Sink>(
         (TakesOrdered session (λ history cursors. next_brings cursors session count)
         (amid store.old.records (owed_by waiting.old) (K.held sink.old) sessions.old)
         (amid store.new.records (owed_by waiting.new) (K.held sink.new) sessions.new) result) }
-    ensures ready { OnOk result (IsReadyToServe (D.seen disk.new) store.new waiting.new) }
-    ensures status { IfErr result (IsStop (D.seen disk.old).tells) }
-    ensures counted { Counted (sink_verdict (ended result)) (K.faults sink.old) (K.faults sink.new) }
+    ensures continues { Continues IsStop (D.seen disk.old).tells (K.faults sink.old) (K.faults sink.new)
+        (IsReadyToServe (D.seen disk.new) store.new waiting.new) result }
 {
     flush(store, waiting, disk, sink)?;
     at_sink(show_next(sessions, session, count, sink))
@@ -98,9 +95,8 @@ fn take_close<D: Disk, K: Sink>(
         (TakesOrdered session (λ history cursors. close_brings cursors session)
         (amid store.old.records (owed_by waiting.old) (K.held sink.old) sessions.old)
         (amid store.new.records (owed_by waiting.new) (K.held sink.new) sessions.new) result) }
-    ensures ready { OnOk result (IsReadyToServe (D.seen disk.new) store.new waiting.new) }
-    ensures status { IfErr result (IsStop (D.seen disk.old).tells) }
-    ensures counted { Counted (sink_verdict (ended result)) (K.faults sink.old) (K.faults sink.new) }
+    ensures continues { Continues IsStop (D.seen disk.old).tells (K.faults sink.old) (K.faults sink.new)
+        (IsReadyToServe (D.seen disk.new) store.new waiting.new) result }
 {
     let reply = close_cursor(sessions, session);
     say(Some(session), store, waiting, &reply, disk, sink)
@@ -125,9 +121,8 @@ fn take_order<D: Disk, K: Sink>(
         (TakesOrdered session (λ history cursors. order_in framed history cursors session order.now)
         (amid store.old.records (owed_by waiting.old) (K.held sink.old) sessions.old)
         (amid store.new.records (owed_by waiting.new) (K.held sink.new) sessions.new) result) }
-    ensures ready { OnOk result (IsReadyToServe (D.seen disk.new) store.new waiting.new) }
-    ensures status { IfErr result (IsStop (D.seen disk.old).tells) }
-    ensures counted { Counted (sink_verdict (ended result)) (K.faults sink.old) (K.faults sink.new) }
+    ensures continues { Continues IsStop (D.seen disk.old).tells (K.faults sink.old) (K.faults sink.new)
+        (IsReadyToServe (D.seen disk.new) store.new waiting.new) result }
 {
     match order {
         Order::Command(command) => {
@@ -157,9 +152,8 @@ fn take_said<D: Disk, K: Sink>(
     ensures takes { Step (disk_verdict (ended result)) (D.seen disk.old) (D.seen disk.new) (TakesTurn (λ talk. turn_to framed session talk said)
         (amid store.old.records (owed_by waiting.old) (K.held sink.old) sessions.old)
         (amid store.new.records (owed_by waiting.new) (K.held sink.new) sessions.new) result) }
-    ensures ready { OnOk result (IsReadyToServe (D.seen disk.new) store.new waiting.new) }
-    ensures status { IfErr result (IsStop (D.seen disk.old).tells) }
-    ensures counted { Counted (sink_verdict (ended result)) (K.faults sink.old) (K.faults sink.new) }
+    ensures continues { Continues IsStop (D.seen disk.old).tells (K.faults sink.old) (K.faults sink.new)
+        (IsReadyToServe (D.seen disk.new) store.new waiting.new) result }
 {
     match said {
         Err(refusal) => say_refusal(Some(session), store, waiting, refusal, disk, sink),
@@ -186,9 +180,8 @@ fn take_spoken<D: Disk, K: Sink>(
     ensures takes { Step (disk_verdict (ended result)) (D.seen disk.old) (D.seen disk.new) (TakesTurn (λ talk. turn_spoken framed talk (spoken_of line.now))
         (amid store.old.records (owed_by waiting.old) (K.held sink.old) sessions.old)
         (amid store.new.records (owed_by waiting.new) (K.held sink.new) sessions.new) result) }
-    ensures ready { OnOk result (IsReadyToServe (D.seen disk.new) store.new waiting.new) }
-    ensures status { IfErr result (IsStop (D.seen disk.old).tells) }
-    ensures counted { Counted (sink_verdict (ended result)) (K.faults sink.old) (K.faults sink.new) }
+    ensures continues { Continues IsStop (D.seen disk.old).tells (K.faults sink.old) (K.faults sink.new)
+        (IsReadyToServe (D.seen disk.new) store.new waiting.new) result }
 {
     match read_spoken(line) {
         Spoken::Nothing => Ok(()),
@@ -214,9 +207,8 @@ fn take_plain<D: Disk, K: Sink>(
     ensures takes { Step (disk_verdict (ended result)) (D.seen disk.old) (D.seen disk.new)
         (TakesBrought None (λ history. meaning_in framed history (meaning line.now)) (amid store.old.records (owed_by waiting.old) (K.held sink.old))
         (amid store.new.records (owed_by waiting.new) (K.held sink.new)) result) }
-    ensures ready { OnOk result (IsReadyToServe (D.seen disk.new) store.new waiting.new) }
-    ensures status { IfErr result (IsStop (D.seen disk.old).tells) }
-    ensures counted { Counted (sink_verdict (ended result)) (K.faults sink.old) (K.faults sink.new) }
+    ensures continues { Continues IsStop (D.seen disk.old).tells (K.faults sink.old) (K.faults sink.new)
+        (IsReadyToServe (D.seen disk.new) store.new waiting.new) result }
 {
     match parse(line) {
         Err(refusal) => say_refusal(None, store, waiting, refusal, disk, sink),
@@ -238,9 +230,8 @@ fn take_long<D: Disk, K: Sink>(
     ensures takes { (cursors : Cursors) → Step (disk_verdict (ended result)) (D.seen disk.old) (D.seen disk.new) (TakesTurn (kept_turn form None)
         (amid store.old.records (owed_by waiting.old) (K.held sink.old) cursors)
         (amid store.new.records (owed_by waiting.new) (K.held sink.new) cursors) result) }
-    ensures ready { OnOk result (IsReadyToServe (D.seen disk.new) store.new waiting.new) }
-    ensures status { IfErr result (IsStop (D.seen disk.old).tells) }
-    ensures counted { Counted (sink_verdict (ended result)) (K.faults sink.old) (K.faults sink.new) }
+    ensures continues { Continues IsStop (D.seen disk.old).tells (K.faults sink.old) (K.faults sink.new)
+        (IsReadyToServe (D.seen disk.new) store.new waiting.new) result }
 {
     match form {
         Form::Lines { .. } | Form::Sessions { .. } => {
@@ -266,9 +257,8 @@ fn take_line<D: Disk, K: Sink>(
     ensures takes { Step (disk_verdict (ended result)) (D.seen disk.old) (D.seen disk.new) (TakesTurn (kept_turn form (option_copied line.entry))
         (amid store.old.records (owed_by waiting.old) (K.held sink.old) sessions.old)
         (amid store.new.records (owed_by waiting.new) (K.held sink.new) sessions.new) result) }
-    ensures ready { OnOk result (IsReadyToServe (D.seen disk.new) store.new waiting.new) }
-    ensures status { IfErr result (IsStop (D.seen disk.old).tells) }
-    ensures counted { Counted (sink_verdict (ended result)) (K.faults sink.old) (K.faults sink.new) }
+    ensures continues { Continues IsStop (D.seen disk.old).tells (K.faults sink.old) (K.faults sink.new)
+        (IsReadyToServe (D.seen disk.new) store.new waiting.new) result }
 {
     let Some(line) = line else {
         return take_long(form, store, waiting, disk, sink);
@@ -298,9 +288,8 @@ pub fn stage_line<D: Disk, K: Sink>(
     ensures takes { Step (disk_verdict (ended result)) (D.seen disk.old) (D.seen disk.new) (TakesTurn (kept_turn form (option_copied line.entry))
         (amid store.old.records (owed_by waiting.old) (K.held sink.old) sessions.old)
         (amid store.new.records (owed_by waiting.new) (K.held sink.new) sessions.new) result) }
-    ensures ready { OnOk result (IsReadyToServe (D.seen disk.new) store.new waiting.new) }
-    ensures status { IfErr result (IsStop (D.seen disk.old).tells) }
-    ensures counted { Counted (sink_verdict (ended result)) (K.faults sink.old) (K.faults sink.new) }
+    ensures continues { Continues IsStop (D.seen disk.old).tells (K.faults sink.old) (K.faults sink.new)
+        (IsReadyToServe (D.seen disk.new) store.new waiting.new) result }
 {
     make_room(store, waiting, disk, sink)?;
     take_line(form, sessions, store, waiting, line, disk, sink)

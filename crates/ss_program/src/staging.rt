@@ -13,7 +13,7 @@ ghost use Rattle.ss_program.specs.Amid.{amid, owed_by, staged_replies, with_text
 ghost use Rattle.ss_program.specs.Answer.{HasRows, IsOpen, IsServing, question_command};
 ghost use Rattle.ss_program.specs.Line.{History, command_brings, command_in, refused, IsSpeaker};
 ghost use Rattle.ss_program.specs.Progress.{NoneWait};
-ghost use Rattle.ss_program.specs.Status.{disk_verdict, ended, sink_verdict, IsApplyStop, IsShowStop, IsStop};
+ghost use Rattle.ss_program.specs.Status.{Continues, disk_verdict, ended, sink_verdict, IsApplyStop, IsShowStop, IsStop};
 
 use crate::answer::{Question, ask, at_sink, show};
 use crate::replies::{LONGEST_REPLY, Replies};
@@ -40,10 +40,9 @@ fn send_waiting<D: Disk, K: Sink>(
     ensures takes { Step (disk_verdict (ended result)) (D.seen disk.old) (D.seen disk.new)
         (TakesNone (amid store.old.records (owed_by (Some waiting.old)) (K.held sink.old))
         (amid store.new.records (owed_by (Some waiting.new)) (K.held sink.new)) result) }
-    ensures open { OnOk result (IsOpen (D.seen disk.new) store.new) }
+    ensures continues { Continues IsShowStop (D.seen disk.old).tells (K.faults sink.old) (K.faults sink.new)
+        (IsOpen (D.seen disk.new) store.new) result }
     ensures none { OnOk result (waiting.new ≡ []) }
-    ensures status { IfErr result (IsShowStop (D.seen disk.old).tells) }
-    ensures counted { Counted (sink_verdict (ended result)) (K.faults sink.old) (K.faults sink.new) }
 {
     match store.seal(disk) {
         Err(_) => Err(Status::DiskFault),
@@ -66,10 +65,9 @@ pub fn flush<D: Disk, K: Sink>(
     ensures takes { Step (disk_verdict (ended result)) (D.seen disk.old) (D.seen disk.new)
         (TakesNone (amid store.old.records (owed_by waiting.old) (K.held sink.old))
         (amid store.new.records (owed_by waiting.new) (K.held sink.new)) result) }
-    ensures open { OnOk result (IsOpen (D.seen disk.new) store.new) }
+    ensures continues { Continues IsShowStop (D.seen disk.old).tells (K.faults sink.old) (K.faults sink.new)
+        (IsOpen (D.seen disk.new) store.new) result }
     ensures none { OnOk result (NoneWait waiting.new) }
-    ensures status { IfErr result (IsShowStop (D.seen disk.old).tells) }
-    ensures counted { Counted (sink_verdict (ended result)) (K.faults sink.old) (K.faults sink.new) }
 {
     match waiting {
         None => Ok(()),
@@ -118,10 +116,9 @@ pub fn make_room<D: Disk, K: Sink>(
     ensures takes { Step (disk_verdict (ended result)) (D.seen disk.old) (D.seen disk.new)
         (TakesNone (amid store.old.records (owed_by waiting.old) (K.held sink.old))
         (amid store.new.records (owed_by waiting.new) (K.held sink.new)) result) }
-    ensures ready { OnOk result (IsReadyToServe (D.seen disk.new) store.new waiting.new) }
+    ensures continues { Continues IsShowStop (D.seen disk.old).tells (K.faults sink.old) (K.faults sink.new)
+        (IsReadyToServe (D.seen disk.new) store.new waiting.new) result }
     ensures room { OnOk result (HasRoomForReply waiting.new) }
-    ensures status { IfErr result (IsShowStop (D.seen disk.old).tells) }
-    ensures counted { Counted (sink_verdict (ended result)) (K.faults sink.old) (K.faults sink.new) }
 {
     if has_room(waiting) {
         return Ok(());
@@ -141,9 +138,8 @@ fn send_sealed<D: Disk, K: Sink>(
     ensures takes { Step (disk_verdict (ended result)) (D.seen disk.old) (D.seen disk.new)
         (TakesNone (amid store.old.records (with_text (owed_by None) text.now) (K.held sink.old))
         (amid store.new.records (owed_by None) (K.held sink.new)) result) }
-    ensures open { OnOk result (IsOpen (D.seen disk.new) store.new) }
-    ensures status { IfErr result (IsShowStop (D.seen disk.old).tells) }
-    ensures counted { Counted (sink_verdict (ended result)) (K.faults sink.old) (K.faults sink.new) }
+    ensures continues { Continues IsShowStop (D.seen disk.old).tells (K.faults sink.old) (K.faults sink.new)
+        (IsOpen (D.seen disk.new) store.new) result }
 {
     match store.seal(disk) {
         Err(_) => Err(Status::DiskFault),
@@ -166,9 +162,8 @@ pub fn say_text<D: Disk, K: Sink>(
     ensures takes { Step (disk_verdict (ended result)) (D.seen disk.old) (D.seen disk.new)
         (TakesNone (amid store.old.records (with_text (owed_by waiting.old) text.now) (K.held sink.old))
         (amid store.new.records (owed_by waiting.new) (K.held sink.new)) result) }
-    ensures ready { OnOk result (IsReadyToServe (D.seen disk.new) store.new waiting.new) }
-    ensures status { IfErr result (IsShowStop (D.seen disk.old).tells) }
-    ensures counted { Counted (sink_verdict (ended result)) (K.faults sink.old) (K.faults sink.new) }
+    ensures continues { Continues IsShowStop (D.seen disk.old).tells (K.faults sink.old) (K.faults sink.new)
+        (IsReadyToServe (D.seen disk.new) store.new waiting.new) result }
 {
     match waiting {
         None => send_sealed(store, text, disk, sink),
@@ -194,9 +189,8 @@ pub fn say<D: Disk, K: Sink>(
     ensures takes { Step (disk_verdict (ended result)) (D.seen disk.old) (D.seen disk.new)
         (TakesNone (amid store.old.records (with_text (owed_by waiting.old) (said_line speaker reply.now)) (K.held sink.old))
         (amid store.new.records (owed_by waiting.new) (K.held sink.new)) result) }
-    ensures ready { OnOk result (IsReadyToServe (D.seen disk.new) store.new waiting.new) }
-    ensures status { IfErr result (IsShowStop (D.seen disk.old).tells) }
-    ensures counted { Counted (sink_verdict (ended result)) (K.faults sink.old) (K.faults sink.new) }
+    ensures continues { Continues IsShowStop (D.seen disk.old).tells (K.faults sink.old) (K.faults sink.new)
+        (IsReadyToServe (D.seen disk.new) store.new waiting.new) result }
 {
     let mut text = ArrayString::new();
     said_text(speaker, reply, &mut text);
@@ -276,9 +270,8 @@ fn say_staged<D: Disk, K: Sink>(
     ensures takes { Step (disk_verdict (ended result)) (D.seen disk.old) (D.seen disk.new)
         (TakesNone (amid store.old.records (with_text (owed_by waiting.old) (flat_map (said_line speaker) (staged_replies staged.now))) (K.held sink.old))
         (amid store.new.records (owed_by waiting.new) (K.held sink.new)) result) }
-    ensures ready { OnOk result (IsReadyToServe (D.seen disk.new) store.new waiting.new) }
-    ensures status { IfErr result (IsShowStop (D.seen disk.old).tells) }
-    ensures counted { Counted (sink_verdict (ended result)) (K.faults sink.old) (K.faults sink.new) }
+    ensures continues { Continues IsShowStop (D.seen disk.old).tells (K.faults sink.old) (K.faults sink.new)
+        (IsReadyToServe (D.seen disk.new) store.new waiting.new) result }
 {
     let Some(frame) = staged.frame else {
         return say(speaker, store, waiting, &staged.reply, disk, sink);
@@ -311,9 +304,8 @@ pub fn take_event<D: Disk, K: Sink>(
     ensures takes { Step (disk_verdict (ended result)) (D.seen disk.old) (D.seen disk.new)
         (TakesBrought speaker (λ history. command_in framed history (Do event.now)) (amid store.old.records (owed_by waiting.old) (K.held sink.old))
         (amid store.new.records (owed_by waiting.new) (K.held sink.new)) result) }
-    ensures ready { OnOk result (IsReadyToServe (D.seen disk.new) store.new waiting.new) }
-    ensures status { IfErr result (IsStop (D.seen disk.old).tells) }
-    ensures counted { Counted (sink_verdict (ended result)) (K.faults sink.old) (K.faults sink.new) }
+    ensures continues { Continues IsStop (D.seen disk.old).tells (K.faults sink.old) (K.faults sink.new)
+        (IsReadyToServe (D.seen disk.new) store.new waiting.new) result }
 {
     match stage_framed(framed, store, event, disk) {
         Ok(staged) => say_staged(speaker, store, waiting, &staged, disk, sink),
@@ -339,9 +331,8 @@ fn take_question<D: Disk, K: Sink>(
     ensures takes { Step (disk_verdict (ended result)) (D.seen disk.old) (D.seen disk.new)
         (TakesBrought speaker (λ history. command_brings history (question_command question.now)) (amid store.old.records (owed_by waiting.old) (K.held sink.old))
         (amid store.new.records (owed_by waiting.new) (K.held sink.new)) result) }
-    ensures ready { OnOk result (IsReadyToServe (D.seen disk.new) store.new waiting.new) }
-    ensures status { IfErr result (IsStop (D.seen disk.old).tells) }
-    ensures counted { Counted (sink_verdict (ended result)) (K.faults sink.old) (K.faults sink.new) }
+    ensures continues { Continues IsStop (D.seen disk.old).tells (K.faults sink.old) (K.faults sink.new)
+        (IsReadyToServe (D.seen disk.new) store.new waiting.new) result }
 {
     let reply = ask(store, question, disk)?;
     say(speaker, store, waiting, &reply, disk, sink)
@@ -363,9 +354,8 @@ fn show_rows<D: Disk, K: Sink>(
     ensures takes { Step (disk_verdict (ended result)) (D.seen disk.old) (D.seen disk.new)
         (TakesBrought speaker (λ history. command_brings history command.now) (amid store.old.records (owed_by waiting.old) (K.held sink.old))
         (amid store.new.records (owed_by waiting.new) (K.held sink.new)) result) }
-    ensures ready { OnOk result (IsReadyToServe (D.seen disk.new) store.new waiting.new) }
-    ensures status { IfErr result (IsStop (D.seen disk.old).tells) }
-    ensures counted { Counted (sink_verdict (ended result)) (K.faults sink.old) (K.faults sink.new) }
+    ensures continues { Continues IsStop (D.seen disk.old).tells (K.faults sink.old) (K.faults sink.new)
+        (IsReadyToServe (D.seen disk.new) store.new waiting.new) result }
 {
     flush(store, waiting, disk, sink)?;
     show(speaker, store, command, disk, sink)
@@ -388,9 +378,8 @@ pub fn take_command<D: Disk, K: Sink>(
     ensures takes { Step (disk_verdict (ended result)) (D.seen disk.old) (D.seen disk.new)
         (TakesBrought speaker (λ history. command_in framed history command.now) (amid store.old.records (owed_by waiting.old) (K.held sink.old))
         (amid store.new.records (owed_by waiting.new) (K.held sink.new)) result) }
-    ensures ready { OnOk result (IsReadyToServe (D.seen disk.new) store.new waiting.new) }
-    ensures status { IfErr result (IsStop (D.seen disk.old).tells) }
-    ensures counted { Counted (sink_verdict (ended result)) (K.faults sink.old) (K.faults sink.new) }
+    ensures continues { Continues IsStop (D.seen disk.old).tells (K.faults sink.old) (K.faults sink.new)
+        (IsReadyToServe (D.seen disk.new) store.new waiting.new) result }
 {
     match command {
         Command::Do(event) => take_event(framed, speaker, store, waiting, event, disk, sink),
@@ -433,9 +422,8 @@ pub fn say_refusal<D: Disk, K: Sink>(
     ensures takes { Step (disk_verdict (ended result)) (D.seen disk.old) (D.seen disk.new)
         (TakesBrought speaker (λ history. refused refusal) (amid store.old.records (owed_by waiting.old) (K.held sink.old))
         (amid store.new.records (owed_by waiting.new) (K.held sink.new)) result) }
-    ensures ready { OnOk result (IsReadyToServe (D.seen disk.new) store.new waiting.new) }
-    ensures status { IfErr result (IsStop (D.seen disk.old).tells) }
-    ensures counted { Counted (sink_verdict (ended result)) (K.faults sink.old) (K.faults sink.new) }
+    ensures continues { Continues IsStop (D.seen disk.old).tells (K.faults sink.old) (K.faults sink.new)
+        (IsReadyToServe (D.seen disk.new) store.new waiting.new) result }
 {
     say(
         speaker,

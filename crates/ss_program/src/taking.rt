@@ -1,5 +1,5 @@
 // Reads of the input: what each line or frame says that ends in one is done, and then all of it is brought to the disk.
-ghost use Rattle.std.specs.Prelude.{◌≡◌, ◌⊎◌, ◌↔◌, ◌<◌, ◌≤◌, [], true, length, take, IsSome, IfOk, IfErr, OnOk};
+ghost use Rattle.std.specs.Prelude.{◌≡◌, ◌⊎◌, ◌↔◌, ◌<◌, ◌≤◌, [], true, length, take, IsSome, IfOk, OnOk};
 ghost use Rattle.std.specs.Option.{option_copied};
 ghost use Rattle.ss_outside.specs.Step.{Step};
 ghost use Rattle.ss_outside.specs.Verdict.{Counted};
@@ -7,7 +7,7 @@ ghost use Rattle.ss_program.specs.Amid.{IsReadyToServe, TakesBytes, TakesLast, a
 ghost use Rattle.ss_program.specs.Answer.{IsOpen};
 ghost use Rattle.ss_program.specs.Progress.{EndsSession, NoneWait, TakesPiece};
 ghost use Rattle.ss_program.specs.Reading.{step_under_way};
-ghost use Rattle.ss_program.specs.Status.{disk_verdict, ended, sink_verdict, IsStop};
+ghost use Rattle.ss_program.specs.Status.{Continues, disk_verdict, ended, sink_verdict, IsStop};
 
 use crate::replies::Replies;
 use crate::spoken::stage_line;
@@ -48,10 +48,9 @@ fn advance<D: Disk, K: Sink>(
         (amid store.old.records (owed_by waiting.old) (K.held sink.old) sessions.old)
         (amid store.new.records (owed_by waiting.new) (K.held sink.new) sessions.new) result) }
     ensures count { IfOk result (λ count. (0 < count) × (count ≤ length piece.now)) }
-    ensures ready { OnOk result (IsReadyToServe (D.seen disk.new) store.new waiting.new) }
-    ensures status { IfErr result (IsStop (D.seen disk.old).tells) }
+    ensures continues { Continues IsStop (D.seen disk.old).tells (K.faults sink.old) (K.faults sink.new)
+        (IsReadyToServe (D.seen disk.new) store.new waiting.new) result }
     ensures form { reader.new.form ≡ reader.old.form }
-    ensures counted { Counted (sink_verdict (ended result)) (K.faults sink.old) (K.faults sink.new) }
 {
     let (count, ended) = reader.feed(piece);
     match ended {
@@ -86,10 +85,9 @@ fn take_lines<D: Disk, K: Sink>(
         (TakesBytes (λ _. piece.now) piece.now reader.old.form (step_under_way reader.old) (step_under_way reader.new)
         (amid store.old.records (owed_by waiting.old) (K.held sink.old) sessions.old)
         (amid store.new.records (owed_by waiting.new) (K.held sink.new) sessions.new) result) }
-    ensures ready { OnOk result (IsReadyToServe (D.seen disk.new) store.new waiting.new) }
-    ensures status { IfErr result (IsStop (D.seen disk.old).tells) }
+    ensures continues { Continues IsStop (D.seen disk.old).tells (K.faults sink.old) (K.faults sink.new)
+        (IsReadyToServe (D.seen disk.new) store.new waiting.new) result }
     ensures form { reader.new.form ≡ reader.old.form }
-    ensures counted { Counted (sink_verdict (ended result)) (K.faults sink.old) (K.faults sink.new) }
 {
     let mut done = 0;
     while done < piece.len() {
@@ -114,11 +112,10 @@ pub fn take_piece<D: Disk, K: Sink>(
         (record { form = reader.old.form; store = store.old; line = step_under_way reader.old; cursors = sessions.old; waiting = waiting.old })
         (record { form = reader.old.form; store = store.new; line = step_under_way reader.new; cursors = sessions.new; waiting = waiting.new })
         (K.held sink.old) (K.held sink.new) result) }
-    ensures open { OnOk result (IsOpen (D.seen disk.new) store.new) }
+    ensures continues { Continues IsStop (D.seen disk.old).tells (K.faults sink.old) (K.faults sink.new)
+        (IsOpen (D.seen disk.new) store.new) result }
     ensures none { OnOk result (NoneWait waiting.new) }
-    ensures status { IfErr result (IsStop (D.seen disk.old).tells) }
     ensures form { reader.new.form ≡ reader.old.form }
-    ensures counted { Counted (sink_verdict (ended result)) (K.faults sink.old) (K.faults sink.new) }
 {
     take_lines(sessions, store, reader, waiting, piece, disk, sink)?;
     flush(store, waiting, disk, sink)
@@ -137,10 +134,9 @@ fn take_last<D: Disk, K: Sink>(
     ensures takes { Step (disk_verdict (ended result)) (D.seen disk.old) (D.seen disk.new)
         (TakesLast reader.old.form (step_under_way reader.old) (amid store.old.records (owed_by waiting.old) (K.held sink.old) sessions.old)
         (amid store.new.records (owed_by waiting.new) (K.held sink.new) sessions.new) result) }
-    ensures ready { OnOk result (IsReadyToServe (D.seen disk.new) store.new waiting.new) }
-    ensures status { IfErr result (IsStop (D.seen disk.old).tells) }
+    ensures continues { Continues IsStop (D.seen disk.old).tells (K.faults sink.old) (K.faults sink.new)
+        (IsReadyToServe (D.seen disk.new) store.new waiting.new) result }
     ensures form { reader.new.form ≡ reader.old.form }
-    ensures counted { Counted (sink_verdict (ended result)) (K.faults sink.old) (K.faults sink.new) }
 {
     match reader.finish() {
         None => Ok(()),
@@ -169,11 +165,10 @@ fn end_lines<D: Disk, K: Sink>(
     ensures takes { Step (disk_verdict (ended result)) (D.seen disk.old) (D.seen disk.new)
         (TakesLast reader.old.form (step_under_way reader.old) (amid store.old.records (owed_by waiting.old) (K.held sink.old) sessions.old)
         (amid store.new.records (owed_by waiting.new) (K.held sink.new) sessions.new) result) }
-    ensures open { OnOk result (IsOpen (D.seen disk.new) store.new) }
+    ensures continues { Continues IsStop (D.seen disk.old).tells (K.faults sink.old) (K.faults sink.new)
+        (IsOpen (D.seen disk.new) store.new) result }
     ensures none { OnOk result (NoneWait waiting.new) }
-    ensures status { IfErr result (IsStop (D.seen disk.old).tells) }
     ensures form { reader.new.form ≡ reader.old.form }
-    ensures counted { Counted (sink_verdict (ended result)) (K.faults sink.old) (K.faults sink.new) }
 {
     take_last(sessions, store, reader, waiting, disk, sink)?;
     flush(store, waiting, disk, sink)

@@ -1,16 +1,10 @@
-use Rattle.ss_program.proofs.Common.{◌≡◌, ◌∙◌, Bool, true, IfErr, None, Err, Ok, Result, refl, sym, ap, subst, ◌∷◌, Do, Event, step-none, said_line, Reply}
-use Rattle.ss_program.proofs.Common.{TakesTurn, amid, owed_by, command_in, frame_replies, IsShowStop, IsStop, Talk, event_turn, Staged, Status}
-use Rattle.ss_program.proofs.AnswerLemmas.{IsStop-apply, IsStop-show}
+use Rattle.ss_program.proofs.Common.{◌∙◌, true, None, Err, Ok, Result, refl, sym, ap, ◌∷◌, Do, Event, step-none, said_line, Reply}
+use Rattle.ss_program.proofs.Common.{TakesTurn, amid, owed_by, command_in, frame_replies, Talk, event_turn, Staged, Status}
 use Rattle.ss_program.proofs.BroughtLemmas.{TakesTurn-owed, TakesTurn-said, TakesTurn-silent, TakesTurn-stopped, step-starved}
 use Rattle.ss_program.proofs.FrameLemmas.{Turns-answered, done-framed, drop-silent, refused-silent, same-written, says-frame, written-wants}
 use Rattle.ss_program.proofs.StepLemmas.{step-told, step-given}
-use Rattle.ss_program.proofs.TakesLemmas.{apply-counted}
+use Rattle.ss_program.proofs.TakesLemmas.{Continues-apply, Continues-shown}
 use Rattle.ss_program.proofs.frames.write_event_frame.Goals as goal
-
--- what stops the run where something is said stops it where an event is done
-show-stop : (result : Result (Unit {0}) Status) (mid old : Bool) → mid ≡ old → IfErr result (IsShowStop mid) → IfErr result (IsStop old)
-show-stop (Ok u) mid old same stop = tt
-show-stop (Err status) mid old same stop = IsStop-show old status (subst (λ (t : Bool). IsShowStop t status) same stop)
 
 pub returns-in-Drop-clause-takes : goal.returns-in-Drop-clause-takes
 returns-in-Drop-clause-takes g c cursors =
@@ -41,9 +35,7 @@ returns-in-Refused g c =
           TakesTurn-silent turn was waiting held cursors disk.told tt (g.met.D.Disk.knows_now c.args.disk.now told) (λ here stands.
           refused-silent here event c.in-Refused.field-0 (frame_replies staged.frame)
           ((stages.told told).replies here.history stands ∙ ap (λ (r : Reply). r ∷ frame_replies staged.frame) c.in-Refused.is))));
-      ready = rw (idle.1, idle.0) c.requires.ready;
-      status = tt;
-      counted = refl;
+      continues = record { ready = rw (idle.1, idle.0) c.requires.ready; status = tt; counted = refl };
     }
 
 pub returns-in-Some : goal.returns-in-Some
@@ -70,9 +62,7 @@ returns-in-Some g c =
           (λ here same stands.
           let says = says-frame here event frame staged.frame c.in-Some.is (first.frame refl here.history stands) in
           (says.0 ∙ sym c.encode_frame.ensures, says.1 ∙ same))) second);
-      ready = c.say_text.ensures.ready;
-      status = show-stop c.say_text.result mid.tells old.tells stages.tells c.say_text.ensures.status;
-      counted = c.say_text.ensures.counted;
+      continues = Continues-shown c.say_text.result mid.tells old.tells stages.tells c.say_text.ensures.continues;
     }
 
 pub returns-in-None : goal.returns-in-None
@@ -99,9 +89,7 @@ returns-in-None g c =
           (λ here same stands. absurd (done-framed here.history event reply c.in_default.not-Drop c.in_default-reply.not-Refused
           (first.replies here.history stands ∙ ap (λ f. reply ∷ frame_replies f) c.in-None.is)
           (sym c.in-None.is ∙ first.frame refl here.history stands)))) second);
-      ready = c.say.ensures.ready;
-      status = show-stop c.say.result mid.tells old.tells stages.tells c.say.ensures.status;
-      counted = c.say.ensures.counted;
+      continues = Continues-shown c.say.result mid.tells old.tells stages.tells c.say.ensures.continues;
     }
 
 pub returns-in-OutOfMemory-clause-takes : goal.returns-in-OutOfMemory-clause-takes
@@ -133,7 +121,5 @@ returns-in_default-status g c =
           (λ here stands. (written-wants here event c.in_default.not-Drop (c.in-Err.ensures.accepted told here.history stands)).1)
           (λ here. Turns-answered was is here.history old.told new.told (command_in true here.history (Do event)).event (event_turn here event).event
           result result (same-written here event c.in_default.not-Drop) (λ X has. has) (staged.turns here.history)));
-      ready = tt;
-      status = IsStop-apply old.tells status c.in-Err.ensures.status;
-      counted = apply-counted old.tells (g.K.Sink.faults c.args.sink.now) status c.in-Err.ensures.status;
+      continues = Continues-apply old.tells (g.K.Sink.faults c.args.sink.now) status c.in-Err.ensures.status;
     }

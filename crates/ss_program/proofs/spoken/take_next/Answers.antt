@@ -36,4 +36,4 @@ returns-clause-takes g c =
     (step-so flushed.takes (λ told first.
     TakesTurn-next before (λ (talk : Talk). turn_said (Some session) (next_brings talk.cursors session count)) tt (at_sink sent) first
     (TakesShown session count waiting held after before left mid.told sent (g.met.D.Disk.knows_now c.flush.new.disk told) flushed.none
-    (shown-sealed is.journal mid.told.content flushed.open.sealed) c.show_next.ensures.says.sends c.show_next.ensures.cursors))))
+    (shown-sealed is.journal mid.told.content flushed.continues.ready.sealed) c.show_next.ensures.says.sends c.show_next.ensures.cursors))))

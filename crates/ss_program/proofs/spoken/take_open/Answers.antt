@@ -1,9 +1,8 @@
 use Rattle.ss_program.proofs.Common.{◌∙◌, Some, sym, subst, StoreState, owed_by, open_brings, Talk, turn_said, ap, IsTrue}
-use Rattle.ss_program.proofs.AnswerLemmas.{IsStop-apply}
 use Rattle.ss_program.proofs.BroughtLemmas.{TakesTurn-said, step-starved}
 use Rattle.ss_program.proofs.OrderLemmas.{TakesOpened, TakesOpened-stopped}
 use Rattle.ss_program.proofs.StepLemmas.{step-told, step-given}
-use Rattle.ss_program.proofs.TakesLemmas.{apply-counted}
+use Rattle.ss_program.proofs.TakesLemmas.{Continues-apply}
 use Rattle.ss_program.proofs.CursorLemmas.{open-some}
 use Rattle.ss_program.proofs.spoken.take_open.Goals as goal
 
@@ -46,7 +45,5 @@ returns-in_default g c =
           (g.K.Sink.held c.args.sink.now) c.args.sessions.now old.told (g.D.Disk.seen c.open_cursor.new.disk).told
           (g.met.D.Disk.knows_now c.args.disk.now told) (g.met.D.Disk.knows_now c.open_cursor.new.disk (opens.tells ∙ told)) (owed_by waiting)
           c.open_cursor.new.sessions status c.in_default.not-OutOfMemory opened);
-      ready = tt;
-      status = IsStop-apply old.tells status c.in-Err.ensures.status;
-      counted = apply-counted old.tells (g.K.Sink.faults c.args.sink.now) status c.in-Err.ensures.status;
+      continues = Continues-apply old.tells (g.K.Sink.faults c.args.sink.now) status c.in-Err.ensures.status;
     }

@@ -25,7 +25,7 @@ returns-clause-takes g c =
     TakesBrought-next c.args.speaker (λ history. command_brings history command) tt result first (λ cursors.
     TakesTurn-put (λ talk. turn_brought c.args.speaker talk (command_brings talk.history command)) c.flush.new.waiting (g.K.Sink.held c.flush.new.sink)
     (g.K.Sink.held c.show.new.sink) cursors cursors mid.told new.told (g.met.D.Disk.knows_now c.flush.new.disk told) flushed.none
-    (shown-sealed c.flush.new.store.records.journal mid.told.content flushed.open.sealed) reads
+    (shown-sealed c.flush.new.store.records.journal mid.told.content flushed.continues.ready.sealed) reads
     (λ here there. rows-event here.history command c.requires.rows) result (show-memory mid.tells result shows.status)
     (shown-opened new c.show.new.store result shows.opens) (λ here there stands. shows.sends told here.history stands _ refl)
     (on_ok_weaker result (λ (is_open : IsOpen new c.show.new.store) (here : Talk) there. sym there) shows.opens)))

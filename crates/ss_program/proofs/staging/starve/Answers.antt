@@ -9,7 +9,7 @@ returns-in-Ok-clause-takes g c =
     let flushed = c.in-Ok.ensures in
     step-so flushed.takes (λ told takes cursors turn wants.
     TakesTurn-starved cursors turn (g.met.D.Disk.knows_now c.flush.new.disk told) (owed-nothing c.flush.new.waiting flushed.none)
-    (shown-sealed c.flush.new.store.records.journal (g.D.Disk.seen c.flush.new.disk).told.content flushed.open.sealed) wants takes)
+    (shown-sealed c.flush.new.store.records.journal (g.D.Disk.seen c.flush.new.disk).told.content flushed.continues.ready.sealed) wants takes)
 
 pub returns-in-Err-clause-takes : goal.returns-in-Err-clause-takes
 returns-in-Err-clause-takes g c =

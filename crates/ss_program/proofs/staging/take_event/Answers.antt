@@ -1,9 +1,9 @@
 use Rattle.ss_program.proofs.Common.{flat_map, ◌∙◌, ap, Do, refuses, state, owed_by, staged_replies, Staged, said_line, History, command_in, turn_brought}
-use Rattle.ss_program.proofs.AnswerLemmas.{IsStop-apply, event-some}
+use Rattle.ss_program.proofs.AnswerLemmas.{event-some}
 use Rattle.ss_program.proofs.BroughtLemmas.{TakesBrought-halted, TakesBrought-said, TakesBrought-text, step-starved}
 use Rattle.ss_program.proofs.FrameLemmas.{IsSome-framed}
 use Rattle.ss_program.proofs.StepLemmas.{step-told, step-given}
-use Rattle.ss_program.proofs.TakesLemmas.{apply-counted}
+use Rattle.ss_program.proofs.TakesLemmas.{Continues-apply}
 use Rattle.ss_program.proofs.staging.take_event.Goals as goal
 
 pub returns-in-Ok-clause-takes : goal.returns-in-Ok-clause-takes
@@ -44,7 +44,5 @@ returns-in_default g c =
           (g.met.D.Disk.knows_now c.stage_framed.new.disk (stages.tells ∙ told)) {T = Staged} (owed_by waiting) status c.in_default.not-OutOfMemory
           (λ history stands. event-some c.args.speaker c.args.framed history event (refuses (state history) event)
           (IsSome-framed c.args.framed history event (c.in-Err.ensures.accepted told history stands))) staged.turns);
-      ready = tt;
-      status = IsStop-apply old.tells status c.in-Err.ensures.status;
-      counted = apply-counted old.tells (g.K.Sink.faults c.args.sink.now) status c.in-Err.ensures.status;
+      continues = Continues-apply old.tells (g.K.Sink.faults c.args.sink.now) status c.in-Err.ensures.status;
     }

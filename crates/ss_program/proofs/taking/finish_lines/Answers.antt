@@ -13,7 +13,7 @@ returns-in-Ok-clause-ends g c =
     c.args.waiting.now (g.K.Sink.held c.args.sink.now) old
     (shown-sealed store.records.journal old.content c.requires.sealed) c.end_lines.new.sessions is c.end_lines.new.waiting
     (g.K.Sink.held c.end_lines.new.sink) new
-    (shown-sealed is.journal new.content c.in-Ok.ensures.open.sealed) c.in-Ok.ensures.none takes)
+    (shown-sealed is.journal new.content c.in-Ok.ensures.continues.ready.sealed) c.in-Ok.ensures.none takes)
 
 pub returns-in-Err-clause-ends : goal.returns-in-Err-clause-ends
 returns-in-Err-clause-ends g c =
@@ -24,4 +24,4 @@ returns-in-Err-clause-ends g c =
     step-as c.in-Err.ensures.takes (λ takes. EndsSession-stopped c.args.reader.now.form c.args.sessions.now store (step_under_way c.args.reader.now)
     c.args.waiting.now (g.K.Sink.held c.args.sink.now) old
     (shown-sealed store.records.journal old.content c.requires.sealed) c.end_lines.new.sessions c.end_lines.new.store.records c.end_lines.new.waiting
-    (g.K.Sink.held c.end_lines.new.sink) new c.in-Err.status (going-stop view.tells c.in-Err.status c.in-Err.ensures.status) takes)
+    (g.K.Sink.held c.end_lines.new.sink) new c.in-Err.status (going-stop view.tells c.in-Err.status c.in-Err.ensures.continues.status) takes)

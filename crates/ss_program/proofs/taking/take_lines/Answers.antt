@@ -29,7 +29,7 @@ loop-done-preserved g c =
     let count = c.in_ok-done.field-0 in
     record {
       fits = fits_more piece done count inv.fits c.in_ok-done.ensures.count.1;
-      ready = c.in_ok-done.ensures.ready;
+      ready = c.in_ok-done.ensures.continues.ready;
       on = step-then inv.on c.in_ok-done.ensures.takes (λ first second.
           OfAmid-more c.args.reader.now.form c.loop-done.reader.form inv.form (step_under_way c.args.reader.now) (step_under_way c.loop-done.reader) (step_under_way c.advance.new.reader)
           (amid c.args.store.now.records (owed_by c.args.waiting.now) (g.K.Sink.held c.args.sink.now) c.args.sessions.now)
@@ -38,7 +38,7 @@ loop-done-preserved g c =
           (g.D.Disk.seen c.args.disk.now).told (g.D.Disk.seen c.loop-done.disk).told (g.D.Disk.seen c.advance.new.disk).told piece done count first
           second.goes);
       form = c.in_ok-done.ensures.form ∙ inv.form;
-      faults = c.in_ok-done.ensures.counted ∙ inv.faults;
+      faults = c.in_ok-done.ensures.continues.counted ∙ inv.faults;
     }
 
 pub returns-in_err-done-clause-takes : goal.returns-in_err-done-clause-takes

@@ -33,4 +33,4 @@ returns-clause-takes g c =
     TakesPiece-sealed c.args.reader.now.form c.args.sessions.now store (step_under_way c.args.reader.now) c.args.waiting.now (g.K.Sink.held c.args.sink.now) old
     (shown-sealed store.records.journal old.content c.requires.sealed) c.take_lines.new.sessions is (step_under_way c.take_lines.new.reader) c.flush.new.waiting
     (g.K.Sink.held c.flush.new.sink) c.args.piece.now view.told mid between c.flush.result first second
-    (shown-opened view is c.flush.result c.flush.ensures.open) c.flush.ensures.none)
+    (shown-opened view is c.flush.result c.flush.ensures.continues.ready) c.flush.ensures.none)

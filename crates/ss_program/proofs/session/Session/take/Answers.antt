@@ -6,4 +6,4 @@ returns-clause-takes g c = rw (← c.self.view_is, c.take_piece.ensures.form) c.
 
 pub returns-clause-rests : goal.returns-clause-rests
 returns-clause-rests g c =
-    IsAtRest-ok c.take_piece.result (g.D.Disk.seen c.take_piece.new.disk) _ c.take_piece.ensures.open c.take_piece.ensures.none
+    IsAtRest-ok c.take_piece.result (g.D.Disk.seen c.take_piece.new.disk) _ c.take_piece.ensures.continues.ready c.take_piece.ensures.none
