@@ -1,7 +1,7 @@
 -- Worked rows of certificates, each computed from a history.
 use Rattle.ss_program.proofs.Common.{◌≡◌, ◌++◌, [], ◌∷◌, refl, ℕ, List, Some, Ok, codes, map, pos, negsuc, flat_map, Create, Value, exp, End, Query}
 use Rattle.ss_program.proofs.Common.{evidence_in, IsEvidence, end_asked, Evidence, lines, Happened, added, Stream, stream_named, OnlyReads, Told, seen_of}
-use Rattle.ss_program.proofs.Common.{Recovers, FindsEvidence, IsSharp, History, accepted, report, plain_talk}
+use Rattle.ss_program.proofs.Common.{Recovers, HasEvidence, ReadsAnswer, IsSharp, History, accepted, report, plain_talk}
 use Rattle.std.specs.Fmt.{digits}
 use Rattle.ss_bounds.specs.Attained.{greatest_sum_at, least_sum_at}
 use Rattle.ss_bounds.specs.Split.{sum_interval}
@@ -51,12 +51,9 @@ unfolding ended_lines unended meaning words is_number number_of number_up_to sig
 accepted-certifies = refl
 
 -- what is said of evidence that was found
-module _ (query : Query) (end : End) (w : Evidence) (old new : Told) (finds : FindsEvidence query end (Ok w) old new) where
+module _ (query : Query) (end : End) (w : Evidence) (old new : Told) (finds : ReadsAnswer (HasEvidence query end) (Ok w) old new) where
   finds-evidence : (streams : List Stream) → Recovers streams old.content → evidence_in streams query end ≡ Some w
-  finds-evidence = finds.evidence
-
-  finds-reads : OnlyReads old new
-  finds-reads = finds.reads
+  finds-evidence = finds.answer
 
 -- and of what it shows
 module _ (history : History) (query : Query) (end : End) (w : Evidence) (sharp : IsSharp history query end w) where

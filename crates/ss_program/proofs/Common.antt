@@ -103,10 +103,10 @@ pub use Rattle.ss_power.specs.Power.{power_length}
 pub use Rattle.ss_program.specs.Amid.{Amid, AreOwed, GoesAmid, HasRoomForReply, IsAmid, IsAtRest, IsReadyToServe, TakesFurther, TakesNone, one_line_more, owed_by, with_text, Owed}
 pub use Rattle.ss_program.specs.Amid.{StagesBrought, TakesBrought, TakesTurn, amid, OfAmid, TakesBytes, TakesLast, TakesOrdered, StagesFramed, staged_replies}
 pub use Rattle.ss_program.specs.Amid.{TakesStarved}
-pub use Rattle.ss_program.specs.Answer.{IsOpen, IsServing, at_sink, SendsRows, AsksQuery, Shows}
+pub use Rattle.ss_program.specs.Answer.{IsOpen, IsServing, at_sink, SendsRows, IsOneReply, ReadsAnswer, Shows}
 pub use Rattle.ss_program.specs.Answer.{IsTextBrought, IsRowsText, HasRows, question_command}
 pub use Rattle.ss_program.specs.Asked.{IsOrder, heard_of, rows_asked, IsAsked, NoneCloses, rows_asked_by, rows_asked_in}
-pub use Rattle.ss_program.specs.Certifying.{HasEvidence, FindsEvidence, IsSharp}
+pub use Rattle.ss_program.specs.Certifying.{HasEvidence, IsSharp}
 pub use Rattle.ss_program.specs.Chained.{AreLinked, Ending, Extends, ExtendsAll, IsLeftBy, IsLink, Link, acked_in, acked_till, by_crash, by_itself, offered_in}
 pub use Rattle.ss_program.specs.Chained.{accepted_of, acked_of}
 pub use Rattle.ss_program.specs.Checked.{ChecksStore, survey_line, Checks}
@@ -129,7 +129,7 @@ pub use Rattle.ss_program.specs.Progress.{StopsAmong, StandsAround, IsAlone, End
 pub use Rattle.ss_program.specs.Reading.{StepState, TellsStep, most_read, step_under_way}
 pub use Rattle.ss_program.specs.Refused.{AsRefused, refusal_line, status_of_open, SaysRefusal, RefusesStore}
 pub use Rattle.ss_program.specs.Sent.{appended, AppendsLess, Sends, SaysLine, AppendsFront, StopsSaying, Puts}
-pub use Rattle.ss_program.specs.Series.{AnswersQuery, IsSeriesText}
+pub use Rattle.ss_program.specs.Series.{IsAnswerIn, IsSeriesText}
 pub use Rattle.ss_program.specs.Session.{plain_after, text_of, after_lines, after_line, accepted, report, report_so_far, replies, NoneCreates}
 pub use Rattle.ss_program.specs.Status.{IsApplyStop, IsDiskStop, IsShowStop, IsStop, EndsAs, EndsServing, disk_verdict, exit_number, sink_verdict}
 pub use Rattle.ss_program.specs.Status.{source_verdict, ended, Continues}

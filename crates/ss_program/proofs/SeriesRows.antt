@@ -1,7 +1,7 @@
 -- Worked rows of series, each computed from a history.
 use Rattle.ss_program.proofs.Common.{◌≡◌, ◌++◌, [], ◌∷◌, refl, ℕ, List, Some, Ok, codes, map, pos, negsuc, flat_map, Create, Value, exp, Query}
 use Rattle.ss_catalog.specs.Series.{numbers_from}
-use Rattle.ss_program.proofs.Common.{lines, Happened, added, Outcome, OnlyReads, Told, Stands, History, AnswersQuery, accepted, report, plain_talk}
+use Rattle.ss_program.proofs.Common.{lines, Happened, added, Outcome, OnlyReads, Told, Stands, History, IsAnswerIn, ReadsAnswer, accepted, report, plain_talk}
 use Rattle.std.specs.Fmt.{digits}
 use Rattle.ss_bounds.specs.Split.{sum_interval}
 use Rattle.ss_catalog.specs.Names.{is_name}
@@ -46,7 +46,7 @@ unfolding ended_lines unended meaning words is_number number_of number_up_to sig
 accepted-series = refl
 
 -- what is said of a query of a row that was answered
-module _ (query : Query) (outcome : Outcome) (old new : Told) (answers : AnswersQuery query (Ok outcome) old new) where
+module _ (query : Query) (outcome : Outcome) (old new : Told) (answers : ReadsAnswer (IsAnswerIn query) (Ok outcome) old new) where
   answers-outcome : (history : History) → Stands history old.content → outcome_of (state history) query ≡ Some outcome
   answers-outcome = answers.answer
 

@@ -2,8 +2,8 @@
 use Rattle.ss_program.proofs.Common.{inl, inr, ◌⊎◌, ⊎_elim, ◌≡◌, ◌∙◌, ◌++◌, ◌∷◌, [], List, ℕ, Some, None, Result, Ok, Err, sym, ap, subst, false, on_ok_weaker}
 use Rattle.ss_program.proofs.Common.{◌↔◌, IsTrue, OnOk, Event, Refusal, Do, shown, added, refuses, state, Ack, nothing_pending-same, of_content, read_leaves}
 use Rattle.ss_program.proofs.Common.{weaker, KnowsNow, OnlyReads, DiskView, NothingPending, Told, RecordsState, shown_by, Reply, refuses-kept, StandsForEither}
-use Rattle.ss_program.proofs.Common.{TurnsHistory, StoreState, refuses_held, IsShort, StandsShort, Stands, ApplyError, AsksQuery, IsServing, Brought, History}
-use Rattle.ss_program.proofs.Common.{command_brings, history_after, StandsAround, StagesBrought, Status}
+use Rattle.ss_program.proofs.Common.{TurnsHistory, StoreState, refuses_held, IsShort, StandsShort, Stands, ApplyError, IsOneReply, ReadsAnswer, IsServing, Brought}
+use Rattle.ss_program.proofs.Common.{History, command_brings, history_after, StandsAround, StagesBrought, Status}
 use Rattle.ss_journal.proofs.TearLemmas.{on_ok}
 use Rattle.ss_program.proofs.AnswerLemmas.{brings-accepted, history-still, not_refused}
 use Rattle.ss_store.specs.declared.error.ApplyError.TheVariants as errors
@@ -67,14 +67,14 @@ module _ (was is : RecordsState) (history : History) (old new : Told) where
 
 -- a query is a line that brings no event
 pub Stages-asked : {was is : RecordsState} (brought : History → Brought) (result : Result Reply Status) (old new : Told) →
-    ((history : History) → (brought history).event ≡ None) → KnowsNow old → OnOk result (is.journal ≡ was.journal) → AsksQuery was brought result old new →
-    StagesBrought brought was is result old new
+    ((history : History) → (brought history).event ≡ None) → KnowsNow old → OnOk result (is.journal ≡ was.journal) →
+    ReadsAnswer (IsOneReply was brought) result old new → StagesBrought brought was is result old new
 Stages-asked {was = was} {is = is} brought (Ok reply) old new none knows same asks = record {
   turns = λ history. Turns-looked was is history old new (brought history) (Ok reply) knows asks.reads
       (ap (λ (bytes : List ℕ). shown_by is bytes) asks.reads.same.content ∙ ap (λ j. shown j old.content) same) (λ stands. none history);
-  reply = asks.reply;
+  reply = asks.answer;
 }
 Stages-asked {was = was} {is = is} brought (Err status) old new none knows same asks = record {
   turns = λ history. Turns-looked was is history old new (brought history) (Err status) knows asks.reads tt (λ stands. none history);
-  reply = asks.reply;
+  reply = λ history stands. tt;
 }

@@ -59,17 +59,20 @@ abbrev pub question_command : Question → Command
 question_command (questions.Query query) = Ask query
 question_command (questions.Newest name) = Last name
 
--- A question is asked, of what records show. Content and images stay.
-pub record AsksQuery (was : RecordsState) (brought : History → Brought) (result : Result Reply Status) (old new : Told) : Type 0 where
-  pub reply : (history : History) → Stands history (shown_by was old.content) → IfOk result (λ reply. (brought history).replies ≡ reply ∷ [])
+-- A call that only reads answers a value of which this is so by the content. Content and images stay.
+pub record ReadsAnswer {T : Type 0} (is_so : T → List ℕ → Type 0) (result : Result T Status) (old new : Told) : Type 0 where
+  pub answer : IfOk result (λ value. is_so value old.content)
   pub reads : OnlyReads old new
 
--- The window at a place of the stream of a number is read. Content and images stay.
-pub record ReadsRow (number : ℕ) (at : At) (store : StoreState) (result : Result Placed Status) (old new : Told) : Type 0 where
-  pub row : (history : History) → Stands history old.content → IfOk result (λ placed. IfSome (part_numbered number store.streams) (λ part.
-      IfSome (stream_numbered number (state history)) (λ s.
-      slice_get (map placed_of s.windows) (index_of part.line.entries at) ≡ Some placed)))
-  pub reads : OnlyReads old new
+-- what is brought after each history that records show has this reply alone
+abbrev pub IsOneReply : RecordsState → (History → Brought) → Reply → List ℕ → Type 0
+IsOneReply was brought reply content = (history : History) → Stands history (shown_by was content) → (brought history).replies ≡ reply ∷ []
+
+-- the window at a place of the stream of a number is this
+abbrev pub IsRowAt : ℕ → At → StoreState → Placed → List ℕ → Type 0
+IsRowAt number at store placed content = (history : History) → Stands history content → IfSome (part_numbered number store.streams) (λ part.
+    IfSome (stream_numbered number (state history)) (λ s.
+    slice_get (map placed_of s.windows) (index_of part.line.entries at) ≡ Some placed))
 
 -- the text of what a command brings, and that of the rows of the windows of the stream of a number
 abbrev pub IsTextBrought : Option ℕ → Command → History → List ℕ → Type 0

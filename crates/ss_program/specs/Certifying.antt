@@ -1,5 +1,5 @@
 -- What showing a certificate does, and what is said of its evidence.
-use Rattle.std.specs.Prelude.{◌≡◌, ◌⊎◌, ℕ, List, IfOk, IsErr, Option, Result, Some, flat_map}
+use Rattle.std.specs.Prelude.{◌≡◌, ◌⊎◌, ℕ, List, IsErr, Option, Result, Some, flat_map}
 use Rattle.ss_catalog.specs.declared.query.End.{End}
 use Rattle.ss_catalog.specs.declared.query.Kind.{Kind}
 use Rattle.ss_catalog.specs.declared.query.Query.{Query}
@@ -12,8 +12,6 @@ use Rattle.ss_contents.specs.Contents.{contents_of}
 use Rattle.ss_model.specs.Answers.{outcome_of}
 use Rattle.ss_model.specs.State.{Stream, state, stream_named}
 use Rattle.ss_model.specs.declared.outcome.Outcome.{Outcome}
-use Rattle.ss_outside.specs.Crash.{OnlyReads}
-use Rattle.ss_outside.specs.Disk.{Told}
 use Rattle.ss_query.specs.Asked.{seen_of}
 use Rattle.ss_report.specs.Text.{said_line}
 use Rattle.ss_store.specs.Recover.{Recovers}
@@ -24,11 +22,6 @@ use Rattle.ss_program.specs.declared.status.Status.{Status}
 -- the content has this evidence: it is that of each state to which it recovers
 abbrev pub HasEvidence : Query → End → Evidence → List ℕ → Type 0
 HasEvidence query end w content = (streams : List Stream) → Recovers streams content → evidence_in streams query end ≡ Some w
-
--- Evidence for an end of the answer to a query that isn't refused is found. Content and images stay.
-pub record FindsEvidence (query : Query) (end : End) (result : Result Evidence Status) (old new : Told) : Type 0 where
-  pub evidence : IfOk result (λ w. HasEvidence query end w old.content)
-  pub reads : OnlyReads old new
 
 -- Over every disk: the lines of evidence that is right are sent, or less than all of them; or the run stops before any byte of them.
 abbrev pub SendsRight : Option ℕ → Kind → End → Option (List ℕ) → Option (List ℕ) → Result Unit Status → Type 0

@@ -10,7 +10,7 @@ ghost use Rattle.ss_outside.specs.Verdict.{Counted, verdict};
 ghost use Rattle.ss_report.specs.Text.{said_line};
 ghost use Rattle.ss_store.specs.Kept.{StoreIsIn, part_numbered};
 ghost use Rattle.ss_store.specs.Recover.{Stands};
-ghost use Rattle.ss_program.specs.Answer.{AsksQuery, HasRows, IsOpen, IsRowsText, IsServing, IsTextBrought, ReadsRow, SendsRows, Shows};
+ghost use Rattle.ss_program.specs.Answer.{HasRows, IsOneReply, IsOpen, IsRowAt, IsRowsText, IsServing, IsTextBrought, ReadsAnswer, SendsRows, Shows};
 ghost use Rattle.ss_program.specs.Answer.{at_sink, question_command};
 ghost use Rattle.ss_program.specs.Devices.{over};
 ghost use Rattle.ss_program.specs.Line.{History, command_brings, stream_rows, text_said, value_rows, window_rows, IsSpeaker};
@@ -72,7 +72,7 @@ fn read<D: Disk>(store: &mut Store, id: StreamId, at: At, disk: &mut D) -> Resul
     requires open { IsOpen (D.seen disk.old) store.old }
     requires stands { IsSome (part_numbered id.0 store.old.streams) }
     requires at { IfSome (part_numbered id.0 store.old.streams) (λ part. StandsIn part.line.entries at) }
-    ensures reads { Step (disk_verdict (ended result)) (D.seen disk.old) (D.seen disk.new) (ReadsRow id.0 at store.old result) }
+    ensures reads { Step (disk_verdict (ended result)) (D.seen disk.old) (D.seen disk.new) (ReadsAnswer (IsRowAt id.0 at store.old) result) }
     ensures streams { store.new.streams ≡ store.old.streams }
     ensures open { OnOk result (IsOpen (D.seen disk.new) store.new) }
     ensures status { IfErr result (IsDiskStop (D.seen disk.old).tells) }
@@ -170,7 +170,7 @@ pub enum Question {
 pub fn ask<D: Disk>(store: &mut Store, question: &Question, disk: &mut D) -> Result<Reply, Status>
     requires serves { IsServing (D.seen disk.old) store.old }
     ensures asks { Step (disk_verdict (ended result)) (D.seen disk.old) (D.seen disk.new)
-        (AsksQuery store.old.records (λ history. command_brings history (question_command question.now)) result) }
+        (ReadsAnswer (IsOneReply store.old.records (λ history. command_brings history (question_command question.now))) result) }
     ensures serves { OnOk result (IsServing (D.seen disk.new) store.new) }
     ensures journal { OnOk result (store.new.records.journal ≡ store.old.records.journal) }
     ensures status { IfErr result (IsDiskStop (D.seen disk.old).tells) }

@@ -8,8 +8,8 @@ ghost use Rattle.ss_outside.specs.Crash.{OnlyReads};
 ghost use Rattle.ss_outside.specs.Disk.{OfContent};
 ghost use Rattle.ss_outside.specs.Step.{Step};
 ghost use Rattle.ss_store.specs.Asked.{refuses_query_held};
-ghost use Rattle.ss_program.specs.Answer.{IsOpen, IsTextBrought, Shows};
-ghost use Rattle.ss_program.specs.Certifying.{FindsEvidence, HasEvidence, SendsRight};
+ghost use Rattle.ss_program.specs.Answer.{IsOpen, IsTextBrought, ReadsAnswer, Shows};
+ghost use Rattle.ss_program.specs.Certifying.{HasEvidence, SendsRight};
 ghost use Rattle.ss_program.specs.Devices.{over};
 ghost use Rattle.ss_program.specs.Line.{IsSpeaker};
 ghost use Rattle.ss_program.specs.Status.{disk_verdict, ended, IsDiskStop};
@@ -37,7 +37,7 @@ fn make_evidence<D: Disk>(
     requires kind { IsTrue (adds_up query.now.kind) }
     requires open { IsOpen (D.seen disk.old) store.old }
     requires taken { refuses_query_held store.old.streams query.now ≡ None }
-    ensures finds { Step (disk_verdict (ended result)) (D.seen disk.old) (D.seen disk.new) (FindsEvidence query.now end result) }
+    ensures finds { Step (disk_verdict (ended result)) (D.seen disk.old) (D.seen disk.new) (ReadsAnswer (HasEvidence query.now end) result) }
     ensures streams { store.new.streams ≡ store.old.streams }
     ensures open { OnOk result (IsOpen (D.seen disk.new) store.new) }
     ensures status { IfErr result (IsDiskStop (D.seen disk.old).tells) }
@@ -88,7 +88,7 @@ fn find_evidence<D: Disk>(
     requires kind { IsTrue (adds_up query.now.kind) }
     requires open { IsOpen (D.seen disk.old) store.old }
     requires taken { refuses_query_held store.old.streams query.now ≡ None }
-    ensures finds { Step (disk_verdict (ended result)) (D.seen disk.old) (D.seen disk.new) (FindsEvidence query.now end result) }
+    ensures finds { Step (disk_verdict (ended result)) (D.seen disk.old) (D.seen disk.new) (ReadsAnswer (HasEvidence query.now end) result) }
     ensures right { IfOk result (IsRight query.now.kind end) }
     ensures open { OnOk result (IsOpen (D.seen disk.new) store.new) }
     ensures status { IfErr result (IsDiskStop (D.seen disk.old).tells) }

@@ -4,10 +4,10 @@ ghost use Rattle.ss_catalog.specs.Series.{IsSeriesInRange, whole_query};
 ghost use Rattle.ss_command.specs.declared.command.Command.TheVariants.{Series as AskRows};
 ghost use Rattle.ss_outside.specs.Step.{Step};
 ghost use Rattle.ss_store.specs.Asked.{refuses_query_held};
-ghost use Rattle.ss_program.specs.Answer.{IsOpen, IsTextBrought, Shows};
+ghost use Rattle.ss_program.specs.Answer.{IsOpen, IsTextBrought, ReadsAnswer, Shows};
 ghost use Rattle.ss_program.specs.Devices.{over};
 ghost use Rattle.ss_program.specs.Line.{IsSpeaker};
-ghost use Rattle.ss_program.specs.Series.{AnswersQuery, IsSeriesText};
+ghost use Rattle.ss_program.specs.Series.{IsAnswerIn, IsSeriesText};
 ghost use Rattle.ss_program.specs.Status.{disk_verdict, ended, IsDiskStop};
 
 use crate::answer::{at_sink, send_reply};
@@ -47,7 +47,7 @@ fn whole_query(series: &Series) -> Query
 fn answer_query<D: Disk>(store: &mut Store, query: &Query, disk: &mut D) -> Result<Outcome, Status>
     requires open { IsOpen (D.seen disk.old) store.old }
     requires taken { refuses_query_held store.old.streams query.now ≡ None }
-    ensures answers { Step (disk_verdict (ended result)) (D.seen disk.old) (D.seen disk.new) (AnswersQuery query.now result) }
+    ensures answers { Step (disk_verdict (ended result)) (D.seen disk.old) (D.seen disk.new) (ReadsAnswer (IsAnswerIn query.now) result) }
     ensures streams { store.new.streams ≡ store.old.streams }
     ensures open { OnOk result (IsOpen (D.seen disk.new) store.new) }
     ensures status { IfErr result (IsDiskStop (D.seen disk.old).tells) }

@@ -9,7 +9,7 @@ returns-in-Ok-clause-asks g c =
     let query = c.in-Query.query in
     let store = c.args.store.now in
     rw c.in-Query.is (step-given c.in-Ok.ensures.answers (λ told answers. record {
-      reply = λ history stands.
+      answer = λ history stands.
           let image = shown_by store.records (g.D.Disk.seen c.args.disk.now).told.content in
           let none = refuses_query-kept store image history query (c.requires.serves.kept told).shown stands
           ∙ not_unanswered (Ok c.in-Ok.outcome) (refuses_query_held store.streams query) (c.in-Ok.ensures.refused c.requires.serves.runs) (λ r is. cc) in
@@ -27,7 +27,7 @@ returns-in-Err-Refused-clause-asks g c =
       tells = answers.tells;
       counted = answers.counted;
       told = λ told. record {
-        reply = λ history stands.
+        answer = λ history stands.
             let image = shown_by store.records (g.D.Disk.seen c.args.disk.now).told.content in
             ap (λ (b : Brought). b.replies) (brings-unanswered history query c.in-Err-Refused.refusal
             (refuses_query-kept store image history query (c.requires.serves.kept told).shown stands
@@ -41,7 +41,7 @@ returns-in-Ok-newest-clause-asks g c =
     let name = c.in-Newest.name in
     let store = c.args.store.now in
     rw c.in-Newest.is (step-given c.in-Ok-newest.ensures.tells (λ told tells. record {
-      reply = λ history stands.
+      answer = λ history stands.
           let image = shown_by store.records (g.D.Disk.seen c.args.disk.now).told.content in
           let none = refuses_reading-kept store image history name (c.requires.serves.kept told).shown stands
           ∙ not_unanswered (Ok c.in-Ok-newest.newest) (refuses_reading_held store.streams name)
@@ -60,7 +60,7 @@ returns-in-Err-Refused-newest-clause-asks g c =
       tells = tells.tells;
       counted = tells.counted;
       told = λ told. record {
-        reply = λ history stands.
+        answer = λ history stands.
             let image = shown_by store.records (g.D.Disk.seen c.args.disk.now).told.content in
             ap (λ (b : Brought). b.replies) (brings-unlooked history name c.in-Err-Refused-newest.refusal
             (refuses_reading-kept store image history name (c.requires.serves.kept told).shown stands

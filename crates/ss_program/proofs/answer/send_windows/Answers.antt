@@ -63,7 +63,7 @@ returns-in_err-at_sink g c =
     c.in_ok-window.window is.1
     c.requires.stands
     (rw c.in-Some.is at (inv.held told history stands is.0 is.1))
-    (rw inv.streams at ((read.reads.told (inv.reads.tells ∙ told)).row history (subst (Stands history) (sym (inv.reads.told told).same.content) stands)))
+    (rw inv.streams at ((read.reads.told (inv.reads.tells ∙ told)).answer history (subst (Stands history) (sym (inv.reads.told told).same.content) stands)))
     c.send_reply.result (failed-err c.send_reply.result c.in_err-at_sink.field-0.0 c.in_err-at_sink.ensures) c.send_reply.ensures.sends)))
 
 pub loop-next-preserved : goal.loop-next-preserved
@@ -87,7 +87,7 @@ loop-next-preserved g c =
       held = λ told history stands s is.
           let so_far = rw c.in-Some.is at (inv.held told history stands s is) in
           let stands_then = subst (Stands history) (sym (inv.reads.told told).same.content) stands in
-          let row = rw inv.streams at ((read.reads.told (inv.reads.tells ∙ told)).row history stands_then) in
+          let row = rw inv.streams at ((read.reads.told (inv.reads.tells ∙ told)).answer history stands_then) in
           rows-step c.args.speaker o (λ part. part.line.entries) c.in-Some.at c.window_after-next.result s (stream_numbered c.args.id.0 (state history)) before
           held (g.K.Sink.held c.send_reply.new.sink) c.in_ok-window.window is so_far row
           (rows-after o (λ part. part.line.entries) c.in-Some.at c.window_after-next.result at (rw streams at c.window_after-next.ensures.at)

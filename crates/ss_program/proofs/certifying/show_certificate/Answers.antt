@@ -44,7 +44,7 @@ returns-clause-shows g c =
     (step-as found.finds (λ finds. finds.reads)) found.open c.send_replies.ensures (λ told history stands.
     ap (λ b. text_said c.args.speaker b) (brings-certified history query c.args.end c.in_ok-evidence.evidence
     (refuses_query-kept store old.told.content history query (StoreIsIn-open old store c.requires.open told) stands ∙ sym c.in_default.ensures)
-    ((found.finds.told told).evidence (state history) stands.state))
+    ((found.finds.told told).answer (state history) stands.state))
     ∙ ap (λ rs. flat_map (said_line c.args.speaker) rs) (sym (c.as_slice.ensures.value ∙ c.lines_of.ensures))))
 
 -- a query that is refused has no evidence

@@ -11,7 +11,7 @@ returns-in-Ok-clause-answers g c = step-as c.in-Ok.ensures.answers (λ answers. 
 
 pub returns-in-Err-Disk-clause-answers : goal.returns-in-Err-Disk-clause-answers
 returns-in-Err-Disk-clause-answers g c =
-    step-as (rw c.in-Err-Disk.field-0-is at c.in-Err-Disk.ensures.answers) (λ answers. record { answer = λ history stands. tt; reads = answers.reads })
+    step-as (rw c.in-Err-Disk.field-0-is at c.in-Err-Disk.ensures.answers) (λ answers. record { answer = tt; reads = answers.reads })
 
 pub unreachable-requires : goal.unreachable-requires
 unreachable-requires g c =
