@@ -25,7 +25,7 @@ use Rattle.ss_model.proofs.PieceLemmas.{AreOf-windows}
 use Rattle.ss_model.proofs.Rises.{boundaries-same}
 use Rattle.ss_contents.specs.Attained.{MayBeTrue, truth_of_kind}
 use Rattle.ss_contents.specs.Contents.{AreContents, Contents, IsSayableValue, Like, contents_of, count_in, own_windows, unfiltered_windows}
-use Rattle.ss_contents.specs.Moved.{AreKeptAlike, MayBeCounted, at_times_of, moved_to_times}
+use Rattle.ss_contents.specs.Moved.{AreIndistinguishable, MayBeCounted, at_times_of, moved_to_times}
 use Rattle.ss_contents.proofs.ContentsLemmas.{AreContents-named}
 use Rattle.ss_contents.proofs.PieceLemmas.{AreOf-alike, cons-same}
 use Rattle.ss_contents.proofs.StepLemmas.{boundaries-others}
@@ -223,8 +223,8 @@ module _ (c d : Contents) (sound : AreContents c) (other : AreContents d) (like 
       ∙ like.windows in
       number ∙ stretches-at_times_of 1 bs c.plain d.plain as_many others
 
-  pub AreKeptAlike-moved : AreKeptAlike (moved_to_times c d) c
-  AreKeptAlike-moved = record { params = refl; landmarks = refl; windows = windows-moved }
+  pub AreIndistinguishable-moved : AreIndistinguishable (moved_to_times c d) c
+  AreIndistinguishable-moved = record { params = refl; landmarks = refl; windows = windows-moved }
 
   pub count_in-moved : (from to : ℕ) → count_in from to (moved_to_times c d) ≡ count_in from to d
   count_in-moved from to =
@@ -251,7 +251,7 @@ MayBeCounted-true streams query n kind may history s whole is found =
     record {
       contents = moved_to_times c at.contents;
       sound = AreContents-moved c at.contents sound at.sound at.like;
-      kept = AreKeptAlike-moved c at.contents sound at.sound at.like;
+      kept = AreIndistinguishable-moved c at.contents sound at.sound at.like;
       counts = count_in-moved c at.contents sound at.sound at.like query.from query.to
           ∙ some-pos (count_in query.from query.to at.contents) n
           (sym (ap (λ k. truth_of_kind k query.from query.to at.contents) kind) ∙ at.truth);

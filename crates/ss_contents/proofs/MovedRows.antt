@@ -11,7 +11,7 @@ use Rattle.ss_model.specs.Refusals.{IsHistory}
 use Rattle.ss_model.specs.State.{Stream, state, stream_named}
 use Rattle.ss_model.specs.declared.types.Window.{Window}
 use Rattle.ss_contents.specs.Contents.{AreContents, Contents, contents_of, count_in, own_windows}
-use Rattle.ss_contents.specs.Moved.{AreKeptAlike, HasCount, MayBeCounted, at_times_of, moved_to_times}
+use Rattle.ss_contents.specs.Moved.{AreIndistinguishable, HasCount, MayBeCounted, at_times_of, moved_to_times}
 use Rattle.ss_contents.specs.Rebuilt.{rebuilt}
 use Rattle.ss_contents.specs.Sides.{Sides}
 
@@ -79,14 +79,14 @@ unfolding window_index
 counts-moved_in_minutes = refl
 
 -- contents of which a store keeps the same are the same in each of these
-params-AreKeptAlike : (c d : Contents) → AreKeptAlike c d → c.params ≡ d.params
-params-AreKeptAlike c d alike = alike.params
+params-AreIndistinguishable : (c d : Contents) → AreIndistinguishable c d → c.params ≡ d.params
+params-AreIndistinguishable c d alike = alike.params
 
-landmarks-AreKeptAlike : (c d : Contents) → AreKeptAlike c d → c.landmarks ≡ d.landmarks
-landmarks-AreKeptAlike c d alike = alike.landmarks
+landmarks-AreIndistinguishable : (c d : Contents) → AreIndistinguishable c d → c.landmarks ≡ d.landmarks
+landmarks-AreIndistinguishable c d alike = alike.landmarks
 
-windows-AreKeptAlike : (c d : Contents) → AreKeptAlike c d → own_windows c ≡ own_windows d
-windows-AreKeptAlike c d alike = alike.windows
+windows-AreIndistinguishable : (c d : Contents) → AreIndistinguishable c d → own_windows c ≡ own_windows d
+windows-AreIndistinguishable c d alike = alike.windows
 
 -- a count that may be there is that of such contents, which may be held
 module _ (history : List Happened) (q : Query) (count : ℕ) (u : Stream) (whole : IsHistory history)
@@ -97,7 +97,7 @@ module _ (history : List Happened) (q : Query) (count : ℕ) (u : Stream) (whole
   sound-MayBeCounted : AreContents there.contents
   sound-MayBeCounted = there.sound
 
-  kept-MayBeCounted : AreKeptAlike there.contents (contents_of history u)
+  kept-MayBeCounted : AreIndistinguishable there.contents (contents_of history u)
   kept-MayBeCounted = there.kept
 
   counts-MayBeCounted : count_in q.from q.to there.contents ≡ count

@@ -18,7 +18,7 @@ abbrev pub moved_to_times : Contents → Contents → Contents
 moved_to_times c d = record { params = c.params; plain = at_times_of c.plain d.plain; landmarks = c.landmarks }
 
 -- nothing at all that a store keeps tells two contents apart: their windows have the same filters too
-pub record AreKeptAlike (c d : Contents) : Type 0 where
+pub record AreIndistinguishable (c d : Contents) : Type 0 where
   pub params : c.params ≡ d.params
   pub landmarks : c.landmarks ≡ d.landmarks
   pub windows : own_windows c ≡ own_windows d
@@ -27,7 +27,7 @@ pub record AreKeptAlike (c d : Contents) : Type 0 where
 pub record HasCount (actual : Contents) (from to count : ℕ) : Type 0 where
   pub contents : Contents
   pub sound : AreContents contents
-  pub kept : AreKeptAlike contents actual
+  pub kept : AreIndistinguishable contents actual
   pub counts : count_in from to contents ≡ count
 
 -- A count may be the true one in a state, whose filters are known: whatever history it is the state of, contents of which a store

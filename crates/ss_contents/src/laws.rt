@@ -10,7 +10,7 @@ ghost use Rattle.ss_model.specs.Refusals.{IsHistory};
 ghost use Rattle.ss_model.specs.State.{Stream, state, stream_named};
 ghost use Rattle.ss_contents.specs.Attained.{IsAttained, MayBeTrue};
 ghost use Rattle.ss_contents.specs.Contents.{AreContents, Contents, contents_of, count_in, Like, sum_in, own_windows};
-ghost use Rattle.ss_contents.specs.Moved.{AreKeptAlike, MayBeCounted, moved_to_times};
+ghost use Rattle.ss_contents.specs.Moved.{AreIndistinguishable, MayBeCounted, moved_to_times};
 ghost use Rattle.ss_contents.specs.Rebuilt.{rebuilt};
 ghost use Rattle.ss_contents.specs.Sides.{AllFit, count_inside, Sides, sum_inside};
 
@@ -73,7 +73,7 @@ pub fn fitting_answers_may_be_true()
 /// keeps the same of these as of the actual ones, filters included.
 pub fn counts_are_true_of_the_same_values()
     ensures sound { (c d : Contents) → AreContents c → AreContents d → Like d c → AreContents (moved_to_times c d) }
-    ensures kept { (c d : Contents) → AreContents c → AreContents d → Like d c → AreKeptAlike (moved_to_times c d) c }
+    ensures kept { (c d : Contents) → AreContents c → AreContents d → Like d c → AreIndistinguishable (moved_to_times c d) c }
     ensures count { (c d : Contents) (from to : ℕ) → AreContents c → AreContents d → Like d c →
         count_in from to (moved_to_times c d) ≡ count_in from to d }
     ensures may_be { (streams : List Stream) (query : Query) (count : ℕ) → query.kind ≡ kinds.Count → MayBeTrue streams query (pos count) →
