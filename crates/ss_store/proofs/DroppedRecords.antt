@@ -11,7 +11,7 @@ use Rattle.std.proofs.lemmas.Slice.Zip.{firsts-zip}
 use Rattle.ss_codec.specs.declared.record.Record.TheVariants as records
 use Rattle.ss_recover.specs.Carried.{is_drop_of, is_dropped}
 use Rattle.ss_recover.specs.Doomed.{may_go}
-use Rattle.ss_recover.proofs.Lists.{all_append}
+use Rattle.ss_model.proofs.FoundLemmas.{each-append}
 
 -- a record of the stream of a number, other than its own
 pub record IsBesideOwn (number : ℕ) (r : Record) : Type 0 where
@@ -35,7 +35,7 @@ IsBesideOwn-landmarks number n (l ∷ ls) = (record { goes = λ others. refl; of
 IsBesideOwn-all_values : (number n : ℕ) (ls : List Landmark) → AllByRecursion (IsBesideOwn number) (all_value_records number n ls)
 IsBesideOwn-all_values number n [] = tt
 IsBesideOwn-all_values number n (l ∷ ls) =
-    all_append (IsBesideOwn number) (value_records number n 1 l.values) (all_value_records number (n + 1) ls) (IsBesideOwn-values number n 1 l.values)
+    each-append (IsBesideOwn number) (value_records number n 1 l.values) (all_value_records number (n + 1) ls) (IsBesideOwn-values number n 1 l.values)
     (IsBesideOwn-all_values number (n + 1) ls)
 
 IsBesideOwnIn-slots : (number : ℕ) (slots : List ℕ) (rs : List Record) → AllByRecursion (IsBesideOwn number) rs →
@@ -62,9 +62,9 @@ all_beside : (p : StreamParts × Stream) → AllByRecursion (IsBesideOwnIn p.1.n
 all_beside p =
     let m = p.1.number in
     let ls = p.1.landmarks in
-    all_append (IsBesideOwnIn m) (zip (map (λ (e : Entry). e.slot) (entries_of p.0)) (map (λ w. Some (window_record m w)) p.1.windows)) (marks_held p)
+    each-append (IsBesideOwnIn m) (zip (map (λ (e : Entry). e.slot) (entries_of p.0)) (map (λ w. Some (window_record m w)) p.1.windows)) (marks_held p)
     (IsBesideOwnIn-windows m (map (λ (e : Entry). e.slot) (entries_of p.0)) p.1.windows)
-    (all_append (IsBesideOwnIn m) (in_slots p.0.landmarks.slots (landmark_records m 1 ls)) (in_slots p.0.landmarks.value_slots (all_value_records m 1 ls))
+    (each-append (IsBesideOwnIn m) (in_slots p.0.landmarks.slots (landmark_records m 1 ls)) (in_slots p.0.landmarks.value_slots (all_value_records m 1 ls))
     (IsBesideOwnIn-slots m p.0.landmarks.slots (landmark_records m 1 ls) (IsBesideOwn-landmarks m 1 ls))
     (IsBesideOwnIn-slots m p.0.landmarks.value_slots (all_value_records m 1 ls) (IsBesideOwn-all_values m 1 ls)))
 
