@@ -53,7 +53,8 @@ refuses_values-old streams name from to =
 
 pub ack-old : (name : List ℕ) (streams : List Stream) → ack_of name (map unfiltered_stream streams) ≡ ack_of name streams
 ack-old name streams =
-    read-old said_of (λ s. ap₂ (λ (n k : ℕ). let ack : Ack = record { n = n; k = k } in ack) (taken-unfiltered s.windows) (length-map s.windows unfiltered_window))
+    read-old said_of (λ s. ap₂ (λ (n k : ℕ). let ack : Ack = record { n = n; k = k } in ack) (taken-unfiltered s.windows)
+    (length-map s.windows unfiltered_window))
     name streams
 
 pub outcome-old : (streams : List Stream) (query : Query) → ((v : ℤ) → query.kind ≡ kinds.Has v → ⊥) →
@@ -77,7 +78,8 @@ newest-alike streams name =
 pub rows-old : (streams : List Stream) → map (λ s. StreamRow (row_of s)) (map unfiltered_stream streams) ≡ map (λ s. StreamRow (row_of s)) streams
 rows-old [] = refl
 rows-old (s ∷ ss) =
-    ap₂ ◌∷◌ (ap₂ (λ (n k : ℕ). StreamRow (record (row_of s) { n = n; k = k })) (taken-unfiltered s.windows) (length-map s.windows unfiltered_window)) (rows-old ss)
+    ap₂ ◌∷◌ (ap₂ (λ (n k : ℕ). StreamRow (record (row_of s) { n = n; k = k })) (taken-unfiltered s.windows) (length-map s.windows unfiltered_window))
+    (rows-old ss)
 
 -- the rows of windows are told without their filters
 pub windows-told : (ws : List Window) →

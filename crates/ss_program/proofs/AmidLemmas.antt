@@ -2,7 +2,8 @@
 use Rattle.ss_program.proofs.Common.{◌≡◌, ℕ, ◌≤◌, ◌++◌, List, [], ◌∷◌, length, Option, Some, None, Result, Ok, Err, OnOk, refl, sym, ap, ◌∙◌, subst}
 use Rattle.ss_program.proofs.Common.{common_steps, append_assoc, arith, append-nil, length-append, at_start, joined, of_content, weaker, KnowsNow, LeavesOnly}
 use Rattle.ss_program.proofs.Common.{DiskView, NothingPending, Told, shown_by, Cursors, Amid, AreOwed, GoesAmid, IsAmid, IsAtRest, TakesFurther, TakesNone}
-use Rattle.ss_program.proofs.Common.{one_line_more, owed_by, IsOpen, NoneWait, SessionState, StandsBeyond, StandsWithin, StopsIn, sealing_by, HoldsTalk, appended}
+use Rattle.ss_program.proofs.Common.{one_line_more, owed_by, IsOpen, NoneWait, SessionState, StandsBeyond, StandsWithin, StopsIn, sealing_by, HoldsTalk}
+use Rattle.ss_program.proofs.Common.{appended}
 use Rattle.ss_program.proofs.Common.{after_lines, text_of, Talk, Sealing, Each, Shared, Status}
 use Rattle.ss_program.proofs.SessionLemmas.{after_lines-append, moments-more, text_of-append}
 

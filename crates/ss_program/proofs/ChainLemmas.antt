@@ -4,7 +4,8 @@ use Rattle.ss_program.proofs.Common.{subst, append_assoc, arith, inl, inr, appen
 use Rattle.ss_program.proofs.Common.{read_leaves, reads-none, KnowsNow, OnlyReads, DiskView, NothingPending, Told, WhereTold, Stands, StandsShort, UsesAtMost}
 use Rattle.ss_program.proofs.Common.{most_needed, length-uses, UsesAtMost-more, StandsShortForFirst, acks, AreLinked, Ending, Extends, ExtendsAll, IsLeftBy}
 use Rattle.ss_program.proofs.Common.{IsLink, Link, acked_in, acked_till, by_crash, by_itself, offered_in, Generates, generated_lines, History, Serves, accepted}
-use Rattle.ss_program.proofs.Common.{steps, Talk, begun, begun_over, plain_talk, Status, Done, Usage, RefusedStore, DiskFault, SourceFault, SinkFault, OutOfMemory}
+use Rattle.ss_program.proofs.Common.{steps, Talk, begun, begun_over, plain_talk, Status, Done, Usage, RefusedStore, DiskFault, SourceFault, SinkFault}
+use Rattle.ss_program.proofs.Common.{OutOfMemory}
 use Rattle.ss_program.proofs.Common.{InputLimit, RecordChanged}
 use Rattle.ss_journal.specs.declared.format.TheConstants.{FIRST_SLOT, MOST_SLOTS, SLOT_SIZE}
 use Rattle.ss_program.proofs.HeldLemmas.{StandsShortForFirst-within}

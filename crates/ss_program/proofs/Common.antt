@@ -100,7 +100,8 @@ pub use Rattle.ss_outside.specs.Step.{Step}
 pub use Rattle.ss_outside.specs.Verdict.{Counted, Rose, fine, Verdict, verdict, failed}
 pub use Rattle.ss_outside.specs.declared.source.Failed.{Failed}
 pub use Rattle.ss_power.specs.Power.{power_length}
-pub use Rattle.ss_program.specs.Amid.{Amid, AreOwed, GoesAmid, HasRoomForReply, IsAmid, IsAtRest, IsReadyToServe, TakesFurther, TakesNone, one_line_more, owed_by, with_text, Owed}
+pub use Rattle.ss_program.specs.Amid.{Amid, AreOwed, GoesAmid, HasRoomForReply, IsAmid, IsAtRest, IsReadyToServe, TakesFurther, TakesNone, one_line_more}
+pub use Rattle.ss_program.specs.Amid.{owed_by, with_text, Owed}
 pub use Rattle.ss_program.specs.Amid.{StagesBrought, TakesBrought, TakesTurn, amid, OfAmid, TakesBytes, TakesLast, TakesOrdered, StagesFramed, staged_replies}
 pub use Rattle.ss_program.specs.Amid.{TakesStarved}
 pub use Rattle.ss_program.specs.Answer.{IsOpen, IsServing, at_sink, SendsRows, IsOneReply, ReadsAnswer, Shows}
@@ -110,7 +111,8 @@ pub use Rattle.ss_program.specs.Certifying.{HasEvidence, IsSharp}
 pub use Rattle.ss_program.specs.Chained.{AreLinked, Ending, Extends, ExtendsAll, IsLeftBy, IsLink, Link, acked_in, acked_till, by_crash, by_itself, offered_in}
 pub use Rattle.ss_program.specs.Chained.{accepted_of, acked_of}
 pub use Rattle.ss_program.specs.Checked.{ChecksStore, survey_line, Checks}
-pub use Rattle.ss_program.specs.Cursor.{order_in, Ordered, close_brings, closes_cursor, leaves_cursors, next_brings, open_brings, opens_cursor, placed_rows, showing}
+pub use Rattle.ss_program.specs.Cursor.{order_in, Ordered, close_brings, closes_cursor, leaves_cursors, next_brings, open_brings, opens_cursor, placed_rows}
+pub use Rattle.ss_program.specs.Cursor.{showing}
 pub use Rattle.ss_program.specs.Cursor.{unless_unopened, order_brings}
 pub use Rattle.ss_program.specs.Devices.{Devices, over}
 pub use Rattle.ss_program.specs.Ending.{Completes, Ends, HasNumbers, IsRefusedContent, IsUnfed, Refuses, served_by, Feeds, Rejects, Unfed, serving, Serving}
@@ -158,7 +160,8 @@ pub use Rattle.ss_report.specs.declared.reply.Reply.TheVariants.{Refused, Series
 pub use Rattle.ss_report.specs.declared.reply.Reply.TheVariants.{CertifyHead, Side, Closed, Framed}
 pub use Rattle.ss_sessions.specs.Cursors.{Cursors, cursor_of, cursor_rows, flattened, cursor_opened, with_cursor, no_cursors, cursor_refusals}
 pub use Rattle.ss_sessions.specs.Errors.{refusal_of}
-pub use Rattle.ss_sessions.specs.Grammar.{asked_of, cursor_close_of, cursor_form_of, cursor_next_of, cursor_open_of, order_said, spoken_of, session_of, spoken_to, spoken_words}
+pub use Rattle.ss_sessions.specs.Grammar.{asked_of, cursor_close_of, cursor_form_of, cursor_next_of, cursor_open_of, order_said, spoken_of, session_of}
+pub use Rattle.ss_sessions.specs.Grammar.{spoken_to, spoken_words}
 pub use Rattle.ss_sessions.specs.declared.order.Order.{Order}
 pub use Rattle.ss_sessions.specs.declared.order.Spoken.{Spoken}
 pub use Rattle.ss_sessions.specs.declared.order.Spoken.TheVariants.{Nothing, Unaddressed, To}

@@ -3,7 +3,8 @@ use Rattle.ss_program.proofs.Common.{◌≡◌, ◌∙◌, ◌++◌, ℕ, List, 
 use Rattle.ss_program.proofs.Common.{codes, if◌then◌else◌, option_map, Form, Lines, Sessions, Frames, Follow, Event, Create, Value, Open, Close, Drop, Refusal}
 use Rattle.ss_program.proofs.Common.{◌>>=◌, meaning, name_of, unless_long, first_word, is_word, rest_of, words, IsSayable, meant-sayable, Command, Do}
 use Rattle.ss_program.proofs.Common.{SpellsFrame-frame_in, FrameState, IsValidFrame, frame_in, CanBeSaid, IsHistory, refuses, state, due_in, Due, Next, Gap}
-use Rattle.ss_program.proofs.Common.{Cursors, asked_of, cursor_close_of, cursor_form_of, cursor_next_of, cursor_open_of, order_said, spoken_of, Order, Spoken, Nothing, Unaddressed, To}
+use Rattle.ss_program.proofs.Common.{Cursors, asked_of, cursor_close_of, cursor_form_of, cursor_next_of, cursor_open_of, order_said, spoken_of, Order, Spoken}
+use Rattle.ss_program.proofs.Common.{Nothing, Unaddressed, To}
 use Rattle.ss_program.proofs.Common.{IsAsked, order_in, History, accepted_frame, brings, brings_in, command_brings, command_in, due_brings, frame_brings}
 use Rattle.ss_program.proofs.Common.{meaning_in, the_event, after_line, after_lines, Talk, is_framed, kept_spoken, meant_turn, turn_brought, turn_in, turn_of}
 use Rattle.ss_program.proofs.Common.{turn_spoken, writing, Turn, inl, inr}
@@ -47,7 +48,8 @@ none-of false false false x y z order first second third is = cc
 form-uncommanded : (ws : List (List ℕ)) (command : Command) → cursor_form_of ws ≡ Ok (orders.Command command) → ⊥
 form-uncommanded [] command is = cc
 form-uncommanded (verb ∷ rest) command is =
-    none-of (is_word verb (codes "open")) (is_word verb (codes "next")) (is_word verb (codes "close")) (cursor_open_of rest) (cursor_next_of rest) (cursor_close_of rest)
+    none-of (is_word verb (codes "open")) (is_word verb (codes "next")) (is_word verb (codes "close")) (cursor_open_of rest) (cursor_next_of rest)
+    (cursor_close_of rest)
     (orders.Command command) (open-uncommanded rest command) (next-uncommanded rest command) (close-uncommanded rest command) is
 
 said-choice : (cursor : Bool) (formed : Result Order Refusal) (meant : Result (Option Command) Refusal) (command : Command) →

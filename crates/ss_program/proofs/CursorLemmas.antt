@@ -3,7 +3,8 @@ use Rattle.ss_program.proofs.Common.{◌≡◌, ◌↔◌, ◌∙◌, ℕ, zero,
 use Rattle.ss_program.proofs.Common.{inl, inr, IsTrue, IfSome, subst, ◌+◌, ◌≤◌, min, take, take_all, drop, arith, length-append, length-map, cases_lt}
 use Rattle.ss_program.proofs.Common.{slice_get_cases, slice_get_within, slice_get, is_some, not, option_map, slice_set, Refusal, first_that_applies, stands}
 use Rattle.ss_program.proofs.Common.{placed_of, Stream, state, stream_named, Placed, Reply, Cursor, Refused, Window, Cursors, cursor_of, cursor_rows, flattened}
-use Rattle.ss_program.proofs.Common.{cursor_opened, with_cursor, refusal_of, Ordered, close_brings, closes_cursor, leaves_cursors, next_brings, open_brings, opens_cursor}
+use Rattle.ss_program.proofs.Common.{cursor_opened, with_cursor, refusal_of, Ordered, close_brings, closes_cursor, leaves_cursors, next_brings, open_brings}
+use Rattle.ss_program.proofs.Common.{opens_cursor}
 use Rattle.ss_program.proofs.Common.{placed_rows, showing, unless_unopened, History, only_replies, refused, text_said, said_line}
 use Rattle.ss_sessions.specs.Cursors.{refuses_cursor}
 use Rattle.ss_sessions.specs.Opened.{HasOpened}

@@ -5,7 +5,8 @@ use Rattle.ss_program.proofs.Common.{take-append-le, take-append-add, IsSayable,
 use Rattle.ss_program.proofs.Common.{LeavesOnly, NothingPending, Told, reply_line, Reply, state, OpensAs, Stands, StandsShort, OpenError, SendsRows}
 use Rattle.ss_program.proofs.Common.{GoesAmid, TakesFurther, TakesNone, StagesBrought, SealsHistory, amid, owed_by, with_text, said_line, turn_of, turn_brought}
 use Rattle.ss_program.proofs.Common.{IsSealed, RecordsState, shown-sealed, no_cursors, Each, Talk, DiskFault, HoldsTalk}
-use Rattle.ss_program.proofs.Common.{Generates, StandsForAll, StandsForGenerated, generated_lines, first_lines, is_done, is_refused, last_six, summary, summary_lines}
+use Rattle.ss_program.proofs.Common.{Generates, StandsForAll, StandsForGenerated, generated_lines, first_lines, is_done, is_refused, last_six, summary}
+use Rattle.ss_program.proofs.Common.{summary_lines}
 use Rattle.ss_program.proofs.Common.{Brought, History, brings, command_brings, history_after, meaning_brings, StandsShortForFirst, StandsWithin}
 use Rattle.ss_program.proofs.Common.{AsRefused, status_of_open, appended, AppendsFront, AppendsLess, Sends, after_lines, plain_after, replies, plain_talk}
 use Rattle.ss_program.proofs.Common.{plain_over, HasRun, IsSingle, Tallies, Status, Done, SinkFault, Failed}
@@ -248,7 +249,8 @@ pub Generates-done : (used : Option ℕ) (history : History) (seed count : ℕ) 
 Generates-done used history seed count before after old new tally knows ran sent =
     let weak = weaker old new (StandsWithin (plain_over used history) (generated_lines seed count)) (StandsForGenerated used history seed count)
     (StandsForGenerated-within used history seed count) ran.any_moment in
-    let all : StandsForAll used history seed count new.content = subst (λ h. StandsShort used h new.content) (after_lines-accepted (plain_talk history) (generated_lines seed count))
+    let all : StandsForAll used history seed count new.content = subst (λ h. StandsShort used h new.content)
+    (after_lines-accepted (plain_talk history) (generated_lines seed count))
     ran.stands in
     record {
       front = AppendsFront-all before after (summary history seed count) sent;
@@ -283,4 +285,5 @@ pub Generates-unopened : (used : Option ℕ) (history : History) (seed count : �
 Generates-unopened used history seed count {before = before} {after = after} {old = old} {new = new} had has error opens stands said knows opened =
     let un = unopened old.content (state history) had has error stands.state opens said in
     Generates-stop used history seed count before after old new (status_of_open error) un.1 (λ _. un.0) knows (0, un.0 ∙ sym (appended-nil before))
-    (weaker old new (StandsShort used history) (StandsWithin (plain_over used history) (generated_lines seed count)) (λ image is. ([], generated_lines seed count, refl, is)) opened)
+    (weaker old new (StandsShort used history) (StandsWithin (plain_over used history) (generated_lines seed count))
+    (λ image is. ([], generated_lines seed count, refl, is)) opened)

@@ -6,7 +6,8 @@ use Rattle.ss_program.proofs.Common.{nat_le, nat_lt, option_map, Form, Lines, Se
 use Rattle.ss_program.proofs.Common.{FrameState, unless_long, first_word, rest_of, first_that_applies, refuses, placed_of, Stream, state, stream_named, Placed}
 use Rattle.ss_program.proofs.Common.{Cursor, Rows, Cursors, cursor_of, cursor_refusals, cursor_rows, flattened, with_cursor, order_said, session_of, spoken_of}
 use Rattle.ss_program.proofs.Common.{spoken_to, spoken_words, Order, Spoken, Nothing, Unaddressed, To, IsOrder, NoneCloses, heard_of, rows_asked, rows_asked_by}
-use Rattle.ss_program.proofs.Common.{rows_asked_in, Ordered, close_brings, closes_cursor, next_brings, open_brings, opens_cursor, order_in, placed_rows, showing}
+use Rattle.ss_program.proofs.Common.{rows_asked_in, Ordered, close_brings, closes_cursor, next_brings, open_brings, opens_cursor, order_in, placed_rows}
+use Rattle.ss_program.proofs.Common.{showing}
 use Rattle.ss_program.proofs.Common.{unless_unopened, History, accepted_frame, only_replies, text_said, window_rows, after_line, after_lines, Talk, Turn, begun}
 use Rattle.ss_program.proofs.Common.{kept_spoken, meant_turn, turn_in, turn_of, turn_spoken, turn_to, writing}
 use Rattle.ss_codec.proofs.WindowBytes.{three_tests}

@@ -57,7 +57,8 @@ HoldsReported-done sealing talk input left before after disk status done others 
       read.rest,
       read.all,
       read.others,
-      HoldsAcked-done sealing talk (steps talk.form input) (steps_within talk.form read.read read.rest) done others read.more (length has - length had) status image are
+      HoldsAcked-done sealing talk (steps talk.form input) (steps_within talk.form read.read read.rest) done others read.more
+          (length has - length had) status image are
           read.are (omega (arith, bytes)) (each image may) end,
     )
 
@@ -160,6 +161,7 @@ HoldsReported-stop sealing talk input left before after disk status ls others ar
   read.rest,
   read.all,
   read.others,
-  HoldsAcked-among sealing talk (steps talk.form input) ls (steps_within talk.form read.read read.rest) others read.more before after disk status (length has - length had) image
+  HoldsAcked-among sealing talk (steps talk.form input) ls (steps_within talk.form read.read read.rest) others read.more before after disk status
+      (length has - length had) image
       at are read.are (among_bytes talk ls before after disk status had has at is_had is_has) may going (is_starved status),
 )

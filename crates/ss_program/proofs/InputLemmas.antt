@@ -1,7 +1,8 @@
 -- Lines of a session and the bytes of its input.
 use Rattle.ss_program.proofs.Common.{◌≡◌, ℕ, ◌+◌, ◌-◌, ◌++◌, List, [], ◌∷◌, length, take, drop, Option, Some, None, Result, Ok, Err, refl, sym, ap, ◌∙◌, subst}
 use Rattle.ss_program.proofs.Common.{append_assoc, take-add, append-nil, take-append-drop, OnOk, meaning, Ended, Kept, kept, unless_long, Told, RecordsState}
-use Rattle.ss_program.proofs.Common.{shown_by, StoreState, Amid, GoesAmid, IsAmid, OfAmid, Owed, TakesFurther, TakesBytes, TakesLast, TakesNone, TakesTurn, amid}
+use Rattle.ss_program.proofs.Common.{shown_by, StoreState, Amid, GoesAmid, IsAmid, OfAmid, Owed, TakesFurther, TakesBytes, TakesLast, TakesNone, TakesTurn}
+use Rattle.ss_program.proofs.Common.{amid}
 use Rattle.ss_program.proofs.Common.{owed_by, EndsSession, HasReplied, HasTaken, HoldsTalk, NoneWait, SessionState, StopsIn, TakesPiece, after_lines, Brought}
 use Rattle.ss_program.proofs.Common.{Talk, kept_framed, kept_offered, kept_spoken, kept_turn, meant_turn, turn_brought, turn_in, turn_of, Cursors, Form, Lines}
 use Rattle.ss_program.proofs.Common.{Sessions, Frames, Follow, Sealing, Status, Done, StepState, TellsStep, kept_so_far, kept_step, steps, steps_so_far}

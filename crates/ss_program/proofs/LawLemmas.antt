@@ -147,7 +147,8 @@ answered-series history line series whole means none =
     let each = λ (row : ℕ). (row-answered history series row whole none).1 in (
       answers,
       ap (λ m. meaning_brings history m) means ∙ brings-series history series none
-          ∙ ap (λ rows. only_replies (SeriesHead series.kind (row_count series) ∷ rows)) (series_rows-map (state history) series answers (λ row. (each row).is)),
+          ∙ ap (λ rows. only_replies (SeriesHead series.kind (row_count series) ∷ rows))
+          (series_rows-map (state history) series answers (λ row. (each row).is)),
       each,
     )
 

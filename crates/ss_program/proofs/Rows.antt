@@ -4,7 +4,8 @@ use Rattle.ss_program.proofs.Common.{map, pos, negsuc, flat_map, All-cons, All-n
 use Rattle.ss_program.proofs.Common.{added, no_store, damaged_entry, damaged_slot, damaged_stream, recovers, Count, Sum, Min, Max, Answered}
 use Rattle.ss_power.specs.Power.{power_length}
 use Rattle.ss_program.proofs.Common.{Refused, ListHead, survey_line, summary_lines, acks, Lines, steps_within, refusal_line, status_of_open, NoneCreates}
-use Rattle.ss_program.proofs.Common.{accepted, plain_after, report, exit_number, plain_talk, turn_of, usage, no_cursors, LONGEST_INPUT, Done, Usage, RefusedStore}
+use Rattle.ss_program.proofs.Common.{accepted, plain_after, report, exit_number, plain_talk, turn_of, usage, no_cursors, LONGEST_INPUT, Done, Usage}
+use Rattle.ss_program.proofs.Common.{RefusedStore}
 use Rattle.ss_program.proofs.Common.{DiskFault, SourceFault, SinkFault, OutOfMemory, InputLimit, RecordChanged}
 use Rattle.std.specs.Fmt.{digits}
 use Rattle.ss_catalog.specs.Names.{is_name}

@@ -279,7 +279,8 @@ pub Serves-part : (sealing : Sealing) {talk : Talk} {start now : Told} {session 
 Serves-part sealing {talk = talk} {start = start} {now = now} {before = before} {held = held} {left = left} {input = input} {n = n} status after_left
     through few how =
     let more = steps-front talk.form (take n input) (drop n input) in
-    let all : steps talk.form input ≡ steps_so_far talk.form (take n input) ++ more.0 = ap (λ bs. steps talk.form bs) (sym (take-append-drop n input)) ∙ more.1 in
+    let all : steps talk.form input ≡ steps_so_far talk.form (take n input) ++ more.0 = ap (λ bs. steps talk.form bs)
+    (sym (take-append-drop n input)) ∙ more.1 in
     let ls = steps_so_far talk.form (take n input) in
     record {
       report = record {

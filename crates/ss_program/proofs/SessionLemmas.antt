@@ -5,7 +5,8 @@ use Rattle.ss_program.proofs.Common.{Follow, Event, Create, Value, Open, Close, 
 use Rattle.ss_program.proofs.Common.{frame_of, Due, Next, Gap, unless_long, spoken_of, Order, Spoken, Nothing, Unaddressed, To, reply_line, Reply, History}
 use Rattle.ss_program.proofs.Common.{accepted_frame, brings, due_brings, frame_brings, history_after, text_said, the_event, LeavesOnly, Told, weaker, HoldsTalk}
 use Rattle.ss_program.proofs.Common.{StandsWithin, StopsAmong, StopsIn, appended, AppendsFront, accepted, after_line, after_lines, plain_after, replies, report}
-use Rattle.ss_program.proofs.Common.{report_so_far, text_of, Talk, kept_spoken, meant_turn, plain_talk, turn_in, turn_of, turn_spoken, turn_to, writing, Sealing}
+use Rattle.ss_program.proofs.Common.{report_so_far, text_of, Talk, kept_spoken, meant_turn, plain_talk, turn_in, turn_of, turn_spoken, turn_to, writing}
+use Rattle.ss_program.proofs.Common.{Sealing}
 use Rattle.ss_program.proofs.Common.{Status, steps_so_far, Turn, inl, inr}
 use Rattle.ss_replica.specs.declared.judging.Due.TheVariants.{Old as OldFrame}
 use Rattle.ss_program.proofs.SpelledLemmas.{some-frame_spelled}

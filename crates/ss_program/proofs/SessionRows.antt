@@ -58,7 +58,8 @@ unfolding ended_lines unended meaning words is_number number_of number_up_to sig
 report-silences = refl
 
 -- a line that is too long is refused, to none
-report-long : report (begun (Sessions false) history) (text ((codes "@1 " ++ flat_map (λ line. line ++ line ++ line) (codes "0123456789012345678901234567890123456789"
+report-long : report (begun (Sessions false) history)
+    (text ((codes "@1 " ++ flat_map (λ line. line ++ line ++ line) (codes "0123456789012345678901234567890123456789"
     ∷ codes "0123456789012345678901234567890123456789" ∷ codes "0123456789012345678901234567890123456789" ∷ [])) ∷ []))
     ≡ text (codes "refused LINE" ∷ [])
 unfolding ended_lines unended meaning words is_number number_of number_up_to signed_of is_name state refuses refuses_cursor window_index digits

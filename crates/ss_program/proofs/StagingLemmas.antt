@@ -2,7 +2,8 @@
 use Rattle.ss_program.proofs.Common.{inl, inr, ◌⊎◌, ⊎_elim, ◌≡◌, ◌∙◌, ◌++◌, ◌∷◌, [], List, ℕ, Some, None, Result, Ok, Err, sym, ap, subst, false, on_ok_weaker}
 use Rattle.ss_program.proofs.Common.{◌↔◌, IsTrue, OnOk, Event, Refusal, Do, shown, added, refuses, state, Ack, nothing_pending-same, of_content, read_leaves}
 use Rattle.ss_program.proofs.Common.{weaker, KnowsNow, OnlyReads, DiskView, NothingPending, Told, RecordsState, shown_by, Reply, refuses-kept, StandsForEither}
-use Rattle.ss_program.proofs.Common.{TurnsHistory, StoreState, refuses_held, IsShort, StandsShort, Stands, ApplyError, IsOneReply, ReadsAnswer, IsServing, Brought}
+use Rattle.ss_program.proofs.Common.{TurnsHistory, StoreState, refuses_held, IsShort, StandsShort, Stands, ApplyError, IsOneReply, ReadsAnswer, IsServing}
+use Rattle.ss_program.proofs.Common.{Brought}
 use Rattle.ss_program.proofs.Common.{History, command_brings, history_after, StandsAround, StagesBrought, Status}
 use Rattle.ss_journal.proofs.TearLemmas.{on_ok}
 use Rattle.ss_program.proofs.AnswerLemmas.{brings-accepted, history-still, not_refused}

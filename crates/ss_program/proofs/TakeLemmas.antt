@@ -20,7 +20,8 @@ GoesOn-start sealing talk disk session before held input knows at replied =
       at = at;
       replied = replied;
       any_moment = at_start disk (StandsWithin talk (steps_so_far talk.form input)) knows
-          (of_content disk (StandsWithin talk (steps_so_far talk.form input)) at.durable (StandsWithin-all talk (steps_so_far talk.form input) disk.content at.stands));
+          (of_content disk (StandsWithin talk (steps_so_far talk.form input)) at.durable
+          (StandsWithin-all talk (steps_so_far talk.form input) disk.content at.stands));
     })
 
 module _ (sealing : Sealing) (talk : Talk) (old mid new : Told) (first : SessionState) (before held after : Option (List ℕ)) (taken more : List ℕ) where

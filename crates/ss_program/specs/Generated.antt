@@ -8,7 +8,8 @@ use Rattle.ss_outside.specs.Disk.{NothingPending, Told}
 use Rattle.ss_report.specs.Text.{reply_line}
 use Rattle.ss_report.specs.declared.reply.Reply.{Reply}
 use Rattle.ss_report.specs.declared.reply.Reply.TheVariants.{Done as AckLine, Answered, Refused, SeriesHead, Row, WindowsHead, Window}
-use Rattle.ss_report.specs.declared.reply.Reply.TheVariants.{ListHead, Stream, CertifyHead, Side, Last, ValuesHead, Value as MarkedValue, Cursor, Rows, Closed, Old, Gap, Framed}
+use Rattle.ss_report.specs.declared.reply.Reply.TheVariants.{ListHead, Stream, CertifyHead, Side, Last, ValuesHead, Value as MarkedValue, Cursor, Rows, Closed}
+use Rattle.ss_report.specs.declared.reply.Reply.TheVariants.{Old, Gap, Framed}
 use Rattle.ss_store.specs.Uses.{StandsShort}
 use Rattle.ss_program.specs.Held.{StandsShortForFirst}
 use Rattle.ss_program.specs.Line.{History}

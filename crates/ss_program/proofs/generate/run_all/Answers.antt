@@ -42,7 +42,8 @@ loop-command-preserved g c =
       at = step-third inv.at stages seals (λ told at staged sealed none used history stands.
           IsAt-more c.in-Some.command (at none used history stands) next c.in-Some.ensures.sayable c.in_ok-reply.reply
           (g.met.D.Disk.knows_now c.stage_command.new.disk told) staged
-          (g.met.D.Disk.knows_now c.seal.new.disk (seals.tells ∙ told)) c.in-Ok.field-0 c.take.new.self sealed.history c.in-Ok.ensures.sealed.sealed c.take.ensures.tallies);
+          (g.met.D.Disk.knows_now c.seal.new.disk
+          (seals.tells ∙ told)) c.in-Ok.field-0 c.take.new.self sealed.history c.in-Ok.ensures.sealed.sealed c.take.ensures.tallies);
     }
 
 pub returns-in_err-reply-clause-runs : goal.returns-in_err-reply-clause-runs

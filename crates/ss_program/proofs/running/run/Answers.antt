@@ -96,7 +96,8 @@ returns-in-Err-clause-serves g c form sealing asked status is input left told no
     let disk = (g.D.Disk.seen c.args.disk.now).told in
     let before = g.K.Sink.held c.args.sink.now in
     let knows = g.met.D.Disk.knows_now c.args.disk.now told in
-    by-number (λ s. Serves sealing (begun_over used form history) input (g.S.Source.left c.args.source.now) before before disk disk s) c.number-in-Err.result OutOfMemory
+    by-number (λ s. Serves sealing (begun_over used form history) input
+    (g.S.Source.left c.args.source.now) before before disk disk s) c.number-in-Err.result OutOfMemory
     c.number-in-Err.ensures
     (Serves-unopened (inr refl) left refl knows
     (at_start disk (StandsShort used history) knows (of_content disk (StandsShort used history) none stands))) status is

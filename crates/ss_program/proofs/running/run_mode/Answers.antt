@@ -1,4 +1,5 @@
-use Rattle.ss_program.proofs.Common.{◌≡◌, ◌∙◌, Some, refl, sym, subst, ap, Mode, Gen, Between, HasNumbers, Serving, served_by, serving, GeneratesFrom, ServesInput}
+use Rattle.ss_program.proofs.Common.{◌≡◌, ◌∙◌, Some, refl, sym, subst, ap, Mode, Gen, Between, HasNumbers, Serving, served_by, serving, GeneratesFrom}
+use Rattle.ss_program.proofs.Common.{ServesInput}
 use Rattle.ss_program.proofs.Common.{Form, Sealing}
 use Rattle.ss_program.proofs.TakenLemmas.{Feeds-unfed}
 use Rattle.ss_program.proofs.running.run_mode.Goals as goal
@@ -25,12 +26,14 @@ returns-in-Serve-clause-serves g c form sealing asked input left =
 
 pub returns-in-Check-clause-feeds : goal.returns-in-Check-clause-feeds
 returns-in-Check-clause-feeds g c =
-    Feeds-unfed (g.S.Source.faults c.args.source.now) (g.S.Source.taken c.args.source.now) (g.K.Sink.held c.args.sink.now) (g.K.Sink.held c.check.new.sink) c.check.result refl
+    Feeds-unfed (g.S.Source.faults c.args.source.now) (g.S.Source.taken c.args.source.now) (g.K.Sink.held c.args.sink.now)
+    (g.K.Sink.held c.check.new.sink) c.check.result refl
     c.check.ensures.unfed
 
 pub returns-in-Gen-clause-feeds : goal.returns-in-Gen-clause-feeds
 returns-in-Gen-clause-feeds g c =
-    Feeds-unfed (g.S.Source.faults c.args.source.now) (g.S.Source.taken c.args.source.now) (g.K.Sink.held c.args.sink.now) (g.K.Sink.held c.generate.new.sink) c.generate.result refl
+    Feeds-unfed (g.S.Source.faults c.args.source.now) (g.S.Source.taken c.args.source.now) (g.K.Sink.held c.args.sink.now)
+    (g.K.Sink.held c.generate.new.sink) c.generate.result refl
     c.generate.ensures.unfed
 
 pub returns-in-Gen-clause-generates : goal.returns-in-Gen-clause-generates

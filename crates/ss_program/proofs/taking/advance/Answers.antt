@@ -1,4 +1,5 @@
-use Rattle.ss_program.proofs.Common.{◌≡◌, ◌++◌, Ok, Err, take, ap, sym, ◌∙◌, subst, rules, option_copied, TellsStep, step_under_way, step-as, step-none, GoesAmid}
+use Rattle.ss_program.proofs.Common.{◌≡◌, ◌++◌, Ok, Err, take, ap, sym, ◌∙◌, subst, rules, option_copied, TellsStep, step_under_way, step-as, step-none}
+use Rattle.ss_program.proofs.Common.{GoesAmid}
 use Rattle.ss_program.proofs.Common.{TakesBytes, amid, owed_by, kept_so_far, kept_step, steps_so_far}
 use Rattle.ss_program.proofs.AmidLemmas.{GoesAmid-none}
 use Rattle.ss_program.proofs.InputLemmas.{Stops-piece, Takes-kept, advance-told}
@@ -9,7 +10,8 @@ returns-in-None-clause-takes g c =
     let view = g.D.Disk.seen c.args.disk.now in
     let piece = c.args.piece.now in
     let at = amid c.args.store.now.records (owed_by c.args.waiting.now) (g.K.Sink.held c.args.sink.now) c.args.sessions.now in
-    step-none view (TakesBytes (λ count. take count piece) piece c.args.reader.now.form (step_under_way c.args.reader.now) (step_under_way c.feed-count.new.self) at at
+    step-none view (TakesBytes (λ count. take count piece) piece c.args.reader.now.form (step_under_way c.args.reader.now)
+    (step_under_way c.feed-count.new.self) at at
     (Ok c.feed-count.result.0)) (λ told. record {
       goes = λ sealing talk before input form line is.
           let more = input ++ take c.feed-count.result.0 piece in
@@ -42,10 +44,12 @@ returns-in_err-stage_line-in-Some-clause-takes g c =
           let ls = steps_so_far talk.form input in
           let read = subst (λ f. step_under_way c.args.reader.now ≡ kept_so_far f input) (sym form) line in
           let shape = c.form.ensures ∙ c.feed-count.ensures.form in
-          let told = advance-told input more c.in-Some.ended c.feed-count.new.self form c.feed-count.ensures.form (subst (λ o. TellsStep (steps_so_far c.args.reader.now.form input)
+          let told = advance-told input more c.in-Some.ended c.feed-count.new.self form c.feed-count.ensures.form
+          (subst (λ o. TellsStep (steps_so_far c.args.reader.now.form input)
           (steps_so_far c.args.reader.now.form more) o c.feed-count.new.self) c.in-Some.is (c.feed-count.ensures.steps input read)) in
           Stops-piece sealing talk old.told new.told before after status input piece told.0 count told.1
-          ((Takes-kept c.form.result o told.0 takes (c.line_of.ensures ∙ told.2 ∙ ap (λ f. kept_step f told.0) (sym shape)) sealing talk ls before (shape ∙ form)).stops is);
+          ((Takes-kept c.form.result o told.0 takes (c.line_of.ensures ∙ told.2 ∙ ap (λ f. kept_step f told.0) (sym shape)) sealing talk ls before
+          (shape ∙ form)).stops is);
     }))
 
 pub returns-in_ok-stage_line-in-Some-clause-takes : goal.returns-in_ok-stage_line-in-Some-clause-takes
@@ -62,11 +66,13 @@ returns-in_ok-stage_line-in-Some-clause-takes g c =
           let ls = steps_so_far talk.form input in
           let read = subst (λ f. step_under_way c.args.reader.now ≡ kept_so_far f input) (sym form) line in
           let shape = c.form.ensures ∙ c.feed-count.ensures.form in
-          let told = advance-told input more c.in-Some.ended c.feed-count.new.self form c.feed-count.ensures.form (subst (λ o. TellsStep (steps_so_far c.args.reader.now.form input)
+          let told = advance-told input more c.in-Some.ended c.feed-count.new.self form c.feed-count.ensures.form
+          (subst (λ o. TellsStep (steps_so_far c.args.reader.now.form input)
           (steps_so_far c.args.reader.now.form more) o c.feed-count.new.self) c.in-Some.is (c.feed-count.ensures.steps input read)) in (
             subst (λ f. step_under_way c.feed-count.new.self ≡ kept_so_far f more) (c.feed-count.ensures.form ∙ form) (c.feed-count.ensures.taken input read),
             subst (λ l. GoesAmid sealing talk l before to old.told new.told) (sym told.1)
-                ((Takes-kept c.form.result o told.0 takes (c.line_of.ensures ∙ told.2 ∙ ap (λ f. kept_step f told.0) (sym shape)) sealing talk ls before (shape ∙ form)).goes is),
+                ((Takes-kept c.form.result o told.0 takes (c.line_of.ensures ∙ told.2 ∙ ap (λ f. kept_step f told.0) (sym shape)) sealing talk ls before
+                (shape ∙ form)).goes is),
           );
       stops = tt;
     })

@@ -27,6 +27,7 @@ returns-in-Some-clause-takes g c =
     let told = last-told input c.in-Some.ended c.finish.new.self form c.in-Some.ensures.form (c.in-Some.ensures.steps input read) in (
       told.0,
       told.1,
-      Takes-kept c.form.result o told.0 takes (c.line_of.ensures ∙ told.2 ∙ ap (λ f. kept_step f told.0) (sym shape)) sealing talk (steps_so_far talk.form input)
+      Takes-kept c.form.result o told.0 takes (c.line_of.ensures ∙ told.2 ∙ ap (λ f. kept_step f told.0) (sym shape)) sealing talk
+          (steps_so_far talk.form input)
           before (shape ∙ form),
     )))

@@ -1,4 +1,5 @@
-use Rattle.ss_program.proofs.Common.{◌≡◌, ◌++◌, Err, take, take_all, refl, sym, subst, ◌∙◌, arith, rules, append-nil, step_under_way, step-as, step-none, step-then}
+use Rattle.ss_program.proofs.Common.{◌≡◌, ◌++◌, Err, take, take_all, refl, sym, subst, ◌∙◌, arith, rules, append-nil, step_under_way, step-as, step-none}
+use Rattle.ss_program.proofs.Common.{step-then}
 use Rattle.ss_program.proofs.Common.{GoesAmid, OfAmid, amid, owed_by, kept_so_far, steps_so_far}
 use Rattle.ss_program.proofs.SendLemmas.{fits_more}
 use Rattle.ss_program.proofs.InputLemmas.{OfAmid-more, OfAmid-stops}
@@ -13,9 +14,12 @@ loop-done-init g c =
     record {
       fits = omega arith;
       ready = c.requires;
-      on = step-none disk (λ old now. OfAmid c.args.reader.now.form line at old (λ sealing talk before input. (line ≡ kept_so_far talk.form (input ++ take 0 c.args.piece.now))
-          × GoesAmid sealing talk (steps_so_far talk.form (input ++ take 0 c.args.piece.now)) before at old now)) (λ told sealing talk before input form under is.
-          subst (λ bs. (line ≡ kept_so_far talk.form bs) × GoesAmid sealing talk (steps_so_far talk.form bs) before at disk.told disk.told) (sym (append-nil input))
+      on = step-none disk (λ old now. OfAmid c.args.reader.now.form line at old
+          (λ sealing talk before input. (line ≡ kept_so_far talk.form (input ++ take 0 c.args.piece.now))
+          × GoesAmid sealing talk (steps_so_far talk.form (input ++ take 0 c.args.piece.now)) before at old now))
+          (λ told sealing talk before input form under is.
+          subst (λ bs. (line ≡ kept_so_far talk.form bs) × GoesAmid sealing talk (steps_so_far talk.form bs) before at disk.told disk.told)
+          (sym (append-nil input))
           (under, GoesAmid-none sealing talk (steps_so_far talk.form input) before at disk.told (g.met.D.Disk.knows_now c.args.disk.now told) is));
       form = refl;
       faults = refl;
@@ -31,7 +35,8 @@ loop-done-preserved g c =
       fits = fits_more piece done count inv.fits c.in_ok-done.ensures.count.1;
       ready = c.in_ok-done.ensures.continues.ready;
       on = step-then inv.on c.in_ok-done.ensures.takes (λ first second.
-          OfAmid-more c.args.reader.now.form c.loop-done.reader.form inv.form (step_under_way c.args.reader.now) (step_under_way c.loop-done.reader) (step_under_way c.advance.new.reader)
+          OfAmid-more c.args.reader.now.form c.loop-done.reader.form inv.form (step_under_way c.args.reader.now) (step_under_way c.loop-done.reader)
+          (step_under_way c.advance.new.reader)
           (amid c.args.store.now.records (owed_by c.args.waiting.now) (g.K.Sink.held c.args.sink.now) c.args.sessions.now)
           (amid c.loop-done.store.records (owed_by c.loop-done.waiting) (g.K.Sink.held c.loop-done.sink) c.loop-done.sessions)
           (amid c.advance.new.store.records (owed_by c.advance.new.waiting) (g.K.Sink.held c.advance.new.sink) c.advance.new.sessions)
@@ -71,7 +76,8 @@ returns-clause-takes g c =
     let at = amid c.loop-done.store.records (owed_by c.loop-done.waiting) (g.K.Sink.held c.loop-done.sink) c.loop-done.sessions in
     step-as c.loop-done.invariant.on (λ on. record {
       goes = λ sealing talk before input form line is.
-          subst (λ bs. (step_under_way c.loop-done.reader ≡ kept_so_far talk.form (input ++ bs)) × GoesAmid sealing talk (steps_so_far talk.form (input ++ bs)) before at old mid)
+          subst (λ bs. (step_under_way c.loop-done.reader ≡ kept_so_far talk.form (input ++ bs)) × GoesAmid sealing talk
+          (steps_so_far talk.form (input ++ bs)) before at old mid)
           (take_all done piece (omega (arith, c.loop-done-test.false)))
           (on sealing talk before input form line is);
       stops = tt;

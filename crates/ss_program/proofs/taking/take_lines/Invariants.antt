@@ -1,4 +1,5 @@
-use Rattle.ss_program.proofs.Common.{◌≡◌, ◌-◌, ◌≤◌, ◌++◌, length, take, step_under_way, Step, fine, GoesAmid, IsReadyToServe, OfAmid, amid, owed_by, kept_so_far}
+use Rattle.ss_program.proofs.Common.{◌≡◌, ◌-◌, ◌≤◌, ◌++◌, length, take, step_under_way, Step, fine, GoesAmid, IsReadyToServe, OfAmid, amid, owed_by}
+use Rattle.ss_program.proofs.Common.{kept_so_far}
 use Rattle.ss_program.proofs.Common.{steps_so_far}
 use Rattle.ss_program.proofs.taking.take_lines.Given as goal
 

@@ -17,7 +17,8 @@ returns-in_err-take_lines-clause-takes g c =
     let status = c.in_err-take_lines.field-0.0 in
     let same : c.from_residual.result ≡ Err status = search rules in
     rw same
-    (step-as c.in_err-take_lines.ensures.takes (λ takes. TakesPiece-stopped c.args.reader.now.form c.args.sessions.now store line c.args.waiting.now held old.told
+    (step-as c.in_err-take_lines.ensures.takes
+    (λ takes. TakesPiece-stopped c.args.reader.now.form c.args.sessions.now store line c.args.waiting.now held old.told
     (shown-sealed store.records.journal old.told.content c.requires.sealed) c.take_lines.new.sessions is next c.take_lines.new.waiting
     after piece new.told status takes.stops))
 
