@@ -1,5 +1,5 @@
 -- What lines bring after the same events, whichever of their values are old.
-use Rattle.ss_program.proofs.Common.{◌≡◌, ◌⊎◌, ◌∙◌, ℕ, ℤ, List, [], ◌∷◌, ◌++◌, length, Option, Some, None, Result, Ok, Err, refl, sym, ap, ap₂, subst, inl, inr}
+use Rattle.ss_program.proofs.Common.{◌≡◌, ◌⊎◌, ◌∙◌, ℕ, ℤ, List, [], ◌∷◌, ◌++◌, length, Option, Some, None, Result, Ok, Err, refl, sym, ap, ap₂, inl, inr}
 use Rattle.ss_program.proofs.Common.{arith, common_steps, ◌+ℤ◌, All, false, flat_map, map, option_map, pos, length-map, map-append, All-head, All-tail, listed}
 use Rattle.ss_program.proofs.Common.{event_name, row_query, row_start, rows_of, row_count, whole_query, Event, End, Kind, Query, Refusal, Series, evidence_in}
 use Rattle.ss_program.proofs.Common.{base_of, certified_sum, certificate_of, evidence_of, Evidence, meant-sayable, meaning, IsSayable, takes_value, Command, Do}
@@ -151,8 +151,7 @@ said-command one other ListAll same sayable plain_talk =
 brought-command : (one other : History) (command : Command) → HaveSameEvents one other →
     (command_brings one command).event ≡ (command_brings other command).event
 brought-command one other command same = elim (event-or-none command) [
-  | inl is ↦ subst (λ (k : Command). (command_brings one k).event ≡ (command_brings other k).event) (sym is.1)
-      (ap (λ (b : Brought). b.event) (event-alike one other is.0 same))
+  | inl is ↦ rw is.1 (ap (λ (b : Brought). b.event) (event-alike one other is.0 same))
   | inr none ↦ none false one ∙ sym (none false other)
 ]
 
@@ -186,9 +185,7 @@ still-same one other (Some event) same = more-same one other event same
 
 line-after : (one other : History) (line : List ℕ) → HaveSameEvents one other →
     HaveSameEvents (history_after one (brings one line)) (history_after other (brings other line))
-line-after one other line same =
-    subst (λ event. HaveSameEvents (history_after one (brings one line)) (other ++ the_event event)) (line-brought one other line same)
-    (still-same one other (brings one line).event same)
+line-after one other line same = rw (← line-brought one other line same) (still-same one other (brings one line).event same)
 
 pub lines-after : (one other : History) (ls : List (List ℕ)) → HaveSameEvents one other → HaveSameEvents (plain_after one ls) (plain_after other ls)
 lines-after one other [] same = same

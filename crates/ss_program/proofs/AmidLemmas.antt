@@ -1,10 +1,9 @@
 -- Between two lines of a session: how it begins, how it goes on, and where a run stops.
-use Rattle.ss_program.proofs.Common.{◌≡◌, ℕ, ◌≤◌, ◌++◌, List, [], ◌∷◌, length, Option, Some, None, Result, Ok, Err, OnOk, refl, sym, ap, ◌∙◌, subst}
-use Rattle.ss_program.proofs.Common.{common_steps, append_assoc, arith, append-nil, length-append, at_start, joined, of_content, weaker, KnowsNow, LeavesOnly}
-use Rattle.ss_program.proofs.Common.{DiskView, NothingPending, Told, shown_by, Cursors, Amid, AreOwed, GoesAmid, IsAmid, IsAtRest, TakesFurther, TakesNone}
-use Rattle.ss_program.proofs.Common.{one_line_more, owed_by, IsOpen, NoneWait, SessionState, StandsBeyond, StandsWithin, StopsIn, sealing_by, HoldsTalk}
-use Rattle.ss_program.proofs.Common.{appended}
-use Rattle.ss_program.proofs.Common.{after_lines, text_of, Talk, Sealing, Each, Shared, Status}
+use Rattle.ss_program.proofs.Common.{◌≡◌, ℕ, ◌≤◌, ◌++◌, List, [], ◌∷◌, length, Option, Some, None, Result, Ok, Err, OnOk, refl, sym, ap, ◌∙◌, common_steps}
+use Rattle.ss_program.proofs.Common.{append_assoc, arith, append-nil, length-append, at_start, joined, of_content, weaker, KnowsNow, LeavesOnly, DiskView}
+use Rattle.ss_program.proofs.Common.{NothingPending, Told, shown_by, Cursors, Amid, AreOwed, GoesAmid, IsAmid, IsAtRest, TakesFurther, TakesNone, one_line_more}
+use Rattle.ss_program.proofs.Common.{owed_by, IsOpen, NoneWait, SessionState, StandsBeyond, StandsWithin, StopsIn, sealing_by, HoldsTalk, appended, after_lines}
+use Rattle.ss_program.proofs.Common.{text_of, Talk, Sealing, Each, Shared, Status}
 use Rattle.ss_program.proofs.SessionLemmas.{after_lines-append, moments-more, text_of-append}
 
 -- where none wait, no line is owed anything; which tells how events come to the disk
@@ -40,7 +39,7 @@ StandsWithin-out talk out rest image some = (
   out ++ some.0,
   some.1,
   ap (λ ls. out ++ ls) some.2 ∙ sym (append_assoc out some.0 some.1),
-  subst (λ (t : Talk). HoldsTalk t image) (sym (after_lines-append talk out some.0)) some.3,
+  rw after_lines-append some.3,
 )
 
 -- and nothing need be sent of what is said to them
@@ -56,8 +55,7 @@ StandsBeyond-all talk ls bytes image few stands = (ls, [], sym (append-nil ls), 
 pub moments-out : (talk : Talk) (old new : Told) (ls out rest : List (List ℕ)) → ls ≡ out ++ rest →
     LeavesOnly old new (StandsWithin (after_lines talk out) rest) → LeavesOnly old new (StandsWithin talk ls)
 moments-out talk old new ls out rest are run =
-    subst (λ l. LeavesOnly old new (StandsWithin talk l)) (sym are)
-    (weaker old new (StandsWithin (after_lines talk out) rest) (StandsWithin talk (out ++ rest)) (StandsWithin-out talk out rest) run)
+    rw are (weaker old new (StandsWithin (after_lines talk out) rest) (StandsWithin talk (out ++ rest)) (StandsWithin-out talk out rest) run)
 
 module _ (sealing : Sealing) (talk : Talk) (ls ms : List (List ℕ)) (before : Option (List ℕ)) (first : Amid) (old mid new : Told) where
   -- a session goes on from where it came to, or stops after it
@@ -81,8 +79,7 @@ pub GoesAmid-none : (sealing : Sealing) (talk : Talk) (ls : List (List ℕ)) (be
 GoesAmid-none sealing talk ls before at disk knows is = record {
   amid = is;
   any_moment = at_start disk (StandsWithin talk ls) knows
-      (of_content disk (StandsWithin talk ls) is.durable
-      (subst (λ l. StandsWithin talk l disk.content) (sym is.are) (StandsWithin-out talk is.out is.rest disk.content is.within)));
+      (of_content disk (StandsWithin talk ls) is.durable (rw is.are (StandsWithin-out talk is.out is.rest disk.content is.within)));
 }
 
 -- where nothing is owed and nothing is staged, the session is between two lines
@@ -97,7 +94,7 @@ IsAmid-begin sealing talk ls before at disk none few same stands durable said cu
   said = said;
   owes = none;
   few = few;
-  shown = subst (HoldsTalk (after_lines talk ls)) (sym same) stands;
+  shown = rw same stands;
   within = ([], [], refl, stands);
   durable = durable;
   cursors = cursors;
@@ -122,16 +119,14 @@ module _ {sealing : Sealing} {talk : Talk} {ls : List (List ℕ)} {before : Opti
   Takes-then {more = more} {mores = mores} (Ok u) first second = record {
     goes = λ at.
         let one = first.goes at in
-        subst (λ l. GoesAmid sealing talk l before to old new) (append_assoc ls more mores)
-        (GoesAmid-then sealing talk (ls ++ more) mores before mid old between new to one (second.goes one.amid));
+        rw append_assoc at (GoesAmid-then sealing talk (ls ++ more) mores before mid old between new to one (second.goes one.amid));
     stops = tt;
   }
   Takes-then {more = more} {mores = mores} (Err status) first second = record {
     goes = tt;
     stops = λ at.
         let one = first.goes at in
-        subst (λ l. StopsIn sealing talk l old new before to.held status) (append_assoc ls more mores)
-        (StopsIn-after sealing talk (ls ++ more) mores before mid old between new to.held status one (second.stops one.amid));
+        rw append_assoc at (StopsIn-after sealing talk (ls ++ more) mores before mid old between new to.held status one (second.stops one.amid));
   }
 
   -- or others alone
@@ -140,12 +135,11 @@ module _ {sealing : Sealing} {talk : Talk} {ls : List (List ℕ)} {before : Opti
       TakesFurther sealing talk ls mores before from to result old new
   Takes-next {mores = mores} result first second =
       Takes-then {more = []} {mores = mores} result first
-      (subst (λ l. TakesFurther sealing talk l mores before mid to result between new) (sym (append-nil ls)) second)
+      (rw append-nil second)
 
 -- none are taken
 pub TakesNone-still : (at : Cursors → Amid) (disk : Told) (u : Unit {0}) → KnowsNow disk → TakesNone at at (Ok u) disk disk
 TakesNone-still at disk u knows cursors sealing talk ls before = record {
-  goes = λ is. subst (λ l. GoesAmid sealing talk l before (at cursors) disk disk) (sym (append-nil ls))
-      (GoesAmid-none sealing talk ls before (at cursors) disk knows is);
+  goes = λ is. rw append-nil (GoesAmid-none sealing talk ls before (at cursors) disk knows is);
   stops = tt;
 }

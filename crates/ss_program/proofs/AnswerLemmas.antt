@@ -1,16 +1,14 @@
 -- What a line brings, by what it means, and what sending it leaves.
-use Rattle.ss_program.proofs.Common.{◌≡◌, ℕ, ◌<◌, Bool, ◌++◌, ◌↔◌, List, [], ◌∷◌, length, Option, Some, None, IsSome, Ok, Err, Result, false}
-use Rattle.ss_program.proofs.Common.{common_steps, refl, sym, ap, ◌∙◌, subst, arith, inl, inr, cases_lt, cond-true, cond-false, le-leb, lt-leb, lt-ltb}
-use Rattle.ss_program.proofs.Common.{append-nil, length-append, flat_map, nat_le, IsTrue, Event, Query, Refusal, unless_long, LONGEST_LINE, Command, Do}
-use Rattle.ss_program.proofs.Common.{Ask, Certify, Last, Values, Windows, event_name, added, answer-known, outcome_of, refuses_query, refuses_values, ack_of}
-use Rattle.ss_program.proofs.Common.{refuses, refuses_series, Stream, state, stream_named, Outcome, Ack, Failed, said_line, Reply, Answered, Refused}
-use Rattle.ss_program.proofs.Common.{WindowsHead, DiskView, shown-sealed, IsSealed, RecordsState, shown_by}
-use Rattle.ss_program.proofs.Common.{refuses_query_held, StoreIsIn, StoreIsKept, StoreState, Stands, ApplyError}
-use Rattle.ss_program.proofs.Common.{refuses_query_held-is, AllAgree-recovered, IsOpen, at_sink}
-use Rattle.ss_program.proofs.Common.{accepted_in, command_in, framed_replies, answer_replies, brings_in, Brought, command_brings, History, history_after}
-use Rattle.ss_program.proofs.Common.{kept_in, meaning_in, only_replies, refused, text_said, the_event, unless_refused, window_rows, Sends}
-use Rattle.ss_program.proofs.Common.{IsApplyStop, IsShowStop, IsStop, Status, HasRows, Question, question_command, newest_replies, newest_of, option_map, not}
-use Rattle.ss_program.proofs.Common.{is_some, first_that_applies, Unknown, ◌⊎◌}
+use Rattle.ss_program.proofs.Common.{◌≡◌, ℕ, ◌<◌, Bool, ◌++◌, ◌↔◌, List, [], ◌∷◌, length, Option, Some, None, IsSome, Ok, Err, Result, false, common_steps}
+use Rattle.ss_program.proofs.Common.{refl, sym, ap, ◌∙◌, subst, arith, inl, inr, cases_lt, cond-true, cond-false, le-leb, lt-leb, lt-ltb, append-nil}
+use Rattle.ss_program.proofs.Common.{length-append, flat_map, nat_le, IsTrue, Event, Query, Refusal, unless_long, LONGEST_LINE, Command, Do, Ask, Certify, Last}
+use Rattle.ss_program.proofs.Common.{Values, Windows, event_name, added, answer-known, outcome_of, refuses_query, refuses_values, ack_of, refuses}
+use Rattle.ss_program.proofs.Common.{refuses_series, Stream, state, stream_named, Outcome, Ack, Failed, said_line, Reply, Answered, Refused, WindowsHead}
+use Rattle.ss_program.proofs.Common.{DiskView, shown-sealed, IsSealed, RecordsState, shown_by, refuses_query_held, StoreIsIn, StoreIsKept, StoreState, Stands}
+use Rattle.ss_program.proofs.Common.{ApplyError, refuses_query_held-is, AllAgree-recovered, IsOpen, at_sink, accepted_in, command_in, framed_replies}
+use Rattle.ss_program.proofs.Common.{answer_replies, brings_in, Brought, command_brings, History, history_after, kept_in, meaning_in, only_replies, refused}
+use Rattle.ss_program.proofs.Common.{text_said, the_event, unless_refused, window_rows, Sends, IsApplyStop, IsShowStop, IsStop, Status, HasRows, Question}
+use Rattle.ss_program.proofs.Common.{question_command, newest_replies, newest_of, option_map, not, is_some, first_that_applies, Unknown, ◌⊎◌}
 use Rattle.ss_command.specs.Grammar.{meaning}
 use Rattle.ss_command.specs.declared.command.Command.TheVariants.{Series as AskRows, List as ListAll}
 use Rattle.ss_model.specs.Refusals.{refuses_reading}
@@ -46,7 +44,7 @@ not_refused result (Some r) why other = absurd (other r ((why r).1 refl))
 -- an event that was accepted is one
 pub IsSome-accepted : (framed : Bool) (history : History) (event : Event) → refuses (state history) event ≡ None →
     IsSome (command_in framed history (Do event)).event
-IsSome-accepted framed history event is = subst (λ b. IsSome b.event) (sym (brings-accepted framed history event is)) refl
+IsSome-accepted framed history event is = rw brings-accepted
 
 -- a command that only reads brings no event
 unless_refused-event : (refusal : Option Refusal) (rows : List Reply) → (unless_refused refusal (only_replies rows)).event ≡ None
@@ -67,7 +65,7 @@ event-or-none ListAll = inr (λ framed history. refl)
 
 pub rows-event : (history : History) (command : Command) → HasRows command → (command_brings history command).event ≡ None
 rows-event history command rows = elim (event-or-none command) [
-  | inl is ↦ absurd (subst HasRows is.1 rows)
+  | inl is ↦ absurd (rw is.1 at rows)
   | inr none ↦ none false history
 ]
 
@@ -95,10 +93,10 @@ refuses_query-kept store image history query kept stands =
 -- where nothing is staged the content is what is shown, and what a store holds is in it
 pub Stands-only_replies : (records : RecordsState) (content : List ℕ) (history : History) → IsSealed records.journal → Stands history content →
     Stands history (shown_by records content)
-Stands-only_replies records content history sealed stands = subst (Stands history) (sym (shown-sealed records.journal content sealed)) stands
+Stands-only_replies records content history sealed stands = rw shown-sealed stands
 
 pub StoreIsIn-sealed : (store : StoreState) (content : List ℕ) → IsSealed store.records.journal → StoreIsKept store content → StoreIsIn store content
-StoreIsIn-sealed store content sealed kept = subst (StoreIsIn store) (shown-sealed store.records.journal content sealed) kept.shown
+StoreIsIn-sealed store content sealed kept = rw shown-sealed at kept.shown
 
 pub StoreIsIn-open : (disk : DiskView) (store : StoreState) → IsOpen disk store → IsTrue disk.tells → StoreIsIn store disk.told.content
 StoreIsIn-open disk store opens told = StoreIsIn-sealed store disk.told.content opens.sealed (opens.serves.kept told)
@@ -194,7 +192,7 @@ module _ (speaker : Option ℕ) where
   command-some framed history command some = elim (event-or-none command) [
     | inl is ↦ subst (λ (k : Command). IsSome (command_in framed history k).event → 0 < length (text_said speaker (command_in framed history k))) (sym is.1)
         (event-some framed history is.0 (refuses (state history) is.0)) some
-    | inr none ↦ (let wrong = subst (λ e. IsSome e) (none framed history) some in cc)
+    | inr none ↦ (let wrong = rw none at some in cc)
   ]
 
   pub meaning-some : (framed : Bool) (history : History) (means : Result (Option Command) Refusal) → IsSome (meaning_in framed history means).event →

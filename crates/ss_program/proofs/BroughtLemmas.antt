@@ -1,11 +1,10 @@
 -- A line of a session, by what it brings.
-use Rattle.ss_program.proofs.Common.{◌⊎◌, ◌≡◌, ℕ, ◌<◌, ◌++◌, List, [], ◌∷◌, length, Option, Some, None, Result, Ok, Err, refl, sym, ap, ◌∙◌, subst, arith}
-use Rattle.ss_program.proofs.Common.{append-nil, flat_map, IsTrue, OnOk, of_content, reads-none, KnowsNow, LeavesOnly, shown-sealed, DiskView, Told}
-use Rattle.ss_program.proofs.Common.{RecordsState, shown_by, said_line, Reply, TurnsHistory, StoreState, Stands, Amid, GoesAmid, IsAmid, Owed, StagesBrought}
-use Rattle.ss_program.proofs.Common.{TakesBrought, TakesNone, TakesTurn, amid, owed_by, with_text, IsOpen, Brought, History, history_after, nothing}
-use Rattle.ss_program.proofs.Common.{text_said, IsAlone, HoldsTalk, StandsAround, StandsWithin, StopsIn, appended, after_line, after_lines, text_of, Talk}
-use Rattle.ss_program.proofs.Common.{Turn, after_turn, silent, turn_brought, turn_of, Cursors, Sealing, Each, Shared, Status, OutOfMemory, TakesStarved, Step}
-use Rattle.ss_program.proofs.Common.{disk_verdict}
+use Rattle.ss_program.proofs.Common.{◌⊎◌, ◌≡◌, ℕ, ◌<◌, ◌++◌, List, [], ◌∷◌, length, Option, Some, None, Result, Ok, Err, refl, sym, ap, ◌∙◌, arith, append-nil}
+use Rattle.ss_program.proofs.Common.{flat_map, IsTrue, OnOk, of_content, reads-none, KnowsNow, LeavesOnly, shown-sealed, DiskView, Told, RecordsState, shown_by}
+use Rattle.ss_program.proofs.Common.{said_line, Reply, TurnsHistory, StoreState, Stands, Amid, GoesAmid, IsAmid, Owed, StagesBrought, TakesBrought, TakesNone}
+use Rattle.ss_program.proofs.Common.{TakesTurn, amid, owed_by, with_text, IsOpen, Brought, History, history_after, nothing, text_said, IsAlone, HoldsTalk}
+use Rattle.ss_program.proofs.Common.{StandsAround, StandsWithin, appended, after_line, after_lines, text_of, Talk, Turn, after_turn, silent, turn_brought}
+use Rattle.ss_program.proofs.Common.{turn_of, Cursors, Sealing, Each, Shared, Status, OutOfMemory, TakesStarved, Step, disk_verdict}
 use Rattle.ss_program.proofs.AmidLemmas.{GoesAmid-none, Takes-next, Takes-then, said-all}
 use Rattle.ss_program.proofs.SealLemmas.{line-moments, line-owed, line-stopped}
 use Rattle.ss_program.proofs.SessionLemmas.{StopsIn-more, after_lines-push, moments-more, text_of-one, text_of-push}
@@ -24,7 +23,7 @@ the_answer u = Ok u
 -- one line, where each event is sealed by itself
 pub IsAlone-one : (sealing : Sealing) (talk : Talk) (line : List ℕ) (bytes : ℕ) → bytes < length (turn_of talk line).says →
     IsAlone sealing talk (line ∷ []) bytes
-IsAlone-one Each talk line bytes less = (refl, subst (λ (t : List ℕ). bytes < length t) (sym (text_of-one talk line)) less)
+IsAlone-one Each talk line bytes less = (refl, rw text_of-one less)
 IsAlone-one Shared talk line bytes less = tt
 
 -- what a line does, by its turn
@@ -40,9 +39,7 @@ module _ (turn : Talk → Turn) (was is : RecordsState) (waiting : Option (List 
       (after_turn here (turn here)).history old new result →
       TurnsHistory was is here.history (λ image. Stands here.history image ⊎ Stands (after_line here line).history image)
       (after_line here line).history old new result
-  turns-after result here line known turns =
-      subst (λ (t : Turn). TurnsHistory was is here.history (λ image. Stands here.history image ⊎ Stands (after_turn here t).history image)
-      (after_turn here t).history old new result) (sym known) turns
+  turns-after result here line known turns = rw known turns
 
   -- what a line brings is done in memory, and what is said to it is owed
   pub TakesTurn-owed : {T : Type 0} (value : T) (after : Cursors) (text : List ℕ) (u : Unit {0}) → Turning turn was is (given value) old new →
@@ -77,10 +74,8 @@ module _ (turn : Talk → Turn) (was is : RecordsState) (waiting : Option (List 
     goes = tt;
     stops = λ at.
         let here = after_lines talk ls in
-        subst (λ o. StopsIn sealing talk (ls ++ line ∷ []) old new before o status) same
-        (line-stopped sealing talk ls before (amid was (owed_by waiting) held cursors) old new knows at line is (halted {T = T} status)
-        (turns-after (halted {T = T} status) here line known (turns here)) waiting status refl other
-        (subst (λ (t : Turn). 0 < length t.says) (sym known) (some here at.shown.0)));
+        rw same at (line-stopped sealing talk ls before (amid was (owed_by waiting) held cursors) old new knows at line is (halted {T = T} status)
+        (turns-after (halted {T = T} status) here line known (turns here)) waiting status refl other (rw known (some here at.shown.0)));
   }
 
 -- the same by what it brings
@@ -161,7 +156,7 @@ module _ (speaker : Option ℕ) (was : RecordsState) (held : Option (List ℕ)) 
       let none = no-lines at.rest at.few in
       let out : ls ≡ at.out = at.are ∙ ap (λ l. at.out ++ l) none ∙ append-nil at.out in
       let stands = within-none (after_lines talk at.out) disk.content
-      (subst (λ l. StandsWithin (after_lines talk at.out) l disk.content) none at.within) in
+      (rw none at at.within) in
       GoesAmid-none Each talk (ls ++ line ∷ []) before (amid was (owed_by None) held cursors) disk knows (record {
         out = ls ++ line ∷ [];
         rest = [];
@@ -169,8 +164,8 @@ module _ (speaker : Option ℕ) (was : RecordsState) (held : Option (List ℕ)) 
         said = at.said ∙ ap (λ l. appended before (text_of talk l)) (sym out) ∙ ap (λ (t : List ℕ). appended before t) (sym silent-text);
         owes = refl;
         few = refl;
-        shown = subst (λ (t : Talk). HoldsTalk t (shown_by was disk.content)) (sym silent-talk) at.shown;
-        within = ([], [], refl, subst (λ (t : Talk). HoldsTalk t disk.content) (ap (λ l. after_lines talk l) (sym out) ∙ sym silent-talk) stands);
+        shown = rw silent-talk at.shown;
+        within = ([], [], refl, rw (ap (λ l. after_lines talk l) (sym out) ∙ sym silent-talk) at stands);
         durable = at.durable;
         cursors = at.cursors ∙ ap (λ (t : Talk). t.cursors) (sym silent-talk);
       })
@@ -180,9 +175,7 @@ module _ (speaker : Option ℕ) (was : RecordsState) (held : Option (List ℕ)) 
       let here = after_lines talk ls in
       let from = amid was (owed_by (Some replies)) held cursors in
       line-owed Shared talk ls before from disk disk knows at line was (the_answer tt)
-      (subst (λ (t : Turn). TurnsHistory was was here.history (λ image. Stands here.history image ⊎ Stands (after_turn here t).history image)
-      (after_turn here t).history disk disk (the_answer tt)) (sym turn)
-      (Turns-looked was was here.history disk disk nothing (the_answer tt) knows (reads-none disk) refl (λ stands. refl)))
+      (rw turn (Turns-looked was was here.history disk disk nothing (the_answer tt) knows (reads-none disk) refl (λ stands. refl)))
       from tt refl (ap (λ (t : Turn). t.cursors) turn ∙ sym at.cursors) refl
       (ap (λ (t : List ℕ). record { text = t; lines = None }) (sym (append-nil replies))
       ∙ ap (λ (t : Turn). with_text (owed_by (Some replies)) t.says) (sym turn)) refl
@@ -209,8 +202,7 @@ module _ {was is : RecordsState} {owed left : Owed} {held after : Option (List �
   TakesTurn-unsealed status takes sealing talk ls before line known = record {
     goes = tt;
     stops = λ at.
-        StopsIn-more sealing talk ls (line ∷ []) old new before after status
-        (subst (λ l. StopsIn sealing talk l old new before after status) (append-nil ls) ((takes cursors sealing talk ls before).stops at));
+        StopsIn-more sealing talk ls (line ∷ []) old new before after status (rw append-nil at ((takes cursors sealing talk ls before).stops at));
   }
 
   -- Memory ran out at a line that wants it, after which all that waited was brought to the disk and sent.
@@ -224,8 +216,8 @@ module _ {was is : RecordsState} {owed left : Owed} {held after : Option (List �
     stops = λ at.
         let here = after_lines talk ls in
         let to = amid is left after cursors in
-        let goes = subst (λ l. GoesAmid sealing talk l before to old new) (append-nil ls) ((takes cursors sealing talk ls before).goes at) in
-        let rests = of_content new (HoldsTalk here) goes.amid.durable (subst (HoldsTalk here) sealed goes.amid.shown) in
+        let goes = rw append-nil at ((takes cursors sealing talk ls before).goes at) in
+        let rests = of_content new (HoldsTalk here) goes.amid.durable (rw sealed at goes.amid.shown) in
         let want = wants here (sym at.cursors) at.shown.0 in
         record {
           at = record {
@@ -235,11 +227,11 @@ module _ {was is : RecordsState} {owed left : Owed} {held after : Option (List �
             are = refl;
             bytes = 0;
             few = omega arith;
-            alone = IsAlone-one sealing here line 0 (subst (λ (t : Turn). 0 < length t.says) (sym known) want.1);
+            alone = IsAlone-one sealing here line 0 (rw known want.1);
             sent = said-all sealing talk ls before to new none goes.amid
                 ∙ ap (λ (t : List ℕ). appended before t) (sym (append-nil (text_of talk ls)));
             left = λ image is. ([], line ∷ [], refl, omega arith, rests image is);
-            starved = λ memory. (refl, subst (λ (t : Turn). IsTrue t.wants_memory) (sym known) want.0, rests);
+            starved = λ memory. (refl, rw known want.0, rests);
           };
           any_moment = moments-more talk old new ls (line ∷ []) goes.any_moment;
         };
@@ -283,9 +275,7 @@ module _ {was mid is : RecordsState} {owed between left : Owed} {held middle aft
 pub step-starved : {was is : RecordsState} {owed : Owed} {held : Option (List ℕ)} {to : Cursors → Amid} {status : Status} {old mid new : DiskView} →
     mid ≡ old → is ≡ was → Step (disk_verdict status) mid new (TakesStarved is (amid is owed held) to status) →
     Step (disk_verdict status) old new (TakesStarved was (amid was owed held) to status)
-step-starved {was = was} {owed = owed} {held = held} {to = to} {status = status} {mid = mid} {new = new} still same starves =
-    subst (λ d. Step (disk_verdict status) d new (TakesStarved was (amid was owed held) to status)) still
-    (subst (λ r. Step (disk_verdict status) mid new (TakesStarved r (amid r owed held) to status)) same starves)
+step-starved {was = was} {owed = owed} {held = held} {to = to} {status = status} {mid = mid} {new = new} still same starves = rw (same, still) at starves
 
 -- where nothing is staged, what records show is the content
 pub shown-opened : (disk : DiskView) (store : StoreState) (result : Result (Unit {0}) Status) → OnOk result (IsOpen disk store) →

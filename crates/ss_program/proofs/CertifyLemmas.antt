@@ -1,9 +1,9 @@
 -- What a certificate brings, and that the evidence that is made for it is right.
-use Rattle.ss_program.proofs.Common.{◌≡◌, ℕ, ◌<◌, true, false, ◌↔◌, List, [], ◌∷◌, length, Ok, Option, Some, None, IsTrue, refl, sym, ap, ◌∙◌, subst, arith}
+use Rattle.ss_program.proofs.Common.{◌≡◌, ℕ, ◌<◌, true, false, ◌↔◌, List, [], ◌∷◌, length, Ok, Option, Some, None, IsTrue, refl, ap, ◌∙◌, arith}
 use Rattle.ss_program.proofs.Common.{inl, inr, cases_Bool, length-append, flat_map, is_some, option_map, adds_up, End, Query, Refusal, All-named}
 use Rattle.ss_program.proofs.Common.{HasCuts-seen_of, ChecksEvidence, evidence_in, IsEvidence, evidence_of, head_of, side_of, told, Evidence, Certify, stands}
 use Rattle.ss_program.proofs.Common.{Stream, state, stream_named, shown-sealed, IsSealed, DiskView, OfContent, Told, seen_of, RecordsState, shown_by, said_line}
-use Rattle.ss_program.proofs.Common.{Reply, StoreState, Recovers, Recovers-StoreIsIn, IsOpen, HasEvidence, Brought, History, certified, command_brings, refused}
+use Rattle.ss_program.proofs.Common.{Reply, StoreState, Recovers, Recovers-StoreIsIn, IsOpen, HasEvidence, History, certified, command_brings, refused}
 use Rattle.ss_program.proofs.Common.{only_replies, text_said, unless_refused}
 use Rattle.ss_certify.proofs.MadeLemmas.{IsEvidence-evidence_of}
 use Rattle.ss_model.specs.Answers.{refuses_query}
@@ -43,14 +43,13 @@ evidence-right streams query end w is adds has =
       found.0,
       found.1,
       sound,
-      subst (λ e. IsEvidence query.kind end seen e) found.2
-          (IsEvidence-evidence_of query.kind end seen adds (HasCuts-seen_of query.kind query.from query.to found.0 sound)),
+      rw found.2 at (IsEvidence-evidence_of query.kind end seen adds (HasCuts-seen_of query.kind query.from query.to found.0 sound)),
     )
 
 -- where nothing is staged the content is what is shown
 pub Recovers-only_replies : (records : RecordsState) (content : List ℕ) (streams : List Stream) → IsSealed records.journal → Recovers streams content →
     Recovers streams (shown_by records content)
-Recovers-only_replies records content streams sealed recovers = subst (Recovers streams) (sym (shown-sealed records.journal content sealed)) recovers
+Recovers-only_replies records content streams sealed recovers = rw shown-sealed recovers
 
 -- so what a store makes isn't found wrong, on a disk that tells
 pub never-wrong : (store : StoreState) (disk : DiskView) (query : Query) (end : End) (w : Evidence) (new : Told) → IsOpen disk store →
@@ -89,7 +88,7 @@ module _ (speaker : Option ℕ) where
       0 < length (text_said speaker (command_brings history (Certify query end)))
   certified-some history query end none =
       let known = evidence-known (state history) query end none in
-      subst (λ (b : Brought). 0 < length (text_said speaker b)) (sym (brings-certified history query end known.0 none known.1))
+      rw (brings-certified history query end known.0 none known.1)
       (head-some (head_of known.0) (flat_map (λ c. side_of c true ∷ side_of c false ∷ []) known.0.certs.items))
 
 -- ---- its lines

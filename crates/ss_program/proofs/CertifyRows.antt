@@ -1,6 +1,6 @@
 -- Worked rows of certificates, each computed from a history.
 use Rattle.ss_program.proofs.Common.{◌≡◌, ◌++◌, [], ◌∷◌, refl, ℕ, List, Some, Ok, codes, map, pos, negsuc, flat_map, Create, Value, exp, End, Query}
-use Rattle.ss_program.proofs.Common.{evidence_in, IsEvidence, end_asked, Evidence, lines, Happened, added, Stream, stream_named, OnlyReads, Told, seen_of}
+use Rattle.ss_program.proofs.Common.{evidence_in, IsEvidence, end_asked, Evidence, lines, Happened, added, Stream, stream_named, Told, seen_of}
 use Rattle.ss_program.proofs.Common.{Recovers, HasEvidence, ReadsAnswer, IsSharp, History, accepted, report, plain_talk}
 use Rattle.std.specs.Fmt.{digits}
 use Rattle.ss_bounds.specs.Attained.{greatest_sum_at, least_sum_at}

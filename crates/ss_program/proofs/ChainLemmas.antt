@@ -1,12 +1,11 @@
 -- What runs over one file leave, one after the other.
 use Rattle.ss_program.proofs.Common.{◌≡◌, ◌∙◌, ◌⊎◌, ℕ, ◌+◌, ◌-◌, ◌*◌, ◌<◌, ◌≤◌, ◌++◌, List, [], ◌∷◌, length, take, take_all, Option, Some, None, refl, sym, ap}
-use Rattle.ss_program.proofs.Common.{subst, append_assoc, arith, inl, inr, append-nil, max, Form, Mode, Serve, Check, Gen, Sealing, Each, nothing_pending-same}
+use Rattle.ss_program.proofs.Common.{append_assoc, arith, inl, inr, append-nil, max, Form, Mode, Serve, Check, Gen, Sealing, Each, nothing_pending-same}
 use Rattle.ss_program.proofs.Common.{read_leaves, reads-none, KnowsNow, OnlyReads, DiskView, NothingPending, Told, WhereTold, Stands, StandsShort, UsesAtMost}
-use Rattle.ss_program.proofs.Common.{most_needed, length-uses, UsesAtMost-more, StandsShortForFirst, acks, AreLinked, Ending, Extends, ExtendsAll, IsLeftBy}
-use Rattle.ss_program.proofs.Common.{IsLink, Link, acked_in, acked_till, by_crash, by_itself, offered_in, Generates, generated_lines, History, Serves, accepted}
-use Rattle.ss_program.proofs.Common.{steps, Talk, begun, begun_over, plain_talk, Status, Done, Usage, RefusedStore, DiskFault, SourceFault, SinkFault}
-use Rattle.ss_program.proofs.Common.{OutOfMemory}
-use Rattle.ss_program.proofs.Common.{InputLimit, RecordChanged}
+use Rattle.ss_program.proofs.Common.{most_needed, length-uses, UsesAtMost-more, acks, AreLinked, Ending, Extends, ExtendsAll, IsLeftBy, IsLink, Link, acked_in}
+use Rattle.ss_program.proofs.Common.{acked_till, by_crash, by_itself, offered_in, Generates, generated_lines, History, Serves, accepted, steps, Talk, begun}
+use Rattle.ss_program.proofs.Common.{begun_over, plain_talk, Status, Done, Usage, RefusedStore, DiskFault, SourceFault, SinkFault, OutOfMemory, InputLimit}
+use Rattle.ss_program.proofs.Common.{RecordChanged}
 use Rattle.ss_journal.specs.declared.format.TheConstants.{FIRST_SLOT, MOST_SLOTS, SLOT_SIZE}
 use Rattle.ss_program.proofs.HeldLemmas.{StandsShortForFirst-within}
 use Rattle.ss_program.proofs.OverLemmas.{accepted-over, acks-over}
@@ -44,7 +43,7 @@ idle-goes used link ending bytes history stands same = (
     done = λ is done. refl;
     starved = λ is form sealing serves starved. cc;
   },
-  subst (λ image. StandsShort used history image) (sym same) stands,
+  rw same stands,
 )
 
 check-goes : {D : Type 0} (used : Option ℕ) (link : Link D) (ending : Ending) (bytes : List ℕ) (history : History) → StandsShort used history bytes →
@@ -60,7 +59,7 @@ check-goes used link ending bytes history stands same = (
     done = λ is done. refl;
     starved = λ is form sealing serves starved. cc;
   },
-  subst (λ image. StandsShort used history image) (sym same) stands,
+  rw same stands,
 )
 
 -- a run over an input
@@ -86,19 +85,18 @@ module _ {D : Type 0} (used : Option ℕ) (link : Link D) (form : Form) (sealing
         record {
           j = kept.j;
           is = refl;
-          few = subst (λ es. kept.j ≤ length es) same-accepted kept.few;
-          acked = subst (λ n. n ≤ kept.j) same-acked kept.acked;
+          few = rw same-accepted at kept.few;
+          acked = rw same-acked at kept.acked;
           at_most = λ is other each.
               (let both : Some (Serve form sealing) ≡ Some (Serve other Each) = each in
-              let same : sealing ≡ Each = cc in subst (λ n. kept.j ≤ n + 1) same-acked (kept.at_most same));
+              let same : sealing ≡ Each = cc in rw same-acked at (kept.at_most same));
           done = λ is done. kept.all done ∙ ap (λ es. length es) same-accepted;
           starved = λ is other others asked starved. kept.starved starved ∙ same-acked;
         },
-        subst (λ es. StandsShort used (history ++ take kept.j es) link.image) same-accepted kept.stands,
+        rw same-accepted at kept.stands,
       )
   serve-goes by_crash old new serves left =
-      let some = subst (λ es. StandsShortForFirst used history es link.image) same-accepted
-      (StandsShortForFirst-within (begun_over used form history) ls link.image (serves.any_moment.each link.image left)) in (
+      let some = rw same-accepted at (StandsShortForFirst-within (begun_over used form history) ls link.image (serves.any_moment.each link.image left)) in (
         history ++ take some.0 (accepted talk ls),
         record {
           j = some.0;
@@ -142,7 +140,7 @@ generate-goes used link seed count by_itself history old new generates left =
           done = λ is all. refl;
           starved = λ is other others asked starved. cc;
         },
-        subst (λ es. StandsShort used (history ++ es) link.image) (sym (take_all (length events) events (omega arith))) (generates.all done link.image left),
+        rw (take_all (length events) events (omega arith)) (generates.all done link.image left),
       )
       | inr other ↦ (let some = generates.kept link.image left in (
         history ++ take some.0 events,
@@ -181,7 +179,7 @@ module _ {D : Type 0} (seen : D → DiskView) (knows : (disk : D) → WhereTold 
       let old = (seen link.old).told in
       idle-goes used link ending first history stands
       (left-read ending old old link.image (knows link.old is.starts.tells) is.starts.durable (reads-none old)
-      (subst (λ (disk : D). IsLeftBy ending old (seen disk).told link.image) (is.runs.undone refl) is.left) ∙ is.starts.content)
+      (rw (is.runs.undone refl) at is.left) ∙ is.starts.content)
   goes-asked used link (Some Check) ending first history stands is =
       let reads = (is.runs.checks refl link.status refl is.starts.tells).unwritten in
       check-goes used link ending first history stands
@@ -189,17 +187,15 @@ module _ {D : Type 0} (seen : D → DiskView) (knows : (disk : D) → WhereTold 
       ∙ is.starts.content)
   goes-asked used link (Some (Serve form sealing)) ending first history stands is =
       serve-goes used link form sealing history ending (seen link.old).told (seen link.new).told
-      (is.runs.serves form sealing refl link.status refl link.input refl is.starts.tells is.starts.durable used history
-      (subst (λ content. StandsShort used history content) (sym is.starts.content) stands)) is.left
+      (is.runs.serves form sealing refl link.status refl link.input refl is.starts.tells is.starts.durable used history (rw is.starts.content stands)) is.left
   goes-asked used link (Some (Gen seed count)) ending first history stands is =
       generate-goes used link seed count ending history (seen link.old).told (seen link.new).told
-      (is.runs.generates seed count refl link.status refl is.starts.tells is.starts.durable used history
-      (subst (λ content. StandsShort used history content) (sym is.starts.content) stands)) is.left
+      (is.runs.generates seed count refl link.status refl is.starts.tells is.starts.durable used history (rw is.starts.content stands)) is.left
 
   -- so runs in a row do
   pub extends-short : (used : Option ℕ) (links : List (Link D)) (first last : List ℕ) (history : History) → StandsShort used history first →
       AreLinked seen links first last → (now : History) × ExtendsAll links history now × StandsShort used now last
-  extends-short used [] first last history stands linked = (history, refl, subst (λ image. StandsShort used history image) (sym linked) stands)
+  extends-short used [] first last history stands linked = (history, refl, rw linked stands)
   extends-short used (link ∷ links) first last history stands linked =
       let goes = goes-asked used link link.mode link.ending first history stands linked.0 in
       let rest = extends-short used links link.image last goes.0 goes.2 linked.1 in

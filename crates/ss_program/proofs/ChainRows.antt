@@ -1,5 +1,5 @@
 -- Worked rows of runs over one file, one after the other, computed.
-use Rattle.ss_program.proofs.Common.{◌≡◌, ◌⊎◌, ◌∙◌, ◌≤◌, ◌++◌, ℕ, List, [], ◌∷◌, length, take, zero, suc, ap, arith, inl, inr, lit≤, refl, subst, false, Some}
+use Rattle.ss_program.proofs.Common.{◌≡◌, ◌⊎◌, ◌∙◌, ◌≤◌, ◌++◌, ℕ, List, [], ◌∷◌, length, take, zero, suc, ap, arith, inl, inr, lit≤, refl, false, Some}
 use Rattle.ss_program.proofs.Common.{None, codes, flat_map, pos, negsuc, Lines, Serve, Check, Gen, Each, Create, Value, exp, Happened, added, KnowsNow}
 use Rattle.ss_program.proofs.Common.{DiskView, WhereTold, Stands-unformed, Stands, AreLinked, Extends, Link, accepted_of, acked_of, acked_till, by_crash}
 use Rattle.ss_program.proofs.Common.{by_itself, offered_in, generated_lines, History, accepted, plain_talk, Done, DiskFault}
@@ -159,14 +159,14 @@ module _ {D : Type 0} (a b c d : D) (image last : List ℕ) where
         let held = extends-linked seen knows (failed ∷ finished ∷ []) [] last [] (Stands-unformed [] refl) linked in
         let next = held.1.0 in
         let then = held.1.2.0 in
-        let stands : Stands then last = subst (λ h. Stands h last) held.1.2.2 held.2 in
+        let stands : Stands then last = rw held.1.2.2 at held.2 in
         elim (after-failed next held.1.1) [
           | inl one ↦ inl (
               let same : then ≡ next ++ twenty ∷ [] =
               after-finished next then (ap (λ h. offered_in finished h) one ∙ accepted-second) held.1.2.1 in
-              subst (λ h. Stands h last) (same ∙ ap (λ (h : History). h ++ twenty ∷ []) one) stands)
+              rw (same ∙ ap (λ (h : History). h ++ twenty ∷ []) one) at stands)
           | inr both ↦ inr (
               let same : then ≡ next ++ twenty ∷ [] =
               after-finished next then (ap (λ h. offered_in finished h) both ∙ accepted-after_both) held.1.2.1 in
-              subst (λ h. Stands h last) (same ∙ ap (λ (h : History). h ++ twenty ∷ []) both) stands)
+              rw (same ∙ ap (λ (h : History). h ++ twenty ∷ []) both) at stands)
         ]

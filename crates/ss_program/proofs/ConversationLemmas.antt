@@ -1,13 +1,12 @@
 -- What a line brings that asks for a command, whichever form the conversation has, and what lines leave of its history.
-use Rattle.ss_program.proofs.Common.{◌≡◌, ◌∙◌, ◌++◌, ℕ, List, [], ◌∷◌, Option, Some, None, Result, Ok, Err, Bool, true, false, refl, sym, ap, subst, append-nil}
-use Rattle.ss_program.proofs.Common.{codes, if◌then◌else◌, option_map, Form, Lines, Sessions, Frames, Follow, Event, Create, Value, Open, Close, Drop, Refusal}
-use Rattle.ss_program.proofs.Common.{◌>>=◌, meaning, name_of, unless_long, first_word, is_word, rest_of, words, IsSayable, meant-sayable, Command, Do}
+use Rattle.ss_program.proofs.Common.{◌≡◌, ◌∙◌, ◌++◌, ℕ, List, [], ◌∷◌, Option, Some, None, Result, Ok, Err, Bool, true, false, refl, sym, ap, append-nil, codes}
+use Rattle.ss_program.proofs.Common.{if◌then◌else◌, option_map, Form, Lines, Sessions, Frames, Follow, Event, Create, Value, Open, Close, Drop, Refusal, ◌>>=◌}
+use Rattle.ss_program.proofs.Common.{meaning, name_of, unless_long, first_word, is_word, rest_of, words, IsSayable, meant-sayable, Command, Do}
 use Rattle.ss_program.proofs.Common.{SpellsFrame-frame_in, FrameState, IsValidFrame, frame_in, CanBeSaid, IsHistory, refuses, state, due_in, Due, Next, Gap}
 use Rattle.ss_program.proofs.Common.{Cursors, asked_of, cursor_close_of, cursor_form_of, cursor_next_of, cursor_open_of, order_said, spoken_of, Order, Spoken}
-use Rattle.ss_program.proofs.Common.{Nothing, Unaddressed, To}
-use Rattle.ss_program.proofs.Common.{IsAsked, order_in, History, accepted_frame, brings, brings_in, command_brings, command_in, due_brings, frame_brings}
-use Rattle.ss_program.proofs.Common.{meaning_in, the_event, after_line, after_lines, Talk, is_framed, kept_spoken, meant_turn, turn_brought, turn_in, turn_of}
-use Rattle.ss_program.proofs.Common.{turn_spoken, writing, Turn, inl, inr}
+use Rattle.ss_program.proofs.Common.{Nothing, Unaddressed, To, IsAsked, order_in, History, accepted_frame, brings, brings_in, command_brings, command_in}
+use Rattle.ss_program.proofs.Common.{due_brings, frame_brings, meaning_in, the_event, after_line, after_lines, Talk, is_framed, kept_spoken, meant_turn}
+use Rattle.ss_program.proofs.Common.{turn_brought, turn_in, turn_of, turn_spoken, writing, inl, inr}
 use Rattle.ss_replica.specs.declared.judging.Due.TheVariants.{Old as OldFrame}
 use Rattle.ss_program.proofs.CursorLemmas.{close-event, next-event, open-event}
 use Rattle.ss_program.proofs.HeardLemmas.{kept-heard, kept-to}
@@ -108,8 +107,7 @@ asked-brings talk speaker command line asked =
 -- ---- what lines leave of a history
 
 stays : (history : History) (event : Option Event) → event ≡ None → IsHistory history → IsHistory (history ++ the_event event)
-stays history event none whole =
-    subst (λ e. IsHistory (history ++ the_event e)) (sym none) (subst (λ h. IsHistory h) (sym (append-nil history)) whole)
+stays history event none whole = rw (none, append-nil) whole
 
 plain-leaves : (framed : Bool) (history : History) (line : List ℕ) → IsHistory history →
     IsHistory (history ++ the_event (brings_in framed history line).event)
@@ -120,7 +118,7 @@ order-leaves : (framed : Bool) (history : History) (cursors : Cursors) (session 
     IsHistory (history ++ the_event (order_in framed history cursors session order).brought.event)
 order-leaves framed history cursors session (orders.Command command) means whole =
     let it = means command refl in
-    subst (λ m. IsHistory (history ++ the_event (meaning_in framed history m).event)) it.1 (plain-leaves framed history it.0 whole)
+    rw it.1 at (plain-leaves framed history it.0 whole)
 order-leaves framed history cursors session (orders.Open name) means whole =
     stays history (order_in framed history cursors session (orders.Open name)).brought.event (open-event history cursors session name) whole
 order-leaves framed history cursors session (orders.Next count) means whole =
@@ -167,9 +165,8 @@ written-leaves talk (Close name t) None is said whole = event-leaves false talk.
 meant-leaves : (talk : Talk) (meant : Result (Option Command) Refusal) → ((command : Command) → meant ≡ Ok (Some command) → IsSayable command) →
     IsHistory talk.history → IsHistory (talk.history ++ the_event (meant_turn talk meant).event)
 meant-leaves talk meant sayable whole = elim (event-or-silent meant) [
-  | inl is ↦ subst (λ (m : Result (Option Command) Refusal). IsHistory (talk.history ++ the_event (meant_turn talk m).event)) (sym is.1)
-      (written-leaves talk is.0 (refuses (state talk.history) is.0) refl (sayable-said is.0 (sayable (Do is.0) is.1)) whole)
-  | inr none ↦ subst (λ (t : Turn). IsHistory (talk.history ++ the_event t.event)) (sym (none talk)) (stays talk.history None refl whole)
+  | inl is ↦ rw is.1 (written-leaves talk is.0 (refuses (state talk.history) is.0) refl (sayable-said is.0 (sayable (Do is.0) is.1)) whole)
+  | inr none ↦ rw none (stays talk.history None refl whole)
 ]
 
 -- the event of a frame can be said

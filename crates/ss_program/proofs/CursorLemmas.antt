@@ -1,10 +1,9 @@
 -- Cursors: what a session's cursor is after it was changed, and what opening one brings.
 use Rattle.ss_program.proofs.Common.{◌≡◌, ◌↔◌, ◌∙◌, ℕ, zero, suc, ◌<◌, Bool, true, false, List, [], ◌∷◌, length, Option, Some, None, Result, Err, refl, sym, ap}
-use Rattle.ss_program.proofs.Common.{inl, inr, IsTrue, IfSome, subst, ◌+◌, ◌≤◌, min, take, take_all, drop, arith, length-append, length-map, cases_lt}
-use Rattle.ss_program.proofs.Common.{slice_get_cases, slice_get_within, slice_get, is_some, not, option_map, slice_set, Refusal, first_that_applies, stands}
-use Rattle.ss_program.proofs.Common.{placed_of, Stream, state, stream_named, Placed, Reply, Cursor, Refused, Window, Cursors, cursor_of, cursor_rows, flattened}
-use Rattle.ss_program.proofs.Common.{cursor_opened, with_cursor, refusal_of, Ordered, close_brings, closes_cursor, leaves_cursors, next_brings, open_brings}
-use Rattle.ss_program.proofs.Common.{opens_cursor}
+use Rattle.ss_program.proofs.Common.{inl, inr, IsTrue, IfSome, ◌+◌, ◌≤◌, min, take, take_all, drop, arith, length-append, length-map, cases_lt, slice_get_cases}
+use Rattle.ss_program.proofs.Common.{slice_get_within, slice_get, is_some, not, option_map, slice_set, Refusal, first_that_applies, stands, placed_of, Stream}
+use Rattle.ss_program.proofs.Common.{state, stream_named, Placed, Reply, Cursor, Refused, Window, Cursors, cursor_of, cursor_rows, flattened, cursor_opened}
+use Rattle.ss_program.proofs.Common.{with_cursor, refusal_of, Ordered, close_brings, closes_cursor, leaves_cursors, next_brings, open_brings, opens_cursor}
 use Rattle.ss_program.proofs.Common.{placed_rows, showing, unless_unopened, History, only_replies, refused, text_said, said_line}
 use Rattle.ss_sessions.specs.Cursors.{refuses_cursor}
 use Rattle.ss_sessions.specs.Opened.{HasOpened}
@@ -229,7 +228,7 @@ pub fits-rows : (o : Option (List Placed)) (count : ℕ) → (had : List Placed)
 fits-rows o count left rows is =
     let both : Some left.0 ≡ Some rows = sym left.1 ∙ is in
     let same : left.0 ≡ rows = cc in
-    subst (λ (l : List Placed). count ≤ length l) same left.2
+    rw same at left.2
 
 pub placed-all : (rows : List Placed) (count : ℕ) → count ≤ length rows → count ≡ length (placed_rows (take count rows))
 placed-all [] zero fits = refl

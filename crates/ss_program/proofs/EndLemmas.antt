@@ -12,7 +12,7 @@ use Rattle.ss_store.specs.declared.error.OpenError.TheVariants as opening
 
 -- a content that is refused recovers to nothing, and one that recovers isn't refused
 unrefused : (found : Recovered) (streams : List Stream) → found ≡ recovers streams → IsSome (refusal_line found) → ⊥
-unrefused found streams is some = let none = subst (λ f. IsSome (refusal_line f)) is some in cc
+unrefused found streams is some = let none = rw is at some in cc
 
 pub not-refused : (content : List ℕ) (streams : List Stream) → Recovers streams content → IsRefusedContent content → ⊥
 not-refused content streams is some = unrefused (recover content) streams is some
@@ -48,9 +48,7 @@ module _ (T : Type 0) (error : OpenError) {old new : DiskView} {before after : O
         disk = record {
           tells = tells;
           counted = still;
-          told = λ told some.
-              subst (λ s. Refuses before after s old.told new.told) status
-              (open-refuses error old.told new.told before after had has (opens told) (reads told some) said);
+          told = λ told some. rw status at (open-refuses error old.told new.told before after had has (opens told) (reads told some) said);
         };
         sink = λ other. absurd (other refl);
         refused = λ _ told. record { line = line; is_line = is_line told; said = says; unwritten = reads told (refused told) };
@@ -140,10 +138,10 @@ pub source-calm : (asked : Option Mode) (mode : Mode) (before after : Option (Li
     (served_by (Some mode) ≡ None → IsUnfed before after status) → Counted (source_verdict status) s t → (IsSome (served_by asked) → Rose s t → ⊥) →
     status ≡ SourceFault → ⊥
 source-calm asked (Serve form sealing) before after status s t is unfed counted calm same =
-    let rose : Counted (source_verdict SourceFault) s t = subst (λ x. Counted (source_verdict x) s t) same counted in
-    calm (subst (λ m. IsSome (served_by m)) (sym is) refl) rose.1
-source-calm asked Check before after status s t is unfed counted calm same = subst (λ x. IsUnfed before after x) same (unfed refl)
-source-calm asked (Gen a b) before after status s t is unfed counted calm same = subst (λ x. IsUnfed before after x) same (unfed refl)
+    let rose : Counted (source_verdict SourceFault) s t = rw same at counted in
+    calm (rw is) rose.1
+source-calm asked Check before after status s t is unfed counted calm same = rw same at (unfed refl)
+source-calm asked (Gen a b) before after status s t is unfed counted calm same = rw same at (unfed refl)
 
 -- how a run that no device failed ends
 pub Completes-calm : (old new : Devices) (status : Status) → Ends old new status → (status ≡ SourceFault → ⊥) → IsTrue old.disk.tells →
@@ -152,8 +150,7 @@ pub Completes-calm : (old new : Devices) (status : Status) → Ends old new stat
 Completes-calm old new Done ends fed told fits limit calm_disk calm_sink = tt
 Completes-calm old new OutOfMemory ends fed told fits limit calm_disk calm_sink = tt
 Completes-calm old new Usage ends fed told fits limit calm_disk calm_sink = absurd (ends.known refl)
-Completes-calm old new RefusedStore ends fed told fits limit calm_disk calm_sink =
-    absurd (fits (subst (λ o. IsSome o) (sym (ends.refused refl told).is_line) refl))
+Completes-calm old new RefusedStore ends fed told fits limit calm_disk calm_sink = absurd (fits (rw (ends.refused refl told).is_line))
 Completes-calm old new DiskFault ends fed told fits limit calm_disk calm_sink = absurd (calm_disk ends.disk.counted.1)
 Completes-calm old new SourceFault ends fed told fits limit calm_disk calm_sink = absurd (fed refl)
 Completes-calm old new SinkFault ends fed told fits limit calm_disk calm_sink = absurd (calm_sink (ends.sink (λ w. cc)).1)
@@ -175,7 +172,7 @@ one-status number a b is_a is_b = sym (status_at-number a) ∙ ap (λ n. status_
 
 pub by-number : (P : Status → Type 0) (number : ℕ) (actual : Status) → EndsAs number actual → P actual → (status : Status) →
     EndsAs number status → P status
-by-number P number actual is has status other = subst P (one-status number actual status is other) has
+by-number P number actual is has status other = rw (one-status number actual status is other) at has
 
 -- what a survey answers where it is refused
 pub surveys-opens : (content : List ℕ) (error : OpenError) → SurveysAs content (Err error) → OpensAs content (Err error)

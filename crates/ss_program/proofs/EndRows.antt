@@ -1,5 +1,5 @@
 -- With which statuses a run ends by what it was asked, and what each field says of that, in fixed form.
-use Rattle.ss_program.proofs.Common.{◌≡◌, ℕ, List, Option, Some, refl, subst, Stream, OnlyReads, Told, Rose, Recovers, recovers, survey_of, ChecksStore}
+use Rattle.ss_program.proofs.Common.{◌≡◌, ℕ, List, Option, Some, refl, Stream, OnlyReads, Told, Rose, Recovers, recovers, survey_of, ChecksStore}
 use Rattle.ss_program.proofs.Common.{survey_line, Devices, Completes, Feeds, IsUnfed, Rejects, Unfed, TakesFew, SaysRefusal, refusal_line, appended, SaysLine}
 use Rattle.ss_program.proofs.Common.{usage, Status, Done, Usage, RefusedStore, DiskFault, SourceFault, SinkFault, OutOfMemory, InputLimit, RecordChanged}
 
@@ -13,7 +13,7 @@ module _ (before after : Option (List ℕ)) (had has : ℕ) where
 
   -- none of a content that recovers
   says_refusal-recovers : (r : SaysRefusal before after had has) (streams : List Stream) → r.found ≡ recovers streams → ⊥
-  says_refusal-recovers r streams is = let none : refusal_line (recovers streams) ≡ Some r.line = subst (λ f. refusal_line f ≡ Some r.line) is r.is_line in cc
+  says_refusal-recovers r streams is = let none : refusal_line (recovers streams) ≡ Some r.line = rw is at r.is_line in cc
 
 -- statuses with which a run doesn't end
 rejects-disk : (old new : Devices) → Rejects old new DiskFault → ⊥

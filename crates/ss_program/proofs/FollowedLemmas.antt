@@ -1,13 +1,13 @@
 -- What is written where frames are written, and what comes of it where it is followed.
 use Rattle.ss_program.proofs.Common.{◌≡◌, ◌∙◌, ◌++◌, ◌<◌, ◌^◌, ℕ, List, [], ◌∷◌, Option, Some, None, Result, Ok, Bool, true, false, map, refl, sym, ap}
-use Rattle.ss_program.proofs.Common.{common_steps, append_assoc, arith, subst, All, flat_map, if◌then◌else◌, IfSome, flat_map-append, append-nil, All-cons}
+use Rattle.ss_program.proofs.Common.{common_steps, append_assoc, arith, All, flat_map, if◌then◌else◌, IfSome, flat_map-append, append-nil, All-cons}
 use Rattle.ss_program.proofs.Common.{All-head, All-nil, All-tail, Form, Lines, Sessions, Frames, Follow, event_name, is_name, step_number, Event, Create, Value}
 use Rattle.ss_program.proofs.Common.{Open, Close, Drop, Refusal, meant-sayable, meaning, IsSayable, IsStepOfNumber, Command, Do, IsValidFrame-test}
 use Rattle.ss_program.proofs.Common.{frame_in-spelling, pieces-frames, FrameState, IsValidFrame, frame_in, frame_spelled, is_valid_frame, pieces, Happened}
 use Rattle.ss_program.proofs.Common.{added, GoesOn-push, IsHistory, refuses, state, added_event, after_offer, after_offers, due_in, next_offered, offered}
 use Rattle.ss_program.proofs.Common.{offered_as, offers, event_frame, frame_of, step_of_event, Due, Next, reply_line, History, accepted_frame, accepted_in}
 use Rattle.ss_program.proofs.Common.{due_brings, frame_brings, text_said, the_event, unless_refused, accepted, after_line, after_lines, text_of, Talk, begun}
-use Rattle.ss_program.proofs.Common.{meant_turn, turn_in, turn_of, writing, Turn, inl, inr}
+use Rattle.ss_program.proofs.Common.{meant_turn, turn_in, turn_of, writing, inl, inr}
 use Rattle.ss_replica.proofs.FramingLemmas.{checked-last}
 use Rattle.ss_replica.proofs.FrontLemmas.{due-frame}
 use Rattle.ss_replica.specs.Fronts.{drops_none}
@@ -47,9 +47,8 @@ writing-frames talk (Drop name) None = (refl, tt)
 meant-frames : (talk : Talk) (meant : Result (Option Command) Refusal) →
     IsWritten talk (meant_turn talk meant).says (meant_turn talk meant).event
 meant-frames talk meant = elim (event-or-silent meant) [
-  | inl is ↦ subst (λ (m : Result (Option Command) Refusal). IsWritten talk (meant_turn talk m).says (meant_turn talk m).event) (sym is.1)
-      (writing-frames talk is.0 (refuses (state talk.history) is.0))
-  | inr none ↦ subst (λ (t : Turn). IsWritten talk t.says t.event) (sym (none talk)) (refl, tt)
+  | inl is ↦ rw is.1 (writing-frames talk is.0 (refuses (state talk.history) is.0))
+  | inr none ↦ rw none (refl, tt)
 ]
 
 turn-frames : (form : Form) (talk : Talk) (line : List ℕ) → form ≡ Frames → IsWritten talk (turn_in form talk line).says (turn_in form talk line).event
@@ -108,8 +107,7 @@ frame-said : (history : History) (frame : FrameState) (found : Option FrameState
 frame-said history frame None is = absurd cc
 frame-said history frame (Some other) is =
     let same : other ≡ frame = cc in
-    subst (λ f. IsSaid history (offered history f) (text_said None (due_brings history other (due_in history other)))
-    (due_brings history other (due_in history other)).event) same (due-said history other (due_in history other))
+    rw (← same) (due-said history other (due_in history other))
 
 turn-said : (form : Form) (talk : Talk) (frame : FrameState) → form ≡ Follow → IsValidFrame frame.number frame.event →
     IsSaid talk.history (offered talk.history frame) (turn_in form talk (frame_spelled frame)).says (turn_in form talk (frame_spelled frame)).event
@@ -162,9 +160,9 @@ writing-named talk event (Some frame) named = named
 meant-named : (talk : Talk) (meant : Result (Option Command) Refusal) → ((command : Command) → meant ≡ Ok (Some command) → IsSayable command) →
     IfSome (meant_turn talk meant).event IsNamed
 meant-named talk meant sayable = elim (event-or-silent meant) [
-  | inl is ↦ subst (λ (m : Result (Option Command) Refusal). IfSome (meant_turn talk m).event IsNamed) (sym is.1)
+  | inl is ↦ rw is.1
       (writing-named talk is.0 (accepted_frame (refuses (state talk.history) is.0) talk.history is.0) (sayable-named is.0 (sayable (Do is.0) is.1)))
-  | inr none ↦ subst (λ (t : Turn). IfSome t.event IsNamed) (sym (none talk)) tt
+  | inr none ↦ rw none tt
 ]
 
 turn-named : (form : Form) (talk : Talk) (line : List ℕ) → form ≡ Frames → IfSome (turn_in form talk line).event IsNamed
@@ -205,7 +203,7 @@ record AreFollowed (history : History) (es : List Happened) : Type 0 where
 AreFollowed-push : (history : History) (event : Option Event) (more : List Happened) → IfSome event IsNamed →
     IfSome event (λ (e : Event). drops_none e ≡ true) → IsHistory (history ++ the_event event) →
     AreFollowed (history ++ the_event event) more → AreFollowed history (the_event event ++ more)
-AreFollowed-push history None more named kept whole rest = subst (λ h. AreFollowed h more) (append-nil history) rest
+AreFollowed-push history None more named kept whole rest = rw append-nil at rest
 AreFollowed-push history (Some event) more named kept whole rest =
     let frames = frames_after (history ++ added event ∷ []) more in
     let frame = frame_of history event in record {

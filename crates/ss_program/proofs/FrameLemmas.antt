@@ -1,6 +1,6 @@
 -- What an event brings where its frame is said behind its reply, or written in place of it.
 use Rattle.ss_program.proofs.Common.{◌⊎◌, ◌≡◌, ◌∙◌, ℕ, ◌<◌, Bool, true, false, ◌++◌, List, [], ◌∷◌, length, Option, Some, None, IsSome, Result, refl, sym, ap}
-use Rattle.ss_program.proofs.Common.{subst, IsTrue, OnOk, event_name, Event, Create, Value, Open, Close, Drop, Refusal, Do, FrameState, frame_spelled, added}
+use Rattle.ss_program.proofs.Common.{IsTrue, OnOk, event_name, Event, Create, Value, Open, Close, Drop, Refusal, Do, FrameState, frame_spelled, added}
 use Rattle.ss_program.proofs.Common.{refuses, state, ack_of, Ack, Told, RecordsState, shown_by, event_frame, frame_of, Reply, Refused, TurnsHistory, Stands}
 use Rattle.ss_program.proofs.Common.{IsShort, History, accepted_frame, accepted_in, command_brings, command_in, frame_replies, the_event, unless_refused, Talk}
 use Rattle.ss_program.proofs.Common.{event_turn, silent, writing}
@@ -20,7 +20,7 @@ same-event framed history event = event-unframed framed history event (refuses (
 
 pub IsSome-framed : (framed : Bool) (history : History) (event : Event) → IsSome (command_brings history (Do event)).event →
     IsSome (command_in framed history (Do event)).event
-IsSome-framed framed history event some = subst (λ (o : Option Event). IsSome o) (same-event framed history event) some
+IsSome-framed framed history event some = rw (same-event framed history event) at some
 
 -- what is brought to a history by an event, or by none
 abbrev pub Around : History → Option Event → List ℕ → Type 0
@@ -33,13 +33,12 @@ module _ (was is : RecordsState) (history : History) (old new : Told) where
   -- a call brings an event, and answers something else
   pub Turns-answered : {T S E F : Type 0} (event other : Option Event) (step : Result T E) (result : Result S F) → event ≡ other →
       ((X : Type 0) → OnOk step X → OnOk result X) → Adding was is history event step old new → Adding was is history other result old new
-  Turns-answered event other step result same keeps turns =
-      subst (λ (o : Option Event). Adding was is history o result old new) same (record {
-        content = λ has. keeps (Stands (history ++ the_event event) (shown_by is new.content)) (turns.content has);
-        short = λ used has. keeps (IsShort used (history ++ the_event event) (shown_by is new.content)) (turns.short used has);
-        any_moment = turns.any_moment;
-        durable = λ durable. keeps _ (turns.durable durable);
-      })
+  Turns-answered event other step result same keeps turns = rw (← same) (record {
+    content = λ has. keeps (Stands (history ++ the_event event) (shown_by is new.content)) (turns.content has);
+    short = λ used has. keeps (IsShort used (history ++ the_event event) (shown_by is new.content)) (turns.short used has);
+    any_moment = turns.any_moment;
+    durable = λ durable. keeps _ (turns.durable durable);
+  })
 
 -- ---- what is replied to it
 
@@ -122,8 +121,8 @@ pub written-wants : (talk : Talk) (event : Event) → IsNoDrop event → IsSome 
 written-wants talk event other some =
     let is = accepted-some talk.history event (refuses (state talk.history) event) other some in
     let frame = frame_of talk.history event in (
-      subst (λ o. IsTrue (writing talk event o).wants_memory) (sym is) refl,
-      subst (λ o. 0 < length (writing talk event o).says) (sym is) (some-frame_spelled frame other),
+      rw is,
+      rw is (some-frame_spelled frame other),
     )
 
 -- what is written where there is a frame

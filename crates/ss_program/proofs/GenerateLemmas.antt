@@ -1,15 +1,13 @@
 -- A session over a generated file: what was answered so far, what is counted of it, and how it ends.
-use Rattle.ss_program.proofs.Common.{◌≡◌, ℕ, zero, suc, ◌+◌, ◌++◌, List, [], ◌∷◌, length, map, take, Bool, true, false, cond, Option, None, Ok}
-use Rattle.ss_program.proofs.Common.{Err, Result, refl, sym, ap, ◌∙◌, subst, append_assoc, arith, count_by, ⊤, flat_map, append-nil, length-append, map-append}
-use Rattle.ss_program.proofs.Common.{take-append-le, take-append-add, IsSayable, printed, Command, joined, now, of_content, weaker, KnowsNow}
-use Rattle.ss_program.proofs.Common.{LeavesOnly, NothingPending, Told, reply_line, Reply, state, OpensAs, Stands, StandsShort, OpenError, SendsRows}
-use Rattle.ss_program.proofs.Common.{GoesAmid, TakesFurther, TakesNone, StagesBrought, SealsHistory, amid, owed_by, with_text, said_line, turn_of, turn_brought}
-use Rattle.ss_program.proofs.Common.{IsSealed, RecordsState, shown-sealed, no_cursors, Each, Talk, DiskFault, HoldsTalk}
-use Rattle.ss_program.proofs.Common.{Generates, StandsForAll, StandsForGenerated, generated_lines, first_lines, is_done, is_refused, last_six, summary}
-use Rattle.ss_program.proofs.Common.{summary_lines}
-use Rattle.ss_program.proofs.Common.{Brought, History, brings, command_brings, history_after, meaning_brings, StandsShortForFirst, StandsWithin}
-use Rattle.ss_program.proofs.Common.{AsRefused, status_of_open, appended, AppendsFront, AppendsLess, Sends, after_lines, plain_after, replies, plain_talk}
-use Rattle.ss_program.proofs.Common.{plain_over, HasRun, IsSingle, Tallies, Status, Done, SinkFault, Failed}
+use Rattle.ss_program.proofs.Common.{◌≡◌, ℕ, zero, suc, ◌+◌, ◌++◌, List, [], ◌∷◌, length, map, take, Bool, true, false, cond, Option, None, Ok, Err, Result}
+use Rattle.ss_program.proofs.Common.{refl, sym, ap, ◌∙◌, subst, append_assoc, arith, count_by, ⊤, flat_map, append-nil, length-append, map-append}
+use Rattle.ss_program.proofs.Common.{take-append-le, take-append-add, IsSayable, printed, Command, joined, now, of_content, weaker, KnowsNow, LeavesOnly}
+use Rattle.ss_program.proofs.Common.{NothingPending, Told, reply_line, Reply, state, OpensAs, Stands, StandsShort, OpenError, SendsRows, GoesAmid, TakesFurther}
+use Rattle.ss_program.proofs.Common.{TakesNone, StagesBrought, SealsHistory, amid, owed_by, with_text, said_line, turn_of, turn_brought, IsSealed, RecordsState}
+use Rattle.ss_program.proofs.Common.{shown-sealed, no_cursors, Each, Talk, DiskFault, Generates, StandsForAll, StandsForGenerated, generated_lines, first_lines}
+use Rattle.ss_program.proofs.Common.{is_done, is_refused, last_six, summary, summary_lines, Brought, History, brings, command_brings, history_after}
+use Rattle.ss_program.proofs.Common.{meaning_brings, StandsWithin, AsRefused, status_of_open, appended, AppendsFront, AppendsLess, Sends, after_lines}
+use Rattle.ss_program.proofs.Common.{plain_after, replies, plain_talk, plain_over, HasRun, IsSingle, Tallies, Status, Done, SinkFault, Failed}
 use Rattle.ss_command.proofs.PrintLemmas.{meaning-printed}
 use Rattle.ss_generator.specs.Commands.{commands, of_round, of_rounds, opening, queries}
 use Rattle.ss_generator.specs.Numbers.{time, value}
@@ -63,8 +61,7 @@ turn-printed : (used : Option ℕ) (history : History) (ls : List (List ℕ)) (c
     turn_of (after_lines (plain_over used history) ls) (printed command)
     ≡ turn_brought None (after_lines (plain_over used history) ls) (command_brings (after_lines (plain_over used history) ls).history command)
 turn-printed used history ls command sayable =
-    subst (λ (t : Talk). turn_of t (printed command) ≡ turn_brought None t (command_brings t.history command)) (sym (plain_over-lines used history ls))
-    (ap (λ b. turn_brought None (plain_over used (plain_after history ls)) b) (brings-printed (plain_after history ls) command sayable))
+    rw plain_over-lines (ap (λ b. turn_brought None (plain_over used (plain_after history ls)) b) (brings-printed (plain_after history ls) command sayable))
 
 -- The commands that were done, and those that are left, are all of the file. Those were taken as a session takes lines, each sealed by
 -- itself, whose replies go to a sink that doesn't tell what it holds.
@@ -106,9 +103,7 @@ module _ {used : Option ℕ} {history : History} {seed count : ℕ} {left rest :
       let all : generated_lines seed count ≡ (ls ++ printed command ∷ []) ++ map printed rest =
       ap (λ cs. map printed cs) (at.all ∙ ap (λ cs. at.done ++ cs) next) ∙ map-append printed at.done (command ∷ rest)
       ∙ sym (append_assoc ls (printed command ∷ []) (map printed rest)) in
-      subst (λ l. LeavesOnly old end (StandsWithin talk l)) (sym all)
-      (moments-more talk old end (ls ++ printed command ∷ []) (map printed rest)
-      (joined old now end (StandsWithin talk (ls ++ printed command ∷ []))
+      rw all (moments-more talk old end (ls ++ printed command ∷ []) (map printed rest) (joined old now end (StandsWithin talk (ls ++ printed command ∷ []))
       (moments-more talk old now ls (printed command ∷ []) at.goes.any_moment) run))
 
   -- the run stopped where it was staged
@@ -150,11 +145,8 @@ module _ {used : Option ℕ} {history : History} {seed count : ℕ} {left rest :
         record {
           done = at.done ++ command ∷ [];
           all = at.all ∙ ap (λ cs. at.done ++ cs) next ∙ sym (append_assoc at.done (command ∷ []) rest);
-          tallied = subst (λ l. Tallies (length l) (replies history l) after) (sym lines)
-              (subst (λ n. Tallies n (replies history (ls ++ printed command ∷ [])) after) (sym (length-append ls (printed command ∷ [])))
-              (subst (λ rs. Tallies (length ls + 1) rs after) (sym replied) (tallies (length ls) (replies history ls) at.tallied)));
-          goes = subst (λ l. GoesAmid Each talk l None (amid is (owed_by None) None no_cursors) old new) (sym lines)
-              (GoesAmid-then Each talk ls (printed command ∷ []) None (amid was (owed_by None) None no_cursors) old now new
+          tallied = rw (lines, length-append, replied) (tallies (length ls) (replies history ls) at.tallied);
+          goes = rw lines (GoesAmid-then Each talk ls (printed command ∷ []) None (amid was (owed_by None) None no_cursors) old now new
               (amid is (owed_by None) None no_cursors) at.goes ((takes (Ok tt)
               (TakesNone-sent mid is (with_text (owed_by None) (said_line None reply)) (owed_by None) None None then new u (Ok tt) new_knows
               (shown-sealed is.journal new.content sealed) seals refl (each-sent 1) (λ bytes less. (refl, less)) refl)).goes at.goes.amid));
@@ -166,10 +158,9 @@ pub IsAt-end : (used : Option ℕ) (history : History) (seed count : ℕ) (left 
     HasRun used history (generated_lines seed count) old new tally
 IsAt-end used history seed count left records old new tally at sealed none =
     let ls = map printed at.done in
-    subst (λ cs. HasRun used history (map printed cs) old new tally) (sym (at.all ∙ ap (λ cs. at.done ++ cs) none ∙ append-nil at.done)) (record {
+    rw (at.all ∙ ap (λ cs. at.done ++ cs) none ∙ append-nil at.done) (record {
       tallied = at.tallied;
-      stands = subst (λ (t : Talk). HoldsTalk t new.content) (plain_over-lines used history ls)
-          (subst (HoldsTalk (after_lines (plain_over used history) ls)) (shown-sealed records.journal new.content sealed) at.goes.amid.shown);
+      stands = rw (shown-sealed, plain_over-lines) at at.goes.amid.shown;
       durable = at.goes.amid.durable;
       any_moment = at.goes.any_moment;
     })
@@ -207,8 +198,7 @@ pub Sends-summary : (before held after : Option (List ℕ)) (seed count lines : 
     SendsRows None held after tally.last.items sent → Sends before after (summary_lines seed count lines all) sent
 Sends-summary before held after seed count lines all tally sent tallies is rows =
     Sends-then before held after (first_lines seed count lines (count_by is_done all) (count_by is_refused all)) (flat_map reply_line (last_six all)) sent
-    (is ∙ ap (λ bs. appended before bs) (counts-tallied seed count lines all tally tallies))
-    (subst (λ rs. SendsRows None held after rs sent) tallies.last rows)
+    (is ∙ ap (λ bs. appended before bs) (counts-tallied seed count lines all tally tallies)) (rw tallies.last at rows)
 
 -- or less than the counts
 pub Sends-less : (before after : Option (List ℕ)) (seed count lines : ℕ) (all : List Reply) (tally : Tally) → Tallies lines all tally →
@@ -220,8 +210,7 @@ Sends-less before after seed count lines all tally tallies less =
 -- an image of the history after some first lines of the file
 pub StandsForGenerated-within : (used : Option ℕ) (history : History) (seed count : ℕ) (image : List ℕ) → StandsWithin (plain_over used history) (generated_lines seed count) image →
     StandsForGenerated used history seed count image
-StandsForGenerated-within used history seed count image within =
-    subst (λ events. StandsShortForFirst used history events image) (accepted-over used (plain_talk history) (generated_lines seed count))
+StandsForGenerated-within used history seed count image within = rw (accepted-over used (plain_talk history) (generated_lines seed count)) at
     (StandsShortForFirst-within (plain_over used history) (generated_lines seed count) image within)
 
 -- the run stopped at a command, or before the first, or the sink failed at the summary
@@ -249,9 +238,7 @@ pub Generates-done : (used : Option ℕ) (history : History) (seed count : ℕ) 
 Generates-done used history seed count before after old new tally knows ran sent =
     let weak = weaker old new (StandsWithin (plain_over used history) (generated_lines seed count)) (StandsForGenerated used history seed count)
     (StandsForGenerated-within used history seed count) ran.any_moment in
-    let all : StandsForAll used history seed count new.content = subst (λ h. StandsShort used h new.content)
-    (after_lines-accepted (plain_talk history) (generated_lines seed count))
-    ran.stands in
+    let all : StandsForAll used history seed count new.content = rw after_lines-accepted at ran.stands in
     record {
       front = AppendsFront-all before after (summary history seed count) sent;
       whole = λ _. sent;

@@ -1,15 +1,14 @@
 -- What stays of a cursor whatever is said, and what a line of sessions brings by what is heard.
 use Rattle.ss_program.proofs.Common.{◌≡◌, ◌≢◌, ◌∙◌, ℕ, ◌+◌, ◌<◌, ◌-◌, List, [], ◌∷◌, length, map, take, drop, Option, Some, None, Result, Ok, Err, Bool, true}
-use Rattle.ss_program.proofs.Common.{false, refl, sym, ap, subst, arith, inl, inr, cases_Bool, cond-false, cond-true, eq-eqb, eqb-true, leb-true, ltb-true}
-use Rattle.ss_program.proofs.Common.{drop-drop, drop-map, length-map, length-set, take-map, All-head, All-tail, cond_some, ◌==◌, ◌&&◌, if◌then◌else◌, is_some}
-use Rattle.ss_program.proofs.Common.{nat_le, nat_lt, option_map, Form, Lines, Sessions, Frames, Follow, Event, Refusal, is_comment, meaning, Command}
-use Rattle.ss_program.proofs.Common.{FrameState, unless_long, first_word, rest_of, first_that_applies, refuses, placed_of, Stream, state, stream_named, Placed}
-use Rattle.ss_program.proofs.Common.{Cursor, Rows, Cursors, cursor_of, cursor_refusals, cursor_rows, flattened, with_cursor, order_said, session_of, spoken_of}
+use Rattle.ss_program.proofs.Common.{false, refl, sym, ap, arith, inl, inr, cases_Bool, cond-false, cond-true, eq-eqb, eqb-true, leb-true, ltb-true, drop-drop}
+use Rattle.ss_program.proofs.Common.{drop-map, length-map, length-set, take-map, All-head, All-tail, cond_some, ◌==◌, ◌&&◌, if◌then◌else◌, is_some, nat_le}
+use Rattle.ss_program.proofs.Common.{nat_lt, option_map, Form, Lines, Sessions, Frames, Follow, Event, Refusal, is_comment, meaning, Command, FrameState}
+use Rattle.ss_program.proofs.Common.{unless_long, first_word, rest_of, first_that_applies, refuses, placed_of, Stream, state, stream_named, Placed, Cursor}
+use Rattle.ss_program.proofs.Common.{Rows, Cursors, cursor_of, cursor_refusals, cursor_rows, flattened, with_cursor, order_said, session_of, spoken_of}
 use Rattle.ss_program.proofs.Common.{spoken_to, spoken_words, Order, Spoken, Nothing, Unaddressed, To, IsOrder, NoneCloses, heard_of, rows_asked, rows_asked_by}
 use Rattle.ss_program.proofs.Common.{rows_asked_in, Ordered, close_brings, closes_cursor, next_brings, open_brings, opens_cursor, order_in, placed_rows}
-use Rattle.ss_program.proofs.Common.{showing}
-use Rattle.ss_program.proofs.Common.{unless_unopened, History, accepted_frame, only_replies, text_said, window_rows, after_line, after_lines, Talk, Turn, begun}
-use Rattle.ss_program.proofs.Common.{kept_spoken, meant_turn, turn_in, turn_of, turn_spoken, turn_to, writing}
+use Rattle.ss_program.proofs.Common.{showing, unless_unopened, History, accepted_frame, only_replies, text_said, window_rows, after_line, after_lines, Talk}
+use Rattle.ss_program.proofs.Common.{Turn, begun, kept_spoken, meant_turn, turn_in, turn_of, turn_spoken, turn_to, writing}
 use Rattle.ss_codec.proofs.WindowBytes.{three_tests}
 use Rattle.ss_line.proofs.IndexLemmas.{slice_get-set_other}
 use Rattle.ss_model.specs.declared.types.Window.{Window}
@@ -66,8 +65,7 @@ count-writing talk event (Some frame) = refl
 
 count-meant : (talk : Talk) (meant : Result (Option Command) Refusal) → length (meant_turn talk meant).cursors ≡ length talk.cursors
 count-meant talk meant = elim (event-or-silent meant) [
-  | inl is ↦ subst (λ (m : Result (Option Command) Refusal). length (meant_turn talk m).cursors ≡ length talk.cursors) (sym is.1)
-      (count-writing talk is.0 (accepted_frame (refuses (state talk.history) is.0) talk.history is.0))
+  | inl is ↦ rw is.1 (count-writing talk is.0 (accepted_frame (refuses (state talk.history) is.0) talk.history is.0))
   | inr none ↦ ap (λ (t : Turn). length t.cursors) (none talk)
 ]
 
@@ -172,7 +170,7 @@ module _ (session : ℕ) (rows : List Placed) (cursors : Cursors) (has : cursor_
   open-keeps : (history : History) (other : ℕ) (name : List ℕ) → cursor_of (open_brings history cursors other name).cursors session ≡ Some rows
   open-keeps history other name = elim (cases_Bool (other == session)) [
     | inl same ↦
-        subst (λ k. cursor_of (open_brings history cursors k name).cursors session ≡ Some rows) (sym (eqb-true other session same)) (open-own history name)
+        rw (eqb-true other session same) (open-own history name)
     | inr apart ↦
         opening-other other (refuses_cursor (state history) name (cursor_of cursors other)) (stream_named name (state history)) apart
   ]
@@ -186,8 +184,7 @@ module _ (session : ℕ) (rows : List Placed) (cursors : Cursors) (has : cursor_
       cursor_of (next_brings cursors other count).cursors session ≡ Some (drop (if other == session then count else 0) rows)
   next-keeps other count = elim (cases_Bool (other == session)) [
     | inl same ↦
-        subst (λ k. cursor_of (next_brings cursors k count).cursors session ≡ Some (drop count rows)) (sym (eqb-true other session same))
-        (next-own count) ∙ ap (λ n. Some (drop n rows)) (sym (cond-true (other == session) count 0 same))
+        rw (eqb-true other session same) (next-own count) ∙ ap (λ n. Some (drop n rows)) (sym (cond-true (other == session) count 0 same))
     | inr apart ↦
         showing-other other count (cursor_of cursors other) apart ∙ ap (λ n. Some (drop n rows)) (sym (cond-false (other == session) count 0 apart))
   ]

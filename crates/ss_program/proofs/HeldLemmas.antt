@@ -1,6 +1,6 @@
 -- Which events are accepted of lines, and which of them are acknowledged by so many bytes of the report.
 use Rattle.ss_program.proofs.Common.{◌≡◌, ◌⊎◌, inl, inr, ℕ, ◌+◌, ◌-◌, ◌<◌, ◌≤◌, ◌++◌, List, [], ◌∷◌, length, take, take_all, Option, Some, None, IsSome, refl}
-use Rattle.ss_program.proofs.Common.{sym, ap, ◌∙◌, subst, append_assoc, arith, nat_le, cases_lt, cond-true, cond-false, le-leb, lt-leb, length-append}
+use Rattle.ss_program.proofs.Common.{sym, ap, ◌∙◌, append_assoc, arith, nat_le, cases_lt, cond-true, cond-false, le-leb, lt-leb, length-append}
 use Rattle.ss_program.proofs.Common.{length-take-le, take-append-le, Event, StandsShort, Happened, StandsForFirst, StandsShortForFirst, acks, the_event}
 use Rattle.ss_program.proofs.Common.{HoldsTalk, StandsWithin, appended, accepted, after_line, after_lines, text_of, Talk, turn_of}
 use Rattle.ss_program.proofs.LeftLemmas.{left_short}
@@ -36,14 +36,12 @@ few-events talk done others =
 -- an image of the history after some first lines is one of the first events
 pub first-short : (talk : Talk) (done others : List (List ℕ)) (image : List ℕ) → HoldsTalk (after_lines talk done) image →
     StandsShort talk.used (talk.history ++ take (length (accepted talk done)) (accepted talk (done ++ others))) image
-first-short talk done others image stands =
-    subst (λ h. StandsShort talk.used h image) (sym (first-events talk done others)) (left_short talk done image stands)
+first-short talk done others image stands = rw first-events (left_short talk done image stands)
 
 pub StandsShortForFirst-within : (talk : Talk) (ls : List (List ℕ)) (image : List ℕ) → StandsWithin talk ls image →
     StandsShortForFirst talk.used talk.history (accepted talk ls) image
 StandsShortForFirst-within talk ls image within =
-    subst (λ l. StandsShortForFirst talk.used talk.history (accepted talk l) image) (sym within.2)
-    (length (accepted talk within.0), few-events talk within.0 within.1, first-short talk within.0 within.1 image within.3)
+    rw within.2 (length (accepted talk within.0), few-events talk within.0 within.1, first-short talk within.0 within.1 image within.3)
 
 pub StandsForFirst-within : (talk : Talk) (ls : List (List ℕ)) (image : List ℕ) → StandsWithin talk ls image →
     StandsForFirst talk.history (accepted talk ls) image

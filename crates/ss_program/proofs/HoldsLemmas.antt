@@ -1,9 +1,8 @@
 -- Which accepted events an image holds, by how much of the report was taken.
-use Rattle.ss_program.proofs.Common.{◌≡◌, ◌⊎◌, inl, inr, ℕ, ◌+◌, ◌-◌, ◌<◌, ◌≤◌, ◌++◌, List, [], ◌∷◌, length, take, Option, Some, None, refl, sym, ap, ◌∙◌}
-use Rattle.ss_program.proofs.Common.{subst, append_assoc, arith, append-nil, length-append, Event, Told, StandsShort, Happened, HoldsAcked, acks, the_event}
-use Rattle.ss_program.proofs.Common.{HoldsReported, steps_within, HoldsTalk, IsAlone, StopsAmong, appended, accepted, after_line, after_lines, text_of, Talk}
-use Rattle.ss_program.proofs.Common.{turn_of, Sealing, Each, Status, Done, Usage, RefusedStore, DiskFault, SourceFault, SinkFault, OutOfMemory, InputLimit}
-use Rattle.ss_program.proofs.Common.{RecordChanged, steps}
+use Rattle.ss_program.proofs.Common.{◌≡◌, ◌⊎◌, inl, inr, ℕ, ◌+◌, ◌-◌, ◌≤◌, ◌++◌, List, [], ◌∷◌, length, take, Option, Some, None, refl, sym, ap, ◌∙◌}
+use Rattle.ss_program.proofs.Common.{append_assoc, arith, append-nil, length-append, Event, Told, Happened, HoldsAcked, acks, the_event, HoldsReported}
+use Rattle.ss_program.proofs.Common.{steps_within, HoldsTalk, IsAlone, StopsAmong, appended, accepted, after_line, after_lines, text_of, Talk, turn_of, Sealing}
+use Rattle.ss_program.proofs.Common.{Each, Status, Done, Usage, RefusedStore, DiskFault, SourceFault, SinkFault, OutOfMemory, InputLimit, RecordChanged, steps}
 use Rattle.ss_program.proofs.SendLemmas.{appended-appended, appended-nil}
 use Rattle.ss_program.proofs.SessionLemmas.{after_lines-append, text_of-append, text_of-one}
 use Rattle.ss_program.proofs.HeldLemmas.{Cuts, acks-done, acks-few, accepted-append, few-events, first-short, new_bytes, none-cut}
@@ -15,12 +14,12 @@ HoldsAcked-done : (sealing : Sealing) (talk : Talk) (ls read done others more : 
     (status ≡ Done → others ≡ []) → HoldsAcked sealing talk ls read bytes status image
 HoldsAcked-done sealing talk ls read done others more bytes status image are reads is stands end =
     let acked = acks-done talk done others 0 bytes (none-cut (after_lines talk done) others) (omega (arith, is)) in
-    subst (λ l. HoldsAcked sealing talk l read bytes status image) (sym are) (record {
+    rw are (record {
       j = length (accepted talk done);
       stands = first-short talk done others image stands;
       few = few-events talk done others;
       acked = omega (arith, acked);
-      within = subst (λ l. length (accepted talk done) ≤ length (accepted talk l)) (sym reads) (few-events talk done more);
+      within = rw reads (few-events talk done more);
       at_most = λ _. omega (arith, acked);
       all = λ finished. ap (λ l. length (accepted talk l)) (sym (append-nil done) ∙ ap (λ l. done ++ l) (sym (end finished)));
       starved = λ _. omega (arith, acked);
@@ -33,11 +32,10 @@ HoldsAcked-beyond : (sealing : Sealing) (talk : Talk) (ls read done others more 
     HoldsAcked sealing talk ls read bytes status image
 HoldsAcked-beyond sealing talk ls read done others more bytes status image are reads few stands most going fed = record {
   j = length (accepted talk done);
-  stands = subst (λ l. StandsShort talk.used (talk.history ++ take (length (accepted talk done)) (accepted talk l)) image) (sym are)
-      (first-short talk done others image stands);
-  few = subst (λ l. length (accepted talk done) ≤ length (accepted talk l)) (sym are) (few-events talk done others);
-  acked = subst (λ l. acks talk l bytes ≤ length (accepted talk done)) (sym are) (acks-few talk done others bytes few);
-  within = subst (λ l. length (accepted talk done) ≤ length (accepted talk l)) (sym reads) (few-events talk done more);
+  stands = rw are (first-short talk done others image stands);
+  few = rw are (few-events talk done others);
+  acked = rw are (acks-few talk done others bytes few);
+  within = rw reads (few-events talk done more);
   at_most = most;
   all = λ finished. absurd (going finished);
   starved = λ memory. absurd (fed memory);
@@ -100,7 +98,7 @@ among_bytes talk ls before after disk status had has at is_had is_has =
 -- where less was sent than is said to one line, this is cut
 Cuts-alone : (talk : Talk) (now others : List (List ℕ)) (bytes : ℕ) → IsAlone Each talk now bytes → Cuts talk (now ++ others) bytes
 Cuts-alone talk [] others bytes alone = absurd (omega (arith, alone.0))
-Cuts-alone talk (line ∷ []) others bytes alone = inr (subst (λ (t : List ℕ). bytes < length t) (text_of-one talk line) alone.1)
+Cuts-alone talk (line ∷ []) others bytes alone = inr (rw text_of-one at alone.1)
 Cuts-alone talk (line ∷ next ∷ ls) others bytes alone = absurd (omega (arith, alone.0))
 
 -- so an image of the history after it holds one event at most that isn't acknowledged
@@ -146,11 +144,8 @@ HoldsAcked-among sealing talk all ls read others more before after disk status b
     let text = ap (λ (bs : List ℕ). length bs) (text_of-append talk at.out beyond.0) in
     HoldsAcked-beyond sealing talk all read done (tail ++ others) (tail ++ more) bytes status image
     (are ∙ ap (λ l. l ++ others) same ∙ append_assoc done tail others) (reads ∙ ap (λ l. l ++ more) same ∙ append_assoc done tail more)
-    (omega (arith, is, beyond.3, text, length-append (text_of talk at.out) (text_of here beyond.0)))
-    (subst (λ (t : Talk). HoldsTalk t image) (sym (after_lines-append talk at.out beyond.0)) beyond.4)
-    (λ each. subst (λ l. length (accepted talk done) ≤ acks talk l bytes + 1) (sym whole)
-    (one-more talk at.out at.now beyond.0 beyond.1 (at.others ++ others) at.bytes bytes beyond.2
-    (subst (λ s. IsAlone s here at.now at.bytes) each at.alone) is)) going fed
+    (omega (arith, is, beyond.3, text, length-append (text_of talk at.out) (text_of here beyond.0))) (rw after_lines-append beyond.4)
+    (λ each. rw whole (one-more talk at.out at.now beyond.0 beyond.1 (at.others ++ others) at.bytes bytes beyond.2 (rw each at at.alone) is)) going fed
 
 pub HoldsReported-stop : (sealing : Sealing) (talk : Talk) (input : List ℕ) (left before after : Option (List ℕ)) (disk : Told) (status : Status)
     (ls others : List (List ℕ)) →

@@ -1,10 +1,9 @@
 -- Lines of a session and the bytes of its input.
-use Rattle.ss_program.proofs.Common.{◌≡◌, ℕ, ◌+◌, ◌-◌, ◌++◌, List, [], ◌∷◌, length, take, drop, Option, Some, None, Result, Ok, Err, refl, sym, ap, ◌∙◌, subst}
+use Rattle.ss_program.proofs.Common.{◌≡◌, ℕ, ◌+◌, ◌-◌, ◌++◌, List, [], ◌∷◌, length, take, drop, Option, Some, None, Result, Ok, Err, refl, sym, ap, ◌∙◌}
 use Rattle.ss_program.proofs.Common.{append_assoc, take-add, append-nil, take-append-drop, OnOk, meaning, Ended, Kept, kept, unless_long, Told, RecordsState}
 use Rattle.ss_program.proofs.Common.{shown_by, StoreState, Amid, GoesAmid, IsAmid, OfAmid, Owed, TakesFurther, TakesBytes, TakesLast, TakesNone, TakesTurn}
-use Rattle.ss_program.proofs.Common.{amid}
-use Rattle.ss_program.proofs.Common.{owed_by, EndsSession, HasReplied, HasTaken, HoldsTalk, NoneWait, SessionState, StopsIn, TakesPiece, after_lines, Brought}
-use Rattle.ss_program.proofs.Common.{Talk, kept_framed, kept_offered, kept_spoken, kept_turn, meant_turn, turn_brought, turn_in, turn_of, Cursors, Form, Lines}
+use Rattle.ss_program.proofs.Common.{amid, owed_by, EndsSession, HasReplied, HasTaken, NoneWait, SessionState, StopsIn, TakesPiece, after_lines, Brought, Talk}
+use Rattle.ss_program.proofs.Common.{kept_framed, kept_offered, kept_spoken, kept_turn, meant_turn, turn_brought, turn_in, turn_of, Cursors, Form, Lines}
 use Rattle.ss_program.proofs.Common.{Sessions, Frames, Follow, Sealing, Status, Done, StepState, TellsStep, kept_so_far, kept_step, steps, steps_so_far}
 use Rattle.ss_program.proofs.AmidLemmas.{AreOwed-none, GoesAmid-then, IsAmid-begin, StopsIn-after, owed-nothing, said-all, sealing-owed}
 use Rattle.ss_program.proofs.AnswerLemmas.{kept-brings, line-kept, meaning-long}
@@ -40,15 +39,13 @@ Takes-kept form o step takes is sealing talk ls before same =
 pub advance-told : (input more : List ℕ) {form other : Form} (ended : Ended) (next : StepState) → form ≡ other → next.form ≡ form →
     TellsStep (steps_so_far form input) (steps_so_far form more) (Some ended) next →
     (step : List ℕ) × (steps_so_far other more ≡ steps_so_far other input ++ step ∷ []) × (next.step ≡ kept_step form step)
-advance-told input more ended next same kept (step, grew, has) =
-    (step, subst (λ f. steps_so_far f more ≡ steps_so_far f input ++ step ∷ []) same grew, subst (λ f. next.step ≡ kept_step f step) kept has)
+advance-told input more ended next same kept (step, grew, has) = (step, rw same at grew, rw kept at has)
 
 -- and of all steps, where the input has ended
 pub last-told : (input : List ℕ) {form other : Form} (ended : Ended) (next : StepState) → form ≡ other → next.form ≡ form →
     TellsStep (steps_so_far form input) (steps form input) (Some ended) next →
     (step : List ℕ) × (steps other input ≡ steps_so_far other input ++ step ∷ []) × (next.step ≡ kept_step form step)
-last-told input ended next same kept (step, grew, has) =
-    (step, subst (λ f. steps f input ≡ steps_so_far f input ++ step ∷ []) same grew, subst (λ f. next.step ≡ kept_step f step) kept has)
+last-told input ended next same kept (step, grew, has) = (step, rw same at grew, rw kept at has)
 
 -- a line of a piece at which the run stopped
 pub Stops-piece : (sealing : Sealing) (talk : Talk) (old new : Told) (before after : Option (List ℕ)) (status : Status) (input piece line : List ℕ)
@@ -59,8 +56,7 @@ Stops-piece sealing talk old new before after status input piece line count one 
     let more = steps-more talk.form (input ++ take count piece) (drop count piece) in
     let whole : (input ++ take count piece) ++ drop count piece ≡ input ++ piece =
     append_assoc input (take count piece) (drop count piece) ∙ ap (λ bs. input ++ bs) (take-append-drop count piece) in
-    subst (λ ls. StopsIn sealing talk ls old new before after status)
-    (ap (λ ls. ls ++ more.0) (sym one) ∙ sym more.1 ∙ ap (λ bs. steps_so_far talk.form bs) whole)
+    rw (ap (λ ls. ls ++ more.0) (sym one) ∙ sym more.1 ∙ ap (λ bs. steps_so_far talk.form bs) whole) at
     (StopsIn-more sealing talk (steps_so_far talk.form input ++ line ∷ []) more.0 old new before after status stops)
 
 module _ (sealing : Sealing) (talk : Talk) (before : Option (List ℕ)) (first : Amid) (old mid new : Told) (taken more : List ℕ) where
@@ -69,18 +65,14 @@ module _ (sealing : Sealing) (talk : Talk) (before : Option (List ℕ)) (first :
       GoesAmid sealing talk (steps_so_far talk.form (taken ++ more)) before second mid new → GoesAmid sealing talk (steps_so_far talk.form (taken ++ more)) before second old new
   GoesAmid-input second one two =
       let rest = steps-more talk.form taken more in
-      subst (λ ls. GoesAmid sealing talk ls before second old new) (sym rest.1)
-      (GoesAmid-then sealing talk (steps_so_far talk.form taken) rest.0 before first old mid new second one
-      (subst (λ ls. GoesAmid sealing talk ls before second mid new) rest.1 two))
+      rw rest.1 (GoesAmid-then sealing talk (steps_so_far talk.form taken) rest.0 before first old mid new second one (rw rest.1 at two))
 
   pub Stops-input : (after : Option (List ℕ)) (status : Status) → GoesAmid sealing talk (steps_so_far talk.form taken) before first old mid →
       StopsIn sealing talk (steps_so_far talk.form (taken ++ more)) mid new before after status →
       StopsIn sealing talk (steps_so_far talk.form (taken ++ more)) old new before after status
   Stops-input after status one two =
       let rest = steps-more talk.form taken more in
-      subst (λ ls. StopsIn sealing talk ls old new before after status) (sym rest.1)
-      (StopsIn-after sealing talk (steps_so_far talk.form taken) rest.0 before first old mid new after status one
-      (subst (λ ls. StopsIn sealing talk ls mid new before after status) rest.1 two))
+      rw rest.1 (StopsIn-after sealing talk (steps_so_far talk.form taken) rest.0 before first old mid new after status one (rw rest.1 at two))
 
 -- a piece that was taken in part, and more of the rest of it
 pub taken-more : (input piece : List ℕ) (done k : ℕ) →
@@ -109,7 +101,7 @@ pub OfAmid-more : (form other : Form) → other ≡ form → (line next last : K
 OfAmid-more form other alike line next last from mid to old between new piece done k first second sealing talk before input same under at =
     let one = first sealing talk before input same under at in
     let two = second sealing talk before (input ++ take done piece) (alike ∙ same) one.0 one.1.amid in
-    subst (λ bs. (last ≡ kept_so_far talk.form bs) × GoesAmid sealing talk (steps_so_far talk.form bs) before to old new) (taken-more input piece done k) (
+    rw (← taken-more) (
       two.0,
       GoesAmid-input sealing talk before mid old between new (input ++ take done piece) (take k (take (length piece - done) (drop done piece))) to one.1
           two.1,
@@ -125,7 +117,7 @@ pub OfAmid-stops : (form other : Form) → other ≡ form → (line next : Kept)
     OfAmid form line from old (λ sealing talk before input. StopsIn sealing talk (steps_so_far talk.form (input ++ piece)) old new before after status)
 OfAmid-stops form other alike line next from mid after status old between new piece done first second sealing talk before input same under at =
     let one = first sealing talk before input same under at in
-    subst (λ bs. StopsIn sealing talk (steps_so_far talk.form bs) old new before after status) (taken-rest input piece done)
+    rw taken-rest at
     (Stops-input sealing talk before mid old between new (input ++ take done piece) (take (length piece - done) (drop done piece)) after status one.1
     (second sealing talk before (input ++ take done piece) (alike ∙ same) one.0 one.1.amid))
 
@@ -156,11 +148,11 @@ module _ (form : Form) (cursors : Cursors) (store : StoreState) (line : Kept) (w
           let taken = steps_so_far talk.form (input ++ piece) in
           let to = amid next.records (owed_by left) after now in
           let one = bytes.goes sealing talk before input at.form at.line (begins sealing talk before input at replied) in
-          let has = subst (λ ls. GoesAmid sealing talk ls before to old new) (append-nil taken)
+          let has = rw append-nil at
           (GoesAmid-then sealing talk taken [] before (mid now) old between new to one.1 ((none_more now sealing talk taken before).goes one.1.amid)) in
           record {
             at = record {
-              stands = subst (HoldsTalk (after_lines talk taken)) sealed has.amid.shown;
+              stands = rw sealed at has.amid.shown;
               durable = has.amid.durable;
               line = one.0;
               unsaid = none;
@@ -178,8 +170,7 @@ module _ (form : Form) (cursors : Cursors) (store : StoreState) (line : Kept) (w
       stops = λ sealing talk before input at replied.
           let taken = steps_so_far talk.form (input ++ piece) in
           let one = bytes.goes sealing talk before input at.form at.line (begins sealing talk before input at replied) in
-          subst (λ ls. StopsIn sealing talk ls old new before after status) (append-nil taken)
-          (StopsIn-after sealing talk taken [] before (mid now) old between new after status one.1
+          rw append-nil at (StopsIn-after sealing talk taken [] before (mid now) old between new after status one.1
           ((none_more now sealing talk taken before).stops one.1.amid));
     }
 
@@ -202,7 +193,7 @@ module _ (form : Form) (cursors : Cursors) (store : StoreState) (line : Kept) (w
       done = λ _ sealing talk before input at replied.
           let has = takes.goes sealing talk before input at.form at.line (begins sealing talk before input at replied) in
           record {
-            stands = subst (HoldsTalk (after_lines talk (steps talk.form input))) sealed has.amid.shown;
+            stands = rw sealed at has.amid.shown;
             durable = has.amid.durable;
             replied = said-all sealing talk (steps talk.form input) before (amid records (owed_by left) after now) new (owed-nothing left none) has.amid;
             any_moment = has.any_moment;
@@ -229,14 +220,14 @@ module _ (form : Form) (line : Kept) {from to : Amid} {old new : Told} where
   TakesLast-line (Ok u) takes = record {
     goes = λ sealing talk before input same is at.
         let last = takes sealing talk before input same is in
-        subst (λ ls. GoesAmid sealing talk ls before to old new) (sym last.1) (last.2.goes at);
+        rw last.1 (last.2.goes at);
     stops = tt;
   }
   TakesLast-line (Err status) takes = record {
     goes = tt;
     stops = λ sealing talk before input same is at.
         let last = takes sealing talk before input same is in
-        subst (λ ls. StopsIn sealing talk ls old new before to.held status) (sym last.1) (last.2.stops at);
+        rw last.1 (last.2.stops at);
   }
 
 module _ (form : Form) (line : Kept) {from : Amid} {was is : RecordsState} {owed left : Owed} {held after : Option (List ℕ)} {old between new : Told}
@@ -248,8 +239,7 @@ module _ (form : Form) (line : Kept) {from : Amid} {was is : RecordsState} {owed
     goes = λ sealing talk before input same line at.
         let one = first.goes sealing talk before input same line at in
         let to = amid is left after cursors in
-        subst (λ ls. GoesAmid sealing talk ls before to old new) (append-nil (steps talk.form input))
-        (GoesAmid-then sealing talk (steps talk.form input) [] before (amid was owed held cursors) old between new to one
+        rw append-nil at (GoesAmid-then sealing talk (steps talk.form input) [] before (amid was owed held cursors) old between new to one
         ((second cursors sealing talk (steps talk.form input) before).goes one.amid));
     stops = tt;
   }
@@ -257,7 +247,6 @@ module _ (form : Form) (line : Kept) {from : Amid} {was is : RecordsState} {owed
     goes = tt;
     stops = λ sealing talk before input same line at.
         let one = first.goes sealing talk before input same line at in
-        subst (λ ls. StopsIn sealing talk ls old new before after status) (append-nil (steps talk.form input))
-        (StopsIn-after sealing talk (steps talk.form input) [] before (amid was owed held cursors) old between new after status one
+        rw append-nil at (StopsIn-after sealing talk (steps talk.form input) [] before (amid was owed held cursors) old between new after status one
         ((second cursors sealing talk (steps talk.form input) before).stops one.amid));
   }

@@ -1,5 +1,5 @@
 -- What a session makes of a history: another one, over which its queries are answered.
-use Rattle.ss_program.proofs.Common.{◌≡◌, ◌∙◌, ◌++◌, List, [], ◌∷◌, ℕ, ℤ, map, Option, Some, None, IsSome, true, Result, Ok, Err, refl, sym, ap, subst, Bool}
+use Rattle.ss_program.proofs.Common.{◌≡◌, ◌∙◌, ◌++◌, List, [], ◌∷◌, ℕ, ℤ, map, Option, Some, None, IsSome, true, Result, Ok, Err, refl, sym, ap, Bool}
 use Rattle.ss_program.proofs.Common.{false, ◌≤ℤ◌, append-nil, Event, Create, Value, Open, Close, Drop, adds_up, is_guess, End, Kind, Query, Refusal, Series}
 use Rattle.ss_program.proofs.Common.{row_count, row_start, rows_of, MayBeTrue-answer, end_asked-answer, evidence_in, told, Evidence, meant-sayable, meaning}
 use Rattle.ss_program.proofs.Common.{IsSayable, Command, Do, Ask, Certify, answer-ends, answer-exact, answer-holds, answer-kind, answer-known, IsHistory_push}
@@ -26,7 +26,7 @@ sayable-said (Drop name) sayable = tt
 
 -- what brings no event leaves the history
 still : (history : History) (brought : Brought) → brought.event ≡ None → IsHistory history → IsHistory (history_after history brought)
-still history brought none whole = subst (λ h. IsHistory h) (sym (history-still history brought none)) whole
+still history brought none whole = rw history-still whole
 
 pub event-leaves : (framed : Bool) (history : History) (event : Event) (refusal : Option Refusal) → refuses (state history) event ≡ refusal → CanBeSaid event →
     IsHistory history → IsHistory (history_after history (unless_refused refusal (accepted_in framed history event)))
@@ -36,8 +36,7 @@ event-leaves framed history event (Some refusal) is said whole = still history (
 command-leaves : (framed : Bool) (history : History) (command : Command) → IsSayable command → IsHistory history →
     IsHistory (history_after history (command_in framed history command))
 command-leaves framed history command sayable whole = elim (event-or-none command) [
-  | inl is ↦ subst (λ (k : Command). IsHistory (history_after history (command_in framed history k))) (sym is.1)
-      (event-leaves framed history is.0 (refuses (state history) is.0) refl (sayable-said is.0 (subst IsSayable is.1 sayable)) whole)
+  | inl is ↦ rw is.1 (event-leaves framed history is.0 (refuses (state history) is.0) refl (sayable-said is.0 (rw is.1 at sayable)) whole)
   | inr none ↦ still history (command_in framed history command) (none framed history) whole
 ]
 
@@ -101,7 +100,7 @@ presence-line history line query value whole means asked none =
     let same : holds.0 ≡ value = cc in (
       it.0,
       ap (λ m. meaning_brings history m) means ∙ brings-answer_replies history query (Has it.0) none is,
-      subst (λ v. HoldsPresence it.0 (true_presence v query.from query.to (values_of history query.name) (marked_of history query.name))) same holds.2,
+      rw same at holds.2,
     )
 
 -- what is answered to where the likeliest value is asked for

@@ -1,18 +1,17 @@
 -- Images that stand for a history and are no longer than it allows.
-use Rattle.ss_program.proofs.Common.{◌+◌, ℕ, List, None, Option, Some, Result, Ok, Err, arith, subst, sym, on_ok_weaker, OnOk, max}
-use Rattle.ss_program.proofs.Common.{weaker, LeavesOnly, NothingPending, Told, KeepsWithin, Turns, Stands, IsShort, StandsShort, UsesAtMost, most_needed}
-use Rattle.ss_program.proofs.Common.{both, History, HoldsTalk, after_lines}
+use Rattle.ss_program.proofs.Common.{◌+◌, ℕ, List, None, Option, Some, Result, Ok, Err, arith, on_ok_weaker, OnOk, max, weaker, LeavesOnly, NothingPending}
+use Rattle.ss_program.proofs.Common.{Told, KeepsWithin, Turns, Stands, IsShort, StandsShort, UsesAtMost, most_needed, both, History, HoldsTalk, after_lines}
 use Rattle.ss_program.proofs.Common.{Talk}
 use Rattle.ss_program.proofs.SessionLemmas.{after_lines-used}
 
 -- of a conversation after some lines it is asked as of the one before
 pub left_short : (talk : Talk) (ls : List (List ℕ)) (image : List ℕ) → HoldsTalk (after_lines talk ls) image →
     StandsShort talk.used (after_lines talk ls).history image
-left_short talk ls image left = subst (λ used. StandsShort used (after_lines talk ls).history image) (after_lines-used talk ls) left
+left_short talk ls image left = rw after_lines-used at left
 
 pub short_left : (talk : Talk) (ls : List (List ℕ)) (image : List ℕ) → StandsShort talk.used (after_lines talk ls).history image →
     HoldsTalk (after_lines talk ls) image
-short_left talk ls image short = subst (λ used. StandsShort used (after_lines talk ls).history image) (sym (after_lines-used talk ls)) short
+short_left talk ls image short = rw after_lines-used short
 
 -- both of two facts of what was answered
 ok_both : {T E : Type 0} (A B : Type 0) (result : Result T E) → OnOk result A → OnOk result B → OnOk result (A × B)

@@ -1,5 +1,5 @@
 -- What a command brings whose stream doesn't stand.
-use Rattle.ss_program.proofs.Common.{◌≡◌, ◌∙◌, ℕ, Bool, false, List, [], ◌∷◌, ◌++◌, Option, Some, None, Ok, refl, sym, ap, subst, All, append-nil, Sessions}
+use Rattle.ss_program.proofs.Common.{◌≡◌, ◌∙◌, ℕ, Bool, false, List, [], ◌∷◌, ◌++◌, Option, Some, None, Ok, refl, ap, All, append-nil, Sessions}
 use Rattle.ss_program.proofs.Common.{whole_query, Create, Value, Open, Close, Drop, Refusal, Unknown, meaning, Command, Do, Ask, Certify, Last, Values, Windows}
 use Rattle.ss_program.proofs.Common.{Happened, creates, stands, state, cursor_of, To, New, IsAsked, IsOrder, Brought, History, brings, command_in}
 use Rattle.ss_program.proofs.Common.{meaning_brings, refused, the_event, unless_refused, needed, accepted, after_line, after_lines, Talk, Turn, is_framed}
@@ -55,8 +55,7 @@ command-unstood framed history ListAll name needs unknown = cc
 pub command-unknown : (framed : Bool) (history : History) (command : Command) (name : List ℕ) → needed command ≡ Some name →
     stands name (state history) ≡ false → command_in framed history command ≡ refused Unknown
 command-unknown framed history command name needs unknown =
-    command-unstood framed history command name needs
-    (λ other is. let same : name ≡ other = cc in subst (λ n. stands n (state history) ≡ false) same unknown)
+    command-unstood framed history command name needs (λ other is. let same : name ≡ other = cc in rw same at unknown)
 
 -- a plain line that says it
 pub line-unknown : (history : History) (line : List ℕ) (command : Command) (name : List ℕ) → meaning line ≡ Ok (Some command) → needed command ≡ Some name →
@@ -101,8 +100,7 @@ unknown-lines talk before between dropping name drops spared =
     let dropped : there.history ≡ here.history ++ (Drop name, New) ∷ [] =
     ap (λ (t : Talk). t.history) (after_lines-push talk before dropping) ∙ ap (λ e. here.history ++ the_event e) drops in
     ap (λ h. stands name (state h)) (after_lines-accepted there between)
-    ∙ unknown-more name there.history (accepted there between) spared
-    (subst (λ h. stands name (state h) ≡ false) (sym dropped) (unknown-dropped name here.history New))
+    ∙ unknown-more name there.history (accepted there between) spared (rw dropped (unknown-dropped name here.history New))
 
 -- the form stays
 pub form-lines : (talk : Talk) (before between : List (List ℕ)) → (after_lines (after_lines talk before) between).form ≡ talk.form

@@ -50,8 +50,7 @@ unfolding state
 values-kept history name from to s is =
     let of = named-after history name (standing history) s is in
     let inside = λ (p : Point). nat_le from p.0 && nat_le p.0 to in
-    subst (λ n. map kept_point (values_between s.landmarks from to) ≡ filter inside (marked_of history n)) of.named
-    (subst (λ (u : Stream). map kept_point (values_between u.landmarks from to) ≡ filter inside (marked_of history of.created.name)) (sym of.is)
+    rw of.named at (subst (λ (u : Stream). map kept_point (values_between u.landmarks from to) ≡ filter inside (marked_of history of.created.name)) (sym of.is)
     (filter-kept from to (all_values (landmarks_of history of.created.name))))
 
 -- what a line brings that asks for them

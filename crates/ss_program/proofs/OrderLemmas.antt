@@ -1,5 +1,5 @@
 -- What the cursor forms of a session do between two lines.
-use Rattle.ss_program.proofs.Common.{◌≡◌, ◌∙◌, ◌∷◌, [], List, ℕ, Option, Some, Result, Ok, Err, refl, sym, ap, subst, append-nil, on_ok_weaker, flat_map, OnOk}
+use Rattle.ss_program.proofs.Common.{◌≡◌, ◌∙◌, ◌∷◌, [], List, ℕ, Option, Some, Result, Ok, Err, refl, sym, ap, append-nil, on_ok_weaker, flat_map, OnOk}
 use Rattle.ss_program.proofs.Common.{shown, reads-none, KnowsNow, Told, Failed, RecordsState, shown_by, Reply, Cursors, Owed, TakesOrdered, amid, owed_by}
 use Rattle.ss_program.proofs.Common.{with_text, at_sink, Ordered, close_brings, next_brings, open_brings, Brought, only_replies, text_said, NoneWait, said_line}
 use Rattle.ss_program.proofs.Common.{Sends, Talk, turn_said, Status, OutOfMemory}
@@ -36,9 +36,7 @@ module _ (session : ℕ) (name : List ℕ) (was is : RecordsState) (waiting : Op
       (λ stands. open-event here.history here.cursors session name))
       (λ here there stands.
       let one = took.reply here.history stands in
-      subst (λ cs. (text_said (Some session) (open_brings here.history cs session name).brought ≡ said_line (Some session) reply)
-      × ((open_brings here.history cs session name).cursors ≡ after)) (sym there)
-      (one-text session (open_brings here.history before session name).brought reply one.0, one.1))
+      rw there (one-text session (open_brings here.history before session name).brought reply one.0, one.1))
 
   -- the run stops at it
   pub TakesOpened-stopped : (left : Owed) (after : Cursors) (status : Status) → (status ≡ OutOfMemory → ⊥) →
@@ -62,9 +60,7 @@ TakesShown {was = was} session count waiting held after before left disk sent kn
     TakesTurn-put (λ talk. turn_said (Some session) (next_brings talk.cursors session count)) waiting held after before left disk disk knows none sealed
     (reads-none disk) (λ here there. next-event here.cursors session count) (at_sink sent) (sink-memory sent) (on_ok (at_sink sent) sealed)
     (λ here there stands.
-    subst (λ cs. Sends held after (text_said (Some session) (next_brings cs session count).brought) (at_sink sent)) (sym there)
-    (Sends-at_sink held after (text_said (Some session) (next_brings before session count).brought) sent sends))
-    (sink-ok _ sent (on_ok_weaker sent
+    rw there (Sends-at_sink held after (text_said (Some session) (next_brings before session count).brought) sent sends)) (sink-ok _ sent (on_ok_weaker sent
     (λ is here there. is ∙ ap (λ (cs : Cursors). (next_brings cs session count).cursors) (sym there)) goes))
 
 -- a cursor is closed, and the reply to that is owed
@@ -79,6 +75,4 @@ TakesClosed session was waiting held before after disk reply u knows brings goes
     (λ here. Turns-looked was was here.history disk disk (close_brings here.cursors session).brought (given reply) knows (reads-none disk) refl
     (λ stands. close-event here.cursors session))
     (λ here there stands.
-    subst (λ cs. (text_said (Some session) (close_brings cs session).brought ≡ said_line (Some session) reply)
-    × ((close_brings cs session).cursors ≡ after)) (sym there)
-    (one-text session (close_brings before session).brought reply (ap (λ (b : Brought). b.replies) brings), sym goes))
+    rw there (one-text session (close_brings before session).brought reply (ap (λ (b : Brought). b.replies) brings), sym goes))

@@ -2,7 +2,7 @@
 use Rattle.ss_program.proofs.Common.{◌≡◌, ◌∙◌, ℕ, ◌+◌, ◌-◌, ◌++◌, Bool, List, [], ◌∷◌, length, Option, Some, None, Result, Ok, Err, refl, ap, cond, nat_le}
 use Rattle.ss_program.proofs.Common.{Event, Refusal, meaning, unless_long, Command, FrameState, Happened, refuses, state, spoken_of, Order, Spoken, Nothing}
 use Rattle.ss_program.proofs.Common.{Unaddressed, To, acks, accepted_frame, the_event, accepted, after_line, Talk, Turn, after_turn, kept_spoken, meant_turn}
-use Rattle.ss_program.proofs.Common.{turn_in, turn_of, turn_spoken, turn_to, writing, Form, Lines, Sessions, Frames, Follow, sym, subst, inl, inr}
+use Rattle.ss_program.proofs.Common.{turn_in, turn_of, turn_spoken, turn_to, writing, Form, Lines, Sessions, Frames, Follow, sym, inl, inr}
 use Rattle.ss_program.proofs.MeantLemmas.{event-or-silent}
 
 -- the conversation over a file that used so many slots, where that is known
@@ -31,8 +31,7 @@ module _ (used : Option ℕ) where
 
   meant-over : (talk : Talk) (meant : Result (Option Command) Refusal) → meant_turn (over_slots used talk) meant ≡ meant_turn talk meant
   meant-over talk meant = elim (event-or-silent meant) [
-    | inl is ↦ subst (λ (m : Result (Option Command) Refusal). meant_turn (over_slots used talk) m ≡ meant_turn talk m) (sym is.1)
-        (writing-over talk is.0 (accepted_frame (refuses (state talk.history) is.0) talk.history is.0))
+    | inl is ↦ rw is.1 (writing-over talk is.0 (accepted_frame (refuses (state talk.history) is.0) talk.history is.0))
     | inr none ↦ none (over_slots used talk) ∙ sym (none talk)
   ]
 

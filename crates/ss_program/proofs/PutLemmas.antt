@@ -1,9 +1,8 @@
 -- A line that brings no event, to which what is said is sent at once.
-use Rattle.ss_program.proofs.Common.{◌≡◌, ℕ, ◌≤◌, ◌++◌, List, [], ◌∷◌, length, take, Option, Result, Ok, Err, refl, sym, ap, ◌∙◌, subst, arith, append-nil}
-use Rattle.ss_program.proofs.Common.{OnOk, nothing_pending-same, of_content, read_leaves, weaker, KnowsNow, LeavesOnly, NothingPending, OnlyReads, Told}
-use Rattle.ss_program.proofs.Common.{RecordsState, shown_by, Stands, StandsShort, TakesTurn, amid, owed_by, the_event, HoldsTalk, NoneWait, StandsWithin}
-use Rattle.ss_program.proofs.Common.{appended, AppendsLess, Sends, after_lines, text_of, Talk, Turn, after_turn, turn_of, Cursors, Status, OutOfMemory, ended}
-use Rattle.ss_program.proofs.Common.{None}
+use Rattle.ss_program.proofs.Common.{◌≡◌, ℕ, ◌≤◌, ◌++◌, List, [], ◌∷◌, length, take, Option, Result, Ok, Err, refl, sym, ap, ◌∙◌, arith, append-nil, OnOk}
+use Rattle.ss_program.proofs.Common.{nothing_pending-same, of_content, read_leaves, weaker, KnowsNow, LeavesOnly, NothingPending, OnlyReads, Told, RecordsState}
+use Rattle.ss_program.proofs.Common.{shown_by, Stands, TakesTurn, amid, owed_by, the_event, HoldsTalk, NoneWait, StandsWithin, appended, Sends, after_lines}
+use Rattle.ss_program.proofs.Common.{text_of, Talk, Turn, after_turn, turn_of, Cursors, Status, OutOfMemory, ended, None}
 use Rattle.ss_program.proofs.AmidLemmas.{AreOwed-none, IsAmid-begin, StandsBeyond-all, owed-nothing, said-all, sealing-owed}
 use Rattle.ss_program.proofs.SendLemmas.{appended-appended}
 use Rattle.ss_program.proofs.SessionLemmas.{StandsWithin-before, after_lines-push, text_of-one, text_of-push}
@@ -28,14 +27,12 @@ module _ {was is : RecordsState} (turn : Talk → Turn) (waiting : Option (List 
   TakesTurn-put (Ok u) other still sends goes sealing talk ls before line known = record {
     goes = λ at.
         let here = after_lines talk ls in
-        let stands = subst (HoldsTalk here) sealed at.shown in
+        let stands = rw sealed at at.shown in
         let then = after_lines-push talk ls line ∙ ap (λ (t : Turn). after_turn here t) known in
         let same = ap (λ e. here.history ++ the_event e) (no_event here (sym at.cursors)) ∙ append-nil here.history in
         record {
           amid = IsAmid-begin sealing talk (ls ++ line ∷ []) before (amid is (owed_by waiting) after left) new (owed-nothing waiting none)
-              (AreOwed-none sealing waiting (sealing-owed sealing waiting at.rest at.few)) still
-              (subst (λ (t : Talk). HoldsTalk t new.content) (sym then)
-              (subst (λ h. StandsShort here.used h new.content) (sym same) (subst (HoldsTalk here) (sym reads.same.content) stands)))
+              (AreOwed-none sealing waiting (sealing-owed sealing waiting at.rest at.few)) still (rw (then, same, reads.same.content) stands)
               (nothing_pending-same old new reads.same at.durable)
               (sends here (sym at.cursors) stands.0
               ∙ ap (λ o. appended o (turn here).says)
@@ -53,8 +50,8 @@ module _ {was is : RecordsState} (turn : Talk → Turn) (waiting : Option (List 
     stops = λ at.
         let here = after_lines talk ls in
         let says = (turn_of here line).says in
-        let stands = subst (HoldsTalk here) sealed at.shown in
-        let less = subst (λ (t : Turn). AppendsLess held after t.says) (sym known) (sends here (sym at.cursors) stands.0) in
+        let stands = rw sealed at at.shown in
+        let less = rw (← known) at (sends here (sym at.cursors) stands.0) in
         let text = text_of-one here line in
         let few : less.0 ≤ length (text_of here (line ∷ [])) = omega (arith, less.1, ap (λ (t : List ℕ). length t) text) in
         let same = ap (λ e. here.history ++ the_event e) (ap (λ (t : Turn). t.event) known ∙ no_event here (sym at.cursors)) ∙ append-nil here.history in
@@ -72,9 +69,7 @@ module _ {was is : RecordsState} (turn : Talk → Turn) (waiting : Option (List 
                 ∙ appended-appended before (text_of talk ls) (take less.0 says)
                 ∙ ap (λ (t : List ℕ). appended before (text_of talk ls ++ take less.0 t)) (sym text);
             left = λ image left. StandsBeyond-all here (line ∷ []) less.0 image few
-                (subst (λ h. StandsShort here.used h image) (sym same)
-                (of_content new (HoldsTalk here) (nothing_pending-same old new reads.same at.durable)
-                (subst (HoldsTalk here) (sym reads.same.content) stands) image left));
+                (rw same (of_content new (HoldsTalk here) (nothing_pending-same old new reads.same at.durable) (rw reads.same.content stands) image left));
             starved = λ memory. absurd (other memory);
           };
           any_moment = read-moments talk ls line old new knows reads at.durable stands;

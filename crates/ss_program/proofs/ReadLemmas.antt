@@ -1,6 +1,6 @@
 -- What was read of an input, and the lines that had ended within it.
 use Rattle.ss_program.proofs.Common.{◌≡◌, ◌⊎◌, inl, inr, length-drop, ℕ, ◌+◌, ◌<◌, ◌≤◌, ◌++◌, List, [], ◌∷◌, length, take, drop, Bool, Option, Some, None, Ok}
-use Rattle.ss_program.proofs.Common.{common_steps, Err, refl, sym, ap, ◌∙◌, subst, append_assoc, arith, take-add, append-nil, drop-drop, drop_all}
+use Rattle.ss_program.proofs.Common.{common_steps, Err, refl, sym, ap, ◌∙◌, append_assoc, arith, take-add, append-nil, drop-drop, drop_all}
 use Rattle.ss_program.proofs.Common.{length-take-le, take-append-drop, Form, Sealing, Each, Shared, Moves, Failed, most_read, Moved, Reads, Took, steps_within}
 use Rattle.ss_program.proofs.Common.{IsStop, LONGEST_INPUT, Status, steps, steps_so_far, Done, SourceFault, InputLimit}
 use Rattle.ss_program.proofs.StepsLemmas.{steps-all, steps-front, steps-more}
@@ -24,14 +24,14 @@ pub moved : (before after : Option (List ℕ)) (count : ℕ) (into left : List �
 moved None after count into left moves is = cc
 moved (Some bytes) after count into left moves is =
     let same : bytes ≡ left = cc in
-    subst (λ bs. (count ≤ length bs) × (take count into ≡ take count bs) × (after ≡ Some (drop count bs))) same (moves.0, moves.2, moves.3)
+    rw (← same) (moves.0, moves.2, moves.3)
 
 pub moved_on : (before after : Option (List ℕ)) (count : ℕ) (into left : List ℕ) → Moves before after (Ok count) into → before ≡ Some left →
     (count ≤ length left) × (count ≡ 0 → left ≡ []) × (after ≡ Some (drop count left))
 moved_on None after count into left moves is = cc
 moved_on (Some bytes) after count into left moves is =
     let same : bytes ≡ left = cc in
-    subst (λ bs. (count ≤ length bs) × (count ≡ 0 → bs ≡ []) × (after ≡ Some (drop count bs))) same (moves.0, moves.1, moves.3)
+    rw (← same) (moves.0, moves.1, moves.3)
 
 -- and what one that failed left
 pub unmoved : (before after : Option (List ℕ)) (e : Failed) (into : List ℕ) → Moves before after (Err e) into → after ≡ before

@@ -1,6 +1,6 @@
 -- What sending rows leaves: those of `windows` and of `list`, one after the other.
 use Rattle.ss_program.proofs.Common.{◌≡◌, ℕ, suc, ◌+◌, ◌-◌, ◌<◌, ◌≤◌, ◌++◌, List, [], ◌∷◌, length, map, take, drop, take_all, Option, Some, None, IsSome}
-use Rattle.ss_program.proofs.Common.{IfSome, Ok, Err, Result, sym, ap, ◌∙◌, subst, arith, inl, inr, drop-cons, flat_map-append, append-nil, length-append}
+use Rattle.ss_program.proofs.Common.{IfSome, Ok, Err, Result, sym, ap, ◌∙◌, arith, inl, inr, drop-cons, flat_map-append, append-nil, length-append}
 use Rattle.ss_program.proofs.Common.{length-map, take-append-drop, take-append-le, take_more, get_or_from_slice_get, slice_get-map, slice_get_cases}
 use Rattle.ss_program.proofs.Common.{slice_get_within, flat_map, slice_get, option_map, IsErr, Windows, StandsIn, index_of, place_at, placed_of, Placed, Stream}
 use Rattle.ss_program.proofs.Common.{state, stream_named, said_line, Reply, Refused, WindowsHead, Window, ListHead, History, command_brings, stream_rows}
@@ -18,7 +18,7 @@ module _ (speaker : Option ℕ) where
   pub Sends-one : (before after : Option (List ℕ)) {E : Type 0} (reply : Reply) (sent : Result (Unit {0}) E) → Sends before after (said_line speaker reply)
       sent →
       Sends before after (flat_map (said_line speaker) (reply ∷ [])) sent
-  Sends-one before after reply sent sends = subst (λ bs. Sends before after bs sent) (sym (append-nil (said_line speaker reply))) sends
+  Sends-one before after reply sent sends = rw append-nil sends
 
   -- a head was sent, and then its rows
   pub Sends-head : (before held after : Option (List ℕ)) (head : Reply) (rows : List Reply) {E : Type 0} (sent : Result (Unit {0}) E) →
@@ -28,8 +28,7 @@ module _ (speaker : Option ℕ) where
       sends ∙ ap (λ o. appended o (flat_map (said_line speaker) rows)) is ∙ appended-appended before (said_line speaker head) (flat_map (said_line speaker)
       rows)
   Sends-head before held after head rows (Err e) is sends =
-      subst (λ bs. AppendsLess before after (said_line speaker head ++ bs)) (append-nil (flat_map (said_line speaker) rows))
-      (AppendsLess-after before held after (said_line speaker head) (flat_map (said_line speaker) rows) [] is sends)
+      rw append-nil at (AppendsLess-after before held after (said_line speaker head) (flat_map (said_line speaker) rows) [] is sends)
 
   -- or less than the head
   pub AppendsLess-head : (before after : Option (List ℕ)) (head : Reply) (rows : List Reply) → AppendsLess before after (said_line speaker head) →
@@ -79,8 +78,7 @@ module _ (speaker : Option ℕ) where
       AppendsLess before after (flat_map (said_line speaker) rows)
   rows-less before held after rows place row at is less =
       let split = rows-at rows place row at in
-      subst (λ bs. AppendsLess before after bs)
-      (sym (flat_map-append (said_line speaker) (take place rows) (row ∷ split.0)) ∙ ap (λ rs. flat_map (said_line speaker) rs) (sym split.1))
+      rw (sym (flat_map-append (said_line speaker) (take place rows) (row ∷ split.0)) ∙ ap (λ rs. flat_map (said_line speaker) rs) (sym split.1)) at
       (AppendsLess-after before held after (flat_map (said_line speaker) (take place rows)) (said_line speaker row) (flat_map (said_line speaker) split.0) is
       less)
 
@@ -93,41 +91,33 @@ module _ (speaker : Option ℕ) where
   pub list-head : (history : History) (before after : Option (List ℕ)) (count : ℕ) → count ≡ length (state history) →
       AppendsLess before after (said_line speaker (ListHead count)) → AppendsLess before after (text_said speaker (command_brings history ListAll))
   list-head history before after count is less =
-      AppendsLess-head speaker before after (ListHead (length (state history))) (stream_rows (state history))
-      (subst (λ n. AppendsLess before after (said_line speaker (ListHead n))) is less)
+      AppendsLess-head speaker before after (ListHead (length (state history))) (stream_rows (state history)) (rw is at less)
 
   pub list-rows : (history : History) (before held after : Option (List ℕ)) (count : ℕ) {E : Type 0} (sent : Result (Unit {0}) E) → count ≡ length
       (state history) →
       held ≡ appended before (said_line speaker (ListHead count)) → Sends held after (flat_map (said_line speaker) (stream_rows (state history))) sent →
       Sends before after (text_said speaker (command_brings history ListAll)) sent
   list-rows history before held after count sent is first rows =
-      Sends-head speaker before held after (ListHead (length (state history))) (stream_rows (state history)) sent
-      (subst (λ n. held ≡ appended before (said_line speaker (ListHead n))) is first) rows
+      Sends-head speaker before held after (ListHead (length (state history))) (stream_rows (state history)) sent (rw is at first) rows
 
   -- what `windows` brings: the head, and the rows after it, or the refusal
   pub windows-unknown : (history : History) (name : List ℕ) (before after : Option (List ℕ)) {E : Type 0} (sent : Result (Unit {0}) E) →
       stream_named name (state history) ≡ None → Sends before after (said_line speaker (Refused refusals.Unknown)) sent →
       Sends before after (text_said speaker (command_brings history (Windows name))) sent
-  windows-unknown history name before after sent none sends =
-      subst (λ b. Sends before after (text_said speaker b) sent) (sym (brings-unknown history name none))
-      (Sends-one speaker before after (Refused refusals.Unknown) sent sends)
+  windows-unknown history name before after sent none sends = rw brings-unknown (Sends-one speaker before after (Refused refusals.Unknown) sent sends)
 
   pub windows-head : (history : History) (name : List ℕ) (s : Stream) (before after : Option (List ℕ)) (count : ℕ) →
       stream_named name (state history) ≡ Some s → count ≡ length s.windows → AppendsLess before after (said_line speaker (WindowsHead count)) →
       AppendsLess before after (text_said speaker (command_brings history (Windows name)))
   windows-head history name s before after count is all less =
-      subst (λ b. AppendsLess before after (text_said speaker b)) (sym (brings-windows history name s is))
-      (AppendsLess-head speaker before after (WindowsHead (length s.windows)) (window_rows s)
-      (subst (λ n. AppendsLess before after (said_line speaker (WindowsHead n))) all less))
+      rw (brings-windows history name s is) (AppendsLess-head speaker before after (WindowsHead (length s.windows)) (window_rows s) (rw all at less))
 
   pub windows-rows : (history : History) (name : List ℕ) (s : Stream) (before held after : Option (List ℕ)) (count : ℕ)
       {E : Type 0} (sent : Result (Unit {0}) E) → stream_named name (state history) ≡ Some s → count ≡ length s.windows →
       held ≡ appended before (said_line speaker (WindowsHead count)) → Sends held after (flat_map (said_line speaker) (window_rows s)) sent →
       Sends before after (text_said speaker (command_brings history (Windows name))) sent
   windows-rows history name s before held after count sent is all first rows =
-      subst (λ b. Sends before after (text_said speaker b) sent) (sym (brings-windows history name s is))
-      (Sends-head speaker before held after (WindowsHead (length s.windows)) (window_rows s) sent
-      (subst (λ n. held ≡ appended before (said_line speaker (WindowsHead n))) all first) rows)
+      rw (brings-windows history name s is) (Sends-head speaker before held after (WindowsHead (length s.windows)) (window_rows s) sent (rw all at first) rows)
 
 -- how many windows of a stream were sent, where this one is next
 abbrev pub rows_done : List (At × Entry) → Option At → ℕ
@@ -172,8 +162,7 @@ module _ (speaker : Option ℕ) where
       IfSome part (λ p. rows_done (entries_of p) next ≡ 0) →
       IfSome part (λ p. held ≡ appended held (flat_map (said_line speaker) (take (rows_done (entries_of p) next) (window_rows s))))
   none-sent None entries_of next s held first = tt
-  none-sent (Some p) entries_of next s held first =
-      subst (λ n. held ≡ appended held (flat_map (said_line speaker) (take n (window_rows s)))) (sym first) (sym (appended-nil held))
+  none-sent (Some p) entries_of next s held first = rw first (sym (appended-nil held))
 
   -- one window more was sent
   pub rows-step : {P : Type 0} (part : Option P) (entries_of : P → List (At × Entry)) (at : At) (next : Option At) (s : Stream) (o : Option Stream)
@@ -184,9 +173,8 @@ module _ (speaker : Option ℕ) where
       IfSome part (λ p. after ≡ appended before (flat_map (said_line speaker) (take (rows_done (entries_of p) next) (window_rows s))))
   rows-step None entries_of at next s o before held after window is so_far row done sent = tt
   rows-step (Some p) entries_of at next s o before held after window is so_far row done sent =
-      let found = subst (λ (x : Option Stream). IfSome x (λ y. slice_get (map placed_of y.windows) (index_of (entries_of p) at) ≡ Some window)) is row in
-      subst (λ n. after ≡ appended before (flat_map (said_line speaker) (take n (window_rows s)))) (sym done)
-      (rows-more speaker before held after (window_rows s) (index_of (entries_of p) at) (Window window)
+      let found = rw is at row in
+      rw done (rows-more speaker before held after (window_rows s) (index_of (entries_of p) at) (Window window)
       (row-reply placed_of (λ w. Window w) s.windows (index_of (entries_of p) at) window found) so_far sent)
 
   -- or less than one more
@@ -197,7 +185,7 @@ module _ (speaker : Option ℕ) where
       AppendsLess held after (said_line speaker (Window window)) → AppendsLess before after (flat_map (said_line speaker) (window_rows s))
   rows-cut None entries_of at s o before held after window is some so_far row less = cc
   rows-cut (Some p) entries_of at s o before held after window is some so_far row less =
-      let found = subst (λ (x : Option Stream). IfSome x (λ y. slice_get (map placed_of y.windows) (index_of (entries_of p) at) ≡ Some window)) is row in
+      let found = rw is at row in
       rows-less speaker before held after (window_rows s) (index_of (entries_of p) at) (Window window)
       (row-reply placed_of (λ w. Window w) s.windows (index_of (entries_of p) at) window found) so_far less
 

@@ -1,11 +1,10 @@
 -- What a run leaves, by how it ends.
 use Rattle.ss_program.proofs.Common.{◌≡◌, ◌⊎◌, inl, inr, take_all, length-drop, ℕ, ◌+◌, ◌≤◌, ◌++◌, List, [], ◌∷◌, length, take, drop, Bool, true, IsTrue}
-use Rattle.ss_program.proofs.Common.{Option, Some, refl, sym, ap, ◌∙◌, subst, arith, take-add, append-nil, drop-drop, take-append-drop, joined, of_content}
-use Rattle.ss_program.proofs.Common.{KnowsNow, LeavesOnly, Told, Stands, Reports, Serves, Stopped, Took, steps_within, EndsWell, GoesOn, HoldsTalk}
-use Rattle.ss_program.proofs.Common.{SessionState, StandsWithin, StopsIn, appended, AppendsFront, after_lines, report, report_so_far, text_of, IsStop, Talk}
-use Rattle.ss_program.proofs.Common.{LONGEST_INPUT, Sealing, Status, Done, DiskFault, SourceFault, SinkFault, OutOfMemory, InputLimit, steps, steps_so_far}
-use Rattle.ss_program.proofs.Common.{Form, History, StandsShort, NothingPending, begun_over, sealing_by, kept_so_far, no_cursors, NoneWait, ReadsPiece, Ok}
-use Rattle.ss_program.proofs.Common.{EndsSession, ServesInput}
+use Rattle.ss_program.proofs.Common.{Option, Some, refl, sym, ap, ◌∙◌, arith, take-add, append-nil, drop-drop, take-append-drop, joined, of_content, KnowsNow}
+use Rattle.ss_program.proofs.Common.{LeavesOnly, Told, Reports, Serves, Stopped, Took, steps_within, EndsWell, GoesOn, HoldsTalk, SessionState, StandsWithin}
+use Rattle.ss_program.proofs.Common.{StopsIn, appended, AppendsFront, after_lines, report, report_so_far, text_of, IsStop, Talk, LONGEST_INPUT, Sealing, Status}
+use Rattle.ss_program.proofs.Common.{Done, DiskFault, SourceFault, SinkFault, OutOfMemory, InputLimit, steps, steps_so_far, Form, History, StandsShort}
+use Rattle.ss_program.proofs.Common.{NothingPending, begun_over, sealing_by, kept_so_far, no_cursors, NoneWait, ReadsPiece, Ok, EndsSession, ServesInput}
 use Rattle.ss_program.proofs.SendLemmas.{AppendsFront-all, appended-nil}
 use Rattle.ss_program.proofs.SessionLemmas.{StopsAmong-front, StopsAmong-more, StopsIn-more, after_lines-accepted, front-report, moments-more}
 use Rattle.ss_program.proofs.TakeLemmas.{GoesOn-start, GoesOn-then, StopsIn-then}
@@ -30,8 +29,7 @@ module _ {sealing : Sealing} {talk : Talk} {start mid now : Told} {first second 
   IsThrough-more through more source on = record {
     within = omega (arith, through.within, more, length-drop n input);
     source = source ∙ ap (λ bs. Some bs) (drop-drop k n input);
-    on = subst (λ bs. GoesOn sealing talk start now second before after bs) (sym (take-add n k input))
-        (GoesOn-then sealing talk start mid now first before held after (take n input) (take k (drop n input)) second through.on on);
+    on = rw take-add (GoesOn-then sealing talk start mid now first before held after (take n input) (take k (drop n input)) second through.on on);
   }
 
 -- the same of every input and history
@@ -52,7 +50,7 @@ goes-start session {before = before} {disk = disk} knows unsaid line cursors inp
       source = is;
       on = GoesOn-start (sealing_by session.waiting) talk disk session before before [] knows
           (record {
-            stands = subst (λ ls. HoldsTalk (after_lines talk ls) disk.content) nothing stands;
+            stands = rw (← nothing) stands;
             durable = none;
             line = line;
             unsaid = unsaid;
@@ -89,7 +87,7 @@ IsThrough-end {sealing = sealing} {talk = talk} {start = start} {now = now} {ses
     all fits none = record {
       fits = fits;
       source = none;
-      on = subst (λ bs. GoesOn sealing talk start now session before held bs) (take_all n input all) through.on;
+      on = rw take_all at through.on;
     }
 
 -- a line that a line end ended within the bytes taken is one of those so far
@@ -98,8 +96,7 @@ StopsIn-within : (sealing : Sealing) (talk : Talk) (old new : Told) (before afte
     StopsIn sealing talk (steps_within talk.form taken rest) old new before after status
 StopsIn-within sealing talk old new before after status taken [] stops =
     let all = steps-all talk.form taken in
-    subst (λ ls. StopsIn sealing talk ls old new before after status) (sym all.1)
-    (StopsIn-more sealing talk (steps_so_far talk.form taken) all.0 old new before after status stops)
+    rw all.1 (StopsIn-more sealing talk (steps_so_far talk.form taken) all.0 old new before after status stops)
 StopsIn-within sealing talk old new before after status taken (b ∷ rest) stops = stops
 
 -- a run stopped at a line that had ended within the bytes taken
@@ -125,8 +122,7 @@ HasStopped-piece sealing talk start mid new session input old_left left before h
       rest = drop m input;
       took = Took-at input left m (omega (arith, through.within, piece.2, length-drop n input)) (omega (arith, few, piece.1))
           (piece.3 ∙ ap (λ bs. Some bs) (drop-drop piece.0 n input));
-      stops = StopsIn-within sealing talk start new before after status (take m input) (drop m input)
-          (subst (λ bs. StopsIn sealing talk (steps_so_far talk.form bs) start new before after status) (sym (take-add n piece.0 input)) stops);
+      stops = StopsIn-within sealing talk start new before after status (take m input) (drop m input) (rw take-add stops);
     }
 
 -- what was left in a crash of a session before its last line is a front of all lines
@@ -134,7 +130,7 @@ any_moment-lines : (talk : Talk) (old new : Told) (input : List ℕ) → LeavesO
     LeavesOnly old new (StandsWithin talk (steps talk.form input))
 any_moment-lines talk old new input run =
     let all = steps-all talk.form input in
-    subst (λ ls. LeavesOnly old new (StandsWithin talk ls)) (sym all.1) (moments-more talk old new (steps_so_far talk.form input) all.0 run)
+    rw all.1 (moments-more talk old new (steps_so_far talk.form input) all.0 run)
 
 -- or at the last line of the input
 pub HasStopped-end : (sealing : Sealing) {talk : Talk} {start mid : Told} {session : SessionState} {before held left : Option (List ℕ)} {input : List ℕ}
@@ -162,8 +158,7 @@ Reports-stop : (sealing : Sealing) (talk : Talk) (input : List ℕ) (left before
     Reports sealing talk input left before after new status
 Reports-stop sealing talk input left before after old new status front has stop =
     let other = stop-other true status stop in
-    let at = λ (s : Status) (is : status ≡ s). subst (λ x. Stopped sealing talk input left before after new x) is
-    (Stopped-as sealing talk input left before after old new status has) in
+    let at = λ (s : Status) (is : status ≡ s). rw is at (Stopped-as sealing talk input left before after old new status has) in
     record {
       front = front;
       whole = λ is. absurd (other.0 is);
@@ -181,12 +176,11 @@ Serves-stop sealing talk input left before after old new tells status told stop 
     let all = steps-read talk.form input has.taken has.rest has.took.all in
     let ls = steps_within talk.form has.taken has.rest in
     record {
-      report = Reports-stop sealing talk input left before after old new status
-          (subst (λ l. AppendsFront before after (text_of talk l)) (sym all.1) (StopsAmong-front (StopsAmong-more all.0 has.stops.at))) has
-          (subst (λ b. IsStop b status) told stop);
+      report = Reports-stop sealing talk input left before after old new status (rw all.1 (StopsAmong-front (StopsAmong-more all.0 has.stops.at))) has
+          (rw told at stop);
       kept = HoldsReported-stop sealing talk input left before after new status ls all.0 all.1
           (AreRead-took talk.form input left has.taken has.rest has.took) has.stops.at (stop-other tells status stop).0;
-      any_moment = subst (λ l. LeavesOnly old new (StandsWithin talk l)) (sym all.1) (moments-more talk old new ls all.0 has.stops.any_moment);
+      any_moment = rw all.1 (moments-more talk old new ls all.0 has.stops.any_moment);
       whole = λ is. absurd ((stop-other tells status stop).0 is);
     }
 
@@ -210,7 +204,7 @@ Serves-done sealing {talk = talk} {start = start} {mid = mid} {before = before} 
       (AreRead-took talk.form input left input [] (record { all = append-nil input; others = end.source; few = end.fits })) ends.replied
       (of_content new (HoldsTalk (after_lines talk (steps talk.form input))) ends.durable ends.stands) (λ _. refl);
   any_moment = joined start mid new (StandsWithin talk (steps talk.form input)) (any_moment-lines talk start mid input end.on.any_moment) ends.any_moment;
-  whole = λ _. subst (λ h. Stands h new.content) (after_lines-accepted talk (steps talk.form input)) ends.stands.0;
+  whole = λ _. rw after_lines-accepted at ends.stands.0;
 }
 
 -- the session was finished
@@ -223,7 +217,7 @@ pub Serves-finish : (sealing : Sealing) {talk : Talk} {start mid : Told} {sessio
     (IsStop tells status → StopsIn sealing talk (steps talk.form input) mid new before after status) →
     Serves sealing talk input left before after start new status
 Serves-finish sealing {talk = talk} {start = start} {before = before} {left = left} {input = input} new after tells status told end (inl is) done stops =
-    subst (λ s. Serves sealing talk input left before after start new s) (sym is) (Serves-done sealing new after end (done is))
+    rw is (Serves-done sealing new after end (done is))
 Serves-finish sealing {talk = talk} {start = start} {before = before} {left = left} {input = input} new after tells status told end
     (inr stop) done stops =
     Serves-stop sealing talk input left before after start new tells status told stop (HasStopped-end sealing new after status end (stops stop))
@@ -284,7 +278,7 @@ Serves-part sealing {talk = talk} {start = start} {now = now} {before = before} 
     let ls = steps_so_far talk.form (take n input) in
     record {
       report = record {
-        front = subst (λ bs. AppendsFront before held (report talk bs)) (take-append-drop n input)
+        front = rw take-append-drop at
             (front-report talk before held (take n input) (drop n input) (AppendsFront-all before held (report_so_far talk (take n input))
             through.on.replied));
         whole = λ is. part-other Done (λ w. cc) (λ w. cc) how is;
@@ -297,6 +291,6 @@ Serves-part sealing {talk = talk} {start = start} {now = now} {before = before} 
       kept = HoldsReported-done sealing talk input after_left before held now status ls more.0 all (part-read talk input left after_left n through.source how)
           through.on.replied
           (of_content now (HoldsTalk (after_lines talk ls)) through.on.at.durable through.on.at.stands) (λ is. part-other Done (λ w. cc) (λ w. cc) how is);
-      any_moment = subst (λ l. LeavesOnly start now (StandsWithin talk l)) (sym all) (moments-more talk start now ls more.0 through.on.any_moment);
+      any_moment = rw all (moments-more talk start now ls more.0 through.on.any_moment);
       whole = λ is. part-other Done (λ w. cc) (λ w. cc) how is;
     }

@@ -1,6 +1,6 @@
 -- What bringing all to the disk makes of a session between two lines, and what a line does that is taken in memory.
 use Rattle.ss_program.proofs.Common.{inl, inr, ◌⊎◌, ⊎_elim, ◌≡◌, ℕ, ◌<◌, ◌≤◌, ◌++◌, List, [], ◌∷◌, length, take, Option, Some, None, Result, Ok, Err, refl, sym}
-use Rattle.ss_program.proofs.Common.{ap, ◌∙◌, subst, append_assoc, arith, append-nil, length-append, ⊤, now, of_content, weaker, KnowsNow, LeavesOnly, DiskView}
+use Rattle.ss_program.proofs.Common.{ap, ◌∙◌, append_assoc, arith, append-nil, length-append, ⊤, now, of_content, weaker, KnowsNow, LeavesOnly, DiskView}
 use Rattle.ss_program.proofs.Common.{NothingPending, Told, Step, fine, Failed, RecordsState, shown_by, SealsHistory, TurnsHistory, Stands, IsShort, StandsShort}
 use Rattle.ss_program.proofs.Common.{IsShort-more, Amid, AreOwed, GoesAmid, IsAmid, Owed, TakesNone, amid, owed_by, with_text, at_sink, the_event, IsAlone}
 use Rattle.ss_program.proofs.Common.{HoldsTalk, StandsWithin, StopsIn, appended, AppendsLess, Sends, after_line, after_lines, text_of, disk_verdict, ended}
@@ -24,7 +24,7 @@ MayStop (Some n) text bytes = (n ≡ 1) × (bytes < length text)
 IsAlone-owed : (sealing : Sealing) (talk : Talk) (lines : Option ℕ) (text : List ℕ) (rest : List (List ℕ)) (bytes : ℕ) → AreOwed sealing lines rest →
     text ≡ text_of talk rest → MayStop lines text bytes → IsAlone sealing talk rest bytes
 IsAlone-owed Each talk None text rest bytes few owes may = absurd few
-IsAlone-owed Each talk (Some n) text rest bytes few owes may = (few ∙ may.0, subst (λ (t : List ℕ). bytes < length t) owes may.1)
+IsAlone-owed Each talk (Some n) text rest bytes few owes may = (few ∙ may.0, rw owes at may.1)
 IsAlone-owed Shared talk lines text rest bytes few owes may = tt
 
 -- at a line of which nothing is said yet, where nothing is owed before it
@@ -73,10 +73,10 @@ module _ (sealing : Sealing) (talk : Talk) (ls : List (List ℕ)) (before : Opti
   there-used = after_lines-used here at.within.0 ∙ after_lines-used talk at.out
 
   is-there : there old.content
-  is-there = subst (λ used. StandsShort used (after_lines here at.within.0).history old.content) there-used at.within.3
+  is-there = rw there-used at at.within.3
 
   left-there : (image : List ℕ) → there image → HoldsTalk (after_lines here at.within.0) image
-  left-there image short = subst (λ used. StandsShort used (after_lines here at.within.0).history image) (sym there-used) short
+  left-there image short = rw there-used short
 
   is-shown : StandsShort talk.used (after_lines talk ls).history (shown_by from.records old.content)
   is-shown = left_short talk ls (shown_by from.records old.content) at.shown
@@ -87,8 +87,7 @@ module _ (sealing : Sealing) (talk : Talk) (ls : List (List ℕ)) (before : Opti
   moments-sealed seals =
       weaker old new (λ image. there image ⊎ StandsShort talk.used (after_lines talk ls).history image) (StandsWithin here at.rest)
       (λ image either. ⊎_elim (λ stands. (at.within.0, at.within.1, at.within.2, left-there image stands))
-      (λ stands. StandsWithin-all here at.rest image (subst (λ (t : Talk). HoldsTalk t image) (after-rest talk ls at.out at.rest at.are)
-      (short_left talk ls image stands))) either)
+      (λ stands. StandsWithin-all here at.rest image (rw (after-rest talk ls at.out at.rest at.are) at (short_left talk ls image stands))) either)
       ((seals (after_lines talk ls).history).any_moment at.durable talk.used (after_lines here at.within.0).history is-there is-shown)
 
   -- the disk failed
@@ -107,8 +106,7 @@ module _ (sealing : Sealing) (talk : Talk) (ls : List (List ℕ)) (before : Opti
     stands : HoldsTalk (after_lines talk ls) new.content
     stands =
         let all = seals (after_lines talk ls).history in
-        subst (HoldsTalk (after_lines talk ls)) sealed
-        (short_left talk ls (shown_by to.records new.content) (all.content at.shown.0, all.short talk.used is-shown))
+        rw sealed at (short_left talk ls (shown_by to.records new.content) (all.content at.shown.0, all.short talk.used is-shown))
 
     only : NothingPending new
     only = (seals (after_lines talk ls).history).durable at.durable
@@ -131,8 +129,7 @@ module _ (sealing : Sealing) (talk : Talk) (ls : List (List ℕ)) (before : Opti
             sent = less.2 ∙ ap (λ o. appended o (take bytes from.owed.text)) at.said
                 ∙ appended-appended before (text_of talk at.out) (take bytes from.owed.text)
                 ∙ ap (λ (t : List ℕ). appended before (text_of talk at.out ++ take bytes t)) at.owes;
-            left = λ image left. StandsBeyond-all here at.rest bytes image few (subst (λ (t : Talk). HoldsTalk t image)
-                (after-rest talk ls at.out at.rest at.are)
+            left = λ image left. StandsBeyond-all here at.rest bytes image few (rw (after-rest talk ls at.out at.rest at.are) at
                 (of_content new (HoldsTalk (after_lines talk ls)) only stands image left));
             starved = λ memory. cc;
           };
@@ -142,15 +139,14 @@ module _ (sealing : Sealing) (talk : Talk) (ls : List (List ℕ)) (before : Opti
     -- all was sent
     pub send-done : to.owed.text ≡ [] → AreOwed sealing to.owed.lines [] → from.cursors ≡ to.cursors →
         to.held ≡ appended from.held from.owed.text → GoesAmid sealing talk (ls ++ []) before to old new
-    send-done empty few cursors sent =
-        subst (λ l. GoesAmid sealing talk l before to old new) (sym (append-nil ls)) (record {
-          amid = IsAmid-begin sealing talk ls before to new empty few sealed stands only (sent ∙ ap (λ o. appended o from.owed.text) at.said
-              ∙ appended-appended before (text_of talk at.out) from.owed.text
-              ∙ ap (λ (t : List ℕ). appended before (text_of talk at.out ++ t)) at.owes
-              ∙ ap (λ (t : List ℕ). appended before t) (sym (text_of-append talk at.out at.rest))
-              ∙ ap (λ l. appended before (text_of talk l)) (sym at.are)) (sym cursors ∙ at.cursors);
-          any_moment = moments-out talk old new ls at.out at.rest at.are run;
-        })
+    send-done empty few cursors sent = rw append-nil (record {
+      amid = IsAmid-begin sealing talk ls before to new empty few sealed stands only (sent ∙ ap (λ o. appended o from.owed.text) at.said
+          ∙ appended-appended before (text_of talk at.out) from.owed.text
+          ∙ ap (λ (t : List ℕ). appended before (text_of talk at.out ++ t)) at.owes
+          ∙ ap (λ (t : List ℕ). appended before t) (sym (text_of-append talk at.out at.rest))
+          ∙ ap (λ l. appended before (text_of talk l)) (sym at.are)) (sym cursors ∙ at.cursors);
+      any_moment = moments-out talk old new ls at.out at.rest at.are run;
+    })
 
   module _ (line : List ℕ) where
     -- the history before the line, and after it
@@ -164,8 +160,7 @@ module _ (sealing : Sealing) (talk : Talk) (ls : List (List ℕ)) (before : Opti
     left-line : (image : List ℕ) → then image → IsShort talk.used (after_lines talk ls).history image → HoldsTalk (after_line (after_lines talk ls) line) image
     left-line image stands short =
         let event = the_event (turn_of (after_lines talk ls) line).event in
-        subst (λ used. StandsShort used ((after_lines talk ls).history ++ event) image) (sym (after_lines-used talk ls))
-        (stands, IsShort-more talk.used (after_lines talk ls).history event image short)
+        rw after_lines-used (stands, IsShort-more talk.used (after_lines talk ls).history event image short)
 
     -- an image of the history before a line or after it, or of what stood there
     within-line : (image : List ℕ) → (there image ⊎ ((first image ⊎ then image) × IsShort talk.used (after_lines talk ls).history image)) →
@@ -177,11 +172,9 @@ module _ (sealing : Sealing) (talk : Talk) (ls : List (List ℕ)) (before : Opti
       left-there image stays,
     )
     within-line image (inr (inl stands, short)) =
-        StandsWithin-before here at.rest line image
-        (subst (λ (t : Talk). HoldsTalk t image) (after-rest talk ls at.out at.rest at.are) (short_left talk ls image (stands, short)))
+        StandsWithin-before here at.rest line image (rw (after-rest talk ls at.out at.rest at.are) at (short_left talk ls image (stands, short)))
     within-line image (inr (inr stands, short)) =
-        StandsWithin-after here at.rest line image
-        (subst (λ (t : Talk). HoldsTalk (after_line t line) image) (after-rest talk ls at.out at.rest at.are) (left-line image stands short))
+        StandsWithin-after here at.rest line image (rw (after-rest talk ls at.out at.rest at.are) at (left-line image stands short))
 
     are-line : ls ++ line ∷ [] ≡ at.out ++ (at.rest ++ line ∷ [])
     are-line = ap (λ l. l ++ line ∷ []) at.are ∙ append_assoc at.out at.rest (line ∷ [])
@@ -204,8 +197,7 @@ module _ (sealing : Sealing) (talk : Talk) (ls : List (List ℕ)) (before : Opti
           0 < length (turn_of (after_lines talk ls) line).says → StopsIn sealing talk (ls ++ line ∷ []) old new before from.held status
       line-stopped waiting status owed other some =
           Stops-unsent sealing talk ls (line ∷ []) at.out (at.rest ++ line ∷ []) before from.held old new status are-line at.said knows other
-          (IsAlone-line sealing waiting here at.rest line (subst (λ o. AreOwed sealing o.lines at.rest) owed at.few)
-          (subst (λ (t : Talk). 0 < length (turn_of t line).says) (after-rest talk ls at.out at.rest at.are) some)) moments-line
+          (IsAlone-line sealing waiting here at.rest line (rw owed at at.few) (rw (after-rest talk ls at.out at.rest at.are) at some)) moments-line
 
       -- what is said to it is owed
       pub line-owed : (to : Amid) (value : T) → result ≡ Ok value → (turn_of (after_lines talk ls) line).cursors ≡ to.cursors →
@@ -215,8 +207,7 @@ module _ (sealing : Sealing) (talk : Talk) (ls : List (List ℕ)) (before : Opti
           let rest = after-rest talk ls at.out at.rest at.are in
           let says = (turn_of (after_lines talk ls) line).says in
           let push = after_lines-push talk ls line in
-          let shows = subst (λ r. TurnsHistory from.records records (after_lines talk ls).history (λ image. first image ⊎ then image)
-          (after_line (after_lines talk ls) line).history old new r) is turns in
+          let shows = rw is at turns in
           record {
             amid = record {
               out = at.out;
@@ -225,12 +216,8 @@ module _ (sealing : Sealing) (talk : Talk) (ls : List (List ℕ)) (before : Opti
               said = held ∙ at.said;
               owes = ap (λ o. o.text) owed ∙ ap (λ (t : List ℕ). t ++ says) at.owes
                   ∙ ap (λ (t : Talk). text_of here at.rest ++ (turn_of t line).says) rest ∙ sym (text_of-push here at.rest line);
-              few = subst (λ o. AreOwed sealing o.lines (at.rest ++ line ∷ [])) (sym owed)
-                  (AreOwed-more sealing from.owed.lines at.rest line at.few);
-              shown = subst (λ r. HoldsTalk (after_lines talk (ls ++ line ∷ [])) (shown_by r new.content)) (sym recorded)
-                  (subst (λ (t : Talk). HoldsTalk t (shown_by records new.content)) (sym push)
-                  (subst (λ used. StandsShort used (after_line (after_lines talk ls) line).history (shown_by records new.content))
-                  (sym (after_lines-used talk ls)) (shows.content at.shown.0, shows.short talk.used is-shown)));
+              few = rw owed (AreOwed-more sealing from.owed.lines at.rest line at.few);
+              shown = rw (recorded, push, after_lines-used) (shows.content at.shown.0, shows.short talk.used is-shown);
               within = now old new (StandsWithin here (at.rest ++ line ∷ [])) knows moments-line new.content knows.content_is_image;
               durable = shows.durable at.durable;
               cursors = sym cursors ∙ ap (λ (t : Talk). t.cursors) (sym push);

@@ -1,5 +1,5 @@
 -- What sending the rows of a series leaves.
-use Rattle.ss_program.proofs.Common.{◌≡◌, ℕ, ◌+◌, ◌<◌, ◌++◌, List, [], ◌∷◌, length, map, take, Option, Some, None, Result, refl, sym, ap, ◌∙◌, subst, arith}
+use Rattle.ss_program.proofs.Common.{◌≡◌, ℕ, ◌+◌, ◌<◌, ◌++◌, List, [], ◌∷◌, length, map, take, Option, Some, None, Result, refl, sym, ap, ◌∙◌, arith}
 use Rattle.ss_program.proofs.Common.{length-map, slice_get-map, flat_map, slice_get, is_some, nat_lt, option_map, row_count, row_query, row_start, rows_of}
 use Rattle.ss_program.proofs.Common.{whole_query, Query, Refusal, Series, row-known, row-taken, outcome_of, refuses_series, Stream, state, Outcome, said_line}
 use Rattle.ss_program.proofs.Common.{Reply, SeriesHead, Row, StoreState, part_named, History, command_brings, refused, row_shown, series_rows, only_replies}
@@ -101,8 +101,7 @@ module _ (speaker : Option ℕ) where
       AppendsLess before after (said_line speaker (SeriesHead series.kind (row_count series))) →
       AppendsLess before after (text_said speaker (command_brings history (AskRows series)))
   series-head history series before after none less =
-      subst (λ b. AppendsLess before after (text_said speaker b)) (sym (brings-series history series none))
-      (AppendsLess-head speaker before after (SeriesHead series.kind (row_count series)) (series_rows (state history) series) less)
+      rw brings-series (AppendsLess-head speaker before after (SeriesHead series.kind (row_count series)) (series_rows (state history) series) less)
 
   -- or the head, and the rows after it
   pub series-sent : (history : History) (series : Series) (before held after : Option (List ℕ)) {E : Type 0} (sent : Result (Unit {0}) E) →
@@ -110,8 +109,7 @@ module _ (speaker : Option ℕ) where
       Sends held after (flat_map (said_line speaker) (series_rows (state history) series)) sent →
       Sends before after (text_said speaker (command_brings history (AskRows series))) sent
   series-sent history series before held after sent none first rows =
-      subst (λ b. Sends before after (text_said speaker b) sent) (sym (brings-series history series none))
-      (Sends-head speaker before held after (SeriesHead series.kind (row_count series)) (series_rows (state history) series) sent first rows)
+      rw brings-series (Sends-head speaker before held after (SeriesHead series.kind (row_count series)) (series_rows (state history) series) sent first rows)
 
 -- a row of a series that isn't refused isn't either, by what is held
 pub row-taken_held : (store : StoreState) (series : Series) (row : ℕ) → 0 < series.step → row < row_count series →

@@ -6,8 +6,7 @@ use Rattle.ss_program.proofs.Common.{frame_of, Due, Next, Gap, unless_long, spok
 use Rattle.ss_program.proofs.Common.{accepted_frame, brings, due_brings, frame_brings, history_after, text_said, the_event, LeavesOnly, Told, weaker, HoldsTalk}
 use Rattle.ss_program.proofs.Common.{StandsWithin, StopsAmong, StopsIn, appended, AppendsFront, accepted, after_line, after_lines, plain_after, replies, report}
 use Rattle.ss_program.proofs.Common.{report_so_far, text_of, Talk, kept_spoken, meant_turn, plain_talk, turn_in, turn_of, turn_spoken, turn_to, writing}
-use Rattle.ss_program.proofs.Common.{Sealing}
-use Rattle.ss_program.proofs.Common.{Status, steps_so_far, Turn, inl, inr}
+use Rattle.ss_program.proofs.Common.{Sealing, Status, steps_so_far, inl, inr}
 use Rattle.ss_replica.specs.declared.judging.Due.TheVariants.{Old as OldFrame}
 use Rattle.ss_program.proofs.SpelledLemmas.{some-frame_spelled}
 use Rattle.ss_program.proofs.StepsLemmas.{steps-front}
@@ -52,7 +51,7 @@ meant-some : (talk : Talk) (meant : Result (Option Command) Refusal) → IsSome 
 meant-some talk meant some = elim (event-or-silent meant) [
   | inl is ↦ subst (λ (m : Result (Option Command) Refusal). IsSome (meant_turn talk m).event → 0 < length (meant_turn talk m).says) (sym is.1)
       (written-some talk is.0 (refuses (state talk.history) is.0)) some
-  | inr none ↦ (let wrong = subst (λ (t : Turn). IsSome t.event) (none talk) some in cc)
+  | inr none ↦ (let wrong = rw none at some in cc)
 ]
 
 -- and what is said to a frame that is the next
@@ -141,15 +140,13 @@ text_of-replies history (l ∷ ls) =
 -- what follows only adds to the report
 front-lines : (talk : Talk) (before after : Option (List ℕ)) (ls ms : List (List ℕ)) → AppendsFront before after (text_of talk ls) →
     AppendsFront before after (text_of talk (ls ++ ms))
-front-lines talk before after ls ms part =
-    subst (λ text. AppendsFront before after text) (sym (text_of-append talk ls ms))
-    (AppendsFront-longer before after (text_of talk ls) (text_of (after_lines talk ls) ms) part)
+front-lines talk before after ls ms part = rw text_of-append (AppendsFront-longer before after (text_of talk ls) (text_of (after_lines talk ls) ms) part)
 
 pub front-report : (talk : Talk) (before after : Option (List ℕ)) (xs ys : List ℕ) → AppendsFront before after (report_so_far talk xs) →
     AppendsFront before after (report talk (xs ++ ys))
 front-report talk before after xs ys part =
     let more = steps-front talk.form xs ys in
-    subst (λ ls. AppendsFront before after (text_of talk ls)) (sym more.1) (front-lines talk before after (steps_so_far talk.form xs) more.0 part)
+    rw more.1 (front-lines talk before after (steps_so_far talk.form xs) more.0 part)
 
 -- what was sent of what is said to the lines at which a run stopped is a front of what is said to all
 pub StopsAmong-front : {sealing : Sealing} {talk : Talk} {ls : List (List ℕ)} {before after : Option (List ℕ)} {disk : Told} {status : Status} →
@@ -163,8 +160,7 @@ StopsAmong-front {talk = talk} {before = before} {after = after} at =
       at.sent ∙ ap (λ bs. appended before bs)
           (sym (ap (λ bs. take (length here + at.bytes) bs) (text_of-append talk at.out at.now) ∙ take-append-add here text at.bytes)),
     ) in
-    subst (λ ms. AppendsFront before after (text_of talk ms)) (append_assoc at.out at.now at.others ∙ sym at.are)
-    (front-lines talk before after (at.out ++ at.now) at.others part)
+    rw (append_assoc at.out at.now at.others ∙ sym at.are) at (front-lines talk before after (at.out ++ at.now) at.others part)
 
 -- the conversation after one more line
 pub after_lines-push : (talk : Talk) (ls : List (List ℕ)) (line : List ℕ) →
@@ -186,8 +182,7 @@ StandsWithin-before talk ls line image stands = (ls, line ∷ [], refl, stands)
 
 pub StandsWithin-after : (talk : Talk) (ls : List (List ℕ)) (line : List ℕ) (image : List ℕ) →
     HoldsTalk (after_line (after_lines talk ls) line) image → StandsWithin talk (ls ++ line ∷ []) image
-StandsWithin-after talk ls line image stands =
-    StandsWithin-all talk (ls ++ line ∷ []) image (subst (λ (t : Talk). HoldsTalk t image) (sym (after_lines-push talk ls line)) stands)
+StandsWithin-after talk ls line image stands = StandsWithin-all talk (ls ++ line ∷ []) image (rw after_lines-push stands)
 
 -- the moments of more lines
 pub moments-more : (talk : Talk) (old new : Told) (ls ms : List (List ℕ)) → LeavesOnly old new (StandsWithin talk ls) →

@@ -1,10 +1,9 @@
 -- What staging an event and asking a query make of the history that records show.
-use Rattle.ss_program.proofs.Common.{inl, inr, ◌⊎◌, ⊎_elim, ◌≡◌, ◌∙◌, ◌++◌, ◌∷◌, [], List, ℕ, Some, None, Result, Ok, Err, sym, ap, subst, false, on_ok_weaker}
-use Rattle.ss_program.proofs.Common.{◌↔◌, IsTrue, OnOk, Event, Refusal, Do, shown, added, refuses, state, Ack, nothing_pending-same, of_content, read_leaves}
-use Rattle.ss_program.proofs.Common.{weaker, KnowsNow, OnlyReads, DiskView, NothingPending, Told, RecordsState, shown_by, Reply, refuses-kept, StandsForEither}
+use Rattle.ss_program.proofs.Common.{inl, inr, ◌⊎◌, ⊎_elim, ◌≡◌, ◌∙◌, ◌++◌, ◌∷◌, [], List, ℕ, Some, None, Result, Ok, Err, sym, ap, false, on_ok_weaker, ◌↔◌}
+use Rattle.ss_program.proofs.Common.{IsTrue, OnOk, Event, Refusal, Do, shown, added, refuses, state, Ack, nothing_pending-same, of_content, read_leaves, weaker}
+use Rattle.ss_program.proofs.Common.{KnowsNow, OnlyReads, DiskView, NothingPending, Told, RecordsState, shown_by, Reply, refuses-kept, StandsForEither}
 use Rattle.ss_program.proofs.Common.{TurnsHistory, StoreState, refuses_held, IsShort, StandsShort, Stands, ApplyError, IsOneReply, ReadsAnswer, IsServing}
-use Rattle.ss_program.proofs.Common.{Brought}
-use Rattle.ss_program.proofs.Common.{History, command_brings, history_after, StandsAround, StagesBrought, Status}
+use Rattle.ss_program.proofs.Common.{Brought, History, command_brings, history_after, StandsAround, StagesBrought, Status}
 use Rattle.ss_journal.proofs.TearLemmas.{on_ok}
 use Rattle.ss_program.proofs.AnswerLemmas.{brings-accepted, history-still, not_refused}
 use Rattle.ss_store.specs.declared.error.ApplyError.TheVariants as errors
@@ -21,8 +20,7 @@ accepted-shown event store disk result serves refused other told history stands 
 -- what holds of what is shown by the history stays for a line that brings no event
 shown-still : (was is : RecordsState) (history : History) (brought : Brought) (old new : List ℕ) (P : History → List ℕ → Type 0) →
     brought.event ≡ None → shown_by is new ≡ shown_by was old → P history (shown_by was old) → P (history_after history brought) (shown_by is new)
-shown-still was is history brought old new P none same has =
-    subst (λ h. P h (shown_by is new)) (sym (history-still history brought none)) (subst (P history) (sym same) has)
+shown-still was is history brought old new P none same has = rw (history-still, same) has
 
 module _ (was is : RecordsState) (history : History) (old new : Told) where
   -- an event that was staged, or not, where it isn't refused
@@ -37,14 +35,14 @@ module _ (was is : RecordsState) (history : History) (old new : Told) where
       ap (λ (b : Brought). history_after history b) (sym (brings-accepted false history event (accepted has))) in
       record {
         content = λ has. keeps (Stands (history_after history brought) (shown_by is new.content))
-            (on_ok_weaker step (λ stands. subst (λ h. Stands h (shown_by is new.content)) (after has) stands) (turns.content has));
+            (on_ok_weaker step (λ stands. rw after at stands) (turns.content has));
         short = λ used has. keeps (IsShort used (history_after history brought) (shown_by is new.content))
-            (on_ok_weaker step (λ short. subst (λ h. IsShort used h (shown_by is new.content)) (after has.0) short) (turns.short used has));
+            (on_ok_weaker step (λ short. rw (after has.0) at short) (turns.short used has));
         any_moment = λ durable used sealed there has.
             weaker old new (λ image. StandsShort used sealed image ⊎ (StandsForEither history event image × IsShort used history image))
             (λ image. StandsShort used sealed image ⊎ (StandsAround history brought image × IsShort used history image))
             (λ image either. ⊎_elim (λ before. inl before)
-            (λ one. inr (⊎_elim (λ stands. inl stands) (λ stands. inr (subst (λ h. Stands h image) (after has.0) stands)) one.0, one.1)) either)
+            (λ one. inr (⊎_elim (λ stands. inl stands) (λ stands. inr (rw (after has.0) at stands)) one.0, one.1)) either)
             (turns.any_moment durable used sealed there has);
         durable = λ durable. keeps (NothingPending new) (turns.durable durable);
       }

@@ -1,5 +1,5 @@
 -- Steps in a row, where the disk tells.
-use Rattle.ss_program.proofs.Common.{◌∙◌, subst, IsTrue, DiskView, Told, Step, Verdict, Counted, fine}
+use Rattle.ss_program.proofs.Common.{◌∙◌, IsTrue, DiskView, Told, Step, Verdict, fine}
 
 module _ {old mid new : DiskView} {v : Verdict} {R Q S : Told → Told → Type 0} where
   -- one step after another that was fine: at its end the disk tells as well
@@ -7,7 +7,7 @@ module _ {old mid new : DiskView} {v : Verdict} {R Q S : Told → Told → Type 
       (IsTrue mid.tells → R old.told mid.told → Q mid.told new.told → S old.told new.told) → Step v old new S
   step-told first second joins = record {
     tells = second.tells ∙ first.tells;
-    counted = subst (λ before. Counted v before new.faults) first.counted second.counted;
+    counted = rw first.counted at second.counted;
     told = λ told. joins (first.tells ∙ told) (first.told told) (second.told (first.tells ∙ told));
   }
 

@@ -1,5 +1,5 @@
 -- The steps of an input go on as more bytes come, whichever form it has.
-use Rattle.ss_program.proofs.Common.{◌≡◌, ℕ, ◌<◌, ◌≤◌, ◌++◌, List, [], length, map, Bool, true, false, Option, Some, None, IfSome, ap, refl, sym, subst, inl}
+use Rattle.ss_program.proofs.Common.{◌≡◌, ℕ, ◌<◌, ◌≤◌, ◌++◌, List, [], length, map, Bool, true, false, Option, Some, None, IfSome, ap, refl, inl}
 use Rattle.ss_program.proofs.Common.{inr, arith, ◌∙◌, map-append, cond-true, cond-false, cases_lt, le-leb, lt-leb, if◌then◌else◌, is_some, nat_le, Form, lines}
 use Rattle.ss_program.proofs.Common.{lines_so_far, unended, unless_empty, without_return, Kept, ended_line, unless_long, LONGEST_LINE, Ended, pieces-front}
 use Rattle.ss_program.proofs.Common.{pieces_so_far-append, pieces, unended_piece, is_in_pieces, steps, steps_so_far}
@@ -54,9 +54,9 @@ steps-front form taken more = by_front (is_in_pieces form) taken more
 unless_long-short : (line : List ℕ) → IfSome (unless_long line) (λ bytes. length bytes ≤ LONGEST_LINE)
 unless_long-short line = elim (cases_lt LONGEST_LINE (length line)) [
   | inl long ↦ (let none = cond-false (nat_le (length line) LONGEST_LINE) (Some line) None (lt-leb (length line) LONGEST_LINE long) in
-      subst (λ (o : Option (List ℕ)). IfSome o (λ bytes. length bytes ≤ LONGEST_LINE)) (sym none) tt)
+      rw none tt)
   | inr fits ↦ (let some = cond-true (nat_le (length line) LONGEST_LINE) (Some line) None (le-leb (length line) LONGEST_LINE fits) in
-      subst (λ (o : Option (List ℕ)). IfSome o (λ bytes. length bytes ≤ LONGEST_LINE)) (sym some) fits)
+      rw some fits)
 ]
 
 ended_line-short : (line : Kept) → IfSome (ended_line line) (λ bytes. length bytes ≤ LONGEST_LINE)
@@ -67,7 +67,7 @@ ended_line-short (Some bytes) = unless_long-short (without_return bytes)
 pub line-short : (ended : Option Ended) (line under : Kept) → line ≡ (if is_some ended then ended_line under else under) →
     IfSome ended (λ _. IfSome line (λ bytes. length bytes ≤ LONGEST_LINE))
 line-short None line under is = tt
-line-short (Some ended) line under is = subst (λ o. IfSome o (λ bytes. length bytes ≤ LONGEST_LINE)) (sym is) (ended_line-short under)
+line-short (Some ended) line under is = rw is (ended_line-short under)
 
 -- and no piece is longer than a line may be
 pub piece-short : (ended : Option Ended) (bytes : List ℕ) → length bytes < 64 → IfSome ended (λ _. length bytes ≤ LONGEST_LINE)

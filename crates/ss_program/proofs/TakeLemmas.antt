@@ -1,5 +1,5 @@
 -- How a session goes on from piece to piece of its input.
-use Rattle.ss_program.proofs.Common.{◌++◌, List, [], ℕ, Option, sym, subst, append-nil, at_start, joined, of_content, KnowsNow, LeavesOnly, Told, GoesOn}
+use Rattle.ss_program.proofs.Common.{◌++◌, List, [], ℕ, Option, append-nil, at_start, joined, of_content, KnowsNow, LeavesOnly, Told, GoesOn}
 use Rattle.ss_program.proofs.Common.{HasReplied, HasTaken, SessionState, StandsWithin, StopsIn, Talk, Sealing, Status, steps_so_far}
 use Rattle.ss_program.proofs.StepsLemmas.{steps-more}
 use Rattle.ss_program.proofs.SessionLemmas.{StandsWithin-all, moments-more}
@@ -9,20 +9,19 @@ any_moment-input : (talk : Talk) (old new : Told) (taken more : List ℕ) → Le
     LeavesOnly old new (StandsWithin talk (steps_so_far talk.form (taken ++ more)))
 any_moment-input talk old new taken more run =
     let rest = steps-more talk.form taken more in
-    subst (λ ls. LeavesOnly old new (StandsWithin talk ls)) (sym rest.1) (moments-more talk old new (steps_so_far talk.form taken) rest.0 run)
+    rw rest.1 (moments-more talk old new (steps_so_far talk.form taken) rest.0 run)
 
 -- a session that took no more bytes yet
 pub GoesOn-start : (sealing : Sealing) (talk : Talk) (disk : Told) (session : SessionState) (before held : Option (List ℕ)) (input : List ℕ) →
     KnowsNow disk → HasTaken sealing talk disk session input → HasReplied talk before held input →
     GoesOn sealing talk disk disk session before held (input ++ [])
-GoesOn-start sealing talk disk session before held input knows at replied =
-    subst (λ bs. GoesOn sealing talk disk disk session before held bs) (sym (append-nil input)) (record {
-      at = at;
-      replied = replied;
-      any_moment = at_start disk (StandsWithin talk (steps_so_far talk.form input)) knows
-          (of_content disk (StandsWithin talk (steps_so_far talk.form input)) at.durable
-          (StandsWithin-all talk (steps_so_far talk.form input) disk.content at.stands));
-    })
+GoesOn-start sealing talk disk session before held input knows at replied = rw append-nil (record {
+  at = at;
+  replied = replied;
+  any_moment = at_start disk (StandsWithin talk (steps_so_far talk.form input)) knows
+      (of_content disk (StandsWithin talk (steps_so_far talk.form input)) at.durable
+      (StandsWithin-all talk (steps_so_far talk.form input) disk.content at.stands));
+})
 
 module _ (sealing : Sealing) (talk : Talk) (old mid new : Told) (first : SessionState) (before held after : Option (List ℕ)) (taken more : List ℕ) where
   -- a session goes on from where it came to

@@ -1,5 +1,5 @@
 -- How many bytes a run takes of its source, whether it tells them or not.
-use Rattle.ss_program.proofs.Common.{◌≡◌, ◌⊎◌, ℕ, ◌+◌, ◌≤◌, List, Bool, Option, subst, arith, common_steps, RoseBy, Feeds, IsUnfed, TakesFew, IsStop}
+use Rattle.ss_program.proofs.Common.{◌≡◌, ◌⊎◌, ℕ, ◌+◌, ◌≤◌, List, Bool, Option, arith, common_steps, RoseBy, Feeds, IsUnfed, TakesFew, IsStop}
 use Rattle.ss_program.proofs.Common.{LONGEST_INPUT, Status, Done, InputLimit}
 use Rattle.ss_program.proofs.ReadLemmas.{end-limit}
 
@@ -30,7 +30,7 @@ pub Feeds-unfed : {same : Type 0} (faults count : ℕ) (held after : Option (Lis
     Feeds same faults faults count count status
 Feeds-unfed faults count held after status same unfed = record {
   counted = grind (arith, common_steps);
-  takes = TakesFew-none count status (λ is. subst (λ s. IsUnfed held after s) is unfed);
+  takes = TakesFew-none count status (λ is. rw is at unfed);
   unserved = λ _. same;
 }
 
@@ -46,5 +46,5 @@ TakesFew-end tells before now n status taken fits how = record {
 -- and past its limit
 pub TakesFew-limit : (before mid now n : ℕ) → RoseBy n before mid → RoseBy 1 mid now → n ≡ LONGEST_INPUT → TakesFew before now InputLimit
 TakesFew-limit before mid now n taken more last =
-    let all : RoseBy (LONGEST_INPUT + 1) before now = subst (λ m. RoseBy (m + 1) before now) last (RoseBy-more n 1 before mid now taken more) in
+    let all : RoseBy (LONGEST_INPUT + 1) before now = rw last at (RoseBy-more n 1 before mid now taken more) in
     record { few = all.1; whole = λ wrong. cc; limit = λ _. all }

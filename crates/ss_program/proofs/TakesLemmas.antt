@@ -1,5 +1,5 @@
 -- What a line does to the devices: what is shown, and what is added and replied.
-use Rattle.ss_program.proofs.Common.{◌≡◌, ℕ, Bool, List, Option, Ok, Err, Result, IfErr, refl, sym, subst, IsErr, arith, common_steps, reads-none}
+use Rattle.ss_program.proofs.Common.{◌≡◌, ℕ, Bool, List, Option, Ok, Err, Result, IfErr, refl, IsErr, arith, common_steps, reads-none}
 use Rattle.ss_program.proofs.Common.{step-none, OnlyReads, DiskView, OfContent, Step, Counted, fine, verdict, Failed}
 use Rattle.ss_program.proofs.Common.{StoreState, Stands, IsOpen, Shows, at_sink, over, History, appended}
 use Rattle.ss_program.proofs.Common.{AppendsLess, Puts, Sends, IsApplyStop, IsDiskStop, IsShowStop, disk_verdict, ended, sink_verdict, Status, Done, Usage}
@@ -50,13 +50,12 @@ module _ (says : History → List ℕ) {old new : DiskView} {store : StoreState}
       Shows (λ history bytes. bytes ≡ says history) (over old before had) (over new after has) store (at_sink sent)
   Said-sent reads opens counted sends =
       Shows-sent (λ history bytes. bytes ≡ says history) old new store before after had has sent reads opens counted
-      (λ told history stands bytes is. subst (λ bs. Sends before after bs sent) (sym is) (sends told history stands))
+      (λ told history stands bytes is. rw is (sends told history stands))
 
   pub Said-reply : {text : List ℕ} → Step fine old new OnlyReads → IsOpen new store → Puts text before had after has sent →
       OfContent old (λ content. (history : History) → Stands history content → says history ≡ text) →
       Shows (λ history bytes. bytes ≡ says history) (over old before had) (over new after has) store (at_sink sent)
-  Said-reply reads opens puts are =
-      Said-sent reads opens puts.counted (λ told history stands. subst (λ bs. Sends before after bs sent) (sym (are told history stands)) puts.sends)
+  Said-reply reads opens puts are = Said-sent reads opens puts.counted (λ told history stands. rw are puts.sends)
 
   pub Said-cut : {held : Option (List ℕ)} {text : List ℕ} (status : Status) → Err status ≡ at_sink sent → Step fine old new OnlyReads → IsOpen new store →
       Puts text held had after has sent →
@@ -64,8 +63,7 @@ module _ (says : History → List ℕ) {old new : DiskView} {store : StoreState}
       Shows (λ history bytes. bytes ≡ says history) (over old before had) (over new after has) store (Err status)
   Said-cut {held = held} {text = text} status is reads opens puts less =
       let failed = failed-err sent status is in
-      subst (λ r. Shows (λ history bytes. bytes ≡ says history) (over old before had) (over new after has) store r) (sym is)
-      (Said-sent reads opens puts.counted (λ told history stands.
+      rw is (Said-sent reads opens puts.counted (λ told history stands.
       sends-less before after (says history) sent failed (less told history stands (less-sent held after text sent failed puts.sends))))
 
 -- the run stopped at a call that reads
@@ -89,8 +87,7 @@ pub Said-stopped : (says : History → List ℕ) {old new : DiskView} {store : S
     OfContent old (λ content. (history : History) → Stands history content → AppendsLess before held (says history)) →
     Shows (λ history bytes. bytes ≡ says history) (over old before had) (over new held has) store (Err status)
 Said-stopped says {before = before} {held = held} status stop reads same less =
-    Shows-stopped (λ history bytes. bytes ≡ says history) status stop reads same
-    (λ told history stands bytes is. subst (λ bs. AppendsLess before held bs) (sym is) (less told history stands))
+    Shows-stopped (λ history bytes. bytes ≡ says history) status stop reads same (λ told history stands bytes is. rw is (less told history stands))
 
 -- what a call of the sink does, by the status of it
 pub sink-memory : (sent : Result Unit Failed) → ended (at_sink sent) ≡ OutOfMemory → ⊥
@@ -120,6 +117,6 @@ pub Continues-shown : {then : Type 0} {had has : ℕ} (result : Result (Unit {0}
 Continues-shown (Ok u) mid old same goes = record { ready = goes.ready; status = tt; counted = goes.counted }
 Continues-shown (Err status) mid old same goes = record {
   ready = tt;
-  status = IsStop-show old status (subst (λ (t : Bool). IsShowStop t status) same goes.status);
+  status = IsStop-show old status (rw same at goes.status);
   counted = goes.counted;
 }

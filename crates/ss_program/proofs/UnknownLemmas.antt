@@ -1,5 +1,5 @@
 -- A stream that doesn't stand stands by no line but its create.
-use Rattle.ss_program.proofs.Common.{◌≡◌, ◌≢◌, ◌∙◌, ℕ, List, [], ◌∷◌, ◌++◌, false, Option, Some, None, Result, Ok, Err, refl, sym, ap, subst, inl, inr}
+use Rattle.ss_program.proofs.Common.{◌≡◌, ◌≢◌, ◌∙◌, ℕ, List, [], ◌∷◌, ◌++◌, false, Option, Some, None, Result, Ok, Err, refl, sym, ap, inl, inr}
 use Rattle.ss_program.proofs.Common.{cases_Bool, All-head, All-tail, is_some, event_name, same_name, Event, Create, Value, Open, Close, Drop, Params, Query}
 use Rattle.ss_program.proofs.Common.{Refusal, Unknown, meaning, Command, Do, Ask, given_to-created, same_name-Decides, same_name-same, added, marked_of}
 use Rattle.ss_program.proofs.Common.{values_of, marked_values, stands, Stream, state, stream_named, stepped, New, Brought, History, accepted_in, brings, command_brings}
@@ -42,7 +42,7 @@ unknown-stepped name streams event unknown spared accepted = elim (cases_Bool (s
 -- what brings no event leaves it so too
 unknown-still : (name : List ℕ) (history : History) (brought : Brought) → brought.event ≡ None → IsUnknown name history →
     IsUnknown name (history_after history brought)
-unknown-still name history brought none unknown = subst (λ h. IsUnknown name h) (sym (history-still history brought none)) unknown
+unknown-still name history brought none unknown = rw history-still unknown
 
 unknown-event : (name : List ℕ) (history : History) (event : Event) (refusal : Option Refusal) → refuses (state history) event ≡ refusal →
     ((params : Params) → event ≢ Create name params) → IsUnknown name history →
@@ -54,8 +54,7 @@ unknown-event name history event (Some refusal) is spared unknown = unknown-stil
 unknown-command : (name : List ℕ) (history : History) (command : Command) → ((params : Params) → command ≢ Do (Create name params)) →
     IsUnknown name history → IsUnknown name (history_after history (command_brings history command))
 unknown-command name history command spared unknown = elim (event-or-none command) [
-  | inl one ↦ subst (λ (k : Command). IsUnknown name (history_after history (command_brings history k))) (sym one.1)
-      (unknown-event name history one.0 (refuses (state history) one.0) refl (λ params is. spared params (one.1 ∙ ap Do is)) unknown)
+  | inl one ↦ rw one.1 (unknown-event name history one.0 (refuses (state history) one.0) refl (λ params is. spared params (one.1 ∙ ap Do is)) unknown)
   | inr none ↦ unknown-still name history (command_brings history command) (none false history) unknown
 ]
 
@@ -95,10 +94,8 @@ pub lines-dropped : (history : History) (before between : List (List ℕ)) (drop
 lines-dropped history before between dropping name drops spared =
     let here = plain_after history before in
     let dropped : IsUnknown name (history_after here (brings here dropping)) =
-    subst (λ b. IsUnknown name (history_after here b)) (sym (ap (λ m. meaning_brings here m) drops))
-    (dropped-unknown name here (refuses (state here) (Drop name)) refl) in
-    subst (λ h. IsUnknown name h) (sym (plain_after-append history before (dropping ∷ between)))
-    (unknown-lines name (history_after here (brings here dropping)) between spared dropped)
+    rw (ap (λ m. meaning_brings here m) drops) (dropped-unknown name here (refuses (state here) (Drop name)) refl) in
+    rw plain_after-append (unknown-lines name (history_after here (brings here dropping)) between spared dropped)
 
 -- and a query of it is refused
 pub query-dropped : (history : History) (before between : List (List ℕ)) (dropping line : List ℕ) (query : Query) →

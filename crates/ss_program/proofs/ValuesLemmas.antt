@@ -1,6 +1,6 @@
 -- What `values` brings, by what the store holds, and what sending the rows leaves.
 use Rattle.ss_program.proofs.Common.{◌≡◌, ◌∙◌, ℕ, zero, suc, ◌+◌, ◌<◌, ◌≤◌, List, [], ◌∷◌, length, take, drop, Option, Some, None, IsSome, IfSome, Result, refl}
-use Rattle.ss_program.proofs.Common.{sym, ap, subst, arith, length-drop, length-map, length-take-le, slice_get-map, flat_map, slice_get, option_map, Refusal}
+use Rattle.ss_program.proofs.Common.{sym, ap, arith, length-drop, length-map, length-take-le, slice_get-map, flat_map, slice_get, option_map, Refusal}
 use Rattle.ss_program.proofs.Common.{Values, Landmark, LandmarkValue, all_values, values_between, refuses_values, Stream, state, stream_named, said_line, Reply}
 use Rattle.ss_program.proofs.Common.{Refused, ValuesHead, SomeAgree, StoreIsIn, StoreState, part_named, part_numbered, refuses_values_held, Stands}
 use Rattle.ss_program.proofs.Common.{AllAgree-recovered, refuses_values_held-is, SendsRows, Brought, History, command_brings, only_replies, refused, text_said}
@@ -65,8 +65,7 @@ module _ (store : StoreState) (image : List ℕ) (history : History) (name : Lis
       part_numbered number store.streams ≡ part_named name store.streams →
       IfSome (part_numbered number store.streams) (λ p. command_brings history (Values name from to) ≡ values_told from to p.landmarks.landmarks)
   told-values number none same =
-      subst (λ o. IfSome o (λ p. command_brings history (Values name from to) ≡ values_told from to p.landmarks.landmarks)) (sym same)
-      (told_alike (part_named name store.streams) (λ p. p.landmarks.landmarks) history name from to (sym refuses_values-kept ∙ none)
+      rw same (told_alike (part_named name store.streams) (λ p. p.landmarks.landmarks) history name from to (sym refuses_values-kept ∙ none)
       (landmarks_alike (part_named name store.streams) (stream_named name (state history))
       (SomeAgree-named store.streams (state history) name (AllAgree-recovered store image (state history) kept stands.state).0)))
 
@@ -101,8 +100,7 @@ module _ (speaker : Option ℕ) where
   -- a refusal alone was sent
   pub values-refused : (before after : Option (List ℕ)) (brought : Brought) (refusal : Refusal) {E : Type 0} (sent : Result (Unit {0}) E) →
       brought ≡ refused refusal → Sends before after (said_line speaker (Refused refusal)) sent → Sends before after (text_said speaker brought) sent
-  values-refused before after brought refusal sent is sends =
-      subst (λ b. Sends before after (text_said speaker b) sent) (sym is) (Sends-one speaker before after (Refused refusal) sent sends)
+  values-refused before after brought refusal sent is sends = rw is (Sends-one speaker before after (Refused refusal) sent sends)
 
   -- less than the head was sent
   pub values-head : {P : Type 0} (part : Option P) (landmarks_of : P → List Landmark) (from to : ℕ) (range : ValueRange)
@@ -112,9 +110,7 @@ module _ (speaker : Option ℕ) where
   values-head None landmarks_of from to range brought before after some are is less = cc
   values-head (Some p) landmarks_of from to range brought before after some are is less =
       let values = values_between (landmarks_of p) from to in
-      subst (λ b. AppendsLess before after (text_said speaker b)) (sym is)
-      (AppendsLess-head speaker before after (ValuesHead (length values)) (value_rows values)
-      (subst (λ n. AppendsLess before after (said_line speaker (ValuesHead n))) are.count less))
+      rw is (AppendsLess-head speaker before after (ValuesHead (length values)) (value_rows values) (rw are.count at less))
 
   -- or the head, and then rows
   pub values-rows : {P : Type 0} (part : Option P) (landmarks_of : P → List Landmark) (from to : ℕ) (range : ValueRange)
@@ -125,10 +121,7 @@ module _ (speaker : Option ℕ) where
   values-rows None landmarks_of from to range brought before held after sent some are is first rows = cc
   values-rows (Some p) landmarks_of from to range brought before held after sent some are is first rows =
       let values = values_between (landmarks_of p) from to in
-      subst (λ b. Sends before after (text_said speaker b) sent) (sym is)
-      (Sends-head speaker before held after (ValuesHead (length values)) (value_rows values) sent
-      (subst (λ n. held ≡ appended before (said_line speaker (ValuesHead n))) are.count first)
-      (subst (λ vs. SendsRows speaker held after (value_rows vs) sent) (sym are.values) rows))
+      rw is (Sends-head speaker before held after (ValuesHead (length values)) (value_rows values) sent (rw are.count at first) (rw are.values rows))
 
   -- one row of a range more was sent
   pub values-more : {P : Type 0} (part : Option P) (landmarks_of : P → List Landmark) (range : ValueRange)

@@ -1,5 +1,4 @@
-use Rattle.ss_program.proofs.Common.{◌≡◌, ◌∙◌, Err, length, take_all, refl, ap, subst, rules, arith, slice_get_read, flat_map, Counted, failed, said_line}
-use Rattle.ss_program.proofs.Common.{appended}
+use Rattle.ss_program.proofs.Common.{◌≡◌, ◌∙◌, Err, length, take_all, refl, ap, rules, arith, slice_get_read, flat_map, said_line, appended}
 use Rattle.ss_program.proofs.RowLemmas.{rows-less}
 use Rattle.ss_program.proofs.answer.send_replies.Goals as goal
 
@@ -15,7 +14,7 @@ returns-in_err-send_reply g c =
     rw same (record {
       sends = rows-less c.args.speaker before (g.K.Sink.held c.loop-reply.sink) after rows c.loop-reply.reply-index c.reply-item.result at inv.held
           c.in_err-send_reply.ensures.sends;
-      counted = subst (λ n. Counted failed n has) inv.faults c.in_err-send_reply.ensures.counted;
+      counted = rw inv.faults at c.in_err-send_reply.ensures.counted;
     })
 
 pub returns : goal.returns

@@ -1,4 +1,4 @@
-use Rattle.ss_program.proofs.Common.{◌≡◌, ◌∙◌, Err, subst, rules, arith, w64, said_line, part_numbered, appended, AppendsLess}
+use Rattle.ss_program.proofs.Common.{◌≡◌, ◌∙◌, Err, rules, arith, w64, said_line, part_numbered, appended, AppendsLess}
 use mir.Val.{to_z, of_z}
 use Rattle.ss_report.specs.declared.reply.Reply.TheVariants.{Value as ValueRow}
 use Rattle.ss_program.proofs.ValuesLemmas.{values-all, values-less, values-more}
@@ -14,7 +14,7 @@ returns-in_err-send_reply-clause-sends g c =
     let value = c.value-at.result.1 in
     let is : to_z w64 (of_z w64 value) ≡ value = search rules in
     let less : AppendsLess held after (said_line c.args.speaker (ValueRow at value)) =
-    subst (λ v. AppendsLess held after (said_line c.args.speaker (ValueRow at v))) is c.in_err-send_reply.ensures.sends in
+    rw is at c.in_err-send_reply.ensures.sends in
     let same : c.from_residual.result ≡ Err c.in_err-send_reply.field-0.0 = search rules in
     rw same
     (values-less c.args.speaker part (λ p. p.landmarks.landmarks) c.args.range c.loop-place.place (record { t = at; v = value }) before held after
@@ -28,7 +28,7 @@ loop-place-preserved g c =
     let value = c.value-at.result.1 in
     let is : to_z w64 (of_z w64 value) ≡ value = search rules in
     let sent : after ≡ appended held (said_line c.args.speaker (ValueRow at value)) =
-    subst (λ v. after ≡ appended held (said_line c.args.speaker (ValueRow at v))) is c.in_ok-send_reply.ensures.sends in
+    rw is at c.in_ok-send_reply.ensures.sends in
     record {
       held = values-more c.args.speaker (part_numbered c.args.range.id.0 c.args.store.now.streams) (λ p. p.landmarks.landmarks) c.args.range
           c.loop-place.place (record { t = at; v = value }) (g.K.Sink.held c.args.sink.now) held after (omega arith) c.value-at.ensures

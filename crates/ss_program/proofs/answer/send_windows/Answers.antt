@@ -1,5 +1,5 @@
-use Rattle.ss_program.proofs.Common.{◌≡◌, ◌∙◌, Ok, Err, refl, sym, subst, rules, state, stream_numbered, reads-joined, step-then, OnlyReads, Step, Counted}
-use Rattle.ss_program.proofs.Common.{fine, verdict, part_numbered, Stands, windows-kept, IsRowsText, Shows, over, appended, AppendsLess, Sends, IsDiskStop}
+use Rattle.ss_program.proofs.Common.{◌≡◌, ◌∙◌, Ok, Err, refl, rules, state, stream_numbered, reads-joined, step-then, OnlyReads, Step}
+use Rattle.ss_program.proofs.Common.{fine, part_numbered, windows-kept, IsRowsText}
 use Rattle.ss_program.proofs.AnswerLemmas.{StoreIsIn-open}
 use Rattle.ss_program.proofs.RowLemmas.{none-sent, rows-after, rows-cut-sent, rows-end, rows-first, rows-step, rows-unread}
 use Rattle.ss_program.proofs.TakesLemmas.{Shows-sent, Shows-stopped, failed-err, sent-all, still}
@@ -29,10 +29,9 @@ returns-in_err-window g c =
     let status = c.in_err-window.field-0.0 in
     let inv = c.loop-next.invariant in
     let same : c.from_residual.result ≡ Err status = search rules in
-    rw same
-    (Shows-stopped (IsRowsText c.args.speaker c.args.id.0) status (subst (λ b. IsDiskStop b status) inv.reads.tells c.in_err-window.ensures.status)
+    rw same (Shows-stopped (IsRowsText c.args.speaker c.args.id.0) status (rw inv.reads.tells at c.in_err-window.ensures.status)
     (step-then inv.reads c.in_err-window.ensures.reads (λ first second. reads-joined old.told mid.told new.told first second.reads)) inv.faults
-    (λ told history stands bytes is. subst (λ bs. AppendsLess before held bs) (sym is.2)
+    (λ told history stands bytes is. rw is.2
     (rows-unread c.args.speaker (part_numbered c.args.id.0 c.args.store.now.streams) (λ part. part.line.entries) c.in-Some.at is.0 before held
     c.requires.stands (rw c.in-Some.is at inv.at)
     (windows-kept c.args.store.now old.told.content history c.args.id.0 is.0 (StoreIsIn-open old c.args.store.now c.requires.open told) stands is.1)
@@ -55,15 +54,13 @@ returns-in_err-at_sink g c =
     let reads : Step fine old new OnlyReads =
     step-then inv.reads read.reads (λ first second. reads-joined old.told mid.told new.told first second.reads) in
     let same : c.from_residual-in_err-at_sink.result ≡ Err c.in_err-at_sink.field-0.0 = search rules in
-    subst (λ r. Shows text (over old before had) (over new after has) c.read.new.store r) (sym (same ∙ c.in_err-at_sink.ensures))
-    (Shows-sent text old new c.read.new.store before after had has c.send_reply.result reads read.open
-    (subst (λ n. Counted (verdict c.send_reply.result) n has) inv.faults c.send_reply.ensures.counted)
-    (λ told history stands bytes is. subst (λ bs. Sends before after bs c.send_reply.result) (sym is.2)
+    rw (same ∙ c.in_err-at_sink.ensures) (Shows-sent text old new c.read.new.store before after had has c.send_reply.result reads read.open
+    (rw inv.faults at c.send_reply.ensures.counted) (λ told history stands bytes is. rw is.2
     (rows-cut-sent c.args.speaker o (λ part. part.line.entries) c.in-Some.at is.0 (stream_numbered c.args.id.0 (state history)) before held after
     c.in_ok-window.window is.1
     c.requires.stands
     (rw c.in-Some.is at (inv.held told history stands is.0 is.1))
-    (rw inv.streams at ((read.reads.told (inv.reads.tells ∙ told)).answer history (subst (Stands history) (sym (inv.reads.told told).same.content) stands)))
+    (rw inv.streams at ((read.reads.told (inv.reads.tells ∙ told)).answer history (rw (inv.reads.told told).same.content stands)))
     c.send_reply.result (failed-err c.send_reply.result c.in_err-at_sink.field-0.0 c.in_err-at_sink.ensures) c.send_reply.ensures.sends)))
 
 pub loop-next-preserved : goal.loop-next-preserved
@@ -86,7 +83,7 @@ loop-next-preserved g c =
       at = rw streams at c.window_after-next.ensures.stands;
       held = λ told history stands s is.
           let so_far = rw c.in-Some.is at (inv.held told history stands s is) in
-          let stands_then = subst (Stands history) (sym (inv.reads.told told).same.content) stands in
+          let stands_then = rw (← (inv.reads.told told).same.content) at stands in
           let row = rw inv.streams at ((read.reads.told (inv.reads.tells ∙ told)).answer history stands_then) in
           rows-step c.args.speaker o (λ part. part.line.entries) c.in-Some.at c.window_after-next.result s (stream_numbered c.args.id.0 (state history)) before
           held (g.K.Sink.held c.send_reply.new.sink) c.in_ok-window.window is so_far row
@@ -102,8 +99,7 @@ returns g c =
     let before = g.K.Sink.held c.args.sink.now in
     let held = g.K.Sink.held c.loop-next.sink in
     Shows-sent (IsRowsText c.args.speaker c.args.id.0) old (g.D.Disk.seen c.loop-next.disk) c.loop-next.store before held (g.K.Sink.faults c.args.sink.now)
-    (g.K.Sink.faults c.loop-next.sink) (Ok tt) inv.reads inv.is_open inv.faults
-    (λ told history stands bytes is. subst (λ bs. held ≡ appended before bs) (sym is.2)
+    (g.K.Sink.faults c.loop-next.sink) (Ok tt) inv.reads inv.is_open inv.faults (λ told history stands bytes is. rw is.2
     (rows-end c.args.speaker (part_numbered c.args.id.0 c.args.store.now.streams) (λ part. part.line.entries) c.loop-next.next is.0 before held
     c.requires.stands
     c.in_default.is

@@ -1,5 +1,5 @@
-use Rattle.ss_program.proofs.Common.{◌≡◌, ◌∙◌, Err, refl, sym, subst, rules, flat_map, Windows, Counted, said_line, part_numbered, found-kept, unknown-kept}
-use Rattle.ss_program.proofs.Common.{windows-kept, command_brings, text_said, window_rows, Sends, ended, sink_verdict}
+use Rattle.ss_program.proofs.Common.{◌≡◌, ◌∙◌, Err, refl, sym, rules, flat_map, Windows, said_line, part_numbered, found-kept, unknown-kept}
+use Rattle.ss_program.proofs.Common.{windows-kept, command_brings, text_said, window_rows}
 use Rattle.ss_program.proofs.AnswerLemmas.{StoreIsIn-open}
 use Rattle.ss_program.proofs.RowLemmas.{windows-count, windows-head, windows-rows, windows-unknown}
 use Rattle.ss_program.proofs.TakesLemmas.{sent-all, still, Said-sent, Said-cut}
@@ -51,10 +51,9 @@ returns g c =
           let all = windows-count (part_numbered c.in-Some.id.0 store.streams) (λ part. part.line.entries) found.0 c.windows.result c.in-Some.ensures.stands
           c.windows.ensures
           (windows-kept store disk.told.content history c.in-Some.id.0 found.0 kept stands found.2) in
-          subst (λ bs. Sends before after bs result) (sym is)
-          (windows-rows c.args.speaker history c.args.name.now found.0 before held after c.windows.result result found.1 all sent.0
+          rw is (windows-rows c.args.speaker history c.args.name.now found.0 before held after c.windows.result result found.1 all sent.0
           (shows.sends told history stands (flat_map (said_line c.args.speaker) (window_rows found.0)) (found.0, found.2, refl)));
-      counted = subst (λ n. Counted (sink_verdict (ended result)) n (g.K.Sink.faults c.send_windows.new.sink)) sent.1 shows.counted;
+      counted = rw sent.1 at shows.counted;
       opens = shows.opens;
       status = shows.status;
     }

@@ -1,4 +1,4 @@
-use Rattle.ss_program.proofs.Common.{Err, Ok, ap, subst, ChecksEvidence, step-as, Step, fine}
+use Rattle.ss_program.proofs.Common.{Err, ap, step-as}
 use Rattle.ss_program.proofs.CertifyLemmas.{never-wrong}
 use Rattle.ss_program.proofs.certifying.check_evidence.Goals as goal
 
@@ -13,9 +13,7 @@ returns-in-Ok-false-clause-status g c =
     let old = g.D.Disk.seen c.args.disk.now in
     let new = g.D.Disk.seen c.check.new.disk in
     let store = c.args.store.now in
-    let checks = subst (λ right. Step fine old new (ChecksEvidence store.records c.args.query.now c.args.end c.args.evidence.now (Ok right)))
-    c.in-Ok-false.field-0-test
-    c.in-Ok-false.ensures.checks in
+    let checks = rw c.in-Ok-false.field-0-test at c.in-Ok-false.ensures.checks in
     never-wrong store old c.args.query.now c.args.end c.args.evidence.now new.told c.requires.open c.requires.kind c.requires.made (λ told. checks.told told)
 
 pub unreachable-requires : goal.unreachable-requires

@@ -1,5 +1,5 @@
-use Rattle.ss_program.proofs.Common.{◌≡◌, ◌∙◌, Err, inl, inr, refl, sym, ap, subst, rules, append-nil, flat_map, Certify, state, step-as, said_line, Refused}
-use Rattle.ss_program.proofs.Common.{command_brings, text_said, Sends, told, History}
+use Rattle.ss_program.proofs.Common.{◌≡◌, ◌∙◌, Err, inl, inr, refl, sym, ap, rules, append-nil, flat_map, Certify, state, step-as, said_line, Refused}
+use Rattle.ss_program.proofs.Common.{command_brings, text_said, told, History}
 use Rattle.ss_program.proofs.AnswerLemmas.{Sends-at_sink, StoreIsIn-open, refuses_query-kept}
 use Rattle.ss_program.proofs.CertifyLemmas.{brings-certified, brings-refused_certify, certified-some}
 use Rattle.ss_program.proofs.SendLemmas.{AppendsLess-none}
@@ -66,8 +66,6 @@ returns-clause-right g c taken =
     inr (
       w,
       c.in_ok-evidence.ensures.right,
-      subst (λ r. Sends before after text r) (sym c.at_sink-2.ensures)
-          (Sends-at_sink before after text c.send_replies.result
-          (subst (λ rs. Sends before after (flat_map (said_line c.args.speaker) rs) c.send_replies.result)
-          (c.as_slice.ensures.value ∙ c.lines_of.ensures) c.send_replies.ensures.sends)),
+      rw c.at_sink-2.ensures (Sends-at_sink before after text c.send_replies.result
+          (rw (c.as_slice.ensures.value ∙ c.lines_of.ensures) at c.send_replies.ensures.sends)),
     )

@@ -1,4 +1,4 @@
-use Rattle.ss_program.proofs.Common.{◌≡◌, ◌∙◌, refl, sym, subst, survey_of, Survey, survey_line, appended, AppendsLess, Done, SinkFault}
+use Rattle.ss_program.proofs.Common.{◌∙◌, refl, sym, survey_of, Survey, survey_line, Done, SinkFault}
 use Rattle.ss_program.proofs.EndLemmas.{Ends-opened, Ends-unopened, surveys-opens, unfed-unopened}
 use Rattle.ss_program.proofs.OpeningLemmas.{surveyed, unopened}
 use Rattle.ss_program.proofs.SendLemmas.{AppendsFront-all, appended-nil}
@@ -19,7 +19,7 @@ returns-in-Ok-send_survey-clause-checks g c told =
       unwritten = found.reads;
       says = λ streams is.
           let same = surveyed (g.D.Disk.seen c.args.disk.now).told.content streams c.in-Ok.survey found.surveys is in
-          let sent = subst (λ s. after ≡ appended before (survey_line s)) same c.in-Ok-send_survey.ensures.sends in
+          let sent = rw same at c.in-Ok-send_survey.ensures.sends in
           record {
             front = AppendsFront-all before after (survey_line (survey_of streams)) sent;
             whole = λ _. sent;
@@ -41,7 +41,7 @@ returns-in-Err-send_survey-clause-checks g c told =
       unwritten = found.reads;
       says = λ streams is.
           let same = surveyed (g.D.Disk.seen c.args.disk.now).told.content streams c.in-Ok.survey found.surveys is in
-          let less = subst (λ s. AppendsLess before after (survey_line s)) same c.in-Err-send_survey.ensures.sends in
+          let less = rw same at c.in-Err-send_survey.ensures.sends in
           record { front = (less.0, less.2); whole = λ w. cc; silent = λ _ other. absurd (other refl) };
     }
 

@@ -1,4 +1,4 @@
-use Rattle.ss_program.proofs.Common.{◌≡◌, ◌∙◌, Err, IsSome, Some, ap, drop, refl, sym, subst, take, rules, arith, Window, cursor_of, with_cursor, placed_rows}
+use Rattle.ss_program.proofs.Common.{◌≡◌, ◌∙◌, Err, Some, ap, drop, refl, sym, take, rules, arith, Window, cursor_of, with_cursor, placed_rows}
 use Rattle.ss_program.proofs.CursorLemmas.{fits-rows, next-left, next-none, next-rest, next-row, placed-all, with_cursor-same}
 use Rattle.ss_program.proofs.SendLemmas.{appended-nil}
 use Rattle.ss_program.proofs.RowLemmas.{rows-all, rows-less, rows-more}
@@ -15,8 +15,7 @@ loop-shown-init g c = record {
 pub take-requires-clause-cursor : goal.take-requires-clause-cursor
 take-requires-clause-cursor g c =
     let has = c.requires.left in
-    subst (λ o. IsSome o)
-    (sym (next-left c.args.sessions.now c.args.session has.0 has.1 c.loop-shown.sessions c.loop-shown.shown (c.loop-shown.invariant.cursors has.0 has.1))) refl
+    rw (next-left c.args.sessions.now c.args.session has.0 has.1 c.loop-shown.sessions c.loop-shown.shown (c.loop-shown.invariant.cursors has.0 has.1))
 
 pub unreachable-requires : goal.unreachable-requires
 unreachable-requires g c =

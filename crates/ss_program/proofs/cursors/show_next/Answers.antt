@@ -1,5 +1,5 @@
-use Rattle.ss_program.proofs.Common.{◌≡◌, ◌∙◌, Err, List, ap, length, min, subst, sym, take, rules, Some, on_ok_weaker, flat_map, Placed, Counted, verdict}
-use Rattle.ss_program.proofs.Common.{said_line, Rows, cursor_of, with_cursor, Ordered, placed_rows, text_said, AppendsLess, Sends, appended}
+use Rattle.ss_program.proofs.Common.{◌≡◌, ◌∙◌, Err, List, ap, length, min, sym, take, rules, Some, on_ok_weaker, Placed}
+use Rattle.ss_program.proofs.Common.{Rows, cursor_of, with_cursor, Ordered, placed_rows}
 use Rattle.ss_program.proofs.CursorLemmas.{a-cursor, next-shown, shown-least}
 use Rattle.ss_program.proofs.RowLemmas.{AppendsLess-head, Sends-head}
 use Rattle.ss_program.proofs.cursors.show_next.Goals as goal
@@ -16,9 +16,8 @@ returns-in_err-send_reply-clause-says g c =
     let rows = take count has.0 in
     let same : c.from_residual.result ≡ Err c.in_err-send_reply.field-0.0 = search rules in
     rw same (record {
-      sends = subst (λ (o : Ordered). AppendsLess held after (text_said (Some session) o.brought)) (sym (next-shown cursors session count has.0 has.1))
-          (AppendsLess-head (Some session) held after (Rows (length rows)) (placed_rows rows)
-          (subst (λ n. AppendsLess held after (said_line (Some session) (Rows n))) least.1 c.in_err-send_reply.ensures.sends));
+      sends = rw (next-shown cursors session count has.0 has.1) (AppendsLess-head (Some session) held after (Rows (length rows)) (placed_rows rows)
+          (rw least.1 at c.in_err-send_reply.ensures.sends));
       counted = c.in_err-send_reply.ensures.counted;
     })
 
@@ -35,13 +34,9 @@ returns-clause-says g c =
     let least = shown-least has.0 count c.min-count.result (c.min-count.ensures ∙ ap (λ n. min count n) has.2) in
     let rows = take count has.0 in
     record {
-      sends = subst (λ (o : Ordered). Sends before after (text_said (Some session) o.brought) result) (sym (next-shown cursors session count has.0 has.1))
-          (Sends-head (Some session) before held after (Rows (length rows)) (placed_rows rows) result
-          (subst (λ n. held ≡ appended before (said_line (Some session) (Rows n))) least.1 c.in_ok-send_reply.ensures.sends)
-          (subst (λ (l : List Placed). Sends held after (flat_map (said_line (Some session)) (placed_rows l)) result) least.0
-          (c.send_next.ensures.sends has.0 has.1)));
-      counted = subst (λ n. Counted (verdict result) n (g.K.Sink.faults c.send_next.new.sink)) c.in_ok-send_reply.ensures.counted
-          c.send_next.ensures.counted;
+      sends = rw (next-shown cursors session count has.0 has.1) (Sends-head (Some session) before held after (Rows (length rows)) (placed_rows rows) result
+          (rw least.1 at c.in_ok-send_reply.ensures.sends) (rw least.0 at (c.send_next.ensures.sends has.0 has.1)));
+      counted = rw c.in_ok-send_reply.ensures.counted at c.send_next.ensures.counted;
     }
 
 pub returns-clause-cursors : goal.returns-clause-cursors

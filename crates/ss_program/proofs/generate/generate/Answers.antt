@@ -1,4 +1,4 @@
-use Rattle.ss_program.proofs.Common.{◌∙◌, subst, StoreState, EndsServing}
+use Rattle.ss_program.proofs.Common.{◌∙◌, StoreState}
 use Rattle.ss_program.proofs.EndLemmas.{Ends-opened, Ends-unopened, judged-refused, serving-stop, unfed-unopened}
 use Rattle.ss_program.proofs.GenerateLemmas.{Generates-opened, Generates-unopened}
 use Rattle.ss_program.proofs.LeftLemmas.{opened_left, opened_moments}
@@ -7,7 +7,7 @@ use Rattle.ss_program.proofs.generate.generate.Goals as goal
 pub returns-in-Ok-clause-ends : goal.returns-in-Ok-clause-ends
 returns-in-Ok-clause-ends g c =
     Ends-opened c.summarize.result c.in-Ok.ensures.opens (λ opened. (opened.opens.0, opened.opens.1)) c.summarize.ensures.generates
-    (subst (λ b. EndsServing b c.summarize.result) c.in-Ok.ensures.opens.tells
+    (rw c.in-Ok.ensures.opens.tells at
     (serving-stop (g.D.Disk.seen c.open.new.disk).tells c.summarize.result c.summarize.ensures.status)) c.summarize.ensures.counted
 
 pub returns-in-Ok-clause-unfed : goal.returns-in-Ok-clause-unfed

@@ -1,6 +1,6 @@
-use Rattle.ss_program.proofs.Common.{◌≡◌, ◌∙◌, ℕ, Err, List, Option, length, sym, ap, subst, rules, arith, Command, step-as, step-none}
+use Rattle.ss_program.proofs.Common.{◌≡◌, ◌∙◌, ℕ, Err, List, Option, length, sym, ap, rules, arith, Command, step-as, step-none}
 use Rattle.ss_program.proofs.Common.{NothingPending, StandsShort, History}
-use Rattle.ss_program.proofs.GenerateLemmas.{AreSingle, IsAt, IsAt-end, IsAt-more, IsAt-start, IsAt-stop, IsAt-unsealed, single-commands}
+use Rattle.ss_program.proofs.GenerateLemmas.{IsAt, IsAt-end, IsAt-more, IsAt-start, IsAt-stop, IsAt-unsealed, single-commands}
 use Rattle.ss_program.proofs.StepLemmas.{step-third, step-told}
 use Rattle.ss_program.proofs.generate.run_all.Goals as goal
 
@@ -11,7 +11,7 @@ loop-command-init g c =
     let refused : c.new-tally.result.refused ≡ 0 = c.new-tally.ensures.refused in
     let disk = g.D.Disk.seen c.args.disk.now in
     record {
-      single = subst (λ cs. AreSingle cs) (sym c.new-generator.ensures.commands) (single-commands c.args.seed c.args.count);
+      single = rw c.new-generator.ensures.commands (single-commands c.args.seed c.args.count);
       lines = omega (arith, lines, c.new-generator.ensures.bound);
       done = omega (arith, lines, done);
       refused = omega (arith, lines, refused);
@@ -31,7 +31,7 @@ loop-command-preserved g c =
     let stages = c.in_ok-reply.ensures.stages in
     let seals = c.in-Ok.ensures.seals in
     record {
-      single = (subst (λ cs. AreSingle cs) next inv.single).1;
+      single = (rw next at inv.single).1;
       lines = omega (arith, c.take.ensures.lines, inv.lines, fewer);
       done = c.take.ensures.done;
       refused = c.take.ensures.refused;

@@ -1,4 +1,4 @@
-use Rattle.ss_program.proofs.Common.{◌≡◌, None, Err, subst, rules, SendsRows}
+use Rattle.ss_program.proofs.Common.{◌≡◌, Err, rules}
 use Rattle.ss_program.proofs.GenerateLemmas.{Sends-less, Sends-summary}
 use Rattle.ss_program.proofs.generate.send_summary.Goals as goal
 
@@ -13,7 +13,4 @@ pub returns-clause-sends : goal.returns-clause-sends
 returns-clause-sends g c lines all tallies =
     Sends-summary (g.K.Sink.held c.args.sink.now) (g.K.Sink.held c.send_counts.new.sink) (g.K.Sink.held c.send_replies.new.sink) c.args.seed c.args.count
     lines all
-    c.args.tally.now c.send_replies.result tallies c.in_ok-send_counts.ensures.sends
-    (subst (λ rs. SendsRows None (g.K.Sink.held c.send_counts.new.sink) (g.K.Sink.held c.send_replies.new.sink) rs c.send_replies.result)
-    c.as_slice.ensures.value
-    c.send_replies.ensures.sends)
+    c.args.tally.now c.send_replies.result tallies c.in_ok-send_counts.ensures.sends (rw c.as_slice.ensures.value at c.send_replies.ensures.sends)

@@ -1,5 +1,4 @@
-use Rattle.ss_program.proofs.Common.{◌∙◌, [], ◌∷◌, ◌++◌, sym, ap, subst, append-nil, Sessions, Unknown, Refused, IsAsked, history_after, after_lines}
-use Rattle.ss_program.proofs.Common.{plain_after, replies, begun}
+use Rattle.ss_program.proofs.Common.{◌∙◌, [], ◌∷◌, ◌++◌, ap, append-nil, Sessions, Unknown, Refused, history_after, after_lines, plain_after, replies, begun}
 use Rattle.ss_program.proofs.LawLemmas.{replies-around}
 use Rattle.ss_program.proofs.NeededLemmas.{cursor-unknown, form-lines, line-unknown, turn-unknown, unknown-lines}
 use Rattle.ss_program.proofs.UnknownLemmas.{lines-dropped}
@@ -16,8 +15,7 @@ returns-clause-plain c history ls before between after dropping line name comman
 pub returns-clause-asked : goal.returns-clause-asked
 returns-clause-asked c talk before between dropping line name speaker command drops spared asked needs =
     let dropped = before ++ dropping ∷ [] in
-    turn-unknown (after_lines (after_lines talk dropped) between) speaker command line name
-    (subst (λ form. IsAsked form speaker command line) (sym (form-lines talk dropped between)) asked) needs
+    turn-unknown (after_lines (after_lines talk dropped) between) speaker command line name (rw form-lines asked) needs
     (unknown-lines talk before between dropping name drops spared)
 
 pub returns-clause-cursors : goal.returns-clause-cursors

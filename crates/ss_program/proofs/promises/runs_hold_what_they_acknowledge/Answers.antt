@@ -1,4 +1,4 @@
-use Rattle.ss_program.proofs.Common.{◌++◌, None, take, refl, subst, Each, Shared, Stands, accepted, steps, begun, Done, OutOfMemory, SourceFault}
+use Rattle.ss_program.proofs.Common.{None, refl, Each, Shared, steps, begun, Done, OutOfMemory, SourceFault}
 use Rattle.ss_program.proofs.HeldLemmas.{StandsForFirst-within}
 use Rattle.ss_program.proofs.promises.runs_hold_what_they_acknowledge.Goals as goal
 
@@ -28,7 +28,7 @@ pub returns-clause-starved : goal.returns-clause-starved
 returns-clause-starved g c mode left rest held holds number serves form sealing history input begins is had has is_had is_has image may =
     let kept = (serves form sealing begins.asked OutOfMemory is input begins.source begins.tells begins.durable None history (begins.stands, tt)).kept had has
     is_had is_has image may in
-    subst (λ j. Stands (history ++ take j (accepted (begun form history) (steps form input))) image) (kept.4.starved refl) kept.4.stands.0
+    rw (kept.4.starved refl) at kept.4.stands.0
 
 pub returns-clause-asked_again : goal.returns-clause-asked_again
 returns-clause-asked_again g c mode left rest held holds number serves form sealing history input begins is =

@@ -1,9 +1,8 @@
-use Rattle.ss_program.proofs.Common.{◌≡◌, Option, Some, None, IsSome, refl, sym, subst, Mode, Usage, RefusedStore, DiskFault, SinkFault, RecordChanged}
+use Rattle.ss_program.proofs.Common.{◌≡◌, Option, Some, None, IsSome, refl, Mode, Usage, RefusedStore, DiskFault, SinkFault, RecordChanged}
 use Rattle.ss_program.proofs.promises.statuses_have_their_causes.Goals as goal
 
 pub returns-clause-refused : goal.returns-clause-refused
-returns-clause-refused g c mode held holds faults faulted number ends some is told =
-    subst (λ o. IsSome o) (sym ((ends some RefusedStore is).refused refl told).is_line) refl
+returns-clause-refused g c mode held holds faults faulted number ends some is told = rw ((ends some RefusedStore is).refused refl told).is_line
 
 pub returns-clause-refused_unwritten : goal.returns-clause-refused_unwritten
 returns-clause-refused_unwritten g c mode held holds faults faulted number ends some status is told refused =

@@ -1,5 +1,4 @@
-use Rattle.ss_program.proofs.Common.{◌≤◌, ◌++◌, ◌∙◌, Err, rules, refl, subst, arith, common_steps, step-as, step-none, ReadsPiece, GoesOn, StopsIn, SourceFault}
-use Rattle.ss_program.proofs.Common.{steps_so_far, length}
+use Rattle.ss_program.proofs.Common.{◌≤◌, ◌∙◌, Err, rules, refl, arith, common_steps, step-as, step-none, ReadsPiece, SourceFault, length}
 use Rattle.ss_program.proofs.ReadLemmas.{moved, moved_on, stop-other, unmoved}
 use Rattle.ss_program.proofs.running.read_piece.Goals as goal
 
@@ -32,8 +31,7 @@ returns-in-Ok-take-clause-reads g c =
     step-as c.in-Ok-take.ensures.takes (λ takes. record {
       goes = λ bytes is sealing talk before input at replied.
           let move = moved (g.S.Source.left c.args.source.now) (g.S.Source.left c.read.new.self) count c.read.new.into bytes c.in-Ok.ensures.moves is in
-          subst (λ bs. GoesOn sealing talk old new c.take.new.self before (g.K.Sink.held c.take.new.sink) (input ++ bs)) move.1
-          (takes.goes sealing talk before input at replied);
+          rw move.1 at (takes.goes sealing talk before input at replied);
       stops = tt;
     })
 
@@ -66,9 +64,7 @@ returns-in-Err-take-clause-reads g c =
             small,
             move.0,
             move.2,
-            subst (λ bs. StopsIn sealing talk (steps_so_far talk.form (input ++ bs)) old new before
-                (g.K.Sink.held c.take.new.sink) status)
-                move.1 (takes.stops sealing talk before input at replied),
+            rw move.1 at (takes.stops sealing talk before input at replied),
           );
     })
 

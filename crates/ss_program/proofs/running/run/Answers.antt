@@ -1,5 +1,5 @@
-use Rattle.ss_program.proofs.Common.{◌≡◌, ◌∙◌, Option, Some, None, IsSome, inr, refl, subst, sym, mode_of, words_of, Mode, Check, Gen, at_start, of_content}
-use Rattle.ss_program.proofs.Common.{Between, Counted, StandsShort, ChecksStore, over, Ends, Feeds, IsUnfed, Unfed, served_by, serving, GeneratesFrom, Reads}
+use Rattle.ss_program.proofs.Common.{◌≡◌, ◌∙◌, Option, Some, inr, refl, sym, mode_of, words_of, Mode, Check, Gen, at_start, of_content}
+use Rattle.ss_program.proofs.Common.{Between, Counted, StandsShort, ChecksStore, over, Ends, Feeds, IsUnfed, Unfed, GeneratesFrom, Reads}
 use Rattle.ss_program.proofs.Common.{Serves, ServesInput, source_verdict, begun_over, OutOfMemory}
 use Rattle.ss_program.proofs.EndLemmas.{Completes-calm, by-number, has-numbers, source-calm}
 use Rattle.ss_program.proofs.OpeningLemmas.{Serves-unopened}
@@ -29,15 +29,14 @@ pub returns-in-Ok-Some-clause-reads : goal.returns-in-Ok-Some-clause-reads
 returns-in-Ok-Some-clause-reads g c asked status is input left =
     let known : mode_of (words_of c.args.words.now) ≡ Some c.in-Ok-Some.mode = sym c.in-Ok-Some.ensures.mode ∙ c.in-Ok-Some.field-0-is in
     by-number (λ s. Reads input (g.S.Source.left c.run_mode.new.source) s) c.number.result c.run_mode.result c.number.ensures
-    (c.run_mode.ensures.reads (subst (λ m. IsSome (served_by m)) known asked) input left) status is
+    (c.run_mode.ensures.reads (rw known at asked) input left) status is
 
 pub returns-in-Ok-Some-clause-serves : goal.returns-in-Ok-Some-clause-serves
 returns-in-Ok-Some-clause-serves g c form sealing asked status is input left =
     let known : mode_of (words_of c.args.words.now) ≡ Some c.in-Ok-Some.mode = sym c.in-Ok-Some.ensures.mode ∙ c.in-Ok-Some.field-0-is in
     by-number (λ s. Between (g.D.Disk.seen c.args.disk.now) (g.D.Disk.seen c.run_mode.new.disk)
     (ServesInput form sealing input (g.S.Source.left c.run_mode.new.source) (g.K.Sink.held c.args.sink.now) (g.K.Sink.held c.run_mode.new.sink) s))
-    c.number.result c.run_mode.result c.number.ensures
-    (c.run_mode.ensures.serves form sealing (subst (λ m. served_by m ≡ Some (serving form sealing)) known asked) input left) status is
+    c.number.result c.run_mode.result c.number.ensures (c.run_mode.ensures.serves form sealing (rw known at asked) input left) status is
 
 pub returns-in-Ok-Some-clause-checks : goal.returns-in-Ok-Some-clause-checks
 returns-in-Ok-Some-clause-checks g c asked status is =
@@ -60,8 +59,7 @@ pub returns-in-Ok-Some-clause-unfed : goal.returns-in-Ok-Some-clause-unfed
 returns-in-Ok-Some-clause-unfed g c asked status is =
     let known : mode_of (words_of c.args.words.now) ≡ Some c.in-Ok-Some.mode = sym c.in-Ok-Some.ensures.mode ∙ c.in-Ok-Some.field-0-is in
     by-number (λ s. Unfed (c.run_mode.new.source ≡ c.args.source.now) (g.K.Sink.held c.args.sink.now) (g.K.Sink.held c.run_mode.new.sink) s)
-    c.number.result c.run_mode.result c.number.ensures
-    (c.run_mode.ensures.unfed (subst (λ m. served_by m ≡ None) known asked)) status is
+    c.number.result c.run_mode.result c.number.ensures (c.run_mode.ensures.unfed (rw known at asked)) status is
 
 pub returns-in-Ok-Some-clause-completes : goal.returns-in-Ok-Some-clause-completes
 returns-in-Ok-Some-clause-completes g c _ status is told fits limit calm_disk calm_source calm_sink =

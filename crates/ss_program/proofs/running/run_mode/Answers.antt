@@ -1,14 +1,12 @@
-use Rattle.ss_program.proofs.Common.{◌≡◌, ◌∙◌, Some, refl, sym, subst, ap, Mode, Gen, Between, HasNumbers, Serving, served_by, serving, GeneratesFrom}
-use Rattle.ss_program.proofs.Common.{ServesInput}
-use Rattle.ss_program.proofs.Common.{Form, Sealing}
+use Rattle.ss_program.proofs.Common.{◌≡◌, ◌∙◌, Some, refl, sym, subst, ap, Mode, Gen, Between, Serving, served_by, serving, ServesInput, Form, Sealing}
 use Rattle.ss_program.proofs.TakenLemmas.{Feeds-unfed}
 use Rattle.ss_program.proofs.running.run_mode.Goals as goal
 
 pub generate-requires-clause-some : goal.generate-requires-clause-some
-generate-requires-clause-some g c = (subst (λ m. HasNumbers m) c.in-Gen.is c.requires).0
+generate-requires-clause-some g c = (rw c.in-Gen.is at c.requires).0
 
 pub generate-requires-clause-few : goal.generate-requires-clause-few
-generate-requires-clause-few g c = (subst (λ m. HasNumbers m) c.in-Gen.is c.requires).1
+generate-requires-clause-few g c = (rw c.in-Gen.is at c.requires).1
 
 -- a run over the source is as the mode asks for
 as_asked : (P : Form → Sealing → Type 0) (mode : Mode) (found form : Form) (seals sealing : Sealing) → served_by (Some mode) ≡ Some (serving found seals) →
@@ -45,5 +43,4 @@ returns-in-Gen-clause-generates g c seed count is =
     let after = g.K.Sink.held c.generate.new.sink in
     let old = (g.D.Disk.seen c.args.disk.now).told in
     let new = (g.D.Disk.seen c.generate.new.disk).told in
-    λ told. subst (λ s. GeneratesFrom s count before after c.generate.result old new) seeds
-    (subst (λ n. GeneratesFrom c.in-Gen.seed n before after c.generate.result old new) counts (c.generate.ensures.generates told))
+    λ told. rw (counts, seeds) at (c.generate.ensures.generates told)

@@ -1,5 +1,5 @@
-use Rattle.ss_program.proofs.Common.{◌-◌, ◌+◌, if◌then◌else◌, take, drop, refl, sym, ◌∙◌, subst, arith, inl, inr, step-as, step-none, step-then, RoseBy, Serves}
-use Rattle.ss_program.proofs.Common.{sealing_by, begun_over, InputLimit, SourceFault, rules, common_steps, Counted, source_verdict}
+use Rattle.ss_program.proofs.Common.{◌-◌, ◌+◌, take, drop, refl, ◌∙◌, arith, inl, inr, step-as, step-none, step-then, RoseBy}
+use Rattle.ss_program.proofs.Common.{sealing_by, begun_over, InputLimit, SourceFault, rules, common_steps}
 use Rattle.ss_program.proofs.StepLemmas.{step-told}
 use Rattle.ss_program.proofs.RunLemmas.{HasStopped-piece, Serves-part, Serves-stop, GoesThrough, goes-start, goes-more, goes-finish}
 use Rattle.ss_program.proofs.ReadLemmas.{end-other, IsLeft-more, Moved-at, Moved-piece, Reads-end, Reads-limit, Reads-stop, left-none, length_of-none}
@@ -51,9 +51,7 @@ returns-in-Ok-eq0-clause-source g c =
     first_of (search rules, grind (arith, common_steps))
 
 pub returns-in-Err-clause-source : goal.returns-in-Err-clause-source
-returns-in-Err-clause-source g c =
-    subst (λ n. Counted (source_verdict c.in-Err.status) n (g.S.Source.faults c.read_piece.new.source)) c.loop-done.invariant.source
-    c.in-Err.ensures.feeds.counted
+returns-in-Err-clause-source g c = rw c.loop-done.invariant.source at c.in-Err.ensures.feeds.counted
 
 pub returns-in-Ok-eq0-clause-taken : goal.returns-in-Ok-eq0-clause-taken
 returns-in-Ok-eq0-clause-taken g c =
@@ -85,7 +83,7 @@ returns-in-Ok-true-clause-taken g c =
     let mid = g.S.Source.taken c.loop-done.source in
     let now = g.S.Source.taken c.is_at_end.new.source in
     let n = c.loop-done.done in
-    let none : RoseBy 0 mid now = subst (λ b. RoseBy (if b then 0 else 1) mid now) c.in-Ok-true.field-0-test c.in-Ok-true.ensures.taken in
+    let none : RoseBy 0 mid now = rw c.in-Ok-true.field-0-test at c.in-Ok-true.ensures.taken in
     TakesFew-end (g.D.Disk.seen c.loop-done.disk).tells start now (n + 0) c.finish-in-Ok-true.result
     (RoseBy-more n 0 start mid now c.loop-done.invariant.taken none)
     (omega (arith, c.loop-done.invariant.fits)) c.finish-in-Ok-true.ensures.status
@@ -95,7 +93,7 @@ returns-in-Ok-false-clause-taken g c =
     let start = g.S.Source.taken c.args.source.now in
     let mid = g.S.Source.taken c.loop-done.source in
     let now = g.S.Source.taken c.is_at_end.new.source in
-    let one : RoseBy 1 mid now = subst (λ b. RoseBy (if b then 0 else 1) mid now) c.in-Ok-false.field-0-test c.in-Ok-false.ensures.taken in
+    let one : RoseBy 1 mid now = rw c.in-Ok-false.field-0-test at c.in-Ok-false.ensures.taken in
     TakesFew-limit start mid now c.loop-done.done c.loop-done.invariant.taken one
     (omega (arith, c.loop-done.invariant.fits, c.loop-done-test.false))
 
@@ -154,9 +152,7 @@ returns-in-Err-clause-serves g c =
     let talk = begun_over used c.args.session.now.form history in
     elim c.in-Err.ensures.status [
       | inl fault ↦ (let same = c.in-Err.ensures.feeds.fault fault in
-          subst (λ o. Serves sealing talk input left before o start new status) (sym same.1.1)
-          (subst (λ d. Serves sealing talk input left before (g.K.Sink.held c.loop-done.sink) start (g.D.Disk.seen d).told status) (sym same.1.2)
-          (Serves-part sealing status left old inv.fits (inl (fault, same.0)))))
+          rw (same.1.1, same.1.2) (Serves-part sealing status left old inv.fits (inl (fault, same.0))))
       | inr stop ↦ Serves-stop sealing talk input left before after start new mid.tells status tells stop
           (HasStopped-piece sealing talk start mid.told new c.loop-done.session input (g.S.Source.left c.loop-done.source) left
           before (g.K.Sink.held c.loop-done.sink) after status n (68719476736 - n) old (omega (arith, inv.fits))

@@ -1,5 +1,4 @@
-use Rattle.ss_program.proofs.Common.{◌∙◌, inr, refl, subst, StoreState, Serves, status_of_open, begun_over, EndsServing, OutOfMemory, arith, rules}
-use Rattle.ss_program.proofs.Common.{common_steps}
+use Rattle.ss_program.proofs.Common.{◌∙◌, inr, refl, StoreState, status_of_open, begun_over, OutOfMemory, arith, rules, common_steps}
 use Rattle.ss_program.proofs.TakesLemmas.{still}
 use Rattle.ss_program.proofs.EndLemmas.{Ends-opened, Ends-unopened, judged-refused, unfed-unopened}
 use Rattle.ss_program.proofs.LeftLemmas.{opened_left, opened_moments}
@@ -17,7 +16,7 @@ serve-requires-clause-front g c = record {
 pub returns-in-Ok-start-clause-ends : goal.returns-in-Ok-start-clause-ends
 returns-in-Ok-start-clause-ends g c =
     Ends-opened c.serve.result c.in-Ok.ensures.opens (λ opened. (opened.opens.0, opened.opens.1)) c.serve.ensures.serves
-    (subst (λ b. EndsServing b c.serve.result) c.in-Ok.ensures.opens.tells c.serve.ensures.known) c.serve.ensures.sink
+    (rw c.in-Ok.ensures.opens.tells at c.serve.ensures.known) c.serve.ensures.sink
 
 pub returns-in-Ok-start-clause-serves : goal.returns-in-Ok-start-clause-serves
 returns-in-Ok-start-clause-serves g c input is told none used history stands =
@@ -30,16 +29,14 @@ returns-in-Ok-start-clause-serves g c input is told none used history stands =
     let after = g.K.Sink.held c.serve.new.sink in
     let old = (g.D.Disk.seen c.args.disk.now).told in
     let new = (g.D.Disk.seen c.serve.new.disk).told in
-    subst (λ f. Serves c.args.sealing (begun_over used f history) input left before after old new c.serve.result) c.in-Ok-start.ensures.form.0
-    (subst (λ s. Serves s (begun_over used session.form history) input left before after old new c.serve.result) c.in-Ok-start.ensures.sealing.0
-    (Serves-opened (opened_moments opened within used none stands)
-    (c.serve.ensures.serves.told (opens.tells ∙ told) input is (opened.durable none) used history (opened_left opened within used stands))))
+    rw (c.in-Ok-start.ensures.sealing.0, c.in-Ok-start.ensures.form.0) at (Serves-opened (opened_moments opened within used none stands)
+    (c.serve.ensures.serves.told (opens.tells ∙ told) input is (opened.durable none) used history (opened_left opened within used stands)))
 
 pub returns-in-Ok-start-clause-feeds : goal.returns-in-Ok-start-clause-feeds
 returns-in-Ok-start-clause-feeds g c = record {
   counted = c.serve.ensures.source;
   takes = c.serve.ensures.taken;
-  unserved = λ is. absurd (subst (λ s. EndsServing (g.D.Disk.seen c.open.new.disk).tells s) is c.serve.ensures.known);
+  unserved = λ is. absurd (rw is at c.serve.ensures.known);
 }
 
 -- there was no memory for a session

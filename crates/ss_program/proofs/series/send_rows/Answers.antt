@@ -1,6 +1,6 @@
-use Rattle.ss_program.proofs.Common.{◌≡◌, ◌∙◌, ◌<◌, Ok, Err, None, refl, sym, ap, subst, rules, arith, flat_map, IsTrue, row_count, whole_query, Series}
+use Rattle.ss_program.proofs.Common.{◌≡◌, ◌∙◌, ◌<◌, Ok, Err, None, refl, sym, ap, rules, arith, flat_map, IsTrue, row_count, whole_query, Series}
 use Rattle.ss_program.proofs.Common.{refuses_series, state, reads-joined, step-then, DiskView, said_line, refuses_query_held, StoreState, Stands, IsOpen}
-use Rattle.ss_program.proofs.Common.{History, series_rows, IsDiskStop}
+use Rattle.ss_program.proofs.Common.{History, series_rows}
 use Rattle.ss_program.proofs.AnswerLemmas.{StoreIsIn-open, refuses_query-kept}
 use Rattle.ss_program.proofs.SendLemmas.{appended-nil}
 use Rattle.ss_program.proofs.SeriesLemmas.{row-cut, row-end, row-sent, row-taken_held, row-unread}
@@ -25,7 +25,7 @@ loop-row-init g c = record {
 pub answer_query-requires-clause-taken : goal.answer_query-requires-clause-taken
 answer_query-requires-clause-taken g c =
     let series = c.args.series.now in
-    let inside : c.loop-row.row < row_count series = subst (λ n. c.loop-row.row < n) c.rows-row-end.ensures c.loop-row-test.true in
+    let inside : c.loop-row.row < row_count series = rw c.rows-row-end.ensures at c.loop-row-test.true in
     ap (λ parts. refuses_query_held parts c.row-query.result) c.loop-row.invariant.streams
     ∙ ap (λ q. refuses_query_held c.args.store.now.streams q) c.row-query.ensures
     ∙ row-taken_held c.args.store.now series c.loop-row.row c.requires.range.some inside c.requires.taken
@@ -38,11 +38,11 @@ returns-in_err-outcome g c =
     let series = c.args.series.now in
     let status = c.in_err-outcome.field-0.0 in
     let inv = c.loop-row.invariant in
-    let inside : c.loop-row.row < row_count series = subst (λ n. c.loop-row.row < n) c.rows-row-end.ensures c.loop-row-test.true in
+    let inside : c.loop-row.row < row_count series = rw c.rows-row-end.ensures at c.loop-row-test.true in
     let same : c.from_residual.result ≡ Err status = search rules in
     rw same
     (Said-stopped (λ history. flat_map (said_line c.args.speaker) (series_rows (state history) series)) status
-    (subst (λ b. IsDiskStop b status) inv.reads.tells c.in_err-outcome.ensures.status)
+    (rw inv.reads.tells at c.in_err-outcome.ensures.status)
     (step-then inv.reads c.in_err-outcome.ensures.answers (λ first second. reads-joined old.told mid.told new.told first second.reads)) inv.faults
     (λ told history stands.
     row-unread (state history) series (unrefused c.args.store.now old series c.requires.open c.requires.taken told history stands) c.args.speaker
@@ -57,7 +57,7 @@ returns-in_err-at_sink g c =
     let status = c.in_err-at_sink.field-0.0 in
     let inv = c.loop-row.invariant in
     let answered = c.in_ok-outcome.ensures in
-    let inside : c.loop-row.row < row_count series = subst (λ n. c.loop-row.row < n) c.rows-row-end.ensures c.loop-row-test.true in
+    let inside : c.loop-row.row < row_count series = rw c.rows-row-end.ensures at c.loop-row-test.true in
     let same : c.from_residual-in_err-at_sink.result ≡ Err status = search rules in
     rw (same, ← inv.faults)
     (Said-cut (λ history. flat_map (said_line c.args.speaker) (series_rows (state history) series)) c.send_reply.result status c.in_err-at_sink.ensures
@@ -65,8 +65,7 @@ returns-in_err-at_sink g c =
     (λ told history stands less.
     row-cut (state history) series (unrefused c.args.store.now old series c.requires.open c.requires.taken told history stands) c.args.speaker c.loop-row.row
     c.row-query.result c.in_ok-outcome.outcome (g.K.Sink.held c.args.sink.now) (g.K.Sink.held c.loop-row.sink) (g.K.Sink.held c.send_reply.new.sink) inside
-    c.row-query.ensures
-    ((answered.answers.told (inv.reads.tells ∙ told)).answer history (subst (Stands history) (sym (inv.reads.told told).same.content) stands))
+    c.row-query.ensures ((answered.answers.told (inv.reads.tells ∙ told)).answer history (rw (inv.reads.told told).same.content stands))
     (inv.held told history stands) less))
 
 pub loop-row-preserved : goal.loop-row-preserved
@@ -77,7 +76,7 @@ loop-row-preserved g c =
     let series = c.args.series.now in
     let inv = c.loop-row.invariant in
     let answered = c.in_ok-outcome.ensures in
-    let inside : c.loop-row.row < row_count series = subst (λ n. c.loop-row.row < n) c.rows-row-end.ensures c.loop-row-test.true in
+    let inside : c.loop-row.row < row_count series = rw c.rows-row-end.ensures at c.loop-row-test.true in
     let sent = sent-all c.send_reply.result c.in_ok-at_sink.field-0 c.in_ok-at_sink.ensures c.send_reply.ensures in
     record {
       is_open = answered.open;
@@ -87,8 +86,7 @@ loop-row-preserved g c =
           row-sent (state history) series (unrefused c.args.store.now old series c.requires.open c.requires.taken told history stands) c.args.speaker
           c.loop-row.row
           c.row-query.result c.in_ok-outcome.outcome (g.K.Sink.held c.args.sink.now) (g.K.Sink.held c.loop-row.sink) (g.K.Sink.held c.send_reply.new.sink)
-          inside c.row-query.ensures
-          ((answered.answers.told (inv.reads.tells ∙ told)).answer history (subst (Stands history) (sym (inv.reads.told told).same.content) stands))
+          inside c.row-query.ensures ((answered.answers.told (inv.reads.tells ∙ told)).answer history (rw (inv.reads.told told).same.content stands))
           (inv.held told history stands) sent.0;
       faults = sent.1 ∙ inv.faults;
     }

@@ -1,5 +1,5 @@
-use Rattle.ss_program.proofs.Common.{◌≡◌, ◌∙◌, Err, refl, sym, ap, subst, rules, append-nil, flat_map, whole_query, state, Counted, said_line, Refused}
-use Rattle.ss_program.proofs.Common.{SeriesHead, refuses_query_held, command_brings, series_rows, text_said, appended, AppendsLess, Sends, ended, sink_verdict}
+use Rattle.ss_program.proofs.Common.{◌≡◌, ◌∙◌, Err, refl, sym, ap, rules, append-nil, flat_map, whole_query, state, said_line, Refused}
+use Rattle.ss_program.proofs.Common.{refuses_query_held, command_brings, series_rows, text_said}
 use Rattle.ss_command.specs.declared.command.Command.TheVariants.{Series as AskRows}
 use Rattle.ss_program.proofs.AnswerLemmas.{StoreIsIn-open, refuses_query-kept}
 use Rattle.ss_program.proofs.SeriesLemmas.{brings-refused_series, series-head, series-sent}
@@ -34,7 +34,7 @@ returns-in_err-at_sink g c =
     (still disk) c.requires.open c.send_reply-2.ensures (λ told history stands less.
     series-head c.args.speaker history series before after
     (refuses_query-kept store disk.told.content history (whole_query series) (StoreIsIn-open disk store c.requires.open told) stands ∙ sym judged)
-    (subst (λ n. AppendsLess before after (said_line c.args.speaker (SeriesHead series.kind n))) c.rows.ensures less)))
+    (rw c.rows.ensures at less)))
 
 pub returns : goal.returns
 returns g c =
@@ -50,12 +50,10 @@ returns g c =
     let sent = sent-all c.send_reply-2.result c.in_ok-at_sink.field-0 c.in_ok-at_sink.ensures c.send_reply-2.ensures in
     record {
       reads = shows.reads;
-      sends = λ told history stands bytes is. subst (λ bs. Sends before after bs result) (sym is)
-          (series-sent c.args.speaker history series before held after result
+      sends = λ told history stands bytes is. rw is (series-sent c.args.speaker history series before held after result
           (refuses_query-kept store disk.told.content history (whole_query series) (StoreIsIn-open disk store c.requires.open told) stands ∙ sym judged)
-          (subst (λ n. held ≡ appended before (said_line c.args.speaker (SeriesHead series.kind n))) c.rows.ensures sent.0)
-          (shows.sends told history stands (flat_map (said_line c.args.speaker) (series_rows (state history) series)) refl));
-      counted = subst (λ n. Counted (sink_verdict (ended result)) n (g.K.Sink.faults c.send_rows.new.sink)) sent.1 shows.counted;
+          (rw c.rows.ensures at sent.0) (shows.sends told history stands (flat_map (said_line c.args.speaker) (series_rows (state history) series)) refl));
+      counted = rw sent.1 at shows.counted;
       opens = shows.opens;
       status = shows.status;
     }

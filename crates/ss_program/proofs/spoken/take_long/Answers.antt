@@ -1,4 +1,4 @@
-use Rattle.ss_program.proofs.Common.{Ok, None, sym, subst, ⊎_elim, step-none, TakesTurn, amid, owed_by, kept_turn}
+use Rattle.ss_program.proofs.Common.{Ok, None, ⊎_elim, step-none, TakesTurn, amid, owed_by, kept_turn}
 use Rattle.ss_program.proofs.BroughtLemmas.{TakesBrought-silent}
 use Rattle.ss_program.proofs.spoken.take_long.Goals as goal
 
@@ -10,5 +10,4 @@ returns-in-Frames-clause-takes g c cursors =
     let at = amid was (owed_by c.args.waiting.now) held cursors in
     step-none disk (TakesTurn (kept_turn c.args.form None) at at (Ok tt)) (λ told.
     let silent = TakesBrought-silent None was c.args.waiting.now held disk.told tt (g.met.D.Disk.knows_now c.args.disk.now told) cursors in
-    ⊎_elim (λ is. subst (λ f. TakesTurn (kept_turn f None) at at (Ok tt) disk.told disk.told) (sym is) silent)
-    (λ is. subst (λ f. TakesTurn (kept_turn f None) at at (Ok tt) disk.told disk.told) (sym is) silent) c.in-Frames.is)
+    ⊎_elim (λ is. rw is silent) (λ is. rw is silent) c.in-Frames.is)

@@ -1,4 +1,4 @@
-use Rattle.ss_program.proofs.Common.{◌∙◌, Some, sym, subst, StoreState, owed_by, open_brings, Talk, turn_said, ap, IsTrue}
+use Rattle.ss_program.proofs.Common.{◌∙◌, Some, sym, StoreState, owed_by, open_brings, Talk, turn_said, ap}
 use Rattle.ss_program.proofs.BroughtLemmas.{TakesTurn-said, step-starved}
 use Rattle.ss_program.proofs.OrderLemmas.{TakesOpened, TakesOpened-stopped}
 use Rattle.ss_program.proofs.StepLemmas.{step-told, step-given}
@@ -29,7 +29,7 @@ returns-in-OutOfMemory-clause-takes g c =
     (step-given (step-starved (ap (λ d. g.D.Disk.seen d) starved.0) (ap (λ (s : StoreState). s.records) starved.1) c.starve.ensures.takes)
     (λ told starves.
     starves c.args.sessions.now (λ talk. turn_said (Some session) (open_brings talk.history talk.cursors session name)) (λ here same stands. (
-      subst (λ cs. IsTrue (open_brings here.history cs session name).wants_memory) (sym same) ((opens.told told).accepted here.history stands),
+      rw same ((opens.told told).accepted here.history stands),
       open-some here.history here.cursors session name,
     ))))
 

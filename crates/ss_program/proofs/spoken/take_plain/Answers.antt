@@ -1,4 +1,4 @@
-use Rattle.ss_program.proofs.Common.{Ok, None, subst, step-none, Step, fine, TakesBrought, amid, owed_by, meaning_in, nothing}
+use Rattle.ss_program.proofs.Common.{Ok, None, step-none, TakesBrought, amid, owed_by, nothing}
 use Rattle.ss_program.proofs.BroughtLemmas.{TakesBrought-silent}
 use Rattle.ss_program.proofs.spoken.take_plain.Goals as goal
 
@@ -9,6 +9,5 @@ returns-in-Ok-None-clause-takes g c =
     let was = c.args.store.now.records in
     let at = amid was (owed_by c.args.waiting.now) held in
     let meaning = rw c.in-Ok-None.field-0-is at c.in-Ok-None.ensures.meaning in
-    subst (λ m. Step fine disk disk (TakesBrought None (λ history. meaning_in c.args.framed history m) at at (Ok tt))) meaning
-    (step-none disk (TakesBrought None (λ history. nothing) at at (Ok tt)) (λ told.
+    rw (← meaning) (step-none disk (TakesBrought None (λ history. nothing) at at (Ok tt)) (λ told.
     TakesBrought-silent None was c.args.waiting.now held disk.told tt (g.met.D.Disk.knows_now c.args.disk.now told)))

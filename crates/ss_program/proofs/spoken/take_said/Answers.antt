@@ -1,5 +1,4 @@
-use Rattle.ss_program.proofs.Common.{◌∙◌, Ok, Option, Result, Some, ap, sym, subst, Refusal, step-none, Step, fine, Order, TakesTurn, amid, owed_by, nothing}
-use Rattle.ss_program.proofs.Common.{turn_brought, turn_to}
+use Rattle.ss_program.proofs.Common.{◌∙◌, Ok, Option, Some, ap, step-none, Order, TakesTurn, amid, owed_by, nothing, turn_brought}
 use Rattle.ss_program.proofs.BroughtLemmas.{TakesBrought-silent}
 use Rattle.ss_program.proofs.spoken.take_said.Goals as goal
 
@@ -11,7 +10,6 @@ returns-in-Ok-None-clause-takes g c =
     let held = g.K.Sink.held c.args.sink.now in
     let was = c.args.store.now.records in
     let at = amid was (owed_by c.args.waiting.now) held cursors in
-    subst (λ (s : Result (Option Order) Refusal). Step fine disk disk (TakesTurn (λ talk. turn_to c.args.framed session talk s) at at (Ok tt)))
-    (sym (c.in-Ok-None.is ∙ ap (λ (o : Option Order). Ok o) c.in-Ok-None.field-0-is))
+    rw (c.in-Ok-None.is ∙ ap (λ (o : Option Order). Ok o) c.in-Ok-None.field-0-is)
     (step-none disk (TakesTurn (λ talk. turn_brought (Some session) talk nothing) at at (Ok tt)) (λ told.
     TakesBrought-silent (Some session) was c.args.waiting.now held disk.told tt (g.met.D.Disk.knows_now c.args.disk.now told) cursors))

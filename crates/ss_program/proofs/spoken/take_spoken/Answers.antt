@@ -1,4 +1,4 @@
-use Rattle.ss_program.proofs.Common.{None, Ok, subst, step-none, Step, fine, Spoken, TakesTurn, amid, owed_by, nothing, turn_brought, turn_spoken}
+use Rattle.ss_program.proofs.Common.{None, Ok, step-none, TakesTurn, amid, owed_by, nothing, turn_brought}
 use Rattle.ss_program.proofs.BroughtLemmas.{TakesBrought-silent}
 use Rattle.ss_program.proofs.spoken.take_spoken.Goals as goal
 
@@ -9,6 +9,5 @@ returns-in-Nothing-clause-takes g c =
     let held = g.K.Sink.held c.args.sink.now in
     let was = c.args.store.now.records in
     let at = amid was (owed_by c.args.waiting.now) held cursors in
-    subst (λ (s : Spoken). Step fine disk disk (TakesTurn (λ talk. turn_spoken c.args.framed talk s) at at (Ok tt))) c.in-Nothing.ensures.meaning
-    (step-none disk (TakesTurn (λ talk. turn_brought None talk nothing) at at (Ok tt)) (λ told.
+    rw (← c.in-Nothing.ensures.meaning) (step-none disk (TakesTurn (λ talk. turn_brought None talk nothing) at at (Ok tt)) (λ told.
     TakesBrought-silent None was c.args.waiting.now held disk.told tt (g.met.D.Disk.knows_now c.args.disk.now told) cursors))

@@ -1,5 +1,4 @@
-use Rattle.ss_program.proofs.Common.{◌≡◌, ◌∙◌, ◌++◌, ℕ, List, Ok, Option, Some, ap, subst, sym, step-none, Step, fine, Owed, TakesNone, amid, owed_by}
-use Rattle.ss_program.proofs.Common.{with_text}
+use Rattle.ss_program.proofs.Common.{◌≡◌, ◌∙◌, ◌++◌, ℕ, List, Ok, Option, Some, ap, sym, step-none, TakesNone, amid, owed_by, with_text}
 use Rattle.ss_program.proofs.AmidLemmas.{TakesNone-still}
 use Rattle.ss_program.proofs.staging.say_text.Goals as goal
 
@@ -16,6 +15,5 @@ returns-in-Some-clause-takes g c =
     let held = g.K.Sink.held c.args.sink.now in
     let text = c.args.text.now in
     let to = amid was (owed_by (Some c.hold.new.self)) held in
-    subst (λ (o : Owed). Step fine disk disk (TakesNone (amid was o held) to (Ok tt)))
-    (sym (waits c.args.waiting.now _ c.hold.new.self text c.in-Some.is c.hold.ensures))
+    rw (waits c.args.waiting.now _ c.hold.new.self text c.in-Some.is c.hold.ensures)
     (step-none disk (TakesNone to to (Ok tt)) (λ told. TakesNone-still to disk.told tt (g.met.D.Disk.knows_now c.args.disk.now told)))

@@ -1,4 +1,4 @@
-use Rattle.ss_program.proofs.Common.{Some, subst, shown-sealed, TakesNone, amid, owed_by, at_sink, Sends}
+use Rattle.ss_program.proofs.Common.{Some, shown-sealed, TakesNone, amid, owed_by, at_sink}
 use Rattle.ss_program.proofs.SealLemmas.{TakesNone-sent, TakesNone-unsealed, shared-sent, step-sink}
 use Rattle.ss_program.proofs.StepLemmas.{step-so}
 use Rattle.ss_program.proofs.staging.send_waiting.Goals as goal
@@ -26,4 +26,4 @@ returns-in-Ok-clause-takes g c =
     (step-sink {S = TakesNone (amid was owed held) (amid is owes after) (at_sink c.send.result)} c.send.result
     (step-so c.in-Ok.ensures.seals (λ told seals.
     TakesNone-sent was is owed owes held after old new c.in-Ok.field-0 c.send.result (g.met.D.Disk.knows_now c.seal.new.disk told) same seals.history
-    c.clear.ensures shared-sent (λ bytes less. tt) (subst (λ t. Sends held after t c.send.result) c.as_slice.ensures c.send.ensures.sends))))
+    c.clear.ensures shared-sent (λ bytes less. tt) (rw c.as_slice.ensures at c.send.ensures.sends))))

@@ -1,6 +1,5 @@
-use Rattle.ss_program.proofs.Common.{◌≡◌, ◌∙◌, ◌++◌, ◌∷◌, [], true, false, None, Err, Ok, Result, sym, ap, subst, rules, IsTrue, Do, added, refuses, state}
-use Rattle.ss_program.proofs.Common.{shown_by, Reply, AllAgree-recovered, Stands, Brought, History, accepted_frame, command_brings, command_in, history_after}
-use Rattle.ss_program.proofs.Common.{Staged, Status, step-as}
+use Rattle.ss_program.proofs.Common.{◌≡◌, ◌∙◌, ◌++◌, ◌∷◌, [], true, false, None, Err, Ok, Result, sym, ap, rules, IsTrue, Do, added, refuses, state, shown_by}
+use Rattle.ss_program.proofs.Common.{Reply, AllAgree-recovered, Stands, History, accepted_frame, command_brings, command_in, Staged, Status, step-as}
 use Rattle.ss_program.proofs.AnswerLemmas.{brings-accepted}
 use Rattle.ss_program.proofs.FrameLemmas.{Turns-answered, frame-done, frame-other, replies-framed, same-event}
 use Rattle.ss_program.proofs.StepLemmas.{step-given}
@@ -46,8 +45,7 @@ found g c says told history stands =
           let store = c.stage.new.store in
           let image = shown_by store.records (g.D.Disk.seen c.stage.new.disk).told.content in
           let after : Stands (history ++ added event ∷ []) image =
-          subst (λ (b : Brought). Stands (history_after history b) image) (brings-accepted false history event none)
-          (((stages.told told).turns history).content stands) in
+          rw brings-accepted at (((stages.told told).turns history).content stands) in
           let kept = (c.in_ok-reply.ensures.serves.kept (stages.tells ∙ told)).shown in
           w.frame-is ∙ w.frame_after-frame.ensures history after.is_history
           (AllAgree-recovered store image (state (history ++ added event ∷ [])) kept after.state).0))

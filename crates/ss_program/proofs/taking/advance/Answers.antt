@@ -1,6 +1,5 @@
-use Rattle.ss_program.proofs.Common.{◌≡◌, ◌++◌, Ok, Err, take, ap, sym, ◌∙◌, subst, rules, option_copied, TellsStep, step_under_way, step-as, step-none}
-use Rattle.ss_program.proofs.Common.{GoesAmid}
-use Rattle.ss_program.proofs.Common.{TakesBytes, amid, owed_by, kept_so_far, kept_step, steps_so_far}
+use Rattle.ss_program.proofs.Common.{◌≡◌, ◌++◌, Ok, Err, take, ap, sym, ◌∙◌, rules, option_copied, step_under_way, step-as, step-none}
+use Rattle.ss_program.proofs.Common.{TakesBytes, amid, owed_by, kept_step, steps_so_far}
 use Rattle.ss_program.proofs.AmidLemmas.{GoesAmid-none}
 use Rattle.ss_program.proofs.InputLemmas.{Stops-piece, Takes-kept, advance-told}
 use Rattle.ss_program.proofs.taking.advance.Goals as goal
@@ -15,13 +14,10 @@ returns-in-None-clause-takes g c =
     (Ok c.feed-count.result.0)) (λ told. record {
       goes = λ sealing talk before input form line is.
           let more = input ++ take c.feed-count.result.0 piece in
-          let read = subst (λ f. step_under_way c.args.reader.now ≡ kept_so_far f input) (sym form) line in
-          let same = subst (λ f. steps_so_far f more ≡ steps_so_far f input) form
-          (subst (λ o. TellsStep (steps_so_far c.args.reader.now.form input) (steps_so_far c.args.reader.now.form more) o c.feed-count.new.self) c.in-None.is
-          (c.feed-count.ensures.steps input read)) in (
-            subst (λ f. step_under_way c.feed-count.new.self ≡ kept_so_far f more) (c.feed-count.ensures.form ∙ form) (c.feed-count.ensures.taken input read),
-            subst (λ ls. GoesAmid sealing talk ls before at view.told view.told) (sym same)
-                (GoesAmid-none sealing talk (steps_so_far talk.form input) before at view.told (g.met.D.Disk.knows_now c.args.disk.now told) is),
+          let read = rw (← form) at line in
+          let same = rw (c.in-None.is, form) at (c.feed-count.ensures.steps input read) in (
+            rw (c.feed-count.ensures.form ∙ form) at (c.feed-count.ensures.taken input read),
+            rw same (GoesAmid-none sealing talk (steps_so_far talk.form input) before at view.told (g.met.D.Disk.knows_now c.args.disk.now told) is),
           );
       stops = tt;
     })
@@ -42,11 +38,10 @@ returns-in_err-stage_line-in-Some-clause-takes g c =
       stops = λ sealing talk before input form line is.
           let more = input ++ take count piece in
           let ls = steps_so_far talk.form input in
-          let read = subst (λ f. step_under_way c.args.reader.now ≡ kept_so_far f input) (sym form) line in
+          let read = rw (← form) at line in
           let shape = c.form.ensures ∙ c.feed-count.ensures.form in
           let told = advance-told input more c.in-Some.ended c.feed-count.new.self form c.feed-count.ensures.form
-          (subst (λ o. TellsStep (steps_so_far c.args.reader.now.form input)
-          (steps_so_far c.args.reader.now.form more) o c.feed-count.new.self) c.in-Some.is (c.feed-count.ensures.steps input read)) in
+          (rw c.in-Some.is at (c.feed-count.ensures.steps input read)) in
           Stops-piece sealing talk old.told new.told before after status input piece told.0 count told.1
           ((Takes-kept c.form.result o told.0 takes (c.line_of.ensures ∙ told.2 ∙ ap (λ f. kept_step f told.0) (sym shape)) sealing talk ls before
           (shape ∙ form)).stops is);
@@ -64,14 +59,12 @@ returns-in_ok-stage_line-in-Some-clause-takes g c =
       goes = λ sealing talk before input form line is.
           let more = input ++ take count piece in
           let ls = steps_so_far talk.form input in
-          let read = subst (λ f. step_under_way c.args.reader.now ≡ kept_so_far f input) (sym form) line in
+          let read = rw (← form) at line in
           let shape = c.form.ensures ∙ c.feed-count.ensures.form in
           let told = advance-told input more c.in-Some.ended c.feed-count.new.self form c.feed-count.ensures.form
-          (subst (λ o. TellsStep (steps_so_far c.args.reader.now.form input)
-          (steps_so_far c.args.reader.now.form more) o c.feed-count.new.self) c.in-Some.is (c.feed-count.ensures.steps input read)) in (
-            subst (λ f. step_under_way c.feed-count.new.self ≡ kept_so_far f more) (c.feed-count.ensures.form ∙ form) (c.feed-count.ensures.taken input read),
-            subst (λ l. GoesAmid sealing talk l before to old.told new.told) (sym told.1)
-                ((Takes-kept c.form.result o told.0 takes (c.line_of.ensures ∙ told.2 ∙ ap (λ f. kept_step f told.0) (sym shape)) sealing talk ls before
+          (rw c.in-Some.is at (c.feed-count.ensures.steps input read)) in (
+            rw (c.feed-count.ensures.form ∙ form) at (c.feed-count.ensures.taken input read),
+            rw told.1 ((Takes-kept c.form.result o told.0 takes (c.line_of.ensures ∙ told.2 ∙ ap (λ f. kept_step f told.0) (sym shape)) sealing talk ls before
                 (shape ∙ form)).goes is),
           );
       stops = tt;

@@ -1,5 +1,4 @@
-use Rattle.ss_program.proofs.Common.{◌≡◌, Ok, ap, sym, ◌∙◌, subst, option_copied, step_under_way, step-as, step-none, GoesAmid, TakesLast, amid, owed_by}
-use Rattle.ss_program.proofs.Common.{kept_so_far, kept_step, steps, steps_so_far}
+use Rattle.ss_program.proofs.Common.{Ok, ap, sym, ◌∙◌, option_copied, step_under_way, step-as, step-none, TakesLast, amid, owed_by, kept_step, steps_so_far}
 use Rattle.ss_program.proofs.AmidLemmas.{GoesAmid-none}
 use Rattle.ss_program.proofs.InputLemmas.{Takes-kept, TakesLast-line, last-told}
 use Rattle.ss_program.proofs.taking.take_last.Goals as goal
@@ -10,10 +9,9 @@ returns-in-None-clause-takes g c =
     let at = amid c.args.store.now.records (owed_by c.args.waiting.now) (g.K.Sink.held c.args.sink.now) c.args.sessions.now in
     step-none view (TakesLast c.args.reader.now.form (step_under_way c.args.reader.now) at at (Ok tt)) (λ told. record {
       goes = λ sealing talk before input form line is.
-          let read = subst (λ f. step_under_way c.args.reader.now ≡ kept_so_far f input) (sym form) line in
-          let same = subst (λ f. steps f input ≡ steps_so_far f input) form (c.in-None.ensures.steps input read) in
-          subst (λ ls. GoesAmid sealing talk ls before at view.told view.told) (sym same)
-          (GoesAmid-none sealing talk (steps_so_far talk.form input) before at view.told (g.met.D.Disk.knows_now c.args.disk.now told) is);
+          let read = rw (← form) at line in
+          let same = rw form at (c.in-None.ensures.steps input read) in
+          rw same (GoesAmid-none sealing talk (steps_so_far talk.form input) before at view.told (g.met.D.Disk.knows_now c.args.disk.now told) is);
       stops = tt;
     })
 
@@ -22,7 +20,7 @@ returns-in-Some-clause-takes g c =
     let o = option_copied c.line_of.result in
     step-as c.stage_line.ensures.takes (λ takes. TakesLast-line c.args.reader.now.form (step_under_way c.args.reader.now) c.stage_line.result
     (λ sealing talk before input form line.
-    let read = subst (λ f. step_under_way c.args.reader.now ≡ kept_so_far f input) (sym form) line in
+    let read = rw (← form) at line in
     let shape = c.form.ensures ∙ c.in-Some.ensures.form in
     let told = last-told input c.in-Some.ended c.finish.new.self form c.in-Some.ensures.form (c.in-Some.ensures.steps input read) in (
       told.0,

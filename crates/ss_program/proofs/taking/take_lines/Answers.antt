@@ -1,5 +1,4 @@
-use Rattle.ss_program.proofs.Common.{◌≡◌, ◌++◌, Err, take, take_all, refl, sym, subst, ◌∙◌, arith, rules, append-nil, step_under_way, step-as, step-none}
-use Rattle.ss_program.proofs.Common.{step-then}
+use Rattle.ss_program.proofs.Common.{◌≡◌, ◌++◌, Err, take, take_all, refl, ◌∙◌, arith, rules, append-nil, step_under_way, step-as, step-none, step-then}
 use Rattle.ss_program.proofs.Common.{GoesAmid, OfAmid, amid, owed_by, kept_so_far, steps_so_far}
 use Rattle.ss_program.proofs.SendLemmas.{fits_more}
 use Rattle.ss_program.proofs.InputLemmas.{OfAmid-more, OfAmid-stops}
@@ -18,8 +17,7 @@ loop-done-init g c =
           (λ sealing talk before input. (line ≡ kept_so_far talk.form (input ++ take 0 c.args.piece.now))
           × GoesAmid sealing talk (steps_so_far talk.form (input ++ take 0 c.args.piece.now)) before at old now))
           (λ told sealing talk before input form under is.
-          subst (λ bs. (line ≡ kept_so_far talk.form bs) × GoesAmid sealing talk (steps_so_far talk.form bs) before at disk.told disk.told)
-          (sym (append-nil input))
+          rw append-nil
           (under, GoesAmid-none sealing talk (steps_so_far talk.form input) before at disk.told (g.met.D.Disk.knows_now c.args.disk.now told) is));
       form = refl;
       faults = refl;
@@ -76,9 +74,6 @@ returns-clause-takes g c =
     let at = amid c.loop-done.store.records (owed_by c.loop-done.waiting) (g.K.Sink.held c.loop-done.sink) c.loop-done.sessions in
     step-as c.loop-done.invariant.on (λ on. record {
       goes = λ sealing talk before input form line is.
-          subst (λ bs. (step_under_way c.loop-done.reader ≡ kept_so_far talk.form (input ++ bs)) × GoesAmid sealing talk
-          (steps_so_far talk.form (input ++ bs)) before at old mid)
-          (take_all done piece (omega (arith, c.loop-done-test.false)))
-          (on sealing talk before input form line is);
+          rw (take_all done piece (omega (arith, c.loop-done-test.false))) at (on sealing talk before input form line is);
       stops = tt;
     })
