@@ -7,7 +7,8 @@ use Rattle.ss_program.proofs.Common.{appended, after_lines, text_of, Talk, turn_
 
 -- the lines that were read are those of the bytes that were
 holds-read : (sealing : Sealing) (talk : Talk) (input bytes_read rest image : List ℕ) (bytes : ℕ) (status : Status) → bytes_read ++ rest ≡ input →
-    HoldsAcked sealing talk (steps talk.form input) (steps_within talk.form bytes_read rest) bytes status image → HoldsBy sealing talk input (Some rest) bytes status image
+    HoldsAcked sealing talk (steps talk.form input) (steps_within talk.form bytes_read rest) bytes status image →
+    HoldsBy sealing talk input (Some rest) bytes status image
 holds-read sealing talk input bytes_read rest image bytes status all h = (bytes_read, rest, all, refl, h)
 
 -- where a run stopped

@@ -154,7 +154,8 @@ IsStop-apply tells status stop = grind (arith, common_steps)
 
 module _ (speaker : Option ℕ) where
   -- an event has a reply
-  pub event-some : (framed : Bool) (history : History) (event : Event) (refusal : Option Refusal) → IsSome (unless_refused refusal (accepted_in framed history event)).event →
+  pub event-some : (framed : Bool) (history : History) (event : Event) (refusal : Option Refusal) →
+      IsSome (unless_refused refusal (accepted_in framed history event)).event →
       0 < length (text_said speaker (unless_refused refusal (accepted_in framed history event)))
   event-some framed history event None some =
       let reply = AckLine (ack_of (event_name event) (state (history ++ added event ∷ []))) in

@@ -208,7 +208,8 @@ Sends-less before after seed count lines all tally tallies less =
     (subst (λ bs. AppendsLess before after bs) (counts-tallied seed count lines all tally tallies) less)
 
 -- an image of the history after some first lines of the file
-pub StandsForGenerated-within : (used : Option ℕ) (history : History) (seed count : ℕ) (image : List ℕ) → StandsWithin (plain_over used history) (generated_lines seed count) image →
+pub StandsForGenerated-within : (used : Option ℕ) (history : History) (seed count : ℕ) (image : List ℕ) →
+    StandsWithin (plain_over used history) (generated_lines seed count) image →
     StandsForGenerated used history seed count image
 StandsForGenerated-within used history seed count image within = rw (accepted-over used (plain_talk history) (generated_lines seed count)) at
     (StandsShortForFirst-within (plain_over used history) (generated_lines seed count) image within)

@@ -45,7 +45,8 @@ count-ordered framed history cursors session (orders.Open name) =
 count-ordered framed history cursors session (orders.Next count) = count-showing cursors session count (cursor_of cursors session)
 count-ordered framed history cursors session orders.Close = count-closing cursors session (cursor_of cursors session)
 
-count-to : (framed : Bool) (session : ℕ) (talk : Talk) (said : Result (Option Order) Refusal) → length (turn_to framed session talk said).cursors ≡ length talk.cursors
+count-to : (framed : Bool) (session : ℕ) (talk : Talk) (said : Result (Option Order) Refusal) →
+    length (turn_to framed session talk said).cursors ≡ length talk.cursors
 count-to framed session talk (Err refusal) = refl
 count-to framed session talk (Ok None) = refl
 count-to framed session talk (Ok (Some order)) = count-ordered framed talk.history talk.cursors session order
@@ -219,7 +220,8 @@ module _ (session : ℕ) where
   kept-keeps framed talk rows None has spared = has
   kept-keeps framed talk rows (Some line) has spared = spoken-keeps framed talk rows (spoken_of line) has (λ is. spared (ap (λ s. Some s) is))
 
-  lines-keep : (framed : Bool) (talk : Talk) (rows : List Placed) (ls : List (List ℕ)) → talk.form ≡ Sessions framed → cursor_of talk.cursors session ≡ Some rows →
+  lines-keep : (framed : Bool) (talk : Talk) (rows : List Placed) (ls : List (List ℕ)) → talk.form ≡ Sessions framed →
+      cursor_of talk.cursors session ≡ Some rows →
       NoneCloses session ls → cursor_of (after_lines talk ls).cursors session ≡ Some (drop (rows_asked session ls) rows)
   lines-keep framed talk rows [] form has spared = has
   lines-keep framed talk rows (l ∷ ls) form has spared =
@@ -301,5 +303,6 @@ cursor-shows framed talk between start line name session count form all opens no
           ∙ ap (λ rows. text_said (Some session) (only_replies (Rows (length rows) ∷ rows))) (shown-rows s count given),
     )
 
-pub cursor-shows-begun : (framed : Bool) (history : History) (before : List (List ℕ)) → length (after_lines (begun (Sessions framed) history) before).cursors ≡ SESSIONS
+pub cursor-shows-begun : (framed : Bool) (history : History) (before : List (List ℕ)) →
+    length (after_lines (begun (Sessions framed) history) before).cursors ≡ SESSIONS
 cursor-shows-begun framed history before = count-after (begun (Sessions framed) history) before

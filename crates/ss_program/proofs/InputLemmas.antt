@@ -62,7 +62,8 @@ Stops-piece sealing talk old new before after status input piece line count one 
 module _ (sealing : Sealing) (talk : Talk) (before : Option (List ℕ)) (first : Amid) (old mid new : Told) (taken more : List ℕ) where
   -- bytes are taken after others, or the run stops after these
   pub GoesAmid-input : (second : Amid) → GoesAmid sealing talk (steps_so_far talk.form taken) before first old mid →
-      GoesAmid sealing talk (steps_so_far talk.form (taken ++ more)) before second mid new → GoesAmid sealing talk (steps_so_far talk.form (taken ++ more)) before second old new
+      GoesAmid sealing talk (steps_so_far talk.form (taken ++ more)) before second mid new →
+      GoesAmid sealing talk (steps_so_far talk.form (taken ++ more)) before second old new
   GoesAmid-input second one two =
       let rest = steps-more talk.form taken more in
       rw rest.1 (GoesAmid-then sealing talk (steps_so_far talk.form taken) rest.0 before first old mid new second one (rw rest.1 at two))
@@ -108,7 +109,8 @@ OfAmid-more form other alike line next last from mid to old between new piece do
     )
 
 -- or the run stops in them
-pub OfAmid-stops : (form other : Form) → other ≡ form → (line next : Kept) (from mid : Amid) (after : Option (List ℕ)) (status : Status) (old between new : Told)
+pub OfAmid-stops : (form other : Form) → other ≡ form →
+    (line next : Kept) (from mid : Amid) (after : Option (List ℕ)) (status : Status) (old between new : Told)
     (piece : List ℕ) (done : ℕ) →
     OfAmid form line from old (λ sealing talk before input. (next ≡ kept_so_far talk.form (input ++ take done piece))
     × GoesAmid sealing talk (steps_so_far talk.form (input ++ take done piece)) before mid old between) →

@@ -76,7 +76,8 @@ steps_within-so_far : (form : Form) (taken rest : List ℕ) → (more : List (Li
 steps_within-so_far form taken [] = steps-all form taken
 steps_within-so_far form taken (b ∷ rest) = ([], sym (append-nil (steps_so_far form taken)))
 
-steps_within-more : (form : Form) (taken next rest : List ℕ) → (more : List (List ℕ)) × (steps_within form (taken ++ next) rest ≡ steps_so_far form taken ++ more)
+steps_within-more : (form : Form) (taken next rest : List ℕ) →
+    (more : List (List ℕ)) × (steps_within form (taken ++ next) rest ≡ steps_so_far form taken ++ more)
 steps_within-more form taken next rest =
     let first = steps-more form taken next in
     let within = steps_within-so_far form (taken ++ next) rest in (
@@ -85,7 +86,8 @@ steps_within-more form taken next rest =
     )
 
 -- so many bytes of the input were read: the lines that ended within the first of them are among those that ended then
-pub AreRead-front : (form : Form) (input : List ℕ) (left : Option (List ℕ)) (n k : ℕ) → left ≡ Some (drop (n + k) input) → AreRead form input left (steps_so_far form (take n input))
+pub AreRead-front : (form : Form) (input : List ℕ) (left : Option (List ℕ)) (n k : ℕ) → left ≡ Some (drop (n + k) input) →
+    AreRead form input left (steps_so_far form (take n input))
 AreRead-front form input left n k is =
     let both : take (n + k) input ≡ take n input ++ take k (drop n input) = take-add n k input in
     let within = steps_within-more form (take n input) (take k (drop n input)) (drop (n + k) input) in
@@ -99,7 +101,8 @@ AreRead-front form input left n k is =
     }
 
 -- the lines that ended within the bytes taken
-pub AreRead-took : (form : Form) (input : List ℕ) (left : Option (List ℕ)) (taken rest : List ℕ) → Took input left taken rest → AreRead form input left (steps_within form taken rest)
+pub AreRead-took : (form : Form) (input : List ℕ) (left : Option (List ℕ)) (taken rest : List ℕ) → Took input left taken rest →
+    AreRead form input left (steps_within form taken rest)
 AreRead-took form input left taken rest took = record {
   read = taken;
   rest = rest;
@@ -110,7 +113,8 @@ AreRead-took form input left taken rest took = record {
 }
 
 -- the lines within the bytes taken are the first of all
-pub steps-read : (form : Form) (input taken rest : List ℕ) → taken ++ rest ≡ input → (more : List (List ℕ)) × (steps form input ≡ steps_within form taken rest ++ more)
+pub steps-read : (form : Form) (input taken rest : List ℕ) → taken ++ rest ≡ input →
+    (more : List (List ℕ)) × (steps form input ≡ steps_within form taken rest ++ more)
 steps-read form input taken rest all =
     let more = steps_within-front form taken rest in (more.0, ap (λ bs. steps form bs) (sym all) ∙ more.1)
 

@@ -136,7 +136,8 @@ any_moment-lines talk old new input run =
 pub HasStopped-end : (sealing : Sealing) {talk : Talk} {start mid : Told} {session : SessionState} {before held left : Option (List ℕ)} {input : List ℕ}
     (new : Told)
     (after : Option (List ℕ))
-    (status : Status) → IsAtEnd sealing talk start mid session before held left input → StopsIn sealing talk (steps talk.form input) mid new before after status →
+    (status : Status) → IsAtEnd sealing talk start mid session before held left input →
+        StopsIn sealing talk (steps talk.form input) mid new before after status →
     HasStopped sealing talk input left before after start new status
 HasStopped-end sealing {talk = talk} {start = start} {mid = mid} {input = input} new after status end stops = record {
   taken = input;
