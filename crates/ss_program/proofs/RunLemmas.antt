@@ -137,7 +137,7 @@ pub HasStopped-end : (sealing : Sealing) {talk : Talk} {start mid : Told} {sessi
     (new : Told)
     (after : Option (List ℕ))
     (status : Status) → IsAtEnd sealing talk start mid session before held left input →
-        StopsIn sealing talk (steps talk.form input) mid new before after status →
+    StopsIn sealing talk (steps talk.form input) mid new before after status →
     HasStopped sealing talk input left before after start new status
 HasStopped-end sealing {talk = talk} {start = start} {mid = mid} {input = input} new after status end stops = record {
   taken = input;

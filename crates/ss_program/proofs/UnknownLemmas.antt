@@ -2,7 +2,8 @@
 use Rattle.ss_program.proofs.Common.{◌≡◌, ◌≢◌, ◌∙◌, ℕ, List, [], ◌∷◌, ◌++◌, false, Option, Some, None, Result, Ok, Err, refl, sym, ap, inl, inr}
 use Rattle.ss_program.proofs.Common.{cases_Bool, All-head, All-tail, is_some, event_name, same_name, Event, Create, Value, Open, Close, Drop, Params, Query}
 use Rattle.ss_program.proofs.Common.{Refusal, Unknown, meaning, Command, Do, Ask, given_to-created, same_name-Decides, same_name-same, added, marked_of}
-use Rattle.ss_program.proofs.Common.{values_of, marked_values, stands, Stream, state, stream_named, stepped, New, Brought, History, accepted_in, brings, command_brings}
+use Rattle.ss_program.proofs.Common.{values_of, marked_values, stands, Stream, state, stream_named, stepped, New, Brought, History, accepted_in, brings}
+use Rattle.ss_program.proofs.Common.{command_brings}
 use Rattle.ss_program.proofs.Common.{history_after, meaning_brings, nothing, refused, unless_refused, NoneCreates, plain_after}
 use Rattle.ss_model.proofs.DropLemmas.{refuses-drop, stream_named-dropped}
 use Rattle.ss_model.proofs.ReadLemmas.{stream_named-stepped}

@@ -25,9 +25,9 @@ acks talk [] bytes = 0
 acks talk (line ∷ ls) bytes = cond (nat_le (length (turn_of talk line).says) bytes)
     (length (the_event (turn_of talk line).event) + acks (after_line talk line) ls (bytes - length (turn_of talk line).says)) 0
 
--- The image stands for the history and the first accepted events, and is no longer than these allow: those whose replies are whole within so many bytes of the report, and
--- no more than were accepted of the lines that were read. Where each event is sealed by itself, it is at most one more. Done, it holds
--- all of them; where memory ran out, no more than those.
+-- The image stands for the history and the first accepted events, and is no longer than these allow: those whose replies are whole
+-- within so many bytes of the report, and no more than were accepted of the lines that were read. Where each event is sealed by itself,
+-- it is at most one more. Done, it holds all of them; where memory ran out, no more than those.
 pub record HoldsAcked (sealing : Sealing) (talk : Talk) (ls read : List (List ℕ)) (bytes : ℕ) (status : Status) (image : List ℕ) : Type 0 where
   pub j : ℕ
   pub stands : StandsShort talk.used (talk.history ++ take j (accepted talk ls)) image
