@@ -1,6 +1,6 @@
 # Needs the toolchain's `rt` on the PATH. `make help` lists the targets.
 PROGRAM = crates/summarystore/out/summarystore
-BENCH = crates/calls_bench/out/calls_bench
+BENCH = crates/bench_calls/out/bench_calls
 PREFIX = /usr/local
 
 .PHONY: build demo fleet-demo test faults python install deb deb-test bench help
@@ -51,7 +51,7 @@ deb-test: ## builds them, and installs, upgrades and removes them in a new root 
 
 bench: ## times the programs that were built last: bench/README.md
 	@test -x $(PROGRAM) || $(MAKE) build
-	@test -x $(BENCH) || tools/build calls_bench all
+	@test -x $(BENCH) || tools/build bench_calls all
 	@bench/durable $(PROGRAM)
 	@bench/appends $(PROGRAM)
 	@bench/drops $(PROGRAM)

@@ -12,7 +12,8 @@ use Rattle.ss_summary.proofs.Bounds.{times-le-times}
 use Rattle.ss_bounds.specs.Split.{SplitFigures, IsSplit}
 use Rattle.ss_bounds.specs.Extremes.{listed}
 use Rattle.ss_bounds.specs.Guess.{Fraction, whole, plus, sum_of, is_even, nearest, spread_over, guess_of_count, guess_of_sum}
-use Rattle.ss_bounds.specs.Mixed.{IsProper, IsMixed, IsNear, IsSpread, AreRests, part_of, rise}
+use Rattle.ss_bounds.specs.Mixed.{IsProper, IsMixed, IsSpread, AreRests, part_of, rise}
+use Rattle.ss_base.specs.Near.{IsNear}
 use Rattle.ss_bounds.specs.declared.mixed.Mixed.{Mixed}
 use Rattle.ss_bounds.specs.declared.spread.Spread.{Spread}
 use Rattle.ss_bounds.proofs.Held.{held, held-is, sum-fits}

@@ -10,7 +10,7 @@ use Rattle.std.proofs.lemmas.List.FromFn.{length-range_with_len}
 use Rattle.std.proofs.lemmas.List.Sums.{count_by-le-length}
 use Rattle.ss_bounds.specs.Split.{IsSplit}
 use Rattle.ss_bounds.specs.Times.{lies_in, times, times_inside, times_outside, split_of}
-use Rattle.ss_bounds.specs.declared.split.TheConstants.{MOST_VALUES, MOST_TIMES}
+use Rattle.ss_base.specs.declared.limits.TheConstants.{LAST_TIME, MOST_VALUES}
 use Rattle.ss_bounds.proofs.TimeLemmas.{one_if, count_by-cons}
 
 -- a range of no times, and one of more
@@ -110,7 +110,7 @@ ends-one from to first last false false first_is last_is rising split = omega ar
 pub IsSplit-split_of : (free : ℕ → Bool) (from to count : ℕ) (sum min max : ℤ) (first last : ℕ)
     → 2 ≤ count → count ≤ MOST_VALUES → FitsSigned w64 min → FitsSigned w64 max → min ≤ℤ max
     → (max +ℤ pos (count - 1) *ℤ min) ≤ℤ sum → sum ≤ℤ (min +ℤ pos (count - 1) *ℤ max)
-    → first ≤ last → last ≤ MOST_TIMES → ¬ ((from ≤ first) × (last ≤ to)) → count - 2 ≤ times free (first + 1) (last - 1)
+    → first ≤ last → last ≤ LAST_TIME → ¬ ((from ≤ first) × (last ≤ to)) → count - 2 ≤ times free (first + 1) (last - 1)
     → IsSplit (split_of free from to count sum min max first last)
 IsSplit-split_of free from to count sum min max first last more few min_fits max_fits order low high rising early split room =
     let parts = times_inside-times_outside free from to first last in

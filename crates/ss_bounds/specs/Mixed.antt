@@ -1,4 +1,5 @@
 -- Fractions as the code holds them.
+use Rattle.ss_base.specs.Near.{IsNear}
 use Rattle.std.specs.Prelude.{◌≡◌, ℕ, ◌+◌, ◌-◌, ◌*◌, ◌^◌, ◌<◌, ◌≤◌, Bool, if◌then◌else◌, ℤ, pos, ◌+ℤ◌, ◌*ℤ◌, unsigned_abs, Option, None, Some}
 use Rattle.std.proofs.Common.{Ordering}
 use Rattle.std.specs.declared.cmp.Ordering.TheVariants.{Less, Equal, Greater}
@@ -6,10 +7,6 @@ use Rattle.ss_bounds.specs.Split.{SplitFigures}
 use Rattle.ss_bounds.specs.Guess.{Fraction, spread_over, whole}
 use Rattle.ss_bounds.specs.declared.mixed.Mixed.{Mixed}
 use Rattle.ss_bounds.specs.declared.spread.Spread.{Spread}
-
--- far within 128 bits
-abbrev pub IsNear : ℤ → Type 0
-IsNear z = unsigned_abs z < 2 ^ 120
 
 -- a proper fraction, and a whole number, whose parts fit
 pub record IsProper (m : Mixed) : Type 0 where

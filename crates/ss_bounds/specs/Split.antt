@@ -2,7 +2,7 @@
 -- known is the window's summary, and how many times there were for the values.
 use Rattle.std.specs.Prelude.{ℕ, zero, suc, ◌+◌, ◌-◌, ◌≤◌, min, ℤ, pos, ◌+ℤ◌, ◌-ℤ◌, ◌*ℤ◌, ◌≤ℤ◌, FitsSigned}
 use Rattle.std.specs.Int.{w64, int_min, int_max}
-use Rattle.ss_bounds.specs.declared.split.TheConstants.{MOST_VALUES, MOST_TIMES}
+use Rattle.ss_base.specs.declared.limits.TheConstants.{LAST_TIME, MOST_VALUES}
 
 -- the figures of a split window: the count, sum, least and greatest of all its values; how many of its first and last time
 -- lie in the range; and how many free times strictly between those two lie in the range, and outside it
@@ -28,8 +28,8 @@ pub record IsSplit (s : SplitFigures) : Type 0 where
   pub sum_high : s.sum ≤ℤ (s.min +ℤ pos (s.count - 1) *ℤ s.max)
   -- the range doesn't hold both ends
   pub one_end : s.ends ≤ 1
-  pub inside_high : s.inside ≤ MOST_TIMES
-  pub outside_high : s.outside ≤ MOST_TIMES
+  pub inside_high : s.inside ≤ LAST_TIME
+  pub outside_high : s.outside ≤ LAST_TIME
   -- there is a time for each value between the first and the last
   pub room : s.count - 2 ≤ s.inside + s.outside
 

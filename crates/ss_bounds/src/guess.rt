@@ -1,9 +1,10 @@
 // The likeliest count and sum, from what is known and from the windows that a range splits.
 ghost use Rattle.std.specs.Prelude.{◌≡◌, ◌+◌, ◌*◌, ◌^◌, ◌<◌, ◌≤◌, ℤ, pos, ◌+ℤ◌, ◌*ℤ◌, unsigned_abs};
-ghost use Rattle.ss_bounds.specs.declared.split.TheConstants.{MOST_VALUES};
+ghost use Rattle.ss_base.specs.declared.limits.TheConstants.{MOST_VALUES};
 ghost use Rattle.ss_bounds.specs.Extremes.{listed};
 ghost use Rattle.ss_bounds.specs.Guess.{Fraction, count_guess, guess_of_count, guess_of_sum, is_even, nearest, plus, sum_guess, whole};
-ghost use Rattle.ss_bounds.specs.Mixed.{AreRests, IsMixed, IsNear, IsProper, part_of};
+ghost use Rattle.ss_bounds.specs.Mixed.{AreRests, IsMixed, IsProper, part_of};
+ghost use Rattle.ss_base.specs.Near.{IsNear};
 
 use crate::mixed::{Mixed, NONE, compare_with_halves, rise};
 use crate::split::Split;

@@ -22,4 +22,4 @@ pub use laws::{
     ends_of_sums_are_attained, extremes_hold_the_truth, free_times_are_parted, guesses_lie_between,
     several_hold_the_truth, split_windows_hold_the_truth, values_can_be_parted,
 };
-pub use split::{MOST_TIMES, MOST_VALUES, Split};
+pub use split::Split;

@@ -1,12 +1,6 @@
 // A window that a range splits.
 use std::marker::Model;
 
-/// The most values that a window holds.
-pub const MOST_VALUES: u64 = 1 << 40;
-
-/// The most free times that may lie between the ends of a window. No time is above 2^62.
-pub const MOST_TIMES: u64 = 1 << 62;
-
 /// A window with a value in a range and one outside it: the count, sum, least and greatest of all its values; `ends`, how
 /// many of its first and last time lie in the range; `inside` and `outside`, how many times strictly between those two lie
 /// in the range and outside it, where only times count that no landmark covers.

@@ -7,7 +7,8 @@ use Rattle.ss_catalog.specs.Params.{exp as Exp, in_range, is_step, power as Powe
 use Rattle.ss_catalog.specs.Queries.{adds_up, end_name, is_guess, kind_name, query_verb, series_verb}
 use Rattle.ss_catalog.specs.Refusal.{refusal_name, refusal_number}
 use Rattle.ss_catalog.specs.Series.{IsSeriesInRange, numbers_from, row_query, rows_in, rows_of, whole_query}
-use Rattle.ss_catalog.specs.declared.TheConstants.{LAST_TIME, MOST_ROWS, MOST_STREAMS, LAST_STREAM}
+use Rattle.ss_catalog.specs.declared.TheConstants.{MOST_ROWS, MOST_STREAMS, LAST_STREAM}
+use Rattle.ss_base.specs.declared.limits.TheConstants.{LAST_TIME}
 use Rattle.ss_catalog.specs.declared.event.Event.TheVariants as events
 use Rattle.ss_catalog.specs.declared.name.TheConstants.{LONGEST_NAME}
 use Rattle.ss_catalog.specs.declared.params.Params.{Params}

@@ -1,7 +1,7 @@
 -- What queries say.
 use Rattle.std.specs.Prelude.{ℕ, ◌≤◌, Bool, true, false, FitsSigned, if◌then◌else◌, List, codes}
 use Rattle.std.specs.Int.{w64}
-use Rattle.ss_catalog.specs.declared.TheConstants.{LAST_TIME}
+use Rattle.ss_base.specs.declared.limits.TheConstants.{LAST_TIME}
 use Rattle.ss_catalog.specs.declared.query.End.{End}
 use Rattle.ss_catalog.specs.declared.query.End.TheVariants.{Lo, Hi}
 use Rattle.ss_catalog.specs.declared.query.Kind.{Kind}

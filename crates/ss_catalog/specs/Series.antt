@@ -1,6 +1,7 @@
 -- What series say: the rows of a range that is cut into steps.
 use Rattle.std.specs.Prelude.{ℕ, zero, suc, List, [], ◌∷◌, ◌+◌, ◌-◌, ◌*◌, ◌/◌, ◌<◌, ◌≤◌, min, nat_lt, if◌then◌else◌}
-use Rattle.ss_catalog.specs.declared.TheConstants.{LAST_TIME, MOST_ROWS}
+use Rattle.ss_catalog.specs.declared.TheConstants.{MOST_ROWS}
+use Rattle.ss_base.specs.declared.limits.TheConstants.{LAST_TIME}
 use Rattle.ss_catalog.specs.declared.query.Query.{Query}
 use Rattle.ss_catalog.specs.declared.series.Series.{Series}
 

@@ -23,9 +23,6 @@ pub use refusal::Refusal;
 pub use series::{Series, rows_in};
 pub use stream_id::StreamId;
 
-/// A time is a whole number up to this one, in a unit of the caller's.
-pub const LAST_TIME: u64 = 1 << 62;
-
 /// A series has at most this many rows.
 pub const MOST_ROWS: u32 = 100_000;
 

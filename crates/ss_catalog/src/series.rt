@@ -2,7 +2,8 @@
 ghost use Rattle.std.specs.Prelude.{◌≡◌, ◌<◌, ◌≤◌};
 ghost use Rattle.ss_catalog.specs.Series.{IsSeriesInRange, row_count, row_query, rows_in};
 
-use crate::{Kind, LAST_TIME, Name, Query};
+use crate::{Kind, Name, Query};
+use ss_base::LAST_TIME;
 
 /// A query for the values of a stream whose times are `from` at the least and `to` at the most, in rows: each is about
 /// `step` times, one row after the other, and the last one about those that are left.

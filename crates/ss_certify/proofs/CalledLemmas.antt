@@ -4,7 +4,7 @@ use Rattle.std.specs.Prelude.{◌↔◌, IsTrue, IfSome, option_map}
 use Rattle.ss_catalog.specs.Queries.{adds_up}
 use Rattle.ss_catalog.specs.declared.query.End.{End}
 use Rattle.ss_catalog.specs.declared.query.Query.{Query}
-use Rattle.ss_contents.specs.Attained.{MayBeTrue}
+use Rattle.ss_laws.specs.Attained.{MayBeTrue}
 use Rattle.ss_model.specs.Answers.{outcome_of}
 use Rattle.ss_model.specs.Standing.{IsState, IsStream}
 use Rattle.ss_model.specs.State.{Stream, stream_named}

@@ -16,7 +16,8 @@ use Rattle.ss_catalog.specs.declared.query.End.TheVariants.{Lo, Hi}
 use Rattle.ss_catalog.specs.declared.query.Kind.{Kind}
 use Rattle.ss_catalog.specs.declared.query.Kind.TheVariants.{Count, Sum, Min, Max, Has, CountGuess, SumGuess}
 use Rattle.ss_model.specs.declared.types.Run.{Run}
-use Rattle.ss_query.specs.Asked.{HasCuts, IsCut, IsNear, counts_of, outcome_seen, sums_of}
+use Rattle.ss_query.specs.Asked.{HasCuts, IsCut, counts_of, outcome_seen, sums_of}
+use Rattle.ss_base.specs.Near.{IsNear}
 use Rattle.ss_query.proofs.NearSums.{held-near, held-three}
 use Rattle.ss_query.specs.declared.asking.Seen.{Seen}
 use Rattle.ss_query.specs.declared.cut.Cut.{Cut}

@@ -6,10 +6,10 @@ use Rattle.ss_catalog.specs.Queries.{adds_up}
 use Rattle.ss_catalog.specs.declared.query.End.{End}
 use Rattle.ss_catalog.specs.declared.query.End.TheVariants.{Lo, Hi}
 use Rattle.ss_catalog.specs.declared.query.Query.{Query}
-use Rattle.ss_contents.specs.Attained.{IsTruthOfLike, MayBeTrue}
-use Rattle.ss_contents.specs.Contents.{contents_of}
-use Rattle.ss_contents.specs.Moved.{MayBeCounted}
-use Rattle.ss_contents.proofs.MovedLemmas.{MayBeCounted-true}
+use Rattle.ss_laws.specs.Attained.{IsTruthOfLike, MayBeTrue}
+use Rattle.ss_laws.specs.Contents.{contents_of}
+use Rattle.ss_laws.specs.Moved.{MayBeCounted}
+use Rattle.ss_laws.proofs.MovedLemmas.{MayBeCounted-true}
 use Rattle.ss_model.specs.Answers.{outcome_of}
 use Rattle.ss_model.specs.State.{Stream, stream_named}
 use Rattle.ss_model.specs.declared.outcome.Outcome.{Outcome}

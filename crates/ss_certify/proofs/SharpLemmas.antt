@@ -16,9 +16,9 @@ use Rattle.ss_catalog.specs.declared.query.End.TheVariants.{Lo, Hi}
 use Rattle.ss_catalog.specs.declared.query.Kind.{Kind}
 use Rattle.ss_catalog.specs.declared.query.Kind.TheVariants as kinds
 use Rattle.ss_catalog.specs.declared.query.Query.{Query}
-use Rattle.ss_contents.specs.Attained.{MayBeTrue}
-use Rattle.ss_contents.specs.Sides.{AllFit, FitSplit, Sides, count_inside, sum_inside}
-use Rattle.ss_contents.proofs.ContentsLemmas.{MayBeTrue-count, MayBeTrue-sum}
+use Rattle.ss_laws.specs.Attained.{MayBeTrue}
+use Rattle.ss_laws.specs.Sides.{AllFit, FitSplit, Sides, count_inside, sum_inside}
+use Rattle.ss_laws.proofs.ContentsLemmas.{MayBeTrue-count, MayBeTrue-sum}
 use Rattle.ss_landmarks.specs.Free.{is_free}
 use Rattle.ss_landmarks.specs.Landmark.{Landmark}
 use Rattle.ss_model.specs.History.{Happened}

@@ -5,16 +5,16 @@ use Rattle.std.proofs.lemmas.Int.{ints}
 use Rattle.std.proofs.lemmas.List.Elements.{All-cons, All-head, All-nil, All-tail}
 use Rattle.std.proofs.lemmas.Option.{same_Some}
 use Rattle.ss_bounds.specs.Split.{SplitFigures, sum_interval}
-use Rattle.ss_windowing.specs.Windowing.{window_index}
+use Rattle.ss_targets.specs.Windowing.{window_index}
 use Rattle.ss_catalog.specs.declared.event.Event.TheVariants.{Create, Value}
 use Rattle.ss_catalog.specs.Params.{exp}
 use Rattle.ss_catalog.specs.declared.query.End.TheVariants.{Lo, Hi}
 use Rattle.ss_catalog.specs.declared.query.Kind.{Kind}
 use Rattle.ss_catalog.specs.declared.query.Kind.TheVariants as kinds
 use Rattle.ss_catalog.specs.declared.query.Query.{Query}
-use Rattle.ss_contents.specs.Attained.{MayBeTrue}
-use Rattle.ss_contents.specs.Contents.{contents_of, sum_in}
-use Rattle.ss_contents.proofs.ContentsLemmas.{sum_in-lies}
+use Rattle.ss_laws.specs.Attained.{MayBeTrue}
+use Rattle.ss_laws.specs.Contents.{contents_of, sum_in}
+use Rattle.ss_laws.proofs.ContentsLemmas.{sum_in-lies}
 use Rattle.ss_model.specs.History.{Happened, added}
 use Rattle.ss_model.specs.Answers.{outcome_of}
 use Rattle.ss_model.specs.Refusals.{IsHistory}

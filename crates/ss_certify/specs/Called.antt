@@ -3,7 +3,7 @@ use Rattle.std.specs.Prelude.{◌≡◌, ◌↔◌, Bool, true, IsTrue, IfOk, If
 use Rattle.std.specs.Option.{option_map}
 use Rattle.ss_catalog.specs.declared.query.End.{End}
 use Rattle.ss_catalog.specs.declared.query.Query.{Query}
-use Rattle.ss_contents.specs.Attained.{MayBeTrue}
+use Rattle.ss_laws.specs.Attained.{MayBeTrue}
 use Rattle.ss_model.specs.Answers.{outcome_of}
 use Rattle.ss_model.specs.State.{Stream, stream_named}
 use Rattle.ss_outside.specs.Crash.{OnlyReads}

@@ -2,7 +2,7 @@
 use Rattle.std.specs.Prelude.{◌≡◌, ◌⊎◌, ◌-◌, ◌≤◌, ℤ, ◌+ℤ◌, List, ◌++◌, length, Contains}
 use Rattle.ss_bounds.specs.Split.{SplitFigures, least_count, greatest_count}
 use Rattle.ss_bounds.specs.Truth.{AllBetween, total}
-use Rattle.ss_bounds.specs.declared.split.TheConstants.{MOST_VALUES}
+use Rattle.ss_base.specs.declared.limits.TheConstants.{MOST_VALUES}
 use Rattle.ss_certify.specs.Runs.{HaveValues, LieBetween, Occurs, run_count, run_total, values_of_runs}
 use Rattle.ss_query.specs.declared.cut.Cut.{Cut}
 use Rattle.ss_certify.specs.declared.evidence.Cert.{Cert}

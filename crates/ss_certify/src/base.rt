@@ -1,22 +1,24 @@
 // What an answer is made of: what is known exactly, and what the values of a certificate add to it.
 ghost use Rattle.std.specs.Prelude.{◌≡◌, ◌^◌, ◌<◌, ◌≤◌, pos, unsigned_abs};
-ghost use Rattle.ss_summary.specs.declared.summary.TheConstants.{GREATEST_COUNT};
+ghost use Rattle.ss_base.specs.declared.limits.TheConstants.{MOST_VALUES};
 ghost use Rattle.std.specs.Option.{option_map_or};
-ghost use Rattle.ss_query.specs.Asked.{IsFewMarked, IsNear};
+ghost use Rattle.ss_query.specs.Asked.{IsFewMarked};
+ghost use Rattle.ss_base.specs.Near.{IsNear};
 ghost use Rattle.ss_certify.specs.Evidence.{base_of, certified_part};
 ghost use Rattle.ss_certify.specs.Checked.{HasFewInside};
 ghost use Rattle.ss_summary.specs.Figures.{Figures};
 
 use crate::Cert;
 use crate::runs::total;
+use ss_base::MOST_VALUES;
 use ss_catalog::Kind;
 use ss_query::Seen;
-use ss_summary::{GREATEST_COUNT, Summary};
+use ss_summary::Summary;
 
 // How many values the windows have that lie whole in the range.
 fn whole_count(whole: Option<Summary>) -> u64
     ensures value { result ≡ option_map_or (λ (f : Figures). f.count) whole 0 }
-    ensures few { result ≤ GREATEST_COUNT }
+    ensures few { result ≤ MOST_VALUES }
 {
     match whole {
         None => 0,

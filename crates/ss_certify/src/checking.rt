@@ -1,7 +1,7 @@
 // Whether a certificate is of a window, and right.
 ghost use Rattle.std.specs.Prelude.{◌≡◌, ◌↔◌, ◌+◌, ◌-◌, ◌≤◌, ◌+ℤ◌, ◌⊎◌, IsTrue};
 ghost use Rattle.ss_bounds.specs.Split.{least_count, greatest_count};
-ghost use Rattle.ss_bounds.specs.declared.split.TheConstants.{MOST_VALUES};
+ghost use Rattle.ss_base.specs.declared.limits.TheConstants.{MOST_VALUES};
 ghost use Rattle.ss_certify.specs.Checked.{Certifies, HasFewInside, HasValues, IsOf};
 ghost use Rattle.ss_certify.specs.Runs.{HaveValues, LieBetween, Occurs, run_count, run_total};
 

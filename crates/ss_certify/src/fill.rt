@@ -4,7 +4,7 @@ ghost use Rattle.arrayvec.specs.ArrayVec.{array_vec_len};
 ghost use Rattle.ss_certify.specs.Fill.{fill, raised, run_before};
 
 use arrayvec::ArrayVec;
-use ss_bounds::MOST_VALUES;
+use ss_base::MOST_VALUES;
 use ss_model::Run;
 
 // A run more, unless it has no value.

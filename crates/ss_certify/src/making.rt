@@ -3,7 +3,8 @@ ghost use Rattle.std.specs.Prelude.{◌≡◌, ◌<◌, ◌≤◌, ◌+◌, ◌+
 ghost use Rattle.arrayvec.specs.ArrayVec.{array_vec_len};
 ghost use Rattle.ss_bounds.specs.Extremes.{listed};
 ghost use Rattle.ss_bounds.specs.Parted.{CanBeParted};
-ghost use Rattle.ss_query.specs.Asked.{IsFewMarked, IsNear};
+ghost use Rattle.ss_query.specs.Asked.{IsFewMarked};
+ghost use Rattle.ss_base.specs.Near.{IsNear};
 ghost use Rattle.ss_certify.specs.Checked.{HasFewInside};
 ghost use Rattle.ss_certify.specs.Evidence.{certified_sum};
 ghost use Rattle.ss_certify.specs.Made.{attaining, certificate_of, certificate_with, evidence_of, inside_sum};

@@ -1,9 +1,9 @@
 // What some runs say of their values.
 ghost use Rattle.std.specs.Prelude.{◌≡◌, ◌↔◌, ◌*◌, ◌^◌, ◌≤◌, ◌≤ℤ◌, length, unsigned_abs, IsTrue};
-ghost use Rattle.ss_bounds.specs.declared.split.TheConstants.{MOST_VALUES};
+ghost use Rattle.ss_base.specs.declared.limits.TheConstants.{MOST_VALUES};
 ghost use Rattle.ss_certify.specs.Runs.{HaveValues, LieBetween, Occurs, run_count, run_total};
 
-use ss_bounds::MOST_VALUES;
+use ss_base::MOST_VALUES;
 use ss_model::Run;
 
 /// The most runs that are looked at together.

@@ -2,8 +2,8 @@
 ghost use Rattle.std.specs.Prelude.{◌≡◌, ℕ, ℤ, pos, List, Some};
 ghost use Rattle.ss_catalog.specs.declared.query.End.{End};
 ghost use Rattle.ss_catalog.specs.declared.query.Query.{Query};
-ghost use Rattle.ss_contents.specs.Attained.{MayBeTrue};
-ghost use Rattle.ss_contents.specs.Moved.{MayBeCounted};
+ghost use Rattle.ss_laws.specs.Attained.{MayBeTrue};
+ghost use Rattle.ss_laws.specs.Moved.{MayBeCounted};
 ghost use Rattle.ss_model.specs.Answers.{outcome_of};
 ghost use Rattle.ss_model.specs.Standing.{IsStream};
 ghost use Rattle.ss_model.specs.State.{Stream, stream_named};

@@ -13,13 +13,13 @@ use Rattle.ss_fields.specs.Fields.{number_at}
 use Rattle.ss_fields.proofs.FieldLemmas.{number_at-take, i64_at-take, i128_at-take}
 use Rattle.ss_summary.specs.Figures.{Figures, IsPossible}
 use Rattle.ss_summary.specs.Possible.{is_possible, fits_i64}
-use Rattle.ss_summary.specs.declared.summary.TheConstants.{GREATEST_COUNT}
+use Rattle.ss_base.specs.declared.limits.TheConstants.{MOST_VALUES}
 use Rattle.ss_summary.proofs.SummaryLemmas.{IsPossible-sum}
 use Rattle.ss_summary.proofs.PossibleLemmas.{fits-true, is_possible-tells, true-fits}
 use Rattle.ss_catalog.specs.Names.{is_name}
 use Rattle.ss_catalog.proofs.NameLemmas.{length-is_name}
 use Rattle.ss_catalog.specs.Params.{in_range, step_number}
-use Rattle.ss_catalog.specs.declared.TheConstants.{LAST_TIME}
+use Rattle.ss_base.specs.declared.limits.TheConstants.{LAST_TIME}
 use Rattle.ss_catalog.specs.declared.params.Params.{Params}
 use Rattle.ss_codec.specs.declared.record.Record.{Record}
 use Rattle.ss_codec.specs.declared.record.Record.TheVariants.{Free, Stream, Window, Landmark, Value}
@@ -75,7 +75,7 @@ is_valid-IsStream id name params dropped number named ranged step_fits =
 pub record IsWindow (id first : ℕ) (f : Figures) : Type 0 where
   pub number : id < 2 ^ 32
   pub low : 1 ≤ first
-  pub high : first + f.count - 1 ≤ GREATEST_COUNT
+  pub high : first + f.count - 1 ≤ MOST_VALUES
   pub possible : IsPossible f
 
 pub IsWindow-is_valid : (id first : ℕ) (f : Figures) → is_valid (Window id first f) ≡ true → IsWindow id first f
@@ -89,7 +89,7 @@ IsWindow-is_valid id first f valid =
       possible = (is_possible-tells f).0 test;
     }
 
-pub is_valid-IsWindow : (id first : ℕ) (f : Figures) → id < 2 ^ 32 → 1 ≤ first → first + f.count - 1 ≤ GREATEST_COUNT → IsPossible f
+pub is_valid-IsWindow : (id first : ℕ) (f : Figures) → id < 2 ^ 32 → 1 ≤ first → first + f.count - 1 ≤ MOST_VALUES → IsPossible f
     → is_valid (Window id first f) ≡ true
 unfolding is_valid
 is_valid-IsWindow id first f number low high possible =

@@ -3,10 +3,11 @@ use Rattle.std.specs.Prelude.{◌≡◌, ℕ, ◌-◌, ◌^◌, pos, negsuc, fal
 use Rattle.std.proofs.Common.{refl}
 use Rattle.ss_fields.specs.Fields as Numbers
 use Rattle.ss_catalog.specs.Names as Names
-use Rattle.ss_summary.specs.declared.summary.TheConstants.{LATEST_TIME}
-use Rattle.ss_catalog.specs.declared.TheConstants.{LAST_TIME}
+use Rattle.ss_base.specs.declared.limits.TheConstants.{LAST_TIME}
+use Rattle.ss_base.specs.declared.limits.TheConstants.{LAST_TIME}
 use Rattle.ss_catalog.specs.Params.{exp as Exp, power as Power}
-use Rattle.ss_codec.specs.declared.record.TheConstants.{SLOT_SIZE, STREAM, LANDMARK, VALUE, EXPONENTIAL, POWER_LAW, OPEN, CLOSED, NAME}
+use Rattle.ss_codec.specs.declared.record.TheConstants.{STREAM, LANDMARK, VALUE, EXPONENTIAL, POWER_LAW, OPEN, CLOSED, NAME}
+use Rattle.ss_base.specs.declared.limits.TheConstants.{SLOT_SIZE}
 use Rattle.ss_codec.specs.declared.record.Record.{Record}
 use Rattle.ss_codec.specs.declared.record.Record.TheVariants.{Free, Stream, Landmark, Value}
 use Rattle.ss_codec.specs.Fields as Fields
@@ -27,7 +28,7 @@ states : OPEN ∷ CLOSED ∷ [] ≡ 1 ∷ 2 ∷ []
 states = refl
 
 -- the last time of an event is the latest of a window
-last_time : LAST_TIME ≡ LATEST_TIME
+last_time : LAST_TIME ≡ LAST_TIME
 last_time = refl
 
 -- a number below 256 in 8 bytes

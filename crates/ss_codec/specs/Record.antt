@@ -5,14 +5,14 @@ use Rattle.std.specs.List.{list_all}
 use Rattle.ss_summary.specs.Filters.{word}
 use Rattle.ss_summary.specs.Possible.{is_possible, fits_i64}
 use Rattle.ss_summary.specs.declared.filter.Filter.{Filter}
-use Rattle.ss_summary.specs.declared.summary.TheConstants.{GREATEST_COUNT}
+use Rattle.ss_base.specs.declared.limits.TheConstants.{MOST_VALUES}
 use Rattle.ss_catalog.specs.Names.{is_name}
 use Rattle.ss_catalog.specs.Params.{in_range, step_number}
-use Rattle.ss_catalog.specs.declared.TheConstants.{LAST_TIME}
+use Rattle.ss_base.specs.declared.limits.TheConstants.{LAST_TIME}
 use Rattle.ss_catalog.specs.declared.params.Params.{Params}
 use Rattle.ss_catalog.specs.declared.params.Family.{Family}
 use Rattle.ss_catalog.specs.declared.params.Family.TheVariants.{Exp, Power}
-use Rattle.ss_codec.specs.declared.record.TheConstants.{SLOT_SIZE}
+use Rattle.ss_base.specs.declared.limits.TheConstants.{SLOT_SIZE}
 use Rattle.ss_codec.specs.declared.record.Record.{Record}
 use Rattle.ss_codec.specs.declared.record.Record.TheVariants.{Free, Stream, Window, Landmark, Value}
 use Rattle.ss_codec.specs.Fields.{Field, u8, u32, u64, i64, i128, text, with_fields}
@@ -36,7 +36,7 @@ unfoldable pub is_valid : Record → Bool
 is_valid Free = true
 is_valid (Stream id name params dropped) = nat_lt id (2 ^ 32) && is_name name && in_range params && has_small_step params
 is_valid (Window id first summary) =
-    nat_lt id (2 ^ 32) && nat_le 1 first && nat_le (first + summary.count - 1) GREATEST_COUNT && is_possible summary
+    nat_lt id (2 ^ 32) && nat_le 1 first && nat_le (first + summary.count - 1) MOST_VALUES && is_possible summary
 is_valid (Landmark id number values start finish) = nat_lt id (2 ^ 32) && counts_from_1 number && is_interval values start finish
 is_valid (Value id number index t v) =
     nat_lt id (2 ^ 32) && counts_from_1 number && counts_from_1 index && nat_le t LAST_TIME && fits_i64 v

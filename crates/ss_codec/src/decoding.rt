@@ -9,12 +9,13 @@ ghost use Rattle.ss_codec.specs.Decoded.{params_in, record_in, stream_in, value_
 
 use crate::encoding::{encode, is_full};
 use crate::record::{
-    ALL_BITS, BY_WORDS, CLOSED, DROPPED, EXPONENTIAL, LANDMARK, NAME, Record, SLOT_SIZE, STEP,
-    STREAM, VALUE, WINDOW,
+    ALL_BITS, BY_WORDS, CLOSED, DROPPED, EXPONENTIAL, LANDMARK, NAME, Record, STEP, STREAM, VALUE,
+    WINDOW,
 };
-use ss_catalog::{Family, LAST_TIME, LONGEST_NAME, Name, Params};
+use ss_base::{LAST_TIME, MOST_VALUES, SLOT_SIZE};
+use ss_catalog::{Family, LONGEST_NAME, Name, Params};
 use ss_fields::{get_i64, get_i128, get_u32, get_u64};
-use ss_summary::{Filter, GREATEST_COUNT, Summary};
+use ss_summary::{Filter, Summary};
 
 // The family in some bytes: byte 1 says which it is, and from `place` on stand its numbers.
 fn family_in(bytes: &[u8], place: usize) -> Family
@@ -119,10 +120,10 @@ fn summary_in(bytes: &[u8; SLOT_SIZE]) -> Option<Summary>
 // Whether so many values may begin at this position.
 fn are_positions(first: u64, count: u64) -> bool
     requires some { 1 ≤ count }
-    requires few { count ≤ GREATEST_COUNT }
-    ensures { result ≡ (nat_le 1 first && nat_le (first + count - 1) GREATEST_COUNT) }
+    requires few { count ≤ MOST_VALUES }
+    ensures { result ≡ (nat_le 1 first && nat_le (first + count - 1) MOST_VALUES) }
 {
-    1 <= first && first <= GREATEST_COUNT && first + count - 1 <= GREATEST_COUNT
+    1 <= first && first <= MOST_VALUES && first + count - 1 <= MOST_VALUES
 }
 
 // The window's record in the bytes, if it is a valid one.

@@ -8,8 +8,9 @@ ghost use Rattle.ss_codec.specs.Record.{word_spelled};
 use crate::fields::{write_i64, write_i128, write_text, write_u8, write_u32, write_u64};
 use crate::record::{
     ALL_BITS, BY_WORDS, CLOSED, DROPPED, EXPONENTIAL, LANDMARK, NAME, OPEN, POWER_LAW, Record,
-    SLOT_SIZE, STANDING, STEP, STREAM, VALUE, WINDOW,
+    STANDING, STEP, STREAM, VALUE, WINDOW,
 };
+use ss_base::SLOT_SIZE;
 use ss_catalog::{Family, LONGEST_NAME, Name, Params};
 use ss_summary::{Filter, Summary};
 

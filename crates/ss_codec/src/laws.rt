@@ -2,12 +2,12 @@
 ghost use Rattle.std.specs.Prelude.{◌≡◌, ◌↔◌, ℕ, ◌+◌, ◌-◌, ◌^◌, ◌<◌, ◌≤◌, Bool, ℤ, FitsSigned, List, replicate, IsTrue, Option, Some, MatchOption};
 ghost use Rattle.std.specs.Int.{w64};
 ghost use Rattle.ss_summary.specs.Figures.{Figures, IsPossible};
-ghost use Rattle.ss_summary.specs.declared.summary.TheConstants.{GREATEST_COUNT};
+ghost use Rattle.ss_base.specs.declared.limits.TheConstants.{MOST_VALUES};
 ghost use Rattle.ss_catalog.specs.Names.{is_name};
 ghost use Rattle.ss_catalog.specs.Params.{in_range, step_number};
-ghost use Rattle.ss_catalog.specs.declared.TheConstants.{LAST_TIME};
+ghost use Rattle.ss_base.specs.declared.limits.TheConstants.{LAST_TIME};
 ghost use Rattle.ss_catalog.specs.declared.params.Params.{Params};
-ghost use Rattle.ss_codec.specs.declared.record.TheConstants.{SLOT_SIZE};
+ghost use Rattle.ss_base.specs.declared.limits.TheConstants.{SLOT_SIZE};
 ghost use Rattle.ss_codec.specs.declared.record.Record.{Record};
 ghost use Rattle.ss_codec.specs.declared.record.Record.TheVariants.{Free, Stream, Window, Landmark, Value};
 ghost use Rattle.ss_codec.specs.Record.{is_valid, spelling, Spells};
@@ -42,7 +42,7 @@ pub fn which_streams_are_valid()
 /// What a valid window is.
 pub fn which_windows_are_valid()
     ensures { (id first : ℕ) (f : Figures) → IsTrue (is_valid (Window id first f))
-        ↔ ((id < 2 ^ 32) × (1 ≤ first) × (first + f.count - 1 ≤ GREATEST_COUNT) × IsPossible f) }
+        ↔ ((id < 2 ^ 32) × (1 ≤ first) × (first + f.count - 1 ≤ MOST_VALUES) × IsPossible f) }
 {}
 
 /// What a valid landmark is. One that is open has no count of its values yet.

@@ -15,4 +15,4 @@ pub use laws::{
     which_landmarks_are_valid, which_streams_are_valid, which_values_are_valid,
     which_windows_are_valid,
 };
-pub use record::{Record, SLOT_SIZE};
+pub use record::Record;

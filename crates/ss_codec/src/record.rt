@@ -2,9 +2,6 @@
 use ss_catalog::{Name, Params};
 use ss_summary::Summary;
 
-/// The bytes of a slot.
-pub const SLOT_SIZE: usize = 128;
-
 // The first byte of a record says its kind. In a free slot it is 0.
 pub const STREAM: u8 = 1;
 

@@ -10,7 +10,8 @@ use Rattle.ss_catalog.proofs.NameLemmas.{length-is_name}
 use Rattle.ss_catalog.specs.Names.{is_name}
 use Rattle.ss_catalog.specs.Queries.{IsKindOfValues, adds_up, end_name, is_guess, kind_name, query_verb, series_verb}
 use Rattle.ss_catalog.specs.Series.{IsSeriesInRange, rows_in}
-use Rattle.ss_catalog.specs.declared.TheConstants.{LAST_TIME, MOST_ROWS}
+use Rattle.ss_catalog.specs.declared.TheConstants.{MOST_ROWS}
+use Rattle.ss_base.specs.declared.limits.TheConstants.{LAST_TIME}
 use Rattle.ss_catalog.specs.declared.series.Series.{Series}
 use Rattle.ss_catalog.specs.declared.event.Event.TheVariants.{Create, Value, Open, Close, Drop}
 use Rattle.ss_catalog.specs.declared.params.Family.{Family}

@@ -15,7 +15,8 @@ use Rattle.ss_command.specs.Grammar.{meaning, verb_of}
 use Rattle.ss_command.specs.Lines.{ended_lines, lines, unended}
 use Rattle.ss_command.specs.Printed.{printed}
 use Rattle.ss_command.specs.Words.{words}
-use Rattle.ss_command.specs.declared.TheConstants.{LINE_END, CARRIAGE_RETURN, LONGEST_LINE, COMMENT, MOST_SESSIONS}
+use Rattle.ss_command.specs.declared.TheConstants.{LINE_END, CARRIAGE_RETURN, LONGEST_LINE, COMMENT}
+use Rattle.ss_base.specs.declared.limits.TheConstants.{MOST_SESSIONS}
 use Rattle.ss_command.specs.declared.line_reader.TheConstants.{MOST_BYTES_KEPT}
 use Rattle.ss_command.specs.declared.command.Command.{Command}
 use Rattle.ss_command.specs.declared.command.Command.TheVariants as commands

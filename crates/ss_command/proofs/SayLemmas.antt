@@ -9,7 +9,8 @@ use Rattle.ss_fields.specs.declared.number_error.NumberError.{NumberError}
 use Rattle.ss_catalog.specs.Names.{is_name}
 use Rattle.ss_catalog.specs.Queries.{IsKindOfValues, adds_up}
 use Rattle.ss_catalog.specs.Series.{rows_in}
-use Rattle.ss_catalog.specs.declared.TheConstants.{LAST_TIME, MOST_ROWS}
+use Rattle.ss_catalog.specs.declared.TheConstants.{MOST_ROWS}
+use Rattle.ss_base.specs.declared.limits.TheConstants.{LAST_TIME}
 use Rattle.ss_catalog.specs.declared.event.Event.TheVariants.{Create, Value, Open, Close, Drop}
 use Rattle.ss_catalog.specs.declared.params.Family.TheVariants.{Exp, Power}
 use Rattle.ss_catalog.specs.declared.query.Kind.{Kind}

@@ -13,7 +13,7 @@ use Rattle.std.specs.Int.{w64}
 use Rattle.std.specs.List.{All, list_all}
 use Rattle.ss_fields.proofs.WordLemmas.{signed_of-signed_decimal, unsigned_of-decimal}
 use Rattle.ss_catalog.specs.Names.{is_name, is_name_byte}
-use Rattle.ss_catalog.specs.declared.TheConstants.{LAST_TIME}
+use Rattle.ss_base.specs.declared.limits.TheConstants.{LAST_TIME}
 use Rattle.ss_command.proofs.GrammarLemmas.{meaning-words}
 use Rattle.ss_command.proofs.NumberLemmas.{or_number-Ok}
 use Rattle.ss_command.proofs.PutLemmas.{length-with_word}

@@ -34,6 +34,3 @@ pub const LONGEST_LINE: usize = 256;
 
 /// A line that begins with this byte is no command.
 pub const COMMENT: u8 = b'#';
-
-/// So many sessions can speak on one input. Their numbers begin with 0, and each is one digit.
-pub const MOST_SESSIONS: u8 = 8;

@@ -4,7 +4,8 @@ ghost use Rattle.ss_catalog.specs.Series.{rows_in};
 ghost use Rattle.ss_fields.specs.Words.{number_up_to};
 ghost use Rattle.ss_command.specs.Grammar.{or_number, time_of, series_step_of, value_of, parameter_of, name_of, within_of};
 
-use ss_catalog::{LAST_TIME, MOST_ROWS, Name, Refusal, rows_in};
+use ss_base::LAST_TIME;
+use ss_catalog::{MOST_ROWS, Name, Refusal, rows_in};
 use ss_fields::{read_i64, read_u64};
 
 // A number of digits up to `most`.

@@ -3,7 +3,7 @@ ghost use Rattle.std.specs.Prelude.{◌≡◌, ◌≤◌, [], true, false, Ok, S
 ghost use Rattle.ss_catalog.specs.Events.{IsInTime};
 ghost use Rattle.ss_catalog.specs.Queries.{IsQueryInTime, adds_up};
 ghost use Rattle.ss_catalog.specs.Series.{IsSeriesInRange};
-ghost use Rattle.ss_catalog.specs.declared.TheConstants.{LAST_TIME};
+ghost use Rattle.ss_base.specs.declared.limits.TheConstants.{LAST_TIME};
 ghost use Rattle.ss_command.specs.Grammar.{meaning};
 ghost use Rattle.ss_command.specs.Printed.{IsCommandInTime, IsSayable, printed, takes_value};
 ghost use Rattle.ss_command.specs.declared.command.Command.TheVariants as commands;

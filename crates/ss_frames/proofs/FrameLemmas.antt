@@ -16,7 +16,7 @@ use Rattle.ss_summary.proofs.PossibleLemmas.{fits-true, true-fits}
 use Rattle.ss_catalog.specs.Names.{is_name}
 use Rattle.ss_catalog.specs.Params.{in_range, step_number}
 use Rattle.ss_catalog.specs.Events.{event_name, IsInTime}
-use Rattle.ss_catalog.specs.declared.TheConstants.{LAST_TIME}
+use Rattle.ss_base.specs.declared.limits.TheConstants.{LAST_TIME}
 use Rattle.ss_catalog.specs.declared.event.Event.{Event}
 use Rattle.ss_catalog.specs.declared.event.Event.TheVariants.{Create, Value, Open, Close, Drop}
 use Rattle.ss_catalog.proofs.NameLemmas.{length-is_name}

@@ -3,7 +3,7 @@ use Rattle.std.specs.Prelude.{◌≡◌, ℕ, ◌-◌, ◌^◌, List, [], ◌∷
 use Rattle.std.proofs.Common.{refl}
 use Rattle.ss_fields.specs.Fields as Numbers
 use Rattle.ss_catalog.specs.Names as Names
-use Rattle.ss_catalog.specs.declared.TheConstants.{LAST_TIME}
+use Rattle.ss_base.specs.declared.limits.TheConstants.{LAST_TIME}
 use Rattle.ss_catalog.specs.declared.event.Event.TheVariants.{Create, Value, Open, Close, Drop}
 use Rattle.ss_catalog.specs.Params.{exp as Exp, power as Power}
 use Rattle.ss_codec.specs.Fields as Fields

@@ -5,7 +5,8 @@ ghost use Rattle.ss_catalog.specs.Params.{in_range};
 ghost use Rattle.ss_codec.specs.Record.{has_small_step};
 ghost use Rattle.ss_frames.specs.Frame.{is_later, is_valid_frame};
 
-use ss_catalog::{Event, LAST_TIME, Name, Params};
+use ss_base::LAST_TIME;
+use ss_catalog::{Event, Name, Params};
 use ss_codec::step_number;
 use std::marker::Model;
 

@@ -8,7 +8,8 @@ ghost use Rattle.ss_generator.specs.Commands.{ask, create, stream};
 ghost use Rattle.ss_generator.specs.Left.{from_question};
 
 use crate::phase::Question;
-use ss_catalog::{Event, Family, Kind, LAST_TIME, Name, Params, Query};
+use ss_base::LAST_TIME;
+use ss_catalog::{Event, Family, Kind, Name, Params, Query};
 use ss_command::Command;
 
 // The stream of all commands.

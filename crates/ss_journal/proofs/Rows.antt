@@ -8,7 +8,8 @@ use Rattle.ss_journal.proofs.Common.{stands, bad_entry, not_a_store, redo_entrie
 use Rattle.ss_journal.proofs.NewestLemmas.{DoAs-added, DoAs-none}
 use Rattle.ss_fields.specs.Fields as Fields
 use Rattle.ss_outside.specs.Verdict.{no_memory}
-use Rattle.ss_journal.specs.declared.format.TheConstants.{GATE_OPEN, MAGIC_END, ENTRIES, ENTRY_SIZE, FIRST_ENTRY, MOST_PUTS, PUT_SIZE, MOST_WAITING, SLOT_SIZE}
+use Rattle.ss_journal.specs.declared.format.TheConstants.{GATE_OPEN, MAGIC_END, ENTRIES, ENTRY_SIZE, FIRST_ENTRY, MOST_PUTS, PUT_SIZE, MOST_WAITING}
+use Rattle.ss_base.specs.declared.limits.TheConstants.{SLOT_SIZE}
 use Rattle.ss_journal.specs.declared.format.TheConstants.{MOST_SLOTS, FIRST_SLOT, FILE_END, PAGE_SLOTS, PAGE_SIZE, MOST_PAGES}
 use Rattle.ss_journal.specs.Calls.{verdict_of_open}
 use Rattle.ss_checksum.specs.Checksum as Checksum

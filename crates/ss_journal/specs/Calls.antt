@@ -8,7 +8,8 @@ use Rattle.ss_outside.specs.Disk.{Told, NothingPending, SyncsAtMost}
 use Rattle.ss_journal.specs.declared.put.Put.{Put}
 use Rattle.ss_journal.specs.declared.journal_error.JournalError.{JournalError}
 use Rattle.ss_journal.specs.declared.journal_error.JournalError.TheVariants.{Disk, NotAStore, BadEntry, OutOfMemory}
-use Rattle.ss_journal.specs.declared.format.TheConstants.{ENTRIES, PAGE_SLOTS, SLOT_SIZE}
+use Rattle.ss_journal.specs.declared.format.TheConstants.{ENTRIES, PAGE_SLOTS}
+use Rattle.ss_base.specs.declared.limits.TheConstants.{SLOT_SIZE}
 use Rattle.ss_journal.specs.declared.kind.Kind.TheVariants.{Checked}
 use Rattle.ss_journal.specs.Birth.{has_no_kind}
 use Rattle.ss_journal.specs.Format.{is_unborn, is_born, is_plain, kind_of}

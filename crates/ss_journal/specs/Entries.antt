@@ -4,7 +4,8 @@ use Rattle.std.specs.Prelude.{flat_map}
 use Rattle.std.specs.List.{list_all, range_with_len}
 use Rattle.ss_fields.specs.Fields.{number_at, number_bytes}
 use Rattle.ss_journal.specs.declared.put.Put.{Put}
-use Rattle.ss_journal.specs.declared.format.TheConstants.{ENTRIES, ENTRY_SIZE, MOST_PUTS, PUT_SIZE, SLOT_SIZE}
+use Rattle.ss_journal.specs.declared.format.TheConstants.{ENTRIES, ENTRY_SIZE, MOST_PUTS, PUT_SIZE}
+use Rattle.ss_base.specs.declared.limits.TheConstants.{SLOT_SIZE}
 use Rattle.ss_journal.specs.Gates.{is_open}
 use Rattle.ss_journal.specs.Checks.{entry_in}
 use Rattle.ss_journal.specs.Puts.{slots_rise_from, slots_fit}

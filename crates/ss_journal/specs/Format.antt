@@ -2,7 +2,8 @@
 use Rattle.std.specs.Prelude.{if◌then◌else◌, ℕ, ◌+◌, ◌-◌, ◌*◌, ◌/◌, min, Bool, not, ◌&&◌, ◌||◌, ◌==◌, nat_eq, nat_le, List, [], ◌∷◌, length, take}
 use Rattle.std.specs.Prelude.{drop, slice_index, IsTrue}
 use Rattle.std.specs.List.{starts_with}
-use Rattle.ss_journal.specs.declared.format.TheConstants.{ENTRY_SIZE, FIRST_SLOT, SLOT_SIZE, MOST_SLOTS}
+use Rattle.ss_journal.specs.declared.format.TheConstants.{ENTRY_SIZE, FIRST_SLOT, MOST_SLOTS}
+use Rattle.ss_base.specs.declared.limits.TheConstants.{SLOT_SIZE}
 use Rattle.ss_journal.specs.declared.kind.Kind.{Kind}
 use Rattle.ss_journal.specs.declared.kind.Kind.TheVariants.{Plain, Checked}
 use Rattle.ss_journal.specs.Gates.{opens, entry_place, IsClosed}

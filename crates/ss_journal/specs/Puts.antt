@@ -2,7 +2,8 @@
 use Rattle.std.specs.Prelude.{◌≡◌, ℕ, ◌+◌, ◌<◌, ◌≤◌, Bool, true, ◌&&◌, nat_eq, nat_lt, nat_le, if◌then◌else◌, IsTrue, IsFalse, All, List, [], ◌∷◌, length}
 use Rattle.std.specs.List.{list_any}
 use Rattle.ss_journal.specs.declared.put.Put.{Put}
-use Rattle.ss_journal.specs.declared.format.TheConstants.{MOST_PUTS, SLOT_SIZE, MOST_SLOTS}
+use Rattle.ss_journal.specs.declared.format.TheConstants.{MOST_PUTS, MOST_SLOTS}
+use Rattle.ss_base.specs.declared.limits.TheConstants.{SLOT_SIZE}
 
 -- the map with the put's bytes in its slot
 abbrev pub with_put : Put → (ℕ → List ℕ) → ℕ → List ℕ

@@ -4,7 +4,8 @@ use Rattle.ss_journal.specs.declared.put.Put.{Put}
 use Rattle.ss_journal.specs.Checks.{slot_in}
 use Rattle.ss_journal.specs.Format.{is_unborn, is_born, kind_of, slots_in}
 use Rattle.ss_journal.specs.declared.kind.Kind.{Kind}
-use Rattle.ss_journal.specs.declared.format.TheConstants.{SLOT_SIZE, MOST_SLOTS}
+use Rattle.ss_journal.specs.declared.format.TheConstants.{MOST_SLOTS}
+use Rattle.ss_base.specs.declared.limits.TheConstants.{SLOT_SIZE}
 use Rattle.ss_journal.specs.Puts.{with_puts, extent_after, AgreeBeside}
 use Rattle.ss_journal.specs.Newest.{DoAs}
 use Rattle.ss_journal.specs.Entries.{puts_of, is_good, open_prefix, entries}

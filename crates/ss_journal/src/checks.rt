@@ -3,8 +3,9 @@ ghost use Rattle.std.specs.Prelude.{◌≡◌, ◌+◌, ◌≤◌, ◌++◌, len
 ghost use Rattle.ss_journal.specs.declared.kind.Kind.TheVariants.{Checked};
 ghost use Rattle.ss_journal.specs.Checks.{check_of, entry_form, masked_from, slot_form};
 
-use crate::format::{ENTRY_SIZE, SLOT_SIZE};
+use crate::format::ENTRY_SIZE;
 use crate::kind::Kind;
+use ss_base::SLOT_SIZE;
 use ss_checksum::checksum;
 use ss_fields::put_u32;
 

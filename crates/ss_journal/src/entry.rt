@@ -4,8 +4,9 @@ ghost use Rattle.std.specs.List.{list_all};
 ghost use Rattle.ss_journal.specs.Puts.{slots_rise_from, slots_fit, extent_after, FillSlots, IsTxn};
 ghost use Rattle.ss_journal.specs.Entries.{put_at, puts_of, is_good, put_count, put_bytes, entry_body};
 
-use crate::format::{ENTRY_SIZE, MOST_PUTS, MOST_SLOTS, PUT_SIZE, SLOT_SIZE};
+use crate::format::{ENTRY_SIZE, MOST_PUTS, MOST_SLOTS, PUT_SIZE};
 use crate::put::{Put, Txn};
+use ss_base::SLOT_SIZE;
 use ss_fields::{get_u32, put_u32};
 
 // Where the put begins in an entry, after the gate and the count.

@@ -4,6 +4,7 @@ ghost use Rattle.ss_journal.specs.Gates.{entry_place};
 ghost use Rattle.ss_journal.specs.Format.{magic, slot_place, slots_in};
 
 use crate::kind::Kind;
+use ss_base::SLOT_SIZE;
 
 // A gate with this byte is open, and closed with any other.
 pub const GATE_OPEN: u8 = 0xA5;
@@ -35,9 +36,6 @@ pub const MOST_WAITING: usize = 256;
 
 // How many bytes all entries have.
 pub const ENTRIES_SIZE: usize = 34_816;
-
-/// How many bytes a slot has.
-pub const SLOT_SIZE: usize = 128;
 
 /// How many slots a file has at most. They are numbered from 0.
 pub const MOST_SLOTS: u32 = 1 << 20;

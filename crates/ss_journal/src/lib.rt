@@ -24,7 +24,6 @@ mod writing;
 
 pub use format::{
     ENTRY_SIZE, FIRST_ENTRY, FIRST_SLOT, MOST_PAGES, MOST_PUTS, MOST_SLOTS, PAGE_SIZE, PAGE_SLOTS,
-    SLOT_SIZE,
 };
 pub use journal::Journal;
 pub use journal_error::JournalError;

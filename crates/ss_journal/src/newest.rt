@@ -2,8 +2,9 @@
 ghost use Rattle.std.specs.Prelude.{◌≡◌, ◌<◌, ◌≤◌, All, IsTrue, drop, length, take};
 ghost use Rattle.ss_journal.specs.Puts.{slots_rise_from};
 
-use crate::format::{MOST_SLOTS, MOST_WAITING, SLOT_SIZE};
+use crate::format::{MOST_SLOTS, MOST_WAITING};
 use crate::put::Put;
+use ss_base::SLOT_SIZE;
 use std::alloc::{AllocError, Global};
 use std::marker::Model;
 

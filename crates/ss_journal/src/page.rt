@@ -4,8 +4,9 @@ ghost use Rattle.ss_journal.specs.Calls.{slot_in_page};
 ghost use Rattle.ss_journal.specs.Checks.{slot_form};
 
 use crate::checks::slot_form;
-use crate::format::{MOST_PAGES, PAGE_SIZE, PAGE_SLOTS, SLOT_SIZE};
+use crate::format::{MOST_PAGES, PAGE_SIZE, PAGE_SLOTS};
 use crate::kind::Kind;
+use ss_base::SLOT_SIZE;
 use std::marker::Model;
 
 // How many slots a page has, as an array counts them.

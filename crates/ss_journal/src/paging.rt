@@ -8,9 +8,10 @@ ghost use Rattle.ss_journal.specs.Puts.{with_put, with_puts};
 ghost use Rattle.ss_journal.specs.Redo.{zeros};
 ghost use Rattle.ss_journal.specs.Steps.{Finds};
 
-use crate::format::{MOST_PAGES, PAGE_SIZE, PAGE_SLOTS, SLOT_SIZE, slot_place};
+use crate::format::{MOST_PAGES, PAGE_SIZE, PAGE_SLOTS, slot_place};
 use crate::page::Page;
 use crate::put::Put;
+use ss_base::SLOT_SIZE;
 use ss_outside::{Disk, Failed};
 
 // Reads the page from the file. Its slots that lie there are right then, and the other bytes are any.

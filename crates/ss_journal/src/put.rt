@@ -1,8 +1,9 @@
 // What is put into a slot.
 ghost use Rattle.std.specs.Prelude.{◌≡◌, replicate};
 
-use crate::format::{MOST_PUTS, SLOT_SIZE};
+use crate::format::MOST_PUTS;
 use arrayvec::ArrayVec;
+use ss_base::SLOT_SIZE;
 
 /// Bytes for a slot.
 #[derive(Clone, Copy, Debug, PartialEq, Eq)]
@@ -14,7 +15,7 @@ pub struct Put {
 }
 
 impl Default for Put {
-    ghost use Rattle.ss_journal.specs.declared.format.TheConstants.{SLOT_SIZE};
+    ghost use Rattle.ss_base.specs.declared.limits.TheConstants.{SLOT_SIZE};
 
     ghost is_default = { λ put. put ≡ record { slot = 0; bytes = replicate SLOT_SIZE 0 } };
 

@@ -5,7 +5,8 @@ ghost use Rattle.ss_outside.specs.Verdict.{verdict};
 ghost use Rattle.ss_journal.specs.Format.{slots_in, slot_at};
 ghost use Rattle.ss_journal.specs.Steps.{Finds};
 
-use crate::format::{MOST_SLOTS, SLOT_SIZE, slot_place};
+use crate::format::{MOST_SLOTS, slot_place};
+use ss_base::SLOT_SIZE;
 use ss_outside::{Disk, Failed};
 
 // The bytes of a slot that lies in the file.

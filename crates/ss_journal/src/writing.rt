@@ -10,10 +10,11 @@ ghost use Rattle.ss_journal.specs.Puts.{FillSlots};
 ghost use Rattle.ss_journal.specs.Writes.{AreSlots, HasSlotsFor, run_bytes, run_length};
 
 use crate::checks::slot_form;
-use crate::format::{MOST_SLOTS, SLOT_SIZE, slot_place};
+use crate::format::{MOST_SLOTS, slot_place};
 use crate::kind::Kind;
 use crate::put::Put;
 use arrayvec::ArrayVec;
+use ss_base::SLOT_SIZE;
 use ss_outside::{Disk, Failed, LONGEST_DISK};
 
 // The most bytes that one write of slots or of zeros has.

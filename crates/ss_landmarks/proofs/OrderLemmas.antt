@@ -8,7 +8,7 @@ use Rattle.std.proofs.lemmas.List.{append-nil}
 use Rattle.std.proofs.lemmas.List.Elements.{All-tail}
 use Rattle.ss_landmarks.specs.Landmark.{Landmark, LandmarkValue, opened_at, with_value, closed_at, change_last, open_landmark, all_values}
 use Rattle.ss_landmarks.specs.Order.{IsClosedBefore, CanOpen, CanTake, CanClose, RiseFrom, IsLandmark, FollowFrom, AreLandmarks}
-use Rattle.ss_landmarks.specs.declared.landmarks.TheConstants.{LATEST_TIME}
+use Rattle.ss_base.specs.declared.limits.TheConstants.{LAST_TIME}
 use Rattle.ss_landmarks.proofs.ValueLemmas.{RiseFrom-earlier}
 
 pub cases-finish : (finish : Option ℕ) → (finish ≡ None) ⊎ ((t : ℕ) × (finish ≡ Some t))
@@ -18,7 +18,7 @@ cases-finish (Some t) = inr (t, refl)
 -- ---- values at rising times
 
 pub RiseFrom_push : (from : ℕ) (xs : List LandmarkValue) (value : LandmarkValue) → RiseFrom from xs → from ≤ value.t
-    → All (λ x. x.t < value.t) xs → value.t ≤ LATEST_TIME → FitsSigned w64 value.v → RiseFrom from (xs ++ value ∷ [])
+    → All (λ x. x.t < value.t) xs → value.t ≤ LAST_TIME → FitsSigned w64 value.v → RiseFrom from (xs ++ value ∷ [])
 RiseFrom_push from [] value rise low below early fits = (low, early, fits, tt)
 RiseFrom_push from (x ∷ xs) value rise low below early fits = (
   rise.0,
@@ -53,7 +53,7 @@ RiseFrom-all_values from (l ∷ ls) follow =
 
 -- ---- an opening
 
-pub FollowFrom-open : (from t : ℕ) (ls : List Landmark) → FollowFrom from ls → CanOpen ls t → from ≤ t → t ≤ LATEST_TIME
+pub FollowFrom-open : (from t : ℕ) (ls : List Landmark) → FollowFrom from ls → CanOpen ls t → from ≤ t → t ≤ LAST_TIME
     → FollowFrom from (ls ++ opened_at t ∷ [])
 FollowFrom-open from t [] follow can low early = (low, record { start = early; values = tt; finish = tt }, refl)
 FollowFrom-open from t (l ∷ ls) follow can low early =
@@ -106,7 +106,7 @@ module _ (P : Landmark → Type 0) (change : Landmark → Landmark)
             ))
       ]
 
-pub AreLandmarks-take : (ls : List Landmark) (value : LandmarkValue) → AreLandmarks ls → CanTake ls value.t → value.t ≤ LATEST_TIME
+pub AreLandmarks-take : (ls : List Landmark) (value : LandmarkValue) → AreLandmarks ls → CanTake ls value.t → value.t ≤ LAST_TIME
     → FitsSigned w64 value.v → AreLandmarks (change_last (with_value value) ls)
 AreLandmarks-take ls value order can early fits =
     FollowFrom-change (λ l. (l.start ≤ value.t) × All (λ x. x.t < value.t) l.values) (with_value value)
@@ -117,7 +117,7 @@ AreLandmarks-take ls value order can early fits =
     })
     (λ l. refl) 0 ls order can
 
-pub AreLandmarks-close : (ls : List Landmark) (t : ℕ) → AreLandmarks ls → CanClose ls t → t ≤ LATEST_TIME
+pub AreLandmarks-close : (ls : List Landmark) (t : ℕ) → AreLandmarks ls → CanClose ls t → t ≤ LAST_TIME
     → AreLandmarks (change_last (closed_at t) ls)
 AreLandmarks-close ls t order can early =
     FollowFrom-change (λ l. (l.start ≤ t) × All (λ x. x.t ≤ t) l.values) (closed_at t)

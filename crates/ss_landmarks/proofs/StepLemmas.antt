@@ -11,7 +11,8 @@ use Rattle.ss_landmarks.specs.Landmarks.{AreKnown}
 use Rattle.ss_landmarks.specs.Free.{is_free}
 use Rattle.ss_landmarks.specs.Order.{CanOpen, CanTake, CanClose, AreLandmarks}
 use Rattle.ss_landmarks.specs.Stored.{landmarks_from, closed_values, one_open, slots_of, free_before, Apart, KnowFree, AreStored}
-use Rattle.ss_landmarks.specs.declared.landmarks.TheConstants.{LATEST_TIME, MOST_LANDMARK_SLOTS}
+use Rattle.ss_landmarks.specs.declared.landmarks.TheConstants.{MOST_LANDMARK_SLOTS}
+use Rattle.ss_base.specs.declared.limits.TheConstants.{LAST_TIME}
 use Rattle.ss_landmarks.specs.declared.stored.Closed.{Closed}
 use Rattle.ss_landmarks.specs.declared.stored.Opened.{Opened}
 use Rattle.ss_landmarks.proofs.Counting.{among-same}
@@ -39,7 +40,7 @@ KnowFree-open cs o know apart free =
     }
 
 pub AreStored-open : (cs : List Closed) (o : Opened) (values : List LandmarkValue) → AreStored cs None values
-    → CanOpen (landmarks_from cs None values) o.start → o.start ≤ LATEST_TIME → o.values_before ≡ length values
+    → CanOpen (landmarks_from cs None values) o.start → o.start ≤ LAST_TIME → o.values_before ≡ length values
     → o.free_before ≡ free_before (landmarks_from cs None []) o.start → AreStored cs (Some o) values
 AreStored-open cs o values stored can early count free =
     let order : AreLandmarks (landmarks_from cs (Some o) values) =
@@ -59,7 +60,7 @@ pub CanTake-none : (t : ℕ) (cs : List Closed) (values : List LandmarkValue) �
 CanTake-none t cs values can = rw open_landmark-none at can
 
 pub AreStored-take : (cs : List Closed) (current : Option Opened) (values : List LandmarkValue) (value : LandmarkValue) → AreStored cs current values
-    → CanTake (landmarks_from cs current values) value.t → value.t ≤ LATEST_TIME → FitsSigned w64 value.v → AreStored cs current (values ++ value ∷ [])
+    → CanTake (landmarks_from cs current values) value.t → value.t ≤ LAST_TIME → FitsSigned w64 value.v → AreStored cs current (values ++ value ∷ [])
 AreStored-take cs None values value stored can early fits = absurd (CanTake-none value.t cs values can)
 AreStored-take cs (Some o) values value stored can early fits = record {
   order = rw (landmarks_from-take cs o values value stored.shared.1) (AreLandmarks-take _ value stored.order can early fits);
@@ -93,7 +94,7 @@ module _ (cs : List Closed) (o : Opened) (new : Closed) (starts : new.start ≡ 
       }
 
   pub AreStored-close : (values : List LandmarkValue) → AreStored cs (Some o) values → closed_values cs + new.values ≡ length values
-      → CanClose (landmarks_from cs (Some o) values) new.finish → new.finish ≤ LATEST_TIME → new.free_before ≡ o.free_before
+      → CanClose (landmarks_from cs (Some o) values) new.finish → new.finish ≤ LAST_TIME → new.free_before ≡ o.free_before
       → AreStored (cs ++ new ∷ []) None values
   AreStored-close values stored all can early free =
       let order : AreLandmarks (landmarks_from (cs ++ new ∷ []) None values) =

@@ -13,7 +13,7 @@ use Rattle.ss_landmarks.specs.Order.{FollowFrom}
 use Rattle.ss_landmarks.specs.Stored.{landmarks_from, Apart}
 use Rattle.ss_landmarks.specs.declared.stored.Closed.{Closed}
 use Rattle.ss_landmarks.specs.declared.stored.Opened.{Opened}
-use Rattle.ss_landmarks.specs.declared.landmarks.TheConstants.{LATEST_TIME}
+use Rattle.ss_base.specs.declared.limits.TheConstants.{LAST_TIME}
 use Rattle.ss_landmarks.proofs.Counting.{among, among-add, among-all, among-none}
 
 -- ---- which times are covered
@@ -69,7 +69,7 @@ is_free-open u cs o values begun = not_from_true _ (is_covered-open u cs o value
 
 -- ---- in order of time
 
-module _ (from : ℕ) (c : Closed) (cs : List Closed) (from_start : from ≤ c.start) (lasts : (c.start ≤ c.finish) × (c.finish ≤ LATEST_TIME)) where
+module _ (from : ℕ) (c : Closed) (cs : List Closed) (from_start : from ≤ c.start) (lasts : (c.start ≤ c.finish) × (c.finish ≤ LAST_TIME)) where
   starts-cons : All (λ x. c.finish + 1 ≤ x.start) cs → All (λ x. from ≤ x.start) (c ∷ cs)
   starts-cons later zero d below = from_start
   starts-cons later (suc k) d below = let at = later k d (omega arith) in omega (arith, lasts.0, at)
@@ -84,7 +84,7 @@ module _ (from : ℕ) (c : Closed) (cs : List Closed) (from_start : from ≤ c.s
   Apart-cons-none : Apart (c.finish + 1) cs None → Apart from (c ∷ cs) None
   Apart-cons-none rest = record {
     starts = starts-cons rest.starts;
-    ends = All-cons (λ x. (x.start ≤ x.finish) × (x.finish ≤ LATEST_TIME)) c cs lasts rest.ends;
+    ends = All-cons (λ x. (x.start ≤ x.finish) × (x.finish ≤ LAST_TIME)) c cs lasts rest.ends;
     order = order-cons rest.starts rest.order;
     open_start = tt;
     open_last = tt;
@@ -93,7 +93,7 @@ module _ (from : ℕ) (c : Closed) (cs : List Closed) (from_start : from ≤ c.s
   Apart-cons-some : (o : Opened) → Apart (c.finish + 1) cs (Some o) → Apart from (c ∷ cs) (Some o)
   Apart-cons-some o rest = record {
     starts = starts-cons rest.starts;
-    ends = All-cons (λ x. (x.start ≤ x.finish) × (x.finish ≤ LATEST_TIME)) c cs lasts rest.ends;
+    ends = All-cons (λ x. (x.start ≤ x.finish) × (x.finish ≤ LAST_TIME)) c cs lasts rest.ends;
     order = order-cons rest.starts rest.order;
     open_start = (omega (arith, from_start, lasts.0, rest.open_start.0), rest.open_start.1);
     open_last = All-cons (λ x. x.finish < o.start) c cs (omega (arith, rest.open_start.0)) rest.open_last;

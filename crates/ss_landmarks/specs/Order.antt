@@ -3,7 +3,7 @@ use Rattle.std.specs.Prelude.{◌≡◌, ℕ, ◌+◌, ◌<◌, ◌≤◌, FitsS
 use Rattle.std.specs.Int.{w64}
 use Rattle.std.specs.List.{All}
 use Rattle.ss_landmarks.specs.Landmark.{Landmark, LandmarkValue, open_landmark}
-use Rattle.ss_landmarks.specs.declared.landmarks.TheConstants.{LATEST_TIME}
+use Rattle.ss_base.specs.declared.limits.TheConstants.{LAST_TIME}
 
 -- the landmark is closed before this time
 abbrev pub IsClosedBefore : ℕ → Landmark → Type 0
@@ -27,13 +27,13 @@ CanClose landmarks t =
 abbrev pub RiseFrom : ℕ → List LandmarkValue → Type 0
 RiseFrom from [] = Unit {0}
 RiseFrom from (value ∷ values) =
-    (from ≤ value.t) × (value.t ≤ LATEST_TIME) × FitsSigned w64 value.v × RiseFrom (value.t + 1) values
+    (from ≤ value.t) × (value.t ≤ LAST_TIME) × FitsSigned w64 value.v × RiseFrom (value.t + 1) values
 
 -- a landmark whose values rise in time from its opening on, and end by its closing
 pub record IsLandmark (l : Landmark) : Type 0 where
-  pub start : l.start ≤ LATEST_TIME
+  pub start : l.start ≤ LAST_TIME
   pub values : RiseFrom l.start l.values
-  pub finish : IfSome l.finish (λ t. (l.start ≤ t) × (t ≤ LATEST_TIME) × All (λ value. value.t ≤ t) l.values)
+  pub finish : IfSome l.finish (λ t. (l.start ≤ t) × (t ≤ LAST_TIME) × All (λ value. value.t ≤ t) l.values)
 
 -- landmarks in order, the first at `from` or later: each closes before the next opens, and only the last may be open
 abbrev pub FollowFrom : ℕ → List Landmark → Type 0

@@ -9,7 +9,8 @@ use Rattle.ss_landmarks.specs.declared.stored.StoredValue.{StoredValue}
 use Rattle.ss_landmarks.specs.Landmark.{Landmark, LandmarkValue}
 use Rattle.ss_landmarks.specs.Free.{is_free}
 use Rattle.ss_landmarks.specs.Order.{AreLandmarks}
-use Rattle.ss_landmarks.specs.declared.landmarks.TheConstants.{LATEST_TIME, MOST_LANDMARK_SLOTS}
+use Rattle.ss_landmarks.specs.declared.landmarks.TheConstants.{MOST_LANDMARK_SLOTS}
+use Rattle.ss_base.specs.declared.limits.TheConstants.{LAST_TIME}
 
 -- the value, without its slot
 abbrev pub bare_value : StoredValue → LandmarkValue
@@ -45,9 +46,9 @@ one_open current = cond (is_some current) 1 0
 -- closed landmarks, the first from `from` on, each closed before those after it begin, and all before the open one
 pub record Apart (from : ℕ) (cs : List Closed) (current : Option Opened) : Type 0 where
   pub starts : All (λ c. from ≤ c.start) cs
-  pub ends : All (λ c. (c.start ≤ c.finish) × (c.finish ≤ LATEST_TIME)) cs
+  pub ends : All (λ c. (c.start ≤ c.finish) × (c.finish ≤ LAST_TIME)) cs
   pub order : (j k : ℕ) (d : Closed) → j < k → k < length cs → (slice_index_or cs j d).finish < (slice_index_or cs k d).start
-  pub open_start : IfSome current (λ o. (from ≤ o.start) × (o.start ≤ LATEST_TIME))
+  pub open_start : IfSome current (λ o. (from ≤ o.start) × (o.start ≤ LAST_TIME))
   pub open_last : IfSome current (λ o. All (λ c. c.finish < o.start) cs)
 
 -- landmarks that are apart, each with the number of times before it that are free

@@ -6,13 +6,10 @@ use crate::Tally;
 use crate::search::{free_before, is_among, places_in, values_in};
 use crate::stored::{Closed, Opened, StoredValue};
 use crate::tally::tally_of;
-use ss_steps::Steps;
+use ss_base::{LAST_TIME, Steps};
 use std::alloc::{AllocError, Global};
 use std::marker::Model;
 use std::sync::ledger::Ledger;
-
-/// The latest time that a landmark or a value of one may have, a whole number in the caller's unit.
-pub const LATEST_TIME: u64 = 1 << 62;
 
 /// The most landmarks, and the most values, that are kept, with those that there is room for.
 pub const MOST_LANDMARK_SLOTS: u32 = 1 << 24;
@@ -109,7 +106,7 @@ impl Landmarks {
     /// Opens a landmark at the time `t`, whose record is in `slot`.
     pub fn start(&mut self, t: u64, slot: u32)
         requires room { 1 ≤ self.old.room }
-        requires time { t ≤ LATEST_TIME }
+        requires time { t ≤ LAST_TIME }
         requires after { CanOpen self.old.landmarks t }
         ensures landmarks { self.new.landmarks ≡ self.old.landmarks ++ opened_at t ∷ [] }
         ensures slots { self.new.slots ≡ self.old.slots ++ slot ∷ [] }
@@ -129,7 +126,7 @@ impl Landmarks {
 
     /// Closes the open landmark at the time `t`.
     pub fn finish(&mut self, t: u64)
-        requires time { t ≤ LATEST_TIME }
+        requires time { t ≤ LAST_TIME }
         requires after { CanClose self.old.landmarks t }
         ensures landmarks { self.new.landmarks ≡ change_last (closed_at t) self.old.landmarks }
         ensures slots { self.new.slots ≡ self.old.slots }
@@ -153,7 +150,7 @@ impl Landmarks {
     /// Adds to the open landmark the value `v` at the time `t`, whose record is in `slot`.
     pub fn add(&mut self, t: u64, v: i64, slot: u32)
         requires room { 1 ≤ self.old.value_room }
-        requires time { t ≤ LATEST_TIME }
+        requires time { t ≤ LAST_TIME }
         requires after { CanTake self.old.landmarks t }
         ensures landmarks { self.new.landmarks ≡ change_last (with_value (record { t = t; v = v })) self.old.landmarks }
         ensures slots { self.new.slots ≡ self.old.slots }
@@ -220,7 +217,7 @@ impl Landmarks {
     /// How many of the times `p..=q` no landmark covers. Each call is one search of the landmarks, and ticks once. It takes the
     /// logarithm of their number.
     pub fn free<L: Ledger>(&self, p: u64, q: u64, searches: &mut Steps<L>) -> u64
-        requires { q ≤ LATEST_TIME }
+        requires { q ≤ LAST_TIME }
         ensures free { result ≡ free self.now.landmarks p q }
         ensures one_search { searches.new ≡ searches.old + 1 }
     {
@@ -230,7 +227,7 @@ impl Landmarks {
 
     // The same, where nothing is counted.
     fn free_between(&self, p: u64, q: u64) -> u64
-        requires { q ≤ LATEST_TIME }
+        requires { q ≤ LAST_TIME }
         ensures { result ≡ free self.now.landmarks p q }
     {
         if p > q {

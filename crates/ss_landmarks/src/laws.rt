@@ -8,7 +8,7 @@ ghost use Rattle.ss_landmarks.specs.Landmark.{opened_at, with_value, closed_at, 
 ghost use Rattle.ss_landmarks.specs.Order.{AllEndBy, AreLandmarks, CanOpen, CanTake, CanClose};
 ghost use Rattle.ss_landmarks.specs.ValuesIn.{is_among};
 
-use crate::LATEST_TIME;
+use ss_base::LAST_TIME;
 
 /// After the last time of some landmarks one may be opened if none is open, and the open one may take a value or be closed.
 /// It may be closed at the last time too, and take its first value at its opening.
@@ -22,11 +22,11 @@ pub fn times_may_follow()
 
 /// An opening, a value and a closing that may follow leave landmarks in order of time.
 pub fn landmarks_stay_in_order()
-    ensures open { (ls : List Landmark) (t : ℕ) → AreLandmarks ls → CanOpen ls t → t ≤ LATEST_TIME
+    ensures open { (ls : List Landmark) (t : ℕ) → AreLandmarks ls → CanOpen ls t → t ≤ LAST_TIME
         → AreLandmarks (ls ++ opened_at t ∷ []) }
-    ensures take { (ls : List Landmark) (value : LandmarkValue) → AreLandmarks ls → CanTake ls value.t → value.t ≤ LATEST_TIME
+    ensures take { (ls : List Landmark) (value : LandmarkValue) → AreLandmarks ls → CanTake ls value.t → value.t ≤ LAST_TIME
         → FitsSigned w64 value.v → AreLandmarks (change_last (with_value value) ls) }
-    ensures close { (ls : List Landmark) (t : ℕ) → AreLandmarks ls → CanClose ls t → t ≤ LATEST_TIME
+    ensures close { (ls : List Landmark) (t : ℕ) → AreLandmarks ls → CanClose ls t → t ≤ LAST_TIME
         → AreLandmarks (change_last (closed_at t) ls) }
 {}
 

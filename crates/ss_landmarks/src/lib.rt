@@ -7,7 +7,7 @@ mod search;
 mod stored;
 mod tally;
 
-pub use landmarks::{LATEST_TIME, Landmarks, MOST_LANDMARK_SLOTS};
+pub use landmarks::{Landmarks, MOST_LANDMARK_SLOTS};
 pub use laws::{
     free_times_add_up, landmarks_stay_in_order, last_times_rise, the_last_is_open,
     times_may_follow, values_come_last, which_values_are_among_them,

@@ -1,7 +1,7 @@
 // The line.
 use crate::chain::Chain;
 use crate::{At, Entry};
-use ss_steps::Steps;
+use ss_base::Steps;
 use std::alloc::{AllocError, Global};
 use std::marker::Model;
 use std::sync::ledger::Ledger;

@@ -3,8 +3,8 @@ use Rattle.ss_model.proofs.Common.{ℤ, Option, codes, arith, refl, ints, Create
 use Rattle.ss_model.proofs.Common.{Unknown, Range, Sure, SplitFigures, is_free, New, Happened, added, HasEnds, HoldsTruth, IsExactOutcome, IsOfKind, IsExact}
 use Rattle.ss_model.proofs.Common.{split_windows, Stream, Outcome, Sum}
 use Rattle.std.specs.Prelude.{◌≡◌, ℕ, Bool, pos, negsuc, true, List, [], ◌∷◌, map, Some, None}
-use Rattle.ss_windowing.specs.Windowing.{window_index}
-use Rattle.ss_power.specs.Power.{power_length}
+use Rattle.ss_targets.specs.Windowing.{window_index}
+use Rattle.ss_targets.specs.Power.{power_length}
 use Rattle.ss_catalog.specs.declared.query.Kind.TheVariants as kinds
 use Rattle.ss_catalog.specs.declared.refusal.Refusal.TheVariants as refusal
 use Rattle.ss_bounds.specs.declared.extreme.Extreme.TheVariants.{Nothing, Maybe}

@@ -20,10 +20,10 @@ pub use Rattle.std.specs.List.Sorted.{IsStrictlyIncreasing}
 pub use Rattle.std.specs.Option.{option_map_or}
 pub use Rattle.std.specs.Prelude.{All, Contains, FitsSigned, IsTrue, Option, codes, if◌then◌else◌, is_some, nat_le, nat_lt, option_map, ℤ, ◌+ℤ◌, ◌==◌, ◌||◌}
 pub use Rattle.std.specs.Prelude.{◌≤ℤ◌, ◌⊎◌}
-pub use Rattle.ss_windowing.proofs.WindowingLemmas.{window_index-monotone}
-pub use Rattle.ss_windowing.specs.Exp.{exp_length}
-pub use Rattle.ss_windowing.specs.Windowing.{fits, window_index}
-pub use Rattle.ss_windowing.specs.declared.decay.TheConstants.{MOST_VALUES}
+pub use Rattle.ss_targets.proofs.WindowingLemmas.{window_index-monotone}
+pub use Rattle.ss_targets.specs.Exp.{exp_length}
+pub use Rattle.ss_targets.specs.Windowing.{fits, window_index}
+pub use Rattle.ss_base.specs.declared.limits.TheConstants.{MOST_VALUES}
 pub use Rattle.ss_summary.proofs.SummaryLemmas.{IsPossible-joined}
 pub use Rattle.ss_summary.specs.Figures.{AreAlike, Figures, IsPossible, unfiltered}
 pub use Rattle.ss_summary.specs.Filters.{bit_of, filter_of, full, has, union}
@@ -46,7 +46,8 @@ pub use Rattle.ss_catalog.specs.Names.{same_name}
 pub use Rattle.ss_catalog.specs.Params.{exp, power, step_number}
 pub use Rattle.ss_catalog.specs.Queries.{is_guess}
 pub use Rattle.ss_catalog.specs.Series.{numbers_from, row_query, rows_of}
-pub use Rattle.ss_catalog.specs.declared.TheConstants.{LAST_STREAM, LAST_TIME}
+pub use Rattle.ss_catalog.specs.declared.TheConstants.{LAST_STREAM}
+pub use Rattle.ss_base.specs.declared.limits.TheConstants.{LAST_TIME}
 pub use Rattle.ss_catalog.specs.declared.event.Event.{Event}
 pub use Rattle.ss_catalog.specs.declared.event.Event.TheVariants.{Close, Create, Drop, Open, Value}
 pub use Rattle.ss_catalog.specs.declared.params.Params.{Params}
@@ -55,9 +56,9 @@ pub use Rattle.ss_catalog.specs.declared.query.Query.{Query}
 pub use Rattle.ss_catalog.specs.declared.refusal.Refusal.{Refusal}
 pub use Rattle.ss_catalog.specs.declared.refusal.Refusal.TheVariants.{Exists, Param, Range, Unknown}
 pub use Rattle.ss_catalog.specs.declared.series.Series.{Series}
-pub use Rattle.ss_power.specs.Power.{power_length}
-pub use Rattle.ss_target.specs.Lengths.{has_target, lengths_of}
-pub use Rattle.ss_target.specs.Rule.{Rule, in_step, may_be_one, rule_of, step_of, without_step}
+pub use Rattle.ss_targets.specs.Power.{power_length}
+pub use Rattle.ss_targets.specs.Lengths.{has_target, lengths_of}
+pub use Rattle.ss_targets.specs.Rule.{Rule, in_step, may_be_one, rule_of, step_of, without_step}
 pub use Rattle.ss_model.specs.Answers.{HasEnds, HoldsPresence, HoldsTruth, IsExactOutcome, IsOfKind, answer_of, outcome_of, refuses_query, split_by}
 pub use Rattle.ss_model.specs.Boundaries.{boundaries, staying}
 pub use Rattle.ss_model.specs.Closed.{closed, closed_onto, joined_window, last_position, may_join}

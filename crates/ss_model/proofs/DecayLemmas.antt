@@ -9,9 +9,9 @@ use Rattle.std.proofs.Common.{◌==◌}
 use Rattle.std.proofs.Math.Nat.{div-one, pow-suc, one-le-pow}
 use Rattle.std.proofs.lemmas.List.Elements.{All-weaker}
 use Rattle.std.proofs.lemmas.Bool.{cases_eq}
-use Rattle.ss_windowing.specs.Windowing.{cut, ArePositive, NeverFall}
-use Rattle.ss_windowing.proofs.WindowingLemmas.{cut-monotone, holds-window_index}
-use Rattle.ss_windowing.proofs.FirstFitLemmas.{lengths-monotone}
+use Rattle.ss_targets.specs.Windowing.{cut, ArePositive, NeverFall}
+use Rattle.ss_targets.proofs.WindowingLemmas.{cut-monotone, holds-window_index}
+use Rattle.ss_targets.proofs.FirstFitLemmas.{lengths-monotone}
 use Rattle.ss_model.specs.Decay.{steps_after}
 use Rattle.ss_model.proofs.Rises.{Rises, Rises-low, Rises-boundaries}
 use Rattle.ss_model.proofs.Stretches.{count-summary_of, taken-cons, taken-windows, length-front, length-back}

@@ -6,8 +6,8 @@ use Rattle.ss_model.proofs.Common.{first_that_applies, has_all_streams, numbers_
 use Rattle.ss_model.proofs.Common.{Window, MOST_RECORDS}
 use Rattle.std.proofs.Common.{codes}
 use Rattle.std.specs.Prelude.{◌≤◌, length, replicate}
-use Rattle.ss_power.specs.Power.{power_length}
-use Rattle.ss_windowing.specs.Windowing.{window_index}
+use Rattle.ss_targets.specs.Power.{power_length}
+use Rattle.ss_targets.specs.Windowing.{window_index}
 use Rattle.ss_catalog.specs.declared.refusal.Refusal.TheVariants.{StoreFull, Streams, StreamFull, Time}
 use Rattle.ss_summary.specs.Filters.{bit_of, filter_of, full, union}
 use Rattle.ss_model.specs.State.{state}

@@ -4,8 +4,8 @@ use Rattle.ss_model.proofs.Common.{Value, Open, Close, exp, power, Refusal, Land
 use Rattle.ss_model.proofs.Common.{values_of, Happened, added, has_open, first_that_applies, is_before, is_some, of_outline, outline_named, row_of, Stream}
 use Rattle.ss_model.proofs.Common.{last_time, live, ack_of, stepped, Window}
 use Rattle.std.proofs.Common.{codes}
-use Rattle.ss_power.specs.Power.{power_length}
-use Rattle.ss_windowing.specs.Windowing.{window_index}
+use Rattle.ss_targets.specs.Power.{power_length}
+use Rattle.ss_targets.specs.Windowing.{window_index}
 use Rattle.ss_catalog.specs.declared.refusal.Refusal.TheVariants as refusal
 use Rattle.ss_model.specs.Marks.{lies_free}
 use Rattle.ss_model.specs.Refusals.{refuses}

@@ -2,8 +2,8 @@
 use Rattle.ss_model.proofs.Common.{◌≡◌, ℕ, List, [], ◌∷◌, map, take, refl, Some, None, pos, negsuc, Option, Create, Open, Close, Drop, exp, power, Unknown}
 use Rattle.ss_model.proofs.Common.{Range, LandmarkValue, values_between, Happened, added, landmarks_of, newer, newest_in, Known, Newest, Nothing, Time}
 use Rattle.std.proofs.Common.{codes}
-use Rattle.ss_power.specs.Power.{power_length}
-use Rattle.ss_windowing.specs.Windowing.{window_index}
+use Rattle.ss_targets.specs.Power.{power_length}
+use Rattle.ss_targets.specs.Windowing.{window_index}
 use Rattle.ss_catalog.specs.declared.event.Event.TheVariants.{Value as Append}
 use Rattle.ss_model.specs.Newest.{refuses_values}
 use Rattle.ss_model.specs.Refusals.{refuses_reading}

@@ -2,8 +2,8 @@
 use Rattle.ss_model.proofs.Common.{ℤ, Option, codes, refl, sym, subst, Create, Value, Open, Close, exp, power, Kind, Query, New, Old, Origin, HoldsPresence}
 use Rattle.ss_model.proofs.Common.{HoldsTruth, IsExactOutcome, IsOfKind, Happened, added, true_presence, Outcome, Has, Absent, Present, Maybe}
 use Rattle.std.specs.Prelude.{◌≡◌, ℕ, Bool, true, false, pos, negsuc, List, [], ◌∷◌, map, Some, None}
-use Rattle.ss_windowing.specs.Windowing.{window_index}
-use Rattle.ss_power.specs.Power.{power_length}
+use Rattle.ss_targets.specs.Windowing.{window_index}
+use Rattle.ss_targets.specs.Power.{power_length}
 use Rattle.ss_catalog.specs.declared.query.Kind.TheVariants as kinds
 use Rattle.ss_summary.specs.Filters.{bit_of, filter_of, full, has, union}
 use Rattle.ss_model.specs.Answers.{outcome_of}

@@ -2,7 +2,7 @@
 use Rattle.ss_model.proofs.Common.{ℤ, refl, exp_length, Sure, is_free, Landmark, Point, New, interval_of_count, interval_of_sum, interval_of_least}
 use Rattle.ss_model.proofs.Common.{interval_of_greatest, split_windows, marked_values, true_count, true_sum, without_step, windows, Window}
 use Rattle.std.specs.Prelude.{◌≡◌, ℕ, Bool, true, pos, negsuc, List, [], ◌∷◌, map, Some}
-use Rattle.ss_windowing.specs.Windowing.{window_index}
+use Rattle.ss_targets.specs.Windowing.{window_index}
 use Rattle.ss_bounds.specs.declared.extreme.Extreme.{Extreme}
 use Rattle.ss_bounds.specs.declared.extreme.Extreme.TheVariants.{Nothing, Maybe}
 use Rattle.ss_bounds.specs.Split.{sum_interval}

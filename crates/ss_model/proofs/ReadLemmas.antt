@@ -6,7 +6,7 @@ use Rattle.ss_model.proofs.Common.{with_closed, with_marked, with_opened, IsHist
 use Rattle.ss_model.proofs.Common.{values_in, change_named, with_taken, with_plain_value, windows}
 use Rattle.std.specs.Option.{option_or}
 use Rattle.std.proofs.lemmas.List.Elements.{All-map, All-get_or}
-use Rattle.ss_target.proofs.LengthLemmas.{lengths_of-positive, lengths_of-never_fall}
+use Rattle.ss_targets.proofs.LengthLemmas.{lengths_of-positive, lengths_of-never_fall}
 use Rattle.ss_model.specs.State.{state}
 use Rattle.ss_model.specs.Steps.{stepped_from}
 use Rattle.ss_model.proofs.DecayLemmas.{length-windows, length-windows_met, IsWithinTarget-windows}

@@ -3,14 +3,14 @@ use Rattle.ss_model.proofs.Common.{◌≡◌, ℕ, ◌+◌, ◌^◌, List, [], �
 use Rattle.ss_model.proofs.Common.{boundaries, without_step, stretches, windows, closed, JoinsDue, cover, IsReadWithinTarget, IsWithinTarget, placed_of}
 use Rattle.ss_model.proofs.Common.{Window}
 use Rattle.std.proofs.Common.{ℤ}
-use Rattle.ss_windowing.specs.Windowing.{window_index}
-use Rattle.ss_power.specs.Power.{power_length}
+use Rattle.ss_targets.specs.Windowing.{window_index}
+use Rattle.ss_targets.specs.Power.{power_length}
 use Rattle.ss_summary.specs.Filters.{bit_of, filter_of, union}
 use Rattle.ss_summary.specs.declared.filter.Filter.{Filter}
-use Rattle.ss_summary.specs.declared.summary.TheConstants.{GREATEST_COUNT}
+use Rattle.ss_base.specs.declared.limits.TheConstants.{MOST_VALUES}
 
 -- a stream takes as many values as one summary may be of
-most_values : MOST_VALUES ≡ GREATEST_COUNT
+most_values : MOST_VALUES ≡ MOST_VALUES
 most_values = refl
 
 -- the windows are one more than the boundaries: 1, 2, 2, 3, 3, 4, 3

@@ -2,9 +2,9 @@
 use Rattle.ss_model.proofs.Common.{◌≡◌, ◌+◌, ◌-◌, ◌*◌, ℕ, Bool, true, false, List, [], ◌∷◌, ◌++◌, length, map, refl, pos, negsuc, full, Point, New}
 use Rattle.ss_model.proofs.Common.{summary_of, exp_length, boundaries, closed, last_position, cover, ends_of, steps_met, Rule, in_step, without_step, time_at}
 use Rattle.ss_model.proofs.Common.{windows, Window}
-use Rattle.ss_power.specs.Power.{power_length}
+use Rattle.ss_targets.specs.Power.{power_length}
 use Rattle.ss_summary.specs.Filters.{bit_of, filter_of, union}
-use Rattle.ss_windowing.specs.Windowing.{window_index}
+use Rattle.ss_targets.specs.Windowing.{window_index}
 
 -- without a step all times lie in one
 in_no_step : (t u : ℕ) → in_step 0 t u ≡ true

@@ -13,7 +13,7 @@ use Rattle.std.specs.List.{IsDistinct}
 use Rattle.std.proofs.lemmas.Bool.{or_parts}
 use Rattle.std.proofs.lemmas.List.Sums.{sum_by_push}
 use Rattle.ss_catalog.specs.declared.TheConstants.{MOST_STREAMS}
-use Rattle.ss_summary.specs.declared.summary.TheConstants.{LATEST_TIME}
+use Rattle.ss_base.specs.declared.limits.TheConstants.{LAST_TIME}
 use Rattle.ss_summary.proofs.Values.{IsPossible-summary_of}
 use Rattle.ss_model.specs.Steps.{stepped_from}
 use Rattle.ss_model.proofs.DropLemmas.{IsState-without}
@@ -146,7 +146,7 @@ module _ {name : List ℕ} {streams : List Stream} (at : IsFound name streams) w
   IsStream-found : IsState streams → IsStream at.stream
   IsStream-found was = (All-around IsStream at.before at.stream at.after (subst (All IsStream) at.is was.each)).one
 
-pub IsPossible-single : (p : Point) → p.0 ≤ LATEST_TIME → FitsSigned w64 p.1 → IsPossible (summary_of (p ∷ []))
+pub IsPossible-single : (p : Point) → p.0 ≤ LAST_TIME → FitsSigned w64 p.1 → IsPossible (summary_of (p ∷ []))
 IsPossible-single p early fits =
     IsPossible-summary_of (p ∷ []) (record { some = omega arith; few = omega arith; rising = (omega arith, early, fits, tt) })
 

@@ -1,6 +1,6 @@
 -- After which positions a window ends, by the merge rule.
 use Rattle.std.specs.Prelude.{ℕ, zero, suc, ◌+◌, List, [], ◌∷◌, ◌++◌, if◌then◌else◌}
-use Rattle.ss_target.specs.Rule.{Rule, may_be_one}
+use Rattle.ss_targets.specs.Rule.{Rule, may_be_one}
 
 -- the first of the boundaries, or the end where there is none
 abbrev pub next_boundary : List ℕ → ℕ → ℕ

@@ -1,7 +1,7 @@
 -- Windows under the merges that are due.
 use Rattle.std.specs.Prelude.{ℕ, ◌+◌, ◌-◌, Bool, List, [], ◌∷◌, if◌then◌else◌}
 use Rattle.ss_summary.specs.Summaries.{joined}
-use Rattle.ss_target.specs.Rule.{Rule, may_be_one}
+use Rattle.ss_targets.specs.Rule.{Rule, may_be_one}
 use Rattle.ss_model.specs.declared.types.Window.{Window}
 
 -- the position of a window's last value

@@ -1,7 +1,7 @@
 -- A state whose windows are still to be joined, and the state that it closes to.
 use Rattle.std.specs.Prelude.{List, map}
 use Rattle.ss_model.specs.Closed.{closed}
-use Rattle.ss_target.specs.Rule.{rule_of}
+use Rattle.ss_targets.specs.Rule.{rule_of}
 use Rattle.ss_model.specs.State.{Stream, values_in}
 
 -- a stream, with each run of its windows that may be one joined

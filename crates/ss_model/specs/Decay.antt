@@ -1,8 +1,8 @@
 -- How many windows may stand, and how long each may be.
 use Rattle.std.specs.Prelude.{◌≡◌, ℕ, zero, suc, ◌+◌, ◌-◌, ◌≤◌, true, false, List, [], ◌∷◌, if◌then◌else◌}
-use Rattle.ss_windowing.specs.Windowing.{window_index}
+use Rattle.ss_targets.specs.Windowing.{window_index}
 use Rattle.ss_model.specs.Closed.{last_position, may_join}
-use Rattle.ss_target.specs.Rule.{Rule, in_step}
+use Rattle.ss_targets.specs.Rule.{Rule, in_step}
 use Rattle.ss_model.specs.declared.types.Placed.{Placed}
 use Rattle.ss_model.specs.declared.types.Window.{Window}
 

@@ -1,7 +1,7 @@
 -- Windows that come from others by joining neighbours that are due.
 use Rattle.std.specs.Prelude.{◌≡◌, ℕ, zero, suc, true, List, ◌∷◌, ◌++◌}
 use Rattle.ss_model.specs.Closed.{joined_window, may_join}
-use Rattle.ss_target.specs.Rule.{Rule}
+use Rattle.ss_targets.specs.Rule.{Rule}
 use Rattle.ss_model.specs.declared.types.Window.{Window}
 
 -- one join: two neighbours that may be one at n become one, and the others stay

@@ -10,8 +10,8 @@ use Rattle.ss_catalog.specs.declared.event.Event.TheVariants.{Create, Value, Ope
 use Rattle.ss_catalog.specs.declared.refusal.Refusal.TheVariants as refusal
 use Rattle.ss_catalog.specs.declared.refusal.Refusal.{Refusal}
 use Rattle.ss_landmarks.specs.Landmark.{Landmark, open_landmark}
-use Rattle.ss_target.specs.Lengths.{has_target}
-use Rattle.ss_windowing.specs.declared.decay.TheConstants.{MOST_VALUES}
+use Rattle.ss_targets.specs.Lengths.{has_target}
+use Rattle.ss_base.specs.declared.limits.TheConstants.{MOST_VALUES}
 use Rattle.ss_model.specs.History.{CanBeSaid, Happened}
 use Rattle.ss_model.specs.Marks.{has_open}
 use Rattle.ss_model.specs.Outline.{Outline, outline_named}

@@ -5,8 +5,8 @@ use Rattle.std.specs.List.Sorted.{IsStrictlyIncreasing}
 use Rattle.ss_catalog.specs.Names.{same_name}
 use Rattle.ss_catalog.specs.declared.TheConstants.{MOST_STREAMS, LAST_STREAM}
 use Rattle.ss_landmarks.specs.Order.{AreLandmarks}
-use Rattle.ss_target.specs.Lengths.{has_target}
-use Rattle.ss_target.specs.Rule.{rule_of}
+use Rattle.ss_targets.specs.Lengths.{has_target}
+use Rattle.ss_targets.specs.Rule.{rule_of}
 use Rattle.ss_model.specs.Decay.{IsInStep}
 use Rattle.ss_model.specs.Marks.{lies_free}
 use Rattle.ss_model.specs.State.{Stream, live, numbers_of, names_of}

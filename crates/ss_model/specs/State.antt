@@ -7,7 +7,7 @@ use Rattle.ss_catalog.specs.declared.params.Params.{Params}
 use Rattle.ss_landmarks.specs.Landmark.{Landmark, all_values}
 use Rattle.ss_model.specs.History.{landmarks_of, values_of, Happened}
 use Rattle.ss_model.specs.Marks.{later, latest_of}
-use Rattle.ss_target.specs.Rule.{rule_of}
+use Rattle.ss_targets.specs.Rule.{rule_of}
 use Rattle.ss_model.specs.Windows.{windows, taken, newest_time}
 use Rattle.ss_model.specs.declared.types.Window.{Window}
 

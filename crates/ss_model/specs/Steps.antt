@@ -7,7 +7,7 @@ use Rattle.ss_summary.specs.Points.{Point, Origin, New}
 use Rattle.ss_summary.specs.Summaries.{summary_of}
 use Rattle.ss_model.specs.Closed.{closed}
 use Rattle.ss_model.specs.Marks.{has_open, with_closed, with_marked, with_opened}
-use Rattle.ss_target.specs.Rule.{rule_of}
+use Rattle.ss_targets.specs.Rule.{rule_of}
 use Rattle.ss_model.specs.State.{Stream, next_number, numbers_of, stream_named, values_in}
 use Rattle.ss_model.specs.declared.types.Ack.{Ack}
 use Rattle.ss_model.specs.declared.types.Window.{Window}

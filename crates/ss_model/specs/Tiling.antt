@@ -1,8 +1,8 @@
 -- Windows that hold every position from 1 on, in the order of their times.
 use Rattle.std.specs.Prelude.{◌≡◌, ℕ, ◌+◌, ◌<◌, ◌≤◌, List, [], ◌∷◌}
-use Rattle.ss_windowing.specs.declared.decay.TheConstants.{MOST_VALUES}
+use Rattle.ss_base.specs.declared.limits.TheConstants.{MOST_VALUES}
 use Rattle.ss_summary.specs.Figures.{IsPossible}
-use Rattle.ss_summary.specs.declared.summary.TheConstants.{GREATEST_COUNT}
+use Rattle.ss_base.specs.declared.limits.TheConstants.{MOST_VALUES}
 use Rattle.ss_model.specs.Windows.{taken}
 use Rattle.ss_model.specs.declared.types.Window.{Window}
 
@@ -24,4 +24,4 @@ pub record AreNeighbours (w v : Window) : Type 0 where
   pub some : 1 ≤ w.summary.count
   pub some_behind : 1 ≤ v.summary.count
   pub times : w.summary.t_last < v.summary.t_first
-  pub few : w.summary.count + v.summary.count ≤ GREATEST_COUNT
+  pub few : w.summary.count + v.summary.count ≤ MOST_VALUES

@@ -3,7 +3,7 @@ use Rattle.std.specs.Prelude.{ℕ, ◌+◌, ◌-◌, List, [], ◌∷◌, length
 use Rattle.ss_summary.specs.Summaries.{summary_of, time_at_end}
 use Rattle.ss_summary.specs.Points.{Point}
 use Rattle.ss_model.specs.Boundaries.{boundaries}
-use Rattle.ss_target.specs.Rule.{Rule}
+use Rattle.ss_targets.specs.Rule.{Rule}
 use Rattle.ss_model.specs.declared.types.Window.{Window}
 
 -- the windows of values from a position on, cut after each boundary

@@ -9,7 +9,7 @@ ghost use Rattle.ss_model.specs.Closed.{closed};
 ghost use Rattle.ss_model.specs.Decay.{NoneIsDue};
 ghost use Rattle.ss_model.specs.Joins.{JoinsDue, JoinsTwo};
 ghost use Rattle.ss_model.specs.Marks.{lies_free};
-ghost use Rattle.ss_target.specs.Rule.{Rule};
+ghost use Rattle.ss_targets.specs.Rule.{Rule};
 ghost use Rattle.ss_model.specs.Tiling.{AreWindows};
 ghost use Rattle.ss_model.specs.declared.types.Window.{Window};
 

@@ -1,10 +1,10 @@
 // Laws on how many windows stand and how long each is, each the contract of a function that does nothing.
 ghost use Rattle.std.specs.Prelude.{◌≡◌, ◌+◌, ◌-◌, ◌*◌, ◌<◌, ◌≤◌, ℕ, ℤ, List, length, map, All};
-ghost use Rattle.ss_windowing.specs.Windowing.{cut, ArePositive, NeverFall};
+ghost use Rattle.ss_targets.specs.Windowing.{cut, ArePositive, NeverFall};
 ghost use Rattle.ss_summary.specs.Points.{Point};
 ghost use Rattle.ss_model.specs.Windows.{windows, taken};
 ghost use Rattle.ss_model.specs.Closed.{closed};
-ghost use Rattle.ss_target.specs.Rule.{Rule, without_step};
+ghost use Rattle.ss_targets.specs.Rule.{Rule, without_step};
 ghost use Rattle.ss_model.specs.Tiling.{AreWindows};
 ghost use Rattle.ss_model.specs.Decay.{cover, ends_of, steps_met, IsInStep, NoneIsDue, IsWithinTarget};
 ghost use Rattle.ss_model.specs.declared.types.Window.{Window};

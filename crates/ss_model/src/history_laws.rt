@@ -2,14 +2,14 @@
 ghost use Rattle.std.specs.Prelude.{◌≡◌, ◌≢◌, ◌+◌, ◌-◌, ◌*◌, ◌<◌, ◌≤◌, ◌↔◌, ℕ, List, [], ◌∷◌, ◌++◌, length, map, slice_get, All, IfSome, None, Some};
 ghost use Rattle.ss_catalog.specs.Events.{event_name};
 ghost use Rattle.ss_catalog.specs.declared.event.Event.{Event};
-ghost use Rattle.ss_target.specs.Lengths.{lengths_of};
+ghost use Rattle.ss_targets.specs.Lengths.{lengths_of};
 ghost use Rattle.ss_summary.specs.Points.{Origin, Point};
 ghost use Rattle.ss_model.specs.Decay.{cover, steps_met, IsReadWithinTarget, IsWithinTarget};
 ghost use Rattle.ss_model.specs.History.{CanBeSaid, landmarks_of, values_of, Happened};
 ghost use Rattle.ss_model.specs.Marks.{later, latest_of};
 ghost use Rattle.ss_model.specs.Origins.{as_old, unfiltered_stream};
 ghost use Rattle.ss_model.specs.Refusals.{IsHistory, refuses};
-ghost use Rattle.ss_target.specs.Rule.{rule_of};
+ghost use Rattle.ss_targets.specs.Rule.{rule_of};
 ghost use Rattle.ss_model.specs.Shown.{placed_of};
 ghost use Rattle.ss_model.specs.Standing.{IsState};
 ghost use Rattle.ss_model.specs.State.{last_time, state, Stream, stream_named, stream_numbered, values_in};

@@ -5,11 +5,11 @@ ghost use Rattle.ss_summary.specs.Summaries.{summary_of, joined};
 ghost use Rattle.ss_summary.specs.Points.{Point};
 ghost use Rattle.ss_model.specs.Windows.{windows, taken, newest_time, time_of_last};
 ghost use Rattle.ss_model.specs.Closed.{closed, joined_window, last_position};
-ghost use Rattle.ss_target.specs.Rule.{Rule};
+ghost use Rattle.ss_targets.specs.Rule.{Rule};
 ghost use Rattle.ss_model.specs.Tiling.{AreWindows, AreNeighbours};
 ghost use Rattle.ss_model.specs.declared.types.Window.{Window};
 
-use ss_windowing::MOST_VALUES;
+use ss_base::MOST_VALUES;
 
 /// Incremental equals from scratch: the windows of one more value are the windows before and the new value as a
 /// window of its own, where each run of neighbours that may be one is joined.

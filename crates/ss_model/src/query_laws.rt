@@ -10,7 +10,7 @@ ghost use Rattle.ss_model.specs.Interval.{presence_of, split_windows};
 ghost use Rattle.ss_model.specs.History.{marked_of, values_of, Happened};
 ghost use Rattle.ss_model.specs.Marks.{marked_values};
 ghost use Rattle.ss_model.specs.Refusals.{IsHistory};
-ghost use Rattle.ss_target.specs.Rule.{Rule};
+ghost use Rattle.ss_targets.specs.Rule.{Rule};
 ghost use Rattle.ss_model.specs.State.{state};
 ghost use Rattle.ss_model.specs.Truth.{is_one_of, RiseAtFree, true_count, true_greatest, true_least, true_presence, true_sum};
 ghost use Rattle.ss_model.specs.Windows.{windows};

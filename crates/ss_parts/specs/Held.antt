@@ -5,7 +5,8 @@ use Rattle.std.specs.Option.{option_map_or}
 use Rattle.std.specs.List.{range_with_len, IsDistinct}
 use Rattle.std.specs.List.Sorted.{IsPermutation, IsStrictlyIncreasing}
 use Rattle.ss_journal.specs.Redo.{SlotMap}
-use Rattle.ss_journal.specs.declared.format.TheConstants.{MOST_SLOTS, SLOT_SIZE}
+use Rattle.ss_journal.specs.declared.format.TheConstants.{MOST_SLOTS}
+use Rattle.ss_base.specs.declared.limits.TheConstants.{SLOT_SIZE}
 use Rattle.ss_journal.specs.declared.put.Put.{Put}
 use Rattle.ss_records.specs.Live.{is_live, are_zeros}
 use Rattle.ss_catalog.specs.Names.{same_name}
@@ -18,8 +19,8 @@ use Rattle.ss_landmarks.specs.Landmark.{Landmark, LandmarkValue}
 use Rattle.ss_landmarks.specs.Landmarks.{AreKnown}
 use Rattle.ss_landmarks.specs.Order.{AllEndBy}
 use Rattle.ss_line.specs.declared.entry.Entry.{Entry}
-use Rattle.ss_target.specs.Targets.{params_of}
-use Rattle.ss_windowing.specs.declared.decay.TheConstants.{MOST_VALUES}
+use Rattle.ss_targets.specs.Targets.{params_of}
+use Rattle.ss_base.specs.declared.limits.TheConstants.{MOST_VALUES}
 use Rattle.ss_model.specs.Closed.{last_position}
 use Rattle.ss_model.specs.Standing.{IsState}
 use Rattle.ss_model.specs.State.{Stream, last_time}

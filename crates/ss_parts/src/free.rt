@@ -1,18 +1,18 @@
 // Windows among landmarks.
 ghost use Rattle.std.specs.Prelude.{◌≡◌, ◌+◌, ◌≤◌};
 ghost use Rattle.ss_landmarks.specs.Free.{is_free};
-ghost use Rattle.ss_landmarks.specs.declared.landmarks.TheConstants.{LATEST_TIME};
+ghost use Rattle.ss_base.specs.declared.limits.TheConstants.{LAST_TIME};
 ghost use Rattle.ss_summary.specs.Figures.{IsPossible};
 ghost use Rattle.ss_model.specs.Marks.{lies_free};
 
+use ss_base::Steps;
 use ss_landmarks::Landmarks;
 use ss_model::Window;
-use ss_steps::Steps;
 use std::sync::ledger::Ledger;
 
 // Whether no landmark covers the time.
 fn is_free<L: Ledger>(landmarks: &Landmarks, t: u64, searches: &mut Steps<L>) -> bool
-    requires { t ≤ LATEST_TIME }
+    requires { t ≤ LAST_TIME }
     ensures free { result ≡ is_free landmarks.now.landmarks t }
     ensures one_search { searches.new ≡ searches.old + 1 }
 {

@@ -2,7 +2,7 @@
 use ss_catalog::{Name, StreamId};
 use ss_landmarks::Landmarks;
 use ss_line::Line;
-use ss_target::Target;
+use ss_targets::Target;
 
 /// A stream as a store holds it: what its record says and in which slot it lies, the greatest time that it has, its windows
 /// in order, each as its positions and the slot of its record, and its landmarks with their values and the slot of each record.

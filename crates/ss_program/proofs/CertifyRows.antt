@@ -11,11 +11,11 @@ use Rattle.ss_command.specs.Grammar.{meaning}
 use Rattle.ss_command.specs.Lines.{ended_lines, unended}
 use Rattle.ss_command.specs.Words.{words}
 use Rattle.ss_fields.specs.Words.{is_number, number_of, number_up_to, signed_of}
-use Rattle.ss_contents.specs.Attained.{IsTruthOfLike}
-use Rattle.ss_contents.specs.Contents.{contents_of}
+use Rattle.ss_laws.specs.Attained.{IsTruthOfLike}
+use Rattle.ss_laws.specs.Contents.{contents_of}
 use Rattle.ss_model.specs.Answers.{outcome_of, refuses_query}
 use Rattle.ss_model.specs.State.{state}
-use Rattle.ss_windowing.specs.Windowing.{window_index}
+use Rattle.ss_targets.specs.Windowing.{window_index}
 
 -- lines, each with its line end
 abbrev text : List (List ℕ) → List ℕ

@@ -6,7 +6,8 @@ use Rattle.ss_program.proofs.Common.{most_needed, length-uses, UsesAtMost-more, 
 use Rattle.ss_program.proofs.Common.{acked_till, by_crash, by_itself, offered_in, Generates, generated_lines, History, Serves, accepted, steps, Talk, begun}
 use Rattle.ss_program.proofs.Common.{begun_over, plain_talk, Status, Done, Usage, RefusedStore, DiskFault, SourceFault, SinkFault, OutOfMemory, InputLimit}
 use Rattle.ss_program.proofs.Common.{RecordChanged}
-use Rattle.ss_journal.specs.declared.format.TheConstants.{FIRST_SLOT, MOST_SLOTS, SLOT_SIZE}
+use Rattle.ss_journal.specs.declared.format.TheConstants.{FIRST_SLOT, MOST_SLOTS}
+use Rattle.ss_base.specs.declared.limits.TheConstants.{SLOT_SIZE}
 use Rattle.ss_program.proofs.HeldLemmas.{StandsShortForFirst-within}
 use Rattle.ss_program.proofs.OverLemmas.{accepted-over, acks-over}
 

@@ -99,7 +99,7 @@ pub use Rattle.ss_outside.specs.Source.{Moves, RoseBy}
 pub use Rattle.ss_outside.specs.Step.{Step}
 pub use Rattle.ss_outside.specs.Verdict.{Counted, Rose, fine, Verdict, verdict, failed}
 pub use Rattle.ss_outside.specs.declared.source.Failed.{Failed}
-pub use Rattle.ss_power.specs.Power.{power_length}
+pub use Rattle.ss_targets.specs.Power.{power_length}
 pub use Rattle.ss_program.specs.Amid.{Amid, AreOwed, GoesAmid, HasRoomForReply, IsAmid, IsAtRest, IsReadyToServe, TakesFurther, TakesNone, one_line_more}
 pub use Rattle.ss_program.specs.Amid.{owed_by, with_text, Owed}
 pub use Rattle.ss_program.specs.Amid.{StagesBrought, TakesBrought, TakesTurn, amid, OfAmid, TakesBytes, TakesLast, TakesOrdered, StagesFramed, staged_replies}
@@ -185,4 +185,4 @@ pub use Rattle.ss_store.specs.declared.error.ApplyError.{ApplyError}
 pub use Rattle.ss_store.specs.declared.error.OpenError.{OpenError}
 pub use Rattle.ss_store.specs.declared.surveying.Survey.{Survey}
 pub use Rattle.ss_summary.specs.Points.{Origin, New, Point, Old}
-pub use Rattle.ss_windowing.specs.Windowing.{window_index}
+pub use Rattle.ss_targets.specs.Windowing.{window_index}

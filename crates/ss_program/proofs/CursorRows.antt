@@ -5,7 +5,7 @@ use Rattle.std.specs.Fmt.{digits}
 use Rattle.ss_command.specs.declared.command.Command.TheVariants.{List as ListAll}
 use Rattle.ss_model.specs.Refusals.{refuses}
 use Rattle.ss_model.specs.State.{state}
-use Rattle.ss_windowing.specs.Windowing.{window_index}
+use Rattle.ss_targets.specs.Windowing.{window_index}
 use Rattle.ss_sessions.specs.Cursors.{refuses_cursor}
 use Rattle.ss_sessions.specs.declared.order.Order.TheVariants.{Command, Open, Next, Close}
 

@@ -15,7 +15,8 @@ use Rattle.ss_model.specs.declared.types.Window.{Window}
 use Rattle.ss_report.specs.declared.reply.Reply.TheVariants.{Window as WindowRow}
 use Rattle.ss_sessions.proofs.CursorLemmas.{cursor_of-with_cursor}
 use Rattle.ss_sessions.specs.Cursors.{refuses_cursor}
-use Rattle.ss_sessions.specs.declared.TheConstants.{ADDRESS, SESSIONS}
+use Rattle.ss_sessions.specs.declared.TheConstants.{ADDRESS}
+use Rattle.ss_base.specs.declared.limits.TheConstants.{MOST_SESSIONS}
 use Rattle.ss_program.proofs.CursorLemmas.{cursor-stands, cursor_of-with, next-shown}
 use Rattle.ss_program.proofs.SessionLemmas.{after_lines-form}
 use Rattle.ss_sessions.specs.declared.order.Order.TheVariants as orders
@@ -93,14 +94,14 @@ pub turn-heard : (framed : Bool) (talk : Talk) (line : List ℕ) (spoken : Spoke
 turn-heard framed talk line spoken form heard = ap (λ f. turn_in f talk line) form ∙ kept-heard framed talk (unless_long line) spoken heard
 
 -- the number of a session is below that of all
-session-below : (word : List ℕ) (session : ℕ) → session_of word ≡ Some session → session < SESSIONS
+session-below : (word : List ℕ) (session : ℕ) → session_of word ≡ Some session → session < MOST_SESSIONS
 session-below [] session is = cc
 session-below (a ∷ []) session is = cc
 session-below (a ∷ digit ∷ []) session is =
-    let both = cond_some (a == ADDRESS && nat_le 48 digit && nat_lt digit (48 + SESSIONS)) (digit - 48) session is in
-    let tests = three_tests (a == ADDRESS) (nat_le 48 digit) (nat_lt digit (48 + SESSIONS)) both.0 in
+    let both = cond_some (a == ADDRESS && nat_le 48 digit && nat_lt digit (48 + MOST_SESSIONS)) (digit - 48) session is in
+    let tests = three_tests (a == ADDRESS) (nat_le 48 digit) (nat_lt digit (48 + MOST_SESSIONS)) both.0 in
     let low = leb-true 48 digit tests.1 in
-    let high = ltb-true digit (48 + SESSIONS) tests.2 in
+    let high = ltb-true digit (48 + MOST_SESSIONS) tests.2 in
     let same = both.1 in
     omega (arith, low, high, same)
 session-below (a ∷ b ∷ c ∷ cs) session is = cc
@@ -112,19 +113,19 @@ addressed None rest session said is = cc
 addressed (Some other) rest session said is = (cc, cc)
 
 words-to : (word rest : List ℕ) (session : ℕ) (said : Result (Option Order) Refusal) → spoken_words word rest ≡ To session said →
-    (session < SESSIONS) × (order_said rest ≡ said)
+    (session < MOST_SESSIONS) × (order_said rest ≡ said)
 words-to [] rest session said is = cc
 words-to (b ∷ bs) rest session said is =
     let it = addressed (session_of (b ∷ bs)) rest session said is in
     (session-below (b ∷ bs) session it.0, it.1)
 
 comment-to : (comment : Bool) (word rest : List ℕ) (session : ℕ) (said : Result (Option Order) Refusal) →
-    (if comment then Nothing else spoken_words word rest) ≡ To session said → (session < SESSIONS) × (order_said rest ≡ said)
+    (if comment then Nothing else spoken_words word rest) ≡ To session said → (session < MOST_SESSIONS) × (order_said rest ≡ said)
 comment-to true word rest session said is = cc
 comment-to false word rest session said is = words-to word rest session said is
 
 pub kept-to : (line : Option (List ℕ)) (session : ℕ) (said : Result (Option Order) Refusal) → option_map spoken_of line ≡ Some (To session said) →
-    (session < SESSIONS) × ((rest : List ℕ) × (order_said rest ≡ said))
+    (session < MOST_SESSIONS) × ((rest : List ℕ) × (order_said rest ≡ said))
 kept-to None session said is = cc
 kept-to (Some line) session said is =
     let spoken : spoken_of line ≡ To session said = cc in
@@ -281,7 +282,7 @@ cursor-opens framed talk line name session form opens none =
     )
 
 pub cursor-shows : (framed : Bool) (talk : Talk) (between : List (List ℕ)) (start line name : List ℕ) (session count : ℕ) → talk.form ≡ Sessions framed →
-    length talk.cursors ≡ SESSIONS → IsOrder session (orders.Open name) start →
+    length talk.cursors ≡ MOST_SESSIONS → IsOrder session (orders.Open name) start →
     refuses_cursor (state talk.history) name (cursor_of talk.cursors session) ≡ None → NoneCloses session between →
     IsOrder session (orders.Next count) line →
     (s : Stream) × (stream_named name (state talk.history) ≡ Some s)
@@ -304,5 +305,5 @@ cursor-shows framed talk between start line name session count form all opens no
     )
 
 pub cursor-shows-begun : (framed : Bool) (history : History) (before : List (List ℕ)) →
-    length (after_lines (begun (Sessions framed) history) before).cursors ≡ SESSIONS
+    length (after_lines (begun (Sessions framed) history) before).cursors ≡ MOST_SESSIONS
 cursor-shows-begun framed history before = count-after (begun (Sessions framed) history) before

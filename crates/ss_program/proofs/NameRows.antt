@@ -14,7 +14,7 @@ use Rattle.ss_model.specs.Newest.{refuses_values}
 use Rattle.ss_model.specs.Refusals.{refuses, refuses_reading}
 use Rattle.ss_model.specs.State.{state}
 use Rattle.ss_sessions.specs.Cursors.{refuses_cursor}
-use Rattle.ss_windowing.specs.Windowing.{window_index}
+use Rattle.ss_targets.specs.Windowing.{window_index}
 
 -- a create makes its stream, a list names none, and each other command needs one
 needed-create : needed (Do (Create (codes "a") (exp 2 1 1))) ≡ None

@@ -9,8 +9,8 @@ use Rattle.ss_fields.specs.Words.{is_number, number_of, number_up_to, signed_of}
 use Rattle.ss_model.specs.Newest.{refuses_values}
 use Rattle.ss_model.specs.Refusals.{refuses, refuses_reading}
 use Rattle.ss_model.specs.State.{state}
-use Rattle.ss_power.specs.Power.{power_length}
-use Rattle.ss_windowing.specs.Windowing.{window_index}
+use Rattle.ss_targets.specs.Power.{power_length}
+use Rattle.ss_targets.specs.Windowing.{window_index}
 
 -- lines, each with its line end
 abbrev text : List (List ℕ) → List ℕ

@@ -10,9 +10,9 @@ use Rattle.ss_fields.specs.Words.{is_number, number_of, number_up_to, signed_of}
 use Rattle.ss_model.specs.Answers.{outcome_of, refuses_query}
 use Rattle.ss_model.specs.Refusals.{refuses}
 use Rattle.ss_model.specs.State.{state}
-use Rattle.ss_power.specs.Power.{power_length}
+use Rattle.ss_targets.specs.Power.{power_length}
 use Rattle.ss_summary.specs.Filters.{bit_of, filter_of, full, has, union}
-use Rattle.ss_windowing.specs.Windowing.{window_index}
+use Rattle.ss_targets.specs.Windowing.{window_index}
 
 -- lines, each with its line end
 abbrev text : List (List ℕ) → List ℕ

@@ -2,7 +2,7 @@
 use Rattle.ss_program.proofs.Common.{false, ◌≡◌, ◌∙◌, ◌^◌, ◌++◌, [], ◌∷◌, ap, arith, lit≤, refl, sym, ◌≢◌, ℕ, true, List, Option, Some, None, Result, Ok, codes}
 use Rattle.ss_program.proofs.Common.{map, pos, negsuc, flat_map, All-cons, All-nil, Create, Value, Drop, Params, exp, Refusal, lines, Command, Do, Happened}
 use Rattle.ss_program.proofs.Common.{added, no_store, damaged_entry, damaged_slot, damaged_stream, recovers, Count, Sum, Min, Max, Answered}
-use Rattle.ss_power.specs.Power.{power_length}
+use Rattle.ss_targets.specs.Power.{power_length}
 use Rattle.ss_program.proofs.Common.{Refused, ListHead, survey_line, summary_lines, acks, Lines, steps_within, refusal_line, status_of_open, NoneCreates}
 use Rattle.ss_program.proofs.Common.{accepted, plain_after, report, exit_number, plain_talk, turn_of, usage, no_cursors, LONGEST_INPUT, Done, Usage}
 use Rattle.ss_program.proofs.Common.{RefusedStore}
@@ -18,7 +18,7 @@ use Rattle.ss_bounds.specs.declared.extreme.Extreme.TheVariants.{Nothing}
 use Rattle.ss_model.specs.Answers.{outcome_of, refuses_query}
 use Rattle.ss_model.specs.Refusals.{refuses, refuses_reading}
 use Rattle.ss_model.specs.State.{state}
-use Rattle.ss_windowing.specs.Windowing.{window_index}
+use Rattle.ss_targets.specs.Windowing.{window_index}
 use Rattle.ss_report.specs.declared.reply.Reply.TheVariants.{Done as AckLine}
 use Rattle.ss_catalog.specs.declared.refusal.Refusal.TheVariants as refusal
 use Rattle.ss_store.specs.declared.error.OpenError.TheVariants as opening

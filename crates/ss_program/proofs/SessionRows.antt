@@ -10,7 +10,7 @@ use Rattle.ss_fields.specs.Words.{is_number, number_of, number_up_to, signed_of}
 use Rattle.ss_model.specs.Refusals.{refuses}
 use Rattle.ss_model.specs.State.{state}
 use Rattle.ss_sessions.specs.Cursors.{refuses_cursor}
-use Rattle.ss_windowing.specs.Windowing.{window_index}
+use Rattle.ss_targets.specs.Windowing.{window_index}
 
 -- lines, each with its line end
 abbrev text : List (List ℕ) → List ℕ

@@ -1,8 +1,8 @@
 -- Worked rows of streams whose windows cross no boundary of the clock, each computed from its lines.
 use Rattle.ss_program.proofs.Common.{◌≡◌, ◌++◌, [], ◌∷◌, refl, ℕ, List, codes, flat_map, report, plain_talk}
-use Rattle.ss_power.specs.Power.{power_length}
+use Rattle.ss_targets.specs.Power.{power_length}
 use Rattle.ss_catalog.specs.Series.{numbers_from}
-use Rattle.ss_windowing.specs.Windowing.{window_index}
+use Rattle.ss_targets.specs.Windowing.{window_index}
 use Rattle.ss_bounds.specs.Split.{sum_interval}
 use Rattle.std.specs.Fmt.{digits}
 use Rattle.ss_catalog.specs.Names.{is_name}

@@ -7,8 +7,8 @@ use Rattle.ss_certify.specs.Called.{evidence_in}
 use Rattle.ss_certify.specs.Evidence.{end_asked, IsEvidence, IsRight}
 use Rattle.ss_certify.specs.Told.{told}
 use Rattle.ss_certify.specs.declared.evidence.Evidence.{Evidence}
-use Rattle.ss_contents.specs.Attained.{IsTruthOfLike}
-use Rattle.ss_contents.specs.Contents.{contents_of}
+use Rattle.ss_laws.specs.Attained.{IsTruthOfLike}
+use Rattle.ss_laws.specs.Contents.{contents_of}
 use Rattle.ss_model.specs.Answers.{outcome_of}
 use Rattle.ss_model.specs.State.{Stream, state, stream_named}
 use Rattle.ss_model.specs.declared.outcome.Outcome.{Outcome}

@@ -10,7 +10,7 @@ use Rattle.ss_certify.specs.Called.{evidence_in}
 use Rattle.ss_certify.specs.Told.{told}
 use Rattle.ss_certify.specs.declared.evidence.Evidence.{Evidence}
 use Rattle.ss_command.specs.Grammar.{meaning}
-use Rattle.ss_command.specs.declared.TheConstants.{MOST_SESSIONS}
+use Rattle.ss_base.specs.declared.limits.TheConstants.{MOST_SESSIONS}
 use Rattle.ss_command.specs.declared.command.Command.{Command}
 use Rattle.ss_command.specs.declared.command.Command.TheVariants.{Do, Ask, Certify, Series as AskRows, Last, Values, Windows, List as ListAll}
 use Rattle.ss_frames.specs.Frame.{FrameState}

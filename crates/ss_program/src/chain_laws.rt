@@ -1,7 +1,8 @@
 // Laws of runs over one file, one after the other, each the contract of a function that does nothing.
 ghost use Rattle.std.specs.Prelude.{◌≡◌, ◌+◌, ◌*◌, ◌<◌, ◌≤◌, ◌++◌, [], ◌∷◌, ℕ, List, IsTrue, length, max, take};
 ghost use Rattle.ss_journal.specs.Format.{is_unborn};
-ghost use Rattle.ss_journal.specs.declared.format.TheConstants.{FIRST_SLOT, MOST_SLOTS, SLOT_SIZE};
+ghost use Rattle.ss_journal.specs.declared.format.TheConstants.{FIRST_SLOT, MOST_SLOTS};
+ghost use Rattle.ss_base.specs.declared.limits.TheConstants.{SLOT_SIZE};
 ghost use Rattle.ss_store.specs.Recover.{Stands};
 ghost use Rattle.ss_store.specs.Uses.{UsesAtMost, most_needed};
 ghost use Rattle.ss_program.specs.Chained.{AreLinked, ExtendsAll, Link, acked_in, offered_in};

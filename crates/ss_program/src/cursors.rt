@@ -6,7 +6,7 @@ ghost use Rattle.ss_outside.specs.Step.{Step};
 ghost use Rattle.ss_outside.specs.Verdict.{Counted, verdict};
 ghost use Rattle.ss_report.specs.Text.{said_line};
 ghost use Rattle.ss_sessions.specs.Cursors.{cursor_of, with_cursor};
-ghost use Rattle.ss_sessions.specs.declared.TheConstants.{SESSIONS};
+ghost use Rattle.ss_base.specs.declared.limits.TheConstants.{MOST_SESSIONS};
 ghost use Rattle.ss_program.specs.Answer.{IsServing, SendsRows};
 ghost use Rattle.ss_program.specs.Cursor.{close_brings, next_brings, open_brings, placed_rows};
 ghost use Rattle.ss_program.specs.Line.{only_replies, text_said};
@@ -31,7 +31,7 @@ pub fn open_cursor<D: Disk>(
     name: &Name,
     disk: &mut D,
 ) -> Result<Reply, Status>
-    requires session { session < SESSIONS }
+    requires session { session < MOST_SESSIONS }
     requires serves { IsServing (D.seen disk.old) store.old }
     ensures opens { Step (disk_verdict (ended result)) (D.seen disk.old) (D.seen disk.new)
         (OpensBrought store.old.records (λ history. open_brings history sessions.old session name.now) sessions.new result) }
@@ -57,7 +57,7 @@ fn send_next<K: Sink>(
     count: u32,
     sink: &mut K,
 ) -> Result<(), Failed>
-    requires session { session < SESSIONS }
+    requires session { session < MOST_SESSIONS }
     requires left { (rows : List PlacedWindow) × (cursor_of sessions.old session ≡ Some rows) × (count ≤ length rows) }
     ensures sends { (rows : List PlacedWindow) → cursor_of sessions.old session ≡ Some rows →
         SendsRows (Some session) (K.held sink.old) (K.held sink.new) (placed_rows (take count rows)) result }
@@ -83,7 +83,7 @@ pub fn show_next<K: Sink>(
     count: u32,
     sink: &mut K,
 ) -> Result<(), Failed>
-    requires { session < SESSIONS }
+    requires { session < MOST_SESSIONS }
     ensures says { Puts (text_said (Some session) (next_brings sessions.old session count).brought)
         (K.held sink.old) (K.faults sink.old) (K.held sink.new) (K.faults sink.new) result }
     ensures cursors { OnOk result (sessions.new ≡ (next_brings sessions.old session count).cursors) }
@@ -98,7 +98,7 @@ pub fn show_next<K: Sink>(
 
 /// Closes the cursor of a session, and answers the reply to that.
 pub fn close_cursor(sessions: &mut Sessions, session: u8) -> Reply
-    requires { session < SESSIONS }
+    requires { session < MOST_SESSIONS }
     ensures reply { (close_brings sessions.old session).brought ≡ only_replies (result ∷ []) }
     ensures cursors { sessions.new ≡ (close_brings sessions.old session).cursors }
 {

@@ -6,7 +6,7 @@ ghost use Rattle.ss_outside.specs.Step.{Step};
 ghost use Rattle.ss_sessions.specs.Cursors.{Cursors};
 ghost use Rattle.ss_sessions.specs.Grammar.{spoken_of};
 ghost use Rattle.ss_sessions.specs.Said.{IsOrderInTime};
-ghost use Rattle.ss_sessions.specs.declared.TheConstants.{SESSIONS};
+ghost use Rattle.ss_base.specs.declared.limits.TheConstants.{MOST_SESSIONS};
 ghost use Rattle.ss_program.specs.Amid.{HasRoomForReply, IsReadyToServe, TakesBrought, TakesOrdered, TakesTurn, amid, owed_by};
 ghost use Rattle.ss_program.specs.Cursor.{close_brings, next_brings, open_brings, order_in};
 ghost use Rattle.ss_program.specs.Line.{meaning_in};
@@ -37,7 +37,7 @@ fn take_open<D: Disk, K: Sink>(
     disk: &mut D,
     sink: &mut K,
 ) -> Result<(), Status>
-    requires session { session < SESSIONS }
+    requires session { session < MOST_SESSIONS }
     requires ready { IsReadyToServe (D.seen disk.old) store.old waiting.old }
     requires room { HasRoomForReply waiting.old }
     ensures takes { Step (disk_verdict (ended result)) (D.seen disk.old) (D.seen disk.new)
@@ -66,7 +66,7 @@ fn take_next<D: Disk, K: Sink>(
     disk: &mut D,
     sink: &mut K,
 ) -> Result<(), Status>
-    requires session { session < SESSIONS }
+    requires session { session < MOST_SESSIONS }
     requires ready { IsReadyToServe (D.seen disk.old) store.old waiting.old }
     ensures takes { Step (disk_verdict (ended result)) (D.seen disk.old) (D.seen disk.new)
         (TakesOrdered session (λ history cursors. next_brings cursors session count)
@@ -88,7 +88,7 @@ fn take_close<D: Disk, K: Sink>(
     disk: &mut D,
     sink: &mut K,
 ) -> Result<(), Status>
-    requires session { session < SESSIONS }
+    requires session { session < MOST_SESSIONS }
     requires ready { IsReadyToServe (D.seen disk.old) store.old waiting.old }
     requires room { HasRoomForReply waiting.old }
     ensures takes { Step (disk_verdict (ended result)) (D.seen disk.old) (D.seen disk.new)
@@ -113,7 +113,7 @@ fn take_order<D: Disk, K: Sink>(
     disk: &mut D,
     sink: &mut K,
 ) -> Result<(), Status>
-    requires session { session < SESSIONS }
+    requires session { session < MOST_SESSIONS }
     requires in_time { IsOrderInTime order.now }
     requires ready { IsReadyToServe (D.seen disk.old) store.old waiting.old }
     requires room { HasRoomForReply waiting.old }
@@ -145,7 +145,7 @@ fn take_said<D: Disk, K: Sink>(
     disk: &mut D,
     sink: &mut K,
 ) -> Result<(), Status>
-    requires session { session < SESSIONS }
+    requires session { session < MOST_SESSIONS }
     requires in_time { IfOk said (λ order. IfSome order IsOrderInTime) }
     requires ready { IsReadyToServe (D.seen disk.old) store.old waiting.old }
     requires room { HasRoomForReply waiting.old }

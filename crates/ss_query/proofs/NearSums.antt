@@ -8,7 +8,7 @@ use Rattle.ss_bounds.proofs.Held.{held, held-is, low_sum-small, sum-small}
 use Rattle.ss_bounds.proofs.LeastLemmas.{high_sum-rest}
 use Rattle.ss_bounds.proofs.Numbers.{times-down, times-up}
 use Rattle.ss_summary.specs.Figures.{Figures, IsPossible}
-use Rattle.ss_query.specs.Asked.{IsNear}
+use Rattle.ss_base.specs.Near.{IsNear}
 
 least_of-near : (f : ℕ → ℤ) (a n b : ℕ) → ((x : ℕ) → a ≤ x → x ≤ a + n → unsigned_abs (f x) < b) → unsigned_abs (least_of f a n) < b
 least_of-near f a zero b each = each a (omega arith) (omega arith)

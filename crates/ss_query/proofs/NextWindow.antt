@@ -28,7 +28,7 @@ use Rattle.ss_model.specs.Interval.{is_apart}
 use Rattle.ss_model.specs.Marks.{lies_free}
 use Rattle.ss_parts.specs.Held.{entries_of, marks_held, records_held, span_held, span_of, stream_record, times_held, times_of, window_record}
 use Rattle.ss_parts.specs.declared.parts.StreamParts.{StreamParts}
-use Rattle.ss_summary.specs.declared.summary.TheConstants.{GREATEST_COUNT}
+use Rattle.ss_base.specs.declared.limits.TheConstants.{MOST_VALUES}
 use Rattle.ss_query.specs.Answered.{window_slots_of}
 use Rattle.ss_query.specs.Asked.{Follows, HasCuts, HasRoom, marks_seen, seen_after, seen_with}
 use Rattle.ss_query.specs.Held.{IsHeldIn}
@@ -67,7 +67,7 @@ pub record AreLeft (s : Stream) (landmarks : List Landmark) (kind : Kind) (from 
   pub stand : StandFrom (position + 1) time windows
   pub taken_so_far : seen.taken ≤ position
   pub time_so_far : seen.next_time ≤ time
-  pub few : position + taken windows ≤ GREATEST_COUNT
+  pub few : position + taken windows ≤ MOST_VALUES
 
 -- how far a line was walked
 pub record IsWalkedTo (part : StreamParts) (from to : ℕ) (seen : Seen) (next : Option At) : Type 0 where
@@ -101,7 +101,7 @@ pub record IsNext (s : Stream) (landmarks : List Landmark) (kind : Kind) (from t
   pub taken_so_far : seen.taken ≤ position
   pub later : seen.next_time ≤ window.summary.t_first
   pub rises : window.summary.t_first ≤ window.summary.t_last
-  pub few : position + window.summary.count + taken behind ≤ GREATEST_COUNT
+  pub few : position + window.summary.count + taken behind ≤ MOST_VALUES
   pub stand : StandFrom (position + window.summary.count + 1) (window.summary.t_last + 1) behind
 
 module _ {s : Stream} {landmarks : List Landmark} {kind : Kind} {from to : ℕ} {before : List Entry} {entry : Entry} {after : List Entry}

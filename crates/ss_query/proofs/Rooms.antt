@@ -6,7 +6,7 @@ use Rattle.ss_landmarks.specs.Landmark.{Landmark, LandmarkValue}
 use Rattle.ss_model.specs.Interval.{is_whole}
 use Rattle.ss_model.specs.declared.types.Window.{Window}
 use Rattle.ss_summary.specs.Figures.{Figures}
-use Rattle.ss_summary.specs.declared.summary.TheConstants.{GREATEST_COUNT}
+use Rattle.ss_base.specs.declared.limits.TheConstants.{MOST_VALUES}
 use Rattle.ss_query.specs.Asked.{Follows, HasRoom, joined_with, marks_seen, seen_with}
 use Rattle.ss_query.specs.declared.asking.Seen.{Seen}
 
@@ -15,11 +15,11 @@ HasRoom-none kind values = record { few = omega arith; whole = tt }
 
 -- a window that comes next is later than the whole ones
 pub whole-fits : (seen : Seen) (w : Window) → HasRoom seen → Follows seen w →
-    IfSome seen.whole (λ older. (older.t_last < w.summary.t_first) × (older.count + w.summary.count ≤ GREATEST_COUNT))
+    IfSome seen.whole (λ older. (older.t_last < w.summary.t_first) × (older.count + w.summary.count ≤ MOST_VALUES))
 whole-fits seen w room follows = go seen.whole room.whole
   where
     go : (whole : Option Figures) → IfSome whole (λ f. (f.t_last < seen.next_time) × (f.count ≤ seen.taken)) →
-        IfSome whole (λ older. (older.t_last < w.summary.t_first) × (older.count + w.summary.count ≤ GREATEST_COUNT))
+        IfSome whole (λ older. (older.t_last < w.summary.t_first) × (older.count + w.summary.count ≤ MOST_VALUES))
     go None is = tt
     go (Some f) is = (omega (arith, is.0, follows.1), omega (arith, is.1, follows.0))
 

@@ -1,4 +1,5 @@
 -- What a query makes of the landmarks of a stream, and of its windows, read one after the other.
+use Rattle.ss_base.specs.Near.{IsNear}
 use Rattle.std.specs.Prelude.{◌≡◌, ℕ, ◌+◌, ◌^◌, ◌<◌, ◌≤◌, ◌&&◌, nat_le, nat_lt, if◌then◌else◌, ℤ, pos, ◌+ℤ◌, unsigned_abs}
 use Rattle.std.specs.Prelude.{List, fold, IfSome, Option, None, Some}
 use Rattle.std.specs.Option.{option_map, option_map_or}
@@ -22,7 +23,7 @@ use Rattle.ss_model.specs.declared.outcome.Presence.TheVariants.{Absent, Present
 use Rattle.ss_model.specs.declared.types.Window.{Window}
 use Rattle.ss_summary.specs.Figures.{Figures}
 use Rattle.ss_summary.specs.Summaries.{joined}
-use Rattle.ss_summary.specs.declared.summary.TheConstants.{GREATEST_COUNT}
+use Rattle.ss_base.specs.declared.limits.TheConstants.{MOST_VALUES}
 use Rattle.ss_query.specs.declared.asking.Seen.{Seen}
 use Rattle.ss_query.specs.declared.cut.Cut.{Cut}
 
@@ -94,7 +95,7 @@ presence_with landmarks kinds.SumGuess from to known w = known
 
 -- a window may come next: it has no more values than a stream can have besides those so far, and its times are behind theirs
 abbrev pub Follows : Seen → Window → Type 0
-Follows seen w = (seen.taken + w.summary.count ≤ GREATEST_COUNT) × (seen.next_time ≤ w.summary.t_first)
+Follows seen w = (seen.taken + w.summary.count ≤ MOST_VALUES) × (seen.next_time ≤ w.summary.t_first)
 
 -- what is known with one more window
 abbrev pub seen_with : List Landmark → Kind → ℕ → ℕ → Seen → Window → Seen
@@ -118,7 +119,7 @@ seen_of kind from to s = fold (seen_after s.landmarks kind from to) (marks_seen 
 
 -- the values so far are no more than a stream can have, and the whole windows among them lie before the time of the next one
 pub record HasRoom (seen : Seen) : Type 0 where
-  pub few : seen.taken ≤ GREATEST_COUNT
+  pub few : seen.taken ≤ MOST_VALUES
   pub whole : IfSome seen.whole (λ f. (f.t_last < seen.next_time) × (f.count ≤ seen.taken))
 
 -- the figures of a cut window are those of one that a range may split, and it has as many values as its positions say
@@ -162,10 +163,6 @@ seen_max whole marked = greater (option_map (λ (f : Figures). f.max) whole) mar
 pub record IsFewMarked (marked : Tally) : Type 0 where
   pub count : marked.count ≤ 2 ^ 24
   pub sum : unsigned_abs marked.sum ≤ 2 ^ 87
-
--- far within 128 bits
-abbrev pub IsNear : ℤ → Type 0
-IsNear z = unsigned_abs z < 2 ^ 120
 
 -- from how many to how many values lie in the range, and from which to which sum
 abbrev pub counts_seen : Seen → ℕ × ℕ

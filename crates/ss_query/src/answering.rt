@@ -12,11 +12,11 @@ ghost use Rattle.ss_query.specs.Answered.{AnswersStream, window_slots_of};
 ghost use Rattle.ss_query.specs.Reading.{KeepsRecords, verdict_of_read};
 
 use crate::{Outcome, ReadError, outcome_seen, see_from};
+use ss_base::Steps;
 use ss_catalog::Query;
 use ss_outside::Disk;
 use ss_parts::StreamParts;
 use ss_records::Records;
-use ss_steps::Steps;
 use std::sync::ledger::Ledger;
 
 /// What a stream answers to a query: what is known of it from its first window on, as an answer. It writes nothing, and takes no

@@ -6,21 +6,22 @@ ghost use Rattle.ss_landmarks.specs.ValuesIn.{values_between};
 ghost use Rattle.ss_model.specs.Closed.{last_position};
 ghost use Rattle.ss_model.specs.Interval.{is_apart, is_split, is_whole, split_figures};
 ghost use Rattle.ss_model.specs.Marks.{lies_free};
-ghost use Rattle.ss_summary.specs.declared.summary.TheConstants.{GREATEST_COUNT};
-ghost use Rattle.ss_query.specs.Asked.{Follows, HasCuts, IsCut, IsFewMarked, IsNear, counts_of, counts_seen, cut_of, figures_of, joined_with, seen_count};
+ghost use Rattle.ss_base.specs.declared.limits.TheConstants.{MOST_VALUES};
+ghost use Rattle.ss_query.specs.Asked.{Follows, HasCuts, IsCut, IsFewMarked, counts_of, counts_seen, cut_of, figures_of, joined_with, seen_count};
+ghost use Rattle.ss_base.specs.Near.{IsNear};
 ghost use Rattle.ss_query.specs.Asked.{seen_sum, left_with, marks_seen, outcome_seen, right_with, seen_with, sums_of, sums_seen, whole_with};
 
 use crate::Cut;
 use crate::presence::{presence_of_marks, presence_with};
+use ss_base::{LAST_TIME, MOST_VALUES, Steps};
 use ss_bounds::{
     Split, count_bounds, count_guess, greater, lesser, max_bounds, min_bounds, sum_bounds,
     sum_guess,
 };
-use ss_catalog::{Kind, LAST_TIME, Query};
+use ss_catalog::{Kind, Query};
 use ss_landmarks::{Landmarks, Tally};
 use ss_model::{Outcome, Presence, Window};
-use ss_steps::Steps;
-use ss_summary::{GREATEST_COUNT, Summary};
+use ss_summary::Summary;
 use std::sync::ledger::Ledger;
 
 /// What the landmarks and the windows that were read so far say of a range of times.
@@ -59,12 +60,12 @@ pub fn nothing_seen(query: &Query, landmarks: &Landmarks) -> Seen
 
 // Whether a window may come next: a stream can have its values besides those so far, and its times are after theirs.
 pub fn follows(seen: Seen, window: &Window) -> bool
-    requires { seen.taken ≤ GREATEST_COUNT }
+    requires { seen.taken ≤ MOST_VALUES }
     ensures after { IsTrue result ↔ Follows seen window.now }
     ensures rises { window.now.summary.t_first ≤ window.now.summary.t_last }
 {
     let summary = window.summary;
-    summary.count <= GREATEST_COUNT - seen.taken && seen.next_time <= summary.t_first
+    summary.count <= MOST_VALUES - seen.taken && seen.next_time <= summary.t_first
 }
 
 // Whether all times of a window lie in the range.
@@ -167,7 +168,7 @@ fn cut_of<S: Ledger>(
 
 // A summary with the values of one more window.
 fn joined(whole: Option<Summary>, summary: Summary) -> Summary
-    requires { IfSome whole (λ older. (older.t_last < summary.t_first) × (older.count + summary.count ≤ GREATEST_COUNT)) }
+    requires { IfSome whole (λ older. (older.t_last < summary.t_first) × (older.count + summary.count ≤ MOST_VALUES)) }
     ensures { Some result ≡ joined_with whole summary }
 {
     match whole {
@@ -179,7 +180,7 @@ fn joined(whole: Option<Summary>, summary: Summary) -> Summary
 // The whole windows with one more, if it is one.
 fn whole_with(whole: Option<Summary>, query: &Query, window: &Window) -> Option<Summary>
     requires { IfSome whole (λ older. (older.t_last < window.now.summary.t_first)
-        × (older.count + window.now.summary.count ≤ GREATEST_COUNT)) }
+        × (older.count + window.now.summary.count ≤ MOST_VALUES)) }
     ensures { result ≡ whole_with query.now.from query.now.to whole window.now }
 {
     if is_whole(query, window) {
@@ -245,11 +246,11 @@ pub fn with_window<S: Ledger>(
     window: &Window,
     searches: &mut Steps<S>,
 ) -> Seen
-    requires few { seen.taken + window.now.summary.count ≤ GREATEST_COUNT }
+    requires few { seen.taken + window.now.summary.count ≤ MOST_VALUES }
     requires order { query.now.from ≤ query.now.to }
     requires free { IsTrue (lies_free landmarks.now.landmarks window.now) }
     requires whole { IfSome seen.whole (λ older. (older.t_last < window.now.summary.t_first)
-        × (older.count + window.now.summary.count ≤ GREATEST_COUNT)) }
+        × (older.count + window.now.summary.count ≤ MOST_VALUES)) }
     requires place { last_position window.now < 2 ^ 64 }
     requires cuts { HasCuts seen }
     ensures value { result ≡ seen_with landmarks.now.landmarks query.now.kind query.now.from query.now.to seen window.now }
@@ -272,7 +273,7 @@ pub fn with_window<S: Ledger>(
 fn known_count(whole: Option<Summary>, marked: Tally) -> u64
     requires { IsFewMarked marked }
     ensures value { result ≡ seen_count whole marked }
-    ensures few { result ≤ 2 * GREATEST_COUNT }
+    ensures few { result ≤ 2 * MOST_VALUES }
 {
     match whole {
         None => marked.count,
@@ -295,7 +296,7 @@ fn known_sum(whole: Option<Summary>, marked: Tally) -> i128
 // How many values of a cut window may lie in the range, where there is one.
 fn counts_of(cut: Option<Cut>) -> (u64, u64)
     ensures value { result ≡ counts_of cut }
-    ensures few { (result.0 ≤ GREATEST_COUNT) × (result.1 ≤ GREATEST_COUNT) }
+    ensures few { (result.0 ≤ MOST_VALUES) × (result.1 ≤ MOST_VALUES) }
 {
     match cut {
         None => (0, 0),

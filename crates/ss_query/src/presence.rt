@@ -8,11 +8,11 @@ ghost use Rattle.ss_query.specs.Asked.{presence_in, presence_of_marks, presence_
 
 use crate::Presence;
 use crate::asking::{is_split, is_whole, split_of};
+use ss_base::Steps;
 use ss_bounds::count_bounds;
 use ss_catalog::{Kind, Query};
 use ss_landmarks::Landmarks;
 use ss_model::Window;
-use ss_steps::Steps;
 use ss_summary::Summary;
 use std::sync::ledger::Ledger;
 

@@ -13,6 +13,7 @@ ghost use Rattle.ss_parts.specs.Held.{span_held, span_of, times_held, times_of, 
 ghost use Rattle.ss_query.specs.Reading.{IsWindowOf, KeepsRecords, ReadsWindow, verdict_of_read};
 
 use crate::ReadError;
+use ss_base::Steps;
 use ss_catalog::StreamId;
 use ss_codec::{Record, decode};
 use ss_line::Entry;
@@ -20,7 +21,6 @@ use ss_model::Window;
 use ss_outside::Disk;
 use ss_parts::{StreamParts, lies_free};
 use ss_records::Records;
-use ss_steps::Steps;
 use ss_summary::Summary;
 use std::sync::ledger::Ledger;
 

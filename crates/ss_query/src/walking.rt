@@ -13,13 +13,13 @@ ghost use Rattle.ss_query.specs.Reading.{KeepsRecords, verdict_of_read};
 
 use crate::asking::{follows, nothing_seen, with_window};
 use crate::{ReadError, Seen, read_window};
+use ss_base::Steps;
 use ss_catalog::Query;
 use ss_line::{At, Entry};
 use ss_model::Window;
 use ss_outside::Disk;
 use ss_parts::StreamParts;
 use ss_records::Records;
-use ss_steps::Steps;
 use std::sync::ledger::Ledger;
 
 // What is known with the window of an entry that begins by the end of the range. Its record is read only where it doesn't end

@@ -3,7 +3,8 @@ ghost use Rattle.std.specs.Prelude.{nat_eq};
 ghost use Rattle.lru.specs.LruCache.{IsValid};
 
 use lru::LruCache;
-use ss_journal::{PAGE_SLOTS, Page, Put, SLOT_SIZE};
+use ss_base::SLOT_SIZE;
+use ss_journal::{PAGE_SLOTS, Page, Put};
 use std::alloc::{AllocError, Global};
 use std::marker::Model;
 use std::num::NonZeroUsize;

@@ -2,9 +2,9 @@
 use crate::live::{note_puts, read_live};
 use crate::pages::Pages;
 use crate::slot_set::SlotSet;
-use ss_journal::{Journal, JournalError, MOST_SLOTS, PAGE_SLOTS, SLOT_SIZE, Txn};
+use ss_base::{SLOT_SIZE, Steps};
+use ss_journal::{Journal, JournalError, MOST_SLOTS, PAGE_SLOTS, Txn};
 use ss_outside::{Disk, Failed};
-use ss_steps::Steps;
 use std::alloc::{AllocError, Global};
 use std::marker::Model;
 use std::sync::ledger::Ledger;

@@ -22,7 +22,7 @@ pub use Rattle.ss_landmarks.specs.Free.{is_up_to}
 pub use Rattle.ss_landmarks.specs.Landmark.{all_values, change_last, closed_at, Landmark, LandmarkValue, open_landmark, opened_at, with_value}
 pub use Rattle.ss_landmarks.specs.Landmarks.{AreKnown}
 pub use Rattle.ss_landmarks.specs.Order.{AllEndBy, AreLandmarks, CanOpen, EndsBy, FollowFrom, IsLandmark, RiseFrom}
-pub use Rattle.ss_landmarks.specs.declared.landmarks.TheConstants.{LATEST_TIME}
+pub use Rattle.ss_base.specs.declared.limits.TheConstants.{LAST_TIME}
 pub use Rattle.ss_line.specs.declared.entry.Entry.{Entry}
 pub use Rattle.ss_model.proofs.FoundLemmas.{AllByRecursion_push, each-behind, each-front}
 pub use Rattle.ss_model.proofs.MarkLemmas.{ends-latest, none-latest}
@@ -74,8 +74,8 @@ pub use Rattle.ss_recover.specs.declared.recover_error.RecoverError.TheVariants.
 pub use Rattle.ss_recover.specs.declared.walking.Walk.{Walk}
 pub use Rattle.ss_summary.specs.Figures.{Figures, IsPossible}
 pub use Rattle.ss_summary.specs.Filters.{filter_of, full}
-pub use Rattle.ss_target.specs.Rule.{in_step, rule_of}
-pub use Rattle.ss_windowing.specs.declared.decay.TheConstants.{MOST_VALUES}
+pub use Rattle.ss_targets.specs.Rule.{in_step, rule_of}
+pub use Rattle.ss_base.specs.declared.limits.TheConstants.{MOST_VALUES}
 pub use Rattle.std.proofs.Common.{[], ◌%◌, ◌&&◌, ◌*◌, ◌++◌, ◌+◌, ◌-◌, ◌/◌, ◌<◌, ◌^◌, ◌||◌, ◌∙◌, ◌∷◌, ◌≡◌, ◌≤◌, ◌⊎◌, add-one, All, ap, append-nil, append_assoc}
 pub use Rattle.std.proofs.Common.{ap₂, arith, Bool, cond, drop, eqb, Err, false, filter, flat_map, fold, get_or, IfErr, IfOk, IfSome, inl, inr, is_none}
 pub use Rattle.std.proofs.Common.{IsPermutation, IsTrue, leb, leb-true, length, length-append, List, ltb, map, MatchOption, max, min, nat_eq, None, not}

@@ -8,7 +8,7 @@ use Rattle.ss_recover.proofs.Common.{sum_by-cons, sym, taken, tile_from, times_h
 use Rattle.ss_recover.proofs.Common.{without_slots, ℕ}
 use Rattle.ss_line.specs.declared.entry.At.{At}
 use Rattle.ss_line.specs.declared.line.TheConstants.{MOST_PLACES}
-use Rattle.ss_summary.specs.declared.summary.TheConstants.{GREATEST_COUNT}
+use Rattle.ss_base.specs.declared.limits.TheConstants.{MOST_VALUES}
 use Rattle.ss_model.proofs.Closes.{newest_time_push}
 use Rattle.ss_recover.specs.declared.windows.Windows.{Windows}
 use Rattle.ss_codec.specs.declared.record.Record.TheVariants as records
@@ -54,7 +54,7 @@ rise-times (w ∷ ws) = go w ws
 pub record TilesTo (all left : List Window) (next : ℕ) : Type 0 where
   pub tiles : tile_from 1 all ≡ tile_from next left
   pub so_far : next + taken left ≡ 1 + taken all
-  pub few : next ≤ GREATEST_COUNT + 1
+  pub few : next ≤ MOST_VALUES + 1
 
 pub TilesTo-next : (all left : List Window) (w : Window) (next : ℕ) → TilesTo all (w ∷ left) next → IsInside w → w.first ≡ next →
     TilesTo all left (w.first + w.summary.count)

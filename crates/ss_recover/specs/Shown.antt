@@ -12,13 +12,14 @@ use Rattle.ss_landmarks.specs.Free.{is_up_to}
 use Rattle.ss_landmarks.specs.Landmark.{Landmark, change_last, closed_at, opened_at, with_value}
 use Rattle.ss_landmarks.specs.Landmarks.{AreKnown}
 use Rattle.ss_landmarks.specs.Order.{CanClose, CanOpen, CanTake}
-use Rattle.ss_landmarks.specs.declared.landmarks.TheConstants.{LATEST_TIME, MOST_LANDMARK_SLOTS}
+use Rattle.ss_landmarks.specs.declared.landmarks.TheConstants.{MOST_LANDMARK_SLOTS}
+use Rattle.ss_base.specs.declared.limits.TheConstants.{LAST_TIME}
 use Rattle.ss_line.specs.Line.{LineState}
 use Rattle.ss_line.specs.declared.entry.At.{At}
 use Rattle.ss_line.specs.declared.entry.Entry.{Entry}
 use Rattle.ss_summary.specs.Figures.{IsPossible}
-use Rattle.ss_summary.specs.declared.summary.TheConstants.{GREATEST_COUNT}
-use Rattle.ss_target.specs.Targets.{params_of}
+use Rattle.ss_base.specs.declared.limits.TheConstants.{MOST_VALUES}
+use Rattle.ss_targets.specs.Targets.{params_of}
 use Rattle.ss_model.specs.Marks.{later, latest_of}
 use Rattle.ss_model.specs.State.{Created}
 use Rattle.ss_model.specs.Windows.{newest_time}
@@ -116,7 +117,7 @@ marks_shown marks = record {
 
 -- the last one may close when it is to, and then these are held
 abbrev pub MayClose : MarksShown → Type 0
-MayClose s = IfSome s.finish (λ t. (t ≤ LATEST_TIME) × CanClose s.landmarks t)
+MayClose s = IfSome s.finish (λ t. (t ≤ LAST_TIME) × CanClose s.landmarks t)
 
 abbrev pub with_closing : Option ℕ → List Landmark → List Landmark
 with_closing None landmarks = landmarks
@@ -179,7 +180,7 @@ is_after (Some last) t = nat_lt last t
 
 -- a window has possible figures and positions that a stream can have
 abbrev pub IsInside : Window → Type 0
-IsInside w = (1 ≤ w.first) × (w.first + w.summary.count ≤ GREATEST_COUNT + 1) × IsPossible w.summary
+IsInside w = (1 ≤ w.first) × (w.first + w.summary.count ≤ MOST_VALUES + 1) × IsPossible w.summary
 
 -- The windows of a number are held in the slots of their records.
 pub record AreWindowsOf (number : ℕ) (own : List Found) (windows : Windows) : Type 0 where

@@ -1,6 +1,6 @@
 // A stream, made of its own record and the others.
 ghost use Rattle.std.specs.Prelude.{◌≡◌, ◌<◌, All, length, IsTrue};
-ghost use Rattle.ss_target.specs.Lengths.{has_target};
+ghost use Rattle.ss_targets.specs.Lengths.{has_target};
 ghost use Rattle.ss_model.specs.declared.types.TheConstants.{MOST_RECORDS};
 ghost use Rattle.ss_recover.specs.Order.{stream_of};
 ghost use Rattle.ss_recover.specs.Shown.{BuildsAs};
@@ -10,10 +10,10 @@ use crate::RecoverError;
 use crate::found::Found;
 use crate::marking::{are_marks, later, marks_of};
 use crate::windows::{keep_step, lie_free, tile, times_rise, windows_of};
+use ss_base::Steps;
 use ss_catalog::{Name, Params, StreamId};
 use ss_parts::StreamParts;
-use ss_steps::Steps;
-use ss_target::Target;
+use ss_targets::Target;
 use std::alloc::Global;
 use std::sync::ledger::Ledger;
 

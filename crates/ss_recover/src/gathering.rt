@@ -14,7 +14,8 @@ ghost use Rattle.ss_recover.specs.Usable.{IsUsable};
 
 use crate::RecoverError;
 use crate::found::Found;
-use ss_codec::{Record, SLOT_SIZE, decode};
+use ss_base::SLOT_SIZE;
+use ss_codec::{Record, decode};
 use ss_journal::{Journal, PAGE_SLOTS, Page};
 use ss_outside::{Disk, Failed};
 use ss_records::{SlotSet, are_zeros};

@@ -2,7 +2,7 @@
 ghost use Rattle.std.specs.Prelude.{◌≡◌, ◌<◌, ◌≤◌, All, IsTrue, length, OnOk, IfOk, IfErr};
 ghost use Rattle.ss_landmarks.specs.Landmarks.{AreKnown};
 ghost use Rattle.ss_landmarks.specs.Order.{CanOpen, CanTake};
-ghost use Rattle.ss_landmarks.specs.declared.landmarks.TheConstants.{LATEST_TIME};
+ghost use Rattle.ss_base.specs.declared.limits.TheConstants.{LAST_TIME};
 ghost use Rattle.ss_model.specs.Marks.{later};
 ghost use Rattle.ss_model.specs.declared.types.TheConstants.{MOST_RECORDS};
 ghost use Rattle.ss_recover.specs.Marked.{are_marks};
@@ -177,7 +177,7 @@ impl Marks {
     // It closes, and the next one opens.
     fn open(&mut self, slot: u32, start: u64, finish: Option<u64>) -> Result<(), RecoverError>
         requires room { HasMarkRoom (marks_shown self.old) }
-        requires time { start ≤ LATEST_TIME }
+        requires time { start ≤ LAST_TIME }
         requires close { MayClose (marks_shown self.old) }
         requires after { CanOpen (with_closing self.old.finish self.old.landmarks.landmarks) start }
         ensures ok { OnOk result (marks_shown self.new ≡ with_landmark (marks_shown self.old) slot start finish) }
@@ -196,7 +196,7 @@ impl Marks {
     // The last landmark takes a value.
     fn add(&mut self, slot: u32, t: u64, v: i64) -> Result<(), RecoverError>
         requires room { HasMarkRoom (marks_shown self.old) }
-        requires time { t ≤ LATEST_TIME }
+        requires time { t ≤ LAST_TIME }
         requires after { CanTake self.old.landmarks.landmarks t }
         ensures ok { OnOk result (marks_shown self.new ≡ with_mark_value (marks_shown self.old) slot t v) }
         ensures err { IfErr result (λ error. error ≡ OutOfMemory) }

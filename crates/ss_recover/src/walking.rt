@@ -1,7 +1,7 @@
 // One walk over records in the order of their streams.
 ghost use Rattle.std.specs.Prelude.{◌≡◌, ◌≤◌, ◌<◌, ◌++◌, [], ◌∷◌, length, All, OnOk, IfOk, IfErr};
 ghost use Rattle.std.specs.List.{list_any};
-ghost use Rattle.ss_steps.specs.Steps.{IsFresh};
+ghost use Rattle.ss_base.specs.Steps.{IsFresh};
 ghost use Rattle.ss_model.specs.declared.types.TheConstants.{MOST_RECORDS};
 ghost use Rattle.ss_recover.specs.Doomed.{is_own};
 ghost use Rattle.ss_recover.specs.Order.{Rises, found_key, stream_of};
@@ -13,10 +13,10 @@ ghost use Rattle.ss_recover.specs.declared.recover_error.RecoverError.TheVariant
 use crate::building::build;
 use crate::found::Found;
 use crate::{Parts, RecoverError};
+use ss_base::Steps;
 use ss_catalog::{Catalog, MOST_STREAMS, Name, StreamId};
 use ss_codec::Record;
 use ss_parts::StreamParts;
-use ss_steps::Steps;
 use std::alloc::Global;
 use std::sync::ledger::{Blank, Ledger};
 

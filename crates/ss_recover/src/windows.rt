@@ -2,9 +2,9 @@
 ghost use Rattle.std.specs.Prelude.{◌≡◌, ◌+◌, ◌≤◌, ◌<◌, ◌++◌, [], ◌∷◌, All, length, OnOk, IfOk, IfErr, IfSome};
 ghost use Rattle.std.specs.List.{list_all};
 ghost use Rattle.ss_line.specs.declared.line.TheConstants.{MOST_PLACES};
-ghost use Rattle.ss_summary.specs.declared.summary.TheConstants.{GREATEST_COUNT};
-ghost use Rattle.ss_target.specs.Rule.{rule_of};
-ghost use Rattle.ss_target.specs.Targets.{params_of};
+ghost use Rattle.ss_base.specs.declared.limits.TheConstants.{MOST_VALUES};
+ghost use Rattle.ss_targets.specs.Rule.{rule_of};
+ghost use Rattle.ss_targets.specs.Targets.{params_of};
 ghost use Rattle.ss_model.specs.Marks.{lies_free};
 ghost use Rattle.ss_model.specs.declared.types.TheConstants.{MOST_RECORDS};
 ghost use Rattle.ss_recover.specs.Carried.{window_of};
@@ -17,13 +17,13 @@ ghost use Rattle.ss_recover.specs.declared.recover_error.RecoverError.TheVariant
 
 use crate::RecoverError;
 use crate::found::Found;
+use ss_base::Steps;
 use ss_codec::Record;
 use ss_landmarks::Landmarks;
 use ss_line::{Entry, Line};
 use ss_model::Window;
 use ss_parts::lies_free;
-use ss_steps::Steps;
-use ss_target::Target;
+use ss_targets::Target;
 use std::alloc::Global;
 use std::sync::ledger::Ledger;
 

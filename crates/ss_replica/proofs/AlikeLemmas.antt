@@ -9,14 +9,14 @@ use Rattle.ss_catalog.specs.declared.params.Params.{Params}
 use Rattle.ss_catalog.specs.declared.refusal.Refusal.{Refusal}
 use Rattle.ss_catalog.specs.declared.refusal.Refusal.TheVariants as refusal
 use Rattle.ss_summary.specs.Points.{Origin}
-use Rattle.ss_target.specs.Lengths.{has_target}
+use Rattle.ss_targets.specs.Lengths.{has_target}
 use Rattle.ss_model.specs.History.{Given, Happened, added, events_of, given_after, given_to, landmarks_of, nothing_given, values_of}
 use Rattle.ss_model.specs.Marks.{has_open}
 use Rattle.ss_model.specs.Refusals.{IsHistory, first_that_applies, has_all_records, has_all_streams, has_most_values, is_before, is_early, is_past, of_outline}
 use Rattle.ss_model.specs.Refusals.{refuses}
 use Rattle.ss_model.specs.Outline.{outline_named, outline_of}
 use Rattle.ss_model.specs.State.{Stream, live, numbers_of, state, stream_named}
-use Rattle.ss_target.specs.Rule.{rule_of}
+use Rattle.ss_targets.specs.Rule.{rule_of}
 use Rattle.ss_model.specs.Windows.{windows}
 use Rattle.ss_model.proofs.FoundLemmas.{All-around, found, stream_named-at}
 use Rattle.ss_model.proofs.HistoryLemmas.{IsState-state}

@@ -1,7 +1,7 @@
 -- Worked rows of frames that are offered, each computed.
 use Rattle.std.proofs.Common.{◌≡◌, ℕ, List, [], ◌∷◌, ◌++◌, map, length, refl, codes, pos, negsuc}
 use Rattle.std.specs.Prelude.{reverse, flat_map, replicate, Ok, Err}
-use Rattle.ss_windowing.specs.Windowing.{window_index}
+use Rattle.ss_targets.specs.Windowing.{window_index}
 use Rattle.ss_catalog.specs.declared.event.Event.{Event}
 use Rattle.ss_catalog.specs.declared.event.Event.TheVariants.{Create, Value, Open, Close, Drop}
 use Rattle.ss_catalog.specs.Params.{exp}

@@ -2,7 +2,7 @@
 ghost use Rattle.std.specs.Prelude.{◌≡◌, ◌+◌, ◌≤◌, ◌<◌, [], ◌∷◌, length, IfSome};
 ghost use Rattle.std.specs.Fmt.{decimal};
 ghost use Rattle.ss_command.specs.Printed.{spaced, with_word};
-ghost use Rattle.ss_command.specs.declared.TheConstants.{MOST_SESSIONS};
+ghost use Rattle.ss_base.specs.declared.limits.TheConstants.{MOST_SESSIONS};
 ghost use Rattle.ss_report.specs.Text.{answer_kind, answer_words, extreme_words, frame_word, presence_word, reply_line, run_words, said_line};
 ghost use Rattle.ss_report.specs.declared.reply.Reply.TheVariants.{Done, Answered, Refused, SeriesHead, Row, WindowsHead, Window, ListHead, Stream};
 ghost use Rattle.ss_report.specs.declared.reply.Reply.TheVariants.{CertifyHead, Last, ValuesHead, Value, Cursor, Rows, Gap, Framed};
@@ -10,9 +10,10 @@ ghost use Rattle.ss_report.specs.declared.reply.Reply.TheVariants as replies;
 
 use crate::{Reply, Side};
 use arrayvec::ArrayString;
+use ss_base::MOST_SESSIONS;
 use ss_bounds::Extreme;
 use ss_catalog::{Kind, LONGEST_NAME, Name, Refusal};
-use ss_command::{MOST_SESSIONS, put_number, put_sum, put_target, put_value};
+use ss_command::{put_number, put_sum, put_target, put_value};
 use ss_fields::print_u64;
 use ss_frames::{FRAME_SIZE, Frame, encode_frame};
 use ss_model::{Ack, Newest, Outcome, Placed, Presence, Run, StreamRow};

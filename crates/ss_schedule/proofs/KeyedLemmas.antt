@@ -8,10 +8,10 @@ use Rattle.ss_line.specs.Line.{StandsIn, entry_at, index_of, is_at}
 use Rattle.ss_line.specs.declared.entry.At.{At}
 use Rattle.ss_line.specs.declared.entry.Entry.{Entry}
 use Rattle.ss_line.proofs.Places.{index-once, list_any-cons_false, same_place}
-use Rattle.ss_target.specs.Rule.{Rule, in_step}
-use Rattle.ss_windowing.specs.Windowing.{ArePositive, Fits, fits}
-use Rattle.ss_windowing.specs.declared.decay.TheConstants.{MOST_VALUES}
-use Rattle.ss_windowing.proofs.WindowingLemmas.{fits-one_window}
+use Rattle.ss_targets.specs.Rule.{Rule, in_step}
+use Rattle.ss_targets.specs.Windowing.{ArePositive, Fits, fits}
+use Rattle.ss_base.specs.declared.limits.TheConstants.{MOST_VALUES}
+use Rattle.ss_targets.proofs.WindowingLemmas.{fits-one_window}
 use Rattle.ss_schedule.specs.Held.{fit_of}
 use Rattle.ss_schedule.specs.Keyed.{AreBelow, AreInStep, TileUpTo, FollowUpTo, IsFirstKey, IsKeyOf, IsKeyed, PutsKey, ScheduleState, key_at, merge_rule}
 use Rattle.ss_schedule.specs.Pairs.{AreSideBySide, IsPairIn, IsSpan, NoPairFits, joined_entry, pair_may_join, pair_at, pair_among, pair_of}

@@ -3,11 +3,11 @@ use Rattle.std.proofs.Common.{◌≡◌, ◌-◌, ◌*◌, ◌^◌, ◌≤◌, �
 use Rattle.ss_catalog.specs.Params.{exp as Exp}
 use Rattle.ss_line.specs.declared.entry.At.{At}
 use Rattle.ss_line.specs.declared.entry.Entry.{Entry}
-use Rattle.ss_target.specs.Rule.{Rule, rule_of}
-use Rattle.ss_windowing.specs.FirstFit.{IsFirstFit}
-use Rattle.ss_windowing.specs.Windowing.{Fits}
-use Rattle.ss_windowing.specs.declared.decay.TheConstants.{MOST_VALUES}
-use Rattle.ss_windowing.specs.Windowing.{window_index}
+use Rattle.ss_targets.specs.Rule.{Rule, rule_of}
+use Rattle.ss_targets.specs.FirstFit.{IsFirstFit}
+use Rattle.ss_targets.specs.Windowing.{Fits}
+use Rattle.ss_base.specs.declared.limits.TheConstants.{MOST_VALUES}
+use Rattle.ss_targets.specs.Windowing.{window_index}
 use Rattle.std.proofs.lemmas.Bool.{both_ways}
 use Rattle.ss_schedule.specs.Keyed.{AreInStep, FollowUpTo, IsFirstKey, NeverFit, key_at}
 use Rattle.ss_schedule.specs.declared.sifting.TheConstants.{NEVER}

@@ -4,12 +4,12 @@ use Rattle.std.specs.List.{slice_index_or}
 use Rattle.ss_line.specs.Line.{LineState}
 use Rattle.ss_line.specs.declared.entry.At.{At}
 use Rattle.ss_line.specs.declared.entry.Entry.{Entry}
-use Rattle.ss_target.specs.Rule.{Rule, in_step, rule_of}
-use Rattle.ss_target.specs.Targets.{params_of}
-use Rattle.ss_target.specs.declared.target.Target.{Target}
-use Rattle.ss_windowing.specs.FirstFit.{IsFirstFit}
-use Rattle.ss_windowing.specs.Windowing.{Fits}
-use Rattle.ss_windowing.specs.declared.decay.TheConstants.{MOST_VALUES}
+use Rattle.ss_targets.specs.Rule.{Rule, in_step, rule_of}
+use Rattle.ss_targets.specs.Targets.{params_of}
+use Rattle.ss_targets.specs.declared.target.Target.{Target}
+use Rattle.ss_targets.specs.FirstFit.{IsFirstFit}
+use Rattle.ss_targets.specs.Windowing.{Fits}
+use Rattle.ss_base.specs.declared.limits.TheConstants.{MOST_VALUES}
 use Rattle.ss_schedule.specs.Pairs.{pair_at}
 use Rattle.ss_schedule.specs.declared.pair.Pair.{Pair}
 

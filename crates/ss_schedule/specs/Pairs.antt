@@ -4,7 +4,7 @@ use Rattle.std.specs.List.{list_any}
 use Rattle.ss_line.specs.Line.{is_at}
 use Rattle.ss_line.specs.declared.entry.At.{At}
 use Rattle.ss_line.specs.declared.entry.Entry.{Entry}
-use Rattle.ss_target.specs.Rule.{Rule, may_be_one}
+use Rattle.ss_targets.specs.Rule.{Rule, may_be_one}
 use Rattle.ss_schedule.specs.declared.pair.Pair.{Pair}
 
 -- two neighbours: their places, the positions that they have together, and the times of the first and the last

@@ -2,9 +2,9 @@
 use crate::pair::Pair;
 use crate::schedule::Schedule;
 use crate::times::Times;
+use ss_base::Steps;
 use ss_line::{At, Line};
-use ss_steps::Steps;
-use ss_target::Target;
+use ss_targets::Target;
 use std::alloc::{AllocError, Global};
 use std::sync::ledger::Ledger;
 
@@ -22,7 +22,7 @@ impl Index {
     ghost use Rattle.ss_line.specs.declared.entry.At.{At};
     ghost use Rattle.ss_line.specs.declared.entry.Entry.{Entry};
     ghost use Rattle.ss_line.specs.declared.line.TheConstants.{MOST_PLACES};
-    ghost use Rattle.ss_windowing.specs.declared.decay.TheConstants.{MOST_VALUES};
+    ghost use Rattle.ss_base.specs.declared.limits.TheConstants.{MOST_VALUES};
     ghost use Rattle.ss_schedule.specs.Keyed.{FollowUpTo, HasPlaces, IsKeyed, merge_rule};
     ghost use Rattle.ss_schedule.specs.Pairs.{AreSideBySide, IsPairIn, NoPairFits, joined_entry, pair_may_join};
 

@@ -3,7 +3,7 @@ ghost use Rattle.std.specs.Prelude.{◌≡◌, ℕ, ◌+◌, ◌<◌, List, [], 
 ghost use Rattle.ss_line.specs.declared.entry.At.{At};
 ghost use Rattle.ss_line.specs.declared.entry.Entry.{Entry};
 ghost use Rattle.ss_line.specs.Line.{StandsIn, index_of};
-ghost use Rattle.ss_windowing.specs.declared.decay.TheConstants.{MOST_VALUES};
+ghost use Rattle.ss_base.specs.declared.limits.TheConstants.{MOST_VALUES};
 ghost use Rattle.ss_schedule.specs.Keyed.{IsKeyed, ScheduleState, merge_rule};
 ghost use Rattle.ss_schedule.specs.Pairs.{NoPairFits};
 

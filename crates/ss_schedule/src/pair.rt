@@ -3,8 +3,8 @@ ghost use Rattle.std.specs.Prelude.{◌≡◌, ◌+◌, ◌≤◌, ◌∷◌, �
 ghost use Rattle.ss_line.specs.Line.{IsLine, StandsIn, entry_at, index_of, place_at, place_before};
 ghost use Rattle.ss_schedule.specs.Pairs.{AreSideBySide, IsPairIn, joined_entry, pair_at};
 
+use ss_base::Steps;
 use ss_line::{At, Entry, Line};
-use ss_steps::Steps;
 use std::sync::ledger::Ledger;
 
 /// Two neighbours in a line: the places of the left and of the right one, and the positions, counted from 1, and the times

@@ -2,10 +2,9 @@
 use crate::keys::Keys;
 use crate::pair::{Pair, join, pair_before, pair_behind};
 use crate::sifting::NEVER;
+use ss_base::{MOST_VALUES, Steps};
 use ss_line::{At, Line, MOST_PLACES};
-use ss_steps::Steps;
-use ss_target::Target;
-use ss_windowing::MOST_VALUES;
+use ss_targets::Target;
 use std::alloc::{AllocError, Global};
 use std::marker::Model;
 use std::sync::ledger::Ledger;

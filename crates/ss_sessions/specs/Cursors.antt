@@ -7,7 +7,7 @@ use Rattle.ss_model.specs.Refusals.{first_that_applies, stands}
 use Rattle.ss_model.specs.Shown.{placed_of}
 use Rattle.ss_model.specs.State.{Stream, stream_named}
 use Rattle.ss_model.specs.declared.types.Placed.{Placed}
-use Rattle.ss_sessions.specs.declared.TheConstants.{SESSIONS}
+use Rattle.ss_base.specs.declared.limits.TheConstants.{MOST_SESSIONS}
 
 -- of each session, in the order of their numbers, the rows that its cursor has left, next first; none where it has no cursor
 abbrev pub Cursors : Type 0
@@ -15,7 +15,7 @@ Cursors = List (Option (List Placed))
 
 -- no session has a cursor
 abbrev pub no_cursors : Cursors
-no_cursors = replicate SESSIONS None
+no_cursors = replicate MOST_SESSIONS None
 
 -- what there is of an option of an option
 abbrev pub flattened : {A : Type 0} → Option (Option A) → Option A

@@ -7,7 +7,8 @@ use Rattle.ss_catalog.specs.declared.refusal.Refusal.TheVariants.{Syntax, Number
 use Rattle.ss_command.specs.Grammar.{◌>>=◌, is_comment, meaning, name_of, or_number}
 use Rattle.ss_command.specs.Words.{first_word, is_word, rest_of, words}
 use Rattle.ss_fields.specs.Words.{number_up_to}
-use Rattle.ss_sessions.specs.declared.TheConstants.{ADDRESS, MOST_ASKED, SESSIONS}
+use Rattle.ss_sessions.specs.declared.TheConstants.{ADDRESS, MOST_ASKED}
+use Rattle.ss_base.specs.declared.limits.TheConstants.{MOST_SESSIONS}
 use Rattle.ss_sessions.specs.declared.order.Order.{Order}
 use Rattle.ss_sessions.specs.declared.order.Order.TheVariants as orders
 use Rattle.ss_sessions.specs.declared.order.Spoken.{Spoken}
@@ -59,7 +60,7 @@ order_said rest = if is_word (first_word rest) (codes "cursor") then (do
 -- the number of the session to which a word is addressed: that of `@` and one digit
 abbrev pub session_of : List ℕ → Option ℕ
 session_of (at ∷ digit ∷ []) =
-    if at == ADDRESS && nat_le 48 digit && nat_lt digit (48 + SESSIONS) then Some (digit - 48) else None
+    if at == ADDRESS && nat_le 48 digit && nat_lt digit (48 + MOST_SESSIONS) then Some (digit - 48) else None
 session_of _ = None
 
 -- what is said to a session, or to none

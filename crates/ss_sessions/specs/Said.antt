@@ -1,7 +1,8 @@
 -- What is true of all that is read.
 use Rattle.std.specs.Prelude.{◌<◌, ◌≤◌, IfOk, IfSome, ⊤}
 use Rattle.ss_command.specs.Printed.{IsCommandInTime}
-use Rattle.ss_sessions.specs.declared.TheConstants.{MOST_ASKED, SESSIONS}
+use Rattle.ss_sessions.specs.declared.TheConstants.{MOST_ASKED}
+use Rattle.ss_base.specs.declared.limits.TheConstants.{MOST_SESSIONS}
 use Rattle.ss_sessions.specs.declared.order.Order.{Order}
 use Rattle.ss_sessions.specs.declared.order.Order.TheVariants as orders
 use Rattle.ss_sessions.specs.declared.order.Spoken.{Spoken}
@@ -18,4 +19,4 @@ IsOrderInTime orders.Close = ⊤
 abbrev pub IsSpokenInTime : Spoken → Type 0
 IsSpokenInTime Nothing = ⊤
 IsSpokenInTime Unaddressed = ⊤
-IsSpokenInTime (To session said) = (session < SESSIONS) × IfOk said (λ o. IfSome o IsOrderInTime)
+IsSpokenInTime (To session said) = (session < MOST_SESSIONS) × IfOk said (λ o. IfSome o IsOrderInTime)

@@ -7,7 +7,8 @@ ghost use Rattle.ss_sessions.specs.Grammar.{asked_of, cursor_close_of, cursor_fo
 ghost use Rattle.ss_sessions.specs.declared.TheConstants.{MOST_ASKED};
 ghost use Rattle.ss_sessions.specs.Said.{IsOrderInTime, IsSpokenInTime};
 
-use crate::{ADDRESS, MOST_ASKED, Order, SESSIONS, Spoken};
+use crate::{ADDRESS, MOST_ASKED, Order, Spoken};
+use ss_base::MOST_SESSIONS;
 use ss_catalog::{Name, Refusal};
 use ss_command::{COMMENT, Words, cut_first, is_word, parse};
 use ss_fields::read_u64;
@@ -110,7 +111,7 @@ fn session(word: &[u8]) -> Option<u8>
     ensures { result ≡ session_of word.now }
 {
     match word {
-        [ADDRESS, digit] if b'0' <= *digit && *digit < b'0' + SESSIONS => Some(*digit - b'0'),
+        [ADDRESS, digit] if b'0' <= *digit && *digit < b'0' + MOST_SESSIONS => Some(*digit - b'0'),
         _ => None,
     }
 }

@@ -14,9 +14,6 @@ pub use grammar::read_spoken;
 pub use order::{Order, Spoken};
 pub use sessions::Sessions;
 
-/// There are this many sessions, numbered from 0.
-pub const SESSIONS: u8 = 8;
-
 /// A cursor is asked for at most this many rows at a time.
 pub const MOST_ASKED: u32 = 1_000;
 

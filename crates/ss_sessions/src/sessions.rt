@@ -20,13 +20,13 @@ pub struct Sessions {
 impl Model for Sessions {
     ghost use Rattle.std.specs.Prelude.{◌≡◌, length};
     ghost use Rattle.ss_sessions.specs.Cursors.{Cursors};
-    ghost use Rattle.ss_sessions.specs.declared.TheConstants.{SESSIONS};
+    ghost use Rattle.ss_base.specs.declared.limits.TheConstants.{MOST_SESSIONS};
 
     ghost Value = { Cursors };
 
     ghost view = { λ s. s.cursors };
 
-    ghost invariant = { λ s. length s.cursors ≡ SESSIONS };
+    ghost invariant = { λ s. length s.cursors ≡ MOST_SESSIONS };
 }
 
 impl Sessions {
@@ -41,7 +41,7 @@ impl Sessions {
     ghost use Rattle.ss_sessions.specs.Cursors.{cursor_of, no_cursors, with_cursor};
     ghost use Rattle.ss_sessions.specs.Errors.{refusal_of, verdict_of_cursor};
     ghost use Rattle.ss_sessions.specs.Opened.{HasOpened, OpensCursor, refuses_cursor_held};
-    ghost use Rattle.ss_sessions.specs.declared.TheConstants.{SESSIONS};
+    ghost use Rattle.ss_base.specs.declared.limits.TheConstants.{MOST_SESSIONS};
     ghost use Rattle.ss_sessions.specs.declared.error.CursorRefusal.{CursorRefusal};
 
     /// Sessions of which none has a cursor. It takes no memory.
@@ -64,7 +64,7 @@ impl Sessions {
         disk: &mut D,
         name: &Name,
     ) -> Result<u32, CursorError>
-        requires session { session < SESSIONS }
+        requires session { session < MOST_SESSIONS }
         requires runs { store.old.stopped ≡ false }
         requires one_disk { OfContent (D.seen disk.old) (StoreIsKept store.old) }
         // The windows of the stream in the state that is shown, with what is staged.
@@ -98,7 +98,7 @@ impl Sessions {
 
     /// How many rows the cursor of a session has left. `None` is no cursor.
     pub fn left(&self, session: u8) -> Option<u32>
-        requires { session < SESSIONS }
+        requires { session < MOST_SESSIONS }
         ensures { result ≡ option_map length (cursor_of self.now session) }
     {
         match &self.cursors[session as usize] {
@@ -110,7 +110,7 @@ impl Sessions {
     /// The next row of the cursor of a session, which is given once. `None` is no further row. It takes the same few steps,
     /// however many rows there are.
     pub fn take(&mut self, session: u8) -> Option<Placed>
-        requires session { session < SESSIONS }
+        requires session { session < MOST_SESSIONS }
         requires cursor { IsSome (cursor_of self.old session) }
         ensures next { IfSome (cursor_of self.old session) (λ rows. result ≡ slice_get rows 0) }
         ensures rest { self.new ≡ with_cursor self.old session (option_map (drop 1) (cursor_of self.old session)) }
@@ -123,7 +123,7 @@ impl Sessions {
 
     /// Ends the cursor of a session, and answers whether there was one.
     pub fn close(&mut self, session: u8) -> bool
-        requires { session < SESSIONS }
+        requires { session < MOST_SESSIONS }
         ensures answer { result ≡ is_some (cursor_of self.old session) }
         ensures closed { self.new ≡ with_cursor self.old session None }
     {

@@ -53,8 +53,8 @@ pub use Rattle.ss_records.specs.Live.{are_zeros, is_live, live_after}
 pub use Rattle.ss_line.specs.Line.{LineState, StandsIn, entry_at, index_of, is_at, place_at, place_before}
 pub use Rattle.ss_line.specs.declared.entry.At.{At}
 pub use Rattle.ss_line.specs.declared.entry.Entry.{Entry}
-pub use Rattle.ss_windowing.specs.Windowing.{window_index}
-pub use Rattle.ss_windowing.specs.declared.decay.TheConstants.{MOST_VALUES}
+pub use Rattle.ss_targets.specs.Windowing.{window_index}
+pub use Rattle.ss_base.specs.declared.limits.TheConstants.{MOST_VALUES}
 pub use Rattle.ss_summary.specs.Figures.{Figures}
 pub use Rattle.ss_summary.specs.Filters.{bit_of, filter_of, full, has, union}
 pub use Rattle.ss_summary.specs.Points.{New}
@@ -69,7 +69,8 @@ pub use Rattle.ss_landmarks.specs.Order.{AllEndBy, CanClose, EndsBy, FollowFrom}
 pub use Rattle.ss_catalog.specs.Events.{event_name}
 pub use Rattle.ss_catalog.specs.Names.{same_name}
 pub use Rattle.ss_catalog.specs.Params.{exp}
-pub use Rattle.ss_catalog.specs.declared.TheConstants.{LAST_STREAM, LAST_TIME, MOST_STREAMS}
+pub use Rattle.ss_catalog.specs.declared.TheConstants.{LAST_STREAM, MOST_STREAMS}
+pub use Rattle.ss_base.specs.declared.limits.TheConstants.{LAST_TIME}
 pub use Rattle.ss_catalog.specs.declared.event.Event.{Event}
 pub use Rattle.ss_catalog.specs.declared.event.Event.TheVariants.{Create, Drop, Value}
 pub use Rattle.ss_catalog.specs.declared.params.Params.{Params}
@@ -77,9 +78,9 @@ pub use Rattle.ss_catalog.specs.declared.query.Query.{Query}
 pub use Rattle.ss_catalog.specs.declared.refusal.Refusal.{Refusal}
 pub use Rattle.ss_catalog.specs.declared.refusal.Refusal.TheVariants.{Range, Unknown}
 pub use Rattle.ss_catalog.specs.declared.stream_id.StreamId.{StreamId}
-pub use Rattle.ss_target.specs.Lengths.{has_target, lengths_of}
-pub use Rattle.ss_target.specs.Rule.{Rule, may_be_one, rule_of}
-pub use Rattle.ss_target.specs.Targets.{params_of}
+pub use Rattle.ss_targets.specs.Lengths.{has_target, lengths_of}
+pub use Rattle.ss_targets.specs.Rule.{Rule, may_be_one, rule_of}
+pub use Rattle.ss_targets.specs.Targets.{params_of}
 pub use Rattle.ss_schedule.proofs.Places.{take-seam}
 pub use Rattle.ss_schedule.specs.Keyed.{IsKeyed}
 pub use Rattle.ss_schedule.specs.Pairs.{NoPairFits, joined_entry}

@@ -9,7 +9,8 @@ use Rattle.ss_outside.specs.Verdict as verdicts
 use Rattle.ss_outside.specs.Verdict.{OnFine}
 use Rattle.ss_journal.specs.Entries.{open_prefix}
 use Rattle.ss_journal.specs.Redo.{Gives, file_map, redo, redo_entries}
-use Rattle.ss_journal.specs.declared.format.TheConstants.{FIRST_SLOT, SLOT_SIZE}
+use Rattle.ss_journal.specs.declared.format.TheConstants.{FIRST_SLOT}
+use Rattle.ss_base.specs.declared.limits.TheConstants.{SLOT_SIZE}
 use Rattle.ss_store.proofs.KeptStates.{AllAgree-recovered}
 use Rattle.ss_store.proofs.LiveCounts.{length-slots}
 use Rattle.ss_store.proofs.Opens.{StandsFor-kept}

@@ -3,11 +3,11 @@ use Rattle.ss_store.proofs.Common.{◌≡◌, ℕ, zero, suc, ◌+◌, ◌-◌, 
 use Rattle.ss_store.proofs.Common.{window_index, Entry, cover, steps_met, Rule, TileFrom, ends_held, values_held}
 use Rattle.ss_store.proofs.Common.{NoEntriesAreDue}
 use Rattle.std.proofs.lemmas.Bool.{eqb-false}
-use Rattle.ss_windowing.specs.Windowing.{fits}
-use Rattle.ss_windowing.proofs.WindowingLemmas.{window_index-monotone}
+use Rattle.ss_targets.specs.Windowing.{fits}
+use Rattle.ss_targets.proofs.WindowingLemmas.{window_index-monotone}
 use Rattle.ss_model.specs.Decay.{steps_after}
 use Rattle.ss_model.proofs.DecayLemmas.{apart, apart-ne, apart-same, apart_through, steps_after-none, window_index-apart}
-use Rattle.ss_target.specs.Rule.{in_step, step_of, without_step}
+use Rattle.ss_targets.specs.Rule.{in_step, step_of, without_step}
 
 -- of what is behind the first entry none is due
 none-behind : (rule : Rule) (n : ℕ) (e : Entry) (es : List Entry) → NoEntriesAreDue rule n (e ∷ es) → NoEntriesAreDue rule n es

@@ -9,7 +9,7 @@ use Rattle.ss_summary.specs.Points.{Old}
 use Rattle.ss_summary.specs.Possible as Possible
 use Rattle.ss_catalog.specs.Names as Names
 use Rattle.ss_catalog.specs.declared.query.Kind.TheVariants as kinds
-use Rattle.ss_windowing.specs.Windowing.{window_index}
+use Rattle.ss_targets.specs.Windowing.{window_index}
 use Rattle.ss_journal.specs.Checks.{entry_form, slot_form}
 use Rattle.ss_journal.specs.Format.{is_born, kind_of}
 use Rattle.ss_journal.specs.Entries.{entries}

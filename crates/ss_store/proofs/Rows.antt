@@ -1,6 +1,6 @@
 -- Worked images, whole, and what each recovers to.
 use Rattle.ss_store.proofs.Common.{negsuc, replicate, refl, Figures, Event, Params, exp, Put, Plain, zeros}
-use Rattle.ss_windowing.specs.Windowing.{window_index}
+use Rattle.ss_targets.specs.Windowing.{window_index}
 use Rattle.ss_summary.specs.Filters.{union, has, full, filter_of, bit_of}
 use Rattle.ss_store.proofs.Common.{Happened, added, Stream, Window, Recovers, no_store, damaged_entry, damaged_slot, damaged_stream, recovers}
 use Rattle.std.specs.Prelude.{◌≡◌, ℕ, ℤ, false, true, ◌*◌, pos, List, [], ◌∷◌, ◌++◌, flat_map, map, slice_set, take, Some, None}
@@ -10,7 +10,7 @@ use Rattle.ss_summary.specs.declared.filter.Filter.{Filter}
 use Rattle.ss_catalog.specs.Names as Names
 use Rattle.ss_catalog.specs.declared.event.Event.TheVariants as events
 use Rattle.ss_catalog.specs.Params.{power}
-use Rattle.ss_power.specs.Power.{power_length}
+use Rattle.ss_targets.specs.Power.{power_length}
 use Rattle.ss_journal.specs.Checks.{entry_form, slot_form}
 use Rattle.ss_journal.specs.Format.{is_born, is_unborn, kind_of, magic}
 use Rattle.ss_journal.specs.Entries.{entries, entry_body, is_good, puts_of}

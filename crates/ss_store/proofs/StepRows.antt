@@ -1,8 +1,8 @@
 -- Worked rows of the entries of a stream within minutes, each computed: those of readings at 10, 20, .., 70.
 use Rattle.ss_store.proofs.Common.{◌≡◌, ◌*◌, ℕ, true, false, List, [], ◌∷◌, map, refl, both_ways, Entry, steps_met, Rule, ends_held, NoEntriesAreDue}
 use Rattle.ss_store.proofs.Common.{may_be_joined}
-use Rattle.ss_windowing.specs.Exp.{exp_length}
-use Rattle.ss_windowing.specs.Windowing.{window_index}
+use Rattle.ss_targets.specs.Exp.{exp_length}
+use Rattle.ss_targets.specs.Windowing.{window_index}
 
 entry : ℕ → ℕ → Entry
 entry first last = record { first = first; last = last; t_first = 10 * first; t_last = 10 * last; slot = 0 }

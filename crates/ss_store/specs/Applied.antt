@@ -14,9 +14,9 @@ use Rattle.ss_catalog.specs.declared.query.Query.{Query}
 use Rattle.ss_catalog.specs.declared.refusal.Refusal.{Refusal}
 use Rattle.ss_line.specs.declared.entry.At.{At}
 use Rattle.ss_line.specs.Line.{index_of}
-use Rattle.ss_target.specs.Lengths.{lengths_of}
-use Rattle.ss_target.specs.Rule.{rule_of}
-use Rattle.ss_target.specs.Targets.{params_of}
+use Rattle.ss_targets.specs.Lengths.{lengths_of}
+use Rattle.ss_targets.specs.Rule.{rule_of}
+use Rattle.ss_targets.specs.Targets.{params_of}
 use Rattle.ss_model.specs.Answers.{HoldsTruth, IsExactOutcome, outcome_of, split_by}
 use Rattle.ss_model.specs.Decay.{IsReadWithinTarget, cover, steps_met}
 use Rattle.ss_model.specs.History.{marked_of, values_of, Happened}

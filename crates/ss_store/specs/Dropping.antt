@@ -8,7 +8,7 @@ use Rattle.ss_records.specs.Kept.{RecordsState}
 use Rattle.ss_codec.specs.declared.record.Record.{Record}
 use Rattle.ss_codec.specs.declared.record.Record.TheVariants as records
 use Rattle.ss_line.specs.declared.entry.Entry.{Entry}
-use Rattle.ss_target.specs.Targets.{params_of}
+use Rattle.ss_targets.specs.Targets.{params_of}
 use Rattle.ss_model.specs.ClosedState.{closed_state}
 use Rattle.ss_model.specs.State.{Stream}
 use Rattle.ss_query.specs.Slots.{HasRecords}

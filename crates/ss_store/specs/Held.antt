@@ -4,7 +4,7 @@ use Rattle.ss_codec.specs.declared.record.Record.{Record}
 use Rattle.ss_line.specs.declared.entry.Entry.{Entry}
 use Rattle.ss_summary.specs.Points.{New}
 use Rattle.ss_model.specs.Joins.{JoinsDue}
-use Rattle.ss_target.specs.Rule.{rule_of}
+use Rattle.ss_targets.specs.Rule.{rule_of}
 use Rattle.ss_model.specs.State.{Stream, values_in}
 use Rattle.ss_model.specs.Steps.{single_window}
 use Rattle.ss_model.specs.declared.types.Window.{Window}

@@ -3,9 +3,9 @@ use Rattle.std.specs.Prelude.{◌≡◌, ℕ, ◌<◌, ◌≤◌, true, false, L
 use Rattle.ss_records.specs.Kept.{RecordsState}
 use Rattle.ss_line.specs.declared.entry.At.{At}
 use Rattle.ss_line.specs.declared.entry.Entry.{Entry}
-use Rattle.ss_target.specs.Rule.{rule_of}
-use Rattle.ss_target.specs.Targets.{params_of}
-use Rattle.ss_windowing.specs.declared.decay.TheConstants.{MOST_VALUES}
+use Rattle.ss_targets.specs.Rule.{rule_of}
+use Rattle.ss_targets.specs.Targets.{params_of}
+use Rattle.ss_base.specs.declared.limits.TheConstants.{MOST_VALUES}
 use Rattle.ss_schedule.specs.Keyed.{HasPlaces, IsKeyed}
 use Rattle.ss_schedule.specs.Pairs.{IsPairIn, pair_may_join}
 use Rattle.ss_schedule.specs.declared.index.Index.{Index}

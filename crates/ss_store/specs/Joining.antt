@@ -5,7 +5,7 @@ use Rattle.ss_line.specs.declared.entry.At.{At}
 use Rattle.ss_line.specs.declared.entry.Entry.{Entry}
 use Rattle.ss_schedule.specs.Pairs.{AreSideBySide}
 use Rattle.ss_model.specs.Joins.{JoinsDue}
-use Rattle.ss_target.specs.Rule.{Rule, may_be_one, rule_of}
+use Rattle.ss_targets.specs.Rule.{Rule, may_be_one, rule_of}
 use Rattle.ss_model.specs.State.{Stream, values_in}
 use Rattle.ss_model.specs.declared.types.Window.{Window}
 use Rattle.ss_parts.specs.declared.parts.StreamParts.{StreamParts}

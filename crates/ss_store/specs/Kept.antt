@@ -11,7 +11,7 @@ use Rattle.ss_catalog.specs.declared.event.Event.TheVariants.{Create, Value, Ope
 use Rattle.ss_catalog.specs.declared.refusal.Refusal.{Refusal}
 use Rattle.ss_catalog.specs.declared.stream_id.StreamId.{StreamId}
 use Rattle.ss_landmarks.specs.Landmark.{all_values}
-use Rattle.ss_target.specs.Targets.{params_of}
+use Rattle.ss_targets.specs.Targets.{params_of}
 use Rattle.ss_journal.specs.Kept.{IsSettled}
 use Rattle.ss_records.specs.Kept.{AreKept, RecordsState, shown_by}
 use Rattle.ss_model.specs.ClosedState.{closed_state}

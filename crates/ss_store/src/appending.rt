@@ -18,13 +18,13 @@ use crate::closing::values_held;
 use crate::held::HeldStream;
 use crate::place::number_of;
 use crate::writing::stage_record;
+use ss_base::{LAST_TIME, Steps};
 use ss_codec::Record;
 use ss_line::Entry;
 use ss_outside::Disk;
 use ss_query::ReadError;
 use ss_records::Records;
-use ss_steps::Steps;
-use ss_summary::{LATEST_TIME, Summary};
+use ss_summary::Summary;
 use std::sync::ledger::Ledger;
 
 impl HeldStream {
@@ -41,7 +41,7 @@ impl HeldStream {
         requires settled { IsSettled records.old.journal }
         requires free { lowest_free records.old.live ≡ Some slot }
         requires can { CanAppend self.old t }
-        requires time { t ≤ LATEST_TIME }
+        requires time { t ≤ LAST_TIME }
         requires one_disk { OfContent (D.seen disk.old) (AreKept records.old) }
         ensures puts { Step (verdict_of_read result) (D.seen disk.old) (D.seen disk.new)
             (StagesAtCost (PutsValue self.old.part self.new.part t v records.old records.new result) (slot + 1) 1 records.old records.new result) }
@@ -87,7 +87,7 @@ impl HeldStream {
         requires settled { IsSettled records.old.journal }
         requires free { lowest_free records.old.live ≡ Some slot }
         requires can { CanAppend self.old t }
-        requires time { t ≤ LATEST_TIME }
+        requires time { t ≤ LAST_TIME }
         requires live { AreSomeLive (slots_held self.old.part) records.old.live }
         requires one_disk { OfContent (D.seen disk.old) (AreKept records.old) }
         // Where the entries run out in the middle, a crash leaves the value with windows joined that are due, all or some. The value

@@ -8,10 +8,10 @@ ghost use Rattle.ss_store.specs.Indexed.{IsKeyedAt, IsKeyedFor, IsTimed};
 
 use crate::closing::values_held;
 use crate::held::HeldStream;
+use ss_base::Steps;
 use ss_line::{At, Line};
 use ss_parts::StreamParts;
 use ss_schedule::Index;
-use ss_steps::Steps;
 use std::alloc::{AllocError, Global};
 use std::sync::ledger::Ledger;
 

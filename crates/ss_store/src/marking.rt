@@ -20,7 +20,7 @@ ghost use Rattle.ss_store.specs.Slots.{AreSomeLive};
 use crate::held::HeldStream;
 use crate::place::number_of;
 use crate::writing::{stage_record, stage_replaced};
-use ss_catalog::LAST_TIME;
+use ss_base::LAST_TIME;
 use ss_codec::Record;
 use ss_landmarks::{Landmarks, MOST_LANDMARK_SLOTS};
 use ss_outside::{Disk, Failed};

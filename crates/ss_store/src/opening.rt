@@ -22,6 +22,7 @@ ghost use Rattle.ss_store.specs.Indexed.{IsKeyedFor, IsScheduled};
 use crate::OpenError;
 use crate::clearing::clear_all;
 use crate::held::HeldStream;
+use ss_base::Steps;
 use ss_catalog::Catalog;
 use ss_journal::Journal;
 use ss_outside::Disk;
@@ -29,7 +30,6 @@ use ss_parts::StreamParts;
 use ss_query::ReadError;
 use ss_records::Records;
 use ss_recover::{Parts, rebuild};
-use ss_steps::Steps;
 use std::alloc::{AllocError, Global};
 use std::sync::ledger::Ledger;
 

@@ -1,10 +1,10 @@
 // What a disk holds, counted without a write.
 ghost use Rattle.std.specs.Prelude.{◌≡◌, ◌≤◌, All, IsTrue, List, length};
 ghost use Rattle.ss_journal.specs.declared.format.TheConstants.{MOST_SLOTS};
-ghost use Rattle.ss_steps.specs.Steps.{IsFresh};
-ghost use Rattle.ss_target.specs.Rule.{rule_of};
-ghost use Rattle.ss_target.specs.Targets.{params_of};
-ghost use Rattle.ss_windowing.specs.declared.decay.TheConstants.{MOST_VALUES};
+ghost use Rattle.ss_base.specs.Steps.{IsFresh};
+ghost use Rattle.ss_targets.specs.Rule.{rule_of};
+ghost use Rattle.ss_targets.specs.Targets.{params_of};
+ghost use Rattle.ss_base.specs.declared.limits.TheConstants.{MOST_VALUES};
 ghost use Rattle.ss_model.specs.ClosedState.{closed_state, closed_stream};
 ghost use Rattle.ss_model.specs.Standing.{IsState, IsStream};
 ghost use Rattle.ss_model.specs.State.{Stream};
@@ -20,11 +20,11 @@ ghost use Rattle.ss_store.specs.Kept.{live_held};
 use crate::closing::values_held;
 use crate::opening::read_all;
 use crate::{OpenError, Store};
+use ss_base::Steps;
 use ss_line::Entry;
 use ss_outside::Disk;
 use ss_parts::StreamParts;
-use ss_steps::Steps;
-use ss_target::Target;
+use ss_targets::Target;
 use std::alloc::Global;
 use std::marker::Brand;
 use std::sync::ledger::{Blank, Ledger};

@@ -13,7 +13,8 @@ ghost use Rattle.ss_store.specs.Calls.{StagesAtCost};
 ghost use Rattle.ss_store.specs.Slots.{AreSomeLive, LiveSlotsGo, StagesRecord, StagesReplaced, StagesTwo, pair_put, record_put, zeros_put};
 ghost use Rattle.ss_store.specs.Clearing.{StagesChange};
 
-use ss_codec::{Record, SLOT_SIZE, encode};
+use ss_base::SLOT_SIZE;
+use ss_codec::{Record, encode};
 use ss_journal::{MOST_SLOTS, Put, Txn};
 use ss_outside::{Disk, Failed};
 use ss_records::Records;

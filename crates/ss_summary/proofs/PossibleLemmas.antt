@@ -11,14 +11,14 @@ use Rattle.ss_summary.specs.Figures.{Figures, IsPossible}
 use Rattle.ss_summary.specs.Filters.{has, is_filter, IsFilter}
 use Rattle.ss_summary.specs.Possible.{fits_i64, has_bits, has_times, has_sum, is_possible}
 use Rattle.ss_summary.specs.declared.filter.Filter.{Filter}
-use Rattle.ss_summary.specs.declared.summary.TheConstants.{LATEST_TIME, GREATEST_COUNT}
+use Rattle.ss_base.specs.declared.limits.TheConstants.{LAST_TIME, MOST_VALUES}
 
 -- what the test of times says
 record Times (count t_first t_last : ℕ) : Type 0 where
   low : 1 ≤ count
-  high : count ≤ GREATEST_COUNT
+  high : count ≤ MOST_VALUES
   times : t_first + count ≤ t_last + 1
-  last : t_last ≤ LATEST_TIME
+  last : t_last ≤ LAST_TIME
   one : count ≡ 1 → t_first ≡ t_last
 
 times-true : (count t_first t_last : ℕ) → has_times count t_first t_last ≡ true → Times count t_first t_last

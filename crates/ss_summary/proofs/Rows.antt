@@ -7,9 +7,9 @@ use Rattle.ss_summary.specs.Filters.{bit_of, filter_of, full, union}
 use Rattle.ss_summary.specs.Points.{New, Old}
 use Rattle.ss_summary.proofs.FilterLemmas.{has-full, IsFilter-full}
 use Rattle.ss_summary.specs.Summaries.{summary_of, RiseFrom}
-use Rattle.ss_summary.specs.declared.summary.TheConstants.{LATEST_TIME, GREATEST_COUNT}
+use Rattle.ss_base.specs.declared.limits.TheConstants.{LAST_TIME, MOST_VALUES}
 
-latest_time_and_greatest_count : LATEST_TIME ∷ GREATEST_COUNT ∷ [] ≡ 2 ^ 62 ∷ 2 ^ 40 ∷ []
+latest_time_and_greatest_count : LAST_TIME ∷ MOST_VALUES ∷ [] ≡ 2 ^ 62 ∷ 2 ^ 40 ∷ []
 latest_time_and_greatest_count = refl
 
 -- the values 5, -3, 8 and 1 at the times 10, 20, 30 and 40

@@ -12,7 +12,7 @@ use Rattle.ss_summary.specs.Points.{Point}
 use Rattle.ss_summary.specs.declared.filter.Filter.{Filter}
 use Rattle.ss_summary.proofs.FilterLemmas.{filter_with-append, has-left, has-right, union_assoc, IsFilter-union}
 use Rattle.ss_summary.specs.Summaries.{total, least, greatest, time_at_end, summary_of, joined}
-use Rattle.ss_summary.specs.declared.summary.TheConstants.{GREATEST_COUNT}
+use Rattle.ss_base.specs.declared.limits.TheConstants.{MOST_VALUES}
 use Rattle.ss_summary.proofs.Bounds.{max_times_min-le-sum, sum-le-min_times_max, unsigned_abs-lt}
 
 int_min_assoc : (a b c : ℤ) → int_min (int_min a b) c ≡ int_min a (int_min b c)
@@ -79,7 +79,7 @@ greatest_bit a b m n left right = elim (cases_Bool (int_lt n m)) [
 
 -- possible figures, joined, are possible
 pub IsPossible-joined : (a b : Figures) → IsPossible a → IsPossible b → a.t_last < b.t_first
-    → a.count + b.count ≤ GREATEST_COUNT → IsPossible (joined a b)
+    → a.count + b.count ≤ MOST_VALUES → IsPossible (joined a b)
 IsPossible-joined a b left right behind few =
     let counts : a.count + b.count - 1 ≡ (a.count - 1) + (b.count - 1) + 1 = omega arith in
     record {

@@ -9,11 +9,11 @@ use Rattle.ss_summary.specs.Filters.{full, has, IsFilter}
 use Rattle.ss_summary.specs.Points.{Point, Origin, New}
 use Rattle.ss_summary.proofs.FilterLemmas.{has-point, IsFilter-point}
 use Rattle.ss_summary.specs.Summaries.{total, least, greatest, time_at_end, summary_of, RiseFrom, AreValues}
-use Rattle.ss_summary.specs.declared.summary.TheConstants.{LATEST_TIME, GREATEST_COUNT}
+use Rattle.ss_base.specs.declared.limits.TheConstants.{LAST_TIME, MOST_VALUES}
 use Rattle.ss_summary.proofs.Bounds.{times-le-times}
 use Rattle.ss_summary.proofs.SummaryLemmas.{joined-summary_of, IsPossible-joined}
 
-pub IsPossible-one : (t : ℕ) (v : ℤ) (origin : Origin) → t ≤ LATEST_TIME → FitsSigned w64 v → IsPossible (summary_of ((t, v, origin) ∷ []))
+pub IsPossible-one : (t : ℕ) (v : ℤ) (origin : Origin) → t ≤ LAST_TIME → FitsSigned w64 v → IsPossible (summary_of ((t, v, origin) ∷ []))
 IsPossible-one t v origin early fits = record {
   count_low = lit≤ tt;
   count_high = lit≤ tt;
@@ -31,7 +31,7 @@ IsPossible-one t v origin early fits = record {
 }
 
 -- the figures of some values are possible
-IsPossible-rising : (from : ℕ) (p : Point) (ps : List Point) → RiseFrom from (p ∷ ps) → length (p ∷ ps) ≤ GREATEST_COUNT → IsPossible (summary_of (p ∷ ps))
+IsPossible-rising : (from : ℕ) (p : Point) (ps : List Point) → RiseFrom from (p ∷ ps) → length (p ∷ ps) ≤ MOST_VALUES → IsPossible (summary_of (p ∷ ps))
 IsPossible-rising from p [] rising few = IsPossible-one p.0 p.1 p.2 rising.1 rising.2
 IsPossible-rising from p (q ∷ qs) rising few =
     let rest = IsPossible-rising (p.0 + 1) q qs rising.3 (omega arith) in
@@ -114,7 +114,7 @@ module _ (m M : ℤ) (order : m ≤ℤ M) (end : ℕ) where
       let rest = greatest-spread k (S -ℤ int_min M (S -ℤ (pos k *ℤ m))) (int_min M (S -ℤ (pos k *ℤ m))) (t + 1) first.high first.rest in
       omega (arith, ints, clamps)
 
-  module _ (early : end ≤ LATEST_TIME) (min_fits : FitsSigned w64 m) (max_fits : FitsSigned w64 M) where
+  module _ (early : end ≤ LAST_TIME) (min_fits : FitsSigned w64 m) (max_fits : FitsSigned w64 M) where
     RiseFrom-spread : (k : ℕ) (S : ℤ) (t : ℕ) → t + k ≤ end → Allows k m M S → RiseFrom t (spread k m M S t (end, M, New))
     RiseFrom-spread zero S t room allows = (omega arith, early, max_fits, tt)
     RiseFrom-spread (suc k) S t room allows =

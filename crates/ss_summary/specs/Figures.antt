@@ -3,7 +3,7 @@ use Rattle.std.specs.Prelude.{◌≡◌, ℕ, ◌+◌, ◌-◌, ◌≤◌, ℤ, 
 use Rattle.std.specs.Int.{w64}
 use Rattle.ss_summary.specs.Filters.{full, has, IsFilter}
 use Rattle.ss_summary.specs.declared.filter.Filter.{Filter}
-use Rattle.ss_summary.specs.declared.summary.TheConstants.{LATEST_TIME, GREATEST_COUNT}
+use Rattle.ss_base.specs.declared.limits.TheConstants.{LAST_TIME, MOST_VALUES}
 
 -- the figures of a summary: times and counts are whole numbers, and a sum may be of any size
 pub record Figures : Type 0 where
@@ -26,9 +26,9 @@ AreAlike f g = unfiltered f ≡ unfiltered g
 -- filter with the bits of the least and of the greatest
 pub record IsPossible (f : Figures) : Type 0 where
   pub count_low : 1 ≤ f.count
-  pub count_high : f.count ≤ GREATEST_COUNT
+  pub count_high : f.count ≤ MOST_VALUES
   pub times : f.t_first + f.count ≤ f.t_last + 1
-  pub last : f.t_last ≤ LATEST_TIME
+  pub last : f.t_last ≤ LAST_TIME
   pub one : f.count ≡ 1 → f.t_first ≡ f.t_last
   pub min_fits : FitsSigned w64 f.min
   pub max_fits : FitsSigned w64 f.max

@@ -3,7 +3,7 @@ use Rattle.std.specs.Prelude.{ℕ, ◌-◌, ◌^◌, Bool, ◌&&◌, ◌||◌, �
 use Rattle.ss_summary.specs.Figures.{Figures}
 use Rattle.ss_summary.specs.Filters.{has, is_filter}
 use Rattle.ss_summary.specs.declared.filter.Filter.{Filter}
-use Rattle.ss_summary.specs.declared.summary.TheConstants.{LATEST_TIME, GREATEST_COUNT}
+use Rattle.ss_base.specs.declared.limits.TheConstants.{LAST_TIME, MOST_VALUES}
 
 -- a signed number of 64 bits
 abbrev pub fits_i64 : ℤ → Bool
@@ -13,7 +13,7 @@ fits_i64 (negsuc n) = nat_lt n (2 ^ 63)
 -- so many values can have these first and last times
 abbrev pub has_times : ℕ → ℕ → ℕ → Bool
 has_times count t_first t_last =
-    nat_le 1 count && nat_le count GREATEST_COUNT && nat_le t_first t_last && nat_le t_last LATEST_TIME
+    nat_le 1 count && nat_le count MOST_VALUES && nat_le t_first t_last && nat_le t_last LAST_TIME
     && nat_le (count - 1) (t_last - t_first) && (nat_lt 1 count || t_first == t_last)
 
 -- so many values, with this least and this greatest among them, can have this sum

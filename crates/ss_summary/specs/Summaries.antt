@@ -4,7 +4,7 @@ use Rattle.std.specs.Int.{w64, int_min, int_max}
 use Rattle.ss_summary.specs.Figures.{Figures}
 use Rattle.ss_summary.specs.Filters.{filter_of_point, filter_with, four, union}
 use Rattle.ss_summary.specs.Points.{Point}
-use Rattle.ss_summary.specs.declared.summary.TheConstants.{LATEST_TIME, GREATEST_COUNT}
+use Rattle.ss_base.specs.declared.limits.TheConstants.{LAST_TIME, MOST_VALUES}
 
 -- the sum of the values
 abbrev pub total : List Point → ℤ
@@ -60,10 +60,10 @@ joined a b = record {
 -- values of 64 bits at rising times, the first at `from` or later and none after the latest time
 abbrev pub RiseFrom : ℕ → List Point → Type 0
 RiseFrom from [] = Unit
-RiseFrom from (p ∷ ps) = (from ≤ p.0) × (p.0 ≤ LATEST_TIME) × FitsSigned w64 p.1 × RiseFrom (p.0 + 1) ps
+RiseFrom from (p ∷ ps) = (from ≤ p.0) × (p.0 ≤ LAST_TIME) × FitsSigned w64 p.1 × RiseFrom (p.0 + 1) ps
 
 -- the values that a summary may be of: some, but not too many, at rising times
 pub record AreValues (values : List Point) : Type 0 where
   pub some : 0 < length values
-  pub few : length values ≤ GREATEST_COUNT
+  pub few : length values ≤ MOST_VALUES
   pub rising : RiseFrom 0 values

@@ -13,4 +13,4 @@ pub use laws::{
     joining_is_associative, possible_figures_are_those_of_values, possible_figures_pass_the_test,
     uniting_is_associative,
 };
-pub use summary::{GREATEST_COUNT, LATEST_TIME, Summary};
+pub use summary::Summary;

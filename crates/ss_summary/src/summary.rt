@@ -2,13 +2,8 @@
 use crate::Filter;
 use crate::filter::words_fit;
 use crate::possible::{has_bits, has_sum, has_times};
+use ss_base::{LAST_TIME, MOST_VALUES};
 use std::marker::Model;
-
-/// The latest time that a value may have, a whole number in the caller's unit.
-pub const LATEST_TIME: u64 = 1 << 62;
-
-/// The most values that a summary may be of.
-pub const GREATEST_COUNT: u64 = 1 << 40;
 
 /// Figures such as one or more values with rising times have. Times and values are whole numbers, and the sum never wraps.
 /// Every `Summary` meets the conditions of possible figures, `IsPossible` (docs/DEFINITIONS.md, "Possible summaries"): at
@@ -70,7 +65,7 @@ impl Summary {
 
     /// The summary of the value `v` at the time `t`.
     pub fn one(t: u64, v: i64) -> Summary
-        requires { t ≤ LATEST_TIME }
+        requires { t ≤ LAST_TIME }
         ensures { result ≡ summary_of ((t, v, New) ∷ []) }
     {
         Summary {
@@ -87,7 +82,7 @@ impl Summary {
     /// The summary of the values of both, where all of the second's times are greater.
     pub fn join(a: Summary, b: Summary) -> Summary
         requires later { a.t_last < b.t_first }
-        requires few { a.count + b.count ≤ GREATEST_COUNT }
+        requires few { a.count + b.count ≤ MOST_VALUES }
         ensures exact { result ≡ joined a b }
         ensures lists { (xs ys : List Point) → Summarizes a xs → Summarizes b ys
             → Summarizes result (xs ++ ys) }

@@ -1,6 +1,7 @@
 // Why the bytes of a piece are no frame, and what stands between a frame and its stream, in words.
 use crate::reasons::{name_of_event, params};
-use ss_catalog::{Family, LAST_TIME, LONGEST_NAME, Name, Params};
+use ss_base::LAST_TIME;
+use ss_catalog::{Family, LONGEST_NAME, Name, Params};
 use ss_frames::{CLOSE, CONTENT, CREATE, FRAME_SIZE, Frame, NAME, NUMBER, OPEN, STEP};
 use std::alloc::{AllocError, Global};
 

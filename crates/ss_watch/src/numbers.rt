@@ -1,7 +1,8 @@
 // Which word of a line isn't a number in its range.
 use crate::hints::hint_on_number;
 use crate::words::{has_digits_alone, word_at};
-use ss_catalog::{LAST_TIME, MOST_ROWS};
+use ss_base::LAST_TIME;
+use ss_catalog::MOST_ROWS;
 use ss_command::{Verb, verb_of};
 use ss_fields::{read_i64, read_u64};
 use std::alloc::{AllocError, Global};

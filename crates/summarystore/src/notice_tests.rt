@@ -1,8 +1,7 @@
 // Which arguments ask for a notice.
 use crate::notice::{HELP, notice_of};
-use ss_catalog::{
-    GREATEST_BASE, GREATEST_POWER, GREATEST_SCALE, GREATEST_WIDENING, LAST_TIME, LONGEST_NAME,
-};
+use ss_base::LAST_TIME;
+use ss_catalog::{GREATEST_BASE, GREATEST_POWER, GREATEST_SCALE, GREATEST_WIDENING, LONGEST_NAME};
 use ss_generator::MOST_COUNT;
 use ss_program::LONGEST_INPUT;
 use ss_watch::MOST_EXPLAINED;

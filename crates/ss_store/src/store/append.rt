@@ -3,11 +3,10 @@ use super::Store;
 use super::times::is_past;
 use crate::ApplyError;
 use crate::closing::values_held;
-use ss_catalog::{LAST_TIME, Name, Refusal};
+use ss_base::{LAST_TIME, MOST_VALUES, Steps};
+use ss_catalog::{Name, Refusal};
 use ss_model::Ack;
 use ss_outside::Disk;
-use ss_steps::Steps;
-use ss_windowing::MOST_VALUES;
 use std::sync::ledger::{Blank, Ledger};
 
 impl Store {
@@ -23,7 +22,7 @@ impl Store {
     ghost use Rattle.ss_store.specs.Extents.{records_held_in};
     ghost use Rattle.ss_store.specs.Kept.{StoreIsKept, of_part, refuses_held};
     ghost use Rattle.ss_store.specs.Places.{IsPlaceOf};
-    ghost use Rattle.ss_steps.specs.Steps.{IsFresh};
+    ghost use Rattle.ss_base.specs.Steps.{IsFresh};
 
     // The place of the stream that takes a value outside landmarks at a time, and the slot of its window, or why it doesn't take it.
     fn taker<L: Ledger>(

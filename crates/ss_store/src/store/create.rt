@@ -2,7 +2,7 @@
 ghost use Rattle.std.specs.Prelude.{◌≡◌, ◌∷◌, ◌++◌, [], false, IsTrue, OnOk, OnErr};
 ghost use Rattle.ss_codec.specs.Record.{is_valid};
 ghost use Rattle.ss_codec.specs.declared.record.Record.TheVariants as record_kinds;
-ghost use Rattle.ss_target.specs.Lengths.{has_target};
+ghost use Rattle.ss_targets.specs.Lengths.{has_target};
 
 use super::Store;
 use crate::ApplyError;
@@ -17,7 +17,7 @@ use ss_model::Ack;
 use ss_outside::{Disk, Failed};
 use ss_parts::StreamParts;
 use ss_schedule::Index;
-use ss_target::Target;
+use ss_targets::Target;
 use std::alloc::AllocError;
 
 // Puts a stream last, and its name into the catalog, which is the last to grow. An error leaves both as they were.
@@ -65,7 +65,7 @@ impl Store {
     ghost use Rattle.ss_outside.specs.Disk.{Between, OfContent};
     ghost use Rattle.ss_outside.specs.Verdict.{IfUndone};
     ghost use Rattle.ss_catalog.specs.declared.event.Event.TheVariants.{Create};
-    ghost use Rattle.ss_target.specs.Targets.{params_of};
+    ghost use Rattle.ss_targets.specs.Targets.{params_of};
     ghost use Rattle.ss_store.specs.Admitted.{IsNew};
     ghost use Rattle.ss_store.specs.Applied.{Applies};
     ghost use Rattle.ss_store.specs.Calls.{CostsEvent};

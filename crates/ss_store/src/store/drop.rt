@@ -15,6 +15,7 @@ use crate::ApplyError;
 use crate::clearing::stage_clearing;
 use crate::place::number_of;
 use crate::writing::stage_replaced;
+use ss_base::Steps;
 use ss_catalog::{Name, Refusal};
 use ss_codec::{Record, step_number};
 use ss_landmarks::Landmarks;
@@ -23,7 +24,6 @@ use ss_model::Ack;
 use ss_outside::{Disk, Failed};
 use ss_parts::StreamParts;
 use ss_records::Records;
-use ss_steps::Steps;
 use std::alloc::{AllocError, Global};
 use std::sync::ledger::{Blank, Ledger};
 
@@ -122,7 +122,7 @@ impl Store {
     ghost use Rattle.ss_store.specs.Extents.{records_held_in};
     ghost use Rattle.ss_store.specs.Kept.{StoreIsKept};
     ghost use Rattle.ss_store.specs.Places.{IsPlaceOf};
-    ghost use Rattle.ss_steps.specs.Steps.{IsFresh};
+    ghost use Rattle.ss_base.specs.Steps.{IsFresh};
 
     // Stages the drop of a stream.
     pub(super) fn stage_drop<D: Disk, L: Ledger>(

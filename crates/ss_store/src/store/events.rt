@@ -5,9 +5,9 @@ ghost use Rattle.ss_store.specs.Events.{mark_events};
 
 use super::Store;
 use crate::closing::values_held;
+use ss_base::Steps;
 use ss_catalog::StreamId;
 use ss_landmarks::Landmarks;
-use ss_steps::Steps;
 use std::marker::Brand;
 use std::sync::ledger::{Blank, Ledger};
 
@@ -23,7 +23,7 @@ fn mark_events(landmarks: &Landmarks) -> u64
 
 impl Store {
     ghost use Rattle.std.specs.Prelude.{◌≡◌, ◌+◌, false, List, length, IsSome, IfSome};
-    ghost use Rattle.ss_steps.specs.Steps.{IsFresh};
+    ghost use Rattle.ss_base.specs.Steps.{IsFresh};
     ghost use Rattle.ss_model.specs.History.{Happened, events_of};
     ghost use Rattle.ss_model.specs.Refusals.{IsHistory};
     ghost use Rattle.ss_model.specs.State.{state};

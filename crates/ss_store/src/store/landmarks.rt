@@ -1,8 +1,8 @@
 // What the landmarks of a stream say.
 use super::Store;
+use ss_base::Steps;
 use ss_catalog::StreamId;
 use ss_landmarks::Tally;
-use ss_steps::Steps;
 use std::marker::Brand;
 use std::sync::ledger::{Blank, Ledger};
 
@@ -10,14 +10,14 @@ impl Store {
     ghost use Rattle.std.specs.Prelude.{◌≡◌, ◌≤◌, IsSome, IfSome};
     ghost use Rattle.ss_landmarks.specs.Free.{free};
     ghost use Rattle.ss_landmarks.specs.ValuesIn.{tally_of, values_between};
-    ghost use Rattle.ss_landmarks.specs.declared.landmarks.TheConstants.{LATEST_TIME};
-    ghost use Rattle.ss_steps.specs.Steps.{IsFresh};
+    ghost use Rattle.ss_base.specs.declared.limits.TheConstants.{LAST_TIME};
+    ghost use Rattle.ss_base.specs.Steps.{IsFresh};
     ghost use Rattle.ss_store.specs.Kept.{part_numbered};
 
     /// How many of the times `p..=q` no landmark of the stream of a number covers.
     pub fn free(&self, id: StreamId, p: u64, q: u64) -> u64
         requires stands { IsSome (part_numbered id.0 self.now.streams) }
-        requires time { q ≤ LATEST_TIME }
+        requires time { q ≤ LAST_TIME }
         ensures { IfSome (part_numbered id.0 self.now.streams) (λ part. result ≡ free part.landmarks.landmarks p q) }
     {
         self.free_in::<Brand>(id, p, q, Blank::new(1))
@@ -27,7 +27,7 @@ impl Store {
     fn free_in<L: Ledger>(&self, id: StreamId, p: u64, q: u64, blank: Blank) -> u64
         requires fresh { IsFresh L.name L.parts blank }
         requires stands { IsSome (part_numbered id.0 self.now.streams) }
-        requires time { q ≤ LATEST_TIME }
+        requires time { q ≤ LAST_TIME }
         ensures { IfSome (part_numbered id.0 self.now.streams) (λ part. result ≡ free part.landmarks.landmarks p q) }
     {
         self.part(id)

@@ -1,10 +1,10 @@
 // What a store has: its streams, and the windows of each.
 use super::Store;
 use crate::closing::values_held;
+use ss_base::Steps;
 use ss_catalog::{Name, StreamId};
 use ss_line::At;
 use ss_model::StreamRow;
-use ss_steps::Steps;
 use std::marker::Brand;
 use std::sync::ledger::{Blank, Ledger};
 
@@ -16,7 +16,7 @@ impl Store {
     ghost use Rattle.ss_model.specs.State.{Stream};
     ghost use Rattle.ss_parts.specs.Held.{AllAgree};
     ghost use Rattle.ss_store.specs.Kept.{part_named, part_numbered, row_of_held};
-    ghost use Rattle.ss_steps.specs.Steps.{IsFresh};
+    ghost use Rattle.ss_base.specs.Steps.{IsFresh};
 
     /// How many streams stand.
     pub fn streams(&self) -> u32

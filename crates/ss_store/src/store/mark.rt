@@ -8,11 +8,11 @@ use super::times::{is_before, is_opening, is_past};
 use crate::ApplyError;
 use crate::closing::values_held;
 use crate::marking::{Mark, reserve};
-use ss_catalog::{LAST_TIME, Name, Refusal};
+use ss_base::{LAST_TIME, Steps};
+use ss_catalog::{Name, Refusal};
 use ss_model::Ack;
 use ss_outside::{Disk, Failed};
 use ss_parts::StreamParts;
-use ss_steps::Steps;
 use std::sync::ledger::{Blank, Ledger};
 
 // Why a stream doesn't take a mark at a time.
@@ -52,7 +52,7 @@ impl Store {
     ghost use Rattle.ss_store.specs.Kept.{StoreIsKept, live_held, of_part, refuses_held, without_spare};
     ghost use Rattle.ss_store.specs.Marking.{IsClosing, IsInOpen, IsItsSlot, event_of, slot_refusal, slots_used};
     ghost use Rattle.ss_store.specs.Places.{IsPlaceOf};
-    ghost use Rattle.ss_steps.specs.Steps.{IsFresh};
+    ghost use Rattle.ss_base.specs.Steps.{IsFresh};
 
     // The slot for the record that a mark puts, if there is one: a free one, or that of the open landmark.
     fn slot_for(&self, stream: &StreamParts, mark: Mark) -> Option<u32>

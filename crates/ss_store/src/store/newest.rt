@@ -7,13 +7,13 @@ ghost use Rattle.ss_store.specs.Newest.{is_newer, newest_place};
 
 use super::Store;
 use crate::AskError;
+use ss_base::Steps;
 use ss_catalog::{Name, Refusal, StreamId};
 use ss_landmarks::Landmarks;
 use ss_line::At;
 use ss_model::{Known, Newest};
 use ss_outside::Disk;
 use ss_parts::StreamParts;
-use ss_steps::Steps;
 use std::marker::Brand;
 use std::sync::ledger::{Blank, Ledger};
 
@@ -82,7 +82,7 @@ impl Store {
     ghost use Rattle.ss_outside.specs.Step.{Step};
     ghost use Rattle.ss_outside.specs.Verdict.{IfChanged, IfUndone};
     ghost use Rattle.ss_catalog.specs.declared.refusal.Refusal.{Refusal};
-    ghost use Rattle.ss_steps.specs.Steps.{IsFresh};
+    ghost use Rattle.ss_base.specs.Steps.{IsFresh};
     ghost use Rattle.ss_query.specs.Answered.{window_slots_of};
     ghost use Rattle.ss_store.specs.Applied.{Looks, StandsOn};
     ghost use Rattle.ss_store.specs.Errors.{verdict_of_ask};

@@ -3,9 +3,9 @@ use super::Store;
 use crate::OpenError;
 use crate::indexing::held_streams;
 use crate::opening::{catalog_of, read_all, settle_all};
+use ss_base::Steps;
 use ss_outside::Disk;
 use ss_recover::Parts;
-use ss_steps::Steps;
 use std::alloc::Global;
 use std::marker::Brand;
 use std::sync::ledger::{Blank, Ledger};
@@ -16,7 +16,7 @@ impl Store {
     ghost use Rattle.ss_outside.specs.Verdict.{IfChanged};
     ghost use Rattle.ss_journal.specs.Kept.{IsSealed};
     ghost use Rattle.ss_journal.specs.declared.format.TheConstants.{MOST_SLOTS};
-    ghost use Rattle.ss_steps.specs.Steps.{IsFresh};
+    ghost use Rattle.ss_base.specs.Steps.{IsFresh};
     ghost use Rattle.ss_store.specs.Applied.{OpensStore};
     ghost use Rattle.ss_store.specs.Errors.{verdict_of_opening};
 

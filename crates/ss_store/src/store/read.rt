@@ -1,13 +1,12 @@
 // Reading a window.
 use super::Store;
 use crate::AskError;
+use ss_base::{MOST_VALUES, Steps};
 use ss_catalog::{Refusal, StreamId};
 use ss_line::{At, Entry};
 use ss_model::Placed;
 use ss_outside::Disk;
 use ss_query::read_window;
-use ss_steps::Steps;
-use ss_windowing::MOST_VALUES;
 use std::marker::Brand;
 use std::sync::ledger::{Blank, Ledger};
 
@@ -19,7 +18,7 @@ impl Store {
     ghost use Rattle.ss_catalog.specs.declared.refusal.Refusal.{Refusal};
     ghost use Rattle.ss_journal.specs.declared.format.TheConstants.{MOST_SLOTS};
     ghost use Rattle.ss_line.specs.Line.{StandsIn, entry_at};
-    ghost use Rattle.ss_steps.specs.Steps.{IsFresh};
+    ghost use Rattle.ss_base.specs.Steps.{IsFresh};
     ghost use Rattle.ss_store.specs.Applied.{Looks, ShowsWindow, StandsOn};
     ghost use Rattle.ss_store.specs.Errors.{verdict_of_ask};
     ghost use Rattle.ss_store.specs.Kept.{StoreIsKept, part_numbered};

@@ -16,11 +16,11 @@ ghost use Rattle.ss_store.specs.Indexed.{IsTimed};
 use super::Store;
 use crate::AskError;
 use crate::held::HeldStream;
+use ss_base::Steps;
 use ss_catalog::{Query, Refusal, StreamId};
 use ss_outside::Disk;
 use ss_query::{ReadError, Seen, see_from};
 use ss_records::Records;
-use ss_steps::Steps;
 use std::marker::Brand;
 use std::sync::ledger::{Blank, Ledger};
 
@@ -72,7 +72,7 @@ impl Store {
     ghost use Rattle.ss_outside.specs.Step.{Step};
     ghost use Rattle.ss_outside.specs.Verdict.{IfChanged, IfUndone};
     ghost use Rattle.ss_catalog.specs.declared.refusal.Refusal.{Refusal};
-    ghost use Rattle.ss_steps.specs.Steps.{IsFresh};
+    ghost use Rattle.ss_base.specs.Steps.{IsFresh};
     ghost use Rattle.ss_query.specs.Answered.{window_slots_of};
     ghost use Rattle.ss_query.specs.Asked.{HasCuts, IsFewMarked};
     ghost use Rattle.ss_store.specs.Applied.{Looks, Sees, StandsOn};

@@ -1,5 +1,5 @@
 use Rattle.ss_recover.proofs.Common.{◌≡◌, drop, keep_step, rule_of}
-use Rattle.ss_target.specs.Targets.{params_of}
+use Rattle.ss_targets.specs.Targets.{params_of}
 use Rattle.ss_recover.proofs.WindowLaws.{windows_at}
 use Rattle.ss_recover.proofs.windows.keep_step.Given as goal
 

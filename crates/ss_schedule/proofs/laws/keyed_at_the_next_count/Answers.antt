@@ -1,4 +1,4 @@
-use Rattle.ss_target.specs.Targets.{lengths-positive}
+use Rattle.ss_targets.specs.Targets.{lengths-positive}
 use Rattle.ss_schedule.proofs.KeyedLemmas.{IsKeyed-next}
 use Rattle.ss_schedule.proofs.laws.keyed_at_the_next_count.Goals as goal
 

@@ -1,5 +1,5 @@
 use Rattle.std.proofs.Common.{◌∙◌, ap, refl, sym}
-use Rattle.ss_target.specs.Targets.{lengths-positive}
+use Rattle.ss_targets.specs.Targets.{lengths-positive}
 use Rattle.ss_schedule.specs.Keyed.{ScheduleState, key_at, merge_rule}
 use Rattle.ss_schedule.specs.Pairs.{pair_may_join}
 use Rattle.ss_schedule.proofs.KeyedLemmas.{IsPairIn-read, IsPairOfKey-keyed, NoPairFits-keyed, fits-by, read-is, split-stands}

@@ -5,7 +5,7 @@ use Rattle.std.proofs.Math.Facts.{to_z-of_z}
 use Rattle.ss_schedule.specs.Keyed.{merge_rule}
 use Rattle.ss_schedule.proofs.KeyedLemmas.{IsKeyed-next}
 use Rattle.ss_schedule.proofs.Places.{fresh-none, index-once}
-use Rattle.ss_target.specs.Targets.{lengths-positive}
+use Rattle.ss_targets.specs.Targets.{lengths-positive}
 use Rattle.ss_store.proofs.Additions.{IsAdded, IsOrdered-added, LiveSlotsGo-added, TileFrom-added, TurnsShown-added, single_entry, values_held-added}
 use Rattle.ss_store.proofs.KeyedWindows.{FollowUpTo-take, FollowUpTo-tiles, NoPairFits-entries, take-all}
 use Rattle.ss_store.proofs.Rising.{IsTimed-added}

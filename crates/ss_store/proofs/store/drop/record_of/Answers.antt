@@ -1,12 +1,12 @@
 use Rattle.ss_store.proofs.Common.{◌≡◌, ◌∙◌, ℕ, zero, suc, ap, arith, refl, true, nat_tests, is_valid-IsStream, params_of}
 use Rattle.ss_catalog.specs.Params.{in_range, is_family, is_step, step_for}
 use Rattle.ss_catalog.specs.declared.params.Family.TheVariants as families
-use Rattle.ss_power.specs.Power.{IsPower}
-use Rattle.ss_target.specs.Targets.{family_of}
-use Rattle.ss_target.specs.declared.target.Target.{Target}
-use Rattle.ss_target.specs.declared.target.Windows.{Windows}
-use Rattle.ss_target.specs.declared.target.Windows.TheVariants.{Exp, Power}
-use Rattle.ss_windowing.specs.Exp.{IsExp}
+use Rattle.ss_targets.specs.Power.{IsPower}
+use Rattle.ss_targets.specs.Targets.{family_of}
+use Rattle.ss_targets.specs.declared.target.Target.{Target}
+use Rattle.ss_targets.specs.declared.target.Windows.{Windows}
+use Rattle.ss_targets.specs.declared.target.Windows.TheVariants.{Exp, Power}
+use Rattle.ss_targets.specs.Exp.{IsExp}
 use Rattle.ss_store.proofs.store.drop.record_of.Goals as goal
 
 -- the parameters of a target are in their ranges

@@ -1,6 +1,0 @@
-use Rattle.std.proofs.Common.{◌≡◌}
-use Rattle.calls_bench.specs.Puts.{puts_from}
-use Rattle.calls_bench.proofs.puts.txn_of.Given as goal
-
-abbrev pub invariant-loop-k : goal.invariant-loop-k
-invariant-loop-k l = l.txn.items ≡ puts_from l.first l.k l.byte

@@ -1,8 +1,0 @@
-use Rattle.ss_contents.proofs.ContentsLemmas.{MayBeTrue-count, MayBeTrue-sum}
-use Rattle.ss_contents.proofs.laws.fitting_answers_may_be_true.Goals as goal
-
-pub returns-clause-count : goal.returns-clause-count
-returns-clause-count c = MayBeTrue-count
-
-pub returns-clause-sum : goal.returns-clause-sum
-returns-clause-sum c = MayBeTrue-sum

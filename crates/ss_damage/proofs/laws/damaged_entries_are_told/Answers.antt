@@ -1,5 +1,0 @@
-use Rattle.ss_damage.proofs.DamageLemmas.{entry_burst, entry_odd, entry_two}
-use Rattle.ss_damage.proofs.laws.damaged_entries_are_told.Goals as goal
-
-pub returns : goal.returns
-returns c = record { burst = entry_burst; two = entry_two; odd = entry_odd }

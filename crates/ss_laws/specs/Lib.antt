@@ -1,0 +1,9 @@
+pub mod Contents
+pub mod Sides
+pub mod Rebuilt
+pub mod Attained
+pub mod Moved
+pub mod Ages
+pub mod Parts
+pub mod Sizes
+pub mod Damage

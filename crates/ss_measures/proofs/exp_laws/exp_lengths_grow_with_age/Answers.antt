@@ -1,5 +1,0 @@
-use Rattle.ss_measures.proofs.ExpMeasures.{length-line, length-newest}
-use Rattle.ss_measures.proofs.exp_laws.exp_lengths_grow_with_age.Goals as goal
-
-pub returns : goal.returns
-returns c = record { line = length-line; newest = length-newest }

@@ -1,5 +1,0 @@
-use Rattle.ss_measures.proofs.RoomLemmas.{refuses-room}
-use Rattle.ss_measures.proofs.room_laws.small_stores_have_room.Goals as goal
-
-pub returns : goal.returns
-returns c = refuses-room

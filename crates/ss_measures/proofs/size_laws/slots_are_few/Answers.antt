@@ -1,5 +1,0 @@
-use Rattle.ss_measures.proofs.SizeLemmas.{slots-few}
-use Rattle.ss_measures.proofs.size_laws.slots_are_few.Goals as goal
-
-pub returns : goal.returns
-returns c = slots-few

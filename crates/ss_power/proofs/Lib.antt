@@ -1,4 +1,0 @@
-mod Rows
-pub mod PowerLemmas
-pub mod SumLemmas
-pub mod ClosedFormLemmas

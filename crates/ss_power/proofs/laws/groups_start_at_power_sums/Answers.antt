@@ -1,5 +1,0 @@
-use Rattle.ss_power.proofs.PowerLemmas.{cut-power_sum}
-use Rattle.ss_power.proofs.laws.groups_start_at_power_sums.Goals as goal
-
-pub returns : goal.returns
-returns c = cut-power_sum

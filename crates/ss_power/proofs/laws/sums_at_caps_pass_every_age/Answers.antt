@@ -1,5 +1,0 @@
-use Rattle.ss_power.proofs.SumLemmas.{lt-power_sum-cap}
-use Rattle.ss_power.proofs.laws.sums_at_caps_pass_every_age.Goals as goal
-
-pub returns : goal.returns
-returns c = lt-power_sum-cap

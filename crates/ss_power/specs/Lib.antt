@@ -1,4 +1,0 @@
-pub mod PowerSum
-pub mod Power
-pub mod PowerLaws
-pub mod Family

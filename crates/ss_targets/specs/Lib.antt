@@ -1,0 +1,13 @@
+pub mod Windowing
+pub mod FirstFit
+pub mod Groups
+pub mod Exp
+pub mod ExpLaws
+pub mod ExpFamily
+pub mod PowerSum
+pub mod Power
+pub mod PowerLaws
+pub mod PowerFamily
+pub mod Lengths
+pub mod Rule
+pub mod Targets

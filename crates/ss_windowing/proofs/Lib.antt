@@ -1,5 +1,0 @@
-pub mod WindowingLemmas
-pub mod FirstFitLemmas
-pub mod GroupLemmas
-pub mod ExpLemmas
-pub mod Rows

@@ -1,5 +1,0 @@
-use Rattle.ss_windowing.proofs.WindowingLemmas.{fits-one_window}
-use Rattle.ss_windowing.proofs.laws.fits_is_one_window.Goals as goal
-
-pub returns : goal.returns
-returns c = fits-one_window

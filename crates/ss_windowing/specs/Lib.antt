@@ -1,6 +1,0 @@
-pub mod Windowing
-pub mod FirstFit
-pub mod Groups
-pub mod Exp
-pub mod ExpLaws
-pub mod Family

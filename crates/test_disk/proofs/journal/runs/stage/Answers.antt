@@ -1,0 +1,5 @@
+use Rattle.ss_journal.proofs.StepLemmas.{after-step}
+use Rattle.test_disk.proofs.journal.runs.stage.Goals as goal
+
+pub returns-clause-one_disk : goal.returns-clause-one_disk
+returns-clause-one_disk g c = after-step c.in_ok-make_room.ensures.makes_room (λ told room. (c.stage.ensures.stages _).kept room.kept)

@@ -1,5 +1,0 @@
-use Rattle.ss_schedule.specs.Keyed.{IsKeyed}
-use Rattle.window_tests.proofs.schedule.load.Given as goal
-
-abbrev pub invariant-loop-window : goal.invariant-loop-window
-invariant-loop-window g l = IsKeyed l.n l.line.entries l.schedule

@@ -1,7 +1,0 @@
-use Rattle.std.proofs.Common.{◌≤◌, ℕ}
-use Rattle.window_tests.proofs.TimesLemmas.{All-put}
-use Rattle.window_tests.proofs.times.put.Goals as goal
-
-pub returns : goal.returns
-returns c =
-    All-put (λ (k : ℕ). k ≤ c.args.last) c.args.t c.args.times.now c.put.new.self c.put.ensures.absent c.requires (record { 0 = c.args.at }) c.put.ensures.place
