@@ -106,10 +106,7 @@ pub use Rattle.ss_program.specs.Amid.{StagesBrought, TakesBrought, TakesTurn, am
 pub use Rattle.ss_program.specs.Amid.{TakesStarved}
 pub use Rattle.ss_program.specs.Answer.{IsOpen, IsServing, at_sink, SendsRows, IsOneReply, ReadsAnswer, Shows}
 pub use Rattle.ss_program.specs.Answer.{IsTextBrought, IsRowsText, HasRows, question_command}
-pub use Rattle.ss_program.specs.Asked.{IsOrder, heard_of, rows_asked, IsAsked, NoneCloses, rows_asked_by, rows_asked_in}
 pub use Rattle.ss_program.specs.Certifying.{HasEvidence, IsSharp}
-pub use Rattle.ss_program.specs.Chained.{AreLinked, Ending, Extends, ExtendsAll, IsLeftBy, IsLink, Link, acked_in, acked_till, by_crash, by_itself, offered_in}
-pub use Rattle.ss_program.specs.Chained.{accepted_of, acked_of}
 pub use Rattle.ss_program.specs.Checked.{ChecksStore, survey_line, Checks}
 pub use Rattle.ss_program.specs.Cursor.{order_in, Ordered, close_brings, closes_cursor, leaves_cursors, next_brings, open_brings, opens_cursor, placed_rows}
 pub use Rattle.ss_program.specs.Cursor.{showing}
@@ -123,7 +120,6 @@ pub use Rattle.ss_program.specs.Line.{Brought, History, answer_replies, brings, 
 pub use Rattle.ss_program.specs.Line.{newest_replies, only_replies, row_shown, series_rows, stream_rows, text_brought, the_event, unless_refused, values_shown}
 pub use Rattle.ss_program.specs.Line.{windows_shown, accepted_in, command_in, framed_replies, brings_in, kept_in, meaning_in, refused, text_said, window_rows}
 pub use Rattle.ss_program.specs.Line.{nothing, accepted_frame, due_brings, frame_brings, frame_replies, value_rows, IsSpeaker, event_asked}
-pub use Rattle.ss_program.specs.Needed.{needed}
 pub use Rattle.ss_program.specs.Outcome.{HoldsBy, steps_within, Serves, TakesFew, NotBegun, Reads, Reports, Stopped, Took, HoldsReported, Moved, ReadsPiece}
 pub use Rattle.ss_program.specs.Outcome.{ServesInput}
 pub use Rattle.ss_program.specs.Progress.{NoneWait, SessionState, StandsBeyond, StandsWithin, StopsIn, sealing_by, HoldsTalk, BeginsWithWant, HasTaken}

@@ -23,14 +23,6 @@ pub mod RunLemmas
 pub mod OpeningLemmas
 pub mod EndLemmas
 pub mod GenerateLemmas
-pub mod LawLemmas
-pub mod WholeLemmas
-pub mod WithinRows
-pub mod UnknownLemmas
-pub mod NewestLaws
-pub mod HeardLemmas
-pub mod ConversationLemmas
-pub mod AskedRows
 pub mod Rows
 pub mod SaidRows
 pub mod NewestRows
@@ -54,12 +46,3 @@ pub mod PresenceRows
 pub mod CursorRows
 pub mod SessionRows
 pub mod FrameLemmas
-pub mod FollowedLemmas
-pub mod ChainLemmas
-pub mod ChainRows
-pub mod NameRows
-pub mod AnewLemmas
-pub mod NeededLemmas
-pub mod OldLemmas
-pub mod AlikeLemmas
-pub mod AlikeText

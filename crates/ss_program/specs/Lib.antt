@@ -2,8 +2,6 @@ pub mod Line
 pub mod Cursor
 pub mod Talk
 pub mod Session
-pub mod Asked
-pub mod Followed
 pub mod Sent
 pub mod Devices
 pub mod Progress
@@ -24,6 +22,3 @@ pub mod Generated
 pub mod Tally
 pub mod Ending
 pub mod Promises
-pub mod Chained
-pub mod Needed
-pub mod Alike

@@ -1,0 +1,174 @@
+-- Worked rows of runs over one file, one after the other, computed.
+use Rattle.ss_program.proofs.Common.{◌≡◌, ◌⊎◌, ◌∙◌, ◌≤◌, ◌++◌, ℕ, List, [], ◌∷◌, length, take, zero, suc, ap, arith, inl, inr, lit≤, refl, false, Some}
+use Rattle.ss_program.proofs.Common.{None, codes, flat_map, pos, negsuc, Lines, Serve, Check, Gen, Each, Create, Value, exp, Happened, added, KnowsNow}
+use Rattle.ss_program.proofs.Common.{DiskView, WhereTold, Stands-unformed, Stands}
+use Rattle.ss_promises.specs.Chained.{AreLinked, Extends, Link, accepted_of, acked_of, acked_till, by_crash}
+use Rattle.ss_program.proofs.Common.{generated_lines, History, accepted, plain_talk, Done, DiskFault}
+use Rattle.ss_promises.specs.Chained.{by_itself, offered_in}
+use Rattle.std.specs.Fmt.{digits}
+use Rattle.ss_catalog.specs.Names.{is_name}
+use Rattle.ss_command.specs.Grammar.{meaning}
+use Rattle.ss_command.specs.Lines.{ended_lines, unended}
+use Rattle.ss_command.specs.Words.{words}
+use Rattle.ss_fields.specs.Words.{is_number, number_of, number_up_to, signed_of}
+use Rattle.ss_journal.specs.Format.{is_unborn}
+use Rattle.ss_model.specs.Refusals.{refuses}
+use Rattle.ss_model.specs.State.{state}
+use Rattle.ss_targets.specs.Windowing.{window_index}
+use Rattle.ss_promises.proofs.ChainLemmas.{extends-linked}
+
+-- a stream and its first value, and one more value
+abbrev created : Happened
+created = added (Create (codes "a") (exp 2 1 1))
+
+abbrev ten : Happened
+ten = added (Value (codes "a") 10 (pos 5))
+
+abbrev twenty : Happened
+twenty = added (Value (codes "a") 20 (negsuc 2))
+
+-- the inputs of two runs, each line with its line end
+abbrev first_input : List ℕ
+first_input = flat_map (λ line. line ++ 10 ∷ []) (codes "create a exp 2 1 1" ∷ codes "append a 10 5" ∷ [])
+
+abbrev second_input : List ℕ
+second_input = codes "append a 20 -3" ++ 10 ∷ []
+
+-- the events of a run are those of its input, or of the generated file
+accepted-first : accepted_of (Some (Serve (Lines false) Each)) first_input [] ≡ created ∷ ten ∷ []
+unfolding ended_lines unended meaning words is_number number_of number_up_to signed_of is_name state refuses window_index
+accepted-first = refl
+
+accepted-second : accepted_of (Some (Serve (Lines false) Each)) second_input (created ∷ []) ≡ twenty ∷ []
+unfolding ended_lines unended meaning words is_number number_of number_up_to signed_of is_name state refuses window_index
+accepted-second = refl
+
+accepted-after_both : accepted_of (Some (Serve (Lines false) Each)) second_input (created ∷ ten ∷ []) ≡ twenty ∷ []
+unfolding ended_lines unended meaning words is_number number_of number_up_to signed_of is_name state refuses window_index
+accepted-after_both = refl
+
+accepted-check : accepted_of (Some Check) first_input [] ≡ []
+accepted-check = refl
+
+accepted-none : accepted_of None first_input [] ≡ []
+accepted-none = refl
+
+accepted-generated : (seed count : ℕ) (history : History) →
+    accepted_of (Some (Gen seed count)) first_input history ≡ accepted (plain_talk history) (generated_lines seed count)
+accepted-generated seed count history = refl
+
+-- with the last byte of its reply an event is acknowledged, where there is an input
+acked-less : acked_of (Some (Serve (Lines false) Each)) first_input 6 [] ≡ 0
+unfolding ended_lines unended meaning words is_number number_of number_up_to signed_of is_name state refuses window_index digits
+acked-less = refl
+
+acked-one : acked_of (Some (Serve (Lines false) Each)) first_input 7 [] ≡ 1
+unfolding ended_lines unended meaning words is_number number_of number_up_to signed_of is_name state refuses window_index digits
+acked-one = refl
+
+acked-generated : (seed count bytes : ℕ) (history : History) → acked_of (Some (Gen seed count)) first_input bytes history ≡ 0
+acked-generated seed count bytes history = refl
+
+acked_till-end : acked_till by_itself 7 ≡ 7
+acked_till-end = refl
+
+acked_till-crash : acked_till by_crash 7 ≡ 0
+acked_till-crash = refl
+
+-- some first of two, from one on
+one-or_two : (j : ℕ) → 1 ≤ j → j ≤ 2 → (take j (created ∷ ten ∷ []) ≡ created ∷ []) ⊎ (take j (created ∷ ten ∷ []) ≡ created ∷ ten ∷ [])
+one-or_two zero some few = absurd (omega (arith, some))
+one-or_two (suc zero) some few = inl refl
+one-or_two (suc (suc zero)) some few = inr refl
+one-or_two (suc (suc (suc j))) some few = absurd (omega (arith, few))
+
+-- runs of these inputs, in which each event is sealed by itself
+module _ {D : Type 0} (a b c d : D) (image last : List ℕ) where
+  -- one whose disk fails after the sink got one reply
+  abbrev failed : Link D
+  failed = record {
+    mode = Some (Serve (Lines false) Each);
+    old = a;
+    new = b;
+    input = first_input;
+    rest = Some [];
+    had = [];
+    has = codes "ok 0 0" ++ 10 ∷ [];
+    status = DiskFault;
+    ending = by_itself;
+    image = image;
+  }
+
+  -- one that a crash cuts off, and one that is done
+  abbrev cut_off : Link D
+  cut_off = record failed { ending = by_crash }
+
+  abbrev finished : Link D
+  finished = record {
+    mode = Some (Serve (Lines false) Each);
+    old = c;
+    new = d;
+    input = second_input;
+    rest = Some [];
+    had = [];
+    has = codes "ok 2 2" ++ 10 ∷ [];
+    status = Done;
+    ending = by_itself;
+    image = last;
+  }
+
+  -- the one that failed holds the event whose reply the sink got, and at most one more
+  after-failed : (next : History) → Extends failed [] next → (next ≡ created ∷ []) ⊎ (next ≡ created ∷ ten ∷ [])
+  unfolding ended_lines unended meaning words is_number number_of number_up_to signed_of is_name state refuses window_index digits
+  after-failed next ext =
+      let acked : 1 ≤ ext.j = ext.acked in
+      let few : ext.j ≤ 2 = ext.few in
+      elim (one-or_two ext.j acked few) [
+        | inl one ↦ inl (ext.is ∙ one)
+        | inr both ↦ inr (ext.is ∙ both)
+      ]
+
+  fewer-failed : Extends failed [] [] → ⊥
+  fewer-failed ext = elim (after-failed [] ext) [
+    | inl one ↦ cc
+    | inr both ↦ cc
+  ]
+
+  -- of the one that was cut off none is known to be acknowledged
+  none-cut_off : Extends cut_off [] []
+  unfolding ended_lines unended meaning words is_number number_of number_up_to signed_of is_name state refuses window_index digits
+  none-cut_off = record {
+    j = 0;
+    is = refl;
+    few = lit≤ tt;
+    acked = lit≤ tt;
+    at_most = λ is form each. cc;
+    done = λ is done. cc;
+    starved = λ is form sealing asked starved. cc;
+  }
+
+  -- the one that is done holds its event
+  after-finished : (history next : History) → offered_in finished history ≡ twenty ∷ [] → Extends finished history next → next ≡ history ++ twenty ∷ []
+  after-finished history next offers ext =
+      let all : ext.j ≡ 1 = ext.done refl refl ∙ ap (λ (es : List Happened). length es) offers in
+      ext.is ∙ ap (λ j. history ++ take j (offered_in finished history)) all ∙ ap (λ es. history ++ take 1 es) offers
+
+  -- over an empty file the two leave the events of the second behind the one or the two of the first
+  module _ (seen : D → DiskView) (knows : (disk : D) → WhereTold (seen disk) KnowsNow) where
+    two-runs : AreLinked seen (failed ∷ finished ∷ []) [] last → Stands (created ∷ twenty ∷ []) last ⊎ Stands (created ∷ ten ∷ twenty ∷ []) last
+    unfolding is_unborn
+    two-runs linked =
+        let held = extends-linked seen knows (failed ∷ finished ∷ []) [] last [] (Stands-unformed [] refl) linked in
+        let next = held.1.0 in
+        let then = held.1.2.0 in
+        let stands : Stands then last = rw held.1.2.2 at held.2 in
+        elim (after-failed next held.1.1) [
+          | inl one ↦ inl (
+              let same : then ≡ next ++ twenty ∷ [] =
+              after-finished next then (ap (λ h. offered_in finished h) one ∙ accepted-second) held.1.2.1 in
+              rw (same ∙ ap (λ (h : History). h ++ twenty ∷ []) one) at stands)
+          | inr both ↦ inr (
+              let same : then ≡ next ++ twenty ∷ [] =
+              after-finished next then (ap (λ h. offered_in finished h) both ∙ accepted-after_both) held.1.2.1 in
+              rw (same ∙ ap (λ (h : History). h ++ twenty ∷ []) both) at stands)
+        ]

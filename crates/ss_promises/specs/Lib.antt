@@ -1,0 +1,5 @@
+pub mod Asked
+pub mod Followed
+pub mod Chained
+pub mod Needed
+pub mod Alike
