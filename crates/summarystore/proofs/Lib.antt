@@ -1,6 +1,2 @@
-pub mod BlankLemmas
-pub mod BufferLemmas
 pub mod PlanLemmas
 mod PlanRows
-mod Rows
-pub mod WhyLemmas

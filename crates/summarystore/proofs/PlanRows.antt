@@ -5,12 +5,12 @@ use Rattle.ss_arguments.specs.declared.mode.Form.{Form}
 use Rattle.ss_arguments.specs.declared.mode.Form.TheVariants.{Lines, Sessions, Frames, Follow}
 use Rattle.ss_arguments.specs.declared.mode.Mode.TheVariants.{Serve, Check, Gen}
 use Rattle.ss_arguments.specs.declared.mode.Sealing.TheVariants.{Shared}
-use Rattle.summarystore.specs.Plan.{Planned, Prints, Runs, demand_of, notice_of, path_of, planned, status_with}
-use Rattle.summarystore.specs.declared.demand.Demand.{Demand}
-use Rattle.summarystore.specs.declared.demand.Demand.TheVariants as demand
+use Rattle.summarystore.specs.Plan.{Planned, Prints, Runs, demand_of, missing_for, notice_of, path_of, planned, status_with}
+use Rattle.ss_file.specs.declared.demand.Demand.{Demand}
+use Rattle.ss_file.specs.declared.demand.Demand.TheVariants as demand
 use Rattle.summarystore.specs.declared.notice.Notice.TheVariants.{Help, Version}
-use Rattle.summarystore.specs.declared.opening.Missing.{Missing}
-use Rattle.summarystore.specs.declared.opening.Missing.TheVariants.{Make, Fail, ReadEmpty, ReadFail}
+use Rattle.ss_file.specs.declared.opening.Missing.{Missing}
+use Rattle.ss_file.specs.declared.opening.Missing.TheVariants.{Make, Fail, ReadEmpty, ReadFail}
 
 -- the words `p s`, and some behind them
 abbrev over_s : List (List ℕ) → List (List ℕ)
@@ -224,3 +224,20 @@ status-not_asked = refl
 
 status-others : map (status_with true true) (1 ∷ 2 ∷ 3 ∷ 9 ∷ []) ≡ 1 ∷ 2 ∷ 3 ∷ 9 ∷ []
 status-others = refl
+
+missing_for-check : missing_for false (codes "a" ∷ codes "b" ∷ codes "check" ∷ []) ≡ missing.ReadEmpty
+missing_for-check = refl
+
+missing_for-check_of_one_that_exists : missing_for true (codes "a" ∷ codes "b" ∷ codes "check" ∷ []) ≡ missing.ReadFail
+missing_for-check_of_one_that_exists = refl
+
+missing_for-one_that_exists :
+    map (missing_for true) ((codes "a" ∷ codes "b" ∷ []) ∷ (codes "a" ∷ codes "b" ∷ codes "run" ∷ []) ∷ []) ≡ missing.Fail ∷ missing.Fail ∷ []
+missing_for-one_that_exists = refl
+
+missing_for-others :
+    map (missing_for false)
+    ([] ∷ (codes "a" ∷ codes "check" ∷ []) ∷ (codes "a" ∷ codes "b" ∷ codes "run" ∷ [])
+    ∷ (codes "a" ∷ codes "b" ∷ codes "check" ∷ [] ∷ []) ∷ [])
+    ≡ missing.Make ∷ missing.Make ∷ missing.Make ∷ missing.Make ∷ []
+missing_for-others = refl

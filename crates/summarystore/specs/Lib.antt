@@ -1,5 +1,1 @@
-pub mod FileDisk
-pub mod Opening
 pub mod Plan
-pub mod Reason
-pub mod System

@@ -9,18 +9,29 @@ use Rattle.ss_arguments.specs.declared.mode.Form.{Form}
 use Rattle.ss_arguments.specs.declared.mode.Form.TheVariants.{Lines}
 use Rattle.ss_arguments.specs.declared.mode.Mode.{Mode}
 use Rattle.ss_arguments.specs.declared.mode.Mode.TheVariants.{Serve, Check, Gen}
-use Rattle.summarystore.specs.Opening.{missing_for}
-use Rattle.summarystore.specs.declared.demand.Demand.{Demand}
-use Rattle.summarystore.specs.declared.demand.Demand.TheVariants as demand
+use Rattle.ss_file.specs.declared.demand.Demand.{Demand}
+use Rattle.ss_file.specs.declared.demand.Demand.TheVariants as demand
 use Rattle.summarystore.specs.declared.notice.Notice.{Notice}
 use Rattle.summarystore.specs.declared.notice.Notice.TheVariants.{Help, Version}
-use Rattle.summarystore.specs.declared.opening.Missing.{Missing}
+use Rattle.ss_file.specs.declared.opening.Missing.{Missing}
+use Rattle.ss_file.specs.declared.opening.Missing.TheVariants.{Make, Fail, ReadEmpty, ReadFail}
 use Rattle.summarystore.specs.declared.options.Options.{Options}
 use Rattle.summarystore.specs.declared.options.Switch.{Switch}
 use Rattle.summarystore.specs.declared.options.Switch.TheVariants.{Explain, Batch, Framed, Strict, Existing, Checked}
 use Rattle.summarystore.specs.declared.plan.Plan.{Plan}
 use Rattle.summarystore.specs.declared.plan.Plan.TheVariants as plan
 use Rattle.summarystore.specs.declared.plan.Run.{Run}
+
+-- whether words ask for a check: it is the third word, after the program's name and the path, and the last one
+abbrev pub is_check : List (List ℕ) → Bool
+is_check (program ∷ path ∷ mode ∷ []) = bytes_eq mode (codes "check")
+is_check _ = false
+
+-- What is done where there is no file: a check makes none, and no run does whose store has to be there. A check reads the file
+-- alone.
+abbrev pub missing_for : Bool → List (List ℕ) → Missing
+missing_for has_to_exist words =
+    if is_check words then (if has_to_exist then ReadFail else ReadEmpty) else (if has_to_exist then Fail else Make)
 
 -- the notice that a word asks for
 abbrev pub notice_named : List ℕ → Option Notice

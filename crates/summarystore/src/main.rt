@@ -1,35 +1,16 @@
 // summarystore STORE < commands
 #![tactic(auto)]
 
-#[cfg(test)]
-mod adapter_tests;
-mod adapters;
 mod advice;
-mod demand;
-mod file_disk;
-mod foreign;
-mod host_system;
-mod judge;
-#[cfg(test)]
-mod made_up_system;
 mod notice;
-#[cfg(test)]
-mod notice_tests;
-mod opening;
 mod options;
 mod plan;
-mod reading;
-mod reason;
-mod system;
 mod telling;
-mod writing;
+mod wanted;
 
-use adapters::{StdSink, StdSource};
-use demand::meet;
-use file_disk::FileDisk;
-use host_system::HostSystem;
 use plan::{Plan, Run, plan_of, status_with};
 use ss_arguments::Form;
+use ss_file::{FileDisk, HostSystem, StdSink, StdSource, meet};
 use ss_program::{Status, exit_code};
 use ss_watch::{Terminals, Watch, Watched};
 use std::cell::RefCell;

@@ -4,11 +4,11 @@ ghost use Rattle.ss_arguments.specs.Modes.{words_of};
 ghost use Rattle.ss_arguments.specs.Modes.{mode_of};
 ghost use Rattle.summarystore.specs.Plan.{asked_by, asked_words, form_in, path_of, planned, planned_by, run_of, status_with};
 
-use crate::demand::{Demand, demand_of};
 use crate::notice::{Notice, notice_of};
-use crate::opening::{Missing, missing_for};
 use crate::options::{Options, put_word, take_options};
+use crate::wanted::{demand_of, missing_for};
 use ss_arguments::{Form, Mode, mode_of};
+use ss_file::{Demand, Missing};
 use std::alloc::{AllocError, Global};
 
 /// A run over the file of a store.

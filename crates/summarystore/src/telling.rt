@@ -4,11 +4,8 @@ ghost use Rattle.ss_outside.specs.Verdict.{Rose};
 ghost use Rattle.ss_program.specs.Sent.{appended};
 
 use crate::advice::advice;
-use crate::file_disk::FileDisk;
 use crate::notice::HELP;
-use crate::opening::Opened;
-use crate::reason::{Reason, Trouble};
-use crate::system::{Stream, System};
+use ss_file::{FileDisk, Opened, Reason, Stream, System, Trouble};
 use ss_outside::Sink;
 use ss_program::{Status, complaint, send};
 use std::io;

@@ -1,0 +1,4 @@
+pub mod BlankLemmas
+pub mod BufferLemmas
+mod Rows
+pub mod WhyLemmas

@@ -1,0 +1,4 @@
+pub mod FileDisk
+pub mod Opening
+pub mod Reason
+pub mod System
