@@ -3,7 +3,6 @@ use Rattle.std.specs.Prelude.{◌≡◌, ◌^◌, ℕ, true, not, ℤ, pos, negs
 use Rattle.std.proofs.Common.{arith, inl, inr, lit≤, refl}
 use Rattle.std.proofs.lemmas.Int.{ints}
 use Rattle.ss_summary.specs.Points.{New}
-use Rattle.ss_base.specs.declared.limits.TheConstants.{LAST_TIME, MOST_VALUES}
 use Rattle.ss_bounds.specs.declared.extreme.Extreme.TheVariants.{Nothing, Sure, Maybe}
 use Rattle.ss_bounds.specs.Split.{SplitFigures, count_interval, low_sum, high_sum, sum_interval}
 use Rattle.ss_bounds.specs.Attained.{first_at, least_sum_at, greatest_sum_at, IsFirstLeast, IsFirstGreatest}
@@ -11,9 +10,6 @@ use Rattle.ss_bounds.specs.Parted.{CanMake, CanHoldLeast, CanHoldGreatest, CanBe
 use Rattle.ss_bounds.specs.Times.{lies_in, split_of}
 use Rattle.ss_bounds.specs.Truth.{asked, HoldsExtreme, RiseFree, AreSplit}
 use Rattle.ss_bounds.specs.Extremes.{min_interval, max_interval}
-
-most_values_and_times : MOST_VALUES ∷ LAST_TIME ∷ [] ≡ 2 ^ 40 ∷ 2 ^ 62 ∷ []
-most_values_and_times = refl
 
 -- the least and the greatest sum of x values
 abbrev sums : SplitFigures → ℕ → ℤ × ℤ

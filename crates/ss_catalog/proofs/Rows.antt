@@ -23,9 +23,6 @@ use Rattle.ss_catalog.specs.declared.stream_id.StreamId.{StreamId}
 longest_name : LONGEST_NAME ≡ 32
 longest_name = refl
 
-last_time : LAST_TIME ≡ 2 ^ 62
-last_time = refl
-
 most_streams : MOST_STREAMS ≡ 4096
 most_streams = refl
 

@@ -4,10 +4,8 @@ use Rattle.std.proofs.Common.{refl}
 use Rattle.ss_fields.specs.Fields as Numbers
 use Rattle.ss_catalog.specs.Names as Names
 use Rattle.ss_base.specs.declared.limits.TheConstants.{LAST_TIME}
-use Rattle.ss_base.specs.declared.limits.TheConstants.{LAST_TIME}
 use Rattle.ss_catalog.specs.Params.{exp as Exp, power as Power}
 use Rattle.ss_codec.specs.declared.record.TheConstants.{STREAM, LANDMARK, VALUE, EXPONENTIAL, POWER_LAW, OPEN, CLOSED, NAME}
-use Rattle.ss_base.specs.declared.limits.TheConstants.{SLOT_SIZE}
 use Rattle.ss_codec.specs.declared.record.Record.{Record}
 use Rattle.ss_codec.specs.declared.record.Record.TheVariants.{Free, Stream, Landmark, Value}
 use Rattle.ss_codec.specs.Fields as Fields
@@ -15,8 +13,8 @@ use Rattle.ss_codec.specs.Record.{spelling, is_valid}
 use Rattle.ss_codec.specs.Decoded.{decoded, finish_in, landmark_in, params_in, record_in, stream_in, value_in}
 
 -- the numbers of the format
-slot_size_and_place_of_name : SLOT_SIZE ∷ NAME ∷ [] ≡ 128 ∷ 24 ∷ []
-slot_size_and_place_of_name = refl
+place_of_name : NAME ≡ 24
+place_of_name = refl
 
 kinds : STREAM ∷ LANDMARK ∷ VALUE ∷ [] ≡ 1 ∷ 3 ∷ 4 ∷ []
 kinds = refl
@@ -26,10 +24,6 @@ families = refl
 
 states : OPEN ∷ CLOSED ∷ [] ≡ 1 ∷ 2 ∷ []
 states = refl
-
--- the last time of an event is the latest of a window
-last_time : LAST_TIME ≡ LAST_TIME
-last_time = refl
 
 -- a number below 256 in 8 bytes
 abbrev pub eight : ℕ → List ℕ

@@ -16,7 +16,6 @@ use Rattle.ss_command.specs.Lines.{ended_lines, lines, unended}
 use Rattle.ss_command.specs.Printed.{printed}
 use Rattle.ss_command.specs.Words.{words}
 use Rattle.ss_command.specs.declared.TheConstants.{LINE_END, CARRIAGE_RETURN, LONGEST_LINE, COMMENT}
-use Rattle.ss_base.specs.declared.limits.TheConstants.{MOST_SESSIONS}
 use Rattle.ss_command.specs.declared.line_reader.TheConstants.{MOST_BYTES_KEPT}
 use Rattle.ss_command.specs.declared.command.Command.{Command}
 use Rattle.ss_command.specs.declared.command.Command.TheVariants as commands
@@ -36,9 +35,6 @@ most_bytes_kept = refl
 
 comment : COMMENT ≡ 35
 comment = refl
-
-most_sessions : MOST_SESSIONS ≡ 8
-most_sessions = refl
 
 lines-last_unended : lines (codes "ab" ++ 10 ∷ codes "cd") ≡ codes "ab" ∷ codes "cd" ∷ []
 unfolding ended_lines unended

@@ -182,9 +182,6 @@ the_put_size = refl
 pub the_most_waiting : MOST_WAITING ≡ ENTRIES * MOST_PUTS
 the_most_waiting = refl
 
-pub the_slot_size : SLOT_SIZE ≡ 128
-the_slot_size = refl
-
 pub the_most_slots : MOST_SLOTS ≡ 2 ^ 20
 the_most_slots = refl
 

@@ -8,10 +8,6 @@ use Rattle.ss_landmarks.specs.Free.{free}
 use Rattle.ss_landmarks.specs.Order.{CanOpen, CanTake, CanClose}
 use Rattle.ss_landmarks.specs.ValuesIn.{is_among, values_between, tally_of}
 use Rattle.ss_landmarks.specs.declared.landmarks.TheConstants.{MOST_LANDMARK_SLOTS}
-use Rattle.ss_base.specs.declared.limits.TheConstants.{LAST_TIME}
-
-pub LAST_TIME-is : LAST_TIME ≡ 2 ^ 62
-LAST_TIME-is = refl
 
 pub MOST_LANDMARK_SLOTS-is : MOST_LANDMARK_SLOTS ≡ 2 ^ 24
 MOST_LANDMARK_SLOTS-is = refl

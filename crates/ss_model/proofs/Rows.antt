@@ -1,5 +1,5 @@
 -- Worked rows, each computed.
-use Rattle.ss_model.proofs.Common.{◌≡◌, ℕ, ◌+◌, ◌^◌, List, [], ◌∷◌, map, refl, pos, negsuc, lit≤, arith, MOST_VALUES, exp_length, full, Point, New}
+use Rattle.ss_model.proofs.Common.{◌≡◌, ℕ, ◌+◌, ◌^◌, List, [], ◌∷◌, map, refl, pos, negsuc, lit≤, arith, exp_length, full, Point, New}
 use Rattle.ss_model.proofs.Common.{boundaries, without_step, stretches, windows, closed, JoinsDue, cover, IsReadWithinTarget, IsWithinTarget, placed_of}
 use Rattle.ss_model.proofs.Common.{Window}
 use Rattle.std.proofs.Common.{ℤ}
@@ -7,11 +7,6 @@ use Rattle.ss_targets.specs.Windowing.{window_index}
 use Rattle.ss_targets.specs.Power.{power_length}
 use Rattle.ss_summary.specs.Filters.{bit_of, filter_of, union}
 use Rattle.ss_summary.specs.declared.filter.Filter.{Filter}
-use Rattle.ss_base.specs.declared.limits.TheConstants.{MOST_VALUES}
-
--- a stream takes as many values as one summary may be of
-most_values : MOST_VALUES ≡ MOST_VALUES
-most_values = refl
 
 -- the windows are one more than the boundaries: 1, 2, 2, 3, 3, 4, 3
 boundaries-1 : boundaries (without_step (exp_length 2 1 1)) (λ position. 0) 1 ≡ []

@@ -7,10 +7,6 @@ use Rattle.ss_summary.specs.Filters.{bit_of, filter_of, full, union}
 use Rattle.ss_summary.specs.Points.{New, Old}
 use Rattle.ss_summary.proofs.FilterLemmas.{has-full, IsFilter-full}
 use Rattle.ss_summary.specs.Summaries.{summary_of, RiseFrom}
-use Rattle.ss_base.specs.declared.limits.TheConstants.{LAST_TIME, MOST_VALUES}
-
-latest_time_and_greatest_count : LAST_TIME ∷ MOST_VALUES ∷ [] ≡ 2 ^ 62 ∷ 2 ^ 40 ∷ []
-latest_time_and_greatest_count = refl
 
 -- the values 5, -3, 8 and 1 at the times 10, 20, 30 and 40
 pub summary_of-row : summary_of ((10, pos 5, New) ∷ (20, negsuc 2, New) ∷ (30, pos 8, New) ∷ (40, pos 1, New) ∷ []) ≡ record {

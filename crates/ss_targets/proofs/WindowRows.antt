@@ -2,11 +2,7 @@
 use Rattle.std.proofs.Common.{◌≡◌, ℕ, ◌-◌, ◌^◌, Bool, true, false, List, [], ◌∷◌, map, refl, arith}
 use Rattle.ss_targets.specs.Exp.{exp_length}
 use Rattle.ss_targets.specs.Windowing.{cut, fits, window_index, NeverFall}
-use Rattle.ss_base.specs.declared.limits.TheConstants.{MOST_VALUES}
 use Rattle.ss_targets.specs.declared.exp.TheConstants.{LEAST_BASE, GREATEST_BASE, MOST_REPEAT, GREATEST_SCALE}
-
-most_values : MOST_VALUES ≡ 2 ^ 40
-most_values = refl
 
 bases : LEAST_BASE ∷ GREATEST_BASE ∷ [] ≡ 2 ∷ 16 ∷ []
 bases = refl
