@@ -120,11 +120,6 @@ impl Explainer {
         }
     }
 
-    /// How many are explained at the most.
-    pub fn most(&self) -> u64 {
-        self.most
-    }
-
     /// Takes bytes that were read, where none are the end of the input.
     pub fn read(&mut self, bytes: &[u8]) {
         if bytes.is_empty() {

@@ -30,6 +30,8 @@ pub struct Watch<'a, R> {
     is_inside: bool,
     explainer: Explainer,
     progress: Progress,
+    // So many refused lines or frames were explained.
+    told: u64,
     read: u64,
     syncs: u64,
 }
@@ -87,6 +89,7 @@ impl<'a, R: Eprint + Clock + AllocGlobal> Watch<'a, R> {
             is_inside: false,
             explainer: Explainer::new(rt.alloc(), most, form),
             progress: Progress::new(),
+            told: 0,
             read: 0,
             syncs: 0,
         }
@@ -181,6 +184,7 @@ impl<'a, R: Eprint + Clock + AllocGlobal> Watch<'a, R> {
         if !self.explains {
             return;
         }
+        self.told = self.told.saturating_add(1);
         self.clear();
         let (one, number, word, reason) = (
             explained.unit.one(),
@@ -259,7 +263,7 @@ impl<'a, R: Eprint + Clock + AllocGlobal> Watch<'a, R> {
         }
         let counts = self.explainer.counts();
         if counts.refused > 0 && self.explains {
-            let more = counts.refused.saturating_sub(self.explainer.most());
+            let more = counts.refused.saturating_sub(self.told);
             self.print(ending(self.rt.alloc(), counts, more));
         }
         counts.refused
