@@ -1,13 +1,13 @@
 -- Rows that pin what the calls of a journal leave, field by field.
 use Rattle.ss_journal.proofs.Common.{◌≡◌, ◌⊎◌, ◌+◌, ◌*◌, ◌<◌, ◌≤◌, ℕ, List, [], ◌∷◌, length, Result, Ok, Err, IsTrue, IsFalse, Bool, true, not, ◌&&◌}
 use Rattle.ss_journal.proofs.Common.{◌||◌, refl, LeavesOnly, OnlyReads, NothingPending, SyncsAtMost, Told, Failed, JournalError, NotAStore, BadEntry, Settled}
-use Rattle.ss_journal.proofs.Common.{Unborn, Put, Commits, HasStaged, KeepsMap, KeepsShown, MakesDurable, MakesChecked, MakesRoom, ReadsPage, ReadsSlot}
+use Rattle.ss_journal.proofs.Common.{Unborn, Put, HasStaged, KeepsMap, KeepsShown, MakesDurable, MakesChecked, MakesRoom, ReadsPage, ReadsSlot}
 use Rattle.ss_journal.proofs.Common.{Seals, Settles, Stages, entries_after, slot_in_page, has_no_kind, is_born, is_plain, is_unborn, kind_of, magic, slots_in}
 use Rattle.ss_journal.proofs.Common.{IsClosed, HasRoomFor, IsBounded, IsInPhase, IsKept, IsSealed, IsSettled, IsShown, JournalState, shown, Plain, Checked}
 use Rattle.ss_journal.proofs.Common.{entry_count, DoAs, newest_after, FillSlots, extent_after, is_put, slots_fit, SameMap, SlotMap, StandsFor, bad_entry}
 use Rattle.ss_journal.proofs.Common.{changed, entries_in_use, not_a_store, puts_in_use, redo, stands, zeros, SameRest, All, slice_index}
 use Rattle.std.proofs.Common.{lit≤}
-use Rattle.ss_journal.specs.Calls.{ChangesMap, HasCommitted, HasMadeRoom, HasSealed, HasSettled, Opens, SyncsForRoom}
+use Rattle.ss_journal.specs.Calls.{HasMadeRoom, HasSealed, HasSettled, Opens, SyncsForRoom}
 use Rattle.std.specs.Prelude.{codes}
 
 -- the bytes that stand after the birth gate
@@ -27,17 +27,6 @@ module _ (old new : Told) (found : SlotMap) where
 
   KeepsMap-durable : KeepsMap {T = Unit {0}} {E = Failed} old new (Ok tt) → NothingPending old → NothingPending new
   KeepsMap-durable keeps = keeps.durable
-
-  ChangesMap-Ok : (puts : List Put) → ChangesMap {T = Unit {0}} {E = Failed} puts old new (Ok tt) → StandsFor old.content found →
-      StandsFor new.content (changed found puts)
-  ChangesMap-Ok puts changes is = changes.map found is
-
-  ChangesMap-any_moment : (puts : List Put) (result : Result Unit Failed) → ChangesMap puts old new result → NothingPending old →
-      StandsFor old.content found → LeavesOnly old new (λ image. StandsFor image found ⊎ StandsFor image (changed found puts))
-  ChangesMap-any_moment puts result changes nothing is = changes.any_moment nothing found is
-
-  ChangesMap-durable : (puts : List Put) → ChangesMap {T = Unit {0}} {E = Failed} puts old new (Ok tt) → NothingPending new
-  ChangesMap-durable puts changes = changes.durable
 
   MakesDurable-Ok : MakesDurable {T = Unit {0}} {E = Failed} old new (Ok tt) → NothingPending new
   MakesDurable-Ok makes = makes.durable
@@ -106,12 +95,6 @@ module _ (old new : Told) (journal : JournalState) where
 
   Settles-rest : Settles journal (Ok tt) old new → IsTrue (is_unborn old.content) → SameRest old.content new.content
   Settles-rest settles = settles.rest
-
-  Commits-kept : (puts : List Put) → Commits journal puts (Ok tt) old new → IsKept journal new.content
-  Commits-kept puts commits = commits.kept
-
-  Commits-changes_map : (puts : List Put) (result : Result Unit Failed) → Commits journal puts result old new → ChangesMap puts old new result
-  Commits-changes_map puts result commits = commits.changes_map
 
 -- a journal with something staged
 abbrev one_staged : JournalState
@@ -218,21 +201,6 @@ module _ (old new : JournalState) where
 
   HasStaged-some : (puts : List Put) → HasStaged puts old new → 0 < length new.staged
   HasStaged-some puts has = has.some
-
-  HasCommitted-kind : (puts : List Put) → HasCommitted puts old new → new.kind ≡ old.kind
-  HasCommitted-kind puts has = has.kind
-
-  HasCommitted-settled : (puts : List Put) → HasCommitted puts old new → IsSettled new
-  HasCommitted-settled puts has = has.settled
-
-  HasCommitted-extent : (puts : List Put) → HasCommitted puts old new → new.extent ≡ extent_after puts old.extent
-  HasCommitted-extent puts has = has.extent
-
-  HasCommitted-in_use : (puts : List Put) → HasCommitted puts old new → new.in_use ≡ entries_after old.in_use
-  HasCommitted-in_use puts has = has.in_use
-
-  HasCommitted-sealed : (puts : List Put) → HasCommitted puts old new → IsSealed new
-  HasCommitted-sealed puts has = has.sealed
 
 -- with one entry in the file and puts for the slots 1, 2 and 3 staged, two are in use: two puts more for the slots 2 and 4 take none, and
 -- for the slots 4 and 5 one

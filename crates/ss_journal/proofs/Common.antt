@@ -28,7 +28,7 @@ pub use Rattle.ss_outside.specs.Step.{Step, Syncs}
 pub use Rattle.ss_outside.specs.Verdict.{failed, fine, refused}
 pub use Rattle.ss_outside.specs.declared.source.Failed.{Failed}
 pub use Rattle.ss_journal.specs.Birth.{Begins, IsFormed, Leads, has_no_kind, magic_bytes}
-pub use Rattle.ss_journal.specs.Calls.{Commits, HasStaged, KeepsMap, KeepsShown, MakesChecked, MakesDurable, MakesRoom, ReadsPage, ReadsSlot, Seals, Settles}
+pub use Rattle.ss_journal.specs.Calls.{HasStaged, KeepsMap, KeepsShown, MakesChecked, MakesDurable, MakesRoom, ReadsPage, ReadsSlot, Seals, Settles}
 pub use Rattle.ss_journal.specs.Calls.{Stages, entries_after, slot_in_page}
 pub use Rattle.ss_journal.specs.Checks.{check_of, entry_form, entry_in, masked_from, slot_form, slot_in}
 pub use Rattle.ss_journal.specs.Entries.{entries, entry_body, is_good, open_prefix, put_at, put_bytes, puts_of}

@@ -1,12 +1,12 @@
--- The steps of a journal: what is staged is sealed, room is made, and a transaction is committed.
-use Rattle.ss_journal.proofs.Common.{ap, arith, ◌*◌, ◌+◌, ◌≤◌, Err, List, Ok, Result, [], ◌∙◌, inl, inr, length, sym, ℕ, ⊎_elim, ◌<◌, ◌≡◌, ◌⊎◌}
-use Rattle.ss_journal.proofs.Common.{on_ok_weaker, IsErr, OnOk, slice_index, joined, weaker, Told, overwrite, Failed, Commits, KeepsMap, KeepsShown, MakesRoom}
-use Rattle.ss_journal.proofs.Common.{Seals, Stages, entry_place, entry_count, group_bytes, IsBounded, IsKept, IsSealed, IsShown, JournalState, closed_behind}
-use Rattle.ss_journal.proofs.Common.{shown, staged_bytes, FillSlots, Kind, SlotMap, StandsFor, changed, Enters, Reaches, StaysShut, Settled, Put}
+-- The steps of a journal: what is staged is sealed, and room is made.
+use Rattle.ss_journal.proofs.Common.{ap, arith, ◌*◌, ◌+◌, ◌≤◌, List, Ok, Result, [], ◌∙◌, inr, length, sym, ℕ, ◌<◌, ◌≡◌, ◌⊎◌}
+use Rattle.ss_journal.proofs.Common.{on_ok_weaker, IsErr, slice_index, joined, weaker, Told, overwrite, Failed, KeepsMap, KeepsShown, MakesRoom}
+use Rattle.ss_journal.proofs.Common.{Seals, entry_place, entry_count, group_bytes, IsBounded, IsKept, IsSealed, IsShown, JournalState, closed_behind}
+use Rattle.ss_journal.proofs.Common.{shown, staged_bytes, FillSlots, Kind, SlotMap, StandsFor, Enters, Reaches, StaysShut, Settled, Put}
 use Rattle.ss_journal.proofs.GroupLemmas.{opens-closed_behind}
 use Rattle.ss_journal.proofs.NewestLemmas.{entry_count-some}
 use Rattle.ss_journal.proofs.KeptLemmas.{settled-kept}
-use Rattle.ss_journal.proofs.ShownLemmas.{IfStaged-from, IfStaged-some, IsKept-sealed, IsShown-sealed, closed_behind-fits, length-group_bytes}
+use Rattle.ss_journal.proofs.ShownLemmas.{IfStaged-from, IsKept-sealed, IsShown-sealed, closed_behind-fits, length-group_bytes}
 use Rattle.ss_journal.proofs.ShownLemmas.{shown-sealed, with_entries-some}
 use Rattle.ss_journal.proofs.TearLemmas.{on_err}
 
@@ -119,51 +119,3 @@ room-uncleared {step} was mid left old between new value result failed seals sea
       kept = on_err result _ failed;
       keeps_shown = record { map = λ found is. on_err result _ failed; any_moment = keeps.any_moment; durable = λ only. on_err result _ failed };
     }
-
--- a transaction is staged where nothing was, and sealed
-module _ (puts : List Put) (was : JournalState) (sealed-was : IsSealed was) where
-  gives-was : (content : List ℕ) (found : SlotMap) → StandsFor content found → StandsFor (shown was content) found
-  gives-was content found is = rw shown-sealed is
-
-  pub commits-no_room : {step : Result (Unit {0}) Failed} (mid left : JournalState) (old new : Told) (result : Result (Unit {0}) Failed) → IsErr result
-      → MakesRoom was mid step old new → Commits left puts result old new
-  commits-no_room mid left old new result failed room = record {
-    kept = on_err result _ failed;
-    changes_map = record {
-      map = λ found is. on_err result _ failed;
-      any_moment = λ only found is. weaker old new (λ image. StandsFor image found ⊎ StandsFor image found)
-          (λ image. StandsFor image found ⊎ StandsFor image (changed found puts)) (λ image. ⊎_elim (λ stands. inl stands) (λ stands. inl stands))
-          (room.keeps_shown.any_moment only found found is (gives-was old.content found is));
-      durable = on_err result _ failed;
-    };
-  }
-
-  module _ (free staged left : JournalState) (old between new : Told) (value : Unit {0}) (room : MakesRoom was free (Ok value) old between)
-      (sealed : IsSealed free) (some : 0 < length staged.staged) (stages : Stages puts free staged between.content) where
-    pub commits-sealed : (result : Result (Unit {0}) Failed) → OnOk result (IsSealed left) → Seals staged left result between new
-        → Commits left puts result old new
-    commits-sealed result then seals =
-        let stood : (found : SlotMap) → StandsFor old.content found → StandsFor (shown free between.content) found =
-        λ found is. room.keeps_shown.map found (gives-was old.content found is) in
-        let gives : (found : SlotMap) → StandsFor old.content found → StandsFor (shown staged between.content) (changed found puts) =
-        λ found is. stages.map room.kept found (stood found is) in
-        record {
-          kept = seals.kept;
-          changes_map = record {
-            map = λ found is. content-left result then (changed found puts) (seals.keeps_shown.map (changed found puts) (gives found is));
-            any_moment = λ only found is.
-                let P : List ℕ → Type 0 = λ image. StandsFor image found ⊎ StandsFor image (changed found puts) in
-                joined old between new P
-                (weaker old between (λ image. StandsFor image found ⊎ StandsFor image found) P
-                (λ image. ⊎_elim (λ stands. inl stands) (λ stands. inl stands))
-                (room.keeps_shown.any_moment only found found is (gives-was old.content found is)))
-                (seals.keeps_shown.any_moment (room.keeps_shown.durable only) found (changed found puts)
-                (rw shown-sealed at (stood found is)) (gives found is));
-            durable = IfStaged-some staged.staged some seals.durable;
-          };
-        }
-      where
-        content-left : (result : Result (Unit {0}) Failed) → OnOk result (IsSealed left) → (found : SlotMap)
-            → OnOk result (StandsFor (shown left new.content) found) → OnOk result (StandsFor new.content found)
-        content-left (Ok done) then found is = rw shown-sealed at is
-        content-left (Err failed) then found is = tt

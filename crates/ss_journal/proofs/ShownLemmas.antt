@@ -100,10 +100,6 @@ pub IfStaged-from : (staged : List Put) {P : Type 0} → P → IfStaged staged P
 IfStaged-from [] is = tt
 IfStaged-from (put ∷ puts) is = is
 
-pub IfStaged-some : (staged : List Put) {P : Type 0} → 0 < length staged → IfStaged staged P → P
-IfStaged-some [] some is = absurd (omega (arith, some))
-IfStaged-some (put ∷ puts) some is = is
-
 -- what is staged is written from its entry on
 pub with_entries-some : (n : ℕ) (bytes content : List ℕ) → 0 < length bytes
     → with_entries n bytes content ≡ overwrite content (entry_place n) (closed_behind n bytes)

@@ -29,16 +29,6 @@ pub record KeepsMap {T E : Type 0} (old new : Told) (result : Result T E) : Type
   -- and at Ok nothing is pending
   pub durable : NothingPending old → OnOk result (NothingPending new)
 
--- A call changes the map by these puts: all of them, or none.
-pub record ChangesMap {T E : Type 0} (puts : List Put) (old new : Told) (result : Result T E) : Type 0 where
-  -- at Ok the content stands for the map with the puts
-  pub map : (found : SlotMap) → StandsFor old.content found → OnOk result (StandsFor new.content (changed found puts))
-  -- with nothing pending at the call, a crash at any moment of it leaves the map from before or the map with the puts
-  pub any_moment : NothingPending old → (found : SlotMap) → StandsFor old.content found
-      → LeavesOnly old new (λ image. StandsFor image found ⊎ StandsFor image (changed found puts))
-  -- at Ok nothing is pending
-  pub durable : OnOk result (NothingPending new)
-
 -- What a journal shows stays over a call, by which it becomes another: what was staged comes to the disk as a whole, if it does.
 pub record KeepsShown {T E : Type 0} (was is : JournalState) (old new : Told) (result : Result T E) : Type 0 where
   -- at Ok the journal shows the same map
@@ -89,11 +79,6 @@ pub record MakesChecked (result : Result Bool Failed) (old new : Told) : Type 0 
   pub unwritten : IsFalse (is_unborn old.content && has_no_kind old.content) → OnlyReads old new
   pub rest : IfOk result (λ _. SameRest old.content new.content)
 
--- A journal commits these puts, and is this then: the map changes by all of them, or not at all.
-pub record Commits (journal : JournalState) (puts : List Put) (result : Result Unit Failed) (old new : Told) : Type 0 where
-  pub kept : OnOk result (IsKept journal new.content)
-  pub changes_map : ChangesMap puts old new result
-
 -- A journal makes room, and is this then: the map that it shows stays.
 pub record MakesRoom (was is : JournalState) (result : Result Unit Failed) (old new : Told) : Type 0 where
   pub kept : OnOk result (IsKept is new.content)
@@ -134,7 +119,7 @@ pub record HasSettled (old new : JournalState) : Type 0 where
   pub in_use : new.in_use ≡ 0
   pub sealed : IsSealed new
 
--- how many entries are in use after one more commit: where all were, they are settled before
+-- how many entries are in use after one more: where all were, they are settled before
 abbrev pub entries_after : ℕ → ℕ
 entries_after in_use = if nat_lt in_use ENTRIES then in_use + 1 else 1
 
@@ -172,11 +157,3 @@ pub record HasStaged (puts : List Put) (old new : JournalState) : Type 0 where
 pub record Stages (puts : List Put) (was is : JournalState) (content : List ℕ) : Type 0 where
   pub kept : IsKept was content → IsKept is content
   pub map : IsKept was content → (found : SlotMap) → StandsFor (shown was content) found → StandsFor (shown is content) (changed found puts)
-
--- What a commit of these puts makes of a journal, over every disk.
-pub record HasCommitted (puts : List Put) (old new : JournalState) : Type 0 where
-  pub kind : new.kind ≡ old.kind
-  pub settled : IsSettled new
-  pub extent : new.extent ≡ extent_after puts old.extent
-  pub in_use : new.in_use ≡ entries_after old.in_use
-  pub sealed : IsSealed new

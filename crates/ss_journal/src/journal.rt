@@ -57,7 +57,7 @@ impl Journal {
     ghost use Rattle.ss_journal.specs.Puts.{slots_fit, IsTxn};
     ghost use Rattle.ss_journal.specs.Redo.{zeros};
     ghost use Rattle.ss_journal.specs.Kept.{HasStopped, IsKept, IsRunning, IsSealed, IsSettled};
-    ghost use Rattle.ss_journal.specs.Calls.{Commits, HasCommitted, HasMadeRoom, HasSealed, HasSettled, HasStaged, MakesRoom, Opens, ReadsPage};
+    ghost use Rattle.ss_journal.specs.Calls.{HasMadeRoom, HasSealed, HasSettled, HasStaged, MakesRoom, Opens, ReadsPage};
     ghost use Rattle.ss_journal.specs.Calls.{ReadsSlot, Seals, Settles, Stages, SyncsForRoom, verdict_of_open};
 
     /// Opens a disk, formatted or not. It reads the entries in use and writes nothing.
@@ -254,26 +254,5 @@ impl Journal {
         added?;
         self.phase = Phase::Settled;
         Ok(())
-    }
-
-    /// Puts all of the transaction's bytes into their slots. A crash at any moment of the call leaves the map from
-    /// before it or after it, and after `Ok` the map after it. At `Failed` the disk may hold either.
-    pub fn commit<D: Disk>(&mut self, disk: &mut D, txn: &Txn) -> Result<(), Failed>
-        requires settled { IsSettled self.old }
-        requires sealed { IsSealed self.old }
-        requires txn { IsTxn txn.now.items }
-        // Each slot in order is at most the extent so far.
-        requires fit { IsTrue (slots_fit txn.now.items self.old.extent) }
-        requires one_disk { OfContent (D.seen disk.old) (IsKept self.old) }
-        // All of the puts or none, also in a crash at any moment of the call.
-        ensures commits { Step (verdict result) (D.seen disk.old) (D.seen disk.new) (Commits self.new txn.now.items result) }
-        ensures syncs { Step (verdict result) (D.seen disk.old) (D.seen disk.new) (SyncsAtMost 4) }
-        // One entry more is in use; where all were, they are settled before.
-        ensures committed { OnOk result (HasCommitted txn.now.items self.old self.new) }
-        ensures stopped { OnErr result (HasStopped self.new) }
-    {
-        self.make_room(disk)?;
-        self.stage(txn);
-        self.seal(disk)
     }
 }

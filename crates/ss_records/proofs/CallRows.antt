@@ -4,28 +4,18 @@ use Rattle.std.specs.List.{range_with_len}
 use Rattle.ss_outside.specs.Crash.{OnlyReads}
 use Rattle.ss_outside.specs.Disk.{NothingPending, Told}
 use Rattle.ss_outside.specs.declared.source.Failed.{Failed}
-use Rattle.ss_journal.specs.Calls.{ChangesMap, KeepsMap, KeepsShown, MakesDurable}
+use Rattle.ss_journal.specs.Calls.{KeepsMap, KeepsShown, MakesDurable}
 use Rattle.ss_journal.specs.Groups.{entry_count, group_bytes}
-use Rattle.ss_journal.specs.Kept.{IsKept, IsRunning, IsSettled, OpensMapAs, shown, with_entries}
+use Rattle.ss_journal.specs.Kept.{IsKept, IsRunning, IsSettled, shown, with_entries}
 use Rattle.ss_journal.specs.Redo.{SlotMap, StandsFor, changed}
 use Rattle.ss_journal.specs.declared.format.TheConstants.{MOST_SLOTS}
-use Rattle.ss_journal.specs.declared.journal_error.JournalError.{JournalError}
 use Rattle.ss_journal.specs.declared.put.Put.{Put}
-use Rattle.ss_records.specs.Calls.{AppliesPuts, MakesRoomFor, OpensRecords, ReadsRecord, SealsRecords, SettlesRecords, StagesPuts}
-use Rattle.ss_records.specs.Kept.{AreAtRest, AreKept, AreLiveOver, AreSound, RecordsState, journal_of, shown_by, uncached}
+use Rattle.ss_records.specs.Calls.{MakesRoomFor, ReadsRecord, SealsRecords, SettlesRecords, StagesPuts}
+use Rattle.ss_records.specs.Kept.{AreAtRest, AreKept, AreLiveOver, AreSound, RecordsState, shown_by, uncached}
 use Rattle.ss_records.specs.Live.{AreLiveIn, are_zeros, is_live}
 use Rattle.ss_records.specs.Pages.{ArePages, IsPage, Recalls}
 
 module _ (records : RecordsState) (old new : Told) where
-  OpensRecords-Ok : OpensRecords (Ok records) old new → AreKept records new.content
-  OpensRecords-Ok opens = opens.kept
-
-  OpensRecords-opens : (result : Result RecordsState JournalError) → OpensRecords result old new → OpensMapAs old.content (journal_of result)
-  OpensRecords-opens result opens = opens.opens
-
-  OpensRecords-reads : (result : Result RecordsState JournalError) → OpensRecords result old new → OnlyReads old new
-  OpensRecords-reads result opens = opens.reads
-
   SettlesRecords-Ok : SettlesRecords records (Ok tt) old new → AreKept records new.content
   SettlesRecords-Ok settles = settles.kept
 
@@ -34,12 +24,6 @@ module _ (records : RecordsState) (old new : Told) where
 
   SettlesRecords-makes_durable : (result : Result Unit Failed) → SettlesRecords records result old new → MakesDurable old new result
   SettlesRecords-makes_durable result settles = settles.makes_durable
-
-  AppliesPuts-Ok : (puts : List Put) → AppliesPuts records puts (Ok tt) old new → AreKept records new.content
-  AppliesPuts-Ok puts applies = applies.kept
-
-  AppliesPuts-changes_map : (puts : List Put) (result : Result Unit Failed) → AppliesPuts records puts result old new → ChangesMap puts old new result
-  AppliesPuts-changes_map puts result applies = applies.changes_map
 
 -- a transaction is staged, over whichever content
 module _ (puts : List Put) (was is : RecordsState) (content : List ℕ) (stages : StagesPuts puts was is content) (kept : AreKept was content) where

@@ -1,20 +1,15 @@
 -- Records over their journal.
 use Rattle.std.proofs.Common.{◌≡◌, ◌∙◌, sym, ap, refl, ℕ, ◌/◌, ◌%◌, ◌<◌, ◌≤◌, ◌^◌, ◌⊎◌}
 use Rattle.std.proofs.Common.{Bool, true, nat_eq, not, List, All, length, arith, inl, inr, Some, Result, Ok, Err, OnOk, IsTrue}
-use Rattle.std.specs.Prelude.{IsErr, OnErr}
+use Rattle.std.specs.Prelude.{IsErr}
 use Rattle.lru.specs.LruCache.{lru_cache, promoted, put_entries}
 use Rattle.std.proofs.lemmas.Bool.{cases_lt, false_from_ne_true}
-use Rattle.ss_outside.proofs.CrashLemmas.{reads-joined, reads-none}
-use Rattle.ss_outside.specs.Crash.{OnlyReads}
-use Rattle.ss_outside.specs.Disk.{DiskView, Told}
-use Rattle.ss_outside.specs.Step.{Step}
-use Rattle.ss_outside.specs.Verdict.{fine, no_memory}
-use Rattle.ss_journal.specs.Calls.{slot_in_page, Commits, HasCommitted, HasSettled, MakesRoom, Opens, ReadsPage, ReadsSlot, Seals, Settles, Stages}
-use Rattle.ss_journal.specs.Kept.{JournalState, IsKept, IsRunning, IsSealed, IsSettled, OpensMapAs, shown}
+use Rattle.ss_outside.proofs.CrashLemmas.{reads-none}
+use Rattle.ss_outside.specs.Disk.{Told}
+use Rattle.ss_journal.specs.Calls.{slot_in_page, HasSettled, MakesRoom, ReadsPage, ReadsSlot, Seals, Settles, Stages}
+use Rattle.ss_journal.specs.Kept.{JournalState, IsKept, IsRunning, IsSealed, IsSettled, shown}
 use Rattle.ss_journal.specs.Puts.{slots_fit, extent_after, with_puts, IsTxn}
 use Rattle.ss_journal.specs.Redo.{SlotMap, StandsFor, changed}
-use Rattle.ss_journal.specs.declared.journal_error.JournalError.{JournalError}
-use Rattle.ss_journal.specs.declared.journal_error.JournalError.TheVariants as error
 use Rattle.ss_journal.specs.declared.put.Put.{Put}
 use Rattle.ss_outside.specs.declared.source.Failed.{Failed}
 use Rattle.std.proofs.lemmas.Map.Entries.{length-keys_of}
@@ -25,10 +20,10 @@ use Rattle.ss_journal.proofs.MapLemmas.{SameMap-refl}
 use Rattle.ss_journal.proofs.PutLemmas.{AreSlots-rise}
 use Rattle.ss_journal.proofs.RedoLemmas.{StandsFor-from, StandsFor-same}
 use Rattle.ss_journal.proofs.ShownLemmas.{shown-sealed}
-use Rattle.ss_records.specs.Calls.{AppliesPuts, MakesRoomFor, OpensRecords, ReadsLive, ReadsRecord, SealsRecords, SettlesRecords, StagesPuts}
+use Rattle.ss_records.specs.Calls.{MakesRoomFor, ReadsRecord, SealsRecords, SettlesRecords, StagesPuts}
 use Rattle.ss_records.specs.Live.{are_zeros, is_live, live_after, LiveLieBelow, AreLiveBelow, AreLiveIn}
 use Rattle.ss_records.specs.Kept.{uncached, AreKept, AreLiveOver, AreSound, RecordsState}
-use Rattle.ss_records.specs.Pages.{cached_slot, ArePages, IsPage}
+use Rattle.ss_records.specs.Pages.{cached_slot, ArePages}
 use Rattle.ss_records.proofs.PageLemmas.{cached_slot-is, ArePages-kept, ArePages-none, ArePages-promoted, ArePages-same}
 use Rattle.ss_records.proofs.LiveLemmas.{AreLiveIn-puts, below-live_after, length-live_after}
 
@@ -110,11 +105,6 @@ AreSound-noted journal new live left cached pages puts was sound same numbers se
       few = omega (arith, sound.few, as_many);
     })
 
--- a fact that needs no error
-pub on_err_always : {T E P : Type 0} (result : Result T E) → P → OnErr result P
-on_err_always (Ok value) is = tt
-on_err_always (Err error) is = is
-
 -- from the extent on every slot is zeros, and none is live
 pub AreLiveIn-below : (journal : JournalState) (live : List Bool) (content : List ℕ) (found : SlotMap) → IsKept journal content
     → StandsFor (shown journal content) found → LiveLieBelow journal.extent live → AreLiveBelow journal.extent live found.bytes → AreLiveIn live found.bytes
@@ -132,72 +122,6 @@ AreKept-uncached journal live content is bounded are = record {
   free = λ found stands. AreLiveIn-below journal live content found is stands bounded (are found stands);
   cached = λ found stands. ArePages-none found.bytes;
 }
-
--- the slots below number n are read: of each the list tells whether it is live in the map that the journal shows
-pub record ReadTo (journal : JournalState) (n : ℕ) (live : List Bool) (old new : Told) : Type 0 where
-  pub are : (found : SlotMap) → StandsFor (shown journal old.content) found → AreLiveBelow n live found.bytes
-  pub reads : OnlyReads old new
-
-module _ (journal : JournalState) where
-  pub ReadTo-none : (live : List Bool) (disk : Told) → ReadTo journal 0 live disk disk
-  ReadTo-none live disk = record { are = λ found is slot lt. absurd (omega (arith, lt)); reads = reads-none disk }
-
-  pub ReadTo-more : (now : JournalState) (n next : ℕ) (live more : List Bool) (page : List ℕ) (old mid new : Told) → now ≡ journal
-      → ((map : ℕ → List ℕ) → IsPage map (n / 32) page → AreLiveBelow n live map → AreLiveBelow next more map)
-      → ReadTo journal n live old mid → ReadsPage now (n / 32) (Ok page) mid new → ReadTo journal next more old new
-  ReadTo-more now n next live more page old mid new same notes before read = record {
-    are = λ found is.
-        let there = rw (← before.reads.same.content) at is in
-        let here = read.bytes found (rw same there) in
-        notes found.bytes here (before.are found is);
-    reads = reads-joined old mid new before.reads read.reads;
-  }
-
-  pub ReadTo-all : (n : ℕ) (live : List Bool) (old new : Told) → IsKept journal old.content → journal.extent ≡ n → LiveLieBelow n live
-      → ReadTo journal n live old new → ReadsLive journal (Ok live) old new
-  ReadTo-all n live old new kept all bounded before = record {
-    live = λ found is. AreLiveIn-below journal live old.content found kept is (rw all bounded) (rw all (before.are found is));
-    reads = before.reads;
-  }
-
--- a journal was opened, and then each slot was read
-pub opens-failed : (journal : JournalState) (error : JournalError) (old mid new : Told) → ((content : List ℕ) → OpensMapAs content (Err error))
-    → Opens (Ok journal) old mid → ReadsLive journal (Err error) mid new → OpensRecords (Err error) old new
-opens-failed journal error old mid new refused opened read = record {
-  opens = refused old.content;
-  kept = tt;
-  reads = reads-joined old mid new opened.reads read.reads;
-}
-
--- the journal was opened and each slot read, and then there was no memory
-pub opens-starved : (journal : JournalState) (live : List Bool) (old mid new : Told) → Opens (Ok journal) old mid → ReadsLive journal (Ok live) mid new
-    → OpensRecords (Err error.OutOfMemory) old new
-opens-starved journal live old mid new opened read = record {
-  opens = tt;
-  kept = tt;
-  reads = reads-joined old mid new opened.reads read.reads;
-}
-
--- the same as a step that found no memory
-pub step-starved : {old new : DiskView} {R : Told → Told → Type 0} → Step fine old new R → Step no_memory old new R
-step-starved step = record { tells = step.tells; counted = step.counted; told = step.told }
-
-pub opens-read : (journal now : JournalState) (live : List Bool) (records : RecordsState) (old mid new : Told) → now ≡ journal
-    → records ≡ uncached now live → Opens (Ok journal) old mid → ReadsLive journal (Ok live) mid new → OpensRecords (Ok records) old new
-opens-read journal now live records old mid new same over opened read =
-    let reads = reads-joined old mid new opened.reads read.reads in
-    let is : IsKept now old.content = rw same opened.opens in
-    rw over (record {
-      opens = is;
-      kept = record {
-        journal = rw reads.same.content is;
-        free = λ found stands.
-            let before = rw read.reads.same.content at stands in
-            read.live found (rw same at before);
-        cached = λ found stands. ArePages-none found.bytes;
-      };
-      reads = reads;
-    })
 
 -- records, and what becomes of them over a disk that they keep
 module _ (journal : JournalState) (live : List Bool) (cached : List (ℕ × List ℕ)) (was : RecordsState)
@@ -250,19 +174,6 @@ module _ (journal : JournalState) (live : List Bool) (cached : List (ℕ × List
       keeps_map = settles.keeps_map;
       makes_durable = settles.makes_durable;
     }
-
-    -- puts are applied, and noted in the list and in the pages
-    pub applies-puts : (puts : List Put) (new : Told) (now : JournalState) (left : List Bool) (pages : List (ℕ × List ℕ)) (value done : Unit {0})
-        → IsSealed was.journal → HasCommitted puts journal now → All (λ put. put.slot < length live) puts → left ≡ live_after puts live
-        → ((map : ℕ → List ℕ) → ArePages cached map → ArePages pages (with_puts puts map)) → Commits now puts (Ok value) old new
-        → AppliesPuts (record { journal = now; live = left; cached = pages }) puts (Ok done) old new
-    applies-puts puts new now left pages value done sealed has within noted are commits =
-        let before = rw (← same) at sealed in
-        record {
-          kept = rw noted (AreKept-changed journal live cached old.content kept puts pages now new.content within are commits.kept
-              (λ found. shows-sealed journal now old.content new.content found (changed found puts) before has.sealed (commits.changes_map.map found)));
-          changes_map = commits.changes_map;
-        }
 
     -- room is made
     pub makes-room-for : (new : Told) (left : JournalState) (value done : Unit {0}) → MakesRoom journal left (Ok value) old new

@@ -1,26 +1,13 @@
 -- What the calls of records leave of their disk.
-use Rattle.std.specs.Prelude.{◌≡◌, ℕ, Bool, List, Result, IfOk, OnOk}
+use Rattle.std.specs.Prelude.{◌≡◌, ℕ, List, Result, IfOk, OnOk}
 use Rattle.ss_outside.specs.Crash.{OnlyReads}
 use Rattle.ss_outside.specs.Disk.{NothingPending, Told}
 use Rattle.ss_outside.specs.declared.source.Failed.{Failed}
-use Rattle.ss_journal.specs.Calls.{ChangesMap, KeepsMap, KeepsShown, MakesDurable}
-use Rattle.ss_journal.specs.Kept.{IfStaged, JournalState, OpensMapAs, shown}
+use Rattle.ss_journal.specs.Calls.{KeepsMap, KeepsShown, MakesDurable}
+use Rattle.ss_journal.specs.Kept.{IfStaged}
 use Rattle.ss_journal.specs.Redo.{SlotMap, StandsFor, changed}
-use Rattle.ss_journal.specs.declared.journal_error.JournalError.{JournalError}
 use Rattle.ss_journal.specs.declared.put.Put.{Put}
-use Rattle.ss_records.specs.Live.{AreLiveIn}
-use Rattle.ss_records.specs.Kept.{AreKept, RecordsState, journal_of, shown_by}
-
--- Each slot is read once: the live ones are those of the map that the journal shows. Content and images stay.
-pub record ReadsLive (journal : JournalState) (result : Result (List Bool) JournalError) (old new : Told) : Type 0 where
-  pub live : (found : SlotMap) → StandsFor (shown journal old.content) found → IfOk result (λ live. AreLiveIn live found.bytes)
-  pub reads : OnlyReads old new
-
--- A disk is opened: the answer is the map of its content, or why it has none. Content and images stay.
-pub record OpensRecords (result : Result RecordsState JournalError) (old new : Told) : Type 0 where
-  pub opens : OpensMapAs old.content (journal_of result)
-  pub kept : IfOk result (λ records. AreKept records new.content)
-  pub reads : OnlyReads old new
+use Rattle.ss_records.specs.Kept.{AreKept, RecordsState, shown_by}
 
 -- Records are settled, which are these then: the map stays, and whatever was pending is durable.
 pub record SettlesRecords (records : RecordsState) (result : Result Unit Failed) (old new : Told) : Type 0 where
@@ -44,11 +31,6 @@ pub record SealsRecords (was is : RecordsState) (result : Result Unit Failed) (o
   pub kept : OnOk result (AreKept is new.content)
   pub keeps_shown : KeepsShown was.journal is.journal old new result
   pub durable : IfStaged was.journal.staged (OnOk result (NothingPending new))
-
--- The puts of a transaction are applied to records, which are these then: the map changes by all of them, or not at all.
-pub record AppliesPuts (records : RecordsState) (puts : List Put) (result : Result Unit Failed) (old new : Told) : Type 0 where
-  pub kept : OnOk result (AreKept records new.content)
-  pub changes_map : ChangesMap puts old new result
 
 -- The slot of a record is read, by records that are others then: its bytes are those of the map that they show. Content and
 -- images stay.

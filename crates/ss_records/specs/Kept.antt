@@ -1,7 +1,6 @@
 -- Records and the content of their disk.
-use Rattle.std.specs.Prelude.{◌≡◌, ℕ, ◌<◌, ◌≤◌, Bool, true, List, [], length, Result, Ok, Err}
+use Rattle.std.specs.Prelude.{◌≡◌, ℕ, ◌<◌, ◌≤◌, Bool, true, List, [], length}
 use Rattle.ss_journal.specs.declared.format.TheConstants.{MOST_SLOTS}
-use Rattle.ss_journal.specs.declared.journal_error.JournalError.{JournalError}
 use Rattle.ss_journal.specs.Kept.{JournalState, IsKept, IsRunning, IsSealed, IsSettled, shown}
 use Rattle.ss_journal.specs.Redo.{SlotMap, StandsFor}
 use Rattle.ss_records.specs.Live.{is_live, AreLiveBelow, AreLiveIn}
@@ -42,8 +41,3 @@ pub record AreSound (records : RecordsState) : Type 0 where
   -- while no call has failed, each live slot lies below the extent
   pub below : IsRunning records.journal → (slot : ℕ) → is_live records.live slot ≡ true → slot < records.journal.extent
   pub few : length records.cached ≤ MOST_CACHED
-
--- the journal of what opening answers
-abbrev pub journal_of : Result RecordsState JournalError → Result JournalState JournalError
-journal_of (Ok records) = Ok records.journal
-journal_of (Err error) = Err error

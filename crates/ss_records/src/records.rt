@@ -1,9 +1,9 @@
 // The records.
-use crate::live::{note_puts, read_live};
+use crate::live::note_puts;
 use crate::pages::Pages;
 use crate::slot_set::SlotSet;
 use ss_base::{SLOT_SIZE, Steps};
-use ss_journal::{Journal, JournalError, MOST_SLOTS, PAGE_SLOTS, Txn};
+use ss_journal::{Journal, MOST_SLOTS, PAGE_SLOTS, Txn};
 use ss_outside::{Disk, Failed};
 use std::alloc::{AllocError, Global};
 use std::marker::Model;
@@ -37,13 +37,13 @@ impl Records {
     ghost use Rattle.ss_outside.specs.Disk.{OfContent, SyncsAtMost};
     ghost use Rattle.ss_outside.specs.Step.{Step};
     ghost use Rattle.ss_outside.specs.Verdict.{verdict};
-    ghost use Rattle.ss_journal.specs.Calls.{HasCommitted, HasMadeRoom, HasSealed, HasSettled, HasStaged, SyncsForRoom, verdict_of_open};
+    ghost use Rattle.ss_journal.specs.Calls.{HasMadeRoom, HasSealed, HasSettled, HasStaged, SyncsForRoom};
     ghost use Rattle.ss_journal.specs.Puts.{slots_fit, IsTxn};
     ghost use Rattle.ss_journal.specs.Redo.{zeros};
     ghost use Rattle.ss_journal.specs.Kept.{HasStopped, IsKept, IsRunning, IsSealed, IsSettled};
     ghost use Rattle.ss_journal.specs.declared.format.TheConstants.{ENTRIES};
-    ghost use Rattle.ss_records.specs.Calls.{AppliesPuts, MakesRoomFor, OpensRecords, ReadsRecord, SealsRecords, SettlesRecords, StagesPuts};
-    ghost use Rattle.ss_records.specs.Live.{is_live, live_count, lowest_free, live_after, LiveLieBelow};
+    ghost use Rattle.ss_records.specs.Calls.{MakesRoomFor, ReadsRecord, SealsRecords, SettlesRecords, StagesPuts};
+    ghost use Rattle.ss_records.specs.Live.{live_count, lowest_free, live_after, LiveLieBelow};
     ghost use Rattle.ss_records.specs.Pages.{cached_slot, page_numbers, Recalls};
     ghost use Rattle.ss_records.specs.Kept.{uncached, AreKept, AreLiveOver, AreSound};
 
@@ -63,20 +63,6 @@ impl Records {
         })
     }
 
-    /// Opens a disk, formatted or not. It reads the entries in use, and each page of slots below the extent once, and writes nothing.
-    pub fn open<D: Disk>(alloc: Global, disk: &mut D) -> Result<Records, JournalError>
-        // The map of the content, or why it has none. Nothing is written.
-        ensures opens { Step (verdict_of_open result) (D.seen disk.old) (D.seen disk.new) (OpensRecords result) }
-        ensures running { IfOk result (λ records. IsRunning records.journal × (records.journal.extent ≤ MOST_SLOTS)) }
-        ensures sealed { IfOk result (λ records. IsSealed records.journal) }
-        ensures sound { IfOk result AreSound }
-    {
-        let mut journal = Journal::open(alloc, disk)?;
-        let live = read_live(alloc, &mut journal, disk)?;
-        let records = Records::over(alloc, journal, live)?;
-        Ok(records)
-    }
-
     /// How many slots were used: those of the file, and one more for each put into the slot that was next.
     pub fn extent(&self) -> u32
         ensures value { result ≡ self.now.journal.extent }
@@ -92,15 +78,6 @@ impl Records {
         ensures sound { AreSound self.now }
     {
         self.live.len()
-    }
-
-    /// Whether a slot is live, that is, isn't zeros.
-    pub fn is_live(&self, slot: u32) -> bool
-        requires { slot < MOST_SLOTS }
-        ensures value { result ≡ is_live self.now.live slot }
-        ensures sound { AreSound self.now }
-    {
-        self.live.contains(slot as usize)
     }
 
     /// The least slot that is free, that is, zeros. A transaction may put it.
@@ -246,35 +223,6 @@ impl Records {
             self.pages.clear();
             return Err(failed);
         }
-        Ok(())
-    }
-
-    /// Puts all of the transaction's bytes into their slots. A slot is live then where its bytes aren't all 0. A crash at
-    /// any moment of the call leaves the map from before it or after it, and after `Ok` the map after it. At `Failed` the
-    /// disk may hold either.
-    pub fn apply<D: Disk>(&mut self, disk: &mut D, txn: &Txn) -> Result<(), Failed>
-        requires settled { IsSettled self.old.journal }
-        requires sealed { IsSealed self.old.journal }
-        requires txn { IsTxn txn.now.items }
-        // Each slot in order is at most the extent so far.
-        requires fit { IsTrue (slots_fit txn.now.items self.old.journal.extent) }
-        requires one_disk { OfContent (D.seen disk.old) (AreKept self.old) }
-        // All of the puts or none, also in a crash at any moment of the call.
-        ensures applies { Step (verdict result) (D.seen disk.old) (D.seen disk.new) (AppliesPuts self.new txn.now.items result) }
-        ensures syncs { Step (verdict result) (D.seen disk.old) (D.seen disk.new) (SyncsAtMost 4) }
-        ensures committed { OnOk result (HasCommitted txn.now.items self.old.journal self.new.journal) }
-        ensures live { OnOk result (self.new.live ≡ live_after txn.now.items self.old.live) }
-        ensures err { OnErr result (self.new.live ≡ self.old.live) }
-        // No page is left that may differ from the map.
-        ensures uncached { OnErr result (self.new.cached ≡ []) }
-        ensures stopped { OnErr result (HasStopped self.new.journal) }
-    {
-        if let Err(failed) = self.journal.commit(disk, txn) {
-            self.pages.clear();
-            return Err(failed);
-        }
-        note_puts(&mut self.live, txn);
-        self.pages.put_all(txn);
         Ok(())
     }
 }

@@ -1,7 +1,7 @@
 // A set of slots that gives the least one outside it in a few steps.
 ghost use Rattle.std.specs.Prelude.{◌≡◌, ◌+◌, ◌-◌, ◌*◌, ◌^◌, ◌<◌, ◌≤◌, false, true, length, slice_index, slice_set, replicate, count_by, All, IfOk, not};
 ghost use Rattle.std.specs.Prelude.{if◌then◌else◌};
-ghost use Rattle.std.specs.List.{position, position_or_len, slice_index_or};
+ghost use Rattle.std.specs.List.{position, position_or_len};
 ghost use Rattle.ss_journal.specs.declared.format.TheConstants.{MOST_SLOTS};
 ghost use Rattle.ss_records.specs.Bits.{is_full_word};
 ghost use Rattle.ss_records.specs.Tree.{members, IsTree, FullBefore};
@@ -78,14 +78,6 @@ impl SlotSet {
         let full = put_bit(&mut self.middle, slot / 64, full);
         let _ = put_bit(&mut self.top, slot / 64 / 64, full);
         self.count = counted(self.count, was_in, is_in);
-    }
-
-    /// Whether a slot is in the set.
-    pub fn contains(&self, slot: usize) -> bool
-        requires { slot < length self.now }
-        ensures { result ≡ slice_index_or self.now slot false }
-    {
-        has_bit(&self.low, slot)
     }
 
     /// The least slot outside the set.
