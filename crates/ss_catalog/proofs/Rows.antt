@@ -5,7 +5,7 @@ use Rattle.ss_catalog.specs.Events.{IsInTime, event_name}
 use Rattle.ss_catalog.specs.Names.{is_name}
 use Rattle.ss_catalog.specs.Params.{exp as Exp, in_range, is_step, power as Power, step_for, step_number}
 use Rattle.ss_catalog.specs.Queries.{adds_up, end_name, is_guess, kind_name, query_verb, series_verb}
-use Rattle.ss_catalog.specs.Refusal.{refusal_name, refusal_number}
+use Rattle.ss_catalog.specs.Refusal.{refusal_name}
 use Rattle.ss_catalog.specs.Series.{IsSeriesInRange, numbers_from, row_query, rows_in, rows_of, whole_query}
 use Rattle.ss_catalog.specs.declared.TheConstants.{MOST_ROWS, MOST_STREAMS, LAST_STREAM}
 use Rattle.ss_base.specs.declared.limits.TheConstants.{LAST_TIME}
@@ -198,9 +198,6 @@ abbrev all_refusals : List Refusal
 all_refusals = refusals.Line ∷ refusals.Syntax ∷ refusals.Number ∷ refusals.Name ∷ refusals.Param ∷ refusals.Exists ∷ refusals.Streams ∷ refusals.Unknown ∷
     refusals.Open
     ∷ refusals.NotOpen ∷ refusals.Time ∷ refusals.Range ∷ refusals.StreamFull ∷ refusals.StoreFull ∷ refusals.Busy ∷ refusals.NoCursor ∷ refusals.Frame ∷ []
-
-refusals-numbers : map refusal_number all_refusals ≡ 1 ∷ 2 ∷ 3 ∷ 4 ∷ 5 ∷ 6 ∷ 7 ∷ 8 ∷ 9 ∷ 10 ∷ 11 ∷ 12 ∷ 13 ∷ 14 ∷ 15 ∷ 16 ∷ 17 ∷ []
-refusals-numbers = refl
 
 refusals-names : map refusal_name all_refusals ≡ codes "LINE" ∷ codes "SYNTAX" ∷ codes "NUMBER" ∷ codes "NAME" ∷ codes "PARAM" ∷ codes "EXISTS"
     ∷ codes "STREAMS" ∷ codes "UNKNOWN" ∷ codes "OPEN" ∷ codes "NOT_OPEN" ∷ codes "TIME" ∷ codes "RANGE"

@@ -4,26 +4,6 @@ use Rattle.ss_catalog.specs.declared.refusal.Refusal.{Refusal}
 use Rattle.ss_catalog.specs.declared.refusal.Refusal.TheVariants.{Line, Syntax, Number, Name, Param, Exists, Streams, Unknown, Open, NotOpen, Time}
 use Rattle.ss_catalog.specs.declared.refusal.Refusal.TheVariants.{Range, StreamFull, StoreFull, Busy, NoCursor, Frame}
 
--- the number of a refusal: its place in the order, from 1
-abbrev pub refusal_number : Refusal → ℕ
-refusal_number Line = 1
-refusal_number Syntax = 2
-refusal_number Number = 3
-refusal_number Name = 4
-refusal_number Param = 5
-refusal_number Exists = 6
-refusal_number Streams = 7
-refusal_number Unknown = 8
-refusal_number Open = 9
-refusal_number NotOpen = 10
-refusal_number Time = 11
-refusal_number Range = 12
-refusal_number StreamFull = 13
-refusal_number StoreFull = 14
-refusal_number Busy = 15
-refusal_number NoCursor = 16
-refusal_number Frame = 17
-
 -- the name of a refusal in a reply
 abbrev pub refusal_name : Refusal → List ℕ
 refusal_name Line = codes "LINE"

@@ -1,6 +1,6 @@
 // What is asked of a stream.
 ghost use Rattle.std.specs.Prelude.{◌≡◌};
-ghost use Rattle.ss_catalog.specs.Queries.{adds_up, end_name, is_guess, kind_name, query_verb, series_verb};
+ghost use Rattle.ss_catalog.specs.Queries.{adds_up, end_name, is_guess, kind_name, series_verb};
 
 use crate::Name;
 
@@ -35,13 +35,6 @@ impl Kind {
             Kind::Max => "max",
             Kind::Has { .. } => "has",
         }
-    }
-
-    /// The first word of a command that asks for it.
-    pub fn query_verb(self) -> &'static str
-        ensures { result.now ≡ query_verb self }
-    {
-        if self.is_guess() { "estimate" } else { "query" }
     }
 
     /// The first word of a command that asks for it in rows, and of its reply.

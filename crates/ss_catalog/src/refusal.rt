@@ -1,6 +1,6 @@
 // Why a command is refused.
 ghost use Rattle.std.specs.Prelude.{◌≡◌};
-ghost use Rattle.ss_catalog.specs.Refusal.{refusal_name, refusal_number};
+ghost use Rattle.ss_catalog.specs.Refusal.{refusal_name};
 
 /// Why a command was refused. It then changed nothing. The first of these that applies is the answer, in this order;
 /// docs/GUIDE.md ("Refusals") says exactly where each applies.
@@ -43,31 +43,6 @@ pub enum Refusal {
 }
 
 impl Refusal {
-    /// Its place in the order in which refusals are tested, from 1.
-    pub fn number(self) -> u8
-        ensures { result ≡ refusal_number self }
-    {
-        match self {
-            Refusal::Line => 1,
-            Refusal::Syntax => 2,
-            Refusal::Number => 3,
-            Refusal::Name => 4,
-            Refusal::Param => 5,
-            Refusal::Exists => 6,
-            Refusal::Streams => 7,
-            Refusal::Unknown => 8,
-            Refusal::Open => 9,
-            Refusal::NotOpen => 10,
-            Refusal::Time => 11,
-            Refusal::Range => 12,
-            Refusal::StreamFull => 13,
-            Refusal::StoreFull => 14,
-            Refusal::Busy => 15,
-            Refusal::NoCursor => 16,
-            Refusal::Frame => 17,
-        }
-    }
-
     /// Its name in a reply.
     pub fn text(self) -> &'static str
         ensures { result.now ≡ refusal_name self }

@@ -19,4 +19,4 @@ pub use evidence::{Cert, Evidence};
 pub use making_laws::evidence_shows_the_end;
 pub use sharp_laws::{answers_are_sharp, evidence_may_be_true};
 pub use ss_model::Run;
-pub use told::{head, head_text, side, side_text};
+pub use told::{head, side};

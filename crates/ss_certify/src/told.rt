@@ -1,12 +1,10 @@
-// Evidence as text.
-ghost use Rattle.std.specs.Prelude.{◌≡◌, ◌-◌, ◌≤◌, [], get_or, if◌then◌else◌, pos};
-ghost use Rattle.ss_report.specs.Text.{reply_line};
+// Evidence as replies.
+ghost use Rattle.std.specs.Prelude.{◌≡◌, ◌-◌, get_or, if◌then◌else◌, pos};
 ghost use Rattle.ss_certify.specs.Told.{head_of, three_runs, side_of};
 
 use crate::{Cert, Evidence};
-use arrayvec::ArrayString;
 use ss_model::Run;
-use ss_report::{Reply, Side, reply_text};
+use ss_report::{Reply, Side};
 
 // The run at a place, or one of no values behind the last.
 fn run_at(runs: &[Run], place: usize) -> Run
@@ -69,22 +67,4 @@ pub fn side(cert: &Cert, inner: bool) -> Reply
         values: value_count(cert, inner),
         runs: runs(cert, inner),
     })
-}
-
-/// Writes the line of an end of an answer, with its line end, into an empty text: `certify ANSWER BASE COUNT`.
-pub fn head_text(w: &Evidence, out: &mut ArrayString<256>)
-    requires { out.old.bytes ≡ [] }
-    ensures { out.new.bytes ≡ reply_line (head_of w.now) }
-{
-    reply_text(&head(w), out);
-}
-
-/// Writes the line of a certificate's values in the range (`inside FIRST LAST X`) or outside it (`outside FIRST LAST Y`), each
-/// followed by its runs as `V*TIMES`, with its line end, into an empty text.
-pub fn side_text(c: &Cert, inner: bool, out: &mut ArrayString<256>)
-    requires some { c.now.x ≤ c.now.split.count }
-    requires empty { out.old.bytes ≡ [] }
-    ensures { out.new.bytes ≡ reply_line (side_of c.now inner) }
-{
-    reply_text(&side(c, inner), out);
 }

@@ -1,4 +1,4 @@
-//! Lines: how an input is cut into them, what a line means, and how a command is printed.
+//! Lines: how an input is cut into them, what a line means, and the words of numbers and targets.
 #![tactic(auto)]
 
 mod command;
@@ -6,7 +6,6 @@ mod grammar;
 mod laws;
 mod line_reader;
 mod numbers;
-mod printing;
 mod put;
 mod verb;
 mod words;
@@ -18,8 +17,7 @@ pub use laws::{
     meant_commands_can_be_said, printed_commands_read_back, words_stand_between_blanks,
 };
 pub use line_reader::{Ended, LineReader};
-pub use printing::print;
-pub use put::{put_name, put_number, put_sum, put_target, put_value};
+pub use put::{put_number, put_sum, put_target, put_value};
 pub use verb::{Verb, verb_of};
 pub use words::{Words, cut_first, is_word};
 

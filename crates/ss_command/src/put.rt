@@ -1,59 +1,12 @@
 // Words put after a text.
-ghost use Rattle.std.specs.Prelude.{◌≡◌, ◌≤◌, ◌+◌, length, true};
+ghost use Rattle.std.specs.Prelude.{◌≡◌, ◌≤◌, ◌+◌, length};
 ghost use Rattle.std.specs.Fmt.{decimal, signed_decimal};
-ghost use Rattle.ss_catalog.specs.Names.{is_name};
-ghost use Rattle.ss_catalog.specs.Queries.{IsKindOfValues, end_name, kind_name};
-ghost use Rattle.ss_command.specs.Printed.{HasParameters, IsFamilyOfNumbers, IsStepOfNumber, family_words, kind_words, spaced, target_words, with_word};
+ghost use Rattle.ss_command.specs.Printed.{HasParameters, IsFamilyOfNumbers, IsStepOfNumber, family_words, spaced, target_words, with_word};
 ghost use Rattle.ss_command.specs.Printed.{within_words};
 
 use arrayvec::ArrayString;
-use ss_catalog::{End, Family, Kind, Name, Params};
+use ss_catalog::{Family, Params};
 use ss_fields::{print_i64, print_i128, print_u64};
-
-/// Adds a space and a name.
-pub fn put_name(name: &Name, out: &mut ArrayString<256>)
-    requires { length out.old.bytes + 33 ≤ 256 }
-    ensures bytes { out.new.bytes ≡ with_word out.old.bytes name.now }
-    ensures short { length out.new.bytes ≤ length out.old.bytes + 33 }
-    ensures name { is_name name.now ≡ true }
-{
-    out.push_str(" ");
-    out.push_str(name.as_str());
-}
-
-/// Adds a space and the name of what is asked for.
-pub fn put_kind(kind: Kind, out: &mut ArrayString<256>)
-    requires { length out.old.bytes + 6 ≤ 256 }
-    ensures bytes { out.new.bytes ≡ with_word out.old.bytes (kind_name kind) }
-    ensures short { length out.new.bytes ≤ length out.old.bytes + 6 }
-{
-    out.push_str(" ");
-    out.push_str(kind.text());
-}
-
-/// Adds the words that say what is asked for, with a space before each.
-pub fn put_asked(kind: Kind, out: &mut ArrayString<256>)
-    requires { length out.old.bytes + 47 ≤ 256 }
-    ensures bytes { out.new.bytes ≡ spaced out.old.bytes (kind_words kind) }
-    ensures short { length out.new.bytes ≤ length out.old.bytes + 27 }
-    ensures value { IsKindOfValues kind }
-{
-    put_kind(kind, out);
-    match kind {
-        Kind::Has { value } => put_value(value, out),
-        _ => {}
-    }
-}
-
-/// Adds a space and the name of an end.
-pub fn put_end(end: End, out: &mut ArrayString<256>)
-    requires { length out.old.bytes + 3 ≤ 256 }
-    ensures bytes { out.new.bytes ≡ with_word out.old.bytes (end_name end) }
-    ensures short { length out.new.bytes ≤ length out.old.bytes + 3 }
-{
-    out.push_str(" ");
-    out.push_str(end.text());
-}
 
 /// Adds a space and a number.
 pub fn put_number(number: u64, out: &mut ArrayString<256>)

@@ -4,8 +4,8 @@ use Rattle.ss_catalog.specs.declared.refusal.Refusal.{Refusal}
 use Rattle.ss_frames.specs.Frame.{FrameState}
 use Rattle.ss_model.specs.History.{Happened}
 use Rattle.ss_replica.specs.Own.{frame_of}
-use Rattle.ss_replica.specs.declared.offering.Offered.{Offered}
-use Rattle.ss_replica.specs.declared.offering.Offered.TheVariants as offered
+use Rattle.ss_replica.specs.Offers.{Offered}
+use Rattle.ss_replica.specs.Offers as offered
 use Rattle.ss_report.specs.declared.reply.Reply.{Reply}
 use Rattle.ss_report.specs.declared.reply.Reply.TheVariants.{Done, Refused, Old, Gap}
 use Rattle.ss_program.specs.Line.{History}

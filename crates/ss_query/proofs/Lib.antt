@@ -6,7 +6,6 @@ pub mod Rooms
 pub mod Presences
 pub mod Seeing
 pub mod Outcomes
-pub mod SeenAnswers
 pub mod SplitLemmas
 pub mod SeenEntries
 pub mod NextWindow

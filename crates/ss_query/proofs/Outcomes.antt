@@ -17,7 +17,7 @@ use Rattle.ss_catalog.specs.declared.query.Query.{Query}
 use Rattle.ss_landmarks.specs.Free.{is_free}
 use Rattle.ss_landmarks.specs.Landmark.{Landmark}
 use Rattle.ss_landmarks.specs.declared.tally.Tally.{Tally}
-use Rattle.ss_model.specs.Answers.{IsOfKind, answer_of, answer_of_kind}
+use Rattle.ss_model.specs.Answers.{answer_of, answer_of_kind}
 use Rattle.ss_model.specs.Interval.{interval_of_count, interval_of_sum, is_split, known_maxs, known_mins, split_figures, split_windows, whole_windows}
 use Rattle.ss_model.specs.Interval as intervals
 use Rattle.ss_model.specs.Marks.{marked_values}
@@ -142,13 +142,3 @@ pub outcome_seen-seen_of : (query : Query) (s : Stream) → IsStream s →
 outcome_seen-seen_of query s is =
     outcome-seen s.landmarks query.kind query.from query.to (seen_of query.kind query.from query.to s) s.windows
     (IsSeen-seen_of query.kind query.from query.to s is)
-
--- and it is to what was asked for
-pub outcome-kind : (kind : Kind) (seen : Seen) → IsOfKind kind (outcome_seen kind seen)
-outcome-kind kinds.Count seen = refl
-outcome-kind kinds.Sum seen = refl
-outcome-kind kinds.Min seen = refl
-outcome-kind kinds.Max seen = refl
-outcome-kind (kinds.Has v) seen = (v, refl)
-outcome-kind kinds.CountGuess seen = refl
-outcome-kind kinds.SumGuess seen = refl

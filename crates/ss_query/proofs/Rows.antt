@@ -24,7 +24,7 @@ use Rattle.ss_parts.specs.Held.{entries_of}
 use Rattle.ss_parts.specs.declared.parts.StreamParts.{StreamParts}
 use Rattle.ss_summary.specs.Figures.{Figures}
 use Rattle.ss_summary.specs.Filters.{bit_of, filter_of, has, union}
-use Rattle.ss_query.specs.Answered.{AnswersStream, BeginsAt, BeginsNear, IsAnswered, IsSeenAs, SeesStream, begun_in, window_slots_of}
+use Rattle.ss_query.specs.Answered.{BeginsAt, BeginsNear, IsSeenAs, SeesStream, begun_in, window_slots_of}
 use Rattle.ss_query.specs.Asked.{Follows, HasCuts, HasRoom, IsCut, IsFewMarked, cut_of, marks_seen, outcome_seen, seen_after, seen_of, seen_with}
 use Rattle.ss_query.specs.Reading.{IsRead, IsWindowOf, KeepsRecords, ReadsWindow, verdict_of_read}
 use Rattle.ss_query.specs.declared.asking.Seen.{Seen}
@@ -38,18 +38,12 @@ verdicts-read = refl
 verdict-Ok : verdict_of_read {T = ℕ} (Ok 1) ≡ fine
 verdict-Ok = refl
 
--- on a disk that tells no slot has changed, and what is answered is what is there
+-- on a disk that tells no slot has changed, and what is read is what is there
 IsRead-Changed : (summary : Figures) (slot : ℕ) → IsRead summary (Err (error.Changed slot)) → ⊥
 IsRead-Changed summary slot fact = fact
 
 IsRead-Ok : (summary read : Figures) → IsRead summary (Ok read) → read ≡ summary
 IsRead-Ok summary read fact = fact
-
-IsAnswered-Changed : (outcome : Outcome) (slot : ℕ) → IsAnswered outcome (Err (error.Changed slot)) → ⊥
-IsAnswered-Changed outcome slot fact = fact
-
-IsAnswered-Ok : (outcome answered : Outcome) → IsAnswered outcome (Ok answered) → answered ≡ outcome
-IsAnswered-Ok outcome answered fact = fact
 
 -- reading leaves the journal, unless the disk failed
 KeepsRecords-changed : {old new : RecordsState} (slot : ℕ) → KeepsRecords (changed slot) old new → new.journal ≡ old.journal
@@ -333,9 +327,6 @@ module _ (part : StreamParts) (was is : RecordsState) (slot : ℕ) (old new : To
 
   sees-changed : (query : Query) → SeesStream part query was is (Err (error.Changed slot)) old new → AreKept is new.content
   sees-changed query sees = sees.kept
-
-  answers-changed : (query : Query) → AnswersStream part query was is (Err (error.Changed slot)) old new → AreKept is new.content
-  answers-changed query answers = answers.kept
 
 -- of values of landmarks there are 2^24 at most, with a sum of so many of 64 bits; and not one more
 IsFewMarked-count : (tally : Tally) → IsFewMarked tally → tally.count ≤ 2 ^ 24

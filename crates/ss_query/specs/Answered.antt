@@ -1,4 +1,4 @@
--- What a stream answers to a query.
+-- What a look at a stream tells of a query.
 use Rattle.std.specs.Prelude.{◌≡◌, ℕ, ◌<◌, ◌&&◌, nat_le, nat_lt, List, ◌∷◌, ◌++◌, drop, map, All, count_by, IsTrue, Option, Some, Result, Ok, Err, ⊤}
 use Rattle.ss_outside.specs.Crash.{OnlyReads}
 use Rattle.ss_outside.specs.Disk.{Told}
@@ -9,10 +9,8 @@ use Rattle.ss_codec.specs.declared.record.Record.{Record}
 use Rattle.ss_line.specs.Line.{place_at}
 use Rattle.ss_line.specs.declared.entry.At.{At}
 use Rattle.ss_line.specs.declared.entry.Entry.{Entry}
-use Rattle.ss_model.specs.Answers.{answer_of}
 use Rattle.ss_model.specs.Marks.{lies_free}
 use Rattle.ss_model.specs.State.{Stream}
-use Rattle.ss_model.specs.declared.outcome.Outcome.{Outcome}
 use Rattle.ss_model.specs.declared.types.Window.{Window}
 use Rattle.ss_parts.specs.Held.{entries_of, span_held, span_of, times_held, times_of, window_record}
 use Rattle.ss_parts.specs.declared.parts.StreamParts.{StreamParts}
@@ -27,12 +25,6 @@ use Rattle.ss_query.specs.declared.read_error.ReadError.TheVariants.{Disk, Chang
 -- the slots of a stream's windows, oldest first
 abbrev pub window_slots_of : StreamParts → List ℕ
 window_slots_of part = map (λ (e : Entry). e.slot) (entries_of part)
-
--- what answering answers, on a disk that tells: this outcome, unless the disk fails
-abbrev pub IsAnswered : Outcome → Result Outcome ReadError → Type 0
-IsAnswered outcome (Ok answered) = answered ≡ outcome
-IsAnswered outcome (Err Disk) = ⊤
-IsAnswered outcome (Err (Changed slot)) = ⊥
 
 -- A walk over entries may begin at a place: each entry before it ends before a time.
 pub record BeginsAt (entries : List (At × Entry)) (from : ℕ) (start : Option At) : Type 0 where
@@ -78,14 +70,5 @@ pub record SeesStream (part : StreamParts) (query : Query) (was is : RecordsStat
   -- what is known of the stream, whatever lies beside it
   pub seen : (others : List (ℕ × Option Record)) (s : Stream) → IsHeldIn others part s (shown_by was old.content) →
       IsSeenAs (seen_of query.kind query.from query.to s) result
-  pub kept : UnlessFailed (verdict_of_read result) (AreKept is new.content)
-  pub reads : OnlyReads old new
-
--- A query is answered, by records that are others then, of what they show. Content and images stay.
-pub record AnswersStream (part : StreamParts) (query : Query) (was is : RecordsState) (result : Result Outcome ReadError) (old new : Told) :
-    Type 0 where
-  -- the answer of the stream, whatever lies beside it
-  pub answer : (others : List (ℕ × Option Record)) (s : Stream) → IsHeldIn others part s (shown_by was old.content) →
-      IsAnswered (answer_of query s) result
   pub kept : UnlessFailed (verdict_of_read result) (AreKept is new.content)
   pub reads : OnlyReads old new

@@ -1,7 +1,6 @@
-//! The reading side of a store: windows are read again from their records, and a stream answers a query by them.
+//! The reading side of a store: windows are read again from their records, and tell what a query asks of a stream.
 #![tactic(auto)]
 
-mod answering;
 mod asking;
 mod cut;
 mod presence;
@@ -9,7 +8,6 @@ mod read_error;
 mod reading;
 mod walking;
 
-pub use answering::answer;
 pub use asking::{Seen, outcome_seen};
 pub use cut::Cut;
 pub use read_error::ReadError;

@@ -63,14 +63,6 @@ impl Records {
         })
     }
 
-    /// How many slots were used: those of the file, and one more for each put into the slot that was next.
-    pub fn extent(&self) -> u32
-        ensures value { result ≡ self.now.journal.extent }
-        ensures most { result ≤ MOST_SLOTS }
-    {
-        self.journal.extent()
-    }
-
     /// How many slots are live, that is, aren't zeros.
     pub fn live(&self) -> u32
         ensures value { result ≡ live_count self.now.live }

@@ -12,7 +12,7 @@ use Rattle.ss_model.specs.State.{state}
 use Rattle.ss_frames.specs.Frame.{FrameState}
 use Rattle.ss_replica.specs.Own.{frame_of, own}
 use Rattle.ss_replica.specs.Offers.{after_offers, offers}
-use Rattle.ss_replica.specs.declared.offering.Offered.TheVariants as said
+use Rattle.ss_replica.specs.Offers as said
 
 a : List ℕ
 a = codes "a"

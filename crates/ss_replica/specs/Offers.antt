@@ -11,8 +11,14 @@ use Rattle.ss_frames.specs.Frame.{FrameState}
 use Rattle.ss_replica.specs.Own.{own}
 use Rattle.ss_replica.specs.declared.judging.Due.{Due}
 use Rattle.ss_replica.specs.declared.judging.Due.TheVariants as due
-use Rattle.ss_replica.specs.declared.offering.Offered.{Offered}
-use Rattle.ss_replica.specs.declared.offering.Offered.TheVariants.{Done, Old, Gap}
+use Rattle.ss_model.specs.declared.types.Ack.{Ack}
+
+-- what is said to a frame that isn't refused: its event was added, the stream has it already, or events are missing before it, where the
+-- stream has so many
+pub data Offered : Type 0 where
+  Done : Ack → Offered
+  Old : Offered
+  Gap : ℕ → Offered
 
 -- what the number of a frame says after so many events of its stream: it is one of these, it is the next, or some are missing before it
 abbrev pub due_after : ℕ → ℕ → Due

@@ -5,7 +5,6 @@ mod framing;
 mod judging;
 mod laws;
 mod numbers;
-mod offering;
 
 pub use framing::frame_after;
 pub use judging::Due;
@@ -14,5 +13,4 @@ pub use laws::{
     replicas_own_fronts_of_their_primary, streams_own_their_events_since_their_create,
 };
 pub use numbers::due;
-pub use offering::{Offered, offer};
 pub use ss_frames::{FRAME_SIZE, Frame, decode_frame, encode_frame};

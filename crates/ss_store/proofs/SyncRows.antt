@@ -1,7 +1,6 @@
 -- How often calls sync, on both sides of where the entries are used up.
 use Rattle.ss_store.proofs.Common.{◌≡◌, ◌≤◌, Ok, Result, arith, Told, RecordsState, SyncsToStage}
 use Rattle.ss_outside.specs.Disk.{SyncsAtMost}
-use Rattle.ss_store.specs.Calls.{SyncsToApply}
 
 module _ {T E : Type 0} (was is : RecordsState) (old new : Told) where
   -- with 60 entries in use three more transactions need no room
@@ -15,11 +14,3 @@ module _ {T E : Type 0} (was is : RecordsState) (old new : Told) where
   -- each uses an entry at most
   SyncsToStage-left : (value : T) → was.journal.in_use ≡ 60 → SyncsToStage {T = T} {E = E} 3 was is (Ok value) old new → is.journal.in_use ≤ 63
   SyncsToStage-left value free stages = omega (arith, free, stages.left)
-
-module _ (was : RecordsState) (old new : Told) where
-  -- and so it is where what is staged is sealed
-  SyncsToApply-free : was.journal.in_use ≡ 60 → SyncsToApply 3 was old new → SyncsAtMost 2 old new
-  SyncsToApply-free free applies = omega (arith, free, applies.used, applies.syncs)
-
-  SyncsToApply-full : was.journal.in_use ≡ 60 → SyncsToApply 4 was old new → SyncsAtMost 6 old new
-  SyncsToApply-full full applies = omega (arith, full, applies.used, applies.syncs)

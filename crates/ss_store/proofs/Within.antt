@@ -1,11 +1,11 @@
 -- How many slots calls in a row use, also in a crash. In each lemma the disks are plain values: a caller strips the premise that the disk tells.
-use Rattle.ss_store.proofs.Common.{◌≡◌, ◌≤◌, ⊎_elim, ℕ, List, Err, Ok, Result, arith, IsErr, OnOk, max, reads-none, weaker, KnowsNow, OnlyReads}
+use Rattle.ss_store.proofs.Common.{◌≡◌, ◌≤◌, ℕ, List, Ok, Result, arith, IsErr, OnOk, max, reads-none, KnowsNow, OnlyReads}
 use Rattle.ss_store.proofs.Common.{Told, KeepsMap, KeepsShown, IsSealed, SlotMap, StandsFor, SameMap-refl, StandsFor-also, StandsFor-from, StandsFor-same}
-use Rattle.ss_store.proofs.Common.{shown-sealed, on_ok, AreKept, RecordsState, shown_by, KeepsWithin, StaysWithin, UsesAtMost, StaysOr}
+use Rattle.ss_store.proofs.Common.{on_ok, AreKept, RecordsState, shown_by, KeepsWithin, StaysWithin, UsesAtMost}
 use Rattle.ss_store.proofs.Calls.{Turns-answers, Turns-failed, Turns-joined, Turns-reads}
 use Rattle.ss_store.proofs.Changes.{extent-kept}
 use Rattle.ss_store.proofs.ShownCalls.{IsOfMap, Turns-not_sealed, Turns-sealed, TurnsShown-answers, TurnsShown-failed, TurnsShown-kept}
-use Rattle.ss_store.proofs.ShownCalls.{TurnsShown-reads, TurnsShown-then, of_map-like}
+use Rattle.ss_store.proofs.ShownCalls.{TurnsShown-reads, TurnsShown-then}
 use Rattle.ss_store.proofs.Slots.{Turns-kept}
 
 pub UsesAtMost-of_map : (n : ℕ) → IsOfMap (UsesAtMost n)
@@ -141,25 +141,3 @@ module _ {S F T E : Type 0} {used : ℕ} {was between : RecordsState} {old mid :
       let uses = UsesAtMost n in
       Turns-sealed was uses uses uses old at_rest (λ image has. has) (λ image has. has) (UsesAtMost-of_map n) between is uses mid new value result
       (UsesAtMost-of_map n) (λ image has. has) knows sealed (stays.turns n few) keeps
-
--- what is shown where all is sealed is the content
-sealed-uses : {T E : Type 0} (n : ℕ) (is : RecordsState) (content : List ℕ) (result : Result T E) → OnOk result (IsSealed is.journal) →
-    OnOk result (UsesAtMost n (shown_by is content)) → OnOk result (UsesAtMost n content)
-sealed-uses n is content (Ok value) sealed uses = rw shown-sealed at uses
-sealed-uses n is content (Err e) sealed uses = tt
-
--- calls in a row that begin and end with nothing staged
-pub KeepsWithin-rest : {T E : Type 0} {used : ℕ} {was is : RecordsState} {old new : Told} (result : Result T E) → IsSealed was.journal →
-    OnOk result (IsSealed is.journal) → StaysWithin used was is result old new → KeepsWithin used result old new
-KeepsWithin-rest {was = was} {is = is} {old = old} {new = new} result at_rest sealed stays n few =
-    let turns = stays.turns n few in
-    let uses = UsesAtMost n in
-    let shown : uses old.content → uses (shown_by was old.content) = λ has. rw shown-sealed has in
-    record {
-      content = λ has. sealed-uses n is new.content result sealed (turns.content (shown has));
-      any_moment = λ none has.
-          weaker old new (StaysOr old uses) uses
-          (λ image left. of_map-like uses (UsesAtMost-of_map n) image
-          (left.0, ⊎_elim (λ same. rw same has) (λ some. some) left.1, left.2)) (turns.any_moment none (shown has));
-      durable = turns.durable;
-    }

@@ -49,11 +49,6 @@ KeepsHistory old new result = (history : List Happened) → Turns (Stands histor
 abbrev pub StandsForEither : List Happened → Event → List ℕ → Type 0
 StandsForEither history event image = Stands history image ⊎ Stands (history ++ added event ∷ []) image
 
--- A call adds an event to the history that the disk stands for, wholly or not at all.
-abbrev pub AddsEvent : {T E : Type 0} → Event → Result T E → Told → Told → Type 0
-AddsEvent event result old new =
-    (history : List Happened) → Turns (Stands history) (StandsForEither history event) (Stands (history ++ added event ∷ [])) old new result
-
 -- the image recovers to these streams, or to those after the event
 abbrev pub RecoversToEither : List Stream → Event → List ℕ → Type 0
 RecoversToEither streams event image = Recovers streams image ⊎ Recovers (stepped streams event) image
@@ -114,9 +109,3 @@ pub record StagesAtCost {T E : Type 0} (change : Told → Told → Type 0) (used
 -- so many transactions and two at most.
 abbrev pub CostsEvent : {T E : Type 0} → ℕ → RecordsState → RecordsState → Result T E → Told → Told → Type 0
 CostsEvent records was is result = StagesAtCost (λ old new. ⊤) (records + 1) (records + 2) was is result
-
--- A call that seals what it stages makes two syncs besides.
-pub record SyncsToApply (most : ℕ) (was : RecordsState) (old new : Told) : Type 0 where
-  pub rooms : ℕ
-  pub syncs : SyncsAtMost (4 * rooms + 2) old new
-  pub used : ENTRIES * rooms ≤ was.journal.in_use + most

@@ -5,7 +5,6 @@ mod ask;
 mod create;
 mod drop;
 mod events;
-mod landmarks;
 mod list;
 mod mark;
 mod newest;

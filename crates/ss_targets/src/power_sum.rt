@@ -84,14 +84,6 @@ macro_rules! sum_of {
 pub struct PowerSum<const E: u32>;
 
 impl<const E: u32> PowerSum<E> {
-    /// The greatest n that `upto` takes. The sum up to it passes every age that a stream can have.
-    pub fn cap() -> u64
-        requires { E ≤ GREATEST_EXPONENT }
-        ensures { result ≡ cap E }
-    {
-        by_exponent!(E, cap_of)
-    }
-
     /// The sum of j^E for j from 1 to n. It is one step.
     pub fn upto<L: Ledger>(n: u64, steps: &mut Steps<L>) -> u64
         requires exponent { E ≤ GREATEST_EXPONENT }

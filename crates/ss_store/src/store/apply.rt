@@ -1,4 +1,4 @@
-// Applying an event.
+// Staging an event, and sealing what is staged.
 use super::Store;
 use crate::ApplyError;
 use crate::marking::Mark;
@@ -15,52 +15,24 @@ impl Store {
     ghost use Rattle.ss_outside.specs.Verdict.{IfUndone, OnFailed, verdict};
     ghost use Rattle.ss_catalog.specs.Events.{IsInTime};
     ghost use Rattle.ss_journal.specs.Calls.{HasSealed};
-    ghost use Rattle.ss_journal.specs.Kept.{IsSealed};
     ghost use Rattle.ss_model.specs.History.{CanBeSaid};
     ghost use Rattle.ss_model.specs.Marks.{has_open};
     ghost use Rattle.ss_store.specs.Applied.{Applies, SealsStore, StandsOn};
-    ghost use Rattle.ss_store.specs.Calls.{AddsEvent, CostsEvent, KeepsWithin, StagesEvent, StaysWithin, SyncsToApply};
+    ghost use Rattle.ss_store.specs.Calls.{CostsEvent, StagesEvent, StaysWithin};
     ghost use Rattle.ss_store.specs.Calls.{SyncsToStage};
     ghost use Rattle.ss_store.specs.Errors.{verdict_of_apply};
     ghost use Rattle.ss_store.specs.Extents.{records_held_in};
     ghost use Rattle.ss_store.specs.Kept.{StoreIsKept, is_of_landmark, of_part, without_spare};
     ghost use Rattle.ss_store.specs.Places.{IsPlaceOf};
 
-    /// Applies an event, and answers what is replied to it. A crash at any moment of the call leaves the history from before
-    /// or the history with the event, and after `Ok` the history with the event. A refusal is the first that applies, and
-    /// memory is asked for after all refusals and before the first write; either leaves the store and the disk as they were.
-    /// Nothing is staged before the call or after it.
-    pub fn apply<D: Disk>(&mut self, disk: &mut D, event: &Event) -> Result<Ack, ApplyError>
-        requires in_time { IsInTime event.now }
-        requires one_disk { StandsOn self.old (D.seen disk.old) }
-        requires sealed { self.old.stopped ≡ false → IsSealed self.old.records.journal }
-        // Stopped comes first, exactly where the store had stopped, and changes nothing.
-        ensures stopped { (result ≡ Err ApplyError.Stopped) ↔ (self.old.stopped ≡ true) }
-        ensures idle { self.old.stopped ≡ true → self.new ≡ self.old }
-        ensures applies { self.old.stopped ≡ false → Applies event.now self.old self.new (D.seen disk.old) (D.seen disk.new) result }
-        ensures sealed { self.new.stopped ≡ false → IsSealed self.new.records.journal }
-        // No image uses more slots than were used before, or than the records need that were held then and one.
-        ensures within { self.old.stopped ≡ false → Between (D.seen disk.old) (D.seen disk.new) (KeepsWithin (records_held_in self.old + 1) result) }
-        // Two syncs, and four more at most for each time that the entries are used up.
-        ensures syncs { self.old.stopped ≡ false →
-            Between (D.seen disk.old) (D.seen disk.new) (SyncsToApply (records_held_in self.old + 2) self.old.records) }
-        // The event is added to the history that the disk stands for, wholly or not at all, also in a crash.
-        ensures history { self.old.stopped ≡ false → Between (D.seen disk.old) (D.seen disk.new) (AddsEvent event.now result) }
-        ensures uncalled { IfUndone (verdict_of_apply result) (disk.new ≡ disk.old) }
-    {
-        let ack = self.stage(disk, event)?;
-        match self.seal(disk) {
-            Ok(()) => Ok(ack),
-            Err(Failed) => Err(ApplyError::Disk),
-        }
-    }
-
     /// Stages an event, and answers what is replied to it: the store shows it from now on, and `seal` brings it to the disk, with
     /// all that were staged before. Until then a crash leaves a history that stood there before. Where the journal's entries run out
-    /// in the middle, what is staged so far is sealed. Errors come as those of `apply`, and leave what they leave there.
+    /// in the middle, what is staged so far is sealed. A refusal is the first that applies, and memory is asked for after all refusals
+    /// and before the first write; either leaves the store and the disk as they were.
     pub fn stage<D: Disk>(&mut self, disk: &mut D, event: &Event) -> Result<Ack, ApplyError>
         requires in_time { IsInTime event.now }
         requires one_disk { StandsOn self.old (D.seen disk.old) }
+        // Stopped comes first, exactly where the store had stopped, and changes nothing.
         ensures stopped { (result ≡ Err ApplyError.Stopped) ↔ (self.old.stopped ≡ true) }
         ensures idle { self.old.stopped ≡ true → self.new ≡ self.old }
         ensures applies { self.old.stopped ≡ false → Applies event.now self.old self.new (D.seen disk.old) (D.seen disk.new) result }
