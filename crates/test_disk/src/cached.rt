@@ -1,90 +1,98 @@
 // Records whose pages are cached, against a journal over the same bytes.
-ghost use Rattle.std.specs.Prelude.{◌≡◌, ◌*◌, ◌<◌, ◌≤◌, IsTrue, IfOk, IfSome, OnOk};
+ghost use Rattle.std.specs.Prelude.{◌≡◌, ◌*◌, ◌<◌, ◌≤◌, ℕ, IsTrue, IfOk, OnOk};
 ghost use Rattle.ss_outside.specs.Disk.{OfContent};
 ghost use Rattle.ss_outside.specs.MemDisk.{view_of};
 ghost use Rattle.ss_journal.specs.Kept.{IsKept, IsRunning, IsSettled};
 ghost use Rattle.ss_journal.specs.Puts.{slots_fit, IsTxn};
 ghost use Rattle.ss_records.specs.Kept.{AreAtRest, AreKept};
 
-mod rows;
-mod staged;
+pub mod rows;
 
-use crate::journal::files::{File, bytes_of, disk_of};
+use crate::journal::files::disk_of;
 use crate::journal::runs;
 use crate::passing::pass;
-use crate::reading::{open, read};
+use crate::reading::{fresh, read};
 use ss_base::SLOT_SIZE;
 use ss_journal::{Journal, JournalError, MOST_SLOTS, PAGE_SLOTS, Put, Txn};
 use ss_outside::{Disk, Failed, MemDisk};
 use ss_records::Records;
-use std::alloc::{AllocError, Global};
+use std::alloc::Global;
 use std::test::Fail;
 
 // A slot, and the byte that fills it.
-type Fill = (u32, u8);
+pub type Fill = (u32, u8);
 
-// The put, if there is one and it fits the extent.
-fn txn_of(fill: Option<Fill>, extent: u32) -> Option<Txn>
-    ensures { IfSome result (λ txn. IsTxn txn.items × IsTrue (slots_fit txn.items extent)) }
+// The put, which fits where its slot isn't behind the extent.
+fn txn_of(fill: Fill) -> Txn
+    requires { fill.0 < MOST_SLOTS }
+    ensures txn { IsTxn result.items }
+    ensures fit { (extent : ℕ) → fill.0 ≤ extent → IsTrue (slots_fit result.items extent) }
 {
-    let (slot, byte) = fill?;
-    if slot >= MOST_SLOTS || slot > extent {
-        return None;
-    }
     let mut txn = Txn::new();
     txn.push(Put {
-        slot,
-        bytes: [byte; SLOT_SIZE],
+        slot: fill.0,
+        bytes: [fill.1; SLOT_SIZE],
     });
-    Some(txn)
+    txn
 }
 
-fn put<D: Disk>(records: &mut Records, disk: &mut D, fill: Option<Fill>) -> Result<(), Failed>
-    requires settled { AreAtRest records.old }
+// Stages a put, if its slot isn't behind the lowest free one.
+fn stage<D: Disk>(records: &mut Records, disk: &mut D, fill: Fill) -> Result<(), Failed>
+    requires settled { IsSettled records.old.journal }
+    requires one_disk { OfContent (D.seen disk.old) (AreKept records.old) }
+    ensures settled { OnOk result (IsSettled records.new.journal) }
+    ensures one_disk { OfContent (D.seen disk.new) (λ content. OnOk result (AreKept records.new content)) }
+{
+    records.make_room(disk)?;
+    let Some(free) = records.lowest_free() else {
+        return Ok(());
+    };
+    if fill.0 <= free {
+        records.stage(&txn_of(fill));
+    }
+    Ok(())
+}
+
+// The same, sealed.
+pub fn put<D: Disk>(records: &mut Records, disk: &mut D, fill: Fill) -> Result<(), Failed>
+    requires settled { IsSettled records.old.journal }
     requires one_disk { OfContent (D.seen disk.old) (AreKept records.old) }
     ensures settled { OnOk result (AreAtRest records.new) }
     ensures one_disk { OfContent (D.seen disk.new) (λ content. OnOk result (AreKept records.new content)) }
 {
-    match txn_of(fill, records.extent()) {
-        Some(txn) => records.apply(disk, &txn),
-        None => Ok(()),
-    }
+    stage(records, disk, fill)?;
+    records.seal(disk)
 }
 
-fn commit<D: Disk>(journal: &mut Journal, disk: &mut D, fill: Option<Fill>) -> Result<(), Failed>
+fn commit<D: Disk>(journal: &mut Journal, disk: &mut D, fill: Fill) -> Result<(), Failed>
     requires settled { IsSettled journal.old }
     requires one_disk { OfContent (D.seen disk.old) (IsKept journal.old) }
     ensures settled { OnOk result (IsSettled journal.new) }
     ensures one_disk { OfContent (D.seen disk.new) (λ content. OnOk result (IsKept journal.new content)) }
 {
-    match txn_of(fill, journal.extent()) {
-        Some(txn) => {
-            runs::stage(journal, disk, &txn)?;
-            journal.seal(disk)
-        }
-        None => Ok(()),
+    if fill.0 >= MOST_SLOTS || fill.0 > journal.extent() {
+        return Ok(());
     }
+    runs::stage(journal, disk, &txn_of(fill))?;
+    journal.seal(disk)
 }
 
-fn settled<D: Disk>(alloc: Global, disk: &mut D) -> Result<Records, JournalError>
+// Records over a disk that had no slot, with these bytes in the first ones, all of them in the file.
+fn filled<D: Disk>(alloc: Global, disk: &mut D, slots: u32) -> Result<Records, JournalError>
     ensures settled { IfOk result AreAtRest }
     ensures one_disk { OfContent (D.seen disk.new) (λ content. IfOk result (λ records. AreKept records content)) }
 {
-    let mut records = open(alloc, disk)?;
+    let mut records = fresh(alloc, disk)?;
+    records.settle(disk)?;
+    for slot in 0..slots {
+        put(&mut records, disk, (slot, (slot % 251) as u8 + 1))?;
+    }
     records.settle(disk)?;
     Ok(records)
 }
 
-// How many slots the file has: 70 pages, and a page of ten slots.
+// How many slots there are: 70 pages, and a page of ten slots.
 const SLOTS: u32 = 2250;
-
-fn image(alloc: Global) -> Result<Vec<u8>, AllocError> {
-    let mut bytes = bytes_of(alloc, &File::Formed(&[], &[]))?;
-    for slot in 0..SLOTS {
-        bytes.extend_from_slice(&[(slot % 251) as u8 + 1; SLOT_SIZE])?;
-    }
-    Ok(bytes)
-}
 
 // Step number k is about a slot of one of the 70 pages. Each two after one another are about the same page.
 fn slot_at(k: u32) -> u32
@@ -115,23 +123,14 @@ fn is_same<D: Disk>(
     Ok(first == second)
 }
 
-// What is put by step number k, which is about this slot: each third step puts.
-fn fill_at(k: u32, slot: u32) -> Option<Fill> {
-    if k % 3 == 0 {
-        Some((slot, (k % 256) as u8))
-    } else {
-        None
-    }
-}
-
-// Whether the slot reads the same after the put.
+// Whether the slot reads the same after step number k, which is about it: each third step puts.
 fn is_same_after<D: Disk>(
     records: &mut Records,
     disk: &mut D,
     journal: &mut Journal,
     other: &mut D,
     slot: u32,
-    fill: Option<Fill>,
+    k: u32,
 ) -> Result<bool, JournalError>
     requires slot { slot < MOST_SLOTS }
     requires settled { AreAtRest records.old × IsSettled journal.old }
@@ -141,8 +140,11 @@ fn is_same_after<D: Disk>(
     ensures one_disk { OfContent (D.seen disk.new) (λ content. OnOk result (AreKept records.new content)) }
     ensures other_disk { OfContent (D.seen other.new) (λ content. OnOk result (IsKept journal.new content)) }
 {
-    put(records, disk, fill)?;
-    commit(journal, other, fill)?;
+    if k % 3 != 0 {
+        return is_same(records, disk, journal, other, slot);
+    }
+    put(records, disk, (slot, (k % 256) as u8))?;
+    commit(journal, other, (slot, (k % 256) as u8))?;
     is_same(records, disk, journal, other, slot)
 }
 
@@ -159,28 +161,25 @@ fn first_other<D: Disk>(
 {
     for k in 0..300u32 {
         let slot = slot_at(k);
-        if !is_same_after(records, disk, journal, other, slot, fill_at(k, slot))? {
+        if !is_same_after(records, disk, journal, other, slot, k)? {
             return Ok(Some(k as usize));
         }
     }
     Ok(None)
 }
 
-fn first_apart<D: Disk>(
+// The same of records and of a journal that is opened over the bytes that they leave.
+fn first_apart(
     alloc: Global,
-    disk: &mut D,
-    other: &mut D,
-) -> Result<Option<usize>, JournalError> {
-    let mut records = settled(alloc, disk)?;
-    let mut journal = runs::settled(alloc, other)?;
-    first_other(&mut records, disk, &mut journal, other)
-}
-
-// The same over two files of these bytes, or 300 if they differ at the end.
-fn compared(alloc: Global, bytes: &[u8]) -> Result<Option<usize>, JournalError> {
-    let mut disk = disk_of(alloc, bytes)?;
-    let mut other = disk_of(alloc, bytes)?;
-    let apart = first_apart(alloc, &mut disk, &mut other)?;
+    records: &mut Records,
+    disk: &mut MemDisk,
+) -> Result<Option<usize>, JournalError>
+    requires settled { AreAtRest records.old }
+    requires one_disk { OfContent (view_of disk.old) (AreKept records.old) }
+{
+    let mut other = disk_of(alloc, disk.content())?;
+    let mut journal = runs::settled(alloc, &mut other)?;
+    let apart = first_other(records, disk, &mut journal, &mut other)?;
     Ok(if apart.is_none() && disk.content() != other.content() {
         Some(300)
     } else {
@@ -189,8 +188,9 @@ fn compared(alloc: Global, bytes: &[u8]) -> Result<Option<usize>, JournalError> 
 }
 
 fn first_wrong_step(alloc: Global) -> Result<Option<usize>, JournalError> {
-    let bytes = image(alloc)?;
-    compared(alloc, &bytes)
+    let mut disk = disk_of(alloc, &[])?;
+    let mut records = filled(alloc, &mut disk, SLOTS)?;
+    first_apart(alloc, &mut records, &mut disk)
 }
 
 #[test]
@@ -262,14 +262,10 @@ fn first_wrong_round(
     Ok(None)
 }
 
-fn first_wrong_of(alloc: Global, disk: &mut MemDisk) -> Result<Option<usize>, JournalError> {
-    let mut records = settled(alloc, disk)?;
-    first_wrong_round(&mut records, disk)
-}
-
 fn first_round(alloc: Global) -> Result<Option<usize>, JournalError> {
-    let mut disk = MemDisk::new(alloc, image(alloc)?)?;
-    first_wrong_of(alloc, &mut disk)
+    let mut disk = disk_of(alloc, &[])?;
+    let mut records = filled(alloc, &mut disk, SLOTS)?;
+    first_wrong_round(&mut records, &mut disk)
 }
 
 #[test]

@@ -1,4 +1,4 @@
-// Opening records, and reading a slot of them, where nothing is counted. What a step of the disk means for them is said here once.
+// Fresh records, and reading a slot of them, where nothing is counted. What a step of the disk means for them is said here once.
 ghost use Rattle.std.specs.Prelude.{◌≡◌, ◌<◌, IfOk, OnOk};
 ghost use Rattle.ss_outside.specs.Disk.{OfContent};
 ghost use Rattle.ss_journal.specs.Kept.{IsRunning, IsSealed};
@@ -7,9 +7,9 @@ ghost use Rattle.ss_records.specs.Kept.{AreKept};
 ghost use Rattle.ss_base.specs.Steps.{IsFresh};
 
 use ss_base::{SLOT_SIZE, Steps};
-use ss_journal::JournalError;
+use ss_journal::{Journal, JournalError};
 use ss_outside::{Disk, Failed};
-use ss_records::Records;
+use ss_records::{Records, SlotSet};
 use std::alloc::Global;
 use std::marker::Brand;
 use std::sync::ledger::{Blank, Ledger};
@@ -31,13 +31,19 @@ fn read_with<D: Disk, L: Ledger>(
     records.read(disk, slot, &mut Steps::<L>::new(blank))
 }
 
-/// Opens records.
-pub fn open<D: Disk>(alloc: Global, disk: &mut D) -> Result<Records, JournalError>
+/// Records over a disk that has no slot yet.
+pub fn fresh<D: Disk>(alloc: Global, disk: &mut D) -> Result<Records, JournalError>
     ensures running { IfOk result (λ records. IsRunning records.journal) }
     ensures sealed { IfOk result (λ records. IsSealed records.journal) }
     ensures one_disk { OfContent (D.seen disk.new) (λ content. IfOk result (λ records. AreKept records content)) }
 {
-    Records::open(alloc, disk)
+    let journal = Journal::open(alloc, disk)?;
+    if journal.extent() != 0 {
+        return Err(JournalError::NotAStore);
+    }
+    let live = SlotSet::new(alloc)?;
+    let records = Records::over(alloc, journal, live)?;
+    Ok(records)
 }
 
 /// The bytes of a slot.

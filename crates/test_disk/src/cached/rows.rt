@@ -1,85 +1,180 @@
-// Records whose pages are cached, over files of a table.
-ghost use Rattle.std.specs.Prelude.{◌≡◌, ◌<◌, OnOk};
+// Records whose pages are cached, read between puts that are staged, sealed and settled.
+ghost use Rattle.std.specs.Prelude.{◌≡◌, OnOk};
 ghost use Rattle.ss_outside.specs.Disk.{OfContent};
 ghost use Rattle.ss_outside.specs.MemDisk.{view_of};
-ghost use Rattle.ss_journal.specs.Kept.{IsRunning, IsSealed};
-ghost use Rattle.ss_records.specs.Kept.{AreAtRest, AreKept};
+ghost use Rattle.ss_journal.specs.Kept.{IsKept, IsRunning, IsSettled};
+ghost use Rattle.ss_records.specs.Kept.{AreKept};
 
-use super::{Fill, put};
-use crate::journal::files::{File, bytes_of, disk_of};
-use crate::passing::{pass, pass_if};
-use crate::reading::{open, read};
+use super::{Fill, filled, stage};
+use crate::journal::files::disk_of;
+use crate::journal::runs::opened;
+use crate::passing::pass;
+use crate::reading::read;
 use ss_base::SLOT_SIZE;
-use ss_journal::{JournalError, MOST_SLOTS};
-use ss_outside::{Failed, MemDisk};
+use ss_journal::{Journal, JournalError, MOST_SLOTS};
+use ss_outside::MemDisk;
 use ss_records::Records;
-use std::alloc::{AllocError, Global};
+use std::alloc::Global;
 use std::test::Fail;
 
 // A slot, the byte that fills it, and how many calls of the disk it takes to read it.
-pub type Seen = (Fill, u64);
+type Seen = (Fill, u64);
 
-// What is put, if anything is, and what is read then.
-type Step = (Option<Fill>, Seen);
+#[derive(Clone, Copy)]
+enum Step {
+    // A put is staged, without a call of the disk.
+    Stage(Fill),
+    Read(Seen),
+    // What is staged is sealed, by so many calls of the disk.
+    Seal(u64),
+    // It is sealed, and comes into the slots.
+    Settle,
+}
 
-// A file, how many bytes of its end are cut off, what is read of it, and what is put and read once it is settled.
-type Row = (File, usize, &'static [Seen], &'static [Step]);
+// How many slots there are, full of 1, 2 and so on, what is done, and what a journal reads that is opened over the disk then.
+type Row = (u32, &'static [Step], &'static [Fill]);
 
-const FULL: [u8; 32] = [
-    100, 101, 102, 103, 104, 105, 106, 107, 108, 109, 110, 111, 112, 113, 114, 115, 116, 117, 118,
-    119, 120, 121, 122, 123, 124, 125, 126, 127, 128, 129, 130, 131,
-];
-
-const ROWS: [Row; 5] = [
-    // The last slot of the file is read, then one of the same page, and one past the extent, which is put later. Puts come
-    // into the page that is cached.
+const ROWS: [Row; 8] = [
+    // A slot is read, then one of the same page, and one past the extent, which is put later. Puts come into the page that is cached,
+    // and stay in it when they come into their slots.
     (
-        File::Formed(&[], &[3, 4]),
-        0,
-        &[((1, 4), 1), ((0, 3), 0), ((2, 0), 0)],
+        2,
         &[
-            (None, ((1, 4), 0)),
-            (Some((2, 9)), ((2, 9), 0)),
-            (Some((0, 5)), ((0, 5), 0)),
-            (None, ((3, 0), 0)),
+            Step::Read(((1, 2), 1)),
+            Step::Read(((0, 1), 0)),
+            Step::Read(((2, 0), 0)),
+            Step::Settle,
+            Step::Read(((1, 2), 0)),
+            Step::Stage((2, 9)),
+            Step::Seal(4),
+            Step::Read(((2, 9), 0)),
+            Step::Stage((0, 5)),
+            Step::Settle,
+            Step::Read(((0, 5), 0)),
+            Step::Read(((3, 0), 0)),
         ],
+        &[(0, 5), (1, 2), (2, 9)],
     ),
     // The slot past the extent is the first of a page, which isn't cached when it is put.
     (
-        File::Formed(&[], &FULL),
-        0,
-        &[((32, 0), 0)],
+        32,
         &[
-            (Some((32, 9)), ((32, 9), 1)),
-            (Some((32, 8)), ((32, 8), 0)),
-            (None, ((31, 131), 1)),
+            Step::Read(((32, 0), 0)),
+            Step::Stage((32, 9)),
+            Step::Seal(4),
+            Step::Read(((32, 9), 1)),
+            Step::Stage((32, 8)),
+            Step::Seal(4),
+            Step::Read(((32, 8), 0)),
+            Step::Read(((31, 32), 1)),
         ],
+        &[(31, 32), (32, 8)],
     ),
     // Entries in use put into one slot twice, and none is in the file.
     (
-        File::Formed(&[0, 4, 1, 5, 0, 6], &[]),
         0,
-        &[((0, 6), 1), ((1, 5), 0)],
-        &[(None, ((0, 6), 0)), (Some((0, 7)), ((0, 7), 0))],
+        &[
+            Step::Stage((0, 4)),
+            Step::Seal(4),
+            Step::Stage((1, 5)),
+            Step::Seal(4),
+            Step::Stage((0, 6)),
+            Step::Seal(4),
+            Step::Read(((0, 6), 1)),
+            Step::Read(((1, 5), 0)),
+            Step::Settle,
+            Step::Read(((0, 6), 0)),
+        ],
+        &[(0, 6), (1, 5)],
     ),
-    // The file ends within a slot, which counts as zeros.
+    // The page is cached: puts that are staged come into it, and stay in it when they are sealed.
     (
-        File::Formed(&[], &[3, 4]),
-        1,
-        &[((0, 3), 1), ((1, 0), 0)],
-        &[(Some((1, 8)), ((1, 8), 0)), (None, ((0, 3), 0))],
+        2,
+        &[
+            Step::Read(((0, 1), 1)),
+            Step::Stage((1, 9)),
+            Step::Read(((1, 9), 0)),
+            Step::Stage((2, 8)),
+            Step::Read(((2, 8), 0)),
+            Step::Seal(4),
+            Step::Read(((1, 9), 0)),
+            Step::Read(((2, 8), 0)),
+            Step::Read(((0, 1), 0)),
+        ],
+        &[(0, 1), (1, 9), (2, 8)],
     ),
-    // It isn't formatted, and holds other bytes than zeros: no slot is read from it.
+    // It isn't: they are laid over the page that is read. Then nothing is left to seal.
     (
-        File::Begun(b"\0", 45056),
+        2,
+        &[
+            Step::Stage((1, 9)),
+            Step::Read(((1, 9), 1)),
+            Step::Read(((0, 1), 0)),
+            Step::Seal(4),
+            Step::Read(((1, 9), 0)),
+            Step::Seal(0),
+        ],
+        &[(0, 1), (1, 9)],
+    ),
+    // The last put into a slot counts, over an entry in use too, and also one of zeros.
+    (
+        2,
+        &[
+            Step::Stage((0, 5)),
+            Step::Seal(4),
+            Step::Stage((0, 6)),
+            Step::Stage((0, 7)),
+            Step::Read(((0, 7), 1)),
+            Step::Stage((1, 0)),
+            Step::Read(((1, 0), 0)),
+            Step::Seal(4),
+            Step::Stage((0, 8)),
+            Step::Read(((0, 8), 0)),
+            Step::Seal(4),
+            Step::Read(((1, 0), 0)),
+        ],
+        &[(0, 8), (1, 0)],
+    ),
+    // What isn't sealed isn't on the disk.
+    (
+        2,
+        &[
+            Step::Stage((0, 5)),
+            Step::Seal(4),
+            Step::Stage((0, 6)),
+            Step::Stage((1, 7)),
+            Step::Read(((0, 6), 1)),
+            Step::Read(((1, 7), 0)),
+        ],
+        &[(0, 5), (1, 2)],
+    ),
+    // There was no slot.
+    (
         0,
-        &[((5, 0), 0)],
-        &[(None, ((5, 0), 0)), (Some((5, 1)), ((5, 1), 0))],
+        &[
+            Step::Stage((0, 1)),
+            Step::Read(((0, 1), 1)),
+            Step::Seal(4),
+            Step::Read(((0, 1), 0)),
+        ],
+        &[(0, 1)],
     ),
 ];
 
+// Whether a put is staged without a call.
+fn stages(records: &mut Records, disk: &mut MemDisk, fill: Fill) -> Result<bool, JournalError>
+    requires settled { IsSettled records.old.journal }
+    requires one_disk { OfContent (view_of disk.old) (AreKept records.old) }
+    ensures settled { OnOk result (IsSettled records.new.journal) }
+    ensures one_disk { OfContent (view_of disk.new) (λ content. OnOk result (AreKept records.new content)) }
+{
+    let before = disk.calls();
+    stage(records, disk, fill)?;
+    Ok(disk.calls() == before)
+}
+
 // Whether a slot reads as the row says, by so many calls.
-pub fn is_seen(records: &mut Records, disk: &mut MemDisk, seen: Seen) -> Result<bool, JournalError>
+fn is_seen(records: &mut Records, disk: &mut MemDisk, seen: Seen) -> Result<bool, JournalError>
     requires running { IsRunning records.old.journal }
     requires one_disk { OfContent (view_of disk.old) (AreKept records.old) }
     ensures journal { OnOk result (records.new.journal ≡ records.old.journal) }
@@ -91,31 +186,40 @@ pub fn is_seen(records: &mut Records, disk: &mut MemDisk, seen: Seen) -> Result<
     Ok(bytes == [byte; SLOT_SIZE] && disk.calls().wrapping_sub(before) == calls)
 }
 
-fn takes(records: &mut Records, disk: &mut MemDisk, step: Step) -> Result<bool, JournalError>
-    requires settled { AreAtRest records.old }
+fn seals(records: &mut Records, disk: &mut MemDisk, calls: u64) -> Result<bool, JournalError>
+    requires settled { IsSettled records.old.journal }
     requires one_disk { OfContent (view_of disk.old) (AreKept records.old) }
-    ensures settled { OnOk result (AreAtRest records.new) }
+    ensures settled { OnOk result (IsSettled records.new.journal) }
     ensures one_disk { OfContent (view_of disk.new) (λ content. OnOk result (AreKept records.new content)) }
 {
-    put(records, disk, step.0)?;
-    is_seen(records, disk, step.1)
+    let before = disk.calls();
+    records.seal(disk)?;
+    Ok(disk.calls().wrapping_sub(before) == calls)
 }
 
-pub fn are_seen(
-    records: &mut Records,
-    disk: &mut MemDisk,
-    seen: &[Seen],
-) -> Result<bool, JournalError>
-    requires running { IsRunning records.old.journal }
+fn settles(records: &mut Records, disk: &mut MemDisk) -> Result<bool, JournalError>
+    requires settled { IsSettled records.old.journal }
     requires one_disk { OfContent (view_of disk.old) (AreKept records.old) }
-    ensures journal { OnOk result (records.new.journal ≡ records.old.journal) }
+    ensures settled { OnOk result (IsSettled records.new.journal) }
     ensures one_disk { OfContent (view_of disk.new) (λ content. OnOk result (AreKept records.new content)) }
 {
-    let mut all = true;
-    for row in seen {
-        all = is_seen(records, disk, *row)? && all;
+    records.seal(disk)?;
+    records.settle(disk)?;
+    Ok(true)
+}
+
+fn takes(records: &mut Records, disk: &mut MemDisk, step: Step) -> Result<bool, JournalError>
+    requires settled { IsSettled records.old.journal }
+    requires one_disk { OfContent (view_of disk.old) (AreKept records.old) }
+    ensures settled { OnOk result (IsSettled records.new.journal) }
+    ensures one_disk { OfContent (view_of disk.new) (λ content. OnOk result (AreKept records.new content)) }
+{
+    match step {
+        Step::Stage(fill) => stages(records, disk, fill),
+        Step::Read(seen) => is_seen(records, disk, seen),
+        Step::Seal(calls) => seals(records, disk, calls),
+        Step::Settle => settles(records, disk),
     }
-    Ok(all)
 }
 
 fn are_taken(
@@ -123,7 +227,7 @@ fn are_taken(
     disk: &mut MemDisk,
     steps: &[Step],
 ) -> Result<bool, JournalError>
-    requires settled { AreAtRest records.old }
+    requires settled { IsSettled records.old.journal }
     requires one_disk { OfContent (view_of disk.old) (AreKept records.old) }
 {
     for step in steps {
@@ -134,29 +238,37 @@ fn are_taken(
     Ok(true)
 }
 
-fn goes_on(records: &mut Records, disk: &mut MemDisk, row: &Row) -> Result<bool, JournalError>
-    requires running { IsRunning records.old.journal }
-    requires sealed { IsSealed records.old.journal }
-    requires one_disk { OfContent (view_of disk.old) (AreKept records.old) }
-{
-    let seen = are_seen(records, disk, row.2)?;
-    records.settle(disk)?;
-    Ok(seen && are_taken(records, disk, row.3)?)
-}
-
 fn goes(alloc: Global, disk: &mut MemDisk, row: &Row) -> Result<bool, JournalError> {
-    let mut records = open(alloc, disk)?;
-    goes_on(&mut records, disk, row)
+    let mut records = filled(alloc, disk, row.0)?;
+    are_taken(&mut records, disk, row.1)
 }
 
-fn is_so(alloc: Global, bytes: &[u8], row: &Row) -> Result<bool, JournalError> {
-    let mut disk = disk_of(alloc, &bytes[..bytes.len().saturating_sub(row.1)])?;
-    goes(alloc, &mut disk, row)
+fn are_found(
+    journal: &mut Journal,
+    disk: &mut MemDisk,
+    found: &[Fill],
+) -> Result<bool, JournalError>
+    requires running { IsRunning journal.old }
+    requires one_disk { OfContent (view_of disk.old) (IsKept journal.old) }
+{
+    for fill in found {
+        let bytes = journal.read(disk, fill.0.min(MOST_SLOTS - 1))?;
+        if bytes != [fill.1; SLOT_SIZE] {
+            return Ok(false);
+        }
+    }
+    Ok(true)
+}
+
+pub fn is_left(alloc: Global, disk: &mut MemDisk, found: &[Fill]) -> Result<bool, JournalError> {
+    let mut journal = opened(alloc, disk)?;
+    are_found(&mut journal, disk, found)
 }
 
 fn is_row(alloc: Global, row: &Row) -> Result<bool, JournalError> {
-    let bytes = bytes_of(alloc, &row.0)?;
-    is_so(alloc, &bytes, row)
+    let mut disk = disk_of(alloc, &[])?;
+    let gone = goes(alloc, &mut disk, row)?;
+    Ok(gone && is_left(alloc, &mut disk, row.2)?)
 }
 
 fn first_wrong(alloc: Global) -> Result<Option<usize>, JournalError> {
@@ -171,55 +283,4 @@ fn first_wrong(alloc: Global) -> Result<Option<usize>, JournalError> {
 #[test]
 fn slots_are_read_from_cached_pages(rt: HostRuntime) -> Result<(), Fail> {
     pass(first_wrong(rt.alloc()))
-}
-
-// Lists the next call as failing. The disk stays that of the records.
-fn fail_next(alloc: Global, records: &Records, disk: &mut MemDisk) -> Result<(), AllocError>
-    requires { OfContent (view_of disk.old) (AreKept records.now) }
-    ensures { OfContent (view_of disk.new) (AreKept records.now) }
-{
-    let calls = disk.calls();
-    disk.fail_at([calls].to_vec(alloc)?);
-    Ok(())
-}
-
-// Whether a read fails then.
-fn read_fails(
-    alloc: Global,
-    records: &mut Records,
-    disk: &mut MemDisk,
-) -> Result<bool, JournalError>
-    requires running { IsRunning records.old.journal }
-    requires one_disk { OfContent (view_of disk.old) (AreKept records.old) }
-{
-    fail_next(alloc, records, disk)?;
-    Ok(matches!(read(records, disk, 0), Err(Failed)))
-}
-
-fn fails(alloc: Global, disk: &mut MemDisk) -> Result<bool, JournalError> {
-    let mut records = open(alloc, disk)?;
-    read_fails(alloc, &mut records, disk)
-}
-
-// Whether the same slot is read by one call after it.
-fn is_read_again(alloc: Global, disk: &mut MemDisk) -> Result<bool, JournalError> {
-    let mut records = open(alloc, disk)?;
-    is_seen(&mut records, disk, ((0, 3), 1))
-}
-
-fn recovers(alloc: Global) -> Result<bool, JournalError> {
-    let bytes = bytes_of(alloc, &File::Formed(&[], &[3, 4]))?;
-    recovers_over(alloc, &bytes)
-}
-
-fn recovers_over(alloc: Global, bytes: &[u8]) -> Result<bool, JournalError> {
-    let mut disk = disk_of(alloc, bytes)?;
-    let failed = fails(alloc, &mut disk)?;
-    let again = is_read_again(alloc, &mut disk)?;
-    Ok(failed && again)
-}
-
-#[test]
-fn a_read_that_failed_is_made_again(rt: HostRuntime) -> Result<(), Fail> {
-    pass_if(recovers(rt.alloc()))
 }

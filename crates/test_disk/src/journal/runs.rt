@@ -71,7 +71,8 @@ pub fn commit<D: Disk>(journal: &mut Journal, disk: &mut D, bytes: Commit) -> Re
         return Ok(());
     }
     let txn = commit_txn(bytes, journal.extent());
-    journal.commit(disk, &txn)
+    stage(journal, disk, &txn)?;
+    journal.seal(disk)
 }
 
 // Makes room and stages.
