@@ -2,13 +2,14 @@
 ghost use Rattle.std.specs.Prelude.{◌≡◌, ◌<◌, ◌≤◌, IsTrue, IfOk, OnOk};
 ghost use Rattle.ss_outside.specs.Disk.{OfContent};
 ghost use Rattle.ss_journal.specs.Kept.{IsKept, IsRunning, IsSealed, IsSettled};
+ghost use Rattle.ss_journal.specs.Puts.{IsTxn, slots_fit};
 
 use crate::calls::Calls;
 use crate::counted::Counted;
 use crate::puts::txn_of;
 use crate::timing::{FAILED, micros_since, now};
-use ss_journal::{Journal, JournalError};
-use ss_outside::{Disk, MemDisk};
+use ss_journal::{Journal, JournalError, Txn};
+use ss_outside::{Disk, Failed, MemDisk};
 use std::alloc::Global;
 use std::rt::Clock;
 
@@ -50,6 +51,21 @@ fn start<D: Disk>(alloc: Global, disk: &mut D) -> Result<Journal, JournalError>
     Ok(journal)
 }
 
+// A commit: room is made, the puts are staged, and then sealed.
+fn commit<D: Disk>(journal: &mut Journal, disk: &mut D, txn: &Txn) -> Result<(), Failed>
+    requires settled { IsSettled journal.old }
+    requires txn { IsTxn txn.now.items }
+    requires fit { IsTrue (slots_fit txn.now.items journal.old.extent) }
+    requires one_disk { OfContent (D.seen disk.old) (IsKept journal.old) }
+    ensures settled { OnOk result (IsSettled journal.new) }
+    ensures sealed { OnOk result (IsSealed journal.new) }
+    ensures one_disk { OfContent (D.seen disk.new) (λ content. OnOk result (IsKept journal.new content)) }
+{
+    journal.make_room(disk)?;
+    journal.stage(txn);
+    journal.seal(disk)
+}
+
 // Makes commits number 0 up to `count`: puts into so many slots, from the one whose turn it is, or from the extent where
 // that is less.
 fn commit_many<D: Disk>(
@@ -69,7 +85,7 @@ fn commit_many<D: Disk>(
 {
     for k in 0..count {
         let first = (k % SLOTS).min(journal.extent());
-        journal.commit(disk, &txn_of(first, puts, (k % 256) as u8))?;
+        commit(journal, disk, &txn_of(first, puts, (k % 256) as u8))?;
     }
     Ok(())
 }

@@ -105,16 +105,14 @@ pub fn print_read_times<R: Print + AllocGlobal + Clock>(rt: &R) -> Result<u8, Jo
 pub fn print_records<R: Print + AllocGlobal>(rt: &R) -> Result<u8, JournalError> {
     let mut printed = true;
     for count in [0, 1, 200] {
-        let (live, extent, lowest) = seen_after(rt.alloc(), count)?;
-        printed &= whole(rt, u64::from(live), " live of ");
-        printed &= whole(rt, u64::from(extent), ", lowest free ");
+        let (live, lowest) = seen_after(rt.alloc(), count)?;
+        printed &= whole(rt, u64::from(live), " live of 1000, lowest free ");
         printed &= whole(rt, u64::from(lowest), "\n");
     }
     Ok(status(printed))
 }
 
-/// Prints the times of a transaction, of a look for the lowest free slot and of a slot of opening, over so many live
-/// records.
+/// Prints the times of a transaction and of a look for the lowest free slot, over so many live records.
 pub fn print_record_times<R: Print + AllocGlobal + Clock>(
     rt: &R,
     count: u32,
@@ -125,9 +123,8 @@ pub fn print_record_times<R: Print + AllocGlobal + Clock>(
     let times = record_times(rt, count)?;
     let count = whole(rt, u64::from(count), " live: ");
     let apply = three(rt, times.apply, " us an apply, ");
-    let look = four(rt, times.look, " us a look, ");
-    let slot = four(rt, times.slot, " us a slot of open\n");
-    Ok(status(count & apply & look & slot))
+    let look = four(rt, times.look, " us a look\n");
+    Ok(status(count & apply & look))
 }
 
 /// Prints the times of encoding and decoding a window.

@@ -8,7 +8,8 @@ use crate::running::{Question, Running, crowd, fresh, play, reopen};
 use arrayvec::{ArrayString, ArrayVec};
 use ss_bounds::Split;
 use ss_catalog::{End, Kind, Name, Query, Refusal};
-use ss_certify::{Cert, Evidence, Run, check, head_text, make, side_text};
+use ss_certify::{Cert, Evidence, Run, check, head, make, side};
+use ss_report::reply_text;
 use ss_store::AskError::{self, Disk, Refused, Stopped};
 use ss_store::OpenError;
 use std::alloc::Global;
@@ -61,16 +62,13 @@ fn shown(
 
 fn has_head(evidence: &Evidence, line: &str) -> bool {
     let mut text = ArrayString::new();
-    head_text(evidence, &mut text);
+    reply_text(&head(evidence), &mut text);
     text.as_str() == line
 }
 
 fn has_side(cert: &Cert, inner: bool, line: &str) -> bool {
-    if cert.x > cert.split.count {
-        return false;
-    }
     let mut text = ArrayString::new();
-    side_text(cert, inner, &mut text);
+    reply_text(&side(cert, inner), &mut text);
     text.as_str() == line
 }
 

@@ -1,6 +1,5 @@
 // Replicas: frames that are lost, come again or come in another order.
-ghost use Rattle.std.specs.Prelude.{◌≡◌, false, IsTrue};
-ghost use Rattle.ss_journal.specs.Kept.{IsSealed};
+ghost use Rattle.std.specs.Prelude.{◌≡◌, false};
 
 use crate::applying::READINGS;
 use crate::passing::pass;
@@ -8,14 +7,26 @@ use crate::running::Asked::{self, Close, Create, Open, Value};
 use crate::running::{DOUBLING, IN_TWOS, Row, Running, event_of, fresh, play, runs};
 use crate::steps::Step::{self, Apply, Crash, Lists, Reads, Reopen};
 use crate::steps::comes;
-use ss_catalog::{Name, Refusal};
+use ss_catalog::{Event, Name, Refusal};
 use ss_model::Ack;
-use ss_outside::Choice;
-use ss_replica::Offered::{Done, Gap, Old};
-use ss_replica::{Due, Frame, Offered, due, offer};
+use ss_outside::{Choice, Failed};
+use ss_replica::{Due, Frame, due};
 use ss_store::{ApplyError, OpenError};
 use std::alloc::Global;
 use std::test::Fail;
+
+// What is said to a frame that isn't refused.
+#[derive(Clone, Copy, Debug, PartialEq, Eq)]
+enum Offered {
+    /// Its event was the next of its stream, and was added.
+    Done(Ack),
+    /// The stream has its event already.
+    Old,
+    /// Events are missing before it: the stream has so many.
+    Gap(u64),
+}
+
+use Offered::{Done, Gap, Old};
 
 // A step of a replica, with what must come of it.
 #[derive(Clone, Copy)]
@@ -32,36 +43,29 @@ enum Turn {
 
 use Turn::{Adds, Does, Has, Offers};
 
-// Whether the store runs and nothing is staged.
-fn is_at_rest(running: &mut Running) -> bool
-    ensures { IsTrue result → (running.new.store.stopped ≡ false) × IsSealed running.new.store.records.journal }
+// Stages an event and seals it.
+fn applied(running: &mut Running, event: &Event) -> Result<Offered, ApplyError>
+    requires { running.old.store.stopped ≡ false }
 {
-    if !runs(running) {
-        return false;
-    }
-    running.store.seal(&mut running.disk).is_ok()
-}
-
-// Whether this was due of a frame that is answered so.
-fn was_due(due: Due, answer: Result<Offered, ApplyError>) -> bool {
-    match answer {
-        Ok(Old) => due == Due::Old,
-        Ok(Gap(events)) => due == Due::Gap(events),
-        _ => due == Due::Next,
+    let ack = running.store.stage(&mut running.disk, event)?;
+    match running.store.seal(&mut running.disk) {
+        Ok(()) => Ok(Done(ack)),
+        Err(Failed) => Err(ApplyError::Disk),
     }
 }
 
-// What a frame is answered. `None` is for a store that doesn't run, for a frame of which something else was due, and for a call of the
-// disk where nothing is to change.
+// What a frame is answered. `None` is for a store that doesn't run, and for a call of the disk where nothing is to change.
 fn offered(running: &mut Running, frame: &Frame) -> Option<Result<Offered, ApplyError>> {
-    if !is_at_rest(running) {
+    if !runs(running) {
         return None;
     }
     let before = running.disk.calls();
-    let expected = due(&running.store, frame);
-    let answer = offer(&mut running.store, &mut running.disk, frame);
+    let answer = match due(&running.store, frame) {
+        Due::Old => Ok(Old),
+        Due::Gap(events) => Ok(Gap(events)),
+        Due::Next => applied(running, &frame.event),
+    };
     match answer {
-        _ if !was_due(expected, answer) => None,
         Ok(Old | Gap(_)) | Err(ApplyError::Refused(_)) if running.disk.calls() != before => None,
         _ => Some(answer),
     }

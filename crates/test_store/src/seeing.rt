@@ -1,13 +1,12 @@
-// What is known for queries, and what the landmarks of a stream say.
+// What is known for queries.
 use crate::applying::READINGS;
 use crate::passing::pass;
-use crate::running::Asked::{Close, Create, Open, Value};
-use crate::running::{IN_TWOS, Row, Running, fresh, play};
+use crate::running::{Running, fresh, play};
 use ss_base::LAST_TIME;
 use ss_catalog::{Kind, Name, Query};
 use ss_model::Presence::{self, Absent, Maybe, Present};
 use ss_query::{Cut, Seen};
-use ss_store::{OpenError, Store};
+use ss_store::OpenError;
 use ss_summary::Summary;
 use std::alloc::Global;
 use std::test::Fail;
@@ -129,92 +128,4 @@ fn presences(alloc: Global) -> Result<Option<usize>, OpenError> {
 #[test]
 fn a_value_is_looked_for_where_it_is_asked_for(rt: HostRuntime) -> Result<(), Fail> {
     pass(presences(rt.alloc())?)
-}
-
-// A landmark in the middle of a window.
-const MARKED: [Row; 7] = [
-    (b'a', Create(IN_TWOS), Ok((0, 0))),
-    (b'a', Value(10, 1), Ok((1, 1))),
-    (b'a', Open(20), Ok((1, 1))),
-    (b'a', Value(20, 100), Ok((1, 1))),
-    (b'a', Value(30, 200), Ok((1, 1))),
-    (b'a', Close(40), Ok((1, 1))),
-    (b'a', Value(50, 3), Ok((2, 1))),
-];
-
-// How many times from one to another the landmark doesn't cover.
-const FREE: [(u64, u64, u64); 6] = [
-    (11, 49, 18),
-    (20, 40, 0),
-    (19, 41, 2),
-    (0, 9, 10),
-    (41, 40, 0),
-    (0, LAST_TIME, LAST_TIME - 20),
-];
-
-// How many values the landmark has from one time to another, and their sum.
-const TALLIES: [(u64, u64, u64, i128); 4] = [
-    (20, 40, 2, 300),
-    (21, 40, 1, 200),
-    (21, 29, 0, 0),
-    (0, LAST_TIME, 2, 300),
-];
-
-fn is_free(store: &Store, from: u64, to: u64, free: u64) -> bool {
-    let Some(name) = Name::of(b"a") else {
-        return false;
-    };
-    let Some(id) = store.find(&name) else {
-        return false;
-    };
-    to <= LAST_TIME && store.free(id, from, to) == free
-}
-
-fn is_tallied(store: &Store, from: u64, to: u64, count: u64, sum: i128) -> bool {
-    let Some(name) = Name::of(b"a") else {
-        return false;
-    };
-    let Some(id) = store.find(&name) else {
-        return false;
-    };
-    let tally = store.tally(id, from, to);
-    tally.count == count && tally.sum == sum
-}
-
-// The first row of free times that is wrong.
-fn first_unfree(store: &Store) -> Option<usize> {
-    for (row, (from, to, free)) in FREE.iter().enumerate() {
-        if !is_free(store, *from, *to, *free) {
-            return Some(row);
-        }
-    }
-    None
-}
-
-// The first tally that is wrong.
-fn first_untallied(store: &Store) -> Option<usize> {
-    for (row, (from, to, count, sum)) in TALLIES.iter().enumerate() {
-        if !is_tallied(store, *from, *to, *count, *sum) {
-            return Some(row);
-        }
-    }
-    None
-}
-
-fn marked(alloc: Global) -> Result<Running, OpenError> {
-    let mut running = fresh(alloc)?;
-    play(&mut running, &MARKED);
-    Ok(running)
-}
-
-#[test]
-fn free_times_are_counted(rt: HostRuntime) -> Result<(), Fail> {
-    let running = marked(rt.alloc())?;
-    pass(first_unfree(&running.store))
-}
-
-#[test]
-fn values_of_landmarks_are_tallied(rt: HostRuntime) -> Result<(), Fail> {
-    let running = marked(rt.alloc())?;
-    pass(first_untallied(&running.store))
 }

@@ -1,5 +1,5 @@
 // Names, parameters, refusals, and a catalog.
-use crate::tables::{Subject, Text, cut, numbers_of, pass, small, test, write, write_number};
+use crate::tables::{Subject, Text, cut, numbers_of, pass, small, test, write};
 use ss_catalog::{Catalog, CatalogError, Family, Name, Params, Refusal, StreamId};
 use std::test::Fail;
 
@@ -126,35 +126,33 @@ fn refusal_at(place: u64) -> Refusal {
     }
 }
 
-// The number and the name of the refusal at a place.
+// The name of the refusal at a place.
 pub fn refusal(input: &[u8], out: &mut Text) {
     let refusal = refusal_at(numbers_of(input)[0]);
-    write_number(u64::from(refusal.number()), out);
-    write(b" ", out);
     write(refusal.text().as_bytes(), out);
 }
 
 #[test]
-fn refusals_have_numbers_and_names() -> Result<(), Fail> {
+fn refusals_have_names() -> Result<(), Fail> {
     test(
         Subject::Refusal,
-        "1=1 LINE\n\
-        2=2 SYNTAX\n\
-        3=3 NUMBER\n\
-        4=4 NAME\n\
-        5=5 PARAM\n\
-        6=6 EXISTS\n\
-        7=7 STREAMS\n\
-        8=8 UNKNOWN\n\
-        9=9 OPEN\n\
-        10=10 NOT_OPEN\n\
-        11=11 TIME\n\
-        12=12 RANGE\n\
-        13=13 STREAM_FULL\n\
-        14=14 STORE_FULL\n\
-        15=15 BUSY\n\
-        16=16 NO_CURSOR\n\
-        17=17 FRAME\n"
+        "1=LINE\n\
+        2=SYNTAX\n\
+        3=NUMBER\n\
+        4=NAME\n\
+        5=PARAM\n\
+        6=EXISTS\n\
+        7=STREAMS\n\
+        8=UNKNOWN\n\
+        9=OPEN\n\
+        10=NOT_OPEN\n\
+        11=TIME\n\
+        12=RANGE\n\
+        13=STREAM_FULL\n\
+        14=STORE_FULL\n\
+        15=BUSY\n\
+        16=NO_CURSOR\n\
+        17=FRAME\n"
             .as_bytes(),
     )
 }

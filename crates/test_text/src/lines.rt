@@ -1,22 +1,141 @@
 // Lines cut out of an input, and what they mean.
 ghost use Rattle.std.specs.Prelude.{◌≡◌, ◌<◌, ◌↔◌, IfSome, IsSome, is_some};
-ghost use Rattle.ss_command.specs.Printed.{IsCommandInTime};
 
 use crate::tables::{Subject, Text, cut, numbers_of, show, test, write, write_number};
 use arrayvec::{ArrayString, ArrayVec};
-use ss_command::{Command, Ended, LONGEST_LINE, LineReader, parse, print};
+use ss_catalog::{Event, Family, Kind, Params, Query, Series};
+use ss_command::{Command, Ended, LONGEST_LINE, LineReader, parse};
+use ss_fields::print_i64;
 use std::test::Fail;
 
-// Writes a command as it is printed.
-pub fn write_command(command: &Command, out: &mut Text)
-    requires { IsCommandInTime command.now }
-{
-    let mut text = ArrayString::new();
-    print(command, &mut text);
-    write(text.as_str().as_bytes(), out);
+// Writes a word behind a space.
+fn write_word(word: &[u8], out: &mut Text) {
+    write(b" ", out);
+    write(word, out);
 }
 
-// What a line means: the command as it is printed, the name of a refusal, or "none".
+fn write_signed(value: i64, out: &mut Text) {
+    let mut text = ArrayString::new();
+    print_i64(value, &mut text);
+    write_word(text.as_str().as_bytes(), out);
+}
+
+fn write_numbers(numbers: &[u64], out: &mut Text) {
+    for number in numbers {
+        write(b" ", out);
+        write_number(*number, out);
+    }
+}
+
+fn write_params(params: Params, out: &mut Text) {
+    match params.family {
+        Family::Exp { b, r, s } => {
+            write(b" exp", out);
+            write_numbers(&[u64::from(b), u64::from(r), u64::from(s)], out);
+        }
+        Family::Power { p, q, r, s } => {
+            write(b" power", out);
+            write_numbers(
+                &[u64::from(p), u64::from(q), u64::from(r), u64::from(s)],
+                out,
+            );
+        }
+    }
+    if let Some(within) = params.within {
+        write(b" within", out);
+        write_numbers(&[u64::from(within)], out);
+    }
+}
+
+fn write_event(event: &Event, out: &mut Text) {
+    match *event {
+        Event::Create { name, params } => {
+            write(b"create", out);
+            write_word(name.as_str().as_bytes(), out);
+            write_params(params, out);
+        }
+        Event::Value { name, t, v } => {
+            write(b"append", out);
+            write_word(name.as_str().as_bytes(), out);
+            write_numbers(&[t], out);
+            write_signed(v, out);
+        }
+        Event::Open { name, t } => {
+            write(b"landmark", out);
+            write_word(name.as_str().as_bytes(), out);
+            write(b" open", out);
+            write_numbers(&[t], out);
+        }
+        Event::Close { name, t } => {
+            write(b"landmark", out);
+            write_word(name.as_str().as_bytes(), out);
+            write(b" close", out);
+            write_numbers(&[t], out);
+        }
+        Event::Drop { name } => {
+            write(b"drop", out);
+            write_word(name.as_str().as_bytes(), out);
+        }
+    }
+}
+
+// Writes what is asked for, and of `has` the value.
+fn write_kind(kind: Kind, out: &mut Text) {
+    write_word(kind.text().as_bytes(), out);
+    if let Kind::Has { value } = kind {
+        write_signed(value, out);
+    }
+}
+
+fn write_query(query: &Query, out: &mut Text) {
+    let verb: &[u8] = match query.kind {
+        Kind::CountGuess | Kind::SumGuess => b"estimate",
+        _ => b"query",
+    };
+    write(verb, out);
+    write_word(query.name.as_str().as_bytes(), out);
+    write_kind(query.kind, out);
+    write_numbers(&[query.from, query.to], out);
+}
+
+fn write_series(series: &Series, out: &mut Text) {
+    write(series.kind.series_verb().as_bytes(), out);
+    write_word(series.name.as_str().as_bytes(), out);
+    write_kind(series.kind, out);
+    write_numbers(&[series.from, series.to, series.step], out);
+}
+
+// Writes a command: its words with one space between them, numbers without leading zeros.
+pub fn write_command(command: &Command, out: &mut Text) {
+    match command {
+        Command::Do(event) => write_event(event, out),
+        Command::Ask(query) => write_query(query, out),
+        Command::Series(series) => write_series(series, out),
+        Command::Windows(name) => {
+            write(b"windows", out);
+            write_word(name.as_str().as_bytes(), out);
+        }
+        Command::List => write(b"list", out),
+        Command::Certify { query, end } => {
+            write(b"certify", out);
+            write_word(query.name.as_str().as_bytes(), out);
+            write_kind(query.kind, out);
+            write_word(end.text().as_bytes(), out);
+            write_numbers(&[query.from, query.to], out);
+        }
+        Command::Last(name) => {
+            write(b"last", out);
+            write_word(name.as_str().as_bytes(), out);
+        }
+        Command::Values { name, from, to } => {
+            write(b"values", out);
+            write_word(name.as_str().as_bytes(), out);
+            write_numbers(&[*from, *to], out);
+        }
+    }
+}
+
+// What a line means: the command, the name of a refusal, or "none".
 pub fn line(line: &[u8], out: &mut Text) {
     if line.len() <= LONGEST_LINE {
         match parse(line) {
