@@ -37,7 +37,7 @@ use Rattle.ss_summary.specs.Summaries.{summary_of, time_at_end}
 use Rattle.ss_targets.specs.Lengths.{has_target, lengths_of}
 use Rattle.ss_targets.proofs.LengthLemmas.{lengths_of-never_fall, lengths_of-positive}
 use Rattle.ss_targets.specs.Windowing.{ArePositive, NeverFall}
-use Rattle.ss_targets.proofs.WindowingLemmas.{window_index-monotone}
+use Rattle.ss_targets.specs.WindowingLaws.{window_index-monotone}
 use Rattle.ss_targets.proofs.FirstFitLemmas.{lengths-monotone}
 
 -- how many values have a time or a later one, of two lists

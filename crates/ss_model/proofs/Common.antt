@@ -20,7 +20,7 @@ pub use Rattle.std.specs.List.Sorted.{IsStrictlyIncreasing}
 pub use Rattle.std.specs.Option.{option_map_or}
 pub use Rattle.std.specs.Prelude.{All, Contains, FitsSigned, IsTrue, Option, codes, if◌then◌else◌, is_some, nat_le, nat_lt, option_map, ℤ, ◌+ℤ◌, ◌==◌, ◌||◌}
 pub use Rattle.std.specs.Prelude.{◌≤ℤ◌, ◌⊎◌}
-pub use Rattle.ss_targets.proofs.WindowingLemmas.{window_index-monotone}
+pub use Rattle.ss_targets.specs.WindowingLaws.{window_index-monotone}
 pub use Rattle.ss_targets.specs.Exp.{exp_length}
 pub use Rattle.ss_targets.specs.Windowing.{fits, window_index}
 pub use Rattle.ss_base.specs.declared.limits.TheConstants.{MOST_VALUES}

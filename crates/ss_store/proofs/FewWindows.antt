@@ -4,7 +4,7 @@ use Rattle.ss_store.proofs.Common.{window_index, Entry, cover, steps_met, Rule, 
 use Rattle.ss_store.proofs.Common.{NoEntriesAreDue}
 use Rattle.std.proofs.lemmas.Bool.{eqb-false}
 use Rattle.ss_targets.specs.Windowing.{fits}
-use Rattle.ss_targets.proofs.WindowingLemmas.{window_index-monotone}
+use Rattle.ss_targets.specs.WindowingLaws.{window_index-monotone}
 use Rattle.ss_model.specs.Decay.{steps_after}
 use Rattle.ss_model.proofs.DecayLemmas.{apart, apart-ne, apart-same, apart_through, steps_after-none, window_index-apart}
 use Rattle.ss_targets.specs.Rule.{in_step, step_of, without_step}

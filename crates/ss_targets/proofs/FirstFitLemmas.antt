@@ -5,7 +5,8 @@ use Rattle.ss_targets.specs.Windowing.{cut, Holds, window_index, ArePositive, Ne
 use Rattle.ss_targets.specs.FirstFit.{IsWindow, IsFirstOfLength, FindsOfLength, NoneOfLength, IsFirstFit}
 use Rattle.ss_targets.specs.declared.decay.Spot.{Spot}
 use Rattle.ss_base.specs.declared.limits.TheConstants.{MOST_VALUES}
-use Rattle.ss_targets.proofs.WindowingLemmas.{cut-monotone, window_index-holds, holds-window_index, window_index-monotone}
+use Rattle.ss_targets.proofs.WindowingLemmas.{cut-monotone, window_index-holds, holds-window_index}
+use Rattle.ss_targets.specs.WindowingLaws.{window_index-monotone}
 
 -- no window is shorter than an earlier one
 pub lengths-monotone : (len : ℕ → ℕ) (i j : ℕ) → NeverFall len → i ≤ j → len i ≤ len j

@@ -54,25 +54,6 @@ holds-window_index len age full =
     let found = window_of len age (suc age) (omega (arith, index_le_cut len (suc age) full)) in
     rw (window_index-holds len found.0 age full found.1) found.1
 
--- more windows have ended by a greater age
-ended_windows-age : (len : ℕ → ℕ) (a b k : ℕ) → a ≤ b → ended_windows len a k ≤ ended_windows len b k
-ended_windows-age len a b zero order = omega arith
-ended_windows-age len a b (suc k) order =
-    let before = ended_windows-age len a b k order in
-    grind (arith, nat_tests, before)
-
-ended_windows-count : (len : ℕ → ℕ) (age j k : ℕ) → j ≤ k → ended_windows len age j ≤ ended_windows len age k
-ended_windows-count len age j zero order = let same : j ≡ 0 = omega arith in rw same (omega arith)
-ended_windows-count len age j (suc k) order = elim (cases_lt k j) [
-  | inl late ↦ (let same : j ≡ suc k = omega arith in rw same (omega arith))
-  | inr early ↦ omega (arith, ended_windows-count len age j k early)
-]
-
-pub window_index-monotone : (len : ℕ → ℕ) (a b : ℕ) → a ≤ b → window_index len a ≤ window_index len b
-unfolding window_index
-window_index-monotone len a b order =
-    omega (arith, ended_windows-age len a b a order, ended_windows-count len b a b order)
-
 -- the test is exact: the first part takes it to the window, the second the window to it
 pub fits-one_window : (len : ℕ → ℕ) (l r n : ℕ) → ArePositive len → l ≤ r → (fits len l r n ≡ true) ↔ Fits len l r n
 fits-one_window len l r n full order =

@@ -1,4 +1,5 @@
 pub mod Windowing
+pub mod WindowingLaws
 pub mod FirstFit
 pub mod Groups
 pub mod Exp

@@ -2,7 +2,7 @@
 use Rattle.std.proofs.Common.{ℕ, ◌+◌, arith}
 use Rattle.std.proofs.Math.Nat.{mul-pos, one-le-pow, mul-le-mul_left, pow-le-pow_left}
 use Rattle.ss_targets.specs.Windowing.{window_index, ArePositive, NeverFall}
-use Rattle.ss_targets.proofs.WindowingLemmas.{window_index-monotone}
+use Rattle.ss_targets.specs.WindowingLaws.{window_index-monotone}
 use Rattle.ss_targets.specs.Power.{group_size, power_length, IsPower}
 
 pub power_length-positive : {p q r s : ℕ} → IsPower p q r s → ArePositive (power_length p q r s)
