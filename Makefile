@@ -6,11 +6,11 @@ PREFIX = /usr/local
 .PHONY: build demo fleet-demo test faults python install deb deb-test bench help
 
 build: ## proves and builds the program
-	@tools/build summarystore --version
+	@tools/build summarystore
 
 demo: ## shows the first example, proves and builds the program, and runs it on each file of examples/
 	@test -x $(PROGRAM) || examples/demo --unproved
-	@tools/build summarystore --version
+	@tools/build summarystore
 	@examples/demo $(PROGRAM)
 
 fleet-demo: ## brings up a broker, edges, shards and a gateway on this machine, and asks them: python/README.md
@@ -51,7 +51,7 @@ deb-test: ## builds them, and installs, upgrades and removes them in a new root 
 
 bench: ## times the programs that were built last: bench/README.md
 	@test -x $(PROGRAM) || $(MAKE) build
-	@test -x $(BENCH) || tools/build bench_calls all
+	@test -x $(BENCH) || tools/build bench_calls
 	@bench/durable $(PROGRAM)
 	@bench/appends $(PROGRAM)
 	@bench/drops $(PROGRAM)
