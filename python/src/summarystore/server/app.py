@@ -76,7 +76,8 @@ class Service:
         self.unmatched = UnmatchedNames(limits.unmatched)
         self.supervisor = Supervisor(path, configuration.store, self._learn, self.counters, self._told)
         self.intake = Intake(self.supervisor, self._mappings(), queue=limits.queue, longest_name=limits.name,
-                             unmatched=self.unmatched, hub=self.hub, counters=self.counters)
+                             unmatched=self.unmatched, hub=self.hub, counters=self.counters,
+                             future=limits.future, answers=limits.answer_seconds)
         self.landmarks = Landmarks(path, self, lambda: self.intake.streams)
         self.listeners: list[Listener] = []
         self.started = time.time()

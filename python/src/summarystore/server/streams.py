@@ -118,7 +118,8 @@ class Streams:
         known, told = store.description(name), mapping.description
         if known is None:
             return
-        if known[:3] != told[:3]:
+        is_same = known[:3] == (told.scale, told.time if mapping.time_told else known.time, told.since)
+        if not is_same:
             log.warning("stream stands with another scale or time than its mapping has: stream=%r "
                         "scale=%s time=%s", name, known.scale, known.time)
         if (told.unit, dict(told.labels), told.rounding) != (known.unit, dict(known.labels), known.rounding):
