@@ -167,6 +167,10 @@ class Intake:
         while self._tasks:
             await asyncio.wait(self._tasks)
 
+    def forget(self, name: str) -> None:
+        """A stream was dropped, or has another name."""
+        self._recent.forget(name)
+
     def remap(self, mappings: Mappings) -> None:
         """The mapping was read anew. What is under way goes by the old one."""
         self.mappings = mappings
@@ -197,6 +201,7 @@ class Intake:
         if isinstance(route, Outcome):
             self._settle([(pending, route)])
             return
+        route = self._current(route)
         lane = self._lanes.get(route.stream)
         if lane is None:
             lane = self._lanes[route.stream] = Lane(route)
@@ -215,13 +220,26 @@ class Intake:
                   "clock: is it in another unit?")
         return Outcome(Result.REFUSED, "future", reason)
 
-    def _route(self, reading: Incoming, now: int) -> Route | Outcome:
-        """The stream of a reading by the mapping, or else the one that stands with its name."""
-        name = full_name(reading.name, reading.tags)
+    def mistake_of(self, name: str) -> Outcome | None:
+        """Why a stream can't have a name. None where it can."""
         if not name or len(name) > self._longest_name:
             return Outcome(Result.REFUSED, "name", f"a name has 1 to {self._longest_name} characters")
         if any(unicodedata.category(each) in UNPRINTED for each in name):
             return Outcome(Result.REFUSED, "name", "a name has no control characters")
+        return None
+
+    def _current(self, route: Route) -> Route:
+        """The stream that takes the readings, where another was made in the place of one."""
+        store = self._opened.taking
+        stream = route.stream if store is None else self.streams.current(store, route.stream)
+        return route if stream == route.stream else Route(stream, route.mapping)
+
+    def _route(self, reading: Incoming, now: int) -> Route | Outcome:
+        """The stream of a reading by the mapping, or else the one that stands with its name."""
+        name = full_name(reading.name, reading.tags)
+        mistake = self.mistake_of(name)
+        if mistake is not None:
+            return mistake
         route = self.mappings.route(reading.name, reading.tags, reading.source)
         if route is not None:
             return IGNORED if route.mapping is not None and route.mapping.ignore else route
