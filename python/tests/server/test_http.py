@@ -308,7 +308,8 @@ def test_the_document(path: Path) -> None:
         async with over_http("", path) as client:
             document = await client.get("/openapi.json")
             told = {(path, method) for path, methods in document["paths"].items() for method in methods}
-            ours = {(each.path.replace(":.+", ""), each.method.lower()) for each in endpoints_of(client.service)}
+            ours = {(each.path.replace(":.+", ""), each.method.lower())
+                    for each in endpoints_of(client.service)}
             others = {"/ping", "/health", "/query"}     # of InfluxDB
             mine = {each for each in ours if each[0].startswith(("/api/", "/write", "/healthz", "/openapi"))}
             assert mine | {("/api/refused", "get")} == told and not others & {each[0] for each in told}
