@@ -3,15 +3,16 @@ PROGRAM = crates/summarystore/out/summarystore
 BENCH = crates/bench_calls/out/bench_calls
 PREFIX = /usr/local
 
-.PHONY: build demo fleet-demo test faults python install deb deb-test bench help
+# The processor that packages are for, amd64 or arm64.
+ARCH = $(shell dpkg --print-architecture)
+
+.PHONY: build demo fleet-demo test faults python install arm64 deb deb-test archive release reproduce bench help
 
 build: ## proves and builds the program
 	@tools/build summarystore
 
-demo: ## shows the first example, proves and builds the program, and runs it on each file of examples/
-	@test -x $(PROGRAM) || examples/demo --unproved
-	@tools/build summarystore
-	@examples/demo $(PROGRAM)
+demo: ## shows sessions by the released program, or where none is of this tree, the first, proves and builds, and shows all
+	@packaging/demo
 
 fleet-demo: ## brings up a broker, edges, shards and a gateway on this machine, and asks them: python/README.md
 	@test -x $(PROGRAM) || $(MAKE) build
@@ -36,18 +37,30 @@ python: ## tries the Python package over the program that was built last: python
 	@test -x $(PROGRAM) || $(MAKE) build
 	@.ci/python $(PROGRAM)
 
-install: ## installs the program that was built last, and its man page: make install PREFIX=/usr/local
-	@test -x $(PROGRAM) || $(MAKE) build
-	install -D -m 755 $(PROGRAM) $(DESTDIR)$(PREFIX)/bin/summarystore
-	install -D -m 644 docs/summarystore.1 $(DESTDIR)$(PREFIX)/share/man/man1/summarystore.1
+install: ## installs the released program, or where none is of this tree or with PROVE=1 a proved one: PREFIX=/usr/local
+	@packaging/install $(DESTDIR)$(PREFIX)
 
-deb: ## builds Debian's packages around the program that was built last, in out/deb: packaging/README.md
-	@test -x $(PROGRAM) || $(MAKE) build
-	@packaging/build $(PROGRAM)
+arm64: ## proves and builds the program for aarch64, in out/arm64: packaging/README.md
+	@packaging/arm64
 
-deb-test: ## builds them, and installs, upgrades and removes them in a new root of Debian 12, as root
-	@test -x $(PROGRAM) || $(MAKE) build
-	@packaging/test $(PROGRAM)
+deb: ## builds Debian's packages for ARCH=amd64 or arm64, in out/deb: packaging/README.md
+	@test $(ARCH) != amd64 || test -x $(PROGRAM) || $(MAKE) build
+	@test $(ARCH) != arm64 || test -x out/arm64/summarystore || $(MAKE) arm64
+	@ARCH=$(ARCH) packaging/build
+
+deb-test: ## builds them for ARCH, and installs, upgrades and removes them in a new root of Debian 12, as root
+	@test $(ARCH) != amd64 || test -x $(PROGRAM) || $(MAKE) build
+	@test $(ARCH) != arm64 || test -x out/arm64/summarystore || $(MAKE) arm64
+	@ARCH=$(ARCH) packaging/test
+
+archive: ## makes a folder that apt reads, out/archive, of the packages of dist/, or of those that were built last
+	@packaging/archive
+
+release: ## makes dist/ of what was proved last, from this commit; LOG=FILE is what the gate wrote then
+	@packaging/release $(LOG)
+
+reproduce: ## builds the commit of the release anew, and says whether the bytes are the same
+	@tools/reproduce
 
 bench: ## times the programs that were built last: bench/README.md
 	@test -x $(PROGRAM) || $(MAKE) build
@@ -68,4 +81,4 @@ bench: ## times the programs that were built last: bench/README.md
 	@bench/landmarks $(BENCH)
 
 help: ## lists the targets
-	@awk -F ':.*## ' '/^[a-z-]+:.*## / { printf "make %-10s  %s\n", $$1, $$2 }' Makefile
+	@awk -F ':.*## ' '/^[a-z0-9-]+:.*## / { printf "make %-10s  %s\n", $$1, $$2 }' Makefile

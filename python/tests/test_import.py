@@ -142,6 +142,19 @@ def test_late_rows(folder: Path, program: str, capsys: pytest.CaptureFixture[str
     assert "a: 4 rows stored, 0 there before, 3 refused" in capsys.readouterr().out
 
 
+def test_times_ahead_of_the_clock(folder: Path, program: str, capsys: pytest.CaptureFixture[str]) -> None:
+    """One wrong time doesn't make the right ones after it late."""
+    (folder / "a.csv").write_text(f"{UTC.format(0)},1\n2999-01-01T00:00Z,2\n{UTC.format(1)},3\n")
+    words = [str(folder / "s"), str(folder / "a.csv"), "--name", "a"]
+    assert main(words) == 1
+    shown = capsys.readouterr()
+    assert "a: 2 rows stored, 0 there before, 1 refused" in shown.out
+    assert "line 2: a: more than 1h ahead of the clock: --future" in shown.err
+    assert main([*words, "--future", "1000000d"]) == 0
+    assert "a: 1 rows stored, 2 there before, 0 refused" in capsys.readouterr().out
+    assert main([*words, "--future", "soon"]) == 3
+
+
 def test_sqlite(folder: Path, program: str, capsys: pytest.CaptureFixture[str]) -> None:
     with sqlite3.connect(folder / "log.db") as database:
         database.execute("create table r (t integer, v real, n text)")

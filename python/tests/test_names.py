@@ -33,6 +33,27 @@ def described(path: Path) -> None:
         store.append("plain", 10, 5)
 
 
+def test_a_stream_is_renamed(path: Path) -> None:
+    """It keeps what it holds, its old name can be another stream's, and a standing one keeps its own."""
+    described(path)
+    with summarystore.open(path) as store:
+        store.rename(ROOM, "old")
+        with pytest.raises(errors.UnknownStreamError):
+            store.query(ROOM, "sum")
+        store.create(ROOM, "power 1 1 4 1", scale="0.1")
+        store.append(ROOM, 5, "1.5")
+        for name, error in ((ROOM, errors.StreamExistsError), ("plain", errors.StreamExistsError)):
+            with pytest.raises(error):
+                store.rename("old", name)
+        with pytest.raises(errors.DescriptionError):
+            store.rename("plain", "other")
+    with summarystore.open(path) as store:
+        assert str(store.query(ROOM, "sum")) == "1.5" and str(store.query("old", "sum")) == "21.5"
+    Path(f"{path}.names.json").unlink()
+    with summarystore.open(path) as store:      # the name is that of the stream that had it last
+        assert str(store.query(ROOM, "sum")) == "1.5"
+
+
 def test_readings_as_people_have_them(path: Path) -> None:
     described(path)
     with summarystore.open(path, zone="Europe/Berlin") as store:

@@ -99,7 +99,7 @@ A store whose name begins with - is ./-NAME.
 Documents: README.md, docs/GUIDE.md.
 ";
 
-const VERSION: &str = "summarystore 0.1.0\n";
+const VERSION: &str = "summarystore 1.0.0\n";
 
 /// What is printed in the place of a run.
 #[derive(Clone, Copy, Debug, PartialEq, Eq)]

@@ -26,7 +26,7 @@ from .records import Estimate, EstimateRow, Last, Reading, Row, Soundness, Store
 from .series import Series
 from .store import Store
 
-__version__ = "0.1.0"
+__version__ = "1.0.0"
 
 
 def open(path: StorePath, *, zone: str | datetime.tzinfo | None = None, existing: bool = False,

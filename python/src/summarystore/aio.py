@@ -212,6 +212,12 @@ class Store(Base):
         known = self.description(name) or Description()
         self._translator.describe(name, changed(known, unit, labels, rounding))
 
+    def rename(self, name: str, new: str) -> None:
+        """Gives a described stream another long name, as `Store.rename` does."""
+        if self._connection is None:
+            raise StoreClosedError(f"{self.path} is closed, or its program has ended")
+        self._translator.rename(name, new)
+
     async def append(self, name: str, time: object, value: object) -> Stored:
         """Takes a value at a time later than all before. It is on the disk when this returns."""
         codec = self._translator.codec(name)

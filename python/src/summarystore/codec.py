@@ -78,6 +78,9 @@ class Translator(Protocol):
     def describe(self, name: str, description: Description) -> None:
         """Changes what isn't the meaning of a stream's numbers."""
 
+    def rename(self, name: str, new: str) -> None:
+        """Gives a described stream another name."""
+
     def name_of(self, short: str) -> str:
         """The name that people use for one of the program's."""
 
@@ -161,6 +164,10 @@ class Plain:
     def describe(self, name: str, description: Description) -> None:
         """Takes no description."""
         self.declare(name, description)
+
+    def rename(self, name: str, new: str) -> None:
+        """Names are those of the program."""
+        raise DescriptionError("a store of whole numbers keeps its names: summarystore.open has others")
 
     def name_of(self, short: str) -> str:
         """The name."""

@@ -4,6 +4,7 @@ from __future__ import annotations
 
 import argparse
 import csv
+import datetime
 import gc
 import os
 import sqlite3
@@ -19,7 +20,7 @@ from typing import cast
 from . import clock, tables, timeforms, wire
 from .codec import Codec, PlainCodec
 from .description import NANOSECONDS, ROUNDINGS, Description, description_of
-from .errors import LateError, NotANumberError, SourceError, SummaryStoreError
+from .errors import LateError, NotANumberError, SourceError, SummaryStoreError, TimeError
 from .late import ReorderBuffer
 from .names import DescribedCodec, Names, short_name
 from .progress import Progress
@@ -53,6 +54,7 @@ class Into:
     """A stream that is being filled: how it is read, and what was made of its rows.
 
     What is as old as `before_that`, its last time at the begin, is there. `newest` is that of a dry run.
+    A time after `latest` lies too far ahead of the clock.
     """
 
     name: str
@@ -61,6 +63,7 @@ class Into:
     times_of: Callable[[Sequence[str]], Sequence[int]]
     scale: Scale
     sending: Sending
+    latest: int | None = None
     before_that: int = -1
     newest: int = -1
     span: tuple[int, int] = (wire.LAST_TIME, 0)
@@ -95,6 +98,7 @@ class Import:
         self._values = self._value_columns()
         self._form = self._time_form()
         self._lateness = words.lateness
+        self._until = _ahead(words.future)
         for column in self._values:
             self._description(column)       # what can't be is told before a store is made
         columns = self._values if self._name_column is None else ()
@@ -264,6 +268,8 @@ class Import:
         if self._store is not None and into.exists:
             found = self._store.last_count(name)
             into.newest = into.before_that = -1 if found is None else found
+        if isinstance(codec, DescribedCodec) and self._until is not None:
+            into.latest = codec.end(self._until)
         if self._lateness is not None:
             into.buffer = ReorderBuffer(codec.step(self._lateness))
         self._streams[column, names] = into
@@ -310,6 +316,9 @@ class Import:
         if self._table.decimal_comma:
             texts = list(map(_number, texts))
         times = into.times_of([time for _, time, _ in waiting])
+        if into.latest is not None and times and max(times) > into.latest:
+            raise TimeError(f"more than {self._words.future} ahead of the clock: --future says how far a "
+                            "time may be")
         return list(zip(times, into.scale.numbers(texts), [line for line, _, _ in waiting]))
 
     def _flush(self, into: Into) -> None:
@@ -348,6 +357,14 @@ class Import:
             print(f"line {line}: {into.name}: {error}", file=sys.stderr)
         elif self._shown == SHOWN + 1:
             print("further rows that are refused are only counted", file=sys.stderr)
+
+
+def _ahead(span: str) -> datetime.datetime | None:
+    """The time that lies so far ahead of the clock. None where there is none."""
+    try:
+        return datetime.datetime.now(clock.UTC) + datetime.timedelta(microseconds=clock.span_of(span) // 1000)
+    except OverflowError:
+        return None
 
 
 def _number(text: str) -> str:
@@ -433,6 +450,8 @@ def arguments() -> argparse.ArgumentParser:
     add("--start", help="of an RRD file")
     add("--end", help="of an RRD file")
     add("--lateness", help="sorts rows that are late by at most so much, as 15min")
+    add("--future", default="1h", metavar="SPAN",
+        help="refuses times that lie further ahead of the clock (default: 1h)")
     add("--dry-run", action="store_true", help="shows what is guessed, and stores nothing")
     add("--quiet", action="store_true", help="shows no progress")
     add("--checked", action=argparse.BooleanOptionalAction,

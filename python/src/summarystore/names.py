@@ -21,7 +21,8 @@ from .clock import Clock, zone_of
 from .codec import Codec, PlainCodec, streams_of
 from .decimals import EXACT, Number
 from .description import EPOCH, Description, is_text
-from .errors import DescriptionError, NamesFileError, StreamNameError, UnknownStreamError
+from .errors import (DescriptionError, NamesFileError, StreamExistsError, StreamNameError,
+                     UnknownStreamError)
 from .interval import Interval
 from .namesfile import Described, read_names, write_names
 from .program import StorePath
@@ -56,19 +57,24 @@ class DescribedCodec:
         return interval if kind == "count" else self.scale.interval(interval)
 
 
-def hash_of(name: str) -> str:
-    """Forty bits of a name, as eight characters that stand in a short name."""
-    digest = hashlib.sha256(name.encode("utf-8")).digest()
+MOST_OF_A_NAME = 100
+"""So many streams had a name one after the other, at most, which all stand."""
+
+
+def hash_of(name: str, number: int = 1) -> str:
+    """Forty bits of a name, as eight characters that stand in a short name; others for each number."""
+    text = name if number == 1 else f"{name}\0{number}"
+    digest = hashlib.sha256(text.encode("utf-8")).digest()
     return base64.b32encode(digest[:5]).decode("ascii").lower()
 
 
-def short_name(name: str, description: Description) -> str:
-    """The name of a described stream in the program."""
+def short_name(name: str, description: Description, number: int = 1) -> str:
+    """The name of a described stream in the program, the first one that it may have or another."""
     sign, digits, exponent = Decimal(description.scale).normalize(EXACT).as_tuple()
     assert not sign and isinstance(exponent, int)
     since = "" if description.since == EPOCH else description.since.isoformat().replace("-", "")
     step = f"{''.join(map(str, digits))}e{exponent}"
-    rest = f".{hash_of(name)}.{step}{UNITS[description.time]}{since}"
+    rest = f".{hash_of(name, number)}.{step}{UNITS[description.time]}{since}"
     room = LONGEST - len(rest)
     if room < 1:
         raise DescriptionError(f"the scale {description.scale} has too many digits")
@@ -145,17 +151,27 @@ class Names:
         if not isinstance(name, str) or not is_text(name):
             raise StreamNameError("NAME", repr(name), "a name is text")
         if name not in self._described:
-            short = self._lost.get(hash_of(name))
-            if short is None:
+            found = self._hash_of_lost(name)
+            if found is None:
                 return PlainCodec(name) if NAME.fullmatch(name) else None
-            self._found_again(name, short)
+            self._found_again(name, found)
         short, description = self._described[name]
         return DescribedCodec(short, description, self._zone)
 
-    def _found_again(self, name: str, short: str) -> None:
+    def _hash_of_lost(self, name: str) -> str | None:
+        """The hash of the stream that had a name last, where what was described of it is lost."""
+        found = None
+        for number in range(1, MOST_OF_A_NAME) if self._lost else ():
+            known = hash_of(name, number)
+            if known not in self._lost:
+                break
+            found = known
+        return found
+
+    def _found_again(self, name: str, lost: str) -> None:
         """The long name of a stream whose description was lost is used again."""
+        short = self._lost.pop(lost)
         _, description = self._described.pop(short)
-        del self._lost[hash_of(name)]
         self._standing[short] = name
         self._codecs.pop(short, None)
         self._keep({**self._described, name: (short, description)})
@@ -170,12 +186,33 @@ class Names:
                 self._forget(name)
                 return PlainCodec(name)
             described = description or Description()
-            codec = DescribedCodec(short_name(name, described), described, self._zone)
-            if codec.short in self._standing:
-                raise DescriptionError(f"the short name of {name} is that of {self._standing[codec.short]}")
+            codec = DescribedCodec(self._free_short(name, described), described, self._zone)
             self._keep({**self._described, name: (codec.short, described)})
             self._codecs[name] = codec
             return codec
+
+    def _free_short(self, name: str, description: Description) -> str:
+        """A short name that no stream has: streams that were renamed keep theirs."""
+        for number in range(1, MOST_OF_A_NAME):
+            short = short_name(name, description, number)
+            if short not in self._standing:
+                return short
+        raise DescriptionError(f"the short names of {name} are those of other streams")
+
+    def rename(self, name: str, new: str) -> None:
+        """Gives a described stream another long name. Its short name stays."""
+        with self._lock:
+            if self.codec(name).description is None:
+                raise DescriptionError(f"{name} isn't described, so its name is that of the program")
+            known = self._known(new)
+            if known is not None and known.short in self._standing:
+                raise StreamExistsError("EXISTS", new)
+            kept = dict(self._described)
+            kept[new] = kept.pop(name)
+            self._keep(kept)
+            self._standing[kept[new][0]] = new
+            self._codecs.pop(name, None)
+            self._codecs.pop(new, None)
 
     def made(self, name: str, codec: Codec) -> None:
         """The stream was made."""

@@ -76,6 +76,11 @@ class Store(Channel):
         known = self.description(name) or Description()
         self._translator.describe(name, changed(known, unit, labels, rounding))
 
+    def rename(self, name: str, new: str) -> None:
+        """Gives a described stream another long name, for all that it holds and will take."""
+        self._ready()
+        self._translator.rename(name, new)
+
     def append(self, name: str, time: object, value: object) -> Stored:
         """Takes a value at a time later than all before. It is on the disk when this returns.
 

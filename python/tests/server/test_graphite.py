@@ -264,9 +264,10 @@ def test_lines_are_stored(serving: Serving) -> None:
 def test_what_is_refused_is_counted_and_listed(serving: Serving) -> None:
     async def work() -> None:
         async with listening(serving) as (service, listener):
-            await send(listener, b"servers.a.load 1 10\nservers.a.load nan 11\nservers.a.load 2 9\n"
+            await send(listener, b"servers.a.load 1 10\nservers.a.load nan 11\n"
                        b"nothing.of.it 1 10\nbad\n" + b"x" * 500 + b"\nservers.a.load 3", b" 1", b"2\r\n",
                        b"servers.a.load 4 13")
+            await send(listener, b"servers.a.load 2 9\n")
             counted = service.counters.of("refused")
             codes = ("not_a_number", "late", "too_long", "unmatched", "malformed", "unterminated")
             assert counted == {("graphite", code): 1 for code in codes}

@@ -87,7 +87,8 @@ def test_lines_that_are_refused(path: Path) -> None:
             body = (f'weather t=1,word="on",truth=t {T}\nweather t=1.55 {T + 1}\nbroken\n'
                     f"other v=1 {T}\nweather t=0 {T}\nweather t=2 {T + 1}\nweather t=1 {T}\n")
             told = await client.post("/write?precision=s", body, 400)
-            assert told["error"] == "partial write" and told["stored"] == 3 and "dropped=6" in told["message"]
+            assert told["error"] == "partial write" and (told["stored"], told["there"]) == (2, 1)
+            assert "dropped=6" in told["message"]
             assert [(each["line"], each["code"]) for each in told["refused"]] == [
                 (1, "not_a_number"), (1, "not_a_number"), (2, "scale"), (3, "syntax"), (4, "unmatched"),
                 (5, "late")]
@@ -107,12 +108,13 @@ def test_json(path: Path) -> None:
                     {"stream": room, "time": T + 1, "value": 21.7}, {"stream": room, "value": 7}]
             body = {"readings": [{key: float(each) if isinstance(each, Decimal) else each
                                   for key, each in row.items()} for row in rows]}
-            told = await client.post("/api/append", body)
+            told = await client.post("/api/append", body, 400)
+            assert told["error"] == "partial write" and told["message"].endswith("dropped=1")
             assert told["stored"] == 3 and [each["index"] for each in told["refused"]] == [2]
             assert told["refused"][0]["code"] == "late" and "isn't later" in told["refused"][0]["reason"]
             told = await client.post("/api/append", {"stream": room, "time": T, "value": "21.5"})
             assert told["there"] == 1 and not told["refused"]
-            told = await client.post("/api/append", {"stream": room, "value": "unavailable"}, 422)
+            told = await client.post("/api/append", {"stream": room, "value": "unavailable"}, 400)
             assert told["refused"][0]["code"] == "not_a_number"
             words = {"from": str(T), "to": str(T + 2)}
             found = await client.get("/api/query", stream=room, kind="max", **words)
@@ -135,7 +137,7 @@ def test_bodies_that_are_no_readings(path: Path, body: bytes) -> None:
         async with over_http(ANY, path) as client:
             async with client.session.post(client.base + "/api/append", data=body) as answer:
                 told = await answer.json()
-                assert answer.status in (400, 422), told
+                assert answer.status == 400, told
                 reason = told.get("reason") or told["refused"][0]["reason"]
                 assert reason and len(reason) < 400
             assert all(stream["values"] <= 1 for stream in (await client.get("/api/streams"))["streams"])
@@ -306,7 +308,8 @@ def test_the_document(path: Path) -> None:
         async with over_http("", path) as client:
             document = await client.get("/openapi.json")
             told = {(path, method) for path, methods in document["paths"].items() for method in methods}
-            ours = {(each.path, each.method.lower()) for each in endpoints_of(client.service)}
+            ours = {(each.path.replace(":.+", ""), each.method.lower())
+                    for each in endpoints_of(client.service)}
             others = {"/ping", "/health", "/query"}     # of InfluxDB
             mine = {each for each in ours if each[0].startswith(("/api/", "/write", "/healthz", "/openapi"))}
             assert mine | {("/api/refused", "get")} == told and not others & {each[0] for each in told}

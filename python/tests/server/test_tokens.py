@@ -41,6 +41,11 @@ def test_forms_of_tokens(folder: Path) -> None:
                   "Basic /w==", f"Bearer {'x' * 2000}", "Bearer \udcff"):
         assert not allowed(Access.READ, token), token
     assert allowed(Access.OPEN) and Tokens(None).allow(Access.WRITE, {}, {})
+    admin = {"Authorization": f"Token {WRITE}"}
+    assert not tokens.allow(Access.ADMIN, admin, {}) and Tokens(None).allow(Access.ADMIN, {}, {})
+    assert not Tokens(None, anyone=True).allow(Access.ADMIN, {}, {})
+    tokens = read_tokens(str(_file(folder, f"admin {WRITE}\n")))
+    assert all(tokens.allow(access, admin, {}) for access in Access)
 
 
 @pytest.mark.parametrize("text, mode, reason", [

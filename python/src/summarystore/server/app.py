@@ -70,13 +70,14 @@ class Service:
         self.configuration = configuration
         self._built_in = built_in
         limits = configuration.limits
-        self.tokens = read_tokens(configuration.tokens.file)
+        self.tokens = read_tokens(configuration.tokens.file, configuration.tokens.anyone)
         self.counters = Counters()
         self.hub = Hub(self.counters)
         self.unmatched = UnmatchedNames(limits.unmatched)
         self.supervisor = Supervisor(path, configuration.store, self._learn, self.counters, self._told)
         self.intake = Intake(self.supervisor, self._mappings(), queue=limits.queue, longest_name=limits.name,
-                             unmatched=self.unmatched, hub=self.hub, counters=self.counters)
+                             unmatched=self.unmatched, hub=self.hub, counters=self.counters,
+                             future=limits.future, answers=limits.answer_seconds)
         self.landmarks = Landmarks(path, self, lambda: self.intake.streams)
         self.listeners: list[Listener] = []
         self.started = time.time()
@@ -151,7 +152,7 @@ class Service:
             return False
         self.mapping_error = None
         try:
-            self.tokens = read_tokens(found.tokens.file)
+            self.tokens = read_tokens(found.tokens.file, found.tokens.anyone)
         except ConfigurationError as error:
             log.error("tokens kept as they were: reason=%s", error)
         # What the command line says, and where something listens, stays until the next start.

@@ -11,7 +11,7 @@ from ..clock import moment_of, span_of
 from ..errors import TimeError
 from .endpoints import ApiError
 
-SECONDS = re.compile(r"[+-]?[0-9]{1,12}(?:\.([0-9]{1,9}))?")
+SECONDS = re.compile(r"[+-]?[0-9]{1,19}(?:\.([0-9]{1,9}))?")
 NOW = re.compile(r"now(?:([+-])([0-9]{1,9}) ?([a-z]{1,7}))?")
 # A plus sign in an address that wasn't escaped has become a blank.
 LOST_PLUS = re.compile(r"([0-9]{4}-?[0-9]{2}-?[0-9]{2}[T ][0-9:.]+) ([0-9]{2}:?[0-9]{2})")
@@ -59,7 +59,7 @@ def _plain(given: Decimal, key: str) -> str:
 
 def _of_seconds(text: str, key: str) -> int:
     if not SECONDS.fullmatch(text):
-        raise bad(f"`{key}`: not a time: {text[:LONGEST]}; seconds have at most 12 digits, and 9 behind the "
+        raise bad(f"`{key}`: not a time: {text[:LONGEST]}; seconds have at most 19 digits, and 9 behind the "
                   "point", "bad_time")
     return int(Decimal(text).scaleb(9))
 

@@ -28,6 +28,7 @@ A file may be `/etc/summarystore/summarystored.toml`, and each of its tables may
 
     [limits]
     queue = 100000
+    future = "1h"                               # so far a time may lie ahead of the clock
 
     [[mapping]]                                 # see mapping.py
     match = "home/*/temperature"
@@ -55,6 +56,9 @@ from .tables import Address, Table, rows_of
 LOOPBACK = "127.0.0.1"
 PORT = 8087
 TARGET = "power 1 1 4 1"
+HOUR = 3600 * 10**9
+FINE = "ms"
+"""How finely times are kept that are the service's: messages come in bursts."""
 TARGETS = re.compile(r"exp( [0-9]{1,19}){3}|power( [0-9]{1,19}){4}")
 PLACE = re.compile(r"\{([^{}]*)\}")
 
@@ -140,6 +144,8 @@ class Limits:
     """How long a client may take nothing of its answer."""
     answer_seconds: float = 30
     """How long an answer waits for the store."""
+    future: int = HOUR
+    """How far a time may lie ahead of the clock, in nanoseconds."""
 
 
 @dataclass(frozen=True)
@@ -254,6 +260,7 @@ def limits_of(table: Table) -> Limits:
         seconds = table.seconds(key, 1, 86400)
         if seconds is not None:
             found = replace(found, **{key: seconds})
+    found = replace(found, future=table.span("future", found.future))
     table.end()
     if found.lines > found.queue:
         raise table.wrong("lines", f"{found.lines} lines are more than the queue of {found.queue} takes")
@@ -275,8 +282,11 @@ def mapping_of(table: Table) -> Mapping:
         raise table.wrong("json_time", "there is no time of a message without `json`")
     found = Mapping(glob, source, tags, _stream(table, glob), table.text("target") or TARGET,
                     table.whole("within", 1, 2**32 - 1), _description(table), _words(table), json, json_time,
-                    table.truth("ignore"))
+                    table.truth("ignore"), table.span("lateness", 0))
+    found = _timed(found, "time" in table)
     table.end()
+    if found.lateness > HOUR:
+        raise table.wrong("lateness", "a reading waits an hour at most")
     if not TARGETS.fullmatch(found.target):
         raise table.wrong("target", f"`exp B R S` or `power P Q R S` is to stand here, and not "
                                     f"{found.target!r}")
@@ -301,6 +311,14 @@ def _stream(table: Table, glob: Glob) -> str | None:
     if template and re.search(r"[{}]", PLACE.sub("", template)):
         raise table.wrong("stream", f"a brace has no other: {template!r}")
     return template
+
+
+def _timed(mapping: Mapping, is_told: bool) -> Mapping:
+    """A mapping whose times are fine enough where none is told and they are the service's."""
+    is_fine = mapping.words or mapping.json_time is None and (mapping.json or mapping.source == "mqtt")
+    if is_told or not is_fine or mapping.within is not None:
+        return replace(mapping, time_told=is_told)
+    return replace(mapping, description=mapping.description._replace(time=FINE))
 
 
 def _description(table: Table) -> Description:

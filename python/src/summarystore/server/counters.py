@@ -31,6 +31,7 @@ class Counters:
     |---|---|---|
     | `readings` | source, result | readings whose fate is known, by `intake.Result` |
     | `refused` | source, code | those that were refused, by the reason |
+    | `lost` | source, code | those of them that a broker was acknowledged for |
     | `unmatched` | source | those that no mapping matched; they are refused ones, too |
     | `busy` | `queue` | batches for which there was no room |
     | `batches` | | batches that went to the store, each of one stream |

@@ -3,56 +3,95 @@
 The store takes a reading whose time is later than all before, and answers in order. So where its
 program ends, the last time that stands afterwards says which of those without an answer are stored:
 nobody else writes to the stream meanwhile.
+
+A reading whose time is the service's gets the step in which it came, or the next that is free. It is
+never late: where its step was taken it gets another.
 """
 
 from __future__ import annotations
 
 import asyncio
 from collections.abc import Mapping, Sequence
+from typing import NamedTuple
 
 from .. import aio
 from ..errors import LateError, ProcessEndedError, SummaryStoreError, UnknownStreamError
 from ..interval import Presence
 from .meaning import Meaning
-from .outcomes import STORED, THERE, Outcome, Result, refused
+from .outcomes import AGAIN, STORED, THERE, TOO_FAR, Outcome, Result, refused
 from .recent import Recent
 
 Row = tuple[int, object]
+AHEAD = 60 * 10**9
+"""So many nanoseconds a time that is the service's may lie ahead of the clock."""
+
+
+class Given(NamedTuple):
+    """A reading of the stream: its time in nanoseconds, or when it came where its time is the service's,
+    and its value as it came. `step` is the one that it got in a try whose end isn't known."""
+
+    time: int
+    value: object
+    is_ours: bool = False
+    step: int | None = None
 
 
 class Delivery:
-    """Times in nanoseconds and values as they came, for one stream. `words` are numbers for words.
+    """Readings of one stream, in the order in which they go. `words` are numbers for words.
 
-    `newest` is the last time of the stream before, as a count, and later the one after.
+    `newest` is the last time of the stream before, as a count, and later the one after. `now` is in
+    nanoseconds.
     """
 
-    def __init__(self, stream: str, meaning: Meaning, words: Mapping[str, str],
-                 given: Sequence[tuple[int, object]], newest: int, recent: Recent) -> None:
+    def __init__(self, stream: str, meaning: Meaning, words: Mapping[str, str], given: Sequence[Given],
+                 newest: int, recent: Recent, now: int) -> None:
         self._stream = stream
         self._meaning = meaning
         self._words = words
         self._recent = recent
+        self._given = given
         self.newest = newest
+        self._free = newest + 1
+        self._limit = meaning.last(now + AHEAD)
         self._found: list[Outcome | None] = [None] * len(given)
         self._places: dict[int, int] = {}
-        self.rows = [self._row(at, time, value) for at, (time, value) in enumerate(given)]
+        self.unknown_stream = self.too_far = self.again = False
+        self.rows = [self._row(at, each) for at, each in enumerate(given)]
         self._late: list[int] = []
         self._open: list[int] = []
         self._acknowledged = 0
         self.ended: Exception | None = None
-        self.unknown_stream = False
 
-    def _row(self, at: int, time: int, value: object) -> Row:
+    def _row(self, at: int, given: Given) -> Row:
         """The row of a reading, which is refused here where it is none of the stream."""
+        value = given.value
         if isinstance(value, str):
             value = self._words.get(value, value)
         row = (0, value)
         try:
-            row = self._meaning.count(time), self._meaning.value(value)
+            value = self._meaning.value(value)
+            row = self._count(at, given), value
         except SummaryStoreError as error:
             self._found[at] = refused(error)
         self._places[id(row)] = at
         return row
+
+    def _count(self, at: int, given: Given) -> int:
+        """The step of a reading. One of ours waits where its own lies too far ahead of the clock."""
+        count = self._meaning.count(given.time)
+        if given.is_ours:
+            count = max(count, self._free) if given.step is None else given.step
+            if count > self._limit:
+                self._found[at] = TOO_FAR
+                self.too_far = True
+                return count
+        self._free = max(self._free, count + 1)
+        return count
+
+    @property
+    def free_at(self) -> int:
+        """When the next free step is near enough to the clock, in nanoseconds."""
+        return self._meaning.nanoseconds(self._free) - AHEAD
 
     async def send(self, store: aio.Store) -> Sequence[Outcome]:
         """Sends them, and says what became of each."""
@@ -80,8 +119,15 @@ class Delivery:
         at = self._places[id(row)]
         self.unknown_stream = self.unknown_stream or isinstance(error, UnknownStreamError)
         if isinstance(error, LateError):
-            self._late.append(at)
-        self._found[at] = refused(error)
+            self._is_late(at)
+        else:
+            self._found[at] = refused(error)
+
+    def _is_late(self, at: int) -> None:
+        self._late.append(at)
+        is_ours = self._given[at].is_ours
+        self.again = self.again or is_ours
+        self._found[at] = AGAIN if is_ours else refused(LateError("TIME", self._stream))
 
     def _give_fates(self) -> None:
         """Those that were acknowledged come first. Of the others those that are open were sent."""
@@ -114,15 +160,15 @@ class Delivery:
         for at in self._open:
             count, _ = self.rows[at]
             if count <= self.newest:
-                self._late.append(at)
-                self._found[at] = refused(LateError("TIME", self._stream))
+                self._is_late(at)
             elif count <= stands:
                 self._is_stored(at)
             else:
                 self._found[at] = self._not_stored()
 
     async def _look_at_late(self, store: aio.Store) -> None:
-        """A reading that is late may be one that was sent again: then its value stands at its time."""
+        """A reading that is late may be one that was sent again: then its value stands at its time. One
+        of ours was sent again where it has the step of an earlier try."""
         try:
             last = await store.last(self._stream)
             stands = await asyncio.gather(*(self._stands(store, at) for at in self._late))
@@ -130,9 +176,10 @@ class Delivery:
             return      # that it is late stays true
         newest = None if last is None else last.time
         for at, presence in zip(self._late, stands):
-            if presence is Presence.PRESENT:
+            given = self._given[at]
+            if presence is Presence.PRESENT and (not given.is_ours or given.step is not None):
                 self._found[at] = THERE
-            else:
+            elif not given.is_ours:
                 told = "" if presence is Presence.ABSENT else "; it may be one that was sent again"
                 reason = f"the time isn't later than the newest of the stream, {newest}{told}"
                 self._found[at] = Outcome(Result.REFUSED, "late", reason)

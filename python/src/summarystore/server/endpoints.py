@@ -24,11 +24,18 @@ Handler = Callable[[web.Request], Awaitable[web.StreamResponse]]
 
 
 class Access(enum.Enum):
-    """What is needed to ask at an address: nothing, a token to read, or one to write."""
+    """What is needed to ask at an address: nothing, or a token to read, to write, or to drop and rename
+    streams. Each of these may do what those before it may."""
 
     OPEN = "open"
     READ = "read"
     WRITE = "write"
+    ADMIN = "admin"
+
+    def allows(self, asked: Access) -> bool:
+        """Whether who has this access may have that."""
+        order = list(Access)
+        return order.index(self) >= order.index(asked)
 
 
 @dataclass(frozen=True)

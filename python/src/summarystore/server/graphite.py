@@ -15,15 +15,17 @@ import logging
 import socket
 from collections.abc import Iterator, Mapping, Sequence
 from decimal import Decimal
+from functools import partial
 
 from ..decimals import EXACT, decimal_of
 from ..errors import NotANumberError
 from .app import Service
-from .errors import NotTakenError, UnavailableError
-from .intake import Incoming
+from .errors import UnavailableError
+from .intake import Incoming, Outcome
 from .outcomes import Result
 from .refusals import Refusals
 from .tables import Address
+from .underway import UnderWay
 
 SOURCE = "graphite"
 NANOSECONDS = 10**9
@@ -33,7 +35,6 @@ CHUNK = 1 << 16
 MOST = 4000
 """So many lines go to the store together, at most."""
 KEEPALIVE = ((socket.TCP_KEEPIDLE, 60), (socket.TCP_KEEPINTVL, 15), (socket.TCP_KEEPCNT, 4))
-RETRY = 0.2
 
 log = logging.getLogger("summarystored")
 
@@ -135,6 +136,7 @@ class GraphiteListener:
     def __init__(self, service: Service, address: Address) -> None:
         self._intake = service.intake
         self._limits = service.configuration.limits
+        self._most = min(MOST, max(1, self._limits.queue // 4))
         self._address = address
         self._server: asyncio.Server | None = None
         self._clients: dict[asyncio.Task[None], asyncio.StreamReader] = {}
@@ -192,6 +194,7 @@ class GraphiteListener:
     async def _take_all(self, reader: asyncio.StreamReader) -> None:
         lines = Lines(self._limits.line)
         patience = Patience(self._limits.idle_seconds)
+        under_way = UnderWay()
         while True:
             try:
                 data = await patience.read(reader, lines.rest)
@@ -204,28 +207,26 @@ class GraphiteListener:
             for _ in range(lines.too_long):
                 self._refuse("too_long", f"a line has more than {self._limits.line} bytes")
             lines.too_long = 0
-            for at in range(0, len(found), MOST):
-                await self._store(found[at:at + MOST])
+            for at in range(0, len(found), self._most):
+                await self._store(found[at:at + self._most], under_way)
         if lines.rest:
             self._refuse("unterminated", f"a line without its end: {_shown(lines.rest)}")
+        await under_way.at_most(0)
 
-    async def _store(self, lines: Sequence[bytes]) -> None:
-        """Returns when each of these lines is stored or refused for good."""
+    async def _store(self, lines: Sequence[bytes], under_way: UnderWay) -> None:
+        """Hands the lines over, when not too many of this client are under way."""
         readings = list(self._readings(lines))
-        while readings:
-            try:
-                outcomes = await self._intake.append_many(readings, wait=True)
-            except UnavailableError:
-                raise
-            except NotTakenError:
-                await asyncio.sleep(RETRY)
-                continue
-            for reading, outcome in zip(readings, outcomes):
-                if outcome.result is Result.REFUSED and outcome.code != "unmatched":
-                    self.refusals.list(SOURCE, reading.name, outcome.code, outcome.reason)
-            readings = [reading for reading, outcome in zip(readings, outcomes) if not outcome.final]
-            if readings:
-                await asyncio.sleep(RETRY)
+        if not readings:
+            return
+        await under_way.at_most(self._most)
+        await self._intake.hand_over(readings, partial(self._done, readings, under_way))
+        under_way.add(len(readings))
+
+    def _done(self, readings: Sequence[Incoming], under_way: UnderWay, outcomes: Sequence[Outcome]) -> None:
+        under_way.done(len(readings))
+        for reading, outcome in zip(readings, outcomes):
+            if outcome.result is Result.REFUSED and outcome.code != "unmatched":
+                self.refusals.list(SOURCE, reading.name, outcome.code, outcome.reason)
 
     def _readings(self, lines: Sequence[bytes]) -> Iterator[Incoming]:
         for line in lines:

@@ -27,13 +27,19 @@ def told(service: Service) -> dict[str, object]:
     readings: dict[str, int] = {}
     for (_, result), count in counters.of("readings").items():
         readings[result] = readings.get(result, 0) + count
+    lost: dict[str, int] = {}
+    for (_, code), count in counters.of("lost").items():
+        lost[code] = lost.get(code, 0) + count
+    waiting, streams = intake.ahead
     return {
         "status": status_of(service),
         "seconds": round(time.time() - service.started),
         "store": {"state": store.state.value, "reason": store.why, "pid": store.pid,
                   "opened": counters.total("opened"), "ended": counters.total("ended")},
-        "queue": {"readings": intake.queued, "room": intake.room},
+        "queue": {"readings": intake.queued, "room": intake.room,
+                  "ahead_of_the_clock": {"readings": waiting, "streams": streams}},
         "readings": readings,
+        "refused_and_acknowledged": {"readings": sum(lost.values()), "codes": lost},
         "unmatched": {"readings": service.unmatched.count, "names": len(service.unmatched.list())},
         "mapping": {"entries": len(intake.mappings.mappings), "error": service.mapping_error},
         "listeners": {each.name: each.state for each in service.listeners},

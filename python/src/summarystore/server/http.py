@@ -29,6 +29,7 @@ GONE = 499
 """How it is counted that a client left before its answer."""
 ENDS = 1.0
 """Answers that are under way have so many seconds when the service stops."""
+METHODS = ("GET", "HEAD", "POST", "PATCH", "DELETE", "OPTIONS")
 Before = Callable[[web.Request, web.StreamResponse], Awaitable[None]]
 """Called before the head of an answer is sent."""
 HEADERS = {
@@ -219,14 +220,14 @@ class Http:
         """A handler behind its tokens."""
         async def guarded(request: web.Request) -> web.StreamResponse:
             if not self._service.tokens.allow(endpoint.access, request.headers, request.query):
-                kind = "write" if endpoint.access is Access.WRITE else "read"
-                raise ApiError(401, "token", f"a token to {kind} is needed: `Authorization: Bearer TOKEN`")
+                kind = {Access.READ: "to read", Access.WRITE: "to write"}.get(endpoint.access, "of `admin`")
+                raise ApiError(401, "token", f"a token {kind} is needed: `Authorization: Bearer TOKEN`")
             return await endpoint.handler(request)
         return guarded
 
 
 def _method(request: web.Request) -> str:
-    return request.method if request.method in ("GET", "HEAD", "POST", "OPTIONS") else "other"
+    return request.method if request.method in METHODS else "other"
 
 
 def _set_headers(answer: web.StreamResponse) -> None:

@@ -3,6 +3,7 @@
 from __future__ import annotations
 
 import asyncio
+import time as clock
 from collections.abc import Mapping, Sequence
 
 from aiohttp import web
@@ -14,6 +15,8 @@ from .bodies import body_of, text_of
 from .endpoints import Access, ApiError, Endpoint
 from .intake import Incoming, Outcome, Result
 from .lineprotocol import PRECISIONS, Mistake
+from .meaning import seconds_of
+from .outcomes import TOO_FAR
 
 SLICE = 500
 """After so many lines others have their turn."""
@@ -75,6 +78,8 @@ class HttpIn:
         if action not in ("open", "close"):
             raise asked.bad("`action` is `open` or `close`")
         at = None if time is None else asked.nanoseconds(time, "time")
+        if at is not None and at > clock.time_ns() + self._service.configuration.limits.future:
+            raise ApiError(400, "future", f"the time {seconds_of(at)} s lies too far ahead of the clock")
         told = await self._service.landmarks.mark(stream, action == "open", at)
         return json_answer({"stream": stream, "action": action, "time": told})
 
@@ -150,11 +155,9 @@ def _reading(row: object, at: int) -> Incoming:
 
 def _appended(outcomes: Sequence[Outcome]) -> web.Response:
     """What became of the readings of a request in JSON."""
-    told: dict[str, object] = {"stored": sum(outcome.result is Result.STORED for outcome in outcomes)}
-    there = sum(outcome.result is Result.THERE for outcome in outcomes)
-    refused = [{"index": at, "code": outcome.code, "reason": outcome.reason}
-               for at, outcome in enumerate(outcomes) if outcome.result is Result.REFUSED]
-    told.update(there=there, refused=refused)
+    wrong = [(at, outcome.code, outcome.reason) for at, outcome in enumerate(outcomes)
+             if outcome.result is Result.REFUSED]
+    told = _told(outcomes, wrong, "index")
     ignored = sum(outcome.result is Result.IGNORED for outcome in outcomes)
     if ignored:
         told["ignored"] = ignored
@@ -163,7 +166,24 @@ def _appended(outcomes: Sequence[Outcome]) -> web.Response:
         told["not_stored"] = [at for at, each in enumerate(outcomes) if each.result is Result.NOT_STORED]
         told["unknown"] = [at for at, each in enumerate(outcomes) if each.result is Result.UNKNOWN]
         return error_answer(open_ones, told)
-    return json_answer(told, 422 if len(refused) == len(outcomes) > 0 else 200)
+    return _partial(told, wrong[0], len(wrong), "reading") if wrong else json_answer(told)
+
+
+def _told(outcomes: Sequence[Outcome], wrong: Sequence[tuple[int, str, str]], place: str
+          ) -> dict[str, object]:
+    """How many readings are stored, how many stood there, and which are refused."""
+    return {"stored": sum(outcome.result is Result.STORED for outcome in outcomes),
+            "there": sum(outcome.result is Result.THERE for outcome in outcomes),
+            "refused": [{place: at, "code": code, "reason": reason} for at, code, reason in wrong]}
+
+
+def _partial(told: dict[str, object], first: tuple[int, str, str], dropped: int, what: str) -> web.Response:
+    """That some readings are refused, as clients of InfluxDB understand it."""
+    place, _, reason = first
+    there = f" and {told['there']} stood there" if told["there"] else ""
+    text = f"{told['stored']} readings are stored{there}; {what} {place}: {reason} dropped={dropped}"
+    told.update(dropped=dropped, code="invalid", message=f"partial write: {text}")
+    return error_answer(ApiError(400, "partial write", text), told)
 
 
 def _open(outcomes: Sequence[Outcome]) -> ApiError | None:
@@ -173,6 +193,9 @@ def _open(outcomes: Sequence[Outcome]) -> ApiError | None:
     if not not_stored and not unknown:
         return None
     good = sum(outcome.good for outcome in outcomes)
+    if TOO_FAR in outcomes:
+        return ApiError(503, TOO_FAR.code, f"{good} readings are stored and {not_stored} aren't, which alone "
+                        f"are to be sent again: {TOO_FAR.reason}", 1)
     return ApiError(503, "interrupted", f"the store's program ended: {good} are stored, {not_stored} surely "
                     f"aren't, and of {len(unknown)} it isn't known. Sent again, each is stored once", 1)
 
@@ -183,17 +206,13 @@ def _written(lines: Sequence[int], mistakes: Sequence[Mistake], outcomes: Sequen
     wrong = [(mistake.line, "syntax", mistake.reason) for mistake in mistakes]
     wrong += [(line, outcome.code, outcome.reason) for line, outcome in zip(lines, outcomes)
               if outcome.result is Result.REFUSED]
-    stored = sum(outcome.good for outcome in outcomes)
     if not wrong and open_ones is None:
         return web.Response(status=204, headers={"X-Influxdb-Version": VERSION})
     wrong.sort()
-    refused = [{"line": line, "code": code, "reason": reason} for line, code, reason in wrong[:SHOWN]]
-    told: dict[str, object] = {"stored": stored, "refused": refused, "dropped": len(wrong)}
+    told = _told(outcomes, wrong[:SHOWN], "line")
     if open_ones is not None:
+        told["dropped"] = len(wrong)
         told["not_stored"] = sum(outcome.result is Result.NOT_STORED for outcome in outcomes)
         told["unknown"] = sum(outcome.result is Result.UNKNOWN for outcome in outcomes)
         return error_answer(open_ones, told)
-    line, _, reason = wrong[0]
-    text = f"{stored} readings are stored; line {line}: {reason} dropped={len(wrong)}"
-    told.update(code="invalid", message=f"partial write: {text}")
-    return error_answer(ApiError(400, "partial write", text), told)
+    return _partial(told, wrong[0], len(wrong), "line")

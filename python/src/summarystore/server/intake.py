@@ -14,10 +14,13 @@ Whoever takes readings from a network hands them over here and waits for what be
   `UnavailableError`: nothing of it was taken then, and both say by `retry_after` after how many
   seconds it may be sent again. With `wait=True` they wait for room and for the store instead, so
   that who doesn't read on meanwhile slows its sender down. Then `UnavailableError` comes only when
-  the service stops.
-- Readings of one stream are stored in the order in which they were handed over.
-- The time is in nanoseconds since 1970, or None for the time at which it came; it is rounded down
-  to the resolution of the stream. The value is text, a whole number or a Decimal, and never a float.
+  the service stops, and so does an outcome that isn't final.
+- `hand_over` waits for room alone, and tells what became of the readings when that is known.
+- Readings of one stream that wait are stored in the order of their times.
+- The time is in nanoseconds since 1970, and is rounded down to the resolution of the stream. One
+  that lies too far ahead of the clock is refused. None is for the time at which it came: then it is
+  the service's, and the reading gets the next free step of the stream.
+- The value is text, a whole number or a Decimal, and never a float.
 - A caller that is cancelled takes nothing back: what it handed over is stored.
 """
 
@@ -27,20 +30,20 @@ import asyncio
 import logging
 import time as clock
 import unicodedata
-from collections import Counter, deque
-from collections.abc import Mapping, Sequence
-from dataclasses import dataclass, field
+from collections import Counter
+from collections.abc import Callable, Sequence
 from typing import Protocol
 
 from .. import aio, errors
 from ..errors import ProcessEndedError, SummaryStoreError
 from .counters import Counters
-from .delivery import Delivery, Row
+from .delivery import Delivery, Given, Row
 from .errors import BusyError, UnavailableError
 from .events import Hub
+from .lanes import SECOND, Batch, Incoming, Lane, Pending
 from .mapping import Mappings, Route, UnmatchedNames, full_name
-from .meaning import Meaning
-from .outcomes import IGNORED, STORED, Outcome, Result, refused
+from .meaning import Meaning, seconds_of
+from .outcomes import IGNORED, STORED, TOO_FAR, TOO_MANY, Outcome, Result, refused
 from .recent import Recent
 from .streams import Streams
 
@@ -49,24 +52,14 @@ __all__ = ["Incoming", "Intake", "Opened", "Outcome", "Result"]
 log = logging.getLogger("summarystored")
 BATCH = 4000
 """So many readings of a stream go to the store together, at most."""
+FUTURE = 3600 * SECOND
+"""So many nanoseconds a time may lie ahead of the clock, unless the configuration says otherwise."""
+ANSWERS = 30.0
+"""So many seconds a reading may wait whose sender waits for the answer, unless that says otherwise."""
+AGAIN_AFTER = (0.1, 1.0)
+"""Seconds until readings whose fate isn't known are tried again, first and at most."""
 UNPRINTED = ("Cc", "Cs", "Zl", "Zp")
 """The kinds of characters that no name has: those that end a line, and halves of surrogates."""
-
-
-@dataclass(frozen=True, slots=True)
-class Incoming:
-    """A reading as it came from a network.
-
-    `source` is one of `settings.SOURCES`. Where the sender has found out the stream already, as for
-    messages that are JSON, it gives the `route`.
-    """
-
-    name: str
-    value: object
-    time: int | None = None
-    tags: Mapping[str, str] = field(default_factory=dict)
-    source: str = "http"
-    route: Route | None = None
 
 
 class Opened(Protocol):
@@ -90,48 +83,13 @@ class Opened(Protocol):
         """Waits until it takes events. Raises UnavailableError where it won't any more."""
 
 
-class _Batch:
-    """Readings that were handed over together."""
-
-    def __init__(self, count: int) -> None:
-        self.outcomes = [STORED] * count
-        self.missing = count
-        self.done: asyncio.Future[None] = asyncio.get_running_loop().create_future()
-
-    def settle(self, at: int, outcome: Outcome) -> None:
-        """One of them has its fate."""
-        self.outcomes[at] = outcome
-        self.missing -= 1
-        if not self.missing and not self.done.done():
-            self.done.set_result(None)
-
-
-@dataclass(slots=True)
-class _Pending:
-    """A reading on its way, and where what became of it is to be told."""
-
-    reading: Incoming
-    time: int
-    batch: _Batch
-    at: int
-    row: tuple[int, object] = (0, 0)
-
-
-@dataclass
-class _Lane:
-    """The readings of one stream that wait for the store, in order."""
-
-    route: Route
-    waiting: deque[_Pending] = field(default_factory=deque)
-    since: float = 0
-
-
 class Intake:
     """Takes readings, and brings them into the store by streams."""
 
     def __init__(self, opened: Opened, mappings: Mappings, *, queue: int, longest_name: int = 512,
                  unmatched: UnmatchedNames | None = None, hub: Hub | None = None,
-                 counters: Counters | None = None) -> None:
+                 counters: Counters | None = None, future: int = FUTURE, answers: float = ANSWERS
+                 ) -> None:
         self._opened = opened
         self.mappings = mappings
         self.streams = Streams()
@@ -141,7 +99,9 @@ class Intake:
         self._hub = Hub() if hub is None else hub
         self._most = queue
         self._longest_name = longest_name
-        self._lanes: dict[str, _Lane] = {}
+        self._future = future
+        self._answers = answers
+        self._lanes: dict[str, Lane] = {}
         self._tasks: set[asyncio.Task[None]] = set()
         self._released = asyncio.Event()
         self._closed = False
@@ -152,6 +112,12 @@ class Intake:
     def room(self) -> int:
         """How many more readings there is room for."""
         return self._most - self.queued
+
+    @property
+    def ahead(self) -> tuple[int, int]:
+        """How many readings wait since their streams lie ahead of the clock, and how many streams do."""
+        found = [lane.ahead for lane in self._lanes.values() if lane.ahead]
+        return sum(found), len(found)
 
     async def append(self, reading: Incoming, *, wait: bool = False) -> Outcome:
         """Takes one reading, and says what became of it."""
@@ -171,20 +137,39 @@ class Intake:
         self._must_have_room(len(readings))
         if not readings:
             return ()
-        batch = _Batch(len(readings))
+        done: asyncio.Future[Sequence[Outcome]] = asyncio.get_running_loop().create_future()
+        self._enter(readings, lambda found: None if done.done() else done.set_result(found),
+                    None if wait else clock.monotonic() + self._answers)
+        return await done
+
+    async def hand_over(self, readings: Sequence[Incoming], done: Callable[[Sequence[Outcome]], None]
+                        ) -> None:
+        """Takes readings as soon as there is room for them. `done` is told what became of them."""
+        await self._wait_for(len(readings))
+        self._must_have_room(len(readings))
+        self._enter(readings, done, None)
+
+    def _enter(self, readings: Sequence[Incoming], done: Callable[[Sequence[Outcome]], None],
+               until: float | None) -> None:
+        batch = Batch(len(readings), done)
         self.queued += len(readings)
-        now = clock.time_ns()
+        now, came = clock.time_ns(), clock.monotonic()
         for at, reading in enumerate(readings):
-            self._take(_Pending(reading, now if reading.time is None else reading.time, batch, at), now)
-        await batch.done
-        return batch.outcomes
+            time = now if reading.time is None else reading.time
+            self._take(Pending(reading, time, batch, at, came, until), now)
 
     async def close(self) -> None:
         """Takes no more, and waits until all that was taken has its fate."""
         self._closed = True
         self._released.set()
+        for lane in self._lanes.values():
+            lane.wake()
         while self._tasks:
             await asyncio.wait(self._tasks)
+
+    def forget(self, name: str) -> None:
+        """A stream was dropped, or has another name."""
+        self._recent.forget(name)
 
     def remap(self, mappings: Mappings) -> None:
         """The mapping was read anew. What is under way goes by the old one."""
@@ -208,29 +193,53 @@ class Intake:
             await self._released.wait()
             await self._opened.wait_open()
 
-    def _take(self, pending: _Pending, now: int) -> None:
+    def _take(self, pending: Pending, now: int) -> None:
         """Puts a reading into the lane of its stream, or refuses it at once."""
         route = pending.reading.route or self._route(pending.reading, now)
+        if not isinstance(route, Outcome) and pending.time > now + self._future:
+            route = self._too_new(pending.time)
         if isinstance(route, Outcome):
             self._settle([(pending, route)])
             return
+        route = self._current(route)
         lane = self._lanes.get(route.stream)
         if lane is None:
-            lane = self._lanes[route.stream] = _Lane(route)
+            lane = self._lanes[route.stream] = Lane(route)
             task = asyncio.get_running_loop().create_task(self._drain(lane))
             self._tasks.add(task)
             task.add_done_callback(self._tasks.discard)
-        if not lane.waiting:
-            lane.since = clock.monotonic()
-        lane.waiting.append(pending)
+        if pending.is_ours and lane.is_too_long(pending.until):
+            self._settle([(pending, TOO_FAR)])
+        elif pending.is_ours and lane.ahead >= self._most // 4:
+            self._settle([(pending, TOO_MANY)])
+        else:
+            lane.put(pending)
 
-    def _route(self, reading: Incoming, now: int) -> Route | Outcome:
-        """The stream of a reading by the mapping, or else the one that stands with its name."""
-        name = full_name(reading.name, reading.tags)
+    def _too_new(self, time: int) -> Outcome:
+        reason = (f"the time {seconds_of(time)} s lies more than {seconds_of(self._future)} s ahead of the "
+                  "clock: is it in another unit?")
+        return Outcome(Result.REFUSED, "future", reason)
+
+    def mistake_of(self, name: str) -> Outcome | None:
+        """Why a stream can't have a name. None where it can."""
         if not name or len(name) > self._longest_name:
             return Outcome(Result.REFUSED, "name", f"a name has 1 to {self._longest_name} characters")
         if any(unicodedata.category(each) in UNPRINTED for each in name):
             return Outcome(Result.REFUSED, "name", "a name has no control characters")
+        return None
+
+    def _current(self, route: Route) -> Route:
+        """The stream that takes the readings, where another was made in the place of one."""
+        store = self._opened.taking
+        stream = route.stream if store is None else self.streams.current(store, route.stream)
+        return route if stream == route.stream else Route(stream, route.mapping)
+
+    def _route(self, reading: Incoming, now: int) -> Route | Outcome:
+        """The stream of a reading by the mapping, or else the one that stands with its name."""
+        name = full_name(reading.name, reading.tags)
+        mistake = self.mistake_of(name)
+        if mistake is not None:
+            return mistake
         route = self.mappings.route(reading.name, reading.tags, reading.source)
         if route is not None:
             return IGNORED if route.mapping is not None and route.mapping.ignore else route
@@ -242,30 +251,50 @@ class Intake:
         reason = f"no mapping matches {name!r}, and no stream has that name"
         return Outcome(Result.REFUSED, "unmatched", reason)
 
-    async def _drain(self, lane: _Lane) -> None:
+    async def _drain(self, lane: Lane) -> None:
         """Brings what waits in a lane to the store, until nothing does."""
         try:
-            while lane.waiting:
-                since, lane.since = lane.since, clock.monotonic()
-                count = min(BATCH, len(lane.waiting))
-                taken = [lane.waiting.popleft() for _ in range(count)]
+            while lane:
+                taken = lane.due(BATCH, self._closed)
+                if not taken:
+                    await lane.change()
+                    continue
                 async with self.streams.alone(lane.route.stream):
-                    found = await self._outcomes(lane.route, taken)
-                self.counters.took("append", clock.monotonic() - since)
-                self._settle(list(zip(taken, found)))
+                    found = await self._outcomes(lane, taken)
+                self.counters.took("append", clock.monotonic() - taken[0].came)
+                self._end(lane, taken, found)
         finally:
             del self._lanes[lane.route.stream]
 
-    async def _outcomes(self, route: Route, taken: Sequence[_Pending]) -> Sequence[Outcome]:
+    def _end(self, lane: Lane, taken: Sequence[Pending], found: Sequence[Outcome]) -> None:
+        """Tells those that have their fate, and puts the others back."""
+        settled: list[tuple[Pending, Outcome]] = []
+        again: list[Pending] = []
+        for pending, outcome in zip(taken, found):
+            if outcome is STORED or self._closed or not self._is_tried_again(lane, pending, outcome):
+                settled.append((pending, outcome))
+            else:
+                again.append(pending)
+        lane.put_back(again)
+        if again and not all(outcome.final or outcome is TOO_FAR for outcome in found):
+            lane.failed(*AGAIN_AFTER)
+        self._settle(settled)
+
+    def _is_tried_again(self, lane: Lane, pending: Pending, outcome: Outcome) -> bool:
+        if outcome.waits:
+            return not lane.is_too_long(pending.until)
+        return pending.until is None and not outcome.final
+
+    async def _outcomes(self, lane: Lane, taken: Sequence[Pending]) -> Sequence[Outcome]:
         """What becomes of readings of one stream. What fails here fails none of the service."""
         try:
-            return await self._stored(route, taken)
+            return await self._stored(lane, taken)
         except Exception as error:      # of ours: what was sent isn't known
-            log.exception("append failed: stream=%r", route.stream)
+            log.exception("append failed: stream=%r", lane.route.stream)
             return [Outcome(Result.UNKNOWN, "failed", f"{type(error).__name__}: {error}")] * len(taken)
 
-    async def _stored(self, route: Route, taken: Sequence[_Pending]) -> Sequence[Outcome]:
-        store = self._opened.taking
+    async def _stored(self, lane: Lane, taken: Sequence[Pending]) -> Sequence[Outcome]:
+        store, route = self._opened.taking, lane.route
         if store is None:
             return [Outcome(Result.NOT_STORED, "store_unavailable", self._opened.why)] * len(taken)
         try:
@@ -277,8 +306,9 @@ class Intake:
         except SummaryStoreError as error:
             return [refused(error)] * len(taken)
         words = {} if route.mapping is None else route.mapping.words
-        given = [(each.time, each.reading.value) for each in taken]
-        delivery = Delivery(route.stream, meaning, words, given, newest, self._recent)
+        given = [Given(each.time, each.reading.value, each.is_ours, each.step) for each in taken]
+        now = clock.time_ns()
+        delivery = Delivery(route.stream, meaning, words, given, newest, self._recent, now)
         found = await delivery.send(store)
         self.streams.came_to(route.stream, delivery.newest)
         if delivery.ended is not None:
@@ -287,9 +317,24 @@ class Intake:
             self._opened.answered()
         if delivery.unknown_stream:
             self.streams.forget(route.stream)
+        if delivery.too_far:
+            self._wait_for_the_clock(lane, delivery.free_at - now)
+        if delivery.again:
+            self.streams.forget_newest(route.stream)
+        if delivery.ended is None:
+            lane.went()
+        if delivery.ended is not None or delivery.again:
+            _keep_steps(taken, delivery.rows, found)
         self.counters.add("batches")
         self._tell(route.stream, meaning, delivery.rows, found)
         return found
+
+    def _wait_for_the_clock(self, lane: Lane, nanoseconds: int) -> None:
+        """The stream lies ahead of the clock: what has no time of its own waits."""
+        if not lane.ahead:
+            log.warning("stream ahead of the clock: stream=%r: what has no time of its own waits; with a "
+                        "finer `time` it needn't", lane.route.stream)
+        lane.lies_ahead(nanoseconds / SECOND)
 
     def _tell(self, stream: str, meaning: Meaning, rows: Sequence[Row], found: Sequence[Outcome]
               ) -> None:
@@ -301,7 +346,7 @@ class Intake:
                 self._hub.tell("reading", {"stream": stream, "time": meaning.seconds(row[0]),
                                            "value": meaning.shown(row[1])})
 
-    def _settle(self, settled: Sequence[tuple[_Pending, Outcome]]) -> None:
+    def _settle(self, settled: Sequence[tuple[Pending, Outcome]]) -> None:
         """Readings have their fate: those who wait for it are told, and for room."""
         counted: Counter[tuple[str, str, str]] = Counter()
         for pending, outcome in settled:
@@ -313,3 +358,10 @@ class Intake:
                 self.counters.add("refused", source, code, count=count)
         self.queued -= len(settled)
         self._released.set()
+
+
+def _keep_steps(taken: Sequence[Pending], rows: Sequence[Row], found: Sequence[Outcome]) -> None:
+    """Where it isn't known whether a reading of ours is stored, it is tried again at the same step."""
+    for pending, row, outcome in zip(taken, rows, found):
+        if pending.is_ours and (outcome.result is Result.UNKNOWN or outcome.waits):
+            pending.step = row[0] if outcome.result is Result.UNKNOWN else None

@@ -90,6 +90,15 @@ class Landmarks:
                                            "time": told})
         return told
 
+    async def moved(self, name: str, new: str | None) -> None:
+        """A stream has another name, or was dropped."""
+        async with self._lock:
+            spans = self._spans.pop(name, None)
+            if spans is not None:
+                if new is not None:
+                    self._spans[new] = spans
+                await self._kept()
+
     async def _marked(self, name: str, opens: bool, at: int) -> None:
         spans = self._spans.setdefault(name, [])
         if opens:
@@ -98,6 +107,9 @@ class Landmarks:
             spans[-1].end = at
         else:
             spans.append(Span(None, at))
+        await self._kept()
+
+    async def _kept(self) -> None:
         try:
             await asyncio.to_thread(self._write)
         except OSError as error:

@@ -26,6 +26,8 @@ from .supervision import State
 COUNTS = (
     ("readings", "readings", "Readings whose fate is known, by what became of them.", ("source", "result")),
     ("refused", "refused_readings", "Readings that were refused, by the reason.", ("source", "code")),
+    ("lost", "refused_acknowledged_readings",
+     "Refused readings that a broker was acknowledged for, by the reason.", ("source", "code")),
     ("unmatched", "unmatched_readings", "Readings that no mapping matches.", ("source",)),
     ("busy", "busy", "Batches for which the queue had no room.", ("what",)),
     ("batches", "batches", "Batches that went to the store, each of one stream.", ()),
@@ -77,6 +79,8 @@ class ServiceCollector(Collector):
     def _gauges(self) -> Iterator[Metric]:
         service = self._service
         yield _gauge("queue_readings", "Readings that are under way.", service.intake.queued)
+        yield _gauge("queue_ahead_readings", "Readings that wait since their stream lies ahead of the clock.",
+                     service.intake.ahead[0])
         yield _gauge("queue_limit", "So many readings may be under way.",
                      service.configuration.limits.queue)
         yield _gauge("up", "Whether the store is open.", service.supervisor.state is State.OPEN)

@@ -21,7 +21,6 @@ from __future__ import annotations
 import asyncio
 import logging
 import random
-import time
 from collections import OrderedDict, deque
 from collections.abc import Iterable, Sequence
 from contextlib import suppress
@@ -45,8 +44,8 @@ READ_AT_ONCE = 200
 READ_AHEAD = 1000
 """So many messages wait here at most."""
 KNOWN = 4 * READ_AHEAD
-"""So many messages are known again when they come again: those that wait, that are under way and were
-done last."""
+"""So many messages at least are known again when they come again: all that wait or are under way, and
+those that were done last."""
 FAILED = 128
 """Reasons from here on are failures."""
 UNSUPPORTED_PROTOCOL = 132
@@ -77,12 +76,11 @@ class HeldClient(paho.Client):
 
 @dataclass(eq=False, slots=True)
 class Message:
-    """A message of the broker. `came` is when, in nanoseconds since 1970."""
+    """A message of the broker."""
 
     topic: str
     payload: bytes
     retained: bool
-    came: int
     mid: int | None = None
     connection: int = 0
     done: bool = False
@@ -173,18 +171,25 @@ class Subscriber:
             if known.done:
                 self._acknowledge(found.mid)
             return
-        self._wait(Message(topic, payload, bool(found.retain), time.time_ns(), mid, self._connection))
+        self._wait(Message(topic, payload, bool(found.retain), mid, self._connection))
 
     def _wait(self, message: Message) -> None:
         if message.mid is not None:
             self._open.pop(message.mid, None)
             self._open[message.mid] = message
-            while len(self._open) > KNOWN:
-                self._open.popitem(last=False)
+            if len(self._open) > KNOWN:
+                self._forget_done()
         self._waiting.append(message)
         self._arrived.set()
         if len(self._waiting) >= READ_AHEAD:
             self._pause()
+
+    def _forget_done(self) -> None:
+        """Forgets two old messages that are done. Others stay known until they are."""
+        for _ in range(2):
+            mid, oldest = self._open.popitem(last=False)
+            if not oldest.done:
+                self._open[mid] = oldest
 
     # ---- the connection -----------------------------------------------------------------
 

@@ -50,6 +50,7 @@ def operation(told: str, words: Sequence[Json] = (), answer: Json | None = None,
 
 
 STREAM = word("stream", TEXT, True, "the name of a stream")
+NAME: Json = {**STREAM, "name": "name", "in": "path"}
 ONE = word("stream", TEXT, False, "the name of a stream")
 SEVERAL = word("streams", TEXT, False, "a pattern of names with `*` and `?`: the answer is over all of them")
 WITHOUT = word("without", {"type": "array", "items": TEXT}, False, "patterns of names that are left out")
@@ -71,6 +72,13 @@ def _paths() -> Json:
             "The streams, with their newest value",
             (word("match", TEXT, False, "a pattern with `*` and `?`"),),
             {"type": "object", "properties": {"streams": {"type": "array", "items": reference("Stream")}}})},
+        "/api/streams/{name}": {
+            "delete": operation("Removes a stream with all that it holds", (NAME,), {"type": "object"}, None,
+                                Access.ADMIN),
+            "patch": operation(
+                "Renames a stream, or has another take the readings of one that lies ahead of the clock",
+                (NAME,), {"type": "object"},
+                _in_json({"oneOf": [_object({"rename": TEXT}), _object({"restart": TEXT})]}), Access.ADMIN)},
         "/api/query": {"get": operation(
             "One answer about a range of times, both ends included. Over several streams it has `matched`, "
             "and of a mean its parts.",

@@ -40,6 +40,11 @@ class Outcome:
         return self.result not in (Result.NOT_STORED, Result.UNKNOWN)
 
     @property
+    def waits(self) -> bool:
+        """Whether its time is the service's, and it waits for one that is free."""
+        return self is TOO_FAR or self is AGAIN
+
+    @property
     def good(self) -> bool:
         """Whether the reading is on the disk."""
         return self.result in (Result.STORED, Result.THERE)
@@ -48,6 +53,11 @@ class Outcome:
 STORED = Outcome(Result.STORED)
 IGNORED = Outcome(Result.IGNORED, "ignored", "its mapping says that it isn't kept")
 THERE = Outcome(Result.THERE, "there", "this value stands at this time already")
+TOO_FAR = Outcome(Result.NOT_STORED, "ahead",
+                  "the next free time of the stream lies too far ahead of the clock")
+TOO_MANY = Outcome(Result.REFUSED, "too_many", "too many readings without a time of their own wait for free "
+                   "times of the stream: it needs a finer `time`")
+AGAIN = Outcome(Result.NOT_STORED, "again", "its time was taken meanwhile: it gets the next one")
 
 CODES: Sequence[tuple[type[Exception], str]] = (
     (errors.LateError, "late"), (errors.NotANumberError, "not_a_number"), (errors.ScaleError, "scale"),

@@ -24,3 +24,7 @@ class Recent:
     def value(self, stream: str, count: int) -> object | None:
         """The value of one that was stored, as it came. None where it isn't known any more."""
         return self._values.get((stream, count))
+
+    def forget(self, stream: str) -> None:
+        """The stream was dropped, or has another name."""
+        self._values = {key: value for key, value in self._values.items() if key[0] != stream}

@@ -26,6 +26,7 @@ class Mapping:
     the name that came, with its tags behind it. `words` are numbers for words such as ON. `json` is
     where the value stands in a message that is JSON, as `sensors.0.temperature`, and `json_time` where
     its time stands, if it has one. With `ignore` what is its own isn't kept, and that is no refusal.
+    A reading waits `lateness` nanoseconds for earlier ones. `time_told`: the file says how fine times are.
     """
 
     match: Glob
@@ -39,6 +40,8 @@ class Mapping:
     json: str | None = None
     json_time: str | None = None
     ignore: bool = False
+    lateness: int = 0
+    time_told: bool = True
 
 
 def described(scale: object | None, time: str | None, since: object | None, unit: str | None,

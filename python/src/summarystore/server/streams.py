@@ -16,6 +16,8 @@ from .meaning import Meaning
 from .settings import Mapping
 
 log = logging.getLogger("summarystored")
+RESTARTS = "restarts"
+"""The label of a stream that takes the readings of another, whose name it says."""
 AGAIN = 60.0
 """After so many seconds a stream that couldn't be made is tried again."""
 
@@ -28,6 +30,7 @@ class Streams:
         self._standing: set[str] = set()
         self._failed: dict[str, tuple[float, SummaryStoreError]] = {}
         self._newest: dict[str, int] = {}
+        self._restarts: dict[str, str] | None = None
         self._locks: WeakValueDictionary[str, asyncio.Lock] = WeakValueDictionary()
 
     def alone(self, name: str) -> asyncio.Lock:
@@ -60,6 +63,28 @@ class Streams:
         self._failed.clear()
         self._newest.clear()
         self._standing = {stream.name for stream in streams}
+        self._restarts = None
+
+    def came(self, name: str) -> None:
+        """A stream was made, or has this name now."""
+        self._standing.add(name)
+        self._restarts = None
+
+    def current(self, store: aio.Store, name: str) -> str:
+        """The stream that takes the readings of one: the one that was made in its place, or itself."""
+        if self._restarts is None:
+            self._restarts = self._find_restarts(store)
+        for _ in self._restarts:
+            name = self._restarts.get(name, name)
+        return name
+
+    def _find_restarts(self, store: aio.Store) -> dict[str, str]:
+        found = {}
+        for name in self._standing:
+            description = store.description(name)
+            if description is not None and description.labels.get(RESTARTS, name) != name:
+                found[description.labels[RESTARTS]] = name
+        return found
 
     def stands(self, name: str) -> bool:
         """Whether a stream of that name stands, as far as is known."""
@@ -74,6 +99,7 @@ class Streams:
         self._meanings.pop(name, None)
         self._newest.pop(name, None)
         self._standing.discard(name)
+        self._restarts = None
 
     def meaning(self, store: aio.Store, name: str) -> Meaning:
         """What the numbers of a stream mean. Raises UnknownStreamError where none stands."""
@@ -118,8 +144,12 @@ class Streams:
         known, told = store.description(name), mapping.description
         if known is None:
             return
-        if known[:3] != told[:3]:
+        is_same = known[:3] == (told.scale, told.time if mapping.time_told else known.time, told.since)
+        if not is_same:
             log.warning("stream stands with another scale or time than its mapping has: stream=%r "
                         "scale=%s time=%s", name, known.scale, known.time)
-        if (told.unit, dict(told.labels), told.rounding) != (known.unit, dict(known.labels), known.rounding):
-            store.describe(name, unit=told.unit, labels=told.labels or None, rounding=told.rounding)
+        labels = dict(told.labels)
+        if RESTARTS in known.labels:
+            labels[RESTARTS] = known.labels[RESTARTS]
+        if (told.unit, labels, told.rounding) != (known.unit, dict(known.labels), known.rounding):
+            store.describe(name, unit=told.unit, labels=labels or None, rounding=told.rounding)

@@ -7,6 +7,8 @@ import re
 from collections.abc import Mapping, Sequence
 from decimal import Decimal
 
+from ..clock import span_of
+from ..errors import TimeError
 from .errors import ConfigurationError
 
 ADDRESS = re.compile(r"(?:\[([0-9a-fA-F:.]+)\]|([^\s:/\[\]]+)):([0-9]{1,5})")
@@ -84,6 +86,18 @@ class Table:
         if not isinstance(found, (int, Decimal)) or isinstance(found, bool) or not least <= found <= most:
             raise self.wrong(key, f"{least} to {most} seconds are to stand here, and not {shown(found)}")
         return float(found)
+
+    def span(self, key: str, otherwise: int) -> int:
+        """A span of time such as `10s`, in nanoseconds."""
+        found = self.text(key)
+        try:
+            return otherwise if found is None else span_of(found)
+        except TimeError:
+            raise self.wrong(key, f"a span of time such as \"10s\" is to stand here, and not {shown(found)}"
+                             ) from None
+
+    def __contains__(self, key: str) -> bool:
+        return key in self._given
 
     def decimal(self, key: str) -> str | None:
         """A decimal, as a number or as a text."""

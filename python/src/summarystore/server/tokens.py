@@ -1,7 +1,8 @@
-"""Who may read and who may write: tokens out of a file, compared in constant time.
+"""Who may read, write, and drop streams: tokens out of a file, compared in constant time.
 
-Each line of the file is `read TOKEN` or `write TOKEN`, where TOKEN has 16 characters at least. What
-begins with `#` is a comment. Who may write may read, too. A file that others can read is refused.
+Each line of the file is `read TOKEN`, `write TOKEN` or `admin TOKEN`, where TOKEN has 16 characters at
+least. What begins with `#` is a comment. Who may write may read, too, and `admin` may do all. A file
+that others can read is refused.
 """
 
 from __future__ import annotations
@@ -21,16 +22,20 @@ LONGEST = 1024
 
 
 class Tokens:
-    """The tokens of a file. Without a file everybody may do all."""
+    """The tokens of a file. Without a file everybody may do all; but where the service is open to
+    `anyone` beyond its machine nobody may drop streams."""
 
-    def __init__(self, tokens: Sequence[tuple[Access, str]] | None) -> None:
+    def __init__(self, tokens: Sequence[tuple[Access, str]] | None, anyone: bool = False) -> None:
         self.needed = tokens is not None
+        self._anyone = anyone
         self._hashes = [(access, _hash(token)) for access, token in tokens or ()]
 
     def allow(self, access: Access, headers: Mapping[str, str], words: Mapping[str, str]) -> bool:
         """Whether a request that says this may have this access."""
-        if access is Access.OPEN or not self.needed:
+        if access is Access.OPEN:
             return True
+        if not self.needed:
+            return not (self._anyone and access is Access.ADMIN)
         allowed = False
         for given in given_tokens(headers, words):
             allowed |= self._knows(access, _hash(given))
@@ -41,7 +46,7 @@ class Tokens:
         known = False
         for may, token in self._hashes:
             same = hmac.compare_digest(token, given)
-            known |= same and (may is Access.WRITE or access is Access.READ)
+            known |= same and may.allows(access)
         return known
 
 
@@ -71,17 +76,18 @@ def _of_basic(text: str) -> Iterator[str]:
     yield said.partition(":")[2]
 
 
-def read_tokens(file: str | None) -> Tokens:
+def read_tokens(file: str | None, anyone: bool = False) -> Tokens:
     """The tokens of a file. Raises ConfigurationError where it can't be used."""
     if file is None:
-        return Tokens(None)
+        return Tokens(None, anyone)
     return Tokens([_token(file, number, line) for number, line in private_lines(file, "token")])
 
 
 def _token(file: str, number: int, line: str) -> tuple[Access, str]:
     words = line.split()
-    if len(words) != 2 or words[0] not in ("read", "write"):
-        raise ConfigurationError(file, f"line {number}", "`read TOKEN` or `write TOKEN` is to stand here")
+    if len(words) != 2 or words[0] not in ("read", "write", "admin"):
+        raise ConfigurationError(file, f"line {number}",
+                                 "`read TOKEN`, `write TOKEN` or `admin TOKEN` is to stand here")
     if not SHORTEST <= len(words[1]) <= LONGEST:
         raise ConfigurationError(file, f"line {number}", f"a token has {SHORTEST} to {LONGEST} characters")
     return Access(words[0]), words[1]
