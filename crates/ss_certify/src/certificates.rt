@@ -5,7 +5,7 @@ ghost use Rattle.ss_catalog.specs.Queries.{adds_up};
 ghost use Rattle.ss_catalog.specs.declared.refusal.Refusal.{Refusal};
 ghost use Rattle.ss_outside.specs.Step.{Step};
 ghost use Rattle.ss_outside.specs.Verdict.{IfChanged, IfUndone};
-ghost use Rattle.ss_query.specs.Answered.{window_slots_of};
+ghost use Rattle.ss_parts.specs.Held.{window_slots_of};
 ghost use Rattle.ss_store.specs.Applied.{Looks, StandsOn};
 ghost use Rattle.ss_store.specs.Asked.{refuses_query_held};
 ghost use Rattle.ss_store.specs.Errors.{verdict_of_ask};

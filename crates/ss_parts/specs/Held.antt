@@ -183,3 +183,7 @@ pub record AreWholeBeside (doomed : List ℕ) (parts : List StreamParts) (live :
 -- the same, and no stream was dropped
 abbrev pub AreWhole : List StreamParts → List Bool → Type 0
 AreWhole = AreWholeBeside []
+
+-- the slots of a stream's windows, oldest first
+abbrev pub window_slots_of : StreamParts → List ℕ
+window_slots_of part = map (λ (e : Entry). e.slot) (entries_of part)

@@ -1,1 +1,4 @@
 pub mod Held
+pub mod Slots
+pub mod Reading
+pub mod Places

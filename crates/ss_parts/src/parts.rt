@@ -1,4 +1,6 @@
 // A stream as it is held in memory.
+ghost use Rattle.std.specs.Prelude.{◌≡◌};
+
 use ss_catalog::{Name, StreamId};
 use ss_landmarks::Landmarks;
 use ss_line::Line;
@@ -15,4 +17,11 @@ pub struct StreamParts {
     pub last_time: Option<u64>,
     pub line: Line,
     pub landmarks: Landmarks,
+}
+
+/// The number of a stream.
+pub fn number_of(stream: &StreamParts) -> u32
+    ensures { result ≡ stream.now.id.0 }
+{
+    stream.id.0
 }

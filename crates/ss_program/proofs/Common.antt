@@ -168,17 +168,18 @@ pub use Rattle.ss_store.proofs.KeptStates.{AllAgree-recovered, Recovers-StoreIsI
 pub use Rattle.ss_store.proofs.ReadRefusals.{refuses_reading_held-is, refuses_values_held-is}
 pub use Rattle.ss_store.proofs.Unformed.{Stands-unformed}
 pub use Rattle.ss_store.proofs.Uses.{IsShort-more, both}
-pub use Rattle.ss_store.proofs.Within.{UsesAtMost-more}
 pub use Rattle.ss_store.specs.Asked.{refuses_query_held}
-pub use Rattle.ss_store.specs.Calls.{KeepsWithin, StandsForEither, Turns, TurnsHistory, SealsHistory}
+pub use Rattle.ss_store.specs.Calls.{StandsForEither, TurnsHistory, SealsHistory}
 pub use Rattle.ss_store.specs.Causes.{OpensAs}
 pub use Rattle.ss_store.specs.Kept.{StoreState, StoreIsKept, StoreIsIn, part_named, refuses_held, SomeAgree, part_numbered}
 pub use Rattle.ss_store.specs.Newest.{refuses_reading_held, refuses_values_held}
 pub use Rattle.ss_store.specs.Recover.{Recovers, Stands, recovers, Recovered, damaged_entry, damaged_slot, damaged_stream, no_store, recover}
 pub use Rattle.ss_store.specs.Surveyed.{SurveysAs, survey_of}
-pub use Rattle.ss_store.specs.Uses.{StandsShort, UsesAtMost, most_needed, IsShort}
+pub use Rattle.ss_store.specs.Uses.{StandsShort, most_needed, IsShort}
 pub use Rattle.ss_store.specs.declared.error.ApplyError.{ApplyError}
 pub use Rattle.ss_store.specs.declared.error.OpenError.{OpenError}
 pub use Rattle.ss_store.specs.declared.surveying.Survey.{Survey}
 pub use Rattle.ss_summary.specs.Points.{Origin, New, Point, Old}
 pub use Rattle.ss_targets.specs.Windowing.{window_index}
+pub use Rattle.ss_stream.proofs.Within.{UsesAtMost-more}
+pub use Rattle.ss_stream.specs.Calls.{KeepsWithin, Turns, UsesAtMost}

@@ -8,7 +8,7 @@ use Rattle.ss_program.proofs.Common.{unless_refused, value_rows, values_shown, a
 use Rattle.ss_report.specs.declared.reply.Reply.TheVariants.{Value as ValueRow}
 use Rattle.ss_store.specs.Values.{AreValuesIn}
 use Rattle.ss_store.specs.declared.store.values.ValueRange.{ValueRange}
-use Rattle.ss_store.proofs.HeldCounts.{SomeAgree-named}
+use Rattle.ss_store.proofs.Named.{SomeAgree-named}
 use Rattle.ss_program.proofs.RowLemmas.{AppendsLess-head, Sends-head, Sends-one, rows-all, rows-less, rows-more}
 
 -- a command that is refused brings its refusal

@@ -3,8 +3,9 @@ ghost use Rattle.std.specs.Prelude.{◌≡◌, ◌+◌, ◌*◌, ◌<◌, ◌≤
 ghost use Rattle.ss_journal.specs.Format.{is_unborn};
 ghost use Rattle.ss_journal.specs.declared.format.TheConstants.{FIRST_SLOT, MOST_SLOTS};
 ghost use Rattle.ss_base.specs.declared.limits.TheConstants.{SLOT_SIZE};
+ghost use Rattle.ss_stream.specs.Calls.{UsesAtMost};
 ghost use Rattle.ss_store.specs.Recover.{Stands};
-ghost use Rattle.ss_store.specs.Uses.{UsesAtMost, most_needed};
+ghost use Rattle.ss_store.specs.Uses.{most_needed};
 ghost use Rattle.ss_promises.specs.Chained.{AreLinked, ExtendsAll, Link, acked_in, offered_in};
 ghost use Rattle.ss_program.specs.Line.{History};
 

@@ -23,17 +23,17 @@ use Rattle.ss_parts.specs.Held.{entries_of, span_held, span_of, window_record}
 use Rattle.ss_parts.specs.declared.parts.StreamParts.{StreamParts}
 use Rattle.ss_journal.specs.Kept.{JournalState, shown}
 use Rattle.ss_records.specs.Kept.{AreKept, RecordsState, shown_by}
-use Rattle.ss_query.specs.Answered.{BeginsAt, IsSeenAs, SeesEntry, SeesStream}
+use Rattle.ss_query.specs.Answered.{IsSeenAs, SeesEntry, SeesStream}
 use Rattle.ss_query.specs.Asked.{HasCuts, HasRoom, marks_seen, seen_after, seen_of}
-use Rattle.ss_query.specs.Held.{IsHeldIn}
-use Rattle.ss_query.specs.Reading.{KeepsRecords, verdict_of_read}
-use Rattle.ss_query.specs.Slots.{HasRecords}
 use Rattle.ss_query.specs.declared.asking.Seen.{Seen}
-use Rattle.ss_query.specs.declared.read_error.ReadError.{ReadError}
-use Rattle.ss_query.specs.declared.read_error.ReadError.TheVariants as error
+use Rattle.ss_parts.specs.declared.read_error.ReadError.TheVariants as error
+use Rattle.ss_parts.specs.Places.{BeginsAt}
+use Rattle.ss_parts.specs.Slots.{IsHeldIn, HasRecords}
+use Rattle.ss_parts.specs.Reading.{KeepsRecords, verdict_of_read}
+use Rattle.ss_parts.specs.declared.read_error.ReadError.{ReadError}
+use Rattle.ss_parts.proofs.Places.{entries_in}
 use Rattle.ss_query.proofs.NextWindow.{AreLeft, AreLeft-early, AreLeft-more, Follows-next, IsBeside-here, IsNext, IsNext-here, IsWalkedTo}
 use Rattle.ss_query.proofs.NextWindow.{IsWalkedTo-more, after, late-next, seen_by}
-use Rattle.ss_query.proofs.Places.{entries_in}
 use Rattle.ss_query.proofs.Rooms.{HasRoom-none}
 
 -- Entries are looked at in a row, by records that are others then, of what they show, up to a place of a line. What they show

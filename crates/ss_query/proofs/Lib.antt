@@ -1,5 +1,3 @@
-pub mod Places
-pub mod Records
 pub mod NearSums
 pub mod MarkedTallies
 pub mod Rooms

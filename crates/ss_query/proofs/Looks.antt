@@ -12,10 +12,11 @@ use Rattle.ss_line.specs.declared.entry.At.{At}
 use Rattle.ss_line.specs.declared.entry.Entry.{Entry}
 use Rattle.ss_line.proofs.Places.{none-first, place_at-seam}
 use Rattle.ss_parts.specs.declared.parts.StreamParts.{StreamParts}
-use Rattle.ss_query.specs.Answered.{BeginsNear, begun_in}
+use Rattle.ss_parts.specs.Places.{BeginsNear}
+use Rattle.ss_parts.proofs.Places.{index_of-next}
+use Rattle.ss_query.specs.Answered.{begun_in}
 use Rattle.ss_query.specs.declared.asking.Seen.{Seen}
 use Rattle.ss_query.proofs.NextWindow.{IsWalkedTo, after, moved-here, next-here, rest-here}
-use Rattle.ss_query.proofs.Places.{index_of-next}
 
 -- the entries from a place on
 abbrev pub entries_from : List (At × Entry) → Option At → List (At × Entry)

@@ -26,16 +26,14 @@ use Rattle.ss_model.specs.State.{Stream}
 use Rattle.ss_model.specs.declared.types.Window.{Window}
 use Rattle.ss_model.specs.Interval.{is_apart}
 use Rattle.ss_model.specs.Marks.{lies_free}
-use Rattle.ss_parts.specs.Held.{entries_of, marks_held, records_held, span_held, span_of, stream_record, times_held, times_of, window_record}
+use Rattle.ss_parts.specs.Held.{entries_of, marks_held, records_held, span_held, span_of, stream_record, times_held, times_of, window_record, window_slots_of}
 use Rattle.ss_parts.specs.declared.parts.StreamParts.{StreamParts}
 use Rattle.ss_base.specs.declared.limits.TheConstants.{MOST_VALUES}
-use Rattle.ss_query.specs.Answered.{window_slots_of}
+use Rattle.ss_parts.specs.Slots.{IsHeldIn, HasRecords}
+use Rattle.ss_parts.proofs.Places.{IsAt-first, entries_in, index_of-next, read-once, slice_get-entry}
+use Rattle.ss_parts.proofs.Records.{HasRecords-permutation, zip-held}
 use Rattle.ss_query.specs.Asked.{Follows, HasCuts, HasRoom, marks_seen, seen_after, seen_with}
-use Rattle.ss_query.specs.Held.{IsHeldIn}
-use Rattle.ss_query.specs.Slots.{HasRecords}
 use Rattle.ss_query.specs.declared.asking.Seen.{Seen}
-use Rattle.ss_query.proofs.Places.{IsAt-first, entries_in, index_of-next, read-once, slice_get-entry}
-use Rattle.ss_query.proofs.Records.{HasRecords-permutation, zip-held}
 use Rattle.ss_query.proofs.Seeing.{apart-early, apart-late, fold-late}
 
 -- what each of some passes, one among them passes

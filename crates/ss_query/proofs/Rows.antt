@@ -20,16 +20,17 @@ use Rattle.ss_model.specs.declared.outcome.Outcome.TheVariants.{Count, Has, Sum}
 use Rattle.ss_model.specs.declared.outcome.Presence.TheVariants.{Absent, Maybe, Present}
 use Rattle.ss_model.specs.declared.types.Window.{Window}
 use Rattle.ss_records.specs.Kept.{AreKept, RecordsState}
-use Rattle.ss_parts.specs.Held.{entries_of}
+use Rattle.ss_parts.specs.Held.{entries_of, window_slots_of}
 use Rattle.ss_parts.specs.declared.parts.StreamParts.{StreamParts}
 use Rattle.ss_summary.specs.Figures.{Figures}
 use Rattle.ss_summary.specs.Filters.{bit_of, filter_of, has, union}
-use Rattle.ss_query.specs.Answered.{BeginsAt, BeginsNear, IsSeenAs, SeesStream, begun_in, window_slots_of}
+use Rattle.ss_query.specs.Answered.{IsSeenAs, SeesStream, begun_in}
 use Rattle.ss_query.specs.Asked.{Follows, HasCuts, HasRoom, IsCut, IsFewMarked, cut_of, marks_seen, outcome_seen, seen_after, seen_of, seen_with}
-use Rattle.ss_query.specs.Reading.{IsRead, IsWindowOf, KeepsRecords, ReadsWindow, verdict_of_read}
 use Rattle.ss_query.specs.declared.asking.Seen.{Seen}
 use Rattle.ss_query.specs.declared.cut.Cut.{Cut}
-use Rattle.ss_query.specs.declared.read_error.ReadError.TheVariants as error
+use Rattle.ss_parts.specs.declared.read_error.ReadError.TheVariants as error
+use Rattle.ss_parts.specs.Places.{BeginsAt, BeginsNear}
+use Rattle.ss_parts.specs.Reading.{IsRead, IsWindowOf, KeepsRecords, ReadsWindow, verdict_of_read}
 
 -- each error has its verdict
 verdicts-read : map (λ e. verdict_of_read {T = Unit {0}} (Err e)) (error.Disk ∷ error.Changed 7 ∷ []) ≡ failed ∷ changed 7 ∷ []

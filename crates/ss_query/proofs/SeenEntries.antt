@@ -17,10 +17,10 @@ use Rattle.ss_parts.specs.declared.parts.StreamParts.{StreamParts}
 use Rattle.ss_summary.specs.Figures.{Figures}
 use Rattle.ss_query.specs.Answered.{IsSeenAs, SeesEntry}
 use Rattle.ss_query.specs.Asked.{Follows, seen_after, seen_with}
-use Rattle.ss_query.specs.Reading.{IsRead, ReadsWindow, verdict_of_read}
 use Rattle.ss_query.specs.declared.asking.Seen.{Seen}
-use Rattle.ss_query.specs.declared.read_error.ReadError.{ReadError}
-use Rattle.ss_query.specs.declared.read_error.ReadError.TheVariants as error
+use Rattle.ss_parts.specs.declared.read_error.ReadError.TheVariants as error
+use Rattle.ss_parts.specs.Reading.{IsRead, ReadsWindow, verdict_of_read}
+use Rattle.ss_parts.specs.declared.read_error.ReadError.{ReadError}
 
 same-verdict : (why : ReadError) → verdict_of_read {T = Figures} (Err why) ≡ verdict_of_read {T = Seen} (Err why)
 same-verdict error.Disk = refl

@@ -1,46 +1,24 @@
 -- What a look at a stream tells of a query.
-use Rattle.std.specs.Prelude.{◌≡◌, ℕ, ◌<◌, ◌&&◌, nat_le, nat_lt, List, ◌∷◌, ◌++◌, drop, map, All, count_by, IsTrue, Option, Some, Result, Ok, Err, ⊤}
+use Rattle.std.specs.Prelude.{◌≡◌, ℕ, ◌&&◌, nat_le, nat_lt, List, ◌∷◌, count_by, IsTrue, Option, Some, Result, Ok, Err, ⊤}
 use Rattle.ss_outside.specs.Crash.{OnlyReads}
 use Rattle.ss_outside.specs.Disk.{Told}
 use Rattle.ss_outside.specs.Verdict.{UnlessFailed}
 use Rattle.ss_records.specs.Kept.{AreKept, RecordsState, shown_by}
 use Rattle.ss_catalog.specs.declared.query.Query.{Query}
 use Rattle.ss_codec.specs.declared.record.Record.{Record}
-use Rattle.ss_line.specs.Line.{place_at}
 use Rattle.ss_line.specs.declared.entry.At.{At}
 use Rattle.ss_line.specs.declared.entry.Entry.{Entry}
 use Rattle.ss_model.specs.Marks.{lies_free}
 use Rattle.ss_model.specs.State.{Stream}
 use Rattle.ss_model.specs.declared.types.Window.{Window}
-use Rattle.ss_parts.specs.Held.{entries_of, span_held, span_of, times_held, times_of, window_record}
+use Rattle.ss_parts.specs.Held.{span_held, span_of, times_held, times_of, window_record}
 use Rattle.ss_parts.specs.declared.parts.StreamParts.{StreamParts}
+use Rattle.ss_parts.specs.Slots.{IsHeldIn, HasRecords}
+use Rattle.ss_parts.specs.Reading.{verdict_of_read}
+use Rattle.ss_parts.specs.declared.read_error.ReadError.{ReadError}
+use Rattle.ss_parts.specs.declared.read_error.ReadError.TheVariants.{Disk, Changed}
 use Rattle.ss_query.specs.Asked.{Follows, seen_after, seen_of}
-use Rattle.ss_query.specs.Held.{IsHeldIn}
-use Rattle.ss_query.specs.Slots.{HasRecords}
 use Rattle.ss_query.specs.declared.asking.Seen.{Seen}
-use Rattle.ss_query.specs.Reading.{verdict_of_read}
-use Rattle.ss_query.specs.declared.read_error.ReadError.{ReadError}
-use Rattle.ss_query.specs.declared.read_error.ReadError.TheVariants.{Disk, Changed}
-
--- the slots of a stream's windows, oldest first
-abbrev pub window_slots_of : StreamParts → List ℕ
-window_slots_of part = map (λ (e : Entry). e.slot) (entries_of part)
-
--- A walk over entries may begin at a place: each entry before it ends before a time.
-pub record BeginsAt (entries : List (At × Entry)) (from : ℕ) (start : Option At) : Type 0 where
-  pub before : List (At × Entry)
-  pub rest : List (At × Entry)
-  pub is : entries ≡ before ++ rest
-  pub early : All (λ (e : At × Entry). e.1.t_last < from) before
-  pub place : start ≡ place_at rest 0
-
--- Such a place is near the time: of the windows from there on, only the first one may begin by it.
-pub record BeginsNear (entries : List (At × Entry)) (from : ℕ) (start : Option At) : Type 0 where
-  pub before : List (At × Entry)
-  pub rest : List (At × Entry)
-  pub is : entries ≡ before ++ rest
-  pub place : start ≡ place_at rest 0
-  pub behind : All (λ (e : At × Entry). from < e.1.t_first) (drop 1 rest)
 
 -- how many windows begin after a time and not after another
 abbrev pub begun_in : ℕ → ℕ → List (At × Entry) → ℕ

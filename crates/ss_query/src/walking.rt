@@ -7,18 +7,20 @@ ghost use Rattle.ss_outside.specs.Verdict.{IfChanged};
 ghost use Rattle.ss_journal.specs.Kept.{IsRunning};
 ghost use Rattle.ss_journal.specs.declared.format.TheConstants.{MOST_SLOTS};
 ghost use Rattle.ss_records.specs.Kept.{AreKept};
-ghost use Rattle.ss_query.specs.Answered.{BeginsAt, BeginsNear, SeesEntry, SeesStream, begun_in, window_slots_of};
+ghost use Rattle.ss_parts.specs.Places.{BeginsAt, BeginsNear};
+ghost use Rattle.ss_parts.specs.Held.{window_slots_of};
+ghost use Rattle.ss_parts.specs.Reading.{KeepsRecords, verdict_of_read};
+ghost use Rattle.ss_query.specs.Answered.{SeesEntry, SeesStream, begun_in};
 ghost use Rattle.ss_query.specs.Asked.{HasCuts, HasRoom, IsFewMarked};
-ghost use Rattle.ss_query.specs.Reading.{KeepsRecords, verdict_of_read};
 
+use crate::Seen;
 use crate::asking::{follows, nothing_seen, with_window};
-use crate::{ReadError, Seen, read_window};
 use ss_base::Steps;
 use ss_catalog::Query;
 use ss_line::{At, Entry};
 use ss_model::Window;
 use ss_outside::Disk;
-use ss_parts::StreamParts;
+use ss_parts::{ReadError, StreamParts, read_window};
 use ss_records::Records;
 use std::sync::ledger::Ledger;
 

@@ -79,7 +79,7 @@ pub use Rattle.ss_base.specs.declared.limits.TheConstants.{MOST_VALUES}
 pub use Rattle.std.proofs.Common.{[], ◌%◌, ◌&&◌, ◌*◌, ◌++◌, ◌+◌, ◌-◌, ◌/◌, ◌<◌, ◌^◌, ◌||◌, ◌∙◌, ◌∷◌, ◌≡◌, ◌≤◌, ◌⊎◌, add-one, All, ap, append-nil, append_assoc}
 pub use Rattle.std.proofs.Common.{ap₂, arith, Bool, cond, drop, eqb, Err, false, filter, flat_map, fold, get_or, IfErr, IfOk, IfSome, inl, inr, is_none}
 pub use Rattle.std.proofs.Common.{IsPermutation, IsTrue, leb, leb-true, length, length-append, List, ltb, map, MatchOption, max, min, nat_eq, None, not}
-pub use Rattle.std.proofs.Common.{Ok, Option, pos, refl, replicate, Result, rules, set, Some, subst, suc, swap, sym, take, true, zero, ℕ, ℤ}
+pub use Rattle.std.proofs.Common.{Ok, Option, pos, refl, replicate, Result, rules, set, Some, subst, suc, sym, take, true, zero, ℕ, ℤ}
 pub use Rattle.std.proofs.Math.Bool.{and-false, and-true, and_assoc, or-false}
 pub use Rattle.std.proofs.Math.Seq.{drop-cons}
 pub use Rattle.std.proofs.lemmas.Bool.{and_cases, and_from, and_left, and_parts, and_right, cases_Bool, cases_eq, cases_lt, cases_order, cond-false, cond-true}
@@ -95,14 +95,14 @@ pub use Rattle.std.proofs.lemmas.List.Folds.{list_all-append, list_any-append}
 pub use Rattle.std.proofs.lemmas.List.FromFn.{get_or-map-range_with_len, length-map-range_with_len, length-range_with_len}
 pub use Rattle.std.proofs.lemmas.List.Sorted.{All-permutation, answers_always, IsNonDecreasingBy-from_sort}
 pub use Rattle.std.proofs.lemmas.List.Sorted.{IsPermutation-append_comm, IsPermutation-append_left, IsPermutation-append_right, IsPermutation-cons}
-pub use Rattle.std.proofs.lemmas.List.Sorted.{IsPermutation-keeps, IsPermutation-map, IsPermutation-middle, IsPermutation-refl, IsPermutation-sym}
+pub use Rattle.std.proofs.lemmas.List.Sorted.{IsPermutation-map, IsPermutation-refl, IsPermutation-sym}
 pub use Rattle.std.proofs.lemmas.List.Sorted.{IsPermutation-trans, length_permutation, list_any-IsPermutation, sum_by-IsPermutation}
 pub use Rattle.std.proofs.lemmas.List.Sums.{count_by-le-length, fold-append, length-filter, position_or_len_is, sum_by-append, sum_by-cons}
 pub use Rattle.std.proofs.lemmas.Map.Keys.{IsDistinct-cons, IsDistinct-from_apart, IsDistinct-head, IsDistinct-tail}
 pub use Rattle.std.proofs.lemmas.Result.{err_from_is_err_and, on_ok_weaker}
 pub use Rattle.std.proofs.lemmas.Slice.Zip.{firsts-zip, seconds-zip}
 pub use Rattle.std.specs.Int.{w64}
-pub use Rattle.std.specs.List.{AllByRecursion, AllPairs, cons_option, filter_map, IsDistinct, list_all, list_any, position, position_or_len, range_with_len}
+pub use Rattle.std.specs.List.{AllByRecursion, AllPairs, cons_option, filter_map, IsDistinct, list_all, list_any, position_or_len, range_with_len}
 pub use Rattle.std.specs.List.Sorted.{IsNonDecreasingBy, IsSortedByKey, IsStableByKey, IsStrictlyIncreasing, ties}
 pub use Rattle.std.specs.Option.{option_map_or}
 pub use Rattle.std.specs.Prelude.{⊤, ◌==◌, ◌≢◌, count_by, FitsSigned, if◌then◌else◌, is_some, nat_le, nat_lt, negsuc, OnOk, option_and_then, option_to_list}

@@ -10,11 +10,11 @@ use Rattle.ss_recover.proofs.Common.{subst, suc, sym, true, true≢false, with_s
 use Rattle.ss_recover.proofs.RunStanding.{doomed-same}
 use Rattle.ss_recover.specs.Conditions.{is_sound}
 use Rattle.ss_recover.proofs.HeldRecords.{all_walked, walked}
-use Rattle.ss_recover.proofs.Lists.{all-each, all-from_map, all-kept, all-passing, all_both, all_weaker, filter-same, map-all}
-use Rattle.ss_recover.proofs.Permutations.{IsPermutation-filter}
 use Rattle.ss_recover.proofs.SoundNumbers.{each-false, is_numbered, numbered-cons, one-dropped, one-sound, stands_at}
 use Rattle.ss_codec.specs.declared.record.Record.TheVariants as records
 use Rattle.ss_codec.specs.Decoded.{decoded}
+use Rattle.ss_parts.proofs.Lists.{all-each, all-from_map, all-kept, all-passing, all_both, all_weaker, filter-same, map-all}
+use Rattle.ss_parts.proofs.Permutations.{IsPermutation-filter}
 use Rattle.ss_recover.proofs.InOrder.{increasing-Rise, Rise, Rise-filter, Rise-increasing, Rises-IsPermutation}
 use Rattle.ss_recover.proofs.SoundStreams.{digit}
 

@@ -11,12 +11,12 @@ use Rattle.ss_recover.specs.Carried.{spelled}
 use Rattle.ss_recover.specs.Parts.{carried}
 use Rattle.ss_recover.proofs.DroppedRecords.{CarryThem, may-goes, may_go-same, is-dropped}
 use Rattle.ss_recover.proofs.WholeSlots.{any-filled, zeros_are_free, ZerosAreFree, spells-same}
-use Rattle.ss_recover.proofs.Lists.{all_weaker, range-above, range-below}
-use Rattle.ss_recover.proofs.PutLemmas.{back, front, IsAmong, IsAmong-filled, range-at, extent-stays}
 use Rattle.ss_parts.proofs.WholeMaps.{filled}
-use Rattle.ss_recover.proofs.Permutations.{IsPermutation-filter_map}
 use Rattle.ss_recover.proofs.SoundNumbers.{AreSound, AreSound-none_bad, carries-judged}
 use Rattle.ss_codec.specs.declared.record.Record.TheVariants as records
+use Rattle.ss_parts.proofs.Lists.{all_weaker, range-above, range-below}
+use Rattle.ss_parts.proofs.PutLemmas.{back, front, IsAmong, IsAmong-filled, range-at, extent-stays}
+use Rattle.ss_parts.proofs.Permutations.{IsPermutation-filter_map}
 
 -- what slots spell, those below one, that one and those above it
 abbrev spells : (ℕ → List ℕ) → List ℕ → List (Option Record)

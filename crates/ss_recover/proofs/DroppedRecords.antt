@@ -10,11 +10,11 @@ use Rattle.ss_recover.proofs.Common.{true≢false, window_of, without_numbered, 
 use Rattle.ss_recover.specs.Conditions.{is_sound}
 use Rattle.ss_recover.proofs.InOrder.{all-in_order}
 use Rattle.ss_model.proofs.FoundLemmas.{each-append}
-use Rattle.ss_recover.proofs.Lists.{all-each, all_both, all_weaker, filter-all, filter_map-kept, kept}
 use Rattle.ss_recover.proofs.SoundStreams.{digit, none-passes, own_step-fewer, stands_alone}
 use Rattle.ss_recover.proofs.SoundNumbers.{all-false, AreSound, HaveSameValues, is_numbered, is_sound-kept, none-stands, none_bad-AreSound, one-dropped}
 use Rattle.ss_recover.proofs.SoundNumbers.{one-sound, standing-any, stream_carried-same}
 use Rattle.ss_codec.specs.declared.record.Record.TheVariants as records
+use Rattle.ss_parts.proofs.Lists.{all-each, all_both, all_weaker, filter-all, filter_map-kept, kept}
 use Rattle.ss_recover.proofs.Unordered.{filter_map-in_order, kept-is}
 
 -- one element in the place of another, of which the same is made

@@ -12,9 +12,9 @@ use Rattle.ss_journal.proofs.ShownLemmas.{IsShown-sealed, shown-sealed}
 use Rattle.ss_codec.specs.Decoded.{decoded}
 use Rattle.ss_recover.specs.Carried.{spelled}
 use Rattle.ss_recover.proofs.WholeSlots.{decoded-free}
-use Rattle.ss_recover.proofs.Lists.{all_weaker, filter-same, range-within, range_with_len-append}
-use Rattle.ss_recover.proofs.PutLemmas.{filled-append, filled-live, filled-zeros}
 use Rattle.ss_parts.proofs.WholeMaps.{filled}
+use Rattle.ss_parts.proofs.Lists.{all_weaker, filter-same, range-within, range_with_len-append}
+use Rattle.ss_parts.proofs.PutLemmas.{filled-append, filled-live, filled-zeros}
 
 -- where nothing is staged, a map's extent is that of the journal
 pub extent-kept : (journal : JournalState) (content : List ℕ) (found : SlotMap) → IsSealed journal → IsKept journal content → StandsFor content found →

@@ -1,4 +1,5 @@
 -- What is held is what the map carries.
+use Rattle.ss_parts.proofs.Lists.{all-from_map, all_both, all_weaker, filter_map-kept, kept, position-none}
 use Rattle.ss_recover.proofs.Common.{[], ◌<◌, ◌∙◌, ◌∷◌, ◌≡◌, ◌≤◌, All, All-from_recursion, All-permutation, AllByRecursion, and_from, ap, ap₂, are_marks}
 use Rattle.ss_recover.proofs.Common.{AreHeld, arith, carries, Created, created_by, filter, filter_map, Free, HasWholeSlots, is_mark_of, is_none, IsDistinct}
 use Rattle.ss_recover.proofs.Common.{IsInStep, IsPermutation, IsState, IsStream, IsStrictlyIncreasing, judged, keep_own_step, landmarks_made, length}
@@ -13,7 +14,6 @@ use Rattle.ss_recover.specs.Parts.{carried}
 use Rattle.ss_recover.proofs.HeldRecords.{all-number_of, all_walked, created, created-all_walked, every_slot_spells, HasOwn, HasOwn-each, made_of_records}
 use Rattle.ss_recover.proofs.HeldRecords.{standing-all_walked}
 use Rattle.ss_recover.proofs.InOrder.{in_order-IsPermutation, Rise, Rise-increasing}
-use Rattle.ss_recover.proofs.Lists.{all-from_map, all_both, all_weaker, filter_map-kept, kept, position-none}
 use Rattle.ss_recover.proofs.Marks.{are_marks-marks_of, in_order-marks_of, landmarks_made-marks_of, length-marks_of, marks_of}
 use Rattle.ss_recover.proofs.SoundStreams.{keep_step-IsInStep, own_step-apart, own_step-moved, Rise-AreWindows, stands_alone, stands_alone-each}
 use Rattle.ss_recover.proofs.SoundStreams.{stands_alone-moved, tile-AreWindows, times_rise-AreWindows}

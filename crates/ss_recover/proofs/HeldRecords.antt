@@ -10,13 +10,14 @@ use Rattle.ss_recover.proofs.Common.{window_of, window_record, window_slots, zip
 use Rattle.ss_recover.specs.Carried.{spelled}
 use Rattle.ss_recover.proofs.InOrder.{Rise, Rise-split}
 use Rattle.ss_model.proofs.FoundLemmas.{each-append}
-use Rattle.ss_recover.proofs.Lists.{all-each, map-all}
-use Rattle.ss_recover.proofs.Marks.{each-mark_of, IsPermutation-walked, length-all_value_records, length-landmark_records, marks_of, own-marks}
+use Rattle.ss_recover.proofs.Marks.{each-mark_of, IsPermutation-walked, marks_of, own-marks}
 use Rattle.ss_recover.proofs.RunSound.{marks-own, windows-own}
 use Rattle.ss_recover.proofs.WholeSlots.{filter_map-filled, list_any-filled, zeros_are_free}
-use Rattle.ss_recover.proofs.Permutations.{IsPermutation-filter_map}
 use Rattle.ss_codec.specs.declared.record.Record.TheVariants as records
 use Rattle.std.proofs.lemmas.List.Sorted.{IsPermutation-append}
+use Rattle.ss_parts.proofs.Lists.{all-each, map-all}
+use Rattle.ss_parts.proofs.MarkRecords.{length-all_value_records, length-landmark_records}
+use Rattle.ss_parts.proofs.Permutations.{IsPermutation-filter_map}
 
 -- a stream as it was created
 abbrev pub created : Stream → Created

@@ -6,9 +6,9 @@ use Rattle.ss_recover.proofs.Common.{IsPermutation-trans, IsSortedByKey, IsStabl
 use Rattle.ss_recover.proofs.Common.{ltb, map, nat_le, nat_lt, nat_tests, ne_eqb, not, put_in_order, recursion_from_All, refl, Rises, subst, suc, sum_by}
 use Rattle.ss_recover.proofs.Common.{sum_by-cons, sum_by-IsPermutation, sym, ties, true, zero, ℕ}
 use Rattle.std.proofs.lemmas.List.Kept.{AllPairs-from_increasing}
-use Rattle.ss_recover.proofs.Lists.{all-kept, all_weaker}
-use Rattle.ss_recover.proofs.Permutations.{IsPermutation-turn}
 use Rattle.std.specs.Ordering.{is_lt, nat_cmp}
+use Rattle.ss_parts.proofs.Lists.{all-kept, all_weaker}
+use Rattle.ss_parts.proofs.Permutations.{IsPermutation-turn}
 
 module _ {X : Type 0} (key : X → ℕ) where
   -- each key is less than those after it

@@ -1,10 +1,7 @@
 pub mod Common
-pub mod Lists
-pub mod Permutations
 pub mod InOrder
 pub mod Marks
 pub mod MarksSoFar
-pub mod PutLemmas
 pub mod WholeSlots
 pub mod HeldRecords
 pub mod SoundStreams

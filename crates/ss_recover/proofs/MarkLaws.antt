@@ -4,7 +4,7 @@ use Rattle.ss_recover.proofs.Common.{all_closed, AllByRecursion, and-false, and-
 use Rattle.ss_recover.proofs.Common.{are_marks, AreMade, arith, Bool, CanOpen, cases-finish, change_last, closed_at, cond, cond-false, cond-true, eq-eqb}
 use Rattle.ss_recover.proofs.Common.{eqb-true, false, fold, fold-append, Found, found_by, has_all_values, has_said, has_said_last, HasMarkRoom, IfSome}
 use Rattle.ss_recover.proofs.Common.{inl, inr, is_landmark, is_mark_of, is_next_landmark, is_next_value, is_none, is_up_to, is_value, IsLandmark, IsUsable}
-use Rattle.ss_recover.proofs.Common.{Landmark, landmarks_in, LandmarkValue, Last, later, latest_in, latest_of, LATEST_TIME, le-leb, leb-true, length}
+use Rattle.ss_recover.proofs.Common.{Landmark, landmarks_in, LandmarkValue, Last, later, latest_in, latest_of, LAST_TIME, le-leb, leb-true, length}
 use Rattle.ss_recover.proofs.Common.{length-append, List, list_all, lt-ltb, ltb-true, map, map-append, Marked, marked_by, marked_on, marked_with, marks_in}
 use Rattle.ss_recover.proofs.Common.{MarksShown, MatchOption, max, may_add, may_open, MayClose, MayCome, MOST_RECORDS, nat_le, nat_lt, nat_tests, None}
 use Rattle.ss_recover.proofs.Common.{nothing_marked, open_landmark, opened_at, Option, option_and_then, option_map_or, option_to_list, Record}
@@ -12,11 +12,12 @@ use Rattle.ss_recover.proofs.Common.{recursion_from_All, refl, MarksSeen, seen_n
 use Rattle.ss_recover.proofs.Common.{with_value, without_slots, ℕ}
 use Rattle.std.specs.Prelude.{option_map}
 use Rattle.ss_landmarks.specs.Order.{CanClose, IsClosedBefore}
-use Rattle.ss_recover.proofs.MarksSoFar.{comes-next, IsLandmark-bare, IsLandmark-value, latest_in-more, latest_of-push, later-assoc, marked_on-none}
+use Rattle.ss_recover.proofs.MarksSoFar.{comes-next, IsLandmark-bare, IsLandmark-value, latest_of-push, later-assoc, marked_on-none}
 use Rattle.std.proofs.lemmas.List.Elements.{All-weaker}
-use Rattle.ss_recover.proofs.Lists.{all_weaker, list_all-each, map-all}
 use Rattle.ss_recover.proofs.WindowLaws.{few-found}
 use Rattle.ss_codec.specs.declared.record.Record.TheVariants as records
+use Rattle.ss_parts.proofs.LatestTimes.{latest_in-more}
+use Rattle.ss_parts.proofs.Lists.{all_weaker, list_all-each, map-all}
 
 -- the record before the others, where they are of one stream
 mark-first : (id : ℕ) (m : Marked) (r : Record) (rs : List Record) → stream_of r ≡ id →
@@ -159,8 +160,8 @@ module _ (slots value_slots : List ℕ) where
   may-close : (before : List Landmark) (last : Option Landmark) → IsFine before last → MayClose (held before last slots value_slots)
   may-close before None fine = tt
   may-close before (Some l) fine =
-      elim l.finish as (λ o. IfSome o (λ t. (l.start ≤ t) × (t ≤ LATEST_TIME) × All (λ value. value.t ≤ t) l.values) →
-      IfSome o (λ t. (t ≤ LATEST_TIME) × CanClose (before ++ still_open l ∷ []) t)) [
+      elim l.finish as (λ o. IfSome o (λ t. (l.start ≤ t) × (t ≤ LAST_TIME) × All (λ value. value.t ≤ t) l.values) →
+      IfSome o (λ t. (t ≤ LAST_TIME) × CanClose (before ++ still_open l ∷ []) t)) [
         | None ↦ λ ends. tt
         | Some t ↦ λ ends. (
           ends.1,
@@ -182,7 +183,7 @@ can-open : (before : List Landmark) (last : Option Landmark) (said number start 
 can-open before None said number start fine test = subst (λ (ls : List Landmark). CanOpen (ls ++ []) start) (sym fine) (All-nil (IsClosedBefore start))
 can-open before (Some l) said number start fine test =
     let ends =
-    elim l.finish as (λ o. option_map_or (λ f. nat_lt f start) o false ≡ true → IfSome o (λ t. (l.start ≤ t) × (t ≤ LATEST_TIME)
+    elim l.finish as (λ o. option_map_or (λ f. nat_lt f start) o false ≡ true → IfSome o (λ t. (l.start ≤ t) × (t ≤ LAST_TIME)
     × All (λ value. value.t ≤ t) l.values) → (l.start ≤ start) × MatchOption o ⊥ (λ f. f < start)) [
       | None ↦ λ never is. absurd (cc)
       | Some f ↦ λ past is. let lt = ltb-true f start past in (omega (arith, lt, is.0), lt)

@@ -1,42 +1,23 @@
 -- The records of landmarks in order, each landmark's before those of its values: the landmarks that they make, and the order of places.
+use Rattle.ss_parts.proofs.MarkRecords.{length-value_records}
 use Rattle.ss_recover.proofs.Common.{[], ◌&&◌, ◌*◌, ◌++◌, ◌+◌, ◌<◌, ◌==◌, ◌^◌, ◌||◌, ◌∙◌, ◌∷◌, ◌≡◌, ◌≤◌, All, all_value_records, all_values, AllByRecursion}
 use Rattle.ss_recover.proofs.Common.{AllByRecursion_push, and_from, ap, append-nil, append_assoc, are_marks, AreLandmarks, arith, cases-finish, cond-true}
 use Rattle.ss_recover.proofs.Common.{eq-eqb, false, filter, fold, fold-append, FollowFrom, has_all_values, has_said, IfSome, in_order, inl, inr}
 use Rattle.ss_recover.proofs.Common.{is_closed_before, is_mark_of, is_next_landmark, is_next_value, is_none, is_up_to, IsLandmark, IsPermutation}
 use Rattle.ss_recover.proofs.Common.{IsPermutation-append_comm, IsPermutation-append_left, IsPermutation-append_right, IsPermutation-cons, IsPermutation-refl}
 use Rattle.ss_recover.proofs.Common.{IsPermutation-trans, Landmark, landmark_record, landmark_records, landmarks_in, landmarks_made, LandmarkValue, later}
-use Rattle.ss_recover.proofs.Common.{LATEST_TIME, le-leb, length, length-append, List, lt-ltb, map, Marked, marked_on, MatchOption, nat_lt, None}
+use Rattle.ss_recover.proofs.Common.{LAST_TIME, le-leb, length, length-append, List, lt-ltb, map, Marked, marked_on, MatchOption, nat_lt, None}
 use Rattle.ss_recover.proofs.Common.{nothing_marked, Option, option_map_or, place_of, Record, recursion_from_All, refl, RiseFrom, Some, Stream, stream_record}
 use Rattle.ss_recover.proofs.Common.{subst, sym, true, value_records, values_said, window_record, with_value, ℕ, ℤ}
 use Rattle.ss_recover.proofs.InOrder.{in_order-IsPermutation, Rise}
 use Rattle.ss_model.proofs.FoundLemmas.{each-append}
-use Rattle.ss_recover.proofs.Lists.{all-each, all_weaker, filter-all, list_all-each}
 use Rattle.ss_codec.specs.declared.record.Record.TheVariants as records
+use Rattle.ss_parts.proofs.Lists.{all-each, all_weaker, filter-all, list_all-each}
 
 -- the records of landmarks numbered from here on, each followed by those of its values
 abbrev pub marks_of : ℕ → ℕ → List Landmark → List Record
 marks_of number n [] = []
 marks_of number n (l ∷ ls) = landmark_record number n l ∷ value_records number n 1 l.values ++ marks_of number (n + 1) ls
-
--- how many there are
-pub length-value_records : (number n index : ℕ) (values : List LandmarkValue) → length (value_records number n index values) ≡ length values
-length-value_records number n index [] = refl
-length-value_records number n index (value ∷ values) = omega (arith, length-value_records number n (index + 1) values)
-
-pub length-landmark_records : (number n : ℕ) (ls : List Landmark) → length (landmark_records number n ls) ≡ length ls
-length-landmark_records number n [] = refl
-length-landmark_records number n (l ∷ ls) = omega (arith, length-landmark_records number (n + 1) ls)
-
-pub length-all_value_records : (number n : ℕ) (ls : List Landmark) → length (all_value_records number n ls) ≡ length (all_values ls)
-length-all_value_records number n [] = refl
-length-all_value_records number n (l ∷ ls) =
-    omega (
-      arith,
-      length-append (value_records number n 1 l.values) (all_value_records number (n + 1) ls),
-      length-append l.values (all_values ls),
-      length-value_records number n 1 l.values,
-      length-all_value_records number (n + 1) ls,
-    )
 
 pub length-marks_of : (number n : ℕ) (ls : List Landmark) → length (marks_of number n ls) ≡ length ls + length (all_values ls)
 length-marks_of number n [] = refl
@@ -48,28 +29,6 @@ length-marks_of number n (l ∷ ls) =
       length-value_records number n 1 l.values,
       length-marks_of number (n + 1) ls,
     )
-
--- one more value, and one more landmark
-pub value_records-append : (number n index k : ℕ) (values : List LandmarkValue) (value : LandmarkValue) → k ≡ index + length values →
-    value_records number n index (values ++ value ∷ []) ≡ value_records number n index values ++ value_records number n k (value ∷ [])
-value_records-append number n index k [] value next = let same : k ≡ index = omega (arith, next) in rw same refl
-value_records-append number n index k (x ∷ xs) value next =
-    ap (λ rs. records.Value number n index x.t x.v ∷ rs) (value_records-append number n (index + 1) k xs value (omega (arith, next)))
-
-pub landmark_records-append : (number n k : ℕ) (ls : List Landmark) (l : Landmark) → k ≡ n + length ls →
-    landmark_records number n (ls ++ l ∷ []) ≡ landmark_records number n ls ++ landmark_record number k l ∷ []
-landmark_records-append number n k [] l next = let same : k ≡ n = omega (arith, next) in rw same refl
-landmark_records-append number n k (x ∷ xs) l next =
-    ap (λ rs. landmark_record number n x ∷ rs) (landmark_records-append number (n + 1) k xs l (omega (arith, next)))
-
-pub all_value_records-append : (number n k : ℕ) (ls : List Landmark) (l : Landmark) → k ≡ n + length ls →
-    all_value_records number n (ls ++ l ∷ []) ≡ all_value_records number n ls ++ value_records number k 1 l.values
-all_value_records-append number n k [] l next =
-    let same : n ≡ k = omega (arith, next) in
-    append-nil (value_records number n 1 l.values) ∙ ap (λ m. value_records number m 1 l.values) same
-all_value_records-append number n k (x ∷ xs) l next =
-    ap (λ rs. value_records number n 1 x.values ++ rs) (all_value_records-append number (n + 1) k xs l (omega (arith, next)))
-    ∙ sym (append_assoc (value_records number n 1 x.values) (all_value_records number (n + 1) xs) (value_records number k 1 l.values))
 
 -- they are the records of the landmarks and those of all values, in another order
 over : (xs ms ys zs : List Record) → IsPermutation ms (ys ++ zs) → IsPermutation (xs ++ ms) (ys ++ (xs ++ zs))
@@ -190,7 +149,7 @@ followed_by m l = record { before = landmarks_in m; last = Some l; said = values
 
 ends_by : (l : Landmark) → IsLandmark l → AllByRecursion (λ v. is_up_to v.t l.finish ≡ true) l.values
 ends_by l is =
-    elim l.finish as (λ o. IfSome o (λ t. (l.start ≤ t) × (t ≤ LATEST_TIME) × All (λ value. value.t ≤ t) l.values) →
+    elim l.finish as (λ o. IfSome o (λ t. (l.start ≤ t) × (t ≤ LAST_TIME) × All (λ value. value.t ≤ t) l.values) →
     AllByRecursion (λ v. is_up_to v.t o ≡ true) l.values) [
       | None ↦ λ by. all-each (λ (v : LandmarkValue). is_up_to v.t None ≡ true) (λ v. refl) l.values
       | Some f ↦ λ by. all_weaker _ _ (λ v le. le-leb v.t f le) l.values (recursion_from_All (λ (v : LandmarkValue). v.t ≤ f) l.values by.2)

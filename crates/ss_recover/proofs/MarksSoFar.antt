@@ -1,60 +1,15 @@
 -- The latest time of landmarks, and the landmarks that records make.
-use Rattle.ss_recover.proofs.Common.{[], ⊤, ◌++◌, ◌+◌, ◌<◌, ◌==◌, ◌||◌, ◌∙◌, ◌∷◌, ◌≡◌, ◌≤◌, All, All-from_recursion, All-head, All-push, All-tail}
-use Rattle.ss_recover.proofs.Common.{AllByRecursion, AllEndBy, and_parts, ap, append-nil, append_assoc, are_marks, AreLandmarks, arith, Bool}
-use Rattle.ss_recover.proofs.Common.{closed_at, cond, EndsBy, eqb-true, false, FitsSigned, fold, fold-append, FollowFrom, has_all_values, has_said}
+use Rattle.ss_recover.proofs.Common.{[], ⊤, ◌++◌, ◌+◌, ◌<◌, ◌==◌, ◌||◌, ◌∙◌, ◌∷◌, ◌≡◌, ◌≤◌, All, All-from_recursion, All-push}
+use Rattle.ss_recover.proofs.Common.{AllByRecursion, and_parts, ap, append-nil, append_assoc, are_marks, AreLandmarks, arith, Bool}
+use Rattle.ss_recover.proofs.Common.{cond, eqb-true, false, FitsSigned, fold, FollowFrom, has_all_values, has_said}
 use Rattle.ss_recover.proofs.Common.{HasValidTimes, IfSome, is_mark_of, is_next_landmark, is_next_value, is_none, is_up_to, IsLandmark, IsUsable, Landmark}
-use Rattle.ss_recover.proofs.Common.{landmarks_in, landmarks_made, LandmarkValue, later, latest_in, latest_of, LATEST_TIME, leb-true, length}
-use Rattle.ss_recover.proofs.Common.{length-append, List, ltb-true, map, map-append, Marked, marked_by, marked_on, MatchOption, max, nat_lt, None}
-use Rattle.ss_recover.proofs.Common.{nothing_marked, Option, option_map_or, option_to_list, Record, recursion_from_All, refl, RiseFrom_push, Some, subst}
+use Rattle.ss_recover.proofs.Common.{landmarks_in, landmarks_made, LandmarkValue, later, latest_in, latest_of, LAST_TIME, leb-true, length}
+use Rattle.ss_recover.proofs.Common.{length-append, List, ltb-true, Marked, marked_by, marked_on, MatchOption, nat_lt, None}
+use Rattle.ss_recover.proofs.Common.{nothing_marked, Option, option_map_or, Record, refl, RiseFrom_push, Some, subst}
 use Rattle.ss_recover.proofs.Common.{sym, true, value_records, values_said, w64, with_value, ℕ}
-use Rattle.ss_recover.proofs.Lists.{map-all, all_weaker, each-list_all}
 use Rattle.ss_recover.proofs.Marks.{marks_of}
 use Rattle.ss_codec.specs.declared.record.Record.TheVariants as records
-
--- the greatest of some times
-fold-most : (t u : ℕ) (ts : List ℕ) → t ≤ u → AllByRecursion (λ x. x ≤ u) ts → fold max t ts ≤ u
-fold-most t u [] le all = le
-fold-most t u (x ∷ xs) le all = let first = all.0 in fold-most (max t x) u xs (omega arith) all.1
-
-fold-least : (t : ℕ) (ts : List ℕ) → t ≤ fold max t ts
-fold-least t [] = omega arith
-fold-least t (x ∷ xs) = omega (arith, fold-least (max t x) xs)
-
-begun-by : (start t : ℕ) (finish : Option ℕ) → start ≤ t → IfSome finish (λ f. f ≤ t) → fold max start (option_to_list finish) ≤ t
-begun-by start t None first last = first
-begun-by start t (Some f) first last = omega (arith, first, last)
-
-abbrev times_of : Landmark → List ℕ
-times_of l = map (λ (value : LandmarkValue). value.t) l.values
-
-times-by : (t : ℕ) (l : Landmark) → EndsBy t l → AllByRecursion (λ u. u ≤ t) (times_of l)
-times-by t l ends = map-all _ (λ (value : LandmarkValue). value.t) l.values (recursion_from_All (λ (value : LandmarkValue). value.t ≤ t) l.values ends.2)
-
-latest_in-EndsBy : (l : Landmark) (t : ℕ) → EndsBy t l → latest_in l ≤ t
-latest_in-EndsBy l t ends =
-    fold-most (fold max l.start (option_to_list l.finish)) t (times_of l) (begun-by l.start t l.finish ends.0 ends.1) (times-by t l ends)
-
--- a landmark that takes a value, or that closes, at a time that none of its times is after
-pub latest_in-closed : (l : Landmark) (t : ℕ) → EndsBy t l → latest_in (closed_at t l) ≡ t
-latest_in-closed l t ends =
-    let most = fold-most (max l.start t) t (times_of l) (omega (arith, ends.0)) (times-by t l ends) in
-    let least = fold-least (max l.start t) (times_of l) in
-    omega (arith, most, least)
-
-pub latest_in-more : (l : Landmark) (value : LandmarkValue) → latest_in (with_value value l) ≡ max (latest_in l) value.t
-latest_in-more l value =
-    let begun = fold max l.start (option_to_list l.finish) in
-    ap (fold max begun) (map-append (λ (v : LandmarkValue). v.t) l.values (value ∷ [])) ∙ fold-append max begun (times_of l) (value.t ∷ [])
-
-pub latest_in-value : (l : Landmark) (value : LandmarkValue) → EndsBy value.t l → latest_in (with_value value l) ≡ value.t
-latest_in-value l value ends = latest_in-more l value ∙ omega (arith, latest_in-EndsBy l value.t ends)
-
--- the latest time is that of the last one, where those before it end by then
-pub latest_of-last : (ls : List Landmark) (l : Landmark) → AllEndBy (latest_in l) ls → latest_of (ls ++ l ∷ []) ≡ Some (latest_in l)
-latest_of-last [] l ends = refl
-latest_of-last (x ∷ xs) l ends =
-    let here = latest_in-EndsBy x (latest_in l) (All-head (EndsBy (latest_in l)) x xs ends) in
-    ap (later (Some (latest_in x))) (latest_of-last xs l (All-tail (EndsBy (latest_in l)) x xs ends)) ∙ ap Some (omega (arith, here))
+use Rattle.ss_parts.proofs.Lists.{all_weaker, each-list_all}
 
 -- and it is the later of theirs and of the last one's, which one more value changes to the later of both
 pub later-assoc : (o p q : Option ℕ) → later o (later p q) ≡ later (later o p) q
@@ -105,13 +60,13 @@ IsLandmark-bare said start (Some f) is = (
 
 -- a landmark with one more value
 pub IsLandmark-value : (l : Landmark) (value : LandmarkValue) → IsLandmark l → l.start ≤ value.t → AllByRecursion (λ v. v.t < value.t) l.values →
-    is_up_to value.t l.finish ≡ true → value.t ≤ LATEST_TIME → FitsSigned w64 value.v → IsLandmark (with_value value l)
+    is_up_to value.t l.finish ≡ true → value.t ≤ LAST_TIME → FitsSigned w64 value.v → IsLandmark (with_value value l)
 IsLandmark-value l value is low above by early fits = record {
   start = is.start;
   values = RiseFrom_push l.start l.values value is.values low (All-from_recursion (λ (v : LandmarkValue). v.t < value.t) l.values above) early fits;
   finish =
-      elim l.finish as (λ o. is_up_to value.t o ≡ true → IfSome o (λ t. (l.start ≤ t) × (t ≤ LATEST_TIME) × All (λ v. v.t ≤ t) l.values) →
-      IfSome o (λ t. (l.start ≤ t) × (t ≤ LATEST_TIME) × All (λ v. v.t ≤ t) (l.values ++ value ∷ []))) [
+      elim l.finish as (λ o. is_up_to value.t o ≡ true → IfSome o (λ t. (l.start ≤ t) × (t ≤ LAST_TIME) × All (λ v. v.t ≤ t) l.values) →
+      IfSome o (λ t. (l.start ≤ t) × (t ≤ LAST_TIME) × All (λ v. v.t ≤ t) (l.values ++ value ∷ []))) [
         | None ↦ λ up all. tt
         | Some f ↦ λ up all. (all.0, all.1, All-push (λ (v : LandmarkValue). v.t ≤ f) l.values value all.2 (leb-true value.t f up))
       ] by is.finish;

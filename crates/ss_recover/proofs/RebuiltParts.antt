@@ -18,12 +18,12 @@ use Rattle.ss_recover.proofs.DoomedLemmas.{beside-found, first-in_slot, doomed_s
 use Rattle.ss_recover.proofs.WholeSlots.{beside-seconds, filter_map-filled, zeros_are_free}
 use Rattle.ss_recover.proofs.GatherLemmas.{is_some-not}
 use Rattle.ss_recover.proofs.HeldRecords.{held-long, held-zip, records_of_stream}
-use Rattle.ss_recover.proofs.Lists.{map-all, position-none}
 use Rattle.ss_recover.proofs.InOrder.{map-in_order}
 use Rattle.ss_recover.proofs.RebuiltRecords.{all-held, in_turn-built, sound_numbers}
 use Rattle.ss_recover.proofs.SoundNumbers.{lowest-made, none_bad-AreSound, streams_carried-made}
 use Rattle.ss_recover.proofs.Unordered.{lowest-bad, streams_carried-in_order}
 use Rattle.std.proofs.lemmas.List.Sorted.{IsPermutation-append}
+use Rattle.ss_parts.proofs.Lists.{map-all, position-none}
 
 -- up to the newest time
 rise-agree : (first time newest last : ℕ) (es : List Entry) (ws : List Window) → StandFrom first time ws → newest_time ws ≡ Some newest → newest ≤ last →

@@ -13,12 +13,12 @@ use Rattle.ss_recover.proofs.DoomedLemmas.{beside-found, doomed_found-moved, eac
 use Rattle.ss_recover.proofs.DoomedLemmas.{doomed-go}
 use Rattle.ss_recover.proofs.HeldRecords.{all-all_walked, all_walked, each-number, IsPermutation-all_walked, records_in-Some, records_of_streams, second-held}
 use Rattle.ss_recover.proofs.InOrder.{all-in_order, IsPermutation-in_order, map-in_order, Rises-in_order}
-use Rattle.ss_recover.proofs.Lists.{all_weaker, map-all}
-use Rattle.ss_recover.proofs.Permutations.{IsPermutation-filter_map}
 use Rattle.ss_recover.proofs.SoundNumbers.{AreSound, AreSound-none_bad, carries-judged, is_sound-made, streams_carried-made}
 use Rattle.ss_recover.proofs.SoundStreams.{none-passes}
 use Rattle.ss_recover.proofs.Unordered.{is_sound-in_order, streams_carried-in_order}
 use Rattle.std.proofs.lemmas.List.Sorted.{IsPermutation-append}
+use Rattle.ss_parts.proofs.Lists.{all_weaker, map-all}
+use Rattle.ss_parts.proofs.Permutations.{IsPermutation-filter_map}
 use Rattle.ss_recover.proofs.WholeSlots.{beside-seconds, few-records, IsFine, valid-records}
 use Rattle.ss_recover.specs.Carried.{spelled}
 use Rattle.ss_recover.specs.Parts.{carried}

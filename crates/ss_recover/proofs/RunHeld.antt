@@ -7,10 +7,10 @@ use Rattle.ss_recover.proofs.Common.{LandmarkValue, later, latest_of, List, map,
 use Rattle.ss_recover.proofs.Common.{records_held, refl, slots_found, Some, Stream, stream_made, stream_record, StreamParts, subst, sym, true, Value}
 use Rattle.ss_recover.proofs.Common.{value_records, Window, window_record, windows_held, windows_in, with_slot, without_slots, zip, ℕ}
 use Rattle.ss_line.specs.declared.entry.At.{At}
-use Rattle.ss_recover.proofs.Lists.{all-each, all_both, all_weaker, filter-none, filter-same, map-all}
 use Rattle.ss_recover.proofs.Marks.{each-mark_of, marks_of}
 use Rattle.ss_recover.proofs.RunStanding.{filter-const, in-three, own_found}
 use Rattle.ss_codec.specs.declared.record.Record.TheVariants as records
+use Rattle.ss_parts.proofs.Lists.{all-each, all_both, all_weaker, filter-none, filter-same, map-all}
 
 -- of the records of landmarks, those of the landmarks and the others
 landmarks-values : (number n index : ℕ) (values : List LandmarkValue) → filter is_landmark (value_records number n index values) ≡ []

@@ -9,8 +9,8 @@ use Rattle.ss_recover.proofs.Common.{or_from, run_len, place_of, Record, refl, R
 use Rattle.ss_recover.proofs.Common.{sym, take, take-append-drop, tile, times_rise, true, Value, Window, window_of, window_record, windows_in, without_slots}
 use Rattle.ss_recover.proofs.Common.{ℕ}
 use Rattle.ss_model.proofs.FoundLemmas.{each-append}
-use Rattle.ss_recover.proofs.Lists.{all_both, all_weaker, map-all}
 use Rattle.ss_codec.specs.declared.record.Record.TheVariants as records
+use Rattle.ss_parts.proofs.Lists.{all_both, all_weaker, map-all}
 use Rattle.ss_recover.proofs.SoundStreams.{own_step-one, own_step-parts, count-at, count-below, new-name}
 
 -- places have 65 bits

@@ -3,10 +3,10 @@ use Rattle.ss_recover.proofs.Common.{[], ◌&&◌, ◌++◌, ◌∙◌, ◌∷�
 use Rattle.ss_recover.proofs.Common.{false, filter, filter_map-append, Found, Free, if◌then◌else◌, inl, inr, is_doomed, is_dropped, is_own, IsPermutation}
 use Rattle.ss_recover.proofs.Common.{IsPermutation-append_left, IsPermutation-sym, IsPermutation-trans, IsUsable, List, map, map-append, not, Record, refl}
 use Rattle.ss_recover.proofs.Common.{stands_by, stream_made, stream_of, streams_created, streams_made, streams_standing, subst, true, ℕ}
-use Rattle.ss_recover.proofs.Lists.{filter-all, filter-none}
 use Rattle.ss_recover.proofs.RunSound.{names_created}
 use Rattle.ss_codec.specs.declared.record.Record.TheVariants as records
 use Rattle.std.proofs.lemmas.List.Sorted.{IsPermutation-filter_both}
+use Rattle.ss_parts.proofs.Lists.{filter-all, filter-none}
 
 pub names_created-append : (rs qs : List Record) → names_created (rs ++ qs) ≡ names_created rs ++ names_created qs
 names_created-append rs qs =

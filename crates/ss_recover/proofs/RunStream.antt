@@ -13,7 +13,6 @@ use Rattle.ss_recover.proofs.InOrder.{increasing-Rise, Rise}
 use Rattle.ss_recover.proofs.Marks.{length-marks_of, marks_of}
 use Rattle.ss_recover.proofs.MarksSoFar.{AreOf, AreOf-are_marks}
 use Rattle.ss_recover.proofs.SoundStreams.{IsInStep-keep_step, AreWindows-tile}
-use Rattle.ss_recover.proofs.Lists.{all-each, all-from_map, all-kept, all-passing, all_both, all_weaker, filter-none, map-all}
 use Rattle.ss_recover.proofs.RunSound.{AreBefore, alone-drops, before-back, dropped-run, IsRun, marks-run, names_created, next-run, own-alone}
 use Rattle.ss_recover.proofs.RunSound.{run-order, sound-run, windows-run}
 use Rattle.ss_recover.proofs.RunStanding.{filter-const, gone_found, names_created-append, own_found, standing_found, stands_in, streams_made-append}
@@ -21,6 +20,7 @@ use Rattle.ss_recover.proofs.SoundNumbers.{all-false}
 use Rattle.ss_recover.proofs.WholeSlots.{all-window_of}
 use Rattle.ss_codec.specs.declared.record.Record.TheVariants as records
 use Rattle.ss_model.specs.State as Streams
+use Rattle.ss_parts.proofs.Lists.{all-each, all-from_map, all-kept, all-passing, all_both, all_weaker, filter-none, map-all}
 
 -- how many records streams have
 length-records : (ss : List Stream) → length (all_walked ss) ≡ live ss

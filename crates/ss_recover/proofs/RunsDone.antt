@@ -9,12 +9,12 @@ use Rattle.ss_recover.proofs.Common.{refl, Result, Rises, slots_found, stream_ma
 use Rattle.ss_recover.proofs.Common.{TakesAs, TakesStream, true, Walk, WalksAs, with_slot, without_slots, zip, ℕ}
 use Rattle.ss_recover.proofs.RunHeld.{AllAgree-append, held-agrees, held-append, held-found}
 use Rattle.ss_model.proofs.FoundLemmas.{each-append}
-use Rattle.ss_recover.proofs.Lists.{all-each, all-from_map, all_weaker, map-all}
 use Rattle.ss_recover.proofs.RunSound.{AreBefore, before-back, IsRun, names_created, next-run, sound-run, whole-run}
 use Rattle.ss_recover.proofs.RunStanding.{doomed-gone, gone_found, in-three, names_created-append, own_found, standing_found, stands_in, streams_made-append}
 use Rattle.ss_recover.proofs.RunStream.{heads-gone, IsState-sound, made-run, names-run, others-each, others-gone, rest-order, stands-run}
 use Rattle.ss_codec.specs.declared.record.Record.TheVariants as records
 use Rattle.std.proofs.lemmas.List.Sorted.{IsPermutation-append}
+use Rattle.ss_parts.proofs.Lists.{all-each, all-from_map, all_weaker, map-all}
 
 -- Of some of all records these are what a walk has: the names that they create, parts that agree with the streams that stand and have
 -- their records, and the slots of dropped ones. The number of each is sound.

@@ -9,7 +9,7 @@ use Rattle.ss_recover.proofs.Common.{true, true≢false, Window, window_of, wind
 use Rattle.ss_recover.specs.Conditions.{is_sound}
 use Rattle.ss_recover.proofs.SoundStreams.{digit, stands_alone}
 use Rattle.ss_codec.specs.declared.record.Record.TheVariants as records
-use Rattle.ss_recover.proofs.Lists.{all_weaker, any-made, filter_map-kept, kept}
+use Rattle.ss_parts.proofs.Lists.{all_weaker, any-made, filter_map-kept, kept}
 
 -- where streams are carried, no slot and no stream is damaged
 pub carries-judged : (slot number : Option ℕ) (ss streams : List Stream) → judged slot number ss ≡ carries streams →

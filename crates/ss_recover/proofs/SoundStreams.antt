@@ -1,4 +1,6 @@
 -- The streams of a state meet the conditions that records have to meet.
+use Rattle.ss_parts.proofs.Lists.{all-from_map, all_weaker, each-list_all, filter-all, filter-none, list_all-each}
+use Rattle.ss_parts.proofs.Permutations.{along_permutation}
 use Rattle.ss_recover.proofs.Common.{[], ◌&&◌, ◌++◌, ◌+◌, ◌<◌, ◌==◌, ◌||◌, ◌∙◌, ◌∷◌, ◌≡◌, ◌≤◌, All, All-from_recursion, AllByRecursion, and-true, and_from}
 use Rattle.ss_recover.proofs.Common.{and_left, and_parts, ap, append_assoc, ap₂, AreWindows, arith, Bool, cond, count_by, Created, each-behind, eq-eqb}
 use Rattle.ss_recover.proofs.Common.{eqb-true, false, has_new_name, has_one_record, has_place, in_step, is_named_before, IsDistinct, IsDistinct-head}
@@ -8,8 +10,6 @@ use Rattle.ss_recover.proofs.Common.{MOST_STREAMS, MOST_VALUES, nat_le, nat_lt, 
 use Rattle.ss_recover.proofs.Common.{refl, rule_of, same_name, same_name-swap, StandFrom, step_number, subst, sum_by-append, sum_by-IsPermutation, sym, taken}
 use Rattle.ss_recover.proofs.Common.{tile, tile_from, times_rise, true, Window, ℕ}
 use Rattle.ss_recover.proofs.InOrder.{Rise, Rise-split}
-use Rattle.ss_recover.proofs.Lists.{all-from_map, all_weaker, each-list_all, filter-all, filter-none, list_all-each}
-use Rattle.ss_recover.proofs.Permutations.{along_permutation}
 
 -- 1 where a test passes
 abbrev pub digit : Bool → ℕ

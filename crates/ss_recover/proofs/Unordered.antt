@@ -9,10 +9,10 @@ use Rattle.ss_recover.proofs.Common.{recursion_from_All, refl, Rises, Some, stan
 use Rattle.ss_recover.proofs.Common.{streams_made, streams_standing, sym, tile, times_rise, true, true≢false, Window, window_of, windows_carried, ℕ}
 use Rattle.ss_recover.specs.Conditions.{is_sound}
 use Rattle.ss_recover.proofs.InOrder.{IsPermutation-in_order, Rises-in_order, put-less, put-more}
-use Rattle.ss_recover.proofs.Lists.{all_weaker, filter_map-kept, kept}
 use Rattle.ss_recover.proofs.SoundStreams.{own_step-moved, stands_alone-moved}
-use Rattle.ss_recover.proofs.Permutations.{IsPermutation-filter_map}
 use Rattle.ss_codec.specs.declared.record.Record.TheVariants as records
+use Rattle.ss_parts.proofs.Lists.{all_weaker, filter_map-kept, kept}
+use Rattle.ss_parts.proofs.Permutations.{IsPermutation-filter_map}
 
 -- elements that give something are put in order as what they give is
 module _ {X Y : Type 0} (key : X → ℕ) (key' : Y → ℕ) (h : X → Option Y)

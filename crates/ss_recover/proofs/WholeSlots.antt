@@ -2,19 +2,19 @@
 use Rattle.ss_recover.proofs.Common.{[], ◌<◌, ◌==◌, ◌^◌, ◌||◌, ◌∙◌, ◌∷◌, ◌≡◌, ◌≤◌, AllByRecursion, ap, are_zeros, arith, Bool}
 use Rattle.ss_recover.proofs.Common.{cases_Bool, cond-false, cons_option, decoded-spelling, false}
 use Rattle.ss_recover.proofs.Common.{filter_map, Free, HasValidTimes, HasWholeSlots, inl, inr, is_none, is_valid-free, IsLandmark-is_valid, IsPossible}
-use Rattle.ss_recover.proofs.Common.{IsStream-is_valid, IsTrue, IsUsable, IsValue-is_valid, IsWindow-is_valid, LATEST_TIME, length}
+use Rattle.ss_recover.proofs.Common.{IsStream-is_valid, IsTrue, IsUsable, IsValue-is_valid, IsWindow-is_valid, LAST_TIME, length}
 use Rattle.ss_recover.proofs.Common.{length-map-range_with_len, List, list_any, map, MatchOption, MOST_SLOTS, None}
 use Rattle.ss_recover.proofs.Common.{Option, range_with_len, Record, records_beside, records_in}
 use Rattle.ss_recover.proofs.Common.{refl, replicate, replicate-are_zeros, SameMap, SlotMap, Some, spelling-free}
 use Rattle.ss_recover.proofs.Common.{Spells-decoded, sym, true, Value, window_of, zeros, ℕ}
 use Rattle.ss_codec.specs.Decoded.{decoded}
-use Rattle.ss_recover.proofs.Lists.{all_weaker, any-made, kept, range-within}
-use Rattle.ss_recover.proofs.PutLemmas.{filled-live, filled-zeros}
 use Rattle.ss_parts.proofs.WholeMaps.{filled, same-slots}
 use Rattle.ss_recover.specs.Carried.{spelled}
 use Rattle.ss_recover.specs.Parts.{carried}
 use Rattle.ss_codec.specs.declared.record.Record.TheVariants.{Landmark, Stream, Window}
 use Rattle.ss_codec.specs.Record.{is_valid}
+use Rattle.ss_parts.proofs.Lists.{all_weaker, any-made, kept, range-within}
+use Rattle.ss_parts.proofs.PutLemmas.{filled-live, filled-zeros}
 
 -- a whole slot of zeros is free
 abbrev pub ZerosAreFree : (ℕ → List ℕ) → ℕ → Type 0
@@ -92,7 +92,7 @@ carried-same first second few same = rw (spelled-same first second few same) ref
 -- ---- what valid records have, and what is made of the records of a map: streams of different numbers need no more of them than there are
 
 HasValidTimes-interval : (values start : ℕ) (finish : Option ℕ) →
-    MatchOption finish ((values ≡ 0) × (start ≤ LATEST_TIME)) (λ f. (values < 2 ^ 32) × (start ≤ f) × (f ≤ LATEST_TIME)) →
+    MatchOption finish ((values ≡ 0) × (start ≤ LAST_TIME)) (λ f. (values < 2 ^ 32) × (start ≤ f) × (f ≤ LAST_TIME)) →
     HasValidTimes values start finish
 HasValidTimes-interval values start None is = (is.0, is.1)
 HasValidTimes-interval values start (Some f) is = (is.1, is.2)

@@ -10,7 +10,7 @@ use Rattle.ss_parts.specs.declared.parts.StreamParts.{StreamParts}
 use Rattle.ss_store.specs.Kept.{SomeAgree, part_named}
 use Rattle.ss_store.specs.declared.error.ApplyError.TheVariants as apply
 use Rattle.ss_store.proofs.EventCounts.{named-state}
-use Rattle.ss_store.proofs.HeldCounts.{SomeAgree-named}
+use Rattle.ss_store.proofs.Named.{SomeAgree-named}
 use Rattle.ss_store.proofs.Named.{AreFound-named}
 use Rattle.ss_replica.specs.Own.{own}
 use Rattle.ss_replica.specs.declared.judging.Due.TheVariants as due

@@ -12,17 +12,17 @@ use Rattle.ss_line.proofs.PlaceLemmas.{entry_at-stands}
 use Rattle.ss_outside.specs.Disk.{DiskView, OfContent}
 use Rattle.ss_outside.specs.Verdict.{Verdict, OnFine, fine, refused, no_memory, stopped, failed, changed}
 use Rattle.ss_query.proofs.NextWindow.{Contains-slot}
-use Rattle.ss_query.specs.Answered.{window_slots_of}
 use Rattle.ss_parts.specs.declared.parts.StreamParts.{StreamParts}
 use Rattle.ss_store.specs.Applied.{Looks}
 use Rattle.ss_store.specs.Errors.{stopped_after}
 use Rattle.ss_store.specs.Kept.{SomeAgree, StoreIsKept, StoreState}
-use Rattle.ss_store.proofs.HeldCounts.{length-Agrees}
 use Rattle.ss_journal.specs.Kept.{shown}
 use Rattle.ss_records.specs.Kept.{RecordsState, shown_by}
 use Rattle.ss_model.specs.Shown.{placed_of}
 use Rattle.ss_model.specs.State.{Stream}
 use Rattle.ss_model.specs.declared.types.Placed.{Placed}
+use Rattle.ss_parts.specs.Held.{window_slots_of}
+use Rattle.ss_stream.proofs.HeldCounts.{length-Agrees}
 use Rattle.ss_sessions.specs.Cursors.{cursor_rows}
 
 -- a fact of what there is, said of each

@@ -9,7 +9,7 @@ use Rattle.ss_model.specs.State.{Stream, stream_named, stream_numbered}
 use Rattle.ss_model.specs.declared.types.Placed.{Placed}
 use Rattle.ss_parts.specs.Held.{AllAgree}
 use Rattle.ss_parts.specs.declared.parts.StreamParts.{StreamParts}
-use Rattle.ss_store.proofs.HeldCounts.{SomeAgree-named}
+use Rattle.ss_store.proofs.Named.{SomeAgree-named}
 use Rattle.ss_store.specs.Kept.{SomeAgree, part_named}
 use Rattle.ss_sessions.specs.Cursors.{Cursors, cursor_of, cursor_refusals, cursor_rows, cursor_opened, refuses_cursor, with_cursor}
 use Rattle.ss_sessions.specs.Errors.{refusal_of}

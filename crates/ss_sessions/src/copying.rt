@@ -5,7 +5,7 @@ ghost use Rattle.ss_line.specs.Line.{StandsIn};
 ghost use Rattle.ss_outside.specs.Disk.{OfContent};
 ghost use Rattle.ss_outside.specs.Step.{Step};
 ghost use Rattle.ss_outside.specs.Verdict.{IfChanged, IfUndone};
-ghost use Rattle.ss_query.specs.Answered.{window_slots_of};
+ghost use Rattle.ss_parts.specs.Held.{window_slots_of};
 ghost use Rattle.ss_store.specs.Applied.{Looks};
 ghost use Rattle.ss_store.specs.Kept.{StoreIsKept, part_numbered};
 ghost use Rattle.ss_sessions.specs.Errors.{verdict_of_cursor};

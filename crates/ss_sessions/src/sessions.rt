@@ -35,13 +35,13 @@ impl Sessions {
     ghost use Rattle.ss_outside.specs.Disk.{OfContent};
     ghost use Rattle.ss_outside.specs.Step.{Step};
     ghost use Rattle.ss_outside.specs.Verdict.{IfChanged, IfUndone};
-    ghost use Rattle.ss_query.specs.Answered.{window_slots_of};
     ghost use Rattle.ss_store.specs.Applied.{Looks};
     ghost use Rattle.ss_store.specs.Kept.{StoreIsKept, part_named};
     ghost use Rattle.ss_sessions.specs.Cursors.{cursor_of, no_cursors, with_cursor};
     ghost use Rattle.ss_sessions.specs.Errors.{refusal_of, verdict_of_cursor};
     ghost use Rattle.ss_sessions.specs.Opened.{HasOpened, OpensCursor, refuses_cursor_held};
     ghost use Rattle.ss_base.specs.declared.limits.TheConstants.{MOST_SESSIONS};
+    ghost use Rattle.ss_parts.specs.Held.{window_slots_of};
     ghost use Rattle.ss_sessions.specs.declared.error.CursorRefusal.{CursorRefusal};
 
     /// Sessions of which none has a cursor. It takes no memory.

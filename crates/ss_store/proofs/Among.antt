@@ -1,9 +1,10 @@
 -- One stream among others: its records beside theirs, and what stands in its place afterwards.
-use Rattle.ss_store.proofs.Common.{◌≡◌, ℕ, zero, suc, ◌<◌, ◌≤◌, Bool, false, List, [], ◌∷◌, ◌++◌, length, flat_map, remove, slice_set, zip, refl, ap, sym}
-use Rattle.ss_store.proofs.Common.{◌∙◌, arith, IsPermutation, Option, None, Some, MatchOption, ⊤, nat_tests, length-set, map-set, All-get_or, All-nil}
+use Rattle.ss_stream.proofs.Rising.{IsNoEarlier}
+use Rattle.ss_store.proofs.Common.{◌≡◌, ℕ, zero, suc, ◌<◌, Bool, List, [], ◌∷◌, ◌++◌, length, flat_map, remove, slice_set, zip, refl, ap, sym}
+use Rattle.ss_store.proofs.Common.{◌∙◌, arith, IsPermutation, Option, None, Some, MatchOption, length-set, map-set, All-get_or, All-nil}
 use Rattle.ss_store.proofs.Common.{All-set, IsPermutation-sym, IsPermutation-trans, get_or_from_slice_get, none-some, same_Some, slice_get_within, Record}
 use Rattle.ss_store.proofs.Common.{SlotMap, StandsFor, Landmark, AreKnown, AllEndBy, EndsBy, AllEndBy-later, closed_state, closed_stream}
-use Rattle.ss_store.proofs.Common.{is_past, rule_of, IsState, IsStream, Stream, values_in, IsStream-joined, AllAgree, AreWhole, Agrees, EndByLast, RiseToLast}
+use Rattle.ss_store.proofs.Common.{rule_of, IsState, IsStream, Stream, values_in, IsStream-joined, AllAgree, AreWhole, Agrees, EndByLast, RiseToLast}
 use Rattle.ss_store.proofs.Common.{TileFrom, entries_of, records_held, slots_held, StreamParts, carried, carried-AreHeld, HasWholeSlots-StandsFor, IsOrdered}
 use Rattle.ss_store.proofs.Common.{IsPartlyJoined, IsSameStream, with_windows, IsHeldIn, Recovers, recovered_from, recovered_of, AreSomeLive, LiveSlotsGo}
 use Rattle.ss_store.proofs.Common.{live_slots, HasRecords}
@@ -182,25 +183,6 @@ AreWhole-changed parts live live_now place part now whole at same_id same_name o
       slots = IsPermutation-trans (flat_map slots_held changed) (slots_held now ++ others) (live_slots live_now)
           (IsPermutation-sym (slots_held now ++ others) (flat_map slots_held changed) moved) (go others parted);
     }
-
--- a last time that isn't before the one from before
-abbrev pub IsNoEarlier : Option ℕ → Option ℕ → Type 0
-IsNoEarlier None now = ⊤
-IsNoEarlier (Some last) None = ⊥
-IsNoEarlier (Some last) (Some t) = last ≤ t
-
-pub IsNoEarlier-same : (was now : Option ℕ) → now ≡ was → IsNoEarlier was now
-IsNoEarlier-same None now same = tt
-IsNoEarlier-same (Some last) None same = cc
-IsNoEarlier-same (Some last) (Some t) same = let is : t ≡ last = cc in omega (arith, is)
-
-pub IsNoEarlier-past : (was now : Option ℕ) (t : ℕ) → now ≡ Some t → is_past was t ≡ false → IsNoEarlier was now
-IsNoEarlier-past was None t same past = absurd (cc)
-IsNoEarlier-past None (Some u) t same past = tt
-IsNoEarlier-past (Some last) (Some u) t same past =
-    let is : u ≡ t = cc in
-    let later : last < t = grind (arith, nat_tests) in
-    omega (arith, is, later)
 
 all_end-later : (was now : Option ℕ) (landmarks : List Landmark) → IsNoEarlier was now →
     MatchOption was (landmarks ≡ []) (λ last. AllEndBy last landmarks) → MatchOption now (landmarks ≡ []) (λ last. AllEndBy last landmarks)

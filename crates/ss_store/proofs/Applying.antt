@@ -8,8 +8,8 @@ use Rattle.std.proofs.Common.{max}
 use Rattle.std.specs.Prelude.{IsTrue}
 use Rattle.ss_outside.specs.Disk.{WhereTold}
 use Rattle.ss_store.specs.declared.error.ApplyError.TheVariants as apply
-use Rattle.ss_query.specs.declared.read_error.ReadError.TheVariants as fault
-use Rattle.ss_store.proofs.ShownCalls.{TurnsShown-failed, TurnsShown-reads}
+use Rattle.ss_parts.specs.declared.read_error.ReadError.TheVariants as fault
+use Rattle.ss_stream.proofs.ShownCalls.{TurnsShown-failed, TurnsShown-reads}
 use Rattle.ss_store.proofs.Stepping.{IsRefusedBy}
 
 -- without a call of the disk no step is made

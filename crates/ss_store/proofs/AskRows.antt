@@ -5,7 +5,7 @@ use Rattle.std.proofs.Common.{All}
 use Rattle.ss_outside.specs.Verdict.{changed, refused, stopped}
 use Rattle.ss_catalog.specs.declared.refusal.Refusal.TheVariants as refusal
 use Rattle.ss_query.specs.Answered.{begun_in}
-use Rattle.ss_query.specs.declared.read_error.ReadError.TheVariants as read
+use Rattle.ss_parts.specs.declared.read_error.ReadError.TheVariants as read
 use Rattle.ss_store.specs.declared.error.AskError.TheVariants as ask
 
 verdicts-ask : map (λ e. verdict_of_ask {T = Unit {0}} (Err e)) (ask.Refused refusal.Range ∷ ask.Disk ∷ ask.Stopped ∷ ask.Changed 7 ∷ [])

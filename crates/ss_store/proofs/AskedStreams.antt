@@ -5,10 +5,10 @@ use Rattle.ss_store.proofs.Common.{first_that_applies, Stream, stream_named, All
 use Rattle.ss_store.proofs.Common.{SomeAgree, StoreIsIn, StoreIsKept, StoreState, part_named, Recovers}
 use Rattle.ss_model.specs.Answers.{refuses_query}
 use Rattle.ss_query.specs.Answered.{IsSeenAs, SeesStream}
-use Rattle.ss_query.specs.declared.read_error.ReadError.TheVariants as error
+use Rattle.ss_parts.specs.declared.read_error.ReadError.TheVariants as error
 use Rattle.ss_store.specs.Asked.{refuses_query_held}
 use Rattle.ss_store.proofs.Among.{IsHeldIn-at, others_of}
-use Rattle.ss_store.proofs.HeldCounts.{SomeAgree-named}
+use Rattle.ss_store.proofs.Named.{SomeAgree-named}
 use Rattle.ss_store.proofs.KeptStates.{Recovers-StoreIsIn, Recovers-same}
 use Rattle.ss_store.proofs.Named.{AreFound-named}
 

@@ -4,7 +4,7 @@ use Rattle.ss_store.proofs.Common.{StandsFor, changed, Put, AreKept, RecordsStat
 use Rattle.ss_store.proofs.Common.{occupied, records_held, carried, carries, Parts, StreamParts, StandsLike, OpensAs, ClearsSlots, HasDoomed, StagesChange}
 use Rattle.ss_store.proofs.Common.{StagesClearing, HasRebuilt, HasRebuiltBeside, IsRebuilt, Recovers, SettlesAll, OpenError}
 use Rattle.std.specs.Prelude.{flat_map, map, zip}
-use Rattle.ss_query.specs.declared.read_error.ReadError.TheVariants as fault
+use Rattle.ss_parts.specs.declared.read_error.ReadError.TheVariants as fault
 use Rattle.ss_store.specs.Rebuilt.{ReadsAll}
 
 -- the slots of records

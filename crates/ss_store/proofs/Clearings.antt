@@ -7,9 +7,9 @@ use Rattle.ss_store.proofs.Common.{recovered_of, AreSomeLive, LiveSlotsGo, zeros
 use Rattle.std.proofs.Math.Seq.{drop-cons, take-suc}
 use Rattle.std.proofs.lemmas.List.{drop_all, get_or-map, take-append-drop}
 use Rattle.ss_recover.proofs.DroppedMaps.{carried-goes}
+use Rattle.ss_stream.proofs.ShownCalls.{IsOfMap, StaysOr-weaker, Turns-not_sealed, Turns-sealed, TurnsShown-failed, TurnsShown-reads, TurnsShown-then}
 use Rattle.ss_store.proofs.Among.{recover-StandsFor}
 use Rattle.ss_store.proofs.KeptStates.{Recovers-of_map}
-use Rattle.ss_store.proofs.ShownCalls.{IsOfMap, StaysOr-weaker, Turns-not_sealed, Turns-sealed, TurnsShown-failed, TurnsShown-reads, TurnsShown-then}
 
 -- whatever of them is left, the image recovers to the streams that it carries
 pub Recovers-doomed : (doomed held : List (ℕ × Option Record)) (streams : List Stream) (image : List ℕ) → HasDoomed doomed held streams image →

@@ -8,10 +8,10 @@ use Rattle.std.proofs.Common.{slice_get}
 use Rattle.std.specs.Prelude.{Err}
 use Rattle.std.proofs.lemmas.List.Elements.{Contains-append_left}
 use Rattle.ss_model.proofs.StandLemmas.{length-closed_le}
-use Rattle.ss_store.specs.Changing.{SomeChangedIsHeld}
-use Rattle.ss_query.specs.declared.read_error.ReadError.TheVariants as fault
+use Rattle.ss_store.specs.Settling.{SomeChangedIsHeld}
+use Rattle.ss_parts.specs.declared.read_error.ReadError.TheVariants as fault
+use Rattle.ss_stream.proofs.Calls.{Turns-joined, Turns-same, Turns-weaker}
 use Rattle.ss_store.proofs.Among.{HasRecords-set, IsHeldIn-at, IsStream-at, Recovers-held, Recovers-partly, length-AllAgree, others_of}
-use Rattle.ss_store.proofs.Calls.{Turns-joined, Turns-same, Turns-weaker}
 use Rattle.ss_store.proofs.OneOfMany.{set-same, slice_get-within}
 use Rattle.ss_store.proofs.ShorterStates.{IsState-shorter, closed_stream-again}
 

@@ -5,7 +5,7 @@ use Rattle.ss_store.proofs.Common.{shown_by, records_held, HeldStream, StreamPar
 use Rattle.ss_store.proofs.Common.{StoreState, refuses_held, LiveSlotsGo, StagesRecord, Disk}
 use Rattle.std.proofs.Common.{max}
 use Rattle.ss_codec.specs.declared.record.Record.TheVariants as records
-use Rattle.ss_query.specs.declared.read_error.ReadError.TheVariants as fault
+use Rattle.ss_parts.specs.declared.read_error.ReadError.TheVariants as fault
 use Rattle.ss_store.proofs.Created.{IsFreshPart, IsSound-created, StepsState-created, StoreIsKept-created, said_of_created}
 use Rattle.ss_store.proofs.IndexedStreams.{stored}
 use Rattle.ss_store.proofs.Refusals.{refuses_held-is}

@@ -1,9 +1,9 @@
 -- How many windows stand after an event, by what is replied to it.
+use Rattle.ss_stream.proofs.FewWindows.{length-none_due}
 use Rattle.ss_store.proofs.Common.{◌≡◌, ℕ, ◌+◌, ◌-◌, ◌*◌, ◌<◌, ◌≤◌, List, length, slice_set, sym, ◌∙◌, Option, IfSome, length-map, StreamId, rule_of}
 use Rattle.ss_store.proofs.Common.{params_of, cover, steps_met, TileFrom, entries_of, StreamParts, IsTaker, ends_held, values_held, NoEntriesAreDue, IsSound}
 use Rattle.ss_store.proofs.Common.{StoreState, part_named}
 use Rattle.ss_store.proofs.Spared.{part_named-set}
-use Rattle.ss_store.proofs.FewWindows.{length-none_due}
 
 -- of a stream that is held: so many windows are few enough
 abbrev pub KeepsToTarget : Option StreamParts → ℕ → ℕ → Type 0

@@ -14,8 +14,8 @@ use Rattle.std.proofs.lemmas.List.Edits.{length-remove}
 use Rattle.ss_catalog.specs.Catalog.{without_name}
 use Rattle.ss_model.specs.Steps.{without_named, stepped_from}
 use Rattle.ss_model.proofs.DropLemmas.{IsState-without, without_named-place, without_number-place}
-use Rattle.ss_query.specs.declared.read_error.ReadError.TheVariants as fault
-use Rattle.ss_recover.proofs.Lists.{map-all}
+use Rattle.ss_parts.specs.declared.read_error.ReadError.TheVariants as fault
+use Rattle.ss_parts.proofs.Lists.{map-all}
 use Rattle.ss_store.proofs.Among.{Agrees-both, Recovers-held, length-AllAgree, others_of}
 use Rattle.ss_store.proofs.DroppedRecords.{none-of-all}
 use Rattle.ss_store.proofs.IndexedStreams.{stored}

@@ -8,9 +8,9 @@ use Rattle.ss_store.proofs.Common.{RecoversWithOrWithout, dropped_record, slots_
 use Rattle.ss_codec.specs.declared.record.Record.TheVariants as records
 use Rattle.ss_store.proofs.Among.{recover-StandsFor}
 use Rattle.ss_recover.proofs.DroppedMaps.{carried-dropped}
-use Rattle.ss_store.proofs.Changes.{moves-replaced}
+use Rattle.ss_stream.proofs.Changes.{moves-replaced}
+use Rattle.ss_stream.proofs.ShownCalls.{StaysOr-weaker, TurnsShown-failed, TurnsShown-then, TurnsShown-weaker}
 use Rattle.ss_store.proofs.DroppedRecords.{GoInTurn-dropped, doomed_of, beside_own, slots-dropped}
-use Rattle.ss_store.proofs.ShownCalls.{StaysOr-weaker, TurnsShown-failed, TurnsShown-then, TurnsShown-weaker}
 
 -- an image of a map that carries streams recovers to what they close to
 Recovers-carried : (image : List ℕ) (found : SlotMap) (streams : List Stream) → StandsFor image found → carried found ≡ carries streams →

@@ -10,9 +10,9 @@ use Rattle.ss_landmarks.specs.declared.landmarks.TheConstants.{MOST_LANDMARK_SLO
 use Rattle.ss_model.specs.Refusals.{stands}
 use Rattle.ss_model.proofs.Stretches.{taken-windows}
 use Rattle.ss_model.proofs.NewestLemmas.{All-found}
+use Rattle.ss_stream.proofs.HeldCounts.{values_held-Agrees}
+use Rattle.ss_stream.proofs.KeyedWindows.{held-few}
 use Rattle.ss_store.proofs.EventCounts.{counted-history}
-use Rattle.ss_store.proofs.HeldCounts.{values_held-Agrees}
-use Rattle.ss_store.proofs.KeyedWindows.{held-few}
 use Rattle.ss_store.proofs.Named.{AreFound-numbered}
 
 -- one, if a landmark is open

@@ -5,8 +5,9 @@ use Rattle.ss_store.proofs.Common.{said_of_held, SomeAgree, StoreIsIn, StoreStat
 use Rattle.std.proofs.Common.{IfSome}
 use Rattle.ss_model.specs.Steps.{ack_of, said_of}
 use Rattle.ss_model.proofs.WithinLemmas.{IfSome-find}
+use Rattle.ss_stream.proofs.HeldCounts.{length-Agrees, values_held-Agrees}
 use Rattle.ss_store.proofs.Among.{length-AllAgree}
-use Rattle.ss_store.proofs.HeldCounts.{SomeAgree-named, SomeAgree-numbered, length-Agrees, values_held-Agrees}
+use Rattle.ss_store.proofs.Named.{SomeAgree-named, SomeAgree-numbered}
 use Rattle.ss_store.proofs.KeptStates.{AllAgree-recovered}
 use Rattle.ss_store.proofs.Refusals.{refuses_held-is}
 use Rattle.ss_store.proofs.Removed.{find-passes}

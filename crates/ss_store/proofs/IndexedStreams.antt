@@ -3,7 +3,7 @@ use Rattle.ss_store.proofs.Common.{◌≡◌, ◌∙◌, ℕ, ◌<◌, Bool, Lis
 use Rattle.ss_store.proofs.Common.{remove, slice_get, slice_get-get_or, slice_get-map, slice_set, All, All-get_or, All-set, length-map, HeldStream, IsScheduled}
 use Rattle.ss_store.proofs.Common.{Index, RecordsState, StoreState, held_parts}
 use Rattle.std.proofs.Math.ListN.{get_or-map}
-use Rattle.ss_store.proofs.KeyedWindows.{IsScheduled-same}
+use Rattle.ss_stream.proofs.KeyedWindows.{IsScheduled-same}
 use Rattle.ss_store.proofs.Removed.{map-remove}
 
 -- what is seen of a store with these streams

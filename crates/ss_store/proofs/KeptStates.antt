@@ -2,9 +2,9 @@
 use Rattle.ss_store.proofs.Common.{◌≡◌, ℕ, List, refl, sym, ◌∙◌, SlotMap, StandsFor, redo, stands, not_a_store, bad_entry, SameMap-refl, StandsFor-from}
 use Rattle.ss_store.proofs.Common.{Happened, IsState, Stream, state, AllAgree, StoreIsIn, StoreState, Recovers, Stands, recovered_from, recovers}
 use Rattle.ss_journal.specs.Redo.{Redone}
+use Rattle.ss_stream.proofs.ShownCalls.{IsOfMap}
 use Rattle.ss_store.specs.Recover.{recover}
 use Rattle.ss_store.proofs.Among.{Recovers-held, recover-StandsFor}
-use Rattle.ss_store.proofs.ShownCalls.{IsOfMap}
 
 -- an image recovers to one state
 pub Recovers-same : (first second : List Stream) (image : List ℕ) → Recovers first image → Recovers second image → first ≡ second

@@ -2,43 +2,21 @@ pub mod Common
 pub mod OneOfMany
 pub mod Removed
 pub mod DroppedRecords
-pub mod WindowSlots
 pub mod Dropping
 pub mod ShorterStates
 pub mod Among
-pub mod HeldCounts
 pub mod EventCounts
 pub mod EventsHeld
 pub mod KeptStates
 pub mod Unformed
-pub mod Additions
-pub mod Calls
-pub mod ShownCalls
-pub mod Changes
-pub mod Closings
-pub mod FewWindows
-pub mod Joinings
-pub mod LiveSlots
 pub mod ClosingAll
 pub mod Clearings
 pub mod Settlings
 pub mod Opens
 pub mod SurveyAnswers
-pub mod Pairs
-pub mod Readings
-pub mod Slots
-pub mod Spans
-pub mod LastEntries
-pub mod Surveys
-pub mod SyncRows
-pub mod Syncs
-pub mod Costs
 pub mod SurveyedStreams
 pub mod PlaceLemmas
 pub mod LiveCounts
-pub mod OpenMarks
-pub mod Marked
-pub mod MarkedCalls
 pub mod Named
 pub mod Found
 pub mod Refusals
@@ -63,12 +41,9 @@ mod OldRows
 mod AskRows
 mod NewestRows
 mod CallRows
-mod StepRows
 mod DropRows
 mod ClearingRows
 pub mod FoundAlike
-pub mod Wholes
-pub mod Sealings
 pub mod Steps
 pub mod Applying
 pub mod Sealed
@@ -77,10 +52,7 @@ pub mod ValueTaking
 pub mod MarkTaking
 pub mod Creating
 pub mod Dropped
-pub mod KeyedWindows
-pub mod Rising
 pub mod IndexedStreams
-pub mod Within
 pub mod Uses
 pub mod Extents
 mod ExtentRows

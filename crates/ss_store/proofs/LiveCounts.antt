@@ -10,7 +10,7 @@ use Rattle.std.proofs.lemmas.List.FromFn.{get_or-map-range_with_len, length-map-
 use Rattle.std.proofs.lemmas.List.Sorted.{length_permutation}
 use Rattle.std.proofs.lemmas.List.Sums.{length-filter}
 use Rattle.ss_records.specs.Live.{live_count}
-use Rattle.ss_store.proofs.HeldCounts.{length-Agrees}
+use Rattle.ss_stream.proofs.HeldCounts.{length-Agrees}
 
 count_by-map : {X Y : Type 0} (p : Y → Bool) (f : X → Y) (xs : List X) → count_by (λ x. p (f x)) xs ≡ count_by p (map f xs)
 count_by-map p f [] = refl

@@ -3,7 +3,7 @@ use Rattle.ss_store.proofs.Common.{◌≡◌, ◌∙◌, ℕ, true, false, List,
 use Rattle.ss_store.proofs.Common.{IsFirm, HeldStream, StreamParts, held_parts, verdict_of_read, ReadError, Looks, ask_of_fault, verdict_of_ask, StoreState}
 use Rattle.ss_store.proofs.Common.{part_numbered, AskError}
 use Rattle.std.specs.Prelude.{Option}
-use Rattle.ss_query.specs.declared.read_error.ReadError.TheVariants as error
+use Rattle.ss_parts.specs.declared.read_error.ReadError.TheVariants as error
 use Rattle.ss_store.proofs.Spared.{part-read}
 use Rattle.ss_store.proofs.IndexedStreams.{parts-read}
 

@@ -4,11 +4,11 @@ use Rattle.ss_store.proofs.Common.{Ok, DiskView, OfContent, Step, failed, fine, 
 use Rattle.ss_store.proofs.Common.{RecordsState, shown_by, entries_of, mark_slots, HeldStream, StreamParts, held_parts, IsMarker, Applies, leaves_no_value}
 use Rattle.ss_store.proofs.Common.{is_plain_value, StagesAtCost, KeepsWhole, values_held, IsHeldIn, IsSound, same_name, StoreIsIn, StoreIsKept, StoreState}
 use Rattle.ss_store.proofs.Common.{of_part, refuses_held, without_spare, CanMark, FitsMark, IsInOpen, IsItsSlot, event_of, slots_used, with_mark, Disk, Mark}
-use Rattle.ss_store.specs.Changing.{CanTakeMark, HasNoLessRoom, HasSameWindows, TakesMark}
-use Rattle.ss_store.specs.declared.marking.Mark.TheVariants as marks
-use Rattle.ss_query.specs.declared.read_error.ReadError.TheVariants as fault
+use Rattle.ss_stream.specs.declared.marking.Mark.TheVariants as marks
+use Rattle.ss_parts.specs.declared.read_error.ReadError.TheVariants as fault
+use Rattle.ss_stream.specs.Changing.{CanTakeMark, HasNoLessRoom, HasSameWindows, TakesMark}
+use Rattle.ss_stream.proofs.MarkedCalls.{CanBeSaid-mark, mark_refusal-same}
 use Rattle.ss_store.proofs.IndexedStreams.{parts-read, stored}
-use Rattle.ss_store.proofs.MarkedCalls.{CanBeSaid-mark, mark_refusal-same}
 use Rattle.ss_store.proofs.Refusals.{of_part-named, refuses_held-is}
 use Rattle.ss_store.proofs.Spared.{IsSpared-marks, part-read, same_name-part}
 use Rattle.ss_store.proofs.Taking.{IsTakingAt, applies-taken, applies-untaken, ordered-spared, pair, recovers-before, same-spared, taking, with_stream}

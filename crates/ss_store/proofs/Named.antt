@@ -8,8 +8,31 @@ use Rattle.std.specs.Prelude.{Option}
 use Rattle.ss_catalog.specs.Catalog.{id_of}
 use Rattle.ss_model.specs.Refusals.{stands}
 use Rattle.ss_store.proofs.Among.{Agrees-at, IsStream-at}
-use Rattle.ss_store.proofs.HeldCounts.{SomeAgree-named}
 use Rattle.ss_store.proofs.PlaceLemmas.{part_numbered-at}
+
+pub SomeAgree-named : (parts : List StreamParts) (streams : List Stream) (name : List ℕ) → AllAgree parts streams →
+    SomeAgree (part_named name parts) (stream_named name streams)
+SomeAgree-named [] [] name each = tt
+SomeAgree-named [] (s ∷ ss) name each = absurd each
+SomeAgree-named (part ∷ parts) [] name each = absurd each
+SomeAgree-named (part ∷ parts) (s ∷ ss) name each =
+    let same : same_name name s.name ≡ same_name name part.name = ap (same_name name) (sym each.0.name) in
+    elim (cases_Bool (same_name name part.name)) [
+      | inl found ↦ rw (same, found) each.0
+      | inr other ↦ rw (same, other) (SomeAgree-named parts ss name each.1)
+    ]
+
+pub SomeAgree-numbered : (parts : List StreamParts) (streams : List Stream) (number : ℕ) → AllAgree parts streams →
+    SomeAgree (part_numbered number parts) (stream_numbered number streams)
+SomeAgree-numbered [] [] number each = tt
+SomeAgree-numbered [] (s ∷ ss) number each = absurd each
+SomeAgree-numbered (part ∷ parts) [] number each = absurd each
+SomeAgree-numbered (part ∷ parts) (s ∷ ss) number each =
+    let same : (number == s.number) ≡ (number == part.id.0) = ap (λ n. number == n) (sym each.0.number) in
+    elim (cases_Bool (number == part.id.0)) [
+      | inl found ↦ rw (same, found) each.0
+      | inr other ↦ rw (same, other) (SomeAgree-numbered parts ss number each.1)
+    ]
 
 -- what the catalog finds
 pub id_of-named : (name : List ℕ) (parts : List StreamParts) →

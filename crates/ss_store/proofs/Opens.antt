@@ -15,13 +15,13 @@ use Rattle.ss_recover.specs.declared.recover_error.RecoverError.TheVariants as r
 use Rattle.ss_store.specs.Calls.{KeepsHistory, KeepsState}
 use Rattle.ss_store.specs.Errors.{open_of_fault, open_of_journal, open_of_recover}
 use Rattle.ss_store.specs.Recover.{recover}
-use Rattle.ss_query.specs.declared.read_error.ReadError.TheVariants as fault
+use Rattle.ss_parts.specs.declared.read_error.ReadError.TheVariants as fault
+use Rattle.ss_stream.proofs.Changes.{extent-kept}
+use Rattle.ss_stream.proofs.Calls.{Turns-answers, Turns-failed, Turns-reads, Turns-then, Turns-weaker}
+use Rattle.ss_stream.proofs.Within.{KeepsWithin-answers, KeepsWithin-failed, KeepsWithin-reads, KeepsWithin-then}
 use Rattle.ss_store.proofs.Among.{Recovers-held, recover-StandsFor}
-use Rattle.ss_store.proofs.Changes.{extent-kept}
-use Rattle.ss_store.proofs.Calls.{Turns-answers, Turns-failed, Turns-reads, Turns-then, Turns-weaker}
 use Rattle.ss_store.proofs.ClosingAll.{IsState-closed_state, closed_state-again}
 use Rattle.ss_store.proofs.KeptStates.{Recovers-same}
-use Rattle.ss_store.proofs.Within.{KeepsWithin-answers, KeepsWithin-failed, KeepsWithin-reads, KeepsWithin-then}
 use Rattle.ss_store.proofs.Settlings.{Recovers-beside}
 
 -- why there is no store

@@ -12,9 +12,10 @@ use Rattle.ss_catalog.specs.declared.event.Event.TheVariants as events
 use Rattle.ss_catalog.specs.declared.refusal.Refusal.TheVariants as refusal
 use Rattle.ss_model.specs.Outline.{Outline, outline_named, outline_of}
 use Rattle.ss_model.specs.Refusals.{has_all_streams, has_most_values, is_early, refusals, refuses}
-use Rattle.ss_store.specs.Kept.{outline_held, refuses_held}
-use Rattle.ss_store.specs.declared.marking.Mark.TheVariants as marks
-use Rattle.ss_store.proofs.HeldCounts.{values_held-Agrees}
+use Rattle.ss_store.specs.Kept.{refuses_held}
+use Rattle.ss_stream.specs.declared.marking.Mark.TheVariants as marks
+use Rattle.ss_stream.specs.Held.{outline_held}
+use Rattle.ss_stream.proofs.HeldCounts.{values_held-Agrees}
 use Rattle.ss_store.proofs.LiveCounts.{length-slots}
 use Rattle.ss_store.proofs.Named.{AreFound-named, is_some-option_map, numbers-AllAgree, stands-held}
 

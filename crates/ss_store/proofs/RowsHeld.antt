@@ -2,8 +2,8 @@
 use Rattle.ss_store.proofs.Common.{◌≡◌, ℕ, List, map, refl, ap, sym, ◌∙◌, Some, slice_get, option_map, slice_get-map, StreamId, IsState, IsStream, Stream}
 use Rattle.ss_store.proofs.Common.{StreamRow, AllAgree, Agrees, StreamParts, row_of_held}
 use Rattle.ss_model.specs.Shown.{row_of}
+use Rattle.ss_stream.proofs.HeldCounts.{length-Agrees, values_held-Agrees}
 use Rattle.ss_store.proofs.Among.{Agrees-at, IsStream-at}
-use Rattle.ss_store.proofs.HeldCounts.{length-Agrees, values_held-Agrees}
 
 pub row_of_held-Agrees : (part : StreamParts) (s : Stream) → IsStream s → Agrees part s → row_of_held part ≡ row_of s
 row_of_held-Agrees part s is agrees =

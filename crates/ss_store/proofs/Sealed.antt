@@ -4,13 +4,13 @@ use Rattle.ss_store.proofs.Common.{weaker, Told, Failed}
 use Rattle.ss_store.proofs.Common.{KeepsShown, StandsFor, SealsRecords}
 use Rattle.ss_store.proofs.Common.{RecordsState, shown_by, SealsStore}
 use Rattle.ss_store.proofs.Common.{StoreIsIn, StoreIsKept, StoreState, Recovers, Stands, IsShort, StandsShort}
-use Rattle.ss_query.specs.declared.read_error.ReadError.TheVariants as fault
+use Rattle.ss_parts.specs.declared.read_error.ReadError.TheVariants as fault
+use Rattle.ss_stream.proofs.ShownCalls.{TurnsShown-kept}
+use Rattle.ss_stream.proofs.Within.{StaysWithin-kept}
 use Rattle.ss_store.specs.Calls.{SealsHistory}
 use Rattle.ss_store.specs.declared.error.ApplyError.TheVariants as apply
 use Rattle.ss_store.proofs.KeptStates.{Recovers-of_map, Stands-of_map}
-use Rattle.ss_store.proofs.ShownCalls.{TurnsShown-kept}
 use Rattle.ss_store.proofs.Uses.{StandsShort-also}
-use Rattle.ss_store.proofs.Within.{StaysWithin-kept}
 
 -- what is shown stays the history, and comes to the disk as a whole
 SealsHistory-keeps : {T E : Type 0} (was is : RecordsState) (old new : Told) (result : Result T E) → KeepsShown was.journal is.journal old new result →

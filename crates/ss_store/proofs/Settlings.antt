@@ -1,11 +1,11 @@
 -- What was rebuilt is settled, and the records of dropped streams are cleared.
+use Rattle.ss_stream.proofs.Calls.{Turns-failed, Turns-then, Turns-weaker}
+use Rattle.ss_stream.proofs.ShownCalls.{IsOfMap}
+use Rattle.ss_stream.proofs.Slots.{Turns-kept}
 use Rattle.ss_store.proofs.Common.{◌≡◌, ℕ, List, [], ◌∷◌, ap, flat_map, map, refl, zip, Bool, Ok, Option, None, Result, on_ok_weaker, IsErr, Told, KeepsMap}
 use Rattle.ss_store.proofs.Common.{Record, closed_state, Stream, AreWhole, AreWholeBeside, records_held, slots_held, StreamParts, Turns, ClearsSlots}
 use Rattle.ss_store.proofs.Common.{HasRebuilt, HasRebuiltBeside, Recovers, LiveSlotsGo}
-use Rattle.ss_store.proofs.Calls.{Turns-failed, Turns-then, Turns-weaker}
 use Rattle.ss_store.proofs.Clearings.{HasDoomed-of_map, Recovers-doomed}
-use Rattle.ss_store.proofs.ShownCalls.{IsOfMap}
-use Rattle.ss_store.proofs.Slots.{Turns-kept}
 
 -- records in any slots
 lie_in-some : (slots : List ℕ) → map (λ (e : ℕ × Option Record). e.0) (map (λ (slot : ℕ). (slot, None)) slots) ≡ slots

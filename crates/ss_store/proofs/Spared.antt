@@ -6,7 +6,7 @@ use Rattle.ss_store.proofs.Common.{entries_of, records_held, span_held, times_he
 use Rattle.ss_store.proofs.Common.{numbers_held, part_named, without_spare, HasRecords}
 use Rattle.std.proofs.Common.{slice_get}
 use Rattle.std.proofs.lemmas.List.Folds.{find-set}
-use Rattle.ss_store.specs.Kept.{KeepsSpare}
+use Rattle.ss_stream.specs.Held.{KeepsSpare}
 use Rattle.ss_store.proofs.Among.{Marks-at}
 use Rattle.ss_store.proofs.PlaceLemmas.{places-same}
 use Rattle.ss_store.proofs.Removed.{find-passes}

@@ -7,11 +7,11 @@ use Rattle.ss_store.proofs.Common.{Recovers, Stands, IsShort, StandsShort, recor
 use Rattle.std.specs.Prelude.{IsTrue}
 use Rattle.ss_outside.proofs.CrashLemmas.{at_start}
 use Rattle.ss_model.proofs.HistoryLemmas.{IsHistory_push}
+use Rattle.ss_stream.proofs.ShownCalls.{TurnsShown-answers, TurnsShown-failed, TurnsShown-weaker, of_map-like}
 use Rattle.ss_store.specs.declared.error.ApplyError.TheVariants as apply
 use Rattle.ss_store.proofs.KeptStates.{AllAgree-recovered, Recovers-of_map, Recovers-same, Stands-of_map}
 use Rattle.ss_store.proofs.Extents.{records_in-kept}
 use Rattle.ss_store.proofs.Refusals.{refuses_held-is}
-use Rattle.ss_store.proofs.ShownCalls.{TurnsShown-answers, TurnsShown-failed, TurnsShown-weaker, of_map-like}
 use Rattle.ss_store.proofs.Uses.{IsShort-staged, StandsShort-also, moments-staged}
 
 -- what a call does to the records that are shown it does to the state that they are of

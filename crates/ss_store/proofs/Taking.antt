@@ -1,4 +1,6 @@
 -- A store that takes an event, whichever it is: what is known before the call, and what the store does then.
+use Rattle.ss_stream.specs.Changing.{StagesStream}
+use Rattle.ss_stream.proofs.LiveSlots.{LiveSlotsGo-none}
 use Rattle.ss_store.proofs.Common.{◌≡◌, ◌∙◌, ℕ, ◌+◌, ◌<◌, ◌≤◌, Bool, true, false, List, flat_map, zip, slice_set, length, ap, arith, refl, sym, subst}
 use Rattle.ss_store.proofs.Common.{Contains, Err, IfSome, None, Ok, Option, Result, max, slice_get_within, DiskView, IfChanged, IsFirm, OfContent}
 use Rattle.ss_store.proofs.Common.{Step, Told, Verdict, fine, step-from, Event, Record, StreamId, event_name, AreKnown, New, IsState, IsState-stepped, Stream}
@@ -7,12 +9,10 @@ use Rattle.ss_store.proofs.Common.{RecordsState, shown_by, HeldStream, StreamPar
 use Rattle.ss_store.proofs.Common.{IsFew, StandsOn, is_plain_value, leaves_no_value, RecoversToEither, StagesAtCost, StepsState, said_of_held, KeepsWhole}
 use Rattle.ss_store.proofs.Common.{apply_of_fault, IsOrdered, values_held, IsSound, SameButSpare, StoreIsIn, StoreIsKept, StoreState, entry_of, part_named}
 use Rattle.ss_store.proofs.Common.{refuses_held, without_spare, Recovers, AreSomeLive, LiveSlotsGo}
-use Rattle.ss_store.specs.Changing.{StagesStream}
 use Rattle.ss_store.proofs.Among.{AreWhole-at, AreWhole-changed, HasRecords-set, IsHeldIn-at, Marks-at, Recovers-held, others_of}
 use Rattle.ss_store.proofs.Applying.{Applies-done, Applies-failed}
 use Rattle.ss_store.proofs.IndexedStreams.{stored}
 use Rattle.ss_store.proofs.KeptStates.{Recovers-StoreIsIn}
-use Rattle.ss_store.proofs.LiveSlots.{LiveSlotsGo-none}
 use Rattle.ss_store.proofs.Named.{IsAtPlace, IsPair, IsPair-at}
 use Rattle.ss_store.proofs.OneOfMany.{map-set_same, set-same}
 use Rattle.ss_store.proofs.Spared.{IsHeldIn-IsSpared, IsSpared, KeepsSpare-set, said_of_set}

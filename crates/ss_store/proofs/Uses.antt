@@ -1,11 +1,11 @@
 -- How many slots a history allows, and images that use no more.
+use Rattle.ss_stream.proofs.ShownCalls.{of_map-like}
+use Rattle.ss_stream.proofs.Within.{UsesAtMost-also, UsesAtMost-more, UsesAtMost-of_map}
 use Rattle.ss_store.proofs.Common.{◌≡◌, ◌+◌, ◌≤◌, ◌++◌, ⊎_elim, inl, inr, ℕ, List, [], ◌∷◌, None, Option, Result, Some, ap, append_assoc, arith}
 use Rattle.ss_store.proofs.Common.{append-nil, on_ok_weaker, OnOk, max, weaker, LeavesOnly, NothingPending, Told, on_ok, SlotMap, StandsFor, Happened}
 use Rattle.ss_store.proofs.Common.{live, state, RecordsState, shown_by, StaysWithin, IsShort, StandsShort, UsesAtMost, most_needed, StaysOr}
 use Rattle.ss_store.specs.Uses.{most_needed_from}
 use Rattle.ss_store.proofs.KeptStates.{Stands-of_map}
-use Rattle.ss_store.proofs.ShownCalls.{of_map-like}
-use Rattle.ss_store.proofs.Within.{UsesAtMost-also, UsesAtMost-more, UsesAtMost-of_map}
 
 -- what is needed first, and what is needed last
 live-first : (before after : List Happened) → live (state before) ≤ most_needed_from before after

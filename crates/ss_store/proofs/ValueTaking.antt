@@ -6,12 +6,13 @@ use Rattle.ss_store.proofs.Common.{ChangedIsHeld, NoneAreDue, RecoversToEither, 
 use Rattle.ss_store.proofs.Common.{with_single, held_parts, HeldStream, Index, IsReservedFor, StandsAfter, is_past, IsSound, StoreIsIn, StoreIsKept, StoreState}
 use Rattle.ss_store.proofs.Common.{refuses_held, same_name, ReadError}
 use Rattle.ss_line.specs.declared.line.TheConstants.{MOST_PLACES}
-use Rattle.ss_store.specs.Changing.{TakesValue}
-use Rattle.ss_store.specs.Indexed.{CanAppend}
-use Rattle.ss_store.proofs.Among.{EndByLast-later, IsNoEarlier-past, Recovers-partly}
+use Rattle.ss_stream.specs.Changing.{TakesValue}
+use Rattle.ss_stream.specs.Indexed.{CanAppend}
+use Rattle.ss_stream.proofs.Rising.{IsNoEarlier-past}
+use Rattle.ss_stream.proofs.HeldCounts.{values_held-Agrees}
+use Rattle.ss_store.proofs.Among.{EndByLast-later, Recovers-partly}
 use Rattle.ss_store.proofs.Applying.{held_by_named}
 use Rattle.ss_store.proofs.Decays.{KeepsToTarget-taken}
-use Rattle.ss_store.proofs.HeldCounts.{values_held-Agrees}
 use Rattle.ss_store.proofs.IndexedStreams.{parts-read, stored}
 use Rattle.ss_store.proofs.LiveCounts.{few-slots, length-slots_held}
 use Rattle.ss_store.proofs.Refusals.{refuses_held-is}

@@ -14,7 +14,7 @@ use Rattle.ss_model.specs.Steps.{change_named, with_taken, stepped_from}
 use Rattle.ss_store.proofs.Common.{live}
 use Rattle.ss_model.proofs.StandLemmas.{IsPossible-single, below-has_all_records}
 use Rattle.ss_model.proofs.Stretches.{count-summary_of, taken-cons}
-use Rattle.ss_store.specs.declared.marking.Mark.TheVariants as mark
+use Rattle.ss_stream.specs.declared.marking.Mark.TheVariants as mark
 use Rattle.ss_store.proofs.OneOfMany.{map-set_same}
 use Rattle.ss_store.proofs.ShorterStates.{closed_stream-again}
 use Rattle.ss_store.proofs.Among.{IsStream-at}

@@ -8,8 +8,8 @@ use Rattle.ss_store.proofs.Common.{OfContent, Told, Step, IsFirm, fine, RecordsS
 use Rattle.ss_store.proofs.Common.{StoreIsKept, StoreState, part_numbered, Recovers, HasRecords, HasRecords-permutation, slice_get-entry}
 use Rattle.std.proofs.lemmas.List.Sorted.{IsPermutation-remove}
 use Rattle.ss_model.proofs.WithinLemmas.{IsReadWithinTarget-read}
-use Rattle.ss_query.specs.Reading.{ReadsWindow}
-use Rattle.ss_query.specs.declared.read_error.ReadError.TheVariants as error
+use Rattle.ss_parts.specs.declared.read_error.ReadError.TheVariants as error
+use Rattle.ss_parts.specs.Reading.{ReadsWindow}
 use Rattle.ss_store.proofs.Among.{IsHeldIn-at, others_of}
 use Rattle.ss_store.proofs.KeptStates.{Recovers-StoreIsIn, Recovers-same}
 use Rattle.ss_store.proofs.Named.{AreFound-numbered}

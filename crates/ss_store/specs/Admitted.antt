@@ -10,10 +10,10 @@ use Rattle.ss_model.specs.Refusals.{has_all_streams, is_past}
 use Rattle.ss_model.specs.State.{next_number}
 use Rattle.ss_parts.specs.Held.{entries_of, mark_slots}
 use Rattle.ss_parts.specs.declared.parts.StreamParts.{StreamParts}
-use Rattle.ss_store.specs.Held.{values_held}
+use Rattle.ss_stream.specs.Held.{values_held}
+use Rattle.ss_stream.specs.Marking.{CanMark, IsItsSlot, mark_refusal, slots_used}
+use Rattle.ss_stream.specs.declared.marking.Mark.{Mark}
 use Rattle.ss_store.specs.Kept.{StoreState, live_held, numbers_held, part_named}
-use Rattle.ss_store.specs.Marking.{CanMark, IsItsSlot, mark_refusal, slots_used}
-use Rattle.ss_store.specs.declared.marking.Mark.{Mark}
 
 -- a name and parameters make a new stream, with this number, and its record comes into this slot
 pub record IsNew (store : StoreState) (name : List ℕ) (params : Params) (number slot : ℕ) : Type 0 where

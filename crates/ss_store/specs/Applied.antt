@@ -25,16 +25,16 @@ use Rattle.ss_model.specs.State.{Stream, state, stream_named, stream_numbered, v
 use Rattle.ss_model.specs.declared.outcome.Outcome.{Outcome}
 use Rattle.ss_model.specs.declared.types.Ack.{Ack}
 use Rattle.ss_model.specs.declared.types.Placed.{Placed}
-use Rattle.ss_parts.specs.Held.{entries_of}
+use Rattle.ss_parts.specs.Held.{entries_of, window_slots_of}
 use Rattle.ss_parts.specs.declared.parts.StreamParts.{StreamParts}
 use Rattle.ss_records.specs.Kept.{RecordsState, shown_by}
-use Rattle.ss_store.specs.Calls.{KeepsHistory, KeepsState, KeepsWithin, SealsHistory, StaysWithin, StepsState, TurnsShown}
+use Rattle.ss_store.specs.Calls.{KeepsHistory, KeepsState, SealsHistory, StepsState}
 use Rattle.ss_store.specs.Causes.{OpensAs, said_of_held}
-use Rattle.ss_query.specs.Answered.{window_slots_of}
 use Rattle.ss_query.specs.Asked.{seen_of}
 use Rattle.ss_query.specs.declared.asking.Seen.{Seen}
+use Rattle.ss_stream.specs.Calls.{KeepsWithin, StaysWithin, TurnsShown}
+use Rattle.ss_stream.specs.Held.{ends_held}
 use Rattle.ss_store.specs.Errors.{stopped_after, verdict_of_apply, verdict_of_opening}
-use Rattle.ss_store.specs.Held.{ends_held}
 use Rattle.ss_store.specs.Kept.{SameButSpare, StoreIsKept, StoreState, is_of_landmark, live_held, part_named, part_numbered, refuses_held}
 use Rattle.ss_store.specs.Recover.{Recovers, Stands}
 use Rattle.ss_store.specs.Surveyed.{SurveysAs}

@@ -5,7 +5,7 @@ use Rattle.ss_model.specs.State.{Stream}
 use Rattle.ss_model.specs.declared.types.Ack.{Ack}
 use Rattle.ss_parts.specs.Held.{AllAgree, entries_of}
 use Rattle.ss_parts.specs.declared.parts.StreamParts.{StreamParts}
-use Rattle.ss_store.specs.Held.{values_held}
+use Rattle.ss_stream.specs.Held.{values_held}
 use Rattle.ss_store.specs.Recover.{recover, Recovers, no_store, damaged_entry, damaged_slot, damaged_stream}
 use Rattle.ss_store.specs.Kept.{StoreState}
 use Rattle.ss_store.specs.declared.error.OpenError.{OpenError}

@@ -1,31 +1,20 @@
 -- A stream is dropped: its record says so, and then its records are cleared, its own last.
-use Rattle.std.specs.Prelude.{◌≡◌, ◌⊎◌, ℕ, true, false, List, [], ◌∷◌, ◌++◌, map, Option, Result}
+use Rattle.std.specs.Prelude.{◌≡◌, ◌⊎◌, ℕ, false, List, ◌++◌, map, Option, Result}
 use Rattle.std.specs.List.{list_any}
 use Rattle.std.specs.List.Sorted.{IsPermutation}
 use Rattle.ss_outside.specs.Disk.{Told}
 use Rattle.ss_journal.specs.Redo.{SlotMap, StandsFor}
 use Rattle.ss_records.specs.Kept.{RecordsState}
 use Rattle.ss_codec.specs.declared.record.Record.{Record}
-use Rattle.ss_codec.specs.declared.record.Record.TheVariants as records
-use Rattle.ss_line.specs.declared.entry.Entry.{Entry}
-use Rattle.ss_targets.specs.Targets.{params_of}
 use Rattle.ss_model.specs.ClosedState.{closed_state}
 use Rattle.ss_model.specs.State.{Stream}
-use Rattle.ss_query.specs.Slots.{HasRecords}
 use Rattle.ss_recover.specs.Doomed.{is_of, records_beside, without_numbered}
-use Rattle.ss_parts.specs.Held.{Agrees, entries_of, mark_slots, occupied, records_held}
+use Rattle.ss_parts.specs.Held.{Agrees, occupied, records_held}
 use Rattle.ss_recover.specs.Parts.{carried, carries}
 use Rattle.ss_parts.specs.declared.parts.StreamParts.{StreamParts}
-use Rattle.ss_store.specs.Calls.{TurnsShown}
+use Rattle.ss_parts.specs.Slots.{HasRecords}
+use Rattle.ss_stream.specs.Calls.{TurnsShown}
 use Rattle.ss_store.specs.Recover.{Recovers}
-
--- the slots of all records of a stream, its own last
-abbrev pub slots_in_turn : StreamParts → List ℕ
-slots_in_turn part = map (λ (e : Entry). e.slot) (entries_of part) ++ mark_slots part ++ part.slot ∷ []
-
--- the record of a stream that was dropped
-abbrev pub dropped_record : StreamParts → Record
-dropped_record part = records.Stream part.id.0 part.name (params_of part.target) true
 
 -- An image carries these streams, and has the records of one that is held beside others, of which none has its number.
 pub record IsHeldBeside (others : List (ℕ × Option Record)) (part : StreamParts) (s : Stream) (streams : List Stream) (image : List ℕ) : Type 0 where

@@ -12,8 +12,8 @@ use Rattle.ss_store.specs.declared.error.AskError.{AskError}
 use Rattle.ss_store.specs.declared.error.AskError.TheVariants as ask
 use Rattle.ss_store.specs.declared.error.OpenError.{OpenError}
 use Rattle.ss_store.specs.declared.error.OpenError.TheVariants as opening
-use Rattle.ss_query.specs.declared.read_error.ReadError.{ReadError}
-use Rattle.ss_query.specs.declared.read_error.ReadError.TheVariants as fault
+use Rattle.ss_parts.specs.declared.read_error.ReadError.TheVariants as fault
+use Rattle.ss_parts.specs.declared.read_error.ReadError.{ReadError}
 
 abbrev pub open_of_journal : JournalError → OpenError
 open_of_journal journal.Disk = opening.Disk

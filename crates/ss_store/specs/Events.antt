@@ -4,7 +4,7 @@ use Rattle.std.specs.List.{count_by}
 use Rattle.ss_landmarks.specs.Landmark.{Landmark, all_values}
 use Rattle.ss_parts.specs.Held.{entries_of}
 use Rattle.ss_parts.specs.declared.parts.StreamParts.{StreamParts}
-use Rattle.ss_store.specs.Held.{values_held}
+use Rattle.ss_stream.specs.Held.{values_held}
 
 -- whether a landmark is closed
 abbrev pub is_closed : Landmark → Bool

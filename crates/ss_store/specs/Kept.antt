@@ -1,5 +1,5 @@
 -- A store: what it holds in memory, and what it says of its disk.
-use Rattle.std.specs.Prelude.{◌≡◌, ◌≤◌, ℕ, Bool, true, false, ◌==◌, List, length, map, find, flat_map, zip, Option}
+use Rattle.std.specs.Prelude.{◌≡◌, ℕ, Bool, true, false, ◌==◌, List, length, map, find, flat_map, zip, Option}
 use Rattle.std.specs.Prelude.{Some, None, ⊤}
 use Rattle.std.specs.List.{AllZip}
 use Rattle.std.specs.Option.{option_map, option_map_or}
@@ -23,8 +23,8 @@ use Rattle.ss_model.specs.State.{Stream}
 use Rattle.ss_model.specs.declared.types.StreamRow.{StreamRow}
 use Rattle.ss_parts.specs.Held.{AllAgree, AreWhole, Agrees, entries_of, records_held, slots_held}
 use Rattle.ss_parts.specs.declared.parts.StreamParts.{StreamParts}
-use Rattle.ss_store.specs.Held.{values_held}
-use Rattle.ss_query.specs.Slots.{HasRecords}
+use Rattle.ss_parts.specs.Slots.{HasRecords}
+use Rattle.ss_stream.specs.Held.{outline_held, without_spare, KeepsSpare, values_held}
 
 -- a store: its streams as it holds them, in order of creation, the records, and whether a call has failed
 pub record StoreState : Type 0 where
@@ -70,19 +70,6 @@ SomeAgree None (Some s) = ⊥
 SomeAgree (Some part) None = ⊥
 SomeAgree (Some part) (Some s) = Agrees part s
 
--- a stream as it is held, but for the room that its line and its landmarks have to spare
-abbrev pub without_spare : StreamParts → StreamParts
-without_spare part = record part {
-  line = record { entries = part.line.entries; spare = 0 };
-  landmarks = record part.landmarks { room = 0; value_room = 0 };
-}
-
--- no room to spare falls
-pub record KeepsSpare (was is : StreamParts) : Type 0 where
-  pub line : was.line.spare ≤ is.line.spare
-  pub room : was.landmarks.room ≤ is.landmarks.room
-  pub value_room : was.landmarks.value_room ≤ is.landmarks.value_room
-
 -- stores are the same but for the room to spare, which never falls
 pub record SameButSpare (old new : StoreState) : Type 0 where
   pub streams : map without_spare new.streams ≡ map without_spare old.streams
@@ -93,14 +80,6 @@ pub record SameButSpare (old new : StoreState) : Type 0 where
 -- the numbers of streams as they are held
 abbrev pub numbers_held : List StreamParts → List ℕ
 numbers_held parts = map (λ (part : StreamParts). part.id.0) parts
-
--- the outline of a stream, by what is held of it, and that of the stream of a name, where it is held
-abbrev pub outline_held : StreamParts → Outline
-outline_held part = record {
-  last_time = part.last_time;
-  landmarks = part.landmarks.landmarks;
-  values = values_held (entries_of part);
-}
 
 abbrev pub outline_held_named : List ℕ → List StreamParts → Option Outline
 outline_held_named name parts = option_map outline_held (part_named name parts)

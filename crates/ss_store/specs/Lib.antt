@@ -1,13 +1,9 @@
 pub mod Recover
 pub mod Uses
 pub mod Calls
-pub mod Slots
 pub mod Clearing
-pub mod Held
-pub mod Joining
 pub mod Kept
 pub mod Places
-pub mod Marking
 pub mod Errors
 pub mod Causes
 pub mod Admitted
@@ -15,8 +11,6 @@ pub mod Asked
 pub mod Surveyed
 pub mod Rebuilt
 pub mod Settling
-pub mod Changing
-pub mod Indexed
 pub mod Dropping
 pub mod Applied
 pub mod Extents

@@ -9,9 +9,9 @@ use Rattle.ss_model.specs.State.{Stream}
 use Rattle.ss_parts.specs.Held.{AllAgree, records_held}
 use Rattle.ss_recover.specs.declared.parts.Parts.{Parts}
 use Rattle.ss_parts.specs.declared.parts.StreamParts.{StreamParts}
+use Rattle.ss_parts.specs.Slots.{HasRecords}
 use Rattle.ss_store.specs.Causes.{OpensAs}
 use Rattle.ss_store.specs.Clearing.{HasDoomed}
-use Rattle.ss_query.specs.Slots.{HasRecords}
 use Rattle.ss_store.specs.declared.error.OpenError.{OpenError}
 
 -- the records of streams, each in the slot where it is held

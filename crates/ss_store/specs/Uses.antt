@@ -1,15 +1,9 @@
 -- How many slots an image uses, by the history for which it stands.
-use Rattle.std.specs.Prelude.{ℕ, ◌+◌, ◌≤◌, max, List, [], ◌∷◌, ◌++◌, Option, None, Some, ⊤}
-use Rattle.ss_journal.specs.Redo.{SlotMap, StandsFor}
+use Rattle.std.specs.Prelude.{ℕ, ◌+◌, max, List, [], ◌∷◌, ◌++◌, Option, None, Some, ⊤}
 use Rattle.ss_model.specs.History.{Happened}
 use Rattle.ss_model.specs.State.{live, state}
+use Rattle.ss_stream.specs.Calls.{UsesAtMost}
 use Rattle.ss_store.specs.Recover.{Stands}
-
--- the image uses at most so many slots
-pub record UsesAtMost (n : ℕ) (image : List ℕ) : Type 0 where
-  pub found : SlotMap
-  pub map : StandsFor image found
-  pub few : found.extent ≤ n
 
 -- the most records that are needed at a time: after these events, and after each of those that come behind them
 abbrev pub most_needed_from : List Happened → List Happened → ℕ

@@ -5,14 +5,14 @@ ghost use Rattle.ss_outside.specs.Step.{Step};
 ghost use Rattle.ss_outside.specs.Verdict.{verdict};
 ghost use Rattle.ss_journal.specs.Kept.{IsSettled};
 ghost use Rattle.ss_records.specs.Kept.{AreAtRest, AreKept};
-ghost use Rattle.ss_store.specs.Calls.{StagesAtCost};
-ghost use Rattle.ss_store.specs.Changing.{Makes};
+ghost use Rattle.ss_stream.specs.Calls.{StagesAtCost};
+ghost use Rattle.ss_stream.specs.Slots.{AreSomeLive, LiveSlotsGo};
+ghost use Rattle.ss_store.specs.Clearing.{Makes};
 ghost use Rattle.ss_store.specs.Clearing.{ClearsSlots, StagesClearing};
-ghost use Rattle.ss_store.specs.Slots.{AreSomeLive, LiveSlotsGo};
 
-use crate::writing::stage_zeros;
 use ss_outside::{Disk, Failed};
 use ss_records::Records;
+use ss_stream::stage_zeros;
 
 /// Stages the clearing of the slots of records of dropped streams, each as one transaction, in their order.
 pub fn stage_clearing<D: Disk>(

@@ -6,7 +6,7 @@ ghost use Rattle.ss_store.specs.declared.error.OpenError.TheVariants.{Disk, OutO
 use ss_catalog::Refusal;
 use ss_journal::JournalError;
 use ss_outside::Failed;
-use ss_query::ReadError;
+use ss_parts::ReadError;
 use ss_recover::RecoverError;
 use std::alloc::AllocError;
 use thiserror::Error;

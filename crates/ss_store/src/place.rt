@@ -2,13 +2,13 @@
 ghost use Rattle.std.specs.Prelude.{◌≡◌, ◌<◌, ◌↔◌, length, slice_get, IsTrue, IsNone, IsSome, IfSome};
 ghost use Rattle.std.specs.List.Sorted.{IsStrictlyIncreasing};
 ghost use Rattle.ss_model.specs.State.{next_number};
-ghost use Rattle.ss_store.specs.Held.{held_parts};
 ghost use Rattle.ss_model.specs.Refusals.{has_all_streams};
+ghost use Rattle.ss_stream.specs.Held.{held_parts};
 ghost use Rattle.ss_store.specs.Kept.{numbers_held, part_numbered};
 
-use crate::held::HeldStream;
 use ss_catalog::{LAST_STREAM, MOST_STREAMS, StreamId};
-use ss_parts::StreamParts;
+use ss_parts::number_of;
+use ss_stream::HeldStream;
 
 // The place of the stream of a number, from 0: by halves, since numbers rise in order of creation.
 pub fn place_of(streams: &[HeldStream], id: StreamId) -> usize
@@ -28,13 +28,6 @@ pub fn place_of(streams: &[HeldStream], id: StreamId) -> usize
         }
     }
     low
-}
-
-// The number of a stream.
-pub fn number_of(stream: &StreamParts) -> u32
-    ensures { result ≡ stream.now.id.0 }
-{
-    stream.id.0
 }
 
 // The number of a new stream, if there is a place and a number for one.

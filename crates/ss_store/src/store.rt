@@ -14,11 +14,11 @@ mod see;
 mod times;
 mod values;
 
-use crate::held::HeldStream;
 use crate::place::place_of;
 use ss_catalog::{Catalog, StreamId};
 use ss_parts::StreamParts;
 use ss_records::Records;
+use ss_stream::HeldStream;
 use std::marker::Model;
 pub use values::ValueRange;
 
@@ -36,9 +36,9 @@ pub struct Store {
 
 impl Model for Store {
     ghost use Rattle.std.specs.Prelude.{◌≡◌, false, All};
+    ghost use Rattle.ss_stream.specs.Held.{held_parts};
+    ghost use Rattle.ss_stream.specs.Indexed.{IsScheduled};
     ghost use Rattle.ss_store.specs.Kept.{IsSound, StoreState};
-    ghost use Rattle.ss_store.specs.Held.{held_parts};
-    ghost use Rattle.ss_store.specs.Indexed.{IsScheduled};
 
     ghost Value = { StoreState };
 

@@ -1,30 +1,24 @@
 // What a disk holds, counted without a write.
-ghost use Rattle.std.specs.Prelude.{◌≡◌, ◌≤◌, All, IsTrue, List, length};
+ghost use Rattle.std.specs.Prelude.{◌≡◌, ◌≤◌, All, List};
 ghost use Rattle.ss_journal.specs.declared.format.TheConstants.{MOST_SLOTS};
 ghost use Rattle.ss_base.specs.Steps.{IsFresh};
-ghost use Rattle.ss_targets.specs.Rule.{rule_of};
-ghost use Rattle.ss_targets.specs.Targets.{params_of};
-ghost use Rattle.ss_base.specs.declared.limits.TheConstants.{MOST_VALUES};
-ghost use Rattle.ss_model.specs.ClosedState.{closed_state, closed_stream};
-ghost use Rattle.ss_model.specs.Standing.{IsState, IsStream};
+ghost use Rattle.ss_model.specs.ClosedState.{closed_state};
+ghost use Rattle.ss_model.specs.Standing.{IsState};
 ghost use Rattle.ss_model.specs.State.{Stream};
-ghost use Rattle.ss_parts.specs.Held.{Agrees, AllAgree, TileFrom, entries_of};
+ghost use Rattle.ss_parts.specs.Held.{AllAgree, TileFrom, entries_of};
 ghost use Rattle.ss_outside.specs.Step.{Step};
 ghost use Rattle.ss_outside.specs.Verdict.{IsFirm};
 ghost use Rattle.ss_store.specs.Applied.{SurveysStore};
 ghost use Rattle.ss_store.specs.Errors.{verdict_of_opening};
-ghost use Rattle.ss_store.specs.Joining.{may_be_joined};
 ghost use Rattle.ss_store.specs.Surveyed.{survey_of};
 ghost use Rattle.ss_store.specs.Kept.{live_held};
 
-use crate::closing::values_held;
 use crate::opening::read_all;
 use crate::{OpenError, Store};
 use ss_base::Steps;
-use ss_line::Entry;
 use ss_outside::Disk;
 use ss_parts::StreamParts;
-use ss_targets::Target;
+use ss_stream::closed_windows;
 use std::alloc::Global;
 use std::marker::Brand;
 use std::sync::ledger::{Blank, Ledger};
@@ -36,43 +30,6 @@ pub struct Survey {
     pub windows: u32,
     pub landmarks: u32,
     pub values: u32,
-}
-
-// Whether an entry and a later one, with all between them, may be one when n values are held.
-fn may_be_joined(target: &Target, window: Entry, next: Entry, n: u64) -> bool
-    requires first { 1 ≤ window.first }
-    requires order { window.first ≤ next.last }
-    requires taken { next.last ≤ n }
-    requires few { n ≤ MOST_VALUES }
-    ensures { result ≡ may_be_joined (rule_of (params_of target.now)) n window next }
-{
-    target.in_step(window.t_first, next.t_last) && target.fits(window.first, next.last, n)
-}
-
-// How many windows a stream has once those that are due are joined. No window is read: the positions and the times say which
-// they are.
-fn closed_windows<L: Ledger>(part: &StreamParts, steps: &mut Steps<L>) -> u32
-    requires tiles { TileFrom 1 (entries_of part.now) }
-    ensures windows { (s : Stream) → IsStream s → Agrees part.now s → result ≡ length (closed_stream s).windows }
-    ensures few { result ≤ length part.now.line.entries }
-{
-    let Some(mut at) = part.line.first() else {
-        return 0;
-    };
-    // Asked for the proof alone, here and below: with its length comes what holds of each line.
-    let _len = part.line.len();
-    let n = values_held(part, steps);
-    let mut first = part.line.get(at, steps);
-    let mut count = 1;
-    while let Some(next) = part.line.neighbours(at, steps).1 {
-        let entry = part.line.get(next, steps);
-        if !may_be_joined(&part.target, first, entry, n) {
-            first = entry;
-            count += 1;
-        }
-        at = next;
-    }
-    count
 }
 
 // What some streams have, once the merges that are due are made.

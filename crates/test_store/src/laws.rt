@@ -8,10 +8,10 @@ use ss_replica::{
     replicas_own_fronts_of_their_primary, streams_own_their_events_since_their_create,
 };
 use ss_store::{
-    few_windows_stand, query_refusals_of_what_is_held, refusals_of_what_is_held,
-    unformatted_files_stand_for_nothing, what_is_held_counts_alike, what_is_held_is_found_alike,
-    what_is_kept_is_the_state,
+    query_refusals_of_what_is_held, refusals_of_what_is_held, unformatted_files_stand_for_nothing,
+    what_is_held_counts_alike, what_is_held_is_found_alike, what_is_kept_is_the_state,
 };
+use ss_stream::few_windows_stand;
 
 #[test]
 fn laws_are_called() {

@@ -2,15 +2,15 @@
 use super::Store;
 use super::times::is_past;
 use crate::ApplyError;
-use crate::closing::values_held;
 use ss_base::{LAST_TIME, MOST_VALUES, Steps};
 use ss_catalog::{Name, Refusal};
 use ss_model::Ack;
 use ss_outside::Disk;
+use ss_stream::values_held;
 use std::sync::ledger::{Blank, Ledger};
 
 impl Store {
-    ghost use Rattle.std.specs.Prelude.{◌≡◌, ◌+◌, ◌≢◌, ◌≤◌, false, Some, IfOk, OnOk, IfErr, Err, None, ℤ};
+    ghost use Rattle.std.specs.Prelude.{◌≡◌, ◌≢◌, ◌≤◌, false, Some, IfOk, OnOk, IfErr, Err, None, ℤ};
     ghost use Rattle.ss_outside.specs.Disk.{Between, OfContent};
     ghost use Rattle.ss_outside.specs.Verdict.{IfUndone};
     ghost use Rattle.ss_catalog.specs.declared.event.Event.TheVariants.{Value};

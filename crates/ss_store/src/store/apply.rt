@@ -1,10 +1,10 @@
 // Staging an event, and sealing what is staged.
 use super::Store;
 use crate::ApplyError;
-use crate::marking::Mark;
 use ss_catalog::{Event, Name};
 use ss_model::Ack;
 use ss_outside::{Disk, Failed};
+use ss_stream::Mark;
 use std::marker::Brand;
 use std::sync::ledger::Blank;
 
@@ -17,12 +17,13 @@ impl Store {
     ghost use Rattle.ss_journal.specs.Calls.{HasSealed};
     ghost use Rattle.ss_model.specs.History.{CanBeSaid};
     ghost use Rattle.ss_model.specs.Marks.{has_open};
+    ghost use Rattle.ss_stream.specs.Calls.{StaysWithin, SyncsToStage};
+    ghost use Rattle.ss_stream.specs.Held.{without_spare};
     ghost use Rattle.ss_store.specs.Applied.{Applies, SealsStore, StandsOn};
-    ghost use Rattle.ss_store.specs.Calls.{CostsEvent, StagesEvent, StaysWithin};
-    ghost use Rattle.ss_store.specs.Calls.{SyncsToStage};
+    ghost use Rattle.ss_store.specs.Calls.{CostsEvent, StagesEvent};
     ghost use Rattle.ss_store.specs.Errors.{verdict_of_apply};
     ghost use Rattle.ss_store.specs.Extents.{records_held_in};
-    ghost use Rattle.ss_store.specs.Kept.{StoreIsKept, is_of_landmark, of_part, without_spare};
+    ghost use Rattle.ss_store.specs.Kept.{StoreIsKept, is_of_landmark, of_part};
     ghost use Rattle.ss_store.specs.Places.{IsPlaceOf};
 
     /// Stages an event, and answers what is replied to it: the store shows it from now on, and `seal` brings it to the disk, with

@@ -13,7 +13,7 @@ impl Store {
     ghost use Rattle.ss_outside.specs.Verdict.{IfChanged, IfUndone};
     ghost use Rattle.ss_catalog.specs.declared.refusal.Refusal.{Refusal};
     ghost use Rattle.ss_model.specs.Answers.{IsOfKind};
-    ghost use Rattle.ss_query.specs.Answered.{window_slots_of};
+    ghost use Rattle.ss_parts.specs.Held.{window_slots_of};
     ghost use Rattle.ss_store.specs.Applied.{Answers, Looks, StandsOn};
     ghost use Rattle.ss_store.specs.Asked.{refuses_query_held};
     ghost use Rattle.ss_store.specs.Errors.{verdict_of_ask};

@@ -6,9 +6,7 @@ ghost use Rattle.ss_targets.specs.Lengths.{has_target};
 
 use super::Store;
 use crate::ApplyError;
-use crate::held::HeldStream;
 use crate::place::next_id;
-use crate::writing::stage_record;
 use ss_catalog::{Catalog, Name, Params, Refusal, StreamId};
 use ss_codec::{Record, step_number};
 use ss_landmarks::Landmarks;
@@ -17,6 +15,7 @@ use ss_model::Ack;
 use ss_outside::{Disk, Failed};
 use ss_parts::StreamParts;
 use ss_schedule::Index;
+use ss_stream::{HeldStream, stage_record};
 use ss_targets::Target;
 use std::alloc::AllocError;
 

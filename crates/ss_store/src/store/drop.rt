@@ -1,95 +1,27 @@
 // Staging the drop of a stream.
-ghost use Rattle.std.specs.Prelude.{◌≡◌, [], ◌+◌, ◌++◌, length, map, true, IfOk, IsTrue, OnOk};
+ghost use Rattle.std.specs.Prelude.{◌≡◌, [], ◌+◌, length, true, OnOk};
 ghost use Rattle.ss_outside.specs.Disk.{OfContent};
 ghost use Rattle.ss_outside.specs.Step.{Step};
 ghost use Rattle.ss_outside.specs.Verdict.{verdict};
 ghost use Rattle.ss_journal.specs.Kept.{IsSettled};
 ghost use Rattle.ss_records.specs.Kept.{AreKept};
-ghost use Rattle.ss_codec.specs.Record.{is_valid};
-ghost use Rattle.ss_store.specs.Calls.{CostsEvent, StagesAtCost};
-ghost use Rattle.ss_store.specs.Dropping.{StagesDrop, dropped_record, slots_in_turn};
-ghost use Rattle.ss_store.specs.Slots.{AreSomeLive, LiveSlotsGo};
+ghost use Rattle.ss_stream.specs.Calls.{StagesAtCost};
+ghost use Rattle.ss_stream.specs.Dropping.{dropped_record, slots_in_turn};
+ghost use Rattle.ss_stream.specs.Slots.{AreSomeLive, LiveSlotsGo};
+ghost use Rattle.ss_store.specs.Calls.{CostsEvent};
+ghost use Rattle.ss_store.specs.Dropping.{StagesDrop};
 
 use super::Store;
 use crate::ApplyError;
 use crate::clearing::stage_clearing;
-use crate::place::number_of;
-use crate::writing::stage_replaced;
 use ss_base::Steps;
 use ss_catalog::{Name, Refusal};
-use ss_codec::{Record, step_number};
-use ss_landmarks::Landmarks;
-use ss_line::Line;
 use ss_model::Ack;
 use ss_outside::{Disk, Failed};
 use ss_parts::StreamParts;
 use ss_records::Records;
-use std::alloc::{AllocError, Global};
+use ss_stream::{dropped_record, slots_of, stage_replaced};
 use std::sync::ledger::{Blank, Ledger};
-
-// Puts the slots of windows last, in order.
-fn push_window_slots<L: Ledger>(
-    slots: &mut Vec<u32>,
-    line: &Line,
-    steps: &mut Steps<L>,
-) -> Result<(), AllocError>
-    ensures { OnOk result (slots.new.items ≡ slots.old.items ++ map (λ e. e.slot) (map (λ e. e.1) line.now.entries)) }
-{
-    // Asked for the proof alone, here and below: with its length comes what holds of each line.
-    let _len = line.len();
-    let Some(mut at) = line.first() else {
-        return Ok(());
-    };
-    slots.push(line.get(at, steps).slot)?;
-    while let Some(next) = line.neighbours(at, steps).1 {
-        slots.push(line.get(next, steps).slot)?;
-        at = next;
-    }
-    Ok(())
-}
-
-// Puts the slots of landmarks and then those of their values last, in order.
-fn push_mark_slots(slots: &mut Vec<u32>, landmarks: &Landmarks) -> Result<(), AllocError>
-    ensures { OnOk result (slots.new.items ≡ slots.old.items ++ (landmarks.now.slots ++ landmarks.now.value_slots)) }
-{
-    let marks = landmarks.count() + landmarks.values();
-    for place in 0..marks {
-        slots.push(landmarks.slot_at(place))?;
-    }
-    Ok(())
-}
-
-// The slots of all records of a stream, its own last.
-fn slots_of<L: Ledger>(
-    alloc: Global,
-    part: &StreamParts,
-    steps: &mut Steps<L>,
-) -> Result<Vec<u32>, AllocError>
-    ensures { IfOk result (λ slots. slots.items ≡ slots_in_turn part.now) }
-{
-    let mut slots = Vec::new(alloc);
-    push_window_slots(&mut slots, &part.line, steps)?;
-    push_mark_slots(&mut slots, &part.landmarks)?;
-    slots.push(part.slot)?;
-    Ok(slots)
-}
-
-// The record of a stream that was dropped.
-fn record_of(part: &StreamParts) -> Record
-    ensures value { result ≡ dropped_record part.now }
-    ensures valid { IsTrue (is_valid result) }
-{
-    let _word = part.name.as_bytes();
-    let params = part.target.params();
-    // A step is a number of 32 bits.
-    let _step = step_number(params.within);
-    Record::Stream {
-        id: number_of(part),
-        name: part.name,
-        params,
-        dropped: true,
-    }
-}
 
 // Stages the drop of a stream, which decides, and then the clearing of its slots.
 fn stage_doomed<D: Disk>(
@@ -108,7 +40,7 @@ fn stage_doomed<D: Disk>(
     ensures live { OnOk result (LiveSlotsGo slots.now [] records.old.live records.new.live) }
     ensures extent { OnOk result (records.new.journal.extent ≡ records.old.journal.extent) }
 {
-    stage_replaced(records, disk, part.slot, &record_of(part))?;
+    stage_replaced(records, disk, part.slot, &dropped_record(part))?;
     stage_clearing(records, disk, slots)
 }
 

@@ -4,10 +4,10 @@ ghost use Rattle.ss_landmarks.specs.declared.landmarks.TheConstants.{MOST_LANDMA
 ghost use Rattle.ss_store.specs.Events.{mark_events};
 
 use super::Store;
-use crate::closing::values_held;
 use ss_base::Steps;
 use ss_catalog::StreamId;
 use ss_landmarks::Landmarks;
+use ss_stream::values_held;
 use std::marker::Brand;
 use std::sync::ledger::{Blank, Ledger};
 

@@ -1,10 +1,10 @@
 // What a store has: its streams, and the windows of each.
 use super::Store;
-use crate::closing::values_held;
 use ss_base::Steps;
 use ss_catalog::{Name, StreamId};
 use ss_line::At;
 use ss_model::StreamRow;
+use ss_stream::values_held;
 use std::marker::Brand;
 use std::sync::ledger::{Blank, Ledger};
 

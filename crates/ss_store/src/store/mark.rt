@@ -1,18 +1,17 @@
 // Staging an event of a landmark.
 ghost use Rattle.std.specs.Prelude.{◌≡◌, true, IfSome, IfNone, Some, None};
 ghost use Rattle.ss_model.specs.Marks.{has_open};
-ghost use Rattle.ss_store.specs.Marking.{IsInOpen, mark_refusal};
+ghost use Rattle.ss_stream.specs.Marking.{IsInOpen, mark_refusal};
 
 use super::Store;
 use super::times::{is_before, is_opening, is_past};
 use crate::ApplyError;
-use crate::closing::values_held;
-use crate::marking::{Mark, reserve};
 use ss_base::{LAST_TIME, Steps};
 use ss_catalog::{Name, Refusal};
 use ss_model::Ack;
 use ss_outside::{Disk, Failed};
 use ss_parts::StreamParts;
+use ss_stream::{Mark, reserve, values_held};
 use std::sync::ledger::{Blank, Ledger};
 
 // Why a stream doesn't take a mark at a time.
@@ -49,10 +48,11 @@ impl Store {
     ghost use Rattle.ss_store.specs.Calls.{CostsEvent};
     ghost use Rattle.ss_store.specs.Errors.{verdict_of_apply};
     ghost use Rattle.ss_store.specs.Extents.{records_held_in};
-    ghost use Rattle.ss_store.specs.Kept.{StoreIsKept, live_held, of_part, refuses_held, without_spare};
-    ghost use Rattle.ss_store.specs.Marking.{IsClosing, IsInOpen, IsItsSlot, event_of, slot_refusal, slots_used};
+    ghost use Rattle.ss_store.specs.Kept.{StoreIsKept, live_held, of_part, refuses_held};
     ghost use Rattle.ss_store.specs.Places.{IsPlaceOf};
     ghost use Rattle.ss_base.specs.Steps.{IsFresh};
+    ghost use Rattle.ss_stream.specs.Held.{without_spare};
+    ghost use Rattle.ss_stream.specs.Marking.{IsClosing, IsInOpen, IsItsSlot, event_of, slot_refusal, slots_used};
 
     // The slot for the record that a mark puts, if there is one: a free one, or that of the open landmark.
     fn slot_for(&self, stream: &StreamParts, mark: Mark) -> Option<u32>

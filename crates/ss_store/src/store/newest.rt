@@ -83,7 +83,7 @@ impl Store {
     ghost use Rattle.ss_outside.specs.Verdict.{IfChanged, IfUndone};
     ghost use Rattle.ss_catalog.specs.declared.refusal.Refusal.{Refusal};
     ghost use Rattle.ss_base.specs.Steps.{IsFresh};
-    ghost use Rattle.ss_query.specs.Answered.{window_slots_of};
+    ghost use Rattle.ss_parts.specs.Held.{window_slots_of};
     ghost use Rattle.ss_store.specs.Applied.{Looks, StandsOn};
     ghost use Rattle.ss_store.specs.Errors.{verdict_of_ask};
     ghost use Rattle.ss_store.specs.Kept.{part_named, part_numbered};

@@ -1,11 +1,11 @@
 // Opening a store.
 use super::Store;
 use crate::OpenError;
-use crate::indexing::held_streams;
 use crate::opening::{catalog_of, read_all, settle_all};
 use ss_base::Steps;
 use ss_outside::Disk;
 use ss_recover::Parts;
+use ss_stream::held_streams;
 use std::alloc::Global;
 use std::marker::Brand;
 use std::sync::ledger::{Blank, Ledger};
@@ -13,9 +13,7 @@ use std::sync::ledger::{Blank, Ledger};
 impl Store {
     ghost use Rattle.std.specs.Prelude.{◌≡◌, ◌<◌, false, IfOk};
     ghost use Rattle.ss_outside.specs.Step.{Step};
-    ghost use Rattle.ss_outside.specs.Verdict.{IfChanged};
     ghost use Rattle.ss_journal.specs.Kept.{IsSealed};
-    ghost use Rattle.ss_journal.specs.declared.format.TheConstants.{MOST_SLOTS};
     ghost use Rattle.ss_base.specs.Steps.{IsFresh};
     ghost use Rattle.ss_store.specs.Applied.{OpensStore};
     ghost use Rattle.ss_store.specs.Errors.{verdict_of_opening};

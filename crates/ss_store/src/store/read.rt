@@ -6,7 +6,7 @@ use ss_catalog::{Refusal, StreamId};
 use ss_line::{At, Entry};
 use ss_model::Placed;
 use ss_outside::Disk;
-use ss_query::read_window;
+use ss_parts::read_window;
 use std::marker::Brand;
 use std::sync::ledger::{Blank, Ledger};
 

@@ -6,21 +6,22 @@ ghost use Rattle.ss_outside.specs.Step.{Step};
 ghost use Rattle.ss_outside.specs.Verdict.{IfChanged};
 ghost use Rattle.ss_journal.specs.Kept.{IsRunning};
 ghost use Rattle.ss_journal.specs.declared.format.TheConstants.{MOST_SLOTS};
-ghost use Rattle.ss_query.specs.Answered.{SeesStream, begun_in, window_slots_of};
+ghost use Rattle.ss_query.specs.Answered.{SeesStream, begun_in};
 ghost use Rattle.ss_query.specs.Asked.{HasCuts, IsFewMarked};
-ghost use Rattle.ss_query.specs.Reading.{KeepsRecords, verdict_of_read};
 ghost use Rattle.ss_records.specs.Kept.{AreKept};
-ghost use Rattle.ss_parts.specs.Held.{RiseToLast};
-ghost use Rattle.ss_store.specs.Indexed.{IsTimed};
+ghost use Rattle.ss_parts.specs.Held.{RiseToLast, window_slots_of};
+ghost use Rattle.ss_parts.specs.Reading.{KeepsRecords, verdict_of_read};
+ghost use Rattle.ss_stream.specs.Indexed.{IsTimed};
 
 use super::Store;
 use crate::AskError;
-use crate::held::HeldStream;
 use ss_base::Steps;
 use ss_catalog::{Query, Refusal, StreamId};
 use ss_outside::Disk;
-use ss_query::{ReadError, Seen, see_from};
+use ss_parts::ReadError;
+use ss_query::{Seen, see_from};
 use ss_records::Records;
+use ss_stream::HeldStream;
 use std::marker::Brand;
 use std::sync::ledger::{Blank, Ledger};
 
@@ -73,7 +74,7 @@ impl Store {
     ghost use Rattle.ss_outside.specs.Verdict.{IfChanged, IfUndone};
     ghost use Rattle.ss_catalog.specs.declared.refusal.Refusal.{Refusal};
     ghost use Rattle.ss_base.specs.Steps.{IsFresh};
-    ghost use Rattle.ss_query.specs.Answered.{window_slots_of};
+    ghost use Rattle.ss_parts.specs.Held.{window_slots_of};
     ghost use Rattle.ss_query.specs.Asked.{HasCuts, IsFewMarked};
     ghost use Rattle.ss_store.specs.Applied.{Looks, Sees, StandsOn};
     ghost use Rattle.ss_store.specs.Asked.{AsksStream, refuses_query_held};

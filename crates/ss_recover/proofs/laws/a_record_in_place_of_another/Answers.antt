@@ -1,4 +1,4 @@
-use Rattle.ss_recover.proofs.PutLemmas.{occupied-replaced}
+use Rattle.ss_parts.proofs.PutLemmas.{occupied-replaced}
 use Rattle.ss_recover.proofs.laws.a_record_in_place_of_another.Goals as goal
 
 pub returns : goal.returns

@@ -1,4 +1,4 @@
-use Rattle.ss_recover.proofs.PutLemmas.{occupied-freed}
+use Rattle.ss_parts.proofs.PutLemmas.{occupied-freed}
 use Rattle.ss_recover.proofs.laws.a_slot_that_is_freed.Goals as goal
 
 pub returns : goal.returns

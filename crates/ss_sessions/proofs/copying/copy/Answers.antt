@@ -8,12 +8,12 @@ use Rattle.ss_outside.proofs.StepLemmas.{step-none, step-then}
 use Rattle.ss_outside.specs.Crash.{OnlyReads}
 use Rattle.ss_outside.specs.Step.{Step}
 use Rattle.ss_outside.specs.Verdict.{IfChanged}
-use Rattle.ss_query.specs.Answered.{window_slots_of}
 use Rattle.ss_records.specs.Kept.{shown_by}
+use Rattle.ss_parts.specs.Held.{window_slots_of}
 use Rattle.ss_store.specs.Applied.{Looks}
 use Rattle.ss_store.specs.Kept.{part_numbered}
 use Rattle.ss_store.specs.Recover.{Recovers}
-use Rattle.ss_store.proofs.HeldCounts.{SomeAgree-numbered}
+use Rattle.ss_store.proofs.Named.{SomeAgree-numbered}
 use Rattle.ss_store.proofs.KeptStates.{AllAgree-recovered}
 use Rattle.ss_sessions.specs.Errors.{verdict_of_cursor}
 use Rattle.ss_sessions.specs.Opened.{CopiesRows}

@@ -1,6 +1,6 @@
+use Rattle.ss_stream.proofs.Within.{KeepsWithin-not_sealed, KeepsWithin-sealed}
 use Rattle.ss_store.proofs.Common.{◌∙◌, refl, err_from_is_err_and, on_ok_weaker, step-as, after-step, step-next}
 use Rattle.ss_store.proofs.Clearings.{ClearsSlots-not_sealed, ClearsSlots-sealed}
-use Rattle.ss_store.proofs.Within.{KeepsWithin-not_sealed, KeepsWithin-sealed}
 use Rattle.ss_store.proofs.clearing.clear_all.Goals as goal
 
 pub returns-in_err-stage_clearing-clause-clears : goal.returns-in_err-stage_clearing-clause-clears

@@ -1,7 +1,7 @@
 use Rattle.ss_store.proofs.Common.{◌∙◌, Ok, arith, refl, suc, add-one, err_from_is_err_and, step-as, step-none, after-step, step-next}
 use Rattle.std.proofs.lemmas.List.{take_all}
+use Rattle.ss_stream.proofs.Costs.{StagesAtCost-answers, StagesAtCost-none, StagesAtCost-then}
 use Rattle.ss_store.proofs.Clearings.{AreSomeLive-next, LiveSlotsGo-more, StagesClearing-all, StagesClearing-failed, StagesFirst-more, StagesFirst-none}
-use Rattle.ss_store.proofs.Costs.{StagesAtCost-answers, StagesAtCost-none, StagesAtCost-then}
 use Rattle.ss_store.proofs.clearing.stage_clearing.Goals as goal
 
 pub loop-slot-init : goal.loop-slot-init

@@ -1,5 +1,5 @@
+use Rattle.ss_stream.proofs.HeldCounts.{length-Agrees, values_held-Agrees}
 use Rattle.ss_store.proofs.Among.{length-AllAgree}
-use Rattle.ss_store.proofs.HeldCounts.{length-Agrees, values_held-Agrees}
 use Rattle.ss_store.proofs.LiveCounts.{length-slots, live_count-AreWhole}
 use Rattle.ss_store.proofs.laws.what_is_held_counts_alike.Goals as goal
 

@@ -1,4 +1,4 @@
-use Rattle.ss_store.proofs.HeldCounts.{SomeAgree-named, SomeAgree-numbered}
+use Rattle.ss_store.proofs.Named.{SomeAgree-named, SomeAgree-numbered}
 use Rattle.ss_store.proofs.laws.what_is_held_is_found_alike.Goals as goal
 
 pub returns-clause-named : goal.returns-clause-named

@@ -3,14 +3,15 @@ use Rattle.ss_store.proofs.Common.{All-get_or, All-nil, All-push, All-set, ap, l
 use Rattle.std.proofs.lemmas.List.{take_more_set}
 use Rattle.ss_store.proofs.Common.{step-none, step-then, after-step, closed_state, entry_of, Recovers, reads-none}
 use Rattle.std.proofs.Common.{slice_index_or}
-use Rattle.ss_store.proofs.Among.{AreWhole-at, AreWhole-set, IsNoEarlier-same, length-AllAgree}
-use Rattle.ss_store.proofs.Calls.{Turns-failed}
+use Rattle.ss_stream.proofs.Rising.{IsNoEarlier-same}
+use Rattle.ss_stream.proofs.Calls.{Turns-failed}
+use Rattle.ss_stream.proofs.KeyedWindows.{take-all, take-none}
+use Rattle.ss_stream.proofs.Within.{KeepsWithin-failed, KeepsWithin-reads, KeepsWithin-then}
+use Rattle.ss_store.proofs.Among.{AreWhole-at, AreWhole-set, length-AllAgree}
 use Rattle.ss_store.proofs.ClosingAll.{AreHeldIn, ClosesFirst-more, ClosesFirst-none, SomeChangedIsHeld-set, Turns-all, Turns-open, closed_until}
 use Rattle.ss_store.proofs.ClosingAll.{firm-ClosesFirst}
 use Rattle.ss_store.proofs.OneOfMany.{map-set_same}
 use Rattle.ss_store.proofs.IndexedStreams.{parts-at, parts-set}
-use Rattle.ss_store.proofs.KeyedWindows.{take-all, take-none}
-use Rattle.ss_store.proofs.Within.{KeepsWithin-failed, KeepsWithin-reads, KeepsWithin-then}
 use Rattle.ss_store.proofs.opening.close_all.Goals as goal
 
 pub loop-place-init : goal.loop-place-init

@@ -1,6 +1,6 @@
 use Rattle.ss_store.proofs.Common.{◌≡◌, ◌≤◌, Ok, All, map, take, Step, fine, AreWhole, IsKeyedFor, IsScheduled, entry_of, held_parts, ReadError}
 use Rattle.ss_records.specs.Kept.{AreAtRest}
-use Rattle.ss_store.specs.Changing.{Makes}
+use Rattle.ss_store.specs.Clearing.{Makes}
 use Rattle.ss_store.proofs.ClosingAll.{ClosesFirst}
 use Rattle.ss_store.proofs.opening.close_all.Given as goal
 

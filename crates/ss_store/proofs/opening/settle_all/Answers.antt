@@ -1,9 +1,9 @@
 use Rattle.ss_store.proofs.Common.{◌≤◌, Ok, arith, flat_map, refl, err_from_is_err_and, on_ok_weaker, Failed, step-as, step-then}
 use Rattle.ss_store.proofs.Common.{after-step, closed_state, slots_held, HasRebuilt, HasRebuiltBeside, Recovers, held_parts}
 use Rattle.ss_journal.proofs.StepLemmas.{step-pair}
-use Rattle.ss_store.proofs.Calls.{Turns-failed, Turns-joined}
+use Rattle.ss_stream.proofs.Calls.{Turns-failed, Turns-joined}
+use Rattle.ss_stream.proofs.Within.{KeepsWithin-failed, KeepsWithin-map, KeepsWithin-then}
 use Rattle.ss_store.proofs.Settlings.{AreWhole-cleared, Turns-settled, Turns-unsettled}
-use Rattle.ss_store.proofs.Within.{KeepsWithin-failed, KeepsWithin-map, KeepsWithin-then}
 use Rattle.ss_store.proofs.opening.settle_all.Goals as goal
 
 pub returns-in_err-settle-clause-settles : goal.returns-in_err-settle-clause-settles

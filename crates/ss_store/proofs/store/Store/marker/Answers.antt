@@ -1,3 +1,4 @@
+use Rattle.ss_stream.proofs.OpenMarks.{CanMark-accepted}
 use Rattle.ss_store.proofs.Common.{◌≡◌, ◌∙◌, true, List, ℕ, Option, refl, ap, arith, slice_get, Refusal, has_open, StreamParts, StoreState, held_parts}
 use Rattle.ss_store.proofs.Common.{has_all_records, live_held}
 use Rattle.ss_store.proofs.Common.{of_part, refuses_held, IsInOpen, event_of, mark_refusal, slot_refusal, Mark}
@@ -5,7 +6,6 @@ use Rattle.ss_store.proofs.Among.{Marks-at}
 use Rattle.ss_store.proofs.Found.{IsAtPlace-found, inside-found, none-found}
 use Rattle.ss_store.proofs.LiveCounts.{few-marks, live_count-slots}
 use Rattle.ss_store.proofs.Named.{IsAtPlace}
-use Rattle.ss_store.proofs.OpenMarks.{CanMark-accepted}
 use Rattle.ss_store.proofs.Refusals.{or_else, refuses_held-mark, refuses_held-unmarked}
 use Rattle.ss_store.proofs.store.Store.marker.Goals as goal
 

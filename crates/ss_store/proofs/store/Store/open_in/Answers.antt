@@ -5,8 +5,8 @@ use Rattle.std.proofs.Common.{vec_len, Vec}
 use Rattle.std.specs.Global.{Global}
 use Rattle.std.specs.Vec.{with_items}
 use Rattle.std.proofs.lemmas.List.{with_items_is}
+use Rattle.ss_stream.proofs.Rising.{ordered-all}
 use Rattle.ss_store.specs.declared.error.OpenError.TheVariants.{OutOfMemory}
-use Rattle.ss_store.proofs.Rising.{ordered-all}
 use Rattle.ss_store.proofs.Opens.{OpensStore-closed, OpensStore-read, OpensStore-unclosed, verdict-fault}
 use Rattle.ss_store.proofs.Steps.{step-handed}
 use Rattle.ss_store.proofs.store.Store.open_in.Goals as goal

@@ -1,10 +1,10 @@
+use Rattle.ss_stream.proofs.Costs.{StagesAtCost-answers, StagesAtCost-failed, StagesAtCost-none}
+use Rattle.ss_stream.proofs.KeyedWindows.{IsScheduled-none}
 use Rattle.ss_store.proofs.Common.{◌≡◌, All-push, None, ap, arith, false, refl, true, Create, LineState, IsScheduled}
 use Rattle.ss_store.proofs.Applying.{Applies-refused, Applies-starved}
-use Rattle.ss_store.proofs.Costs.{StagesAtCost-answers, StagesAtCost-failed, StagesAtCost-none}
 use Rattle.ss_store.proofs.Created.{IsFreshPart-made}
 use Rattle.ss_store.proofs.Creating.{IsCreating, applies-created, applies-unwritten, creating, sound-created, sound-unwritten}
 use Rattle.ss_store.proofs.IndexedStreams.{parts-more, stored}
-use Rattle.ss_store.proofs.KeyedWindows.{IsScheduled-none}
 use Rattle.ss_store.proofs.Spared.{SameButSpare-same}
 use Rattle.ss_store.proofs.store.Store.stage_create.Goals as goal
 use Rattle.ss_store.proofs.store.Store.stage_create.Goals.{After-grow}

@@ -1,7 +1,7 @@
+use Rattle.ss_stream.proofs.Costs.{StagesAtCost-answers, StagesAtCost-failed, StagesAtCost-none}
 use Rattle.ss_store.proofs.Common.{◌≡◌, ◌∙◌, ap, arith, false, length, refl, true, Drop, Unknown, IsScheduled, StoreState, held_parts}
 use Rattle.ss_store.proofs.Spared.{SameButSpare-same}
 use Rattle.ss_store.proofs.Applying.{Applies-refused, Applies-starved}
-use Rattle.ss_store.proofs.Costs.{StagesAtCost-answers, StagesAtCost-failed, StagesAtCost-none}
 use Rattle.ss_store.proofs.Found.{IsAtPlace-found, IsTakenOut-found, inside-found, none-found}
 use Rattle.ss_store.proofs.Dropped.{applies-dropped, applies-undropped, dropping, live-slots, sound-dropped, sound-undropped}
 use Rattle.ss_store.proofs.Refusals.{refuses_held-dropped, refuses_held-undropped}

@@ -1,6 +1,6 @@
+use Rattle.ss_stream.proofs.Costs.{StagesAtCost-answers, StagesAtCost-failed, StagesAtCost-none}
 use Rattle.ss_store.proofs.Common.{◌≡◌, ap, arith, false, refl, true, LineState, event_of}
 use Rattle.ss_store.proofs.Applying.{Applies-refused, Applies-starved}
-use Rattle.ss_store.proofs.Costs.{StagesAtCost-answers, StagesAtCost-failed, StagesAtCost-none}
 use Rattle.ss_store.proofs.IndexedStreams.{AreScheduled-other, parts-set, stored}
 use Rattle.ss_store.proofs.MarkTaking.{IsTakingMark, applies-marked, applies-unmarked, can-mark, same-unmarked, taking-mark}
 use Rattle.ss_store.proofs.Taking.{inside, live-spared, same-spared, sound-spared, sound-stopped, sound-taken, stands-spared}

@@ -1,9 +1,9 @@
+use Rattle.ss_stream.proofs.Costs.{StagesAtCost-answers, StagesAtCost-failed, StagesAtCost-none}
+use Rattle.ss_stream.proofs.KeyedWindows.{IsReservedFor-scheduled, IsScheduled-same}
+use Rattle.ss_stream.proofs.Rising.{begin-by_last}
 use Rattle.ss_store.proofs.Common.{◌≡◌, arith, refl, true, false, w64, ap, length, to_z-of_z, Value, All-set, IsScheduled}
 use Rattle.ss_store.proofs.Applying.{Applies-refused, Applies-starved}
-use Rattle.ss_store.proofs.Costs.{StagesAtCost-answers, StagesAtCost-failed, StagesAtCost-none}
 use Rattle.ss_store.proofs.IndexedStreams.{IsScheduled-at, parts-set, stored}
-use Rattle.ss_store.proofs.KeyedWindows.{IsReservedFor-scheduled, IsScheduled-same}
-use Rattle.ss_store.proofs.Rising.{begin-by_last}
 use Rattle.ss_store.proofs.Taking.{inside, live-spared, ordered-spared, same-spared, sound-spared, sound-stopped, sound-taken, stands-spared}
 use Rattle.ss_store.proofs.ValueTaking.{IsTakingValue, applies-unvalued, applies-valued, can-append, few-records, few-taker, later-taker, marks-taken}
 use Rattle.ss_store.proofs.ValueTaking.{taking-value}

@@ -1,8 +1,0 @@
-use Rattle.ss_store.proofs.Common.{sym, ◌∙◌}
-use Rattle.ss_store.proofs.LastEntries.{values_held-last}
-use Rattle.ss_store.proofs.closing.values_held.Goals as goal
-
-pub returns-in-Some-clause-value : goal.returns-in-Some-clause-value
-returns-in-Some-clause-value g c =
-    values_held-last c.args.part.now.line.entries c.in-Some.at c.get.result c.len.ensures.line.apart (sym c.in-Some.is ∙ c.last.ensures.value)
-    c.get.ensures.entry

@@ -1,5 +1,0 @@
-use Rattle.ss_store.proofs.Common.{◌≡◌, ◌++◌, take}
-use Rattle.ss_store.proofs.store.drop.push_mark_slots.Given as goal
-
-abbrev pub invariant-loop-place : goal.invariant-loop-place
-invariant-loop-place l = l.slots.items ≡ l.initial.slots.items ++ take l.place (l.landmarks.slots ++ l.landmarks.value_slots)
