@@ -53,12 +53,6 @@ fn play_all(alloc: Global, text: &str) -> Result<(String, u8), AllocError> {
     Ok(play.end())
 }
 
-// The same of a seed.
-fn try_seeds(alloc: Global, seed: u64, count: u64) -> Result<(String, u8), AllocError> {
-    let (text, held) = seeded::try_cases(alloc, seed, count)?;
-    Ok((text, if held { 0 } else { LOST }))
-}
-
 // Prints what came of it.
 fn print_all(rt: &impl Print, made: Result<(String, u8), AllocError>) -> u8 {
     match made {
@@ -74,12 +68,38 @@ fn run_script<R: AllocGlobal + Input + Print>(rt: &R) -> u8 {
     }
 }
 
+// Tries a seed, and says whether it held. One that didn't is printed.
+fn try_seed<R: AllocGlobal + Print>(rt: &R, seed: u64) -> Option<bool> {
+    match seeded::wrong_of_seed(rt.alloc(), seed) {
+        Ok(None) => Some(true),
+        Ok(Some(why)) => if print!(rt; "seed {seed}: {why}\n").is_ok() { Some(false) } else { None },
+        Err(_) => None,
+    }
+}
+
+// Tries so many seeds from one on.
+fn try_seeds<R: AllocGlobal + Print>(rt: &R, seed: u64, count: u64) -> u8 {
+    let mut wrong = 0u64;
+    for k in 0..count {
+        match try_seed(rt, seed.saturating_add(k)) {
+            Some(true) => {}
+            Some(false) => wrong = wrong.saturating_add(1),
+            None => return FAILED,
+        }
+    }
+    let held = count.saturating_sub(wrong);
+    if print!(rt; "{held} passed, {wrong} failed\n").is_err() {
+        return FAILED;
+    }
+    if wrong == 0 { 0 } else { LOST }
+}
+
 fn run_words<R: Env + AllocGlobal + Input + Print>(rt: &R, words: &[String]) -> u8 {
     if words.len() <= 1 {
         return run_script(rt);
     }
     match seeded_by(words) {
-        Some((seed, count)) => print_all(rt, try_seeds(rt.alloc(), seed, count)),
+        Some((seed, count)) => try_seeds(rt, seed, count),
         None => if print!(rt; "{USAGE}").is_ok() { UNKNOWN } else { FAILED },
     }
 }

@@ -3,7 +3,7 @@ use crate::bytes::{number_of, numbers_of, part, push_hex, put_over};
 use crate::images::{Left, disk_of, image_of};
 use crate::noted::Noted;
 use crate::report::print_written;
-use crate::runs::{Feed, run_on};
+use crate::runs::{Feed, run_on, whole};
 use crate::story::{FRAME, Story, new_disk, story_of};
 use crate::prefixes::count_slots;
 use crate::sweeps::{sweep_calls, sweep_cuts, sweep_disk, sweep_feeds, sweep_openings};
@@ -195,8 +195,8 @@ impl Play {
     }
 
     // `fail`, `reads` and `puts` with numbers: calls of the disk, counted from now on, reads and puts of the next run that fail.
-    // `stop CALL`, `stop at SYNC`, `stop behind SYNC`: all calls of the disk fail from this one on, from a sync of the disk or from the
-    // call behind it.
+    // `stop CALL`, `stop at SYNC`, `stop behind SYNC`, `stop opened`: all calls of the disk fail from this one on, from a sync or from
+    // the call behind it, or from that behind an opening.
     fn set_fault(&mut self, word: &str, rest: &str) -> Result<(), AllocError> {
         let numbers = numbers_of(self.alloc, rest)?;
         match word {
@@ -218,17 +218,24 @@ impl Play {
     }
 
     fn stop(&mut self, rest: &str, numbers: &[u64]) -> Result<(), AllocError> {
-        let Some(number) = numbers.first().copied() else {
-            return self.refuse();
-        };
-        let call = match rest.as_bytes().first() {
-            Some(b'a') => self.sync_call(number)?,
-            Some(b'b') => self.sync_call(number)?.saturating_add(1),
+        let (word, _) = split(rest);
+        let number = numbers.first().copied().unwrap_or(0);
+        let call = match word {
+            "opened" => self.opening_calls()?,
+            "at" => self.sync_call(number)?,
+            "behind" => self.sync_call(number)?.saturating_add(1),
             _ => number,
         };
         let first = self.disk.device().calls().saturating_add(call);
         self.disk.device_mut().stop_from(first);
         Ok(())
+    }
+
+    // How many calls an opening makes.
+    fn opening_calls(&self) -> Result<u64, AllocError> {
+        let mut disk = disk_of(self.alloc, self.disk.device().content())?;
+        let _ = run_on(self.alloc, "", &mut disk, whole(&[], 1))?;
+        Ok(disk.calls())
     }
 
     // The number of the call that is the sync with this number, from 1 on, of a plain run over the input.
@@ -306,19 +313,13 @@ impl Play {
     // `crash lost`, `crash kept`, `crash fill BYTE`, `crash writes [NUMBER..]`, `crash torn SEED`: what a crash leaves becomes the disk.
     fn crash(&mut self, rest: &str) -> Result<(), AllocError> {
         let (word, rest) = split(rest);
-        let numbers = numbers_of(self.alloc, rest)?;
-        let first = numbers.first().copied().unwrap_or(0);
-        let left = match word {
-            "lost" => Left::Of(Choice::Lost),
-            "kept" => Left::Of(Choice::Kept),
-            "fill" => Left::Of(Choice::Fill((first % 256) as u8)),
-            "writes" => Left::Writes(&numbers),
-            "torn" => Left::Torn(first),
-            _ => return self.refuse(),
-        };
-        let image = image_of(self.alloc, &self.disk, left)?;
-        self.disk = disk_of(self.alloc, &image)?;
-        Ok(())
+        match image_by(self.alloc, &self.disk, word, rest)? {
+            Some(image) => {
+                self.disk = disk_of(self.alloc, &image)?;
+                Ok(())
+            }
+            None => self.refuse(),
+        }
     }
 
     // `put AT DIGITS`: bytes lie at a place of the disk.
@@ -436,6 +437,33 @@ impl Play {
             Some(said) => self.out.push_str(said.as_str()),
             None => self.refuse(),
         }
+    }
+}
+
+// What a crash leaves, by a word and the numbers behind it.
+fn left_by<'a>(word: &str, numbers: &'a [u64]) -> Option<Left<'a>> {
+    let first = numbers.first().copied().unwrap_or(0);
+    match word {
+        "lost" => Some(Left::Of(Choice::Lost)),
+        "kept" => Some(Left::Of(Choice::Kept)),
+        "fill" => Some(Left::Of(Choice::Fill((first % 256) as u8))),
+        "writes" => Some(Left::Writes(numbers)),
+        "torn" => Some(Left::Torn(first)),
+        _ => None,
+    }
+}
+
+// The image that it leaves.
+fn image_by(
+    alloc: Global,
+    disk: &Noted<MemDisk>,
+    word: &str,
+    rest: &str,
+) -> Result<Option<Vec<u8>>, AllocError> {
+    let numbers = numbers_of(alloc, rest)?;
+    match left_by(word, &numbers) {
+        Some(left) => Ok(Some(image_of(alloc, disk, left)?)),
+        None => Ok(None),
     }
 }
 

@@ -70,6 +70,17 @@ fn wrong_of_run(
     Ok(None)
 }
 
+// One of eight faults: a call of the disk that fails alone, a put, a read, none, or a call with all later ones.
+fn fault_by<'a>(kind: u64, calls: &'a [u64; 1], others: &'a [u64; 1]) -> Fault<'a> {
+    match kind {
+        0 => Fault { alone: calls, from: None, reads: &[], puts: &[] },
+        1 => Fault { alone: &[], from: None, reads: &[], puts: others },
+        2 => Fault { alone: &[], from: None, reads: others, puts: &[] },
+        3 => NO_FAULT,
+        _ => Fault { alone: &[], from: Some(calls[0]), reads: &[], puts: &[] },
+    }
+}
+
 // The same of a run whose fault a seed chooses.
 fn wrong_of_some(
     alloc: Global,
@@ -77,20 +88,14 @@ fn wrong_of_some(
     right: &Right,
     random: &mut Random,
 ) -> Result<Finding, AllocError> {
-    let call = random.below(right.calls);
-    let other = random.below(60);
-    let fault = match random.below(8) {
-        0 => Fault { alone: &[call], from: None, reads: &[], puts: &[] },
-        1 => Fault { alone: &[], from: None, reads: &[], puts: &[other] },
-        2 => Fault { alone: &[], from: None, reads: &[other], puts: &[] },
-        3 => NO_FAULT,
-        _ => Fault { alone: &[], from: Some(call), reads: &[], puts: &[] },
-    };
+    let calls = [random.below(right.calls)];
+    let others = [random.below(60)];
+    let fault = fault_by(random.below(8), &calls, &others);
     wrong_of_run(alloc, story, right, fault, random)
 }
 
-// What is wrong of the story of a seed.
-fn wrong_of_seed(alloc: Global, seed: u64) -> Result<Finding, AllocError> {
+/// What is wrong of the story of a seed.
+pub fn wrong_of_seed(alloc: Global, seed: u64) -> Result<Finding, AllocError> {
     let mut random = Random::new(seed);
     let story = story_by(alloc, &mut random)?;
     let Some(right) = right_of(alloc, &story)? else {
@@ -102,20 +107,4 @@ fn wrong_of_seed(alloc: Global, seed: u64) -> Result<Finding, AllocError> {
         }
     }
     Ok(None)
-}
-
-/// What is to be printed of so many seeds from one on, and whether all held.
-pub fn try_cases(alloc: Global, seed: u64, count: u64) -> Result<(String, bool), AllocError> {
-    let mut text = String::new(alloc);
-    let mut wrong = 0u64;
-    for k in 0..count {
-        let seed = seed.saturating_add(k);
-        if let Some(why) = wrong_of_seed(alloc, seed)? {
-            wrong = wrong.saturating_add(1);
-            write!(text, "seed {seed}: {why}\n")?;
-        }
-    }
-    let held = count.saturating_sub(wrong);
-    write!(text, "{held} passed, {wrong} failed\n")?;
-    Ok((text, wrong == 0))
 }
