@@ -35,7 +35,10 @@ pub fn push_hex(bytes: &mut Vec<u8>, word: &str) -> Result<bool, AllocError> {
     let digits = word.as_bytes();
     for k in 0..digits.len() / 2 {
         let high = digits.get(k.saturating_mul(2)).copied().and_then(digit);
-        let low = digits.get(k.saturating_mul(2).saturating_add(1)).copied().and_then(digit);
+        let low = digits
+            .get(k.saturating_mul(2).saturating_add(1))
+            .copied()
+            .and_then(digit);
         match (high, low) {
             (Some(high), Some(low)) => bytes.push(high.wrapping_mul(16).wrapping_add(low))?,
             _ => return Ok(false),

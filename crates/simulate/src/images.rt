@@ -6,7 +6,7 @@ use ss_outside::{Choice, MemDisk};
 use std::alloc::{AllocError, Global};
 
 /// What a crash leaves of the writes that are pending.
-#[derive(Clone, Copy, Debug)]
+#[derive(Clone, Copy)]
 pub enum Left<'a> {
     /// None, all, or a byte in each free place.
     Of(Choice),
@@ -25,18 +25,20 @@ pub fn disk_of(alloc: Global, content: &[u8]) -> Result<Noted<MemDisk>, AllocErr
 const GRAIN: usize = 32;
 
 // Puts some grains of a write over the image.
-fn put_grains(
-    image: &mut Vec<u8>,
-    piece: &Piece,
-    random: &mut Random,
-) -> Result<(), AllocError> {
+fn put_grains(image: &mut Vec<u8>, piece: &Piece, random: &mut Random) -> Result<(), AllocError> {
     let bytes = piece.bytes.as_slice();
     for k in 0..bytes.len() / GRAIN + 1 {
         let from = k.saturating_mul(GRAIN);
         let at = (piece.at as usize).saturating_add(from);
         match random.below(4) {
             0 => {}
-            1 => put_over(image, at, &[random.below(256) as u8; 32][..part(bytes, from, from.saturating_add(GRAIN)).len().min(32)])?,
+            1 => put_over(
+                image,
+                at,
+                &[random.below(256) as u8; 32][..part(bytes, from, from.saturating_add(GRAIN))
+                    .len()
+                    .min(32)],
+            )?,
             _ => put_over(image, at, part(bytes, from, from.saturating_add(GRAIN)))?,
         }
     }
@@ -58,11 +60,7 @@ fn put_torn(image: &mut Vec<u8>, piece: &Piece, random: &mut Random) -> Result<(
 }
 
 // The image with some of the writes.
-fn with_writes(
-    image: &mut Vec<u8>,
-    pending: &[Piece],
-    numbers: &[u64],
-) -> Result<(), AllocError> {
+fn with_writes(image: &mut Vec<u8>, pending: &[Piece], numbers: &[u64]) -> Result<(), AllocError> {
     for (k, piece) in pending.iter().enumerate() {
         if numbers.contains(&(k as u64)) {
             put_over(image, piece.at as usize, piece.bytes.as_slice())?;

@@ -56,7 +56,11 @@ fn play_all(alloc: Global, text: &str) -> Result<(String, u8), AllocError> {
 // Prints what came of it.
 fn print_all(rt: &impl Print, made: Result<(String, u8), AllocError>) -> u8 {
     match made {
-        Ok((text, status)) => if print!(rt; "{text}").is_ok() { status } else { FAILED },
+        Ok((text, status)) => if print!(rt; "{text}").is_ok() {
+            status
+        } else {
+            FAILED
+        },
         Err(_) => FAILED,
     }
 }
@@ -72,7 +76,11 @@ fn run_script<R: AllocGlobal + Input + Print>(rt: &R) -> u8 {
 fn try_seed<R: AllocGlobal + Print>(rt: &R, seed: u64) -> Option<bool> {
     match seeded::wrong_of_seed(rt.alloc(), seed) {
         Ok(None) => Some(true),
-        Ok(Some(why)) => if print!(rt; "seed {seed}: {why}\n").is_ok() { Some(false) } else { None },
+        Ok(Some(why)) => if print!(rt; "seed {seed}: {why}\n").is_ok() {
+            Some(false)
+        } else {
+            None
+        },
         Err(_) => None,
     }
 }
@@ -100,7 +108,11 @@ fn run_words<R: Env + AllocGlobal + Input + Print>(rt: &R, words: &[String]) -> 
     }
     match seeded_by(words) {
         Some((seed, count)) => try_seeds(rt, seed, count),
-        None => if print!(rt; "{USAGE}").is_ok() { UNKNOWN } else { FAILED },
+        None => if print!(rt; "{USAGE}").is_ok() {
+            UNKNOWN
+        } else {
+            FAILED
+        },
     }
 }
 

@@ -35,7 +35,10 @@ pub fn count_slots(content: &[u8]) -> usize {
     let mut count = 0usize;
     for k in 0..slots.len().div_ceil(128) {
         let from = k.saturating_mul(128);
-        if part(slots, from, from.saturating_add(128)).iter().any(|byte| *byte != 0) {
+        if part(slots, from, from.saturating_add(128))
+            .iter()
+            .any(|byte| *byte != 0)
+        {
             count = count.saturating_add(1);
         }
     }

@@ -1,7 +1,7 @@
 // Numbers that look random: SplitMix64.
 
 /// What comes of a seed.
-#[derive(Clone, Copy, Debug)]
+#[derive(Clone, Copy)]
 pub struct Random {
     state: u64,
 }

@@ -12,7 +12,7 @@ pub struct Ended {
 }
 
 /// What fails of a run's input and output, by the numbers of reads and puts, and how many bytes a read gives.
-#[derive(Clone, Copy, Debug)]
+#[derive(Clone, Copy)]
 pub struct Feed<'a> {
     pub input: &'a [u8],
     pub piece: usize,

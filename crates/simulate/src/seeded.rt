@@ -4,7 +4,10 @@ use crate::noted::Noted;
 use crate::random::Random;
 use crate::stories::story_by;
 use crate::story::Story;
-use crate::trials::{Fault, Finding, NO_FAULT, Right, ends_rightly, right_of, run_story, wrong_of_image, wrong_of_opening};
+use crate::trials::{
+    Fault, Finding, NO_FAULT, Right, ends_rightly, right_of, run_story, wrong_of_image,
+    wrong_of_opening,
+};
 use ss_outside::{Choice, MemDisk};
 use std::alloc::{AllocError, Global};
 
@@ -73,11 +76,31 @@ fn wrong_of_run(
 // One of eight faults: a call of the disk that fails alone, a put, a read, none, or a call with all later ones.
 fn fault_by<'a>(kind: u64, calls: &'a [u64; 1], others: &'a [u64; 1]) -> Fault<'a> {
     match kind {
-        0 => Fault { alone: calls, from: None, reads: &[], puts: &[] },
-        1 => Fault { alone: &[], from: None, reads: &[], puts: others },
-        2 => Fault { alone: &[], from: None, reads: others, puts: &[] },
+        0 => Fault {
+            alone: calls,
+            from: None,
+            reads: &[],
+            puts: &[],
+        },
+        1 => Fault {
+            alone: &[],
+            from: None,
+            reads: &[],
+            puts: others,
+        },
+        2 => Fault {
+            alone: &[],
+            from: None,
+            reads: others,
+            puts: &[],
+        },
         3 => NO_FAULT,
-        _ => Fault { alone: &[], from: Some(calls[0]), reads: &[], puts: &[] },
+        _ => Fault {
+            alone: &[],
+            from: Some(calls[0]),
+            reads: &[],
+            puts: &[],
+        },
     }
 }
 

@@ -4,7 +4,7 @@ use crate::story::{Story, story_of};
 use std::alloc::{AllocError, Global};
 
 // What is known of a stream while lines are made for it.
-#[derive(Clone, Copy, Debug)]
+#[derive(Clone, Copy)]
 struct Known {
     stands: bool,
     is_open: bool,
@@ -56,8 +56,16 @@ struct Lines {
 }
 
 // A line of a stream that stands.
-fn add_line(lines: &mut Lines, stream: usize, known: &mut Known, random: &mut Random) -> Result<(), AllocError> {
-    let t = known.last.saturating_add(1).saturating_add(random.below(20));
+fn add_line(
+    lines: &mut Lines,
+    stream: usize,
+    known: &mut Known,
+    random: &mut Random,
+) -> Result<(), AllocError> {
+    let t = known
+        .last
+        .saturating_add(1)
+        .saturating_add(random.below(20));
     match random.below(24) {
         0 => if lines.may_drop {
             *known = NEW;
@@ -78,7 +86,12 @@ fn add_line(lines: &mut Lines, stream: usize, known: &mut Known, random: &mut Ra
 }
 
 // A line of a stream, which is made where it doesn't stand.
-fn add_of(lines: &mut Lines, stream: usize, known: &mut Known, random: &mut Random) -> Result<(), AllocError> {
+fn add_of(
+    lines: &mut Lines,
+    stream: usize,
+    known: &mut Known,
+    random: &mut Random,
+) -> Result<(), AllocError> {
     if known.stands {
         return add_line(lines, stream, known, random);
     }
@@ -122,7 +135,10 @@ fn lines_of(alloc: Global, may_drop: bool, random: &mut Random) -> Result<String
 fn asks(alloc: Global) -> Result<String, AllocError> {
     let mut text = String::new(alloc);
     for stream in 0..STREAMS {
-        write!(text, "windows s{stream}\nvalues s{stream} 0 1000000\nlast s{stream}\n")?;
+        write!(
+            text,
+            "windows s{stream}\nvalues s{stream} 0 1000000\nlast s{stream}\n"
+        )?;
         write!(text, "query s{stream} has 7 0 1000000\n")?;
     }
     text.push_str("list\n")?;
@@ -137,5 +153,12 @@ pub fn story_by(alloc: Global, random: &mut Random) -> Result<Story, AllocError>
     let piece = 1u64.saturating_add(random.below(400)) as usize;
     let lines = lines_of(alloc, !is_sent, random)?;
     let asks = asks(alloc)?;
-    story_of(alloc, mode, checked, piece, lines.as_str().as_bytes(), asks.as_str().as_bytes())
+    story_of(
+        alloc,
+        mode,
+        checked,
+        piece,
+        lines.as_str().as_bytes(),
+        asks.as_str().as_bytes(),
+    )
 }

@@ -30,7 +30,10 @@ pub struct Story {
 
 /// Whether a line does something.
 pub fn is_event(line: &[u8]) -> bool {
-    line.starts_with(b"create ") || line.starts_with(b"append ") || line.starts_with(b"landmark ") || line.starts_with(b"drop ")
+    line.starts_with(b"create ")
+        || line.starts_with(b"append ")
+        || line.starts_with(b"landmark ")
+        || line.starts_with(b"drop ")
 }
 
 fn has_word(mode: &str, wanted: &str) -> bool {
@@ -187,7 +190,11 @@ impl Story {
         for (k, byte) in written.iter().enumerate() {
             if *byte == b'\n' {
                 let line = part(written, from, k);
-                let behind = if line.starts_with(b"@") { part(line, 3, line.len()) } else { line };
+                let behind = if line.starts_with(b"@") {
+                    part(line, 3, line.len())
+                } else {
+                    line
+                };
                 if behind.starts_with(b"ok ") {
                     count = count.saturating_add(1);
                 }

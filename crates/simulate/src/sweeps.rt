@@ -5,7 +5,10 @@ use crate::noted::Noted;
 use crate::prefixes::{Shown, shown_on};
 use crate::runs::{Ended, run_on, whole};
 use crate::story::Story;
-use crate::trials::{Fault, Finding, NO_FAULT, Right, ends_rightly, events_of, right_of, run_story, wrong_of_image, wrong_of_opening};
+use crate::trials::{
+    Fault, Finding, NO_FAULT, Right, ends_rightly, events_of, right_of, run_story, wrong_of_image,
+    wrong_of_opening,
+};
 use ss_outside::{Choice, MemDisk};
 use std::alloc::{AllocError, Global};
 
@@ -38,24 +41,36 @@ fn wrong_of_fault(
     if let Some(why) = ends_rightly(right, &ended) {
         return Ok(Some(why));
     }
-    wrong_of_crashes(alloc, story, right, &disk, story.acknowledged(&ended.written))
+    wrong_of_crashes(
+        alloc,
+        story,
+        right,
+        &disk,
+        story.acknowledged(&ended.written),
+    )
 }
 
 // The fault of a call, which fails alone or with all later ones.
 fn fault_at(call: &[u64; 1], all: bool) -> Fault<'_> {
     if all {
-        Fault { alone: &[], from: Some(call[0]), reads: &[], puts: &[] }
+        Fault {
+            alone: &[],
+            from: Some(call[0]),
+            reads: &[],
+            puts: &[],
+        }
     } else {
-        Fault { alone: call, from: None, reads: &[], puts: &[] }
+        Fault {
+            alone: call,
+            from: None,
+            reads: &[],
+            puts: &[],
+        }
     }
 }
 
 /// Each call of the disk fails, alone or with all later ones. What is said of it.
-pub fn sweep_calls(
-    alloc: Global,
-    story: &Story,
-    all: bool,
-) -> Result<String, AllocError> {
+pub fn sweep_calls(alloc: Global, story: &Story, all: bool) -> Result<String, AllocError> {
     let Some(right) = right_of(alloc, story)? else {
         return String::from_str(alloc, "= refused\n");
     };
@@ -106,8 +121,12 @@ fn said_of_feed(
     let status = ended.status;
     let lines = count_lines(&ended.written);
     let said = match events_left(alloc, story, right, &disk)? {
-        Some((least, most)) if least == most => format!(in alloc; "= {call}: status {status} lines {lines} events {least}\n")?,
-        Some((least, most)) => format!(in alloc; "= {call}: status {status} lines {lines} events {least} to {most}\n")?,
+        Some((least, most)) if least == most => format!(in alloc;
+            "= {call}: status {status} lines {lines} events {least}\n"
+        )?,
+        Some((least, most)) => format!(in alloc;
+            "= {call}: status {status} lines {lines} events {least} to {most}\n"
+        )?,
         None => format!(in alloc; "= {call}: status {status} lines {lines} an image\n")?,
     };
     Ok((said, status != 0))
@@ -124,9 +143,31 @@ pub fn sweep_feeds(alloc: Global, story: &Story, reads: bool) -> Result<String, 
     let mut text = String::new(alloc);
     for call in 0..MOST {
         let (said, goes_on) = if reads {
-            said_of_feed(alloc, story, &right, Fault { alone: &[], from: None, reads: &[call], puts: &[] }, call)?
+            said_of_feed(
+                alloc,
+                story,
+                &right,
+                Fault {
+                    alone: &[],
+                    from: None,
+                    reads: &[call],
+                    puts: &[],
+                },
+                call,
+            )?
         } else {
-            said_of_feed(alloc, story, &right, Fault { alone: &[], from: None, reads: &[], puts: &[call] }, call)?
+            said_of_feed(
+                alloc,
+                story,
+                &right,
+                Fault {
+                    alone: &[],
+                    from: None,
+                    reads: &[],
+                    puts: &[call],
+                },
+                call,
+            )?
         };
         text.push_str(said.as_str())?;
         if !goes_on {
@@ -194,7 +235,10 @@ pub fn sweep_openings(alloc: Global, story: &Story, syncs: u64) -> Result<String
 // The number of the call behind so many syncs of a run that nothing fails.
 fn call_behind(alloc: Global, story: &Story, syncs: u64) -> Result<u64, AllocError> {
     let (disk, _) = run_story(alloc, story, NO_FAULT)?;
-    match syncs.checked_sub(1).and_then(|k| disk.syncs().get(k as usize)) {
+    match syncs
+        .checked_sub(1)
+        .and_then(|k| disk.syncs().get(k as usize))
+    {
         Some(call) => Ok(call.saturating_add(1)),
         None => Ok(0),
     }
@@ -237,7 +281,12 @@ pub fn sweep_disk(alloc: Global, content: &[u8], asks: &[u8]) -> Result<String, 
 
 // What a check says of a disk that is cut to a length.
 fn said_when_cut(alloc: Global, content: &[u8], length: usize) -> Result<Ended, AllocError> {
-    run_on(alloc, "check", &mut disk_of(alloc, part(content, 0, length))?, whole(&[], 4096))
+    run_on(
+        alloc,
+        "check",
+        &mut disk_of(alloc, part(content, 0, length))?,
+        whole(&[], 4096),
+    )
 }
 
 // A line on the lengths of which a check says the same.
@@ -250,13 +299,21 @@ fn push_said(text: &mut String, from: usize, to: usize, said: &Ended) -> Result<
     Ok(())
 }
 
-/// What a check says of a disk that is cut to each length up to its own: a line for those that follow each other of which it says the
-/// same.
+// Whether a length is tried: the first ones, those of the first slots, and some between.
+fn is_tried(length: usize) -> bool {
+    length < 1100 || length > 36800 || length % 97 == 0
+}
+
+/// What a check says of a disk that is cut to many lengths up to its own: a line for those that follow each other of which it says
+/// the same.
 pub fn sweep_cuts(alloc: Global, content: &[u8]) -> Result<String, AllocError> {
     let mut text = String::new(alloc);
     let mut from = 0usize;
     let mut said = said_when_cut(alloc, content, 0)?;
     for length in 1..=content.len() {
+        if !is_tried(length) {
+            continue;
+        }
         let next = said_when_cut(alloc, content, length)?;
         if next.status != said.status || next.written.as_slice() != said.written.as_slice() {
             push_said(&mut text, from, length.saturating_sub(1), &said)?;

@@ -17,7 +17,7 @@ pub struct Right {
 }
 
 /// What fails: calls of the disk alone, all from one on, reads and puts.
-#[derive(Clone, Copy, Debug)]
+#[derive(Clone, Copy)]
 pub struct Fault<'a> {
     pub alone: &'a [u64],
     pub from: Option<u64>,
@@ -119,7 +119,12 @@ fn goes_on(
     disk: &mut Noted<MemDisk>,
     events: usize,
 ) -> Result<bool, AllocError> {
-    let ended = run_on(alloc, &story.mode, disk, whole(story.rest(events), story.piece))?;
+    let ended = run_on(
+        alloc,
+        &story.mode,
+        disk,
+        whole(story.rest(events), story.piece),
+    )?;
     let last = story.events();
     Ok(ended.status == 0 && events_of(alloc, story, right, disk, last, last)?.is_some())
 }
