@@ -14,21 +14,14 @@ pub enum Slot {
     Stream(u32, u8),
     /// The same of a stream that is dropped.
     Dropped(u32, u8),
-    /// The same of a stream whose windows keep to a step, with the step.
-    Within(u32, u8, u32),
     /// A window of a stream: the stream's number, the first position, how many values, and the first and last time.
     Window(u32, u64, u64, u64, u64),
     /// The same with the filter of its values, where the filter of a `Window` has all bits.
     Filtered(u32, u64, u64, u64, u64),
-    /// A window as a store without filters wrote it: the stream's number, the first position, the values, and the first and last
-    /// time.
-    Old(u32, u64, Values, u64, u64),
     /// A landmark: the stream's number, its own, how many values it has, and when it opens and closes.
     Landmark(u32, u32, u32, u64, Option<u64>),
     /// A value of a landmark: the stream's number, the landmark's, its index, its time, and what it is.
     Value(u32, u32, u32, u64, i64),
-    /// No record.
-    Bad,
 }
 
 /// What a formatted file begins with.
@@ -86,19 +79,12 @@ fn spelled(slot: Slot) -> [u8; 128] {
         Slot::Free => {}
         Slot::Stream(id, letter) => put_stream(&mut bytes, id, letter, 0),
         Slot::Dropped(id, letter) => put_stream(&mut bytes, id, letter, 1),
-        Slot::Within(id, letter, step) => {
-            put_stream(&mut bytes, id, letter, 0);
-            put_u32(&mut bytes, 56, step);
-        }
         Slot::Window(id, first, count, t_first, t_last) => {
             put_window(&mut bytes, id, first, (count, 0, 0, 0), (t_first, t_last));
         }
         Slot::Filtered(id, first, count, t_first, t_last) => {
             put_window(&mut bytes, id, first, (count, 0, 0, 0), (t_first, t_last));
             put_filter(&mut bytes);
-        }
-        Slot::Old(id, first, values, t_first, t_last) => {
-            put_window(&mut bytes, id, first, values, (t_first, t_last));
         }
         Slot::Landmark(id, number, values, start, finish) => {
             put(&mut bytes, 0, &[3, if finish.is_some() { 2 } else { 1 }]);
@@ -116,7 +102,6 @@ fn spelled(slot: Slot) -> [u8; 128] {
             put_u64(&mut bytes, 16, t);
             put(&mut bytes, 24, &v.to_be_bytes());
         }
-        Slot::Bad => bytes = [7; 128],
     }
     bytes
 }

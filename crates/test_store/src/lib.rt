@@ -5,25 +5,13 @@
 #[cfg(test)]
 mod applying;
 #[cfg(test)]
-mod asking;
-#[cfg(test)]
 mod certificates;
 #[cfg(test)]
 mod changed;
 #[cfg(test)]
-mod damaged;
-#[cfg(test)]
-mod having;
-#[cfg(test)]
 mod images;
 #[cfg(test)]
 mod laws;
-#[cfg(test)]
-mod limits;
-#[cfg(test)]
-mod newest;
-#[cfg(test)]
-mod opening;
 #[cfg(test)]
 mod passing;
 #[cfg(test)]
@@ -41,8 +29,4 @@ mod silent;
 #[cfg(test)]
 mod steps;
 #[cfg(test)]
-mod stops;
-#[cfg(test)]
 mod texts;
-#[cfg(test)]
-mod within;

@@ -92,11 +92,6 @@ fn rebuilt(alloc: Global, slots: &[Slot]) -> Result<Result<Parts, RecoverError>,
     }
 }
 
-/// The damage that is told of an image.
-pub fn damage(alloc: Global, slots: &[Slot]) -> Result<Option<RecoverError>, JournalError> {
-    Ok(rebuilt(alloc, slots)?.err())
-}
-
 // Whether an image is read as this.
 fn is_rebuilt(alloc: Global, slots: &[Slot], want: &[Read]) -> Result<bool, JournalError> {
     match rebuilt(alloc, slots)? {

@@ -4,10 +4,10 @@ ghost use Rattle.ss_catalog.specs.Events.{IsInTime};
 
 use crate::silent::Silent;
 use ss_base::LAST_TIME;
-use ss_catalog::{Event, Family, Kind, Name, Params, Query, Refusal};
-use ss_model::{Newest, Outcome};
+use ss_catalog::{Event, Family, Kind, Name, Params, Query};
+use ss_model::Outcome;
 use ss_outside::{Failed, MemDisk};
-use ss_store::{ApplyError, AskError, OpenError, Store, Survey};
+use ss_store::{ApplyError, AskError, OpenError, Store};
 use std::alloc::{AllocError, Global};
 
 /// What a stream is asked to take.
@@ -31,18 +31,9 @@ pub type Row = (u8, Asked, Answer);
 /// What is asked, of the stream whose name is a letter, from which to which time.
 pub type Question = (u8, Kind, u64, u64);
 
-/// Questions, each with its answer.
-pub type Outcomes = &'static [(Question, Outcome)];
-
 pub const DOUBLING: Params = Params {
     family: Family::Exp { b: 2, r: 1, s: 1 },
     within: None,
-};
-
-/// The same, and no window crosses a boundary of a hundred.
-pub const IN_HUNDREDS: Params = Params {
-    family: Family::Exp { b: 2, r: 1, s: 1 },
-    within: Some(100),
 };
 
 pub const IN_TWOS: Params = Params {
@@ -69,11 +60,6 @@ pub fn empty(alloc: Global) -> Result<Silent, AllocError> {
 /// The store that a disk holds.
 pub fn store_on(alloc: Global, disk: &mut Silent) -> Result<Store, OpenError> {
     Store::open(alloc, disk)
-}
-
-/// What a survey of a disk finds.
-pub fn surveyed(alloc: Global, disk: &mut Silent) -> Result<Survey, OpenError> {
-    Store::survey(alloc, disk)
 }
 
 /// The store that a disk holds, with the disk.
@@ -195,33 +181,6 @@ pub fn told(running: &mut Running, question: Question) -> Option<Result<Outcome,
     }
 }
 
-/// What is told of the newest value of the stream whose name is a letter. `None` is for what is no name, and for a call of the disk
-/// where it is refused or the store has stopped.
-pub fn newest(running: &mut Running, letter: u8) -> Option<Result<Newest, AskError>> {
-    let name = Name::of(&[letter])?;
-    let before = running.disk.calls();
-    let answer = running.store.newest(&mut running.disk, &name);
-    match answer {
-        Err(AskError::Refused(_) | AskError::Stopped) if running.disk.calls() != before => None,
-        _ => Some(answer),
-    }
-}
-
-/// How many values of landmarks a stream has in a range, and the first of them, or why that isn't told.
-pub type Marked = Result<(u32, Option<(u64, i64)>), Refusal>;
-
-/// The same of the stream whose name is a letter. `None` is for what is no name.
-pub fn marked(store: &Store, letter: u8, from: u64, to: u64) -> Option<Marked> {
-    let name = Name::of(&[letter])?;
-    match store.values(&name, from, to) {
-        Ok(range) if range.count > 0 => {
-            Some(Ok((range.count, Some(store.value(range.id, range.first)))))
-        }
-        Ok(_) => Some(Ok((0, None))),
-        Err(refusal) => Some(Err(refusal)),
-    }
-}
-
 /// The first and the last position of the oldest window of `a`, or of the one after it. `None` is for no such window, and for a
 /// call of the disk where the store has stopped.
 pub fn window_read(running: &mut Running, is_second: bool) -> Option<Result<(u64, u64), AskError>> {
@@ -253,25 +212,4 @@ pub fn only(store: &Store) -> Option<Said> {
     let row = store.stream(0);
     let letter = *row.name.as_bytes().first()?;
     Some((letter, row.n, row.k, row.landmarks, row.values))
-}
-
-// Whether the next landmark of a stream is refused, since one is open.
-fn is_inside(running: &mut Running, letter: u8) -> bool {
-    let refused = Some(Err(ApplyError::Refused(Refusal::Open)));
-    answered(running, letter, Open(LAST_TIME)) == refused
-}
-
-/// How many events the one stream has taken since its creation, and how many windows it has.
-pub type Held = Option<(u64, u32)>;
-
-/// The same of a store.
-pub fn held(running: &mut Running) -> Held {
-    let (letter, values, windows, landmarks, inside) = only(&running.store)?;
-    let taken = values.saturating_add(u64::from(landmarks) * 2 + u64::from(inside));
-    // Of a landmark that is open one event is still to come.
-    if is_inside(running, letter) {
-        Some((taken.saturating_sub(1), windows))
-    } else {
-        Some((taken, windows))
-    }
 }

@@ -1,31 +1,23 @@
 // Steps of a run, each with what must come of it.
 use crate::changed::{Taken, take};
-use crate::images::{FORMATTED, Slot, image};
 use crate::running::{
-    Answer, Asked, Marked, Question, Row, Running, Said, answered, crowd, fresh, held, marked,
-    newest, only, opened, play, reopen, surveyed, told, window_read,
+    Answer, Asked, Question, Row, Running, Said, answered, crowd, fresh, only, play, reopen, told,
+    window_read,
 };
 use crate::silent::Silent;
 use ss_base::LAST_TIME;
 use ss_catalog::Kind;
-use ss_model::Newest;
 use ss_model::Outcome::{self, Count};
 use ss_outside::Choice;
-use ss_store::{AskError, OpenError, Store, Survey};
+use ss_store::{AskError, OpenError};
 use std::alloc::Global;
 
 /// A step of a run over one store, with what must come of it.
 #[derive(Clone, Copy)]
 pub enum Step {
-    /// From here on it is another store, on an empty disk.
-    Fresh,
-    /// From here on it is another store, on a file that has these slots.
-    Made(&'static [Slot]),
     /// From here on it is another store, which has taken these and was opened again, so that it reads each record in its slot,
     /// of which none is cached.
     Settled(Taken),
-    /// Another stream takes so much that no record of the first slots is cached once the store is opened again.
-    Crowd,
     /// An event of the stream whose name is a letter is answered so.
     Apply(u8, Asked, Answer),
     /// These events are answered so.
@@ -36,20 +28,12 @@ pub enum Step {
     Within(&'static [(Question, Outcome, u64)]),
     /// These queries are not answered, and why.
     Untold(&'static [(Question, AskError)]),
-    /// This is told of the newest values of these streams.
-    Latest(&'static [(u8, Result<Newest, AskError>)]),
-    /// These streams have so many values of landmarks from one time to another.
-    Keeps(&'static [(u8, u64, u64, Marked)]),
     /// `a` has so many values, or why they are not counted.
     Counts(Result<u64, AskError>),
     /// The first window of `a`, or the second, has this first and last position, or why it is not read.
     Reads(bool, Result<(u64, u64), AskError>),
     /// The only stream is listed so.
     Lists(Said),
-    /// The only stream has taken so many events since its creation, and has so many windows.
-    Holds(u64, u32),
-    /// A survey finds this.
-    Surveys(Survey),
     /// The store is opened again.
     Reopen,
     /// After so many calls of the disk more each one fails.
@@ -65,8 +49,8 @@ pub enum Step {
 }
 
 use Step::{
-    Apply, Clear, Counts, Crash, Crowd, EndAt, Fresh, Holds, Keeps, Latest, Lists, Made, MoveTo,
-    Play, Reads, Reopen, Settled, Stop, Surveys, Tell, Untold, Within,
+    Apply, Clear, Counts, Crash, EndAt, Lists, MoveTo, Play, Reads, Reopen, Settled, Stop, Tell, Untold,
+    Within,
 };
 
 fn are_told(running: &mut Running, rows: &[(Question, Outcome)]) -> bool {
@@ -95,24 +79,6 @@ fn are_told_within(running: &mut Running, rows: &[(Question, Outcome, u64)]) -> 
 fn are_untold(running: &mut Running, rows: &[(Question, AskError)]) -> bool {
     for (question, error) in rows {
         if told(running, *question) != Some(Err(*error)) {
-            return false;
-        }
-    }
-    true
-}
-
-fn are_newest(running: &mut Running, rows: &[(u8, Result<Newest, AskError>)]) -> bool {
-    for (letter, want) in rows {
-        if newest(running, *letter) != Some(*want) {
-            return false;
-        }
-    }
-    true
-}
-
-fn are_kept(store: &Store, rows: &[(u8, u64, u64, Marked)]) -> bool {
-    for (letter, from, to, want) in rows {
-        if marked(store, *letter, *from, *to) != Some(*want) {
             return false;
         }
     }
@@ -150,11 +116,6 @@ fn renew(alloc: Global, running: &mut Running) -> Result<bool, OpenError> {
     Ok(true)
 }
 
-fn make(alloc: Global, running: &mut Running, slots: &[Slot]) -> Result<bool, OpenError> {
-    *running = opened(alloc, image(alloc, FORMATTED, slots)?)?;
-    Ok(true)
-}
-
 fn settle(alloc: Global, running: &mut Running, taken: Taken) -> Result<bool, OpenError> {
     renew(alloc, running)?;
     Ok(take(running, taken) && crowd(running) && reopen(alloc, running).is_ok())
@@ -173,22 +134,15 @@ fn stop(disk: &mut Silent, calls: u64) -> bool {
 /// Whether this comes of a step.
 pub fn comes(alloc: Global, running: &mut Running, step: Step) -> Result<bool, OpenError> {
     match step {
-        Fresh => renew(alloc, running),
-        Made(slots) => make(alloc, running, slots),
         Settled(taken) => settle(alloc, running, taken),
-        Crowd => Ok(crowd(running)),
         Apply(letter, asked, answer) => Ok(answered(running, letter, asked) == Some(answer)),
         Play(rows) => Ok(play(running, rows) == rows.len()),
         Tell(rows) => Ok(are_told(running, rows)),
         Within(rows) => Ok(are_told_within(running, rows)),
         Untold(rows) => Ok(are_untold(running, rows)),
-        Latest(rows) => Ok(are_newest(running, rows)),
-        Keeps(rows) => Ok(are_kept(&running.store, rows)),
         Counts(want) => Ok(is_counted(running, want)),
         Reads(is_second, want) => Ok(window_read(running, is_second) == Some(want)),
         Lists(said) => Ok(only(&running.store) == Some(said)),
-        Holds(events, windows) => Ok(held(running) == Some((events, windows))),
-        Surveys(survey) => Ok(surveyed(alloc, &mut running.disk)? == survey),
         Reopen => Ok(reopen(alloc, running).is_ok()),
         Stop(calls) => Ok(stop(&mut running.disk, calls)),
         Crash(choice) => crash(alloc, running, choice),
