@@ -24,23 +24,31 @@ pub fn disk_of(alloc: Global, content: &[u8]) -> Result<Noted<MemDisk>, AllocErr
 // How many bytes a crash leaves or loses together, at most.
 const GRAIN: usize = 32;
 
+// Puts over the image what a seed leaves of a grain: nothing, other bytes, or these.
+fn put_grain(
+    image: &mut Vec<u8>,
+    at: usize,
+    grain: &[u8],
+    random: &mut Random,
+) -> Result<(), AllocError> {
+    match random.below(4) {
+        0 => Ok(()),
+        1 => {
+            let other = [(random.next() % 256) as u8; GRAIN];
+            put_over(image, at, part(&other, 0, grain.len()))
+        }
+        _ => put_over(image, at, grain),
+    }
+}
+
 // Puts some grains of a write over the image.
 fn put_grains(image: &mut Vec<u8>, piece: &Piece, random: &mut Random) -> Result<(), AllocError> {
     let bytes = piece.bytes.as_slice();
     for k in 0..bytes.len() / GRAIN + 1 {
         let from = k.saturating_mul(GRAIN);
         let at = (piece.at as usize).saturating_add(from);
-        match random.below(4) {
-            0 => {}
-            1 => put_over(
-                image,
-                at,
-                &[random.below(256) as u8; 32][..part(bytes, from, from.saturating_add(GRAIN))
-                    .len()
-                    .min(32)],
-            )?,
-            _ => put_over(image, at, part(bytes, from, from.saturating_add(GRAIN)))?,
-        }
+        let grain = part(bytes, from, from.saturating_add(GRAIN));
+        put_grain(image, at, grain, random)?;
     }
     Ok(())
 }

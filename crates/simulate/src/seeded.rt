@@ -1,6 +1,7 @@
 // Stories that look random, with faults and crashes.
 use crate::images::{Left, image_of};
 use crate::noted::Noted;
+use crate::prefixes::shown_on;
 use crate::random::Random;
 use crate::stories::story_by;
 use crate::story::Story;
@@ -20,7 +21,7 @@ fn choice_by(random: &mut Random) -> Choice {
     match random.below(4) {
         0 => Choice::Lost,
         1 => Choice::Kept,
-        _ => Choice::Fill(random.below(256) as u8),
+        _ => Choice::Fill((random.next() % 256) as u8),
     }
 }
 
@@ -52,6 +53,19 @@ fn wrong_of_crash(
     wrong_of_opening(alloc, story, right, &image, call, left_by(random))
 }
 
+// The program is started again over the same disk, without a crash, and stops at a call.
+fn start_again(
+    alloc: Global,
+    story: &Story,
+    disk: &mut Noted<MemDisk>,
+    random: &mut Random,
+) -> Result<(), AllocError> {
+    let call = disk.calls().saturating_add(random.below(60));
+    disk.device_mut().stop_from(call);
+    let _ = shown_on(alloc, disk, &story.asks)?;
+    Ok(())
+}
+
 // What is wrong of a run with a fault.
 fn wrong_of_run(
     alloc: Global,
@@ -60,9 +74,12 @@ fn wrong_of_run(
     fault: Fault<'_>,
     random: &mut Random,
 ) -> Result<Finding, AllocError> {
-    let (disk, ended) = run_story(alloc, story, fault)?;
+    let (mut disk, ended) = run_story(alloc, story, fault)?;
     if let Some(why) = ends_rightly(right, &ended) {
         return Ok(Some(why));
+    }
+    if random.below(4) == 0 {
+        start_again(alloc, story, &mut disk, random)?;
     }
     let least = story.acknowledged(&ended.written);
     for _ in 0..CRASHES {
