@@ -1,15 +1,14 @@
 // Replicas: frames that are lost, come again or come in another order.
-ghost use Rattle.std.specs.Prelude.{◌≡◌, false};
 
 use crate::applying::READINGS;
 use crate::passing::pass;
 use crate::running::Asked::{self, Close, Create, Open, Value};
-use crate::running::{DOUBLING, IN_TWOS, Row, Running, event_of, fresh, play, runs};
+use crate::running::{DOUBLING, IN_TWOS, Row, Running, applied, event_of, fresh, play, runs};
 use crate::steps::Step::{self, Apply, Crash, Lists, Reads, Reopen};
 use crate::steps::comes;
-use ss_catalog::{Event, Name, Refusal};
+use ss_catalog::{Name, Refusal};
 use ss_model::Ack;
-use ss_outside::{Choice, Failed};
+use ss_outside::Choice;
 use ss_replica::{Due, Frame, due};
 use ss_store::{ApplyError, OpenError};
 use std::alloc::Global;
@@ -43,15 +42,10 @@ enum Turn {
 
 use Turn::{Adds, Does, Has, Offers};
 
-// Stages an event and seals it.
-fn applied(running: &mut Running, event: &Event) -> Result<Offered, ApplyError>
-    requires { running.old.store.stopped ≡ false }
-{
-    let ack = running.store.stage(&mut running.disk, event)?;
-    match running.store.seal(&mut running.disk) {
-        Ok(()) => Ok(Done(ack)),
-        Err(Failed) => Err(ApplyError::Disk),
-    }
+// What an event is answered that is the next of its stream.
+fn added(running: &mut Running, frame: &Frame) -> Result<Offered, ApplyError> {
+    let (n, k) = applied(running, &frame.event)?;
+    Ok(Done(Ack { n, k }))
 }
 
 // What a frame is answered. `None` is for a store that doesn't run, and for a call of the disk where nothing is to change.
@@ -63,7 +57,7 @@ fn offered(running: &mut Running, frame: &Frame) -> Option<Result<Offered, Apply
     let answer = match due(&running.store, frame) {
         Due::Old => Ok(Old),
         Due::Gap(events) => Ok(Gap(events)),
-        Due::Next => applied(running, &frame.event),
+        Due::Next => added(running, frame),
     };
     match answer {
         Ok(Old | Gap(_)) | Err(ApplyError::Refused(_)) if running.disk.calls() != before => None,

@@ -107,7 +107,8 @@ pub fn event_of(letter: u8, asked: Asked) -> Option<Event>
     }
 }
 
-fn applied(running: &mut Running, event: &Event) -> Answer
+/// What an event is answered that is staged and sealed.
+pub fn applied(running: &mut Running, event: &Event) -> Answer
     requires { IsInTime event.now }
 {
     let ack = running.store.stage(&mut running.disk, event)?;
