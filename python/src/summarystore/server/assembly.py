@@ -37,7 +37,7 @@ def endpoints_of(service: Service) -> Sequence[Endpoint]:
     """All addresses by HTTP."""
     found = [*http_in.endpoints(service), *http_out.endpoints(service), *streaming.endpoints(service),
              *health.endpoints(service), *repair.endpoints(service), *openapi.endpoints()]
-    for name in ("graphite_out", "metrics", "refusals"):
+    for name in ("graphite_out", "metrics", "refusals", "prometheus_in"):
         part = _part(name)
         if part is not None:
             found += part.endpoints(service)

@@ -117,6 +117,10 @@ def _paths() -> Json:
             "What happens, as server-sent events: reading, landmark, health, lost",
             (word("stream", {"type": "array", "items": TEXT}, False, "those to listen to; none are all"),),
             TEXT, kind="text/event-stream")},
+        "/api/v1/write": {"post": operation(
+            "Takes samples of Prometheus' remote_write. Answered after they are on the disk.", (), None,
+            {"application/x-protobuf": {"schema": {"type": "string", "format": "binary"}}}, Access.WRITE,
+            status="204")},
         "/write": {"post": write},
         "/api/v2/write": {"post": write},
         "/healthz": {"get": operation("Whether the service can do its work", (), {"type": "object"}, None,
