@@ -10,6 +10,7 @@ import { hideNotice, isNoticed, showNoStreams, showToken, showTrouble, troubleOf
 const WIDE = matchMedia("(min-width: 900px)");
 const STATES = { live: "Live", "catching up": "Catching up", offline: "Offline" };
 const FRESHEN = 100;
+const COPY = "Copy the address";
 const THEMES = ["system", "light", "dark"];
 const THEME_NAMES = { system: "as the system", light: "light", dark: "dark" };
 
@@ -20,6 +21,7 @@ function addressed() {
   const range = words.get("range");
   return {
     stream: words.get("stream"), kind: words.get("kind"), from: number("from"), to: number("to"),
+    others: words.getAll("with"),
     range: Object.hasOwn(RANGES, range ?? "") ? range : null,
   };
 }
@@ -27,7 +29,10 @@ function addressed() {
 class Page {
   constructor() {
     this.list = new List();
-    this.detail = new Detail({ onChange: () => this.write(), onError: (error) => this.failed(error) });
+    this.detail = new Detail({
+      onChange: () => this.write(), onError: (error) => this.failed(error),
+      streamOf: (name) => this.list.get(name), names: () => this.list.inOrder.map(({ stream }) => stream.name),
+    });
     this.firsts = new Map();
     this.fresh = new Map();
     this.live = new Live({
@@ -47,6 +52,7 @@ class Page {
     byId("banner-act").addEventListener("click", () => this.live.retry());
     byId("forget").addEventListener("click", () => this.forget());
     byId("skip").addEventListener("click", (event) => this.skip(event));
+    byId("copy").addEventListener("click", () => this.copy());
     byId("theme").addEventListener("click", () => this.theme());
     document.addEventListener("theme", () => this.themed());
     this.themed();
@@ -138,11 +144,24 @@ class Page {
 
   /** Writes what is seen into the address, so that it can be kept and sent. */
   write() {
-    const { stream, kind, view } = this.detail;
+    const { stream, kind, view, others } = this.detail;
     const words = new URLSearchParams({ stream: stream.name, kind });
+    for (const name of others.names) words.append("with", name);
     if (view.range) words.set("range", view.range);
     else for (const end of ["from", "to"]) words.set(end, String(Math.round(view[end] * 1000) / 1000));
     history.replaceState(null, "", `#${words}`);
+  }
+
+  /** Copies the address of what is seen, so that it can be kept and sent. */
+  async copy() {
+    this.write();
+    try {
+      await navigator.clipboard.writeText(location.href);
+      say(byId("copy-text"), "Copied");
+    } catch {
+      say(byId("copy-text"), "Copy it from the address bar");
+    }
+    setTimeout(() => say(byId("copy-text"), COPY), 3000);
   }
 
   happened(event, said) {
@@ -162,6 +181,7 @@ class Page {
     const readings = [...this.fresh.values()];
     this.fresh.clear();
     if (readings.map((said) => this.list.reading(said)).includes(false)) this.reload();
+    if (readings.some(({ stream }) => this.detail.others.names.includes(stream))) this.detail.fresh();
     const said = readings.find(({ stream }) => stream === this.detail.stream?.name);
     const stream = said && this.list.get(said.stream);
     if (!stream) return;
