@@ -89,6 +89,9 @@ def _paths() -> Json:
             (ONE, SEVERAL, word("kind", {"enum": KINDS}), *RANGE,
              word("step", TEXT, False, "seconds, or a text such as 15min"),
              word("rows", COUNT, False, "about so many rows, in the place of a step")), reference("Series"))},
+        "/api/access": {"get": operation(
+            "What the token that is sent may do", (),
+            _object({"read": TRUTH, "write": TRUTH, "admin": TRUTH}), None, Access.OPEN)},
         "/api/names": {"get": operation(
             "The names of the streams, and a digest that tells sets of them apart",
             (word("match", TEXT, False, "a pattern with `*` and `?`"), WITHOUT,

@@ -3,8 +3,9 @@
 import { ask, isAborted, setToken, token } from "./api.js";
 import { byId, debounced, say } from "./dom.js";
 import { Detail, RANGES } from "./detail.js";
-import { List } from "./list.js";
+import { List, addressOf } from "./list.js";
 import { Live } from "./live.js";
+import { Managing } from "./managing.js";
 import { hideNotice, isNoticed, showNoStreams, showToken, showTrouble, troubleOf } from "./notices.js";
 
 const WIDE = matchMedia("(min-width: 900px)");
@@ -33,6 +34,7 @@ class Page {
       onChange: () => this.write(), onError: (error) => this.failed(error),
       streamOf: (name) => this.list.get(name), names: () => this.list.inOrder.map(({ stream }) => stream.name),
     });
+    this.managing = new Managing({ stream: () => this.detail.stream, gone: (name) => this.gone(name) });
     this.firsts = new Map();
     this.fresh = new Map();
     this.live = new Live({
@@ -81,6 +83,7 @@ class Page {
   async catchUp() {
     const [{ streams }, service] = await Promise.all([ask("api/streams"), ask("healthz").catch(() => null)]);
     this.list.take(streams);
+    this.managing.look();
     this.isKnown = true;
     this.service = service;
     this.show();
@@ -122,6 +125,13 @@ class Page {
     if (!stream) return;
     this.detail.show(stream, { ...asked, first: this.firsts.get(stream.name) });
     this.first(stream);
+  }
+
+  /** The stream that was looked at has another name now, or none. */
+  async gone(name) {
+    history.replaceState(null, "", name === null ? "#" : addressOf(name));
+    await this.again();
+    this.show();
   }
 
   unknown(name) {
