@@ -171,6 +171,7 @@ class StandIn:
         self.health: Json = {"status": "ok", "store": {"state": "open", "reason": ""},
                              "mapping": {"entries": 2}, "unmatched": {"readings": 0}}
         self.failing: web.Response | None = None
+        self.admin = False
         self.slow = 0.0
         self.port = free_port()
         self._has_chart = has_chart
@@ -248,6 +249,8 @@ class StandIn:
             web.get("/api/series", self._series), web.get("/api/windows", self._windows),
             web.get("/api/landmarks", self._landmarks), web.post("/api/landmark", self._landmark),
             web.get("/api/events", self._events), web.get("/healthz", self._healthz),
+            web.get("/api/access", self._access), web.delete("/api/streams/{name:.+}", self._drop),
+            web.patch("/api/streams/{name:.+}", self._rename),
         ])
         self._runner = web.AppRunner(app)
         await self._runner.setup()
@@ -259,7 +262,7 @@ class StandIn:
 
     @web.middleware
     async def _guard(self, request: web.Request, handler: Handler) -> web.StreamResponse:
-        if request.path in page.ADDRESSES or request.path == "/healthz":
+        if request.path in page.ADDRESSES or request.path in ("/healthz", "/api/access"):
             try:
                 return await handler(request)
             except ApiError as error:
@@ -333,6 +336,21 @@ class StandIn:
         finally:
             self._followers.discard(held)
         return response
+
+    async def _access(self, request: web.Request) -> web.StreamResponse:
+        return reply({"read": True, "write": True, "admin": self.admin})
+
+    async def _drop(self, request: web.Request) -> web.StreamResponse:
+        del self.streams[request.match_info["name"]]
+        return reply({"dropped": True})
+
+    async def _rename(self, request: web.Request) -> web.StreamResponse:
+        name, new = request.match_info["name"], (await request.json())["rename"]
+        if new in self.streams:
+            return refusal(409, "stream_exists", f"a stream {new!r} stands")
+        self.streams[new] = self.streams.pop(name)
+        self.streams[new].name = new
+        return reply({"stream": name, "rename": new})
 
     async def _healthz(self, request: web.Request) -> web.StreamResponse:
         return reply(self.health)

@@ -23,7 +23,7 @@ from summarystore.server.app import Service
 from summarystore.server.counters import Counters
 from summarystore.server.graphite import GraphiteListener, LineError, Lines, reading_of
 from summarystore.server.graphite_names import PatternError, Tree, node_test, path_of
-from summarystore.server.graphite_targets import Constant, Paths, TargetError, target_of
+from summarystore.server.graphite_targets import Bare, Call, TargetError, Text, read
 from summarystore.server.graphite_times import time_of
 from summarystore.server.http import Http
 
@@ -194,18 +194,19 @@ def test_patterns_mean_what_they_say(node: str, parts: list[str]) -> None:
 
 
 @pytest.mark.parametrize("text, target", [
-    ("a.*.c", Paths("a.*.c")), (" a.{b,c} ", Paths("a.{b,c}")),
-    ('alias(a.{b,c}, "x, y")', Paths("a.{b,c}", "mean", "x, y")),
-    ("consolidateBy(alias(a,'n'),'max')", Paths("a", "max", "n")), ("constantLine(1.5)", Constant("1.5"))])
-def test_target(text: str, target: Paths | Constant) -> None:
-    assert target_of(text) == target
+    ("a.*.c", Bare("a.*.c")), ("a.{b,c}", Bare("a.{b,c}")),
+    ('alias(a.{b,c}, "x, y")', Call("alias", [Bare("a.{b,c}"), Text("x, y")])),
+    ("consolidateBy( alias(a,'n') ,'max')",
+     Call("consolidateBy", [Call("alias", [Bare("a"), Text("n")]), Text("max")])),
+    ("constantLine(1.5)", Call("constantLine", [Bare("1.5")]))])
+def test_target(text: str, target: object) -> None:
+    assert read(text) == target
 
 
-@pytest.mark.parametrize("text", ["a(", "sumSeries(a)", "alias(a)", "alias(a, n)", "constantLine(x)",
-                                  "alias(constantLine(1), 'x')", "consolidateBy(a, 'sd')", "a" * 2001])
+@pytest.mark.parametrize("text", ["a(", "alias(a))", "alias(a) b", "", "'a'", "a" * 2001, "scale(" * 17])
 def test_no_target(text: str) -> None:
     with pytest.raises(TargetError):
-        target_of(text)
+        read(text)
 
 
 # ---- the server -------------------------------------------------------------------------

@@ -12,7 +12,7 @@ import pytest
 
 from summarystore.server import graphite_out
 from summarystore.server.app import Service
-from summarystore.server.graphite_out import step_of
+from summarystore.server.graphite_functions import step_of
 from summarystore.server.http import Http
 
 from ..waiting import run
@@ -132,7 +132,8 @@ def test_other_kinds_and_names(serving: Serving) -> None:
 
 
 WRONG: Sequence[Mapping[str, str]] = (
-    {"target": "sumSeries(plain)"}, {"target": "plain", "from": "soon"}, {"target": "plain", "format": "png"},
+    {"target": "stddevSeries(plain)"}, {"target": "plain", "from": "soon"},
+    {"target": "plain", "format": "png"},
     {"target": "plain", "from": "now", "until": "-1h"}, {"target": "plain", "maxDataPoints": "0"},
     {"target": "plain", "maxDataPoints": "x"}, {"target": "plain", "tz": "Nowhere/Land"}, {"target": "{"},
     {"target": "a" * 3000})
@@ -154,7 +155,7 @@ def test_too_many_points(serving: Serving, monkeypatch: pytest.MonkeyPatch) -> N
         async with asking(serving) as client:
             assert await client.get("/render", {"target": "plain", "maxDataPoints": "99999"}) != []
             assert await client.get("/render", {"target": "plain*", "maxDataPoints": "99999"}) != []
-            many = [("target", "plain")] * 3 + [("maxDataPoints", "99999")]
+            many = [("target", "plain")] * 4 + [("maxDataPoints", "99999")]
             assert await client.get("/render", many) == (400, "bad_request")
             assert await client.get("/render", [("target", "plain")] * 300) == (400, "bad_request")
     run(work())

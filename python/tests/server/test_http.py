@@ -312,7 +312,8 @@ def test_the_document(path: Path) -> None:
                     for each in endpoints_of(client.service)}
             others = {"/ping", "/health", "/query"}     # of InfluxDB
             mine = {each for each in ours if each[0].startswith(("/api/", "/write", "/healthz", "/openapi"))}
-            assert mine | {("/api/refused", "get")} == told and not others & {each[0] for each in told}
+            parts = {("/api/refused", "get"), ("/api/v1/write", "post")}
+            assert mine | parts == told and not others & {each[0] for each in told}
     run(work())
 
 

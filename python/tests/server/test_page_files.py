@@ -197,7 +197,9 @@ TEXTS = {
 }
 """Grounds, and what is written on them."""
 SHAPES = {
-    "page": "focus", "surface": "focus edge good waiting bad exact middle band-edge cursor landmark-edge",
+    "page": "focus",
+    "surface": "focus edge good waiting bad exact middle band-edge cursor landmark-edge "
+               "other-a other-b other-c other-d",
     "band": "exact", "landmark": "exact",
 }
 """Grounds, and the lines and lamps on them."""

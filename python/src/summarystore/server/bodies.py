@@ -57,9 +57,11 @@ class _Packed(_Plain):
         return super().end()
 
 
-async def body_of(request: web.Request, limits: Limits) -> bytes:
-    """The body of a request."""
+async def body_of(request: web.Request, limits: Limits, as_it_is: str = "") -> bytes:
+    """The body of a request. One that is packed by `as_it_is` stays so."""
     encoding = request.headers.get("Content-Encoding", "identity").strip().lower()
+    if encoding == as_it_is:
+        encoding = "identity"
     if encoding != "identity" and encoding not in WINDOWS:
         raise ApiError(415, "bad_encoding", f"a body is packed by gzip or deflate, or not at all: {encoding}")
     if request.content_length is not None and request.content_length > limits.body:

@@ -2,7 +2,7 @@
 
 `/metrics/find` shows the tree of streams (`graphite_names.py`), and `/render` their means: of each
 step the middle by the path of the stream, and the ends of what is known with `.lo` and `.hi` behind
-it. `consolidateBy(PATH, 'max')` asks for the greatest values, and so on (`graphite_targets.py`).
+it. `graphite_calls.py` lists the functions, and `graphite_functions.py` says what they draw.
 """
 
 from __future__ import annotations
@@ -11,6 +11,7 @@ import asyncio
 import datetime
 import json
 from collections.abc import Mapping, Sequence
+from dataclasses import replace
 from urllib.parse import parse_qs
 
 from aiohttp import web
@@ -22,8 +23,11 @@ from ..interval import Interval, outward
 from .app import Service
 from .bodies import body_of, text_of
 from .endpoints import Access, ApiError, Endpoint
-from .graphite_names import PatternError, Tree
-from .graphite_targets import Constant, Paths, TargetError, target_of
+from .graphite_calls import Constant, target_of
+from .graphite_functions import Drawn, Wish
+from .graphite_names import Leaf, PatternError, Tree
+from .graphite_points import NOTHING
+from .graphite_targets import TargetError
 from .graphite_times import time_of
 from .meaning import SECOND, Meaning
 
@@ -33,28 +37,15 @@ POINTS = 1000
 """So many points a series has at most, where a client doesn't say."""
 MOST_POINTS = 500_000
 """So many points one answer has at most, over all its series."""
+MOST_OF_ONE = 100_000
+"""And so many each series, as the store answers at most."""
 MOST_TARGETS = 200
 MOST_FIELDS = 1000
-STEPS = (1, 2, 5, 10, 15, 30, 60, 120, 300, 600, 900, 1800, 3600, 7200, 10800, 21600, 43200)
-DAY = 86400
 
 
 def bad(reason: str) -> ApiError:
     """What a client asked can't be answered."""
     return ApiError(400, "bad_request", reason)
-
-
-def step_of(seconds: int, points: int, least: int) -> int:
-    """The least step in seconds, of those that people expect, that makes no more points than these.
-
-    It is a whole number of `least`, the resolution of the stream in seconds.
-    """
-    wanted = max(1, -(-seconds // points))
-    for step in STEPS:
-        if step >= wanted and step % least == 0:
-            return step
-    unit = max(DAY, least)
-    return -(-wanted // unit) * unit
 
 
 class Range:
@@ -129,53 +120,88 @@ class Graphite:
             raise bad(f"there are at most {MOST_TARGETS} targets")
         targets = [target_of(text) for text in given]
         store = self._service.store()
-        tree = await self.tree(store)
+        streams = _Streams(self._service, store, await self.tree(store))
+        wish = Wish(asked.first, asked.last, asked.last - asked.first, asked.points)
         shown: list[object] = []
-        left = MOST_POINTS
         for target in targets:
             if isinstance(target, Constant):
                 shown.append(_series(target.value, [(float(target.value), at)
                                                     for at in (asked.first, asked.last)]))
-                continue
-            found = await self._series(store, tree, target, asked, left)
-            left -= sum(len(points) for _, points in found)
-            shown += [_series(path, points) for path, points in found]
+            else:
+                shown += [_shown(each) for each in await target.drawn(streams, wish)]
         return shown
 
-    async def _series(self, store: aio.Store, tree: Tree, target: Paths, asked: Range, left: int
-                      ) -> Sequence[tuple[str, Sequence[Point]]]:
-        """The series of one target, each by the name to be shown."""
-        leaves = tree.leaves(target.pattern)
-        if len(leaves) * asked.points > left:
-            raise bad(f"an answer has at most {MOST_POINTS} points, and {target.pattern[:60]!r} names "
-                      f"{len(leaves)} series: ask for fewer, or for fewer points")
-        rows: dict[str, Sequence[tuple[Interval, int]]] = {}
-        for _, leaf in leaves:
-            if leaf.stream not in rows:
-                rows[leaf.stream] = await self._rows(store, leaf.stream, target.kind, asked)
-        return [(target.alias or path, [(_part(answer, leaf.part), at) for answer, at in rows[leaf.stream]])
-                for path, leaf in leaves]
 
-    async def _rows(self, store: aio.Store, stream: str, kind: str, asked: Range
-                    ) -> Sequence[tuple[Interval, int]]:
-        """The answers of a stream step by step, each with the second at which its step begins.
+class _Streams:
+    """The streams of a store, for one answer: with as many points as one may have."""
+
+    def __init__(self, service: Service, store: aio.Store, tree: Tree) -> None:
+        self._service = service
+        self._store = store
+        self._tree = tree
+        self._left = MOST_POINTS
+        self._rows: dict[tuple[str, Wish], Sequence[Interval]] = {}
+
+    def _meaning(self, stream: str) -> Meaning:
+        return self._service.intake.streams.meaning(self._store, stream)
+
+    def resolution(self, pattern: str) -> int:
+        """The coarsest resolution of those that a pattern names, in seconds."""
+        leaves = self._tree.leaves(pattern)
+        return max((_resolution(self._meaning(leaf.stream)) for _, leaf in leaves), default=1)
+
+    async def drawn(self, pattern: str, wish: Wish) -> Sequence[Drawn]:
+        """Those that a pattern names, each as a series."""
+        leaves = self._tree.leaves(pattern)
+        steps = [wish.step_for(_resolution(self._meaning(leaf.stream))) for _, leaf in leaves]
+        counts = [(wish.last - wish.begin(step)) // step + 1 for step in steps]
+        self._left -= sum(counts)
+        if self._left < 0 or max(counts, default=0) > MOST_OF_ONE:
+            raise bad(f"an answer has at most {MOST_POINTS} points and a series {MOST_OF_ONE}, and "
+                      f"{pattern[:60]!r} names {len(leaves)} series: ask for fewer, or for fewer points")
+        return [await self._series(path, leaf, pattern, replace(wish, step=step))
+                for (path, leaf), step in zip(leaves, steps)]
+
+    async def _series(self, path: str, leaf: Leaf, pattern: str, wish: Wish) -> Drawn:
+        assert wish.step is not None
+        key = leaf.stream, wish
+        if key not in self._rows:
+            self._rows[key] = await self._asked(leaf.stream, wish.kind or "mean", wish.begin(wish.step),
+                                                wish.last, wish.step)
+        return Drawn(path, path, pattern, leaf.part, wish.begin(wish.step), wish.step, self._rows[key])
+
+    async def _asked(self, stream: str, kind: str, begin: int, last: int, step: int) -> Sequence[Interval]:
+        """The answers of a stream step by step, from one second to another.
 
         Steps begin at whole numbers of themselves since 1970, so that they stay where they are while
-        time goes on.
+        time goes on. Those before the first time that the stream can have hold nothing.
         """
-        meaning = self._service.intake.streams.meaning(store, stream)
-        step = step_of(asked.last - asked.first, asked.points, max(1, meaning.step // SECOND))
-        begin = meaning.first((asked.first - asked.first % step) * SECOND)
-        end = meaning.last(asked.last * SECOND)
-        if begin > end:
-            return ()
+        meaning = self._meaning(stream)
+        count = (last - begin) // step + 1
+        first, end = meaning.first(begin * SECOND), meaning.last(last * SECOND)
+        before = max(0, (meaning.nanoseconds(first) // SECOND - begin) // step)
+        nothing = NOTHING if kind in ("mean", "min", "max") else Interval(0)
+        if end < first:
+            return [nothing] * count
+        found: list[Interval] = []
         counts = step * SECOND // meaning.step
-        found = await store.series(stream, kind, begin, end, counts)
-        return [(row.interval, _second(meaning, begin + at * counts)) for at, row in enumerate(found)]
+        whole = meaning.first((begin + before * step) * SECOND)
+        if meaning.nanoseconds(whole) > (begin + before * step) * SECOND:     # a row begins before its stream
+            next_ = min(meaning.first((begin + (before + 1) * step) * SECOND), end + 1)
+            found.append(await self._store.query(stream, kind, whole, next_ - 1))
+            whole = next_
+        if whole <= end:
+            found += [row.interval for row in await self._store.series(stream, kind, whole, end, counts)]
+        return [*[nothing] * before, *found, *[nothing] * (count - before - len(found))]
 
 
-def _second(meaning: Meaning, count: int) -> int:
-    return meaning.nanoseconds(count) // SECOND
+def _resolution(meaning: Meaning) -> int:
+    return max(1, meaning.step // SECOND)
+
+
+def _shown(drawn: Drawn) -> object:
+    return _series(drawn.name, [(_part(point, drawn.part), drawn.begin + at * drawn.step)
+                                for at, point in enumerate(drawn.points)])
 
 
 def _part(interval: Interval, part: str) -> float | None:

@@ -1,77 +1,169 @@
-"""Targets of Graphite's render: plain patterns of paths, and the three functions that are known."""
+"""Targets of Graphite's render as they are written: calls of functions, with paths, numbers and texts."""
 
 from __future__ import annotations
 
 import re
-from typing import NamedTuple, Union
+from collections.abc import Sequence
+from dataclasses import dataclass
+from decimal import Decimal
+from typing import Union
 
 from ..errors import SummaryStoreError
 
 LONGEST_TARGET = 2000
-KINDS = {"average": "mean", "avg": "mean", "mean": "mean", "sum": "sum", "total": "sum", "min": "min",
-         "max": "max"}
-"""What `consolidateBy` may say, and what is asked of the store then."""
-_CALL = re.compile(r"([a-zA-Z]\w*)\((.*)\)", re.DOTALL | re.ASCII)
-_WITH_TEXT = re.compile(r"(.*),\s*(?:\"([^\"]*)\"|'([^']*)')\s*", re.DOTALL)
-_NUMBER = re.compile(r"[+-]?[0-9]{1,15}(\.[0-9]{0,15})?")
+MOST_CALLS = 16
+"""So many calls stand within each other at most."""
+_NAME = re.compile(r"\s*([a-zA-Z]\w*)\s*\(", re.ASCII)
+_TEXT = re.compile(r"\s*(?:\"([^\"]*)\"|'([^']*)')\s*")
+# The commas of `{one,other}` part no arguments.
+_BARE = re.compile(r"\s*((?:\{[^{}()]*\}|[^(){},\"'])+)")
+_NUMBER = re.compile(r"[+-]?[0-9]{1,15}(\.[0-9]{0,15})?([eE][+-]?[0-9]{1,2})?")
 
 
 class TargetError(SummaryStoreError, ValueError):
     """A target can't be understood."""
 
 
-class Paths(NamedTuple):
-    """The series that a pattern names, of one kind, and the name to show where one is given."""
-
-    pattern: str
-    kind: str = "mean"
-    alias: str | None = None
+class Bare(str):
+    """An argument without quotes: a path, a number, or a truth value."""
 
 
-class Constant(NamedTuple):
-    """A line at one value, by which a client tests whether it is answered."""
-
-    value: str
+class Text(str):
+    """An argument in quotes."""
 
 
-Target = Union[Paths, Constant]
+@dataclass(frozen=True)
+class Call:
+    """A function and what it is given."""
+
+    name: str
+    arguments: Sequence[Argument]
 
 
-def target_of(text: str) -> Target:
-    """What a target asks for."""
+Argument = Union[Call, Bare, Text]
+
+
+def read(text: str) -> Call | Bare:
+    """A target as it is written."""
     if len(text) > LONGEST_TARGET:
         raise TargetError(f"a target has more than {LONGEST_TARGET} characters")
-    return _target(text.strip())
+    reader = _Reader(text)
+    found = reader.argument(0)
+    if reader.at < len(text) or isinstance(found, Text):
+        raise reader.wrong()
+    return found
 
 
-def _target(text: str) -> Target:
-    call = _CALL.fullmatch(text)
-    if not call:
-        if "(" in text or ")" in text:
-            raise TargetError(f"not a target: {text[:60]!r}")
-        return Paths(text)
-    name, inner = call.groups()
-    if name == "constantLine":
-        return _constant(inner.strip())
-    if name not in ("alias", "consolidateBy"):
-        raise TargetError(f"the function {name[:40]} isn't known: there are alias, consolidateBy and "
-                          "constantLine")
-    found = _WITH_TEXT.fullmatch(inner)
-    target = _target(found[1].strip()) if found else None
-    if not found or not isinstance(target, Paths):
-        raise TargetError(f"{name} takes series and a text in quotes: {text[:60]!r}")
-    return _with(target, name, found[2] or found[3] or "")
+class _Reader:
+    """Reads a target from left to right."""
+
+    def __init__(self, text: str) -> None:
+        self._text = text
+        self.at = 0
+
+    def wrong(self) -> TargetError:
+        """What stands there can't be understood."""
+        return TargetError(f"not a target from character {self.at} on: {self._text[self.at:self.at + 60]!r}")
+
+    def argument(self, depth: int) -> Argument:
+        """One argument, and the blanks behind it."""
+        if depth > MOST_CALLS:
+            raise TargetError(f"more than {MOST_CALLS} functions stand within each other")
+        call = _NAME.match(self._text, self.at)
+        if call:
+            self.at = call.end()
+            return Call(call[1], self._arguments(depth + 1))
+        found = _TEXT.match(self._text, self.at)
+        if found:
+            self.at = found.end()
+            return Text(found[1] or found[2] or "")
+        found = _BARE.match(self._text, self.at)
+        if not found:
+            raise self.wrong()
+        self.at = found.end()
+        return Bare(found[1].strip())
+
+    def _arguments(self, depth: int) -> Sequence[Argument]:
+        found = []
+        while True:
+            found.append(self.argument(depth))
+            end = re.compile(r"\s*([,)])\s*").match(self._text, self.at)
+            if not end:
+                raise self.wrong()
+            self.at = end.end()
+            if end[1] == ")":
+                return found
 
 
-def _with(target: Paths, function: str, word: str) -> Paths:
-    if function == "alias":
-        return target._replace(alias=word)
-    if word not in KINDS:
-        raise TargetError(f"consolidateBy takes {', '.join(KINDS)}, and not {word[:40]!r}")
-    return target._replace(kind=KINDS[word])
+class Arguments:
+    """The arguments of one call, taken one after another."""
 
+    def __init__(self, call: Call) -> None:
+        self._call = call
+        self._left = list(call.arguments)
 
-def _constant(text: str) -> Constant:
-    if not _NUMBER.fullmatch(text):
-        raise TargetError(f"constantLine takes a number, and not {text[:40]!r}")
-    return Constant(text)
+    def wrong(self, wanted: str) -> TargetError:
+        """Something else was to be given."""
+        return TargetError(f"{self._call.name[:40]} takes {wanted}")
+
+    def __len__(self) -> int:
+        return len(self._left)
+
+    def series(self, wanted: str) -> Call | Bare:
+        """An argument that says which series."""
+        found = self._left.pop(0) if self._left else None
+        if found is None or isinstance(found, Text):
+            raise self.wrong(wanted)
+        return found
+
+    def text(self, wanted: str) -> str:
+        """An argument in quotes."""
+        found = self._left.pop(0) if self._left else None
+        if not isinstance(found, Text):
+            raise self.wrong(wanted)
+        return found
+
+    def number(self, wanted: str) -> Decimal:
+        """A number."""
+        found = self._left.pop(0) if self._left else None
+        if not isinstance(found, Bare) or not _NUMBER.fullmatch(found):
+            raise self.wrong(wanted)
+        return Decimal(found)
+
+    def bare_number(self, wanted: str) -> str:
+        """A number as it is written."""
+        text = self._left[0] if self._left else None
+        self.number(wanted)
+        return str(text)
+
+    def number_or_none(self, wanted: str) -> Decimal | None:
+        """A number. None where nothing is left, or `None` stands there."""
+        if not self._left:
+            return None
+        if self._left[0] == "None":
+            self._left.pop(0)
+            return None
+        return self.number(wanted)
+
+    def whole(self, wanted: str, least: int, most: int) -> int:
+        """A whole number."""
+        found = self.number(wanted)
+        if found != int(found) or not least <= found <= most:
+            raise self.wrong(wanted)
+        return int(found)
+
+    def truth(self, wanted: str) -> bool:
+        """`true` or `false`."""
+        found = self._left.pop(0) if self._left else None
+        if not isinstance(found, Bare) or found.lower() not in ("true", "false"):
+            raise self.wrong(wanted)
+        return found.lower() == "true"
+
+    def is_text(self) -> bool:
+        """Whether a text in quotes is next."""
+        return bool(self._left) and isinstance(self._left[0], Text)
+
+    def end(self, wanted: str) -> None:
+        """Nothing is left over."""
+        if self._left:
+            raise self.wrong(wanted)

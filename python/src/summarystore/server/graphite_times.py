@@ -8,6 +8,8 @@ import re
 from ..errors import TimeError
 
 LONGEST = 64
+MOST_SPAN = 10**10
+"""Seconds that a span is shorter than: some 300 years."""
 MONTHS = ("january", "february", "march", "april", "may", "june", "july", "august", "september",
           "october", "november", "december")
 WEEKDAYS = ("monday", "tuesday", "wednesday", "thursday", "friday", "saturday", "sunday")
@@ -37,6 +39,18 @@ def time_of(text: str, now: datetime.datetime) -> int:
         return int(_reference(reference, now).timestamp()) + _offset(offset)
     except (ValueError, OverflowError):
         raise TimeError(f"not a time as Graphite writes it: {text[:LONGEST]!r}") from None
+
+
+def span_of(text: str) -> int:
+    """Seconds of a span as `1h`, `5min` or `1d12h`. Its sign says nothing."""
+    plain = text.strip().lower()
+    try:
+        found = abs(_offset(plain if plain[:1] in ("+", "-") else f"+{plain}"))
+    except ValueError:
+        found = 0
+    if not 0 < found < MOST_SPAN or not plain.isascii():
+        raise TimeError(f"not a span of time as Graphite writes it: {text[:LONGEST]!r}")
+    return found
 
 
 def _day_of_digits(text: str) -> datetime.date | None:

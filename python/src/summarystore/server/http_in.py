@@ -161,7 +161,7 @@ def _appended(outcomes: Sequence[Outcome]) -> web.Response:
     ignored = sum(outcome.result is Result.IGNORED for outcome in outcomes)
     if ignored:
         told["ignored"] = ignored
-    open_ones = _open(outcomes)
+    open_ones = open_of(outcomes)
     if open_ones is not None:
         told["not_stored"] = [at for at, each in enumerate(outcomes) if each.result is Result.NOT_STORED]
         told["unknown"] = [at for at, each in enumerate(outcomes) if each.result is Result.UNKNOWN]
@@ -186,7 +186,7 @@ def _partial(told: dict[str, object], first: tuple[int, str, str], dropped: int,
     return error_answer(ApiError(400, "partial write", text), told)
 
 
-def _open(outcomes: Sequence[Outcome]) -> ApiError | None:
+def open_of(outcomes: Sequence[Outcome]) -> ApiError | None:
     """Where the fate of some isn't final: what is known of them."""
     not_stored = sum(outcome.result is Result.NOT_STORED for outcome in outcomes)
     unknown = [outcome for outcome in outcomes if outcome.result is Result.UNKNOWN]
@@ -202,7 +202,7 @@ def _open(outcomes: Sequence[Outcome]) -> ApiError | None:
 
 def _written(lines: Sequence[int], mistakes: Sequence[Mistake], outcomes: Sequence[Outcome]) -> web.Response:
     """What became of the lines, as clients of InfluxDB understand it."""
-    open_ones = _open(outcomes)
+    open_ones = open_of(outcomes)
     wrong = [(mistake.line, "syntax", mistake.reason) for mistake in mistakes]
     wrong += [(line, outcome.code, outcome.reason) for line, outcome in zip(lines, outcomes)
               if outcome.result is Result.REFUSED]

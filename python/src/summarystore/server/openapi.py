@@ -89,6 +89,9 @@ def _paths() -> Json:
             (ONE, SEVERAL, word("kind", {"enum": KINDS}), *RANGE,
              word("step", TEXT, False, "seconds, or a text such as 15min"),
              word("rows", COUNT, False, "about so many rows, in the place of a step")), reference("Series"))},
+        "/api/access": {"get": operation(
+            "What the token that is sent may do", (),
+            _object({"read": TRUTH, "write": TRUTH, "admin": TRUTH}), None, Access.OPEN)},
         "/api/names": {"get": operation(
             "The names of the streams, and a digest that tells sets of them apart",
             (word("match", TEXT, False, "a pattern with `*` and `?`"), WITHOUT,
@@ -117,6 +120,10 @@ def _paths() -> Json:
             "What happens, as server-sent events: reading, landmark, health, lost",
             (word("stream", {"type": "array", "items": TEXT}, False, "those to listen to; none are all"),),
             TEXT, kind="text/event-stream")},
+        "/api/v1/write": {"post": operation(
+            "Takes samples of Prometheus' remote_write. Answered after they are on the disk.", (), None,
+            {"application/x-protobuf": {"schema": {"type": "string", "format": "binary"}}}, Access.WRITE,
+            status="204")},
         "/write": {"post": write},
         "/api/v2/write": {"post": write},
         "/healthz": {"get": operation("Whether the service can do its work", (), {"type": "object"}, None,

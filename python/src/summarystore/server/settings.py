@@ -10,8 +10,8 @@ from ..description import Description, description_of
 from ..errors import DescriptionError
 from .globs import Glob
 
-SOURCES = ("http", "influx", "graphite", "mqtt")
-"""Where a reading comes from: JSON, line protocol, Graphite's lines, or a broker."""
+SOURCES = ("http", "influx", "graphite", "mqtt", "prometheus")
+"""Where a reading comes from: JSON, line protocol, Graphite's lines, a broker, or remote_write."""
 
 __all__ = ["SOURCES", "Description", "Mapping", "described"]
 

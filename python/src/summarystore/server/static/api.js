@@ -106,12 +106,23 @@ export async function ask(path, parameters = {}, signal = undefined) {
   return send(address(path, parameters), { headers: headers(), signal: limited(signal) });
 }
 
+const inJson = (method, body) => ({
+  method, headers: headers({ "Content-Type": "application/json" }), body: JSON.stringify(body), signal: limited(),
+});
+
 /** Tells the service something, as JSON. */
 export async function tell(path, body) {
-  return send(path, {
-    method: "POST", headers: headers({ "Content-Type": "application/json" }),
-    body: JSON.stringify(body), signal: limited(),
-  });
+  return send(path, inJson("POST", body));
+}
+
+/** Changes what stands at an address. */
+export async function change(path, body) {
+  return send(path, inJson("PATCH", body));
+}
+
+/** Removes what stands at an address. */
+export async function remove(path) {
+  return send(path, { method: "DELETE", headers: headers(), signal: limited() });
 }
 
 export const eventsAddress = (streams) => address("api/events", { stream: streams });

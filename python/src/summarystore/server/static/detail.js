@@ -3,11 +3,13 @@
 import { ServiceError } from "./api.js";
 import { byId, debounced, make, say, throttled } from "./dom.js";
 import { showFacts, showName, showNewest } from "./facts.js";
+import { csvOf, fileName, saveFile } from "./csv.js";
 import { listen } from "./gestures.js";
 import { partsOf } from "./list.js";
 import { KINDS, Loader } from "./loading.js";
 import { marked } from "./marking.js";
 import { brief, isKnown, words } from "./numbers.js";
+import { Others } from "./others.js";
 import { Plot } from "./plot.js";
 import { Reader } from "./reader.js";
 import * as times from "./times.js";
@@ -40,8 +42,8 @@ function choose(name, value) {
 }
 
 export class Detail {
-  constructor({ onChange, onError }) {
-    Object.assign(this, { onChange, onError });
+  constructor({ onChange, onError, streamOf, names }) {
+    Object.assign(this, { onChange, onError, streamOf, names });
     this.stream = null;
     this.kind = "mean";
     this.view = new View();
@@ -53,6 +55,7 @@ export class Detail {
     this.changed = debounced(250, () => this.onChange());
     this.fresh = throttled(() => this.pause, () => this.loader.tail());
     this.model = { rows: [], outer: [], landmarks: [], values: [], step: 1 };
+    this.others = new Others(this);
     this.reader = new Reader(this);
     this.listen();
   }
@@ -93,6 +96,7 @@ export class Detail {
     byId("landmark").addEventListener("click", () => this.mark());
     byId("rows").addEventListener("toggle", () => this.reader.table());
     byId("over-act").addEventListener("click", () => this.overAct?.());
+    byId("csv").addEventListener("click", () => this.save());
     setInterval(() => this.tick(), 1000);
     if (!this.plot) {
       this.withoutChart();
@@ -124,7 +128,7 @@ export class Detail {
   }
 
   /** Shows a stream. `first` is its first time, where that is known. */
-  show(stream, { kind, range, from, to, first }) {
+  show(stream, { kind, range, from, to, first, others = [] }) {
     const isOther = stream.name !== this.stream?.name;
     this.stream = stream;
     this.kind = KINDS.includes(kind) ? kind : this.kind;
@@ -133,8 +137,24 @@ export class Detail {
     if (Number.isFinite(from) && Number.isFinite(to) && from < to) this.view.set(from, to);
     else if (range || isOther) this.view.choose(range ?? this.view.range ?? "day");
     if (isOther) this.begin();
+    this.others.set(others);
     this.head();
     this.ask();
+  }
+
+  /** The streams that can be shown beside this one. */
+  offer() {
+    this.others.offer(this.names());
+  }
+
+  /** What is seen of all streams, as a file. */
+  save() {
+    const { name, unit } = this.stream;
+    const { from, to } = this.view;
+    const own = { name, kind: this.kind, unit: unit ?? "", ...this.model };
+    const others = this.others.drawn.map((other) => ({ ...other, unit: this.others.unitOf(other.name) }));
+    const day = (seconds) => new Date(seconds * 1000).toISOString().slice(0, 10);
+    saveFile(fileName(partsOf(name).last, this.kind, day(from), day(to)), csvOf([own, ...others], from, to));
   }
 
   /** Nothing is left of the stream before. */
@@ -169,6 +189,7 @@ export class Detail {
     this.stream = stream;
     this.view.limits.newest = stream.newest?.time ?? stream.last;
     this.head();
+    this.offer();
   }
 
   head() {
@@ -185,6 +206,7 @@ export class Detail {
 
   chooseKind(kind) {
     this.kind = kind;
+    this.others.rescale();
     this.head();
     this.plot?.draw({ kind, rows: [], outer: [] });
     this.ask();
@@ -273,6 +295,7 @@ export class Detail {
     this.caption();
     this.emptiness();
     this.reader.table();
+    this.others.load(!more.landmarks);
   }
 
   /** The answers over all that is seen, beside the kinds. */

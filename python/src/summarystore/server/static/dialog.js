@@ -6,7 +6,7 @@ import { byId, say } from "./dom.js";
  * Shows a question. Where it is answered by yes, `act` is done while the dialog stays; what goes wrong in it is said
  * there, and can be tried again. Answers whether it was done.
  */
-export function confirmed({ title, text, yes, act }) {
+export function confirmed({ title, text, yes, act, hasField = false }) {
   const dialog = byId("dialog");
   const wrong = byId("dialog-wrong");
   const button = byId("dialog-yes");
@@ -15,6 +15,8 @@ export function confirmed({ title, text, yes, act }) {
   say(button, yes);
   wrong.hidden = true;
   button.disabled = false;
+  byId("dialog-entry").hidden = !hasField;
+  byId("dialog-field").disabled = !hasField;
   dialog.returnValue = "";
   return new Promise((resolve) => {
     let done = false;

@@ -3,13 +3,15 @@
 import { ask, isAborted, setToken, token } from "./api.js";
 import { byId, debounced, say } from "./dom.js";
 import { Detail, RANGES } from "./detail.js";
-import { List } from "./list.js";
+import { List, addressOf } from "./list.js";
 import { Live } from "./live.js";
+import { Managing } from "./managing.js";
 import { hideNotice, isNoticed, showNoStreams, showToken, showTrouble, troubleOf } from "./notices.js";
 
 const WIDE = matchMedia("(min-width: 900px)");
 const STATES = { live: "Live", "catching up": "Catching up", offline: "Offline" };
 const FRESHEN = 100;
+const COPY = "Copy the address";
 const THEMES = ["system", "light", "dark"];
 const THEME_NAMES = { system: "as the system", light: "light", dark: "dark" };
 
@@ -20,6 +22,7 @@ function addressed() {
   const range = words.get("range");
   return {
     stream: words.get("stream"), kind: words.get("kind"), from: number("from"), to: number("to"),
+    others: words.getAll("with"),
     range: Object.hasOwn(RANGES, range ?? "") ? range : null,
   };
 }
@@ -27,7 +30,11 @@ function addressed() {
 class Page {
   constructor() {
     this.list = new List();
-    this.detail = new Detail({ onChange: () => this.write(), onError: (error) => this.failed(error) });
+    this.detail = new Detail({
+      onChange: () => this.write(), onError: (error) => this.failed(error),
+      streamOf: (name) => this.list.get(name), names: () => this.list.inOrder.map(({ stream }) => stream.name),
+    });
+    this.managing = new Managing({ stream: () => this.detail.stream, gone: (name) => this.gone(name) });
     this.firsts = new Map();
     this.fresh = new Map();
     this.live = new Live({
@@ -47,6 +54,7 @@ class Page {
     byId("banner-act").addEventListener("click", () => this.live.retry());
     byId("forget").addEventListener("click", () => this.forget());
     byId("skip").addEventListener("click", (event) => this.skip(event));
+    byId("copy").addEventListener("click", () => this.copy());
     byId("theme").addEventListener("click", () => this.theme());
     document.addEventListener("theme", () => this.themed());
     this.themed();
@@ -75,6 +83,7 @@ class Page {
   async catchUp() {
     const [{ streams }, service] = await Promise.all([ask("api/streams"), ask("healthz").catch(() => null)]);
     this.list.take(streams);
+    this.managing.look();
     this.isKnown = true;
     this.service = service;
     this.show();
@@ -118,6 +127,13 @@ class Page {
     this.first(stream);
   }
 
+  /** The stream that was looked at has another name now, or none. */
+  async gone(name) {
+    history.replaceState(null, "", name === null ? "#" : addressOf(name));
+    await this.again();
+    this.show();
+  }
+
   unknown(name) {
     byId("frame").dataset.shown = "detail";
     this.list.current(null);
@@ -138,11 +154,24 @@ class Page {
 
   /** Writes what is seen into the address, so that it can be kept and sent. */
   write() {
-    const { stream, kind, view } = this.detail;
+    const { stream, kind, view, others } = this.detail;
     const words = new URLSearchParams({ stream: stream.name, kind });
+    for (const name of others.names) words.append("with", name);
     if (view.range) words.set("range", view.range);
     else for (const end of ["from", "to"]) words.set(end, String(Math.round(view[end] * 1000) / 1000));
     history.replaceState(null, "", `#${words}`);
+  }
+
+  /** Copies the address of what is seen, so that it can be kept and sent. */
+  async copy() {
+    this.write();
+    try {
+      await navigator.clipboard.writeText(location.href);
+      say(byId("copy-text"), "Copied");
+    } catch {
+      say(byId("copy-text"), "Copy it from the address bar");
+    }
+    setTimeout(() => say(byId("copy-text"), COPY), 3000);
   }
 
   happened(event, said) {
@@ -162,6 +191,7 @@ class Page {
     const readings = [...this.fresh.values()];
     this.fresh.clear();
     if (readings.map((said) => this.list.reading(said)).includes(false)) this.reload();
+    if (readings.some(({ stream }) => this.detail.others.names.includes(stream))) this.detail.fresh();
     const said = readings.find(({ stream }) => stream === this.detail.stream?.name);
     const stream = said && this.list.get(said.stream);
     if (!stream) return;

@@ -76,6 +76,37 @@ export const bands = {
   },
 };
 
+/** Draws the middle of a run of boxes as steps. */
+function stepBoxes(ctx, boxes, colour) {
+  ctx.beginPath();
+  for (const { left, right, top, bottom } of boxes) {
+    ctx.lineTo(left, (top + bottom) / 2);
+    ctx.lineTo(right, (top + bottom) / 2);
+  }
+  ctx.strokeStyle = colour;
+  ctx.lineWidth = 1.75;
+  ctx.lineJoin = "round";
+  ctx.stroke();
+}
+
+/** Draws further streams: of each its band and the middle of it, on its own scale. */
+export const others = {
+  id: "others",
+  beforeDatasetsDraw({ ctx, chartArea: area, scales, model }) {
+    ctx.save();
+    ctx.beginPath();
+    ctx.rect(area.left, area.top, area.right - area.left, area.bottom - area.top);
+    ctx.clip();
+    for (const { rows, step, colour, scale } of model.others) {
+      for (const boxes of boxesOf(rows, step, { x: scales.x, y: scales[scale] })) {
+        fillBoxes(ctx, boxes, model.colours[`other-${colour}-band`]);
+        stepBoxes(ctx, boxes, model.colours[`other-${colour}`]);
+      }
+    }
+    ctx.restore();
+  },
+};
+
 /** Draws the landmarks behind all else: a wash, with an edge where it began and where it ended. */
 export const landmarks = {
   id: "landmarks",

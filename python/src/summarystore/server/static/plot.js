@@ -1,7 +1,7 @@
 // The chart: Chart.js draws the axes, the middle of the band, and what is known exactly. The rest is in painting.js.
 
 import { brief, isKnown } from "./numbers.js";
-import { bands, cursor, endOf, landmarks, strip } from "./painting.js";
+import { bands, cursor, endOf, landmarks, others, strip } from "./painting.js";
 import { marks } from "./times.js";
 
 const PER_TIME_MARK = 72;
@@ -10,6 +10,7 @@ const HALF_LABEL = 24;
 const EDGE = 0.01;
 const COLOURS = [
   "band", "band-edge", "outer", "exact", "middle", "landmark", "landmark-edge", "grid", "muted", "surface", "cursor",
+  ...["a", "b", "c", "d"].flatMap((one) => [`other-${one}`, `other-${one}-band`]),
 ];
 const MANY = 300;
 const SETS = { middle: 0, known: 1, values: 2, newest: 3 };
@@ -47,8 +48,18 @@ function extentOf(rows, from, to, step) {
   };
 }
 
+/** The ends of a scale on which some extents are seen. */
+function suggested(extents) {
+  const seen = extents.filter(({ least }) => least !== undefined);
+  if (!seen.length) return { suggestedMin: undefined, suggestedMax: undefined };
+  return {
+    suggestedMin: Math.min(...seen.map(({ least }) => least)), suggestedMax: Math.max(...seen.map(({ greatest }) => greatest)),
+  };
+}
+
 const EMPTY = {
   rows: [], outer: [], step: 1, landmarks: [], values: [], newest: null, from: 0, to: 1, kind: "mean", cursor: -1,
+  others: [],
 };
 
 /** One chart on a canvas. `draw` takes what is to be seen, `look` only other ends of the times. */
@@ -75,12 +86,12 @@ export class Plot {
     return {
       type: "line",
       data: { datasets },
-      plugins: [landmarks, bands, strip, cursor],
+      plugins: [landmarks, bands, others, strip, cursor],
       options: {
         animation: false, responsive: true, maintainAspectRatio: false, normalized: true, events: [],
         layout: { autoPadding: false, padding: { top: 7, right: 7 } },
         plugins: { legend: { display: false }, tooltip: { enabled: false } },
-        scales: { x: this.timeAxis(), y: this.valueAxis() },
+        scales: { x: this.timeAxis(), y: this.valueAxis(), y2: this.otherAxis() },
       },
     };
   }
@@ -101,6 +112,12 @@ export class Plot {
       grid: { drawBorder: false, drawTicks: false },
       afterFit: (axis) => { axis.width = Math.max(axis.width, 46); },
     };
+  }
+
+  /** The scale on the right, for streams of another unit. */
+  otherAxis() {
+    const axis = this.valueAxis();
+    return { ...axis, position: "right", display: false, grid: { ...axis.grid, drawOnChartArea: false } };
   }
 
   /** A label that would stand over the right edge is left out: else the chart were narrower at some times than at others. */
@@ -150,16 +167,19 @@ export class Plot {
       values: this.isOfValues ? values.map(({ time, value }) => ({ x: time, y: Number(value) })) : [],
     };
     for (const [name, points] of Object.entries(data)) this.chart.data.datasets[SETS[name]].data = points;
-    this.chart.options.scales.y.beginAtZero = kind === "count";
+    for (const scale of ["y", "y2"]) this.chart.options.scales[scale].beginAtZero = kind === "count";
     this.look(this.model.from, this.model.to);
   }
 
   /** Shows the times from here to there, of what is drawn. */
   look(from, to) {
     Object.assign(this.model, { from, to });
-    const { least, greatest } = extentOf([...this.model.rows, ...this.model.outer], from, to, this.model.step);
-    Object.assign(this.chart.options.scales.x, { min: from, max: to });
-    Object.assign(this.chart.options.scales.y, { suggestedMin: least, suggestedMax: greatest });
+    const { rows, outer, step, others: more } = this.model;
+    const { x, y, y2 } = this.chart.options.scales;
+    Object.assign(x, { min: from, max: to });
+    const on = (scale) => more.filter((other) => other.scale === scale).map((other) => extentOf(other.rows, from, to, other.step));
+    Object.assign(y, suggested([extentOf([...rows, ...outer], from, to, step), ...on("y")]));
+    Object.assign(y2, suggested(on("y2")), { display: more.some(({ scale }) => scale === "y2") });
     this.chart.data.datasets[SETS.newest].data = this.newest();
     this.chart.update("none");
   }

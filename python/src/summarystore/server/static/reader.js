@@ -2,6 +2,7 @@
 
 import { byId, make, say } from "./dom.js";
 import { ends, isKnown, words } from "./numbers.js";
+import { showOthers } from "./others.js";
 import { endOf } from "./painting.js";
 import * as times from "./times.js";
 
@@ -38,8 +39,9 @@ export class Reader {
     say(byId("tip-value"), told);
     say(byId("tip-time"), time);
     byId("tip").classList.toggle("is-exact", isKnown(row));
+    const others = showOthers(byId("tip-others"), this.of.others.toldAt(this.middle));
     this.place();
-    if (!isQuiet) say(byId("reading"), `${told}, ${time}`);
+    if (!isQuiet) say(byId("reading"), `${told}, ${time}${others && `; ${others}`}`);
   }
 
   /** Puts the tip beside its row, within the chart. */
