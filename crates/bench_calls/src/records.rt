@@ -115,11 +115,7 @@ fn seen_of<D: Disk>(
 }
 
 // The same, of the records of a disk.
-fn seen_on<D: Disk>(
-    alloc: Global,
-    disk: &mut D,
-    count: u32,
-) -> Result<(u32, u32), JournalError> {
+fn seen_on<D: Disk>(alloc: Global, disk: &mut D, count: u32) -> Result<(u32, u32), JournalError> {
     let mut records = filled(alloc, disk, 1000)?;
     seen_of(&mut records, disk, count)
 }

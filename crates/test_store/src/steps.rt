@@ -49,8 +49,8 @@ pub enum Step {
 }
 
 use Step::{
-    Apply, Clear, Counts, Crash, EndAt, Lists, MoveTo, Play, Reads, Reopen, Settled, Stop, Tell, Untold,
-    Within,
+    Apply, Clear, Counts, Crash, EndAt, Lists, MoveTo, Play, Reads, Reopen, Settled, Stop, Tell,
+    Untold, Within,
 };
 
 fn are_told(running: &mut Running, rows: &[(Question, Outcome)]) -> bool {
