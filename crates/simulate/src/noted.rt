@@ -53,22 +53,19 @@ impl<D> Noted<D> {
     pub fn calls(&self) -> u64 {
         self.calls
     }
+}
 
-    fn count(&mut self) {
-        self.calls = self.calls.saturating_add(1);
+// Notes a write. One that finds no memory is left out: a crash then leaves fewer images to look at.
+fn note(alloc: Global, pending: &mut Vec<Piece>, at: u64, bytes: &[u8]) {
+    if let Ok(bytes) = bytes.to_vec(alloc) {
+        let _ = pending.push(Piece { at, bytes });
     }
+}
 
-    // A note that finds no memory is left out: a crash then leaves fewer images to look at.
-    fn note(&mut self, at: u64, bytes: &[u8]) {
-        if let Ok(bytes) = bytes.to_vec(self.alloc) {
-            let _ = self.pending.push(Piece { at, bytes });
-        }
-    }
-
-    fn note_sync(&mut self) {
-        self.pending.clear();
-        let _ = self.syncs.push(self.calls);
-    }
+// Notes a good sync.
+fn note_sync(pending: &mut Vec<Piece>, syncs: &mut Vec<u64>, call: u64) {
+    pending.clear();
+    let _ = syncs.push(call);
 }
 
 impl<D: Disk> Disk for Noted<D> {
@@ -78,29 +75,29 @@ impl<D: Disk> Disk for Noted<D> {
 
     fn len(&mut self) -> Result<u64, Failed> {
         let answer = self.device.len();
-        self.count();
+        self.calls = self.calls.saturating_add(1);
         answer
     }
 
     fn read_at(&mut self, at: u64, into: &mut [u8]) -> Result<(), Failed> {
         let answer = self.device.read_at(at, into);
-        self.count();
+        self.calls = self.calls.saturating_add(1);
         answer
     }
 
     fn write_at(&mut self, at: u64, bytes: &[u8]) -> Result<(), Failed> {
         let answer = self.device.write_at(at, bytes);
-        self.note(at, bytes);
-        self.count();
+        note(self.alloc, &mut self.pending, at, bytes);
+        self.calls = self.calls.saturating_add(1);
         answer
     }
 
     fn sync(&mut self) -> Result<(), Failed> {
         let answer = self.device.sync();
         if answer.is_ok() {
-            self.note_sync();
+            note_sync(&mut self.pending, &mut self.syncs, self.calls);
         }
-        self.count();
+        self.calls = self.calls.saturating_add(1);
         answer
     }
 }

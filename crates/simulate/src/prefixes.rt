@@ -62,14 +62,16 @@ pub fn shown_on(
     }))
 }
 
-// What is shown after a run over the first lines.
+// What is shown after a run over the first lines, where the run itself showed the same at its end.
 fn shown_after(alloc: Global, story: &Story, events: usize) -> Result<Option<Shown>, AllocError> {
+    let mut lines = story.front(events).to_vec(alloc)?;
+    lines.extend_from_slice(&story.asks)?;
     let mut disk = new_disk(alloc, story.checked)?;
-    let ended = run_on(alloc, "", &mut disk, whole(story.front(events), 4096))?;
-    if ended.status != 0 {
-        return Ok(None);
+    let ended = run_on(alloc, "", &mut disk, whole(&lines, 4096))?;
+    match shown_on(alloc, &mut disk, &story.asks)? {
+        Some(shown) if ended.written.as_slice().ends_with(&shown.text) => Ok(Some(shown)),
+        _ => Ok(None),
     }
-    shown_on(alloc, &mut disk, &story.asks)
 }
 
 /// What is shown after each number of events, from none on. There is less of it where a run fails.
