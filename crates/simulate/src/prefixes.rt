@@ -68,9 +68,13 @@ fn shown_after(alloc: Global, story: &Story, events: usize) -> Result<Option<Sho
     lines.extend_from_slice(&story.asks)?;
     let mut disk = new_disk(alloc, story.checked)?;
     let ended = run_on(alloc, "", &mut disk, whole(&lines, 4096))?;
-    match shown_on(alloc, &mut disk, &story.asks)? {
-        Some(shown) if ended.written.as_slice().ends_with(&shown.text) => Ok(Some(shown)),
-        _ => Ok(None),
+    let Some(shown) = shown_on(alloc, &mut disk, &story.asks)? else {
+        return Ok(None);
+    };
+    if ended.written.as_slice().ends_with(&shown.text) {
+        Ok(Some(shown))
+    } else {
+        Ok(None)
     }
 }
 
