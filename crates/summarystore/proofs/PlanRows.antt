@@ -225,19 +225,19 @@ status-not_asked = refl
 status-others : map (status_with true true) (1 ∷ 2 ∷ 3 ∷ 9 ∷ []) ≡ 1 ∷ 2 ∷ 3 ∷ 9 ∷ []
 status-others = refl
 
-missing_for-check : missing_for false (codes "a" ∷ codes "b" ∷ codes "check" ∷ []) ≡ missing.ReadEmpty
+missing_for-check : missing_for false (codes "a" ∷ codes "b" ∷ codes "check" ∷ []) ≡ ReadEmpty
 missing_for-check = refl
 
-missing_for-check_of_one_that_exists : missing_for true (codes "a" ∷ codes "b" ∷ codes "check" ∷ []) ≡ missing.ReadFail
+missing_for-check_of_one_that_exists : missing_for true (codes "a" ∷ codes "b" ∷ codes "check" ∷ []) ≡ ReadFail
 missing_for-check_of_one_that_exists = refl
 
 missing_for-one_that_exists :
-    map (missing_for true) ((codes "a" ∷ codes "b" ∷ []) ∷ (codes "a" ∷ codes "b" ∷ codes "run" ∷ []) ∷ []) ≡ missing.Fail ∷ missing.Fail ∷ []
+    map (missing_for true) ((codes "a" ∷ codes "b" ∷ []) ∷ (codes "a" ∷ codes "b" ∷ codes "run" ∷ []) ∷ []) ≡ Fail ∷ Fail ∷ []
 missing_for-one_that_exists = refl
 
 missing_for-others :
     map (missing_for false)
     ([] ∷ (codes "a" ∷ codes "check" ∷ []) ∷ (codes "a" ∷ codes "b" ∷ codes "run" ∷ [])
     ∷ (codes "a" ∷ codes "b" ∷ codes "check" ∷ [] ∷ []) ∷ [])
-    ≡ missing.Make ∷ missing.Make ∷ missing.Make ∷ missing.Make ∷ []
+    ≡ Make ∷ Make ∷ Make ∷ Make ∷ []
 missing_for-others = refl

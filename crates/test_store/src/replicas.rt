@@ -49,7 +49,7 @@ fn added(running: &mut Running, frame: &Frame) -> Result<Offered, ApplyError> {
 }
 
 // What a frame is answered. `None` is for a store that doesn't run, and for a call of the disk where nothing is to change.
-fn offered(running: &mut Running, frame: &Frame) -> Option<Result<Offered, ApplyError>> {
+fn answer_to(running: &mut Running, frame: &Frame) -> Option<Result<Offered, ApplyError>> {
     if !runs(running) {
         return None;
     }
@@ -77,7 +77,7 @@ fn is_answered(
 ) -> bool {
     match frame {
         None => false,
-        Some(frame) => offered(running, &frame) == Some(want),
+        Some(frame) => answer_to(running, &frame) == Some(want),
     }
 }
 
@@ -172,7 +172,7 @@ fn frame_at(rows: &[Row], place: usize) -> Option<Frame> {
 fn is_heard(running: &mut Running, rows: &[Row], place: usize) -> bool {
     match frame_at(rows, place) {
         None => false,
-        Some(frame) => matches!(offered(running, &frame), Some(Ok(_))),
+        Some(frame) => matches!(answer_to(running, &frame), Some(Ok(_))),
     }
 }
 
