@@ -1,4 +1,6 @@
 -- What runs over one file leave, one after the other.
+use Rattle.ss_program.specs.declared.status.Status.{Status}
+use Rattle.ss_program.specs.declared.status.Status.TheVariants.{DiskFault, Done, InputLimit, OutOfMemory, RecordChanged, RefusedStore, SinkFault, SourceFault, Usage}
 use Rattle.ss_program.proofs.Common.{◌≡◌, ◌∙◌, ◌⊎◌, ℕ, ◌+◌, ◌-◌, ◌*◌, ◌<◌, ◌≤◌, ◌++◌, List, [], ◌∷◌, length, take, take_all, Option, Some, None, refl, sym, ap}
 use Rattle.ss_program.proofs.Common.{append_assoc, arith, inl, inr, append-nil, max, Form, Mode, Serve, Check, Gen, Sealing, Each, nothing_pending-same}
 use Rattle.ss_program.proofs.Common.{read_leaves, reads-none, KnowsNow, OnlyReads, DiskView, NothingPending, Told, WhereTold, Stands, StandsShort, UsesAtMost}
@@ -6,8 +8,7 @@ use Rattle.ss_program.proofs.Common.{most_needed, length-uses, UsesAtMost-more, 
 use Rattle.ss_promises.specs.Chained.{AreLinked, Ending, Extends, ExtendsAll, IsLeftBy, IsLink, Link, acked_in}
 use Rattle.ss_program.proofs.Common.{Generates, generated_lines, History, Serves, accepted, steps, Talk, begun}
 use Rattle.ss_promises.specs.Chained.{acked_till, by_crash, by_itself, offered_in}
-use Rattle.ss_program.proofs.Common.{begun_over, plain_talk, Status, Done, Usage, RefusedStore, DiskFault, SourceFault, SinkFault, OutOfMemory, InputLimit}
-use Rattle.ss_program.proofs.Common.{RecordChanged}
+use Rattle.ss_program.proofs.Common.{begun_over, plain_talk}
 use Rattle.ss_journal.specs.declared.format.TheConstants.{FIRST_SLOT, MOST_SLOTS}
 use Rattle.ss_base.specs.declared.limits.TheConstants.{SLOT_SIZE}
 use Rattle.ss_program.proofs.HeldLemmas.{StandsShortForFirst-within}

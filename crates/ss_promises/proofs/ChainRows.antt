@@ -1,9 +1,10 @@
 -- Worked rows of runs over one file, one after the other, computed.
+use Rattle.ss_program.specs.declared.status.Status.TheVariants.{DiskFault, Done}
 use Rattle.ss_program.proofs.Common.{◌≡◌, ◌⊎◌, ◌∙◌, ◌≤◌, ◌++◌, ℕ, List, [], ◌∷◌, length, take, zero, suc, ap, arith, inl, inr, lit≤, refl, false, Some}
 use Rattle.ss_program.proofs.Common.{None, codes, flat_map, pos, negsuc, Lines, Serve, Check, Gen, Each, Create, Value, exp, Happened, added, KnowsNow}
 use Rattle.ss_program.proofs.Common.{DiskView, WhereTold, Stands-unformed, Stands}
 use Rattle.ss_promises.specs.Chained.{AreLinked, Extends, Link, accepted_of, acked_of, acked_till, by_crash}
-use Rattle.ss_program.proofs.Common.{generated_lines, History, accepted, plain_talk, Done, DiskFault}
+use Rattle.ss_program.proofs.Common.{generated_lines, History, accepted, plain_talk}
 use Rattle.ss_promises.specs.Chained.{by_itself, offered_in}
 use Rattle.std.specs.Fmt.{digits}
 use Rattle.ss_catalog.specs.Names.{is_name}

@@ -1,4 +1,5 @@
-use Rattle.ss_program.proofs.Common.{None, refl, Done}
+use Rattle.ss_program.specs.declared.status.Status.TheVariants.{Done}
+use Rattle.ss_program.proofs.Common.{None, refl}
 use Rattle.ss_promises.proofs.promises.checks_and_generated_files_are_told.Goals as goal
 
 pub returns-clause-check_unwritten : goal.returns-clause-check_unwritten

@@ -1,4 +1,5 @@
-use Rattle.ss_program.proofs.Common.{None, refl, Each, Shared, steps, begun, Done, OutOfMemory, SourceFault}
+use Rattle.ss_program.specs.declared.status.Status.TheVariants.{Done, OutOfMemory, SourceFault}
+use Rattle.ss_program.proofs.Common.{None, refl, Each, Shared, steps, begun}
 use Rattle.ss_program.proofs.HeldLemmas.{StandsForFirst-within}
 use Rattle.ss_promises.proofs.promises.runs_hold_what_they_acknowledge.Goals as goal
 

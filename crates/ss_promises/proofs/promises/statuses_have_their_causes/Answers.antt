@@ -1,4 +1,5 @@
-use Rattle.ss_program.proofs.Common.{◌≡◌, Option, Some, None, IsSome, refl, Mode, Usage, RefusedStore, DiskFault, SinkFault, RecordChanged}
+use Rattle.ss_program.specs.declared.status.Status.TheVariants.{DiskFault, RecordChanged, RefusedStore, SinkFault, Usage}
+use Rattle.ss_program.proofs.Common.{◌≡◌, Option, Some, None, IsSome, refl, Mode}
 use Rattle.ss_promises.proofs.promises.statuses_have_their_causes.Goals as goal
 
 pub returns-clause-refused : goal.returns-clause-refused
