@@ -123,7 +123,7 @@ fn is_same<D: Disk>(
     Ok(first == second)
 }
 
-// Whether the slot reads the same after step number k, which is about it: each third step puts.
+// Whether the slot reads the same after step number k, which is about it: each third step puts, and none frees the slot.
 fn is_same_after<D: Disk>(
     records: &mut Records,
     disk: &mut D,
@@ -143,8 +143,8 @@ fn is_same_after<D: Disk>(
     if k % 3 != 0 {
         return is_same(records, disk, journal, other, slot);
     }
-    put(records, disk, (slot, (k % 256) as u8))?;
-    commit(journal, other, (slot, (k % 256) as u8))?;
+    put(records, disk, (slot, (k % 255) as u8 + 1))?;
+    commit(journal, other, (slot, (k % 255) as u8 + 1))?;
     is_same(records, disk, journal, other, slot)
 }
 

@@ -26,9 +26,9 @@ fn is_seen(records: &Records, seen: Seen) -> bool {
 const STEPS: [(&[Fill], Seen); 5] = [
     (&[(0, 1)], (1, 1)),
     (&[(1, 2), (2, 3), (3, 4)], (4, 4)),
-    (&[(1, 0), (3, 0)], (2, 1)),
+    (&[(3, 0), (1, 0)], (2, 1)),
     (&[(1, 5)], (3, 3)),
-    (&[(0, 0), (3, 9), (1, 0), (2, 0)], (1, 0)),
+    (&[(3, 9), (2, 0), (1, 0), (0, 0)], (1, 0)),
 ];
 
 fn take<D: Disk>(records: &mut Records, disk: &mut D, fills: &[Fill]) -> Result<(), Failed>
