@@ -88,12 +88,12 @@ class Intake:
 
     def __init__(self, opened: Opened, mappings: Mappings, *, queue: int, longest_name: int = 512,
                  unmatched: UnmatchedNames | None = None, hub: Hub | None = None,
-                 counters: Counters | None = None, future: int = FUTURE, answers: float = ANSWERS
-                 ) -> None:
+                 counters: Counters | None = None, future: int = FUTURE, answers: float = ANSWERS,
+                 recent: Recent | None = None) -> None:
         self._opened = opened
         self.mappings = mappings
         self.streams = Streams()
-        self._recent = Recent()
+        self._recent = Recent() if recent is None else recent
         self.unmatched = UnmatchedNames(1000) if unmatched is None else unmatched
         self.counters = Counters() if counters is None else counters
         self._hub = Hub() if hub is None else hub
@@ -166,6 +166,7 @@ class Intake:
             lane.wake()
         while self._tasks:
             await asyncio.wait(self._tasks)
+        self._recent.close()
 
     def forget(self, name: str) -> None:
         """A stream was dropped, or has another name."""
@@ -308,15 +309,18 @@ class Intake:
         words = {} if route.mapping is None else route.mapping.words
         given = [Given(each.time, each.reading.value, each.is_ours, each.step) for each in taken]
         now = clock.time_ns()
-        delivery = Delivery(route.stream, meaning, words, given, newest, self._recent, now)
+        values = self.streams.values(route.stream)
+        self._recent.settle(route.stream, values, newest)
+        delivery = Delivery(route.stream, meaning, words, given, newest, self._recent, now, values)
         found = await delivery.send(store)
-        self.streams.came_to(route.stream, delivery.newest)
+        self.streams.came_to(route.stream, delivery.newest, delivery.values)
         if delivery.ended is not None:
             self._opened.ended(delivery.ended)
         else:
             self._opened.answered()
         if delivery.unknown_stream:
             self.streams.forget(route.stream)
+            self.forget(route.stream)
         if delivery.too_far:
             self._wait_for_the_clock(lane, delivery.free_at - now)
         if delivery.again:

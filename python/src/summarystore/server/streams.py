@@ -31,6 +31,7 @@ class Streams:
         self._failed: dict[str, tuple[float, SummaryStoreError]] = {}
         self._newest: dict[str, int] = {}
         self._restarts: dict[str, str] | None = None
+        self._values: dict[str, int | None] = {}
         self._locks: WeakValueDictionary[str, asyncio.Lock] = WeakValueDictionary()
 
     def alone(self, name: str) -> asyncio.Lock:
@@ -49,9 +50,14 @@ class Streams:
             self._newest[name] = found
         return found
 
-    def came_to(self, name: str, count: int) -> None:
-        """The last time of a stream is this one now."""
+    def values(self, name: str) -> int | None:
+        """How many values a stream has had, also in landmarks. None where it isn't known."""
+        return self._values.get(name)
+
+    def came_to(self, name: str, count: int, values: int | None = None) -> None:
+        """The last time of a stream is this one now, and it has had so many values."""
         self._newest[name] = count
+        self._values[name] = values
 
     def forget_newest(self, name: str) -> None:
         """The last time of a stream is to be asked for again."""
@@ -62,7 +68,8 @@ class Streams:
         self._meanings.clear()
         self._failed.clear()
         self._newest.clear()
-        self._standing = {stream.name for stream in streams}
+        self._values = {stream.name: stream.values + stream.landmark_values for stream in streams}
+        self._standing = set(self._values)
         self._restarts = None
 
     def came(self, name: str) -> None:
@@ -98,6 +105,7 @@ class Streams:
         """A stream was dropped, or its description changed."""
         self._meanings.pop(name, None)
         self._newest.pop(name, None)
+        self._values.pop(name, None)
         self._standing.discard(name)
         self._restarts = None
 
@@ -137,6 +145,7 @@ class Streams:
             raise found from None
         else:
             log.info("stream made: stream=%r target=%r", name, mapping.target)
+            self._values[name] = 0
         self._standing.add(name)
 
     def _describe(self, store: aio.Store, name: str, mapping: Mapping) -> None:
