@@ -19,13 +19,14 @@ from . import calls
 from .base import Base
 from .calls import Call
 from .certificate import Certificate
-from .codec import Codec, Translator
+from .codec import Change, Codec, Translator
 from .combining import Part
 from .connection import RENEW_AT, Connection
 from .description import Description, changed, description_of
 from .errors import (CursorBusyError, LateError, RefusedError, ReopenedWarning, StoreClosedError,
                      SummaryStoreError, tell)
 from .interval import Interval, Presence
+from .keeping import Keeping
 from .names import Names
 from .pipeline import Commands, Request
 from .program import StorePath
@@ -48,6 +49,7 @@ class Store(Base):
         self._opening = asyncio.Lock()
         self._changed = asyncio.Condition()
         self._opened = self._flushing = False
+        self._names = Keeping(self._translator)
 
     # ---- the process --------------------------------------------------------------------
 
@@ -195,7 +197,7 @@ class Store(Base):
         description = description_of(scale=scale, time=time, since=since, unit=unit, labels=labels,
                                      rounding=rounding)
         await self._up()
-        codec = self._translator.declare(name, description)
+        codec = await self._names.keep(Change(name, description))
         try:
             made = await self._do(calls.create(codec, target, within))
         except (RefusedError, TypeError, ValueError):
@@ -207,10 +209,18 @@ class Store(Base):
     def describe(self, name: str, *, unit: str | None = None, labels: Mapping[str, str] | None = None,
                  rounding: str | None = None) -> None:
         """Changes what is given of a described stream. Its scale and its times can't be changed."""
+        self._translator.describe(name, self._described(name, unit, labels, rounding))
+
+    async def describe_soon(self, name: str, *, unit: str | None = None,
+                            labels: Mapping[str, str] | None = None, rounding: str | None = None) -> None:
+        """The same, by a thread: what several tasks change together is written once."""
+        await self._names.keep(Change(name, self._described(name, unit, labels, rounding), stands=True))
+
+    def _described(self, name: str, unit: str | None, labels: Mapping[str, str] | None, rounding: str | None
+                   ) -> Description:
         if self._connection is None:
             raise StoreClosedError(f"{self.path} is closed, or its program has ended")
-        known = self.description(name) or Description()
-        self._translator.describe(name, changed(known, unit, labels, rounding))
+        return changed(self.description(name) or Description(), unit, labels, rounding)
 
     def rename(self, name: str, new: str) -> None:
         """Gives a described stream another long name, as `Store.rename` does."""

@@ -3,12 +3,12 @@ plain form of it, which gives and takes whole numbers as they are."""
 
 from __future__ import annotations
 
-from collections.abc import Iterable, Sequence
-from typing import Protocol, cast
+from collections.abc import Callable, Iterable, Sequence
+from typing import NamedTuple, Protocol, cast
 
 from .decimals import Number
 from .description import Description
-from .errors import DescriptionError
+from .errors import DescriptionError, SummaryStoreError
 from .interval import Interval
 from .records import Stream, Time
 from .wire import LAST_TIME, stream_of, whole
@@ -51,6 +51,14 @@ class Codec(Protocol):
         """An answer as it is shown."""
 
 
+class Change(NamedTuple):
+    """How a stream is to be read: one that is to be made, or one that stands."""
+
+    name: str
+    description: Description | None
+    stands: bool = False
+
+
 class Translator(Protocol):
     """The streams of a store by the names that people use."""
 
@@ -65,6 +73,9 @@ class Translator(Protocol):
 
     def declare(self, name: str, description: Description | None) -> Codec:
         """Keeps how a stream is to be read, before it is made."""
+
+    def keep(self, changes: Sequence[Change]) -> Sequence[Codec | Exception]:
+        """Keeps how some are to be read, by one write. What is refused is told in its place."""
 
     def made(self, name: str, codec: Codec) -> None:
         """The stream was made."""
@@ -152,6 +163,10 @@ class Plain:
             raise DescriptionError("a store of whole numbers keeps no descriptions: summarystore.open does")
         return PlainCodec(name)
 
+    def keep(self, changes: Sequence[Change]) -> Sequence[Codec | Exception]:
+        """Takes no description."""
+        return each_of(lambda change: self.declare(change.name, change.description), changes)
+
     def made(self, name: str, codec: Codec) -> None:
         """Needs nothing."""
 
@@ -172,6 +187,16 @@ class Plain:
     def name_of(self, short: str) -> str:
         """The name."""
         return short
+
+
+def each_of(judge: Callable[[Change], Codec], changes: Sequence[Change]) -> Sequence[Codec | Exception]:
+    """What comes of each change, or why it is refused."""
+    def of(change: Change) -> Codec | Exception:
+        try:
+            return judge(change)
+        except (SummaryStoreError, ValueError) as error:
+            return error
+    return [of(change) for change in changes]
 
 
 def pairs(rows: object) -> Iterable[tuple[object, object]]:

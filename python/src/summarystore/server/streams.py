@@ -9,7 +9,8 @@ from collections.abc import Sequence
 from weakref import WeakValueDictionary
 
 from .. import aio
-from ..errors import RefusedError, StreamExistsError, SummaryStoreError, UnknownStreamError
+from ..errors import (RefusedError, StreamExistsError, SummaryStoreError, TooManyStreamsError,
+                      UnknownStreamError)
 from ..records import Stream
 from .mapping import Route
 from .meaning import Meaning
@@ -18,6 +19,8 @@ from .settings import Mapping
 log = logging.getLogger("summarystored")
 RESTARTS = "restarts"
 """The label of a stream that takes the readings of another, whose name it says."""
+MOST_STREAMS = 4096
+"""So many streams stand in a store at most."""
 AGAIN = 60.0
 """After so many seconds a stream that couldn't be made is tried again."""
 
@@ -123,13 +126,15 @@ class Streams:
         if route.stream not in self._standing and route.mapping is not None:
             await self._make(store, route.stream, route.mapping)
         elif route.mapping is not None and route.stream not in self._meanings:
-            self._describe(store, route.stream, route.mapping)
+            await self._describe(store, route.stream, route.mapping)
         return self.meaning(store, route.stream)
 
     async def _make(self, store: aio.Store, name: str, mapping: Mapping) -> None:
         failed = self._failed.get(name)
         if failed is not None and time.monotonic() < failed[0]:
             raise failed[1]
+        if len(self._standing) >= MOST_STREAMS:
+            raise TooManyStreamsError("STREAMS", name)
         told = mapping.description
         try:
             await store.create(name, mapping.target, mapping.within, scale=told.scale, time=told.time,
@@ -148,7 +153,7 @@ class Streams:
             self._values[name] = 0
         self._standing.add(name)
 
-    def _describe(self, store: aio.Store, name: str, mapping: Mapping) -> None:
+    async def _describe(self, store: aio.Store, name: str, mapping: Mapping) -> None:
         """Brings what a mapping says of a stream that stands to it, as far as it can be changed."""
         known, told = store.description(name), mapping.description
         if known is None:
@@ -161,4 +166,4 @@ class Streams:
         if RESTARTS in known.labels:
             labels[RESTARTS] = known.labels[RESTARTS]
         if (told.unit, labels, told.rounding) != (known.unit, dict(known.labels), known.rounding):
-            store.describe(name, unit=told.unit, labels=labels or None, rounding=told.rounding)
+            await store.describe_soon(name, unit=told.unit, labels=labels or None, rounding=told.rounding)
