@@ -10,6 +10,7 @@ A file may be `/etc/summarystore/summarystored.toml`, and each of its tables may
     [http]
     listen = "127.0.0.1:8087"
     hosts = ["readings.example"]                # the names under which a proxy serves it
+    strict = false                              # with true fields that are no numbers are an error
 
     [graphite]
     listen = "127.0.0.1:2003"                   # without it nothing listens for Graphite's lines
@@ -75,10 +76,12 @@ class StoreSettings:
 
 @dataclass(frozen=True)
 class HttpSettings:
-    """Where HTTP is served, and by which names besides that address."""
+    """Where HTTP is served, and by which names besides that address. `strict` refuses a body of line
+    protocol that has texts or truth values, which else are counted."""
 
     listen: Address = (LOOPBACK, PORT)
     hosts: tuple[str, ...] = ()
+    strict: bool = False
 
 
 @dataclass(frozen=True)
@@ -215,7 +218,8 @@ def _store(table: Table) -> StoreSettings:
 
 
 def _http(table: Table) -> HttpSettings:
-    found = HttpSettings(table.address("listen") or HttpSettings.listen, table.texts("hosts"))
+    found = HttpSettings(table.address("listen") or HttpSettings.listen, table.texts("hosts"),
+                         table.truth("strict"))
     table.end()
     return found
 

@@ -16,7 +16,7 @@ from .endpoints import Access, ApiError, Endpoint
 from .intake import Incoming, Outcome, Result
 from .lineprotocol import PRECISIONS, Mistake
 from .meaning import seconds_of
-from .outcomes import TOO_FAR
+from .outcomes import TOO_FAR, Word
 
 SLICE = 500
 """After so many lines others have their turn."""
@@ -24,6 +24,8 @@ SHOWN = 20
 """So many refusals are told one by one."""
 VERSION = "1.8-summarystore"
 KEYS = ("stream", "time", "value")
+WORDS = "Summarystore-Not-Numbers"
+"""The header that says how many fields were texts or truth values, and so aren't kept."""
 
 
 class HttpIn:
@@ -53,7 +55,16 @@ class HttpIn:
             if count % SLICE == SLICE - 1:
                 await asyncio.sleep(0)
         outcomes = await self._service.intake.append_many(readings)
-        return _written(lines, mistakes, outcomes)
+        words = 0
+        if not self._service.configuration.http.strict:
+            told = [(line, outcome) for line, reading, outcome in zip(lines, readings, outcomes)
+                    if not _is_word(reading, outcome)]
+            words = len(readings) - len(told)
+            lines, outcomes = [line for line, _ in told], [outcome for _, outcome in told]
+        answer = _written(lines, mistakes, outcomes)
+        if words:
+            answer.headers[WORDS] = str(words)
+        return answer
 
     async def append(self, request: web.Request) -> web.StreamResponse:
         """`POST /api/append`: one reading, or a list of them."""
@@ -198,6 +209,12 @@ def open_of(outcomes: Sequence[Outcome]) -> ApiError | None:
                         f"are to be sent again: {TOO_FAR.reason}", 1)
     return ApiError(503, "interrupted", f"the store's program ended: {good} are stored, {not_stored} surely "
                     f"aren't, and of {len(unknown)} it isn't known. Sent again, each is stored once", 1)
+
+
+def _is_word(reading: Incoming, outcome: Outcome) -> bool:
+    """Whether it is a field that is no number, so that it was never a reading. It is counted as refused."""
+    return (outcome.result is Result.REFUSED and isinstance(reading.value, Word)
+            and outcome.code in ("not_a_number", "unmatched"))
 
 
 def _written(lines: Sequence[int], mistakes: Sequence[Mistake], outcomes: Sequence[Outcome]) -> web.Response:

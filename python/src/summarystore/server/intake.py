@@ -35,7 +35,8 @@ from collections.abc import Callable, Sequence
 from typing import Protocol
 
 from .. import aio, errors
-from ..errors import ProcessEndedError, SummaryStoreError
+from ..decimals import decimal_of
+from ..errors import NotANumberError, ProcessEndedError, SummaryStoreError
 from .counters import Counters
 from .delivery import Delivery, Given, Row
 from .errors import BusyError, UnavailableError
@@ -43,7 +44,7 @@ from .events import Hub
 from .lanes import SECOND, Batch, Incoming, Lane, Pending
 from .mapping import Mappings, Route, UnmatchedNames, full_name
 from .meaning import Meaning, seconds_of
-from .outcomes import IGNORED, STORED, TOO_FAR, TOO_MANY, Outcome, Result, refused
+from .outcomes import IGNORED, STORED, TOO_FAR, TOO_MANY, Outcome, Result, Word, refused
 from .recent import Recent
 from .streams import Streams
 
@@ -201,6 +202,9 @@ class Intake:
             route = self._too_new(pending.time)
         if isinstance(route, Outcome):
             self._settle([(pending, route)])
+            return
+        if isinstance(pending.reading.value, Word) and (wrong := _no_number(pending.reading.value, route)):
+            self._settle([(pending, wrong)])
             return
         route = self._current(route)
         lane = self._lanes.get(route.stream)
@@ -369,3 +373,14 @@ def _keep_steps(taken: Sequence[Pending], rows: Sequence[Row], found: Sequence[O
     for pending, row, outcome in zip(taken, rows, found):
         if pending.is_ours and (outcome.result is Result.UNKNOWN or outcome.waits):
             pending.step = row[0] if outcome.result is Result.UNKNOWN else None
+
+
+def _no_number(value: Word, route: Route) -> Outcome | None:
+    """Why a text or a truth value is no reading. No stream is made for one that isn't."""
+    if route.mapping is not None and value in route.mapping.words:
+        return None
+    try:
+        decimal_of(value)
+    except NotANumberError as error:
+        return refused(error)
+    return None
