@@ -25,8 +25,10 @@ from .errors import BrokerError
 from .frames import SIZE
 from .gaps import Gap, Gaps, Step
 from .logs import STREAM, Log
+from .marks import Marks
 from .naming import TakenNames
 from .patience import Patience
+from .position import Position
 from .taking import MOST, Follow
 
 log = logging.getLogger("summarystore.fleet")
@@ -63,7 +65,7 @@ class Follower:
         self._stays = kind == STREAM
         self._kind = kind
         self.follower = follower or _own_name(self.store.path)
-        self._file = Path(f"{self.store.path}.position")
+        self._position = Position(self.store.path, self._shard)
         self.names = TakenNames(self.store.path)
         self._gaps = Gaps(self._stays)
         self._deliveries: deque[Delivery] = deque()
@@ -71,7 +73,7 @@ class Follower:
         self._open: set[int] = set()
         self._wake = asyncio.Event()
         self._offset: int | None = None
-        self._kept: int | None = None
+        self.marks = Marks()
         self._places: dict[str, int] = {}
         self.have: dict[str, int] = {}
         self._senders: dict[str, str] = {}
@@ -95,7 +97,7 @@ class Follower:
 
     async def run(self) -> None:
         """Follows until it is cancelled."""
-        self._offset = self._kept = self._read_position()
+        self._offset, self.marks.drained = self._position.read()
         names = await self.store.names()
         if self._part.of > 1:
             await self.store.drop([name for name in names if not self._part.has(name)])
@@ -122,33 +124,39 @@ class Follower:
         """How many streams were given later events than the next."""
         return len(self._gaps)
 
-    async def copy(self, target: Path) -> tuple[int, float]:
-        """Copies the store. Gives its version, and the time of the copy."""
-        return await self.store.copy(target, lambda: (self.version, time.time()))
+    @property
+    def as_of(self) -> float:
+        """The last moment at which the store was known to have all of the log. 0: none is known."""
+        return self.marks.drained
 
-    # ---- the place in the log -----------------------------------------------------------
+    async def look(self) -> None:
+        """Looks whether the store has all of the log, where that isn't known of the last seconds."""
+        if self.following and self.marks.want():
+            self._wake.set()
+            await self.marks.wait()
 
-    def _read_position(self) -> int | None:
-        with suppress(OSError, ValueError, KeyError, TypeError):
-            found = json.loads(self._file.read_text("utf-8"))
-            if found["log"] == self._shard:
-                return int(found["offset"])
-        return None
+    async def copy(self, target: Path) -> tuple[int, float, float]:
+        """Copies the store. Gives its version, the time of the copy, and what it is known to be as of."""
+        return await self.store.copy(target, lambda: (self.version, time.time(), self.as_of))
 
     def _keep_position(self) -> None:
-        """Keeps from where the log is to be read next. It may be too early, and then what comes is `old`."""
+        """Keeps from where the log is to be read next. What is held behind gaps is read again."""
         held = self._gaps.offset
         offset = self._offset if held is None or self._offset is None else min(held, self._offset)
-        if offset is not None and offset != self._kept:
-            new = self._file.with_name(self._file.name + ".new")
-            new.write_text(json.dumps({"log": self._shard, "offset": offset}) + "\n", "utf-8")
-            os.replace(new, self._file)
-            self._kept = offset
+        self._position.keep(offset, self.as_of)
 
     # ---- over one connection ------------------------------------------------------------
 
     async def _work(self, link: Link) -> None:
-        self.following = False
+        try:
+            await self._follow(link)
+        finally:
+            self.following = False
+            self.marks.ended(link.why)
+        self._say(f"not connected: {link.why}")
+
+    async def _follow(self, link: Link) -> None:
+        self.marks.begins()
         await link.declare(self._log)
         queue = self._shard if self._stays else f"{self._shard}.{self.follower}"
         await link.queue(queue, self._kind, self._shard)
@@ -175,8 +183,6 @@ class Follower:
                 raise BrokerError(str(error) or type(error).__name__) from None
             except (SummaryStoreError, OSError) as error:
                 await self._pause(error)
-        self.following = False
-        self._say(f"not connected: {link.why}")
 
     async def _ask(self, link: Link, queue: str) -> None:
         """Where nothing comes for long: declares all anew, since a node may have lost it, and looks whether
@@ -215,6 +221,7 @@ class Follower:
             self._told_at = now
             self._tell(link)
             self._keep_position()
+        self.marks.look(link, self._shard)
 
     def _arrived(self, link: Link, _channel: object, method: object, properties: object, body: bytes
                  ) -> None:
@@ -244,7 +251,10 @@ class Follower:
         done = []
         for delivery in deliveries:
             said = [replies.popleft() for _ in range(delivery.size)] if self._part.has(delivery.name) else []
-            if not delivery.name:
+            if delivery.mark:
+                self.marks.came(delivery.mark, whole=not self._gaps)
+                done.append(delivery.tag)
+            elif not delivery.name:
                 self._lay_aside(link, delivery, "no message of a sender's")
             elif self._judge(link, delivery, said):
                 done.append(delivery.tag)

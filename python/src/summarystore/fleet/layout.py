@@ -12,6 +12,7 @@
     together = 64                               # so many questions go to shards at once
     rest_seconds = 10                           # one that didn't answer is asked last for so long
     look_seconds = 10                           # how often the names of the shards are asked for
+    behind_seconds = 60                         # one whose answer is older is asked last, and it is told
     token_file = "/etc/summarystore/shard-token"
 
     [[shard]]
@@ -60,6 +61,7 @@ class Asking:
     together: int = 64
     rest_seconds: float = 10
     look_seconds: float = 10
+    behind_seconds: float = 60
     token: str | None = None
 
 
@@ -132,6 +134,7 @@ def _asking(table: Table) -> Asking:
                    table.whole("together", 1, 10_000) or known.together,
                    table.seconds("rest_seconds", 0, 86400) or known.rest_seconds,
                    table.seconds("look_seconds", 1, 86400) or known.look_seconds,
+                   table.seconds("behind_seconds", 1, 86400) or known.behind_seconds,
                    None if file is None else _token(table, file))
     table.end()
     return found
