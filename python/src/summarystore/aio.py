@@ -146,7 +146,8 @@ class Store(Base):
                 request.finish(request.interrupted(only.failure()))
                 return only
             connection = await self._running()
-            self._hand_over(connection, request)
+            if not connection.refuses(request):
+                self._hand_over(connection, request)
             return connection
 
     def _hand_over(self, connection: Connection, request: Request) -> None:
