@@ -5,7 +5,8 @@ from __future__ import annotations
 from collections.abc import Mapping
 
 from ..server import openapi
-from ..server.openapi import ENDS, NUMBER, TEXT, Json
+from ..server.openapi import ENDS, NUMBER
+from ..server.openapi_words import TEXT, Json
 
 READ = ("/api/streams", "/api/names", "/api/query", "/api/series", "/api/windows", "/api/landmarks",
         "/healthz", "/openapi.json")

@@ -5,14 +5,11 @@ from __future__ import annotations
 import asyncio
 import json
 import logging
-import os
-import socket
 import time
 from collections import deque
 from collections.abc import Mapping, Sequence
 from contextlib import suppress
 from functools import partial
-from hashlib import blake2b
 from pathlib import Path
 
 from pika.exceptions import AMQPError
@@ -24,7 +21,7 @@ from .deliveries import Delivery, Part, delivery_of
 from .errors import BrokerError
 from .frames import SIZE
 from .gaps import Gap, Gaps, Step
-from .logs import STREAM, Log
+from .logs import KEPT, STREAM, Log, own_name
 from .marks import Marks
 from .naming import TakenNames
 from .patience import Patience
@@ -44,6 +41,8 @@ PAUSES = (0.5, 1.0, 2.0, 5.0, 10.0)
 ASK = 20.0
 """Where nothing comes for so many seconds the broker is asked what the queue has."""
 FULL = ("refused STREAMS", "refused STORE_FULL")
+OTHER_BOUNDS = "(406"
+"""How the reason begins where a queue stands that was declared otherwise."""
 
 
 class FullError(SummaryStoreError):
@@ -56,7 +55,7 @@ class Follower:
     def __init__(self, path: StorePath, brokers: Sequence[str], *, name: str = "summarystore",
                  shards: int = 1, shard: int = 0, part: Part = Part(), kind: str = STREAM,
                  follower: str | None = None, program: str | None = None,
-                 checked: bool | None = None) -> None:
+                 checked: bool | None = None, kept: int = KEPT) -> None:
         self.store = Follow(path, program, checked)
         self._brokers = brokers
         self._log = Log(name, shards)
@@ -64,7 +63,10 @@ class Follower:
         self._part = part
         self._stays = kind == STREAM
         self._kind = kind
-        self.follower = follower or _own_name(self.store.path)
+        self._bounds = self._log.bounds(kind, kept)
+        self._stands = False
+        """Whether its queue stands, and has other bounds."""
+        self.follower = follower or own_name(self.store.path)
         self._position = Position(self.store.path, self._shard)
         self.names = TakenNames(self.store.path)
         self._gaps = Gaps(self._stays)
@@ -159,7 +161,7 @@ class Follower:
         self.marks.begins()
         await link.declare(self._log)
         queue = self._shard if self._stays else f"{self._shard}.{self.follower}"
-        await link.queue(queue, self._kind, self._shard)
+        await self._declare(link, queue)
         self._asked_at = asyncio.get_running_loop().time()
         self._patience.begins(self._asked_at)
         self._left = 0
@@ -184,6 +186,19 @@ class Follower:
             except (SummaryStoreError, OSError) as error:
                 await self._pause(error)
 
+    async def _declare(self, link: Link, queue: str) -> int:
+        """Its queue. One that stands may have other bounds: it is taken as it is, and that is told."""
+        try:
+            if not self._stays:
+                await link.declare_dead(self._log)
+            return await link.queue(queue, self._kind, self._shard, self._bounds, self._stands)
+        except BrokerError as error:
+            if str(error).startswith(OTHER_BOUNDS) and not self._stands:
+                self._stands = True
+                log.warning("the queue %s has other bounds than %s: a policy of the broker may set them",
+                            queue, self._bounds)
+            raise
+
     async def _ask(self, link: Link, queue: str) -> None:
         """Where nothing comes for long: declares all anew, since a node may have lost it, and looks whether
         the queue has messages that it doesn't give. In the end another node is tried anyway."""
@@ -194,7 +209,7 @@ class Follower:
             return
         self._asked_at = now
         await link.declare(self._log)
-        before, self._left = self._left, await link.queue(queue, self._kind, self._shard)
+        before, self._left = self._left, await self._declare(link, queue)
         if before and self._left and not self._stays:
             raise BrokerError(f"{self._left} messages wait in the queue, and none came")
 
@@ -380,9 +395,3 @@ class Follower:
                         "wanted": [name for name in some if name in wanted]}
                 if not link.ended.is_set():
                     link.channel.basic_publish(self._log.told, sender, json.dumps(body).encode())
-
-
-def _own_name(path: str) -> str:
-    """A name for the follower of this store on this machine."""
-    whole = f"{socket.gethostname()}:{os.path.abspath(path)}"
-    return f"{socket.gethostname()}-{blake2b(whole.encode(), digest_size=6).hexdigest()}"

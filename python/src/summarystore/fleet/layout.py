@@ -25,9 +25,7 @@
 
 from __future__ import annotations
 
-import os
 import re
-import stat
 from collections.abc import Sequence
 from dataclasses import dataclass
 
@@ -36,6 +34,7 @@ from ..server.configuration import HttpSettings, Limits, TokenSettings
 from ..server.errors import ConfigurationError
 from ..server.globs import LONGEST
 from ..server.many import MOST_WITHOUT
+from ..server.private import private_text
 from ..server.tables import Table, rows_of, shown
 
 PORT = 8088
@@ -142,14 +141,7 @@ def _asking(table: Table) -> Asking:
 
 def _token(table: Table, file: str) -> str:
     """The token in a file that others can't read."""
-    try:
-        with open(os.open(file, os.O_RDONLY | os.O_NONBLOCK), "rb") as stream:
-            mode = os.fstat(stream.fileno()).st_mode
-            token = stream.read(4096).decode("utf-8").strip()
-    except (OSError, ValueError) as error:
-        raise table.wrong("token_file", str(getattr(error, "strerror", None) or error)) from None
-    if not stat.S_ISREG(mode) or mode & 0o007:
-        raise table.wrong("token_file", "others can read it: `chmod 600` makes it private")
+    token = private_text(file).strip()
     if not TOKEN.fullmatch(token):
         raise table.wrong("token_file", "one token is to stand in it")
     return token

@@ -14,6 +14,7 @@ A file may be `/etc/summarystore/summarystored.toml`, and each of its tables may
 
     [graphite]
     listen = "127.0.0.1:2003"                   # without it nothing listens for Graphite's lines
+    anyone = false                              # true: others may reach it, who need no token there
 
     [mqtt]
     broker = "127.0.0.1:1883"                   # without it no broker is called
@@ -86,9 +87,11 @@ class HttpSettings:
 
 @dataclass(frozen=True)
 class GraphiteSettings:
-    """Where Graphite's lines are taken. None: nowhere."""
+    """Where Graphite's lines are taken. None: nowhere. They have no tokens, so where others reach it has to
+    be said: `anyone`."""
 
     listen: Address | None = None
+    anyone: bool = False
 
 
 @dataclass(frozen=True)
@@ -121,6 +124,8 @@ class Limits:
 
     body: int = 4 << 20
     """Bytes of a body, also of one that was packed."""
+    bodies: int = 64 << 20
+    """Bytes of all bodies that are under way."""
     lines: int = 20_000
     """Readings of one body."""
     line: int = 65_536
@@ -142,7 +147,9 @@ class Limits:
     body_seconds: float = 30
     """The time for a body to come."""
     idle_seconds: float = 75
-    """How long a connection may say nothing, between two requests or two lines."""
+    """How long a connection may say nothing: between two requests, or within a line of Graphite's."""
+    silent_seconds: float = 3600
+    """How long a connection may say nothing between two lines of Graphite's."""
     write_seconds: float = 30
     """How long a client may take nothing of its answer."""
     answer_seconds: float = 30
@@ -225,7 +232,7 @@ def _http(table: Table) -> HttpSettings:
 
 
 def _graphite(table: Table) -> GraphiteSettings:
-    found = GraphiteSettings(table.address("listen"))
+    found = GraphiteSettings(table.address("listen"), table.truth("anyone"))
     table.end()
     return found
 
@@ -248,9 +255,11 @@ def tokens_of(table: Table) -> TokenSettings:
     return found
 
 
-_COUNTS = {"body": 1 << 30, "lines": 1_000_000, "line": 1 << 20, "name": 4096, "queue": 10_000_000,
-           "connections": 60_000, "subscribers": 60_000, "rows": 100_000, "unmatched": 100_000}
-_SECONDS = ("header_seconds", "body_seconds", "idle_seconds", "write_seconds", "answer_seconds")
+_COUNTS = {"body": 1 << 30, "bodies": 1 << 40, "lines": 1_000_000, "line": 1 << 20, "name": 4096,
+           "queue": 10_000_000, "connections": 60_000, "subscribers": 60_000, "rows": 100_000,
+           "unmatched": 100_000}
+_SECONDS = ("header_seconds", "body_seconds", "idle_seconds", "silent_seconds", "write_seconds",
+            "answer_seconds")
 
 
 def limits_of(table: Table) -> Limits:
@@ -266,6 +275,8 @@ def limits_of(table: Table) -> Limits:
             found = replace(found, **{key: seconds})
     found = replace(found, future=table.span("future", found.future))
     table.end()
+    if found.body > found.bodies:
+        raise table.wrong("body", f"{found.body} bytes are more than the {found.bodies} of all bodies")
     if found.lines > found.queue:
         raise table.wrong("lines", f"{found.lines} lines are more than the queue of {found.queue} takes")
     return found

@@ -102,7 +102,9 @@ class HttpIn:
         """`/health`, as InfluxDB 2 has it."""
         store = self._service.supervisor
         good = store.taking is not None
-        told = {"name": "summarystored", "status": "pass" if good else "fail", "message": store.why,
+        # Whoever asks needs no token, so nothing of this machine is told.
+        told = {"name": "summarystored", "status": "pass" if good else "fail",
+                "message": "readings are taken" if good else f"the store is {store.state.value}",
                 "version": VERSION}
         return json_answer(told, 200 if good else 503)
 

@@ -28,8 +28,8 @@ from __future__ import annotations
 
 import asyncio
 import logging
+import re
 import time as clock
-import unicodedata
 from collections import Counter
 from collections.abc import Callable, Sequence
 from typing import Protocol
@@ -59,8 +59,10 @@ ANSWERS = 30.0
 """So many seconds a reading may wait whose sender waits for the answer, unless that says otherwise."""
 AGAIN_AFTER = (0.1, 1.0)
 """Seconds until readings whose fate isn't known are tried again, first and at most."""
-UNPRINTED = ("Cc", "Cs", "Zl", "Zp")
-"""The kinds of characters that no name has: those that end a line, and halves of surrogates."""
+UNPRINTED = re.compile("[\\x00-\\x1f\\x7f-\\x9f\\u2028\\u2029"
+                       "\\u061c\\u200e\\u200f\\u202a-\\u202e\\u2066-\\u2069\\ud800-\\udfff]")
+"""What no name has: characters that end a line or control it, those that turn the direction of a text, and
+halves of surrogates."""
 
 
 class Opened(Protocol):
@@ -229,7 +231,7 @@ class Intake:
         """Why a stream can't have a name. None where it can."""
         if not name or len(name) > self._longest_name:
             return Outcome(Result.REFUSED, "name", f"a name has 1 to {self._longest_name} characters")
-        if any(unicodedata.category(each) in UNPRINTED for each in name):
+        if UNPRINTED.search(name):
             return Outcome(Result.REFUSED, "name", "a name has no control characters")
         return None
 
