@@ -126,11 +126,11 @@ def test_what_a_kill_left_open(path: Path, values: int, last: int, there: int) -
 def test_what_was_refused_isnt_there(path: Path) -> None:
     first = recent(path)
     first.begin("a", 0, -1, ROWS)
-    first.stored("a", [ROWS[0], ROWS[2]])
+    first.stored("a", [ROWS[0], ROWS[2]], 2, 4)
     first.begin("a", 2, 4, [(5, 1)])
-    first.stored("a", [(5, 1)])
+    first.stored("a", [(5, 1)], 3, 5)
     first.begin("b", 0, -1, ROWS)
-    first.stored("b", ROWS)
+    first.stored("b", ROWS, 3, 4)
     first.forget("b")
     first.close()
     again = recent(path)
@@ -145,18 +145,35 @@ def test_an_older_store_has_less(path: Path) -> None:
     for values in range(0, 30, 3):
         rows = [(values + count, value) for count, value in ROWS]
         first.begin("a", values, values, rows)
-        first.stored("a", rows)
+        first.stored("a", rows, values + 3, values + 4)
     first.close()
+    again = recent(path)
+    again.settle("a", 30, 31)
+    assert again.value("a", 1) == "1.5" and again.value("a", 28) == "1.5"
+    again.close()
     again = recent(path)
     again.settle("a", 6, 7)
     assert again.value("a", 1) is None and again.value("a", 20) is None
+
+
+def test_where_the_number_of_values_isnt_known_it_is_told_afterwards(path: Path) -> None:
+    first = recent(path)
+    first.begin("a", None, 0, ROWS)
+    first.stored("a", ROWS, None, 4)
+    assert first.value("a", 2) == "2.5"
+    first.begin("a", 9, 4, [(5, "4")])
+    first.stored("a", [(5, "4")], 10, 5)
+    first.close()
+    again = recent(path)
+    again.settle("a", 10, 5)
+    assert (again.value("a", 5), again.value("a", 6)) == ("4", None)
 
 
 def test_the_file_is_bounded_and_a_cut_line_does_no_harm(path: Path) -> None:
     first = recent(path, 100)
     for count in range(1000):
         first.begin("a", count, count - 1, [(count, str(count))])
-        first.stored("a", [(count, str(count))])
+        first.stored("a", [(count, str(count))], count + 1, count)
     first.close()
     taken = Path(f"{path}.taken")
     assert len(first) == 100
@@ -167,7 +184,7 @@ def test_the_file_is_bounded_and_a_cut_line_does_no_harm(path: Path) -> None:
     again.settle("a", 1000, 999)
     assert [again.value("a", count) for count in (899, 900, 999)] == [None, "900", "999"]
     again.begin("a", 1000, 999, [(1000, "n")])
-    again.stored("a", [(1000, "n")])
+    again.stored("a", [(1000, "n")], 1001, 1000)
     again.close()
     last = recent(path, 100)
     last.settle("a", 1001, 1000)

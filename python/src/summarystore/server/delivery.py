@@ -159,9 +159,9 @@ class Delivery:
         if any(found is not None and found.result is Result.UNKNOWN for found in self._found):
             self.values = None
             return
-        self._recent.stored(self._stream, self._stored)
         if self.values is not None:
             self.values += len(self._stored)
+        self._recent.stored(self._stream, self._stored, self.values, self.newest)
 
     async def _find_out(self, store: aio.Store) -> None:
         """Looks in the store, which is opened again, for those of which it isn't known."""

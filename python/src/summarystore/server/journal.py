@@ -23,21 +23,17 @@ log = logging.getLogger("summarystored")
 class Entry(NamedTuple):
     """Rows of a stream that has had so many values and has this last time, before they go to the store.
 
-    Without a number of values it says instead which of the rows of the entry before were stored, and
-    without rows, too, that nothing is known of the stream any more.
+    With `done` they are what was stored of those before, and the stream stands so after them. Without rows
+    nothing is known of it any more.
     """
 
     stream: str
     values: int | None = None
     last: int = 0
     rows: Sequence[Row] | None = None
+    done: bool = False
     follows: bool = False
     """Whether it was written by the same run as the one before it of its stream."""
-
-    @property
-    def settles(self) -> bool:
-        """Whether it says what became of the one before."""
-        return self.values is None
 
 
 class Journal:
@@ -67,7 +63,7 @@ class Journal:
         """Adds an entry. Where that fails no more are added, and the readings are stored anyway."""
         if self._failed:
             return
-        said = json.dumps([self._run, entry.stream, entry.values, entry.last, entry.rows],
+        said = json.dumps([self._run, entry.stream, entry.values, entry.last, entry.rows, entry.done],
                           separators=(",", ":"), default=str)
         data = f"{said}\n".encode("ascii")
         try:
@@ -113,10 +109,10 @@ def _lines(file: str) -> Iterator[bytes]:
 def _entry(line: bytes, runs: dict[str, str]) -> Entry | None:
     """An entry of a line. None where it is blank or cut off."""
     with suppress(ValueError, TypeError, KeyError):
-        run, stream, values, last, rows = json.loads(line)
+        run, stream, values, last, rows, done = json.loads(line)
         if isinstance(run, str) and isinstance(stream, str) and isinstance(last, int):
             follows = runs.get(stream) == run
             runs[stream] = run
             kept = rows and [(int(count), value) for count, value in rows]
-            return Entry(stream, values, last, kept, follows)
+            return Entry(stream, values, last, kept, done is True, follows)
     return None

@@ -45,6 +45,7 @@ class Recent:
         self._order: deque[tuple[str, Sequence[Row]]] = deque()
         self._count = 0
         self._open: dict[str, _Batch] = {}
+        self._stood: dict[str, tuple[int | None, int]] = {}
         for entry in () if journal is None else journal.read():
             self._read(entry)
 
@@ -53,23 +54,31 @@ class Recent:
 
     def _read(self, entry: Entry) -> None:
         """An entry of the file. What a run wrote after a batch says that all of it was stored."""
-        stream, before, rows = entry.stream, self._open.pop(entry.stream, None), entry.rows
-        if rows is None or entry.values == 0:       # it was dropped, or made anew
+        stream, rows = entry.stream, entry.rows
+        before, stood = self._open.pop(stream, None), self._stood.pop(stream, None)
+        if rows is None or entry.values == 0 and not entry.done:        # it was dropped, or made anew
             self._drop(stream)
-        elif entry.settles:
+        elif entry.done:
             self._add(stream, rows)
         elif before is not None and entry.follows:
             self._add(stream, before.rows)
         elif before is not None:
             self._resolve(stream, before, entry.values, entry.last)
-        if rows is not None and not entry.settles:
+        elif not entry.follows and stood not in (None, (entry.values, entry.last)):
+            self._drop(stream)
+        if entry.done and rows is not None:
+            self._stood[stream] = entry.values, entry.last
+        elif rows is not None:
             self._open[stream] = _Batch(entry.values, entry.last, rows)
 
     def settle(self, stream: str, values: int | None, last: int) -> None:
-        """So many values a stream has had, and this is its last time: what isn't known yet is now."""
-        before = self._open.pop(stream, None)
+        """So many values a stream has had, and this is its last time: what isn't known yet is now. Where it
+        stands otherwise than it did, it is another one, and nothing is known of it."""
+        before, stood = self._open.pop(stream, None), self._stood.pop(stream, None)
         if before is not None:
-            self._write(Entry(stream, rows=self._resolve(stream, before, values, last)))
+            self._write(Entry(stream, values, last, self._resolve(stream, before, values, last), True))
+        elif stood not in (None, (values, last)):
+            self.forget(stream)
 
     def _resolve(self, stream: str, batch: _Batch, values: int | None, last: int) -> Sequence[Row] | None:
         """Takes what stands of a batch. Where that can't be told nothing is known of its stream any more."""
@@ -82,6 +91,8 @@ class Recent:
 
     def begin(self, stream: str, values: int | None, last: int, rows: Sequence[Row]) -> None:
         """Rows are about to go to the store. Those are told that it may take: each later than all before."""
+        if values is None:
+            return      # what becomes of them is told afterwards
         kept: list[Row] = []
         newest = last
         for row in rows:
@@ -92,21 +103,22 @@ class Recent:
             self._open[stream] = _Batch(values, last, kept)
             self._write(Entry(stream, values, last, kept))
 
-    def stored(self, stream: str, rows: Sequence[Row]) -> None:
-        """Of the rows that were begun last these were stored."""
+    def stored(self, stream: str, rows: Sequence[Row], values: int | None, last: int) -> None:
+        """Of the rows that were begun last these were stored, and the stream stands so."""
         begun = self._open.pop(stream, None)
-        if begun is not None and len(begun.rows) != len(rows):
-            self._write(Entry(stream, rows=rows))
+        if rows and begun is None or begun is not None and len(begun.rows) != len(rows):
+            self._write(Entry(stream, values, last, rows, True))
         self._add(stream, rows)
 
     def forget(self, stream: str) -> None:
-        """A stream was dropped."""
+        """A stream was dropped, or has another name."""
         if stream in self._open or stream in self._values:
             self._drop(stream)
             self._write(Entry(stream))
 
     def _drop(self, stream: str) -> None:
         self._open.pop(stream, None)
+        self._stood.pop(stream, None)
         self._values.pop(stream, None)
 
     def value(self, stream: str, count: int) -> object | None:
