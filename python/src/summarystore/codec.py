@@ -3,12 +3,12 @@ plain form of it, which gives and takes whole numbers as they are."""
 
 from __future__ import annotations
 
-from collections.abc import Callable, Iterable, Sequence
+from collections.abc import Callable, Container, Iterable, Sequence
 from typing import NamedTuple, Protocol, cast
 
 from .decimals import Number
 from .description import Description
-from .errors import DescriptionError, SummaryStoreError
+from .errors import DescriptionError, NumberError, SummaryStoreError, UnknownStreamError
 from .interval import Interval
 from .records import Stream, Time
 from .wire import LAST_TIME, stream_of, whole
@@ -101,28 +101,38 @@ class PlainCodec:
 
     description: Description | None = None
 
-    def __init__(self, short: str) -> None:
+    def __init__(self, short: str, standing: Container[str] | None = None) -> None:
         self.short = short
+        self._standing = standing
+
+    def whole(self, given: object) -> int:
+        """A whole number. Where it is none, and no such stream stands, that is said instead."""
+        try:
+            return whole(given)
+        except NumberError:
+            if self._standing is not None and self.short not in self._standing:
+                raise UnknownStreamError("UNKNOWN", self.short) from None
+            raise
 
     def time(self, given: object) -> int:
         """A whole number."""
-        return whole(given)
+        return self.whole(given)
 
     def begin(self, given: object) -> int:
         """A whole number, or 0."""
-        return 0 if given is None else whole(given)
+        return 0 if given is None else self.whole(given)
 
     def end(self, given: object) -> int:
         """A whole number, or 2^62."""
-        return LAST_TIME if given is None else whole(given)
+        return LAST_TIME if given is None else self.whole(given)
 
     def step(self, given: object) -> int:
         """A whole number."""
-        return whole(given)
+        return self.whole(given)
 
     def value(self, given: object) -> int:
         """A whole number."""
-        return whole(given)
+        return self.whole(given)
 
     def rows(self, given: Sequence[tuple[object, object]]) -> Sequence[tuple[int, int]]:
         """As they are: whoever writes the lines sees whether they are whole numbers."""

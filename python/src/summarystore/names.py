@@ -156,7 +156,7 @@ class Names:
         if not isinstance(name, str) or not is_text(name):
             raise StreamNameError("NAME", repr(name), "a name is text")
         if name not in described:
-            return PlainCodec(name) if NAME.fullmatch(name) else None
+            return PlainCodec(name, self._standing) if NAME.fullmatch(name) else None
         short, description = described[name]
         return DescribedCodec(short, description, self._zone)
 
@@ -224,7 +224,7 @@ class Names:
             return known
         if description is None and NAME.fullmatch(name) and description_in(name) is None:
             described.pop(name, None)
-            return PlainCodec(name)
+            return PlainCodec(name, self._standing)
         wanted = description or Description()
         codec = DescribedCodec(self._free_short(name, wanted), wanted, self._zone)
         described[name] = codec.short, wanted

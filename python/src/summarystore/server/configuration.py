@@ -50,6 +50,7 @@ from dataclasses import dataclass, field, replace
 from decimal import Decimal, InvalidOperation
 
 from ..errors import SummaryStoreError
+from ..wire import NO_TARGET
 from .errors import ConfigurationError
 from .globs import Glob, GlobError
 from .settings import SOURCES, Description, Mapping, described
@@ -303,8 +304,7 @@ def mapping_of(table: Table) -> Mapping:
     if found.lateness > HOUR:
         raise table.wrong("lateness", "a reading waits an hour at most")
     if not TARGETS.fullmatch(found.target):
-        raise table.wrong("target", f"`exp B R S` or `power P Q R S` is to stand here, and not "
-                                    f"{found.target!r}")
+        raise table.wrong("target", f"{NO_TARGET}, and not {found.target!r}")
     return found
 
 

@@ -18,6 +18,8 @@ from .lineprotocol import PRECISIONS, Mistake
 from .meaning import seconds_of
 from .outcomes import TOO_FAR, Word
 
+READINGS = '{"stream": NAME, "time": TIME, "value": NUMBER}, or {"readings": [..]} with a list of these'
+LANDMARK = '{"stream": NAME, "action": "open" or "close"}, and "time" where it isn\'t now'
 SLICE = 500
 """After so many lines others have their turn."""
 SHOWN = 20
@@ -69,7 +71,7 @@ class HttpIn:
     async def append(self, request: web.Request) -> web.StreamResponse:
         """`POST /api/append`: one reading, or a list of them."""
         limits = self._service.configuration.limits
-        given = _object(await body_of(request, limits))
+        given = _object(await body_of(request, limits), READINGS)
         rows = given.get("readings", [given])
         if not isinstance(rows, list):
             raise asked.bad("`readings` is a list")
@@ -82,7 +84,7 @@ class HttpIn:
 
     async def landmark(self, request: web.Request) -> web.StreamResponse:
         """`POST /api/landmark`: opens one, or closes the one that is open."""
-        given = _object(await body_of(request, self._service.configuration.limits))
+        given = _object(await body_of(request, self._service.configuration.limits), LANDMARK)
         stream, action, time = given.get("stream"), given.get("action"), given.get("time")
         if not isinstance(stream, str) or not stream:
             raise asked.bad("`stream` is the name of a stream")
@@ -141,13 +143,13 @@ def _form(text: str) -> Sequence[tuple[str, str]]:
         raise asked.bad("the form has too many fields") from None
 
 
-def _object(data: bytes) -> Mapping[str, object]:
+def _object(data: bytes, form: str) -> Mapping[str, object]:
     try:
         given = exactjson.loads(data)
     except ValueError as error:
         raise asked.bad(str(error)) from None
     if not isinstance(given, dict):
-        raise asked.bad("an object is to stand in the body")
+        raise asked.bad(f"an object is to stand in the body: {form}")
     return given
 
 

@@ -83,7 +83,7 @@ class HttpOut:
         elif kind in KINDS:
             told.update(ends_of(await self._service.ask(lambda store: store.query(name, kind, first, last))))
         else:
-            raise asked.bad(f"`kind` is one of {', '.join(KINDS)} and has, and not {kind[:20]!r}")
+            raise asked.no_kind(kind, (*KINDS, "has"))
         return table_answer(request, told, [told])
 
     async def series(self, request: web.Request) -> web.StreamResponse:
@@ -91,7 +91,7 @@ class HttpOut:
         words = request.query
         name, kind = asked.one(words, "stream"), words.get("kind", "mean")
         if kind not in KINDS:
-            raise asked.bad(f"`kind` is one of {', '.join(KINDS)}, and not {kind[:20]!r}")
+            raise asked.no_kind(kind, KINDS)
         meaning = self._meaning(name)
         first, last = await self._span(name, meaning, *_range(words, meaning))
         told: dict[str, object] = {"stream": name, "kind": kind,
