@@ -48,10 +48,10 @@ def broker(folder: Path) -> Iterator[Server]:
 
 
 @asynccontextmanager
-async def calling(path: Path, port: int) -> AsyncIterator[tuple[Client, MqttListener]]:
+async def calling(path: Path, port: int, more: str = "") -> AsyncIterator[tuple[Client, MqttListener]]:
     """A service that calls a broker, and a client of it."""
     mqtt = f'[mqtt]\nbroker = "127.0.0.1:{port}"\ntopics = ["home/#"]\n'
-    async with over_http(f'[http]\nlisten = "127.0.0.1:0"\n{mqtt}{MAPPING}', path) as client:
+    async with over_http(f'[http]\nlisten = "127.0.0.1:0"\n{mqtt}{more}{MAPPING}', path) as client:
         listener = next(each for each in client.service.listeners if isinstance(each, MqttListener))
         await soon(lambda: listener.subscriber.connected)
         yield client, listener
@@ -161,4 +161,19 @@ def test_what_has_no_room_in_time_is_told(path: Path) -> None:
             assert told["stored"] + len(told["not_stored"]) == 3 and 2 in told["not_stored"]
             assert not told["refused"] and not told["unknown"] and client.headers["Retry-After"]
             assert json.dumps(told).count("clock") == 1
+    run(work())
+
+
+def test_what_waits_leaves_room_for_others(path: Path, broker: Server) -> None:
+    """A stream that is too coarse takes half of the queue, and what is refused then is told."""
+    async def work() -> None:
+        async with calling(path, broker.port, "[limits]\nqueue = 40\nlines = 20\n") as (client, listener):
+            await publish(broker, "home/yard/rain", *map(str, range(50)))
+            await soon(lambda: count_of(client, "refused") + client.service.intake.ahead[0] >= 48)
+            stored = count_of(client, "stored")
+            lost = (await client.get("/healthz"))["refused_and_acknowledged"]
+            assert set(lost["codes"]) == {"too_many"} and client.service.intake.ahead[0] <= 20
+            await publish(broker, "home/hall/power", "7")
+            await soon(lambda: count_of(client, "stored") == stored + 1)
+            assert listener.subscriber.unacknowledged >= 15
     run(work())

@@ -105,6 +105,7 @@ class Intake:
         self._tasks: set[asyncio.Task[None]] = set()
         self._released = asyncio.Event()
         self._closed = False
+        self._ours = 0
         self.queued = 0
         """How many readings are under way."""
 
@@ -153,6 +154,7 @@ class Intake:
                until: float | None) -> None:
         batch = Batch(len(readings), done)
         self.queued += len(readings)
+        self._ours += sum(reading.time is None for reading in readings)
         now, came = clock.time_ns(), clock.monotonic()
         for at, reading in enumerate(readings):
             time = now if reading.time is None else reading.time
@@ -210,7 +212,7 @@ class Intake:
             task.add_done_callback(self._tasks.discard)
         if pending.is_ours and lane.is_too_long(pending.until):
             self._settle([(pending, TOO_FAR)])
-        elif pending.is_ours and lane.ahead >= self._most // 4:
+        elif pending.is_ours and lane.ahead and self._ours > self._most // 2:
             self._settle([(pending, TOO_MANY)])
         else:
             lane.put(pending)
@@ -270,9 +272,12 @@ class Intake:
         """Tells those that have their fate, and puts the others back."""
         settled: list[tuple[Pending, Outcome]] = []
         again: list[Pending] = []
+        room = max(1, self._most // 2 - self._ours + len(taken))
         for pending, outcome in zip(taken, found):
             if outcome is STORED or self._closed or not self._is_tried_again(lane, pending, outcome):
                 settled.append((pending, outcome))
+            elif outcome is TOO_FAR and len(again) >= room:
+                settled.append((pending, TOO_MANY))
             else:
                 again.append(pending)
         lane.put_back(again)
@@ -350,6 +355,7 @@ class Intake:
         """Readings have their fate: those who wait for it are told, and for room."""
         counted: Counter[tuple[str, str, str]] = Counter()
         for pending, outcome in settled:
+            self._ours -= pending.is_ours
             pending.batch.settle(pending.at, outcome)
             counted[pending.reading.source, outcome.result.value, outcome.code] += 1
         for (source, result, code), count in counted.items():
