@@ -4,14 +4,17 @@ from __future__ import annotations
 
 import asyncio
 import json
+import os
+import signal
 from collections.abc import AsyncIterator, Iterator
-from contextlib import asynccontextmanager
+from contextlib import asynccontextmanager, suppress
 from pathlib import Path
 
 import pytest
 
 pytest.importorskip("paho.mqtt.client", reason="MQTT: python3-paho-mqtt is missing")
 
+from summarystore.server.intake import Incoming  # noqa: E402
 from summarystore.server.mqtt import MqttListener  # noqa: E402
 
 from ..waiting import run, soon  # noqa: E402
@@ -161,6 +164,33 @@ def test_what_has_no_room_in_time_is_told(path: Path) -> None:
             assert told["stored"] + len(told["not_stored"]) == 3 and 2 in told["not_stored"]
             assert not told["refused"] and not told["unknown"] and client.headers["Retry-After"]
             assert json.dumps(told).count("clock") == 1
+    run(work())
+
+
+def test_each_is_stored_once_whatever_ends_the_program(path: Path) -> None:
+    """Where it isn't known whether one is stored it is tried again at the time that it had."""
+    async def work() -> None:
+        async with over_http(MAPPING, path) as client:
+            supervisor, killed, sent = client.service.supervisor, set[int](), 0
+            room = "home/hall/door"
+
+            async def send() -> None:
+                nonlocal sent
+                while len(killed) < 5:
+                    readings = [Incoming(room, "ON", source="mqtt") for _ in range(40)]
+                    found = await client.service.intake.append_many(readings, wait=True)
+                    assert all(outcome.good for outcome in found)
+                    sent += len(found)
+            sending = [asyncio.create_task(send()) for _ in range(3)]
+            while not all(task.done() for task in sending):
+                await asyncio.sleep(0.3)
+                pid = supervisor.pid
+                if pid is not None and pid not in killed:
+                    with suppress(ProcessLookupError):
+                        os.kill(pid, signal.SIGKILL)
+                    killed.add(pid)
+            await asyncio.gather(*sending)
+            assert await client.service.ask(lambda store: store.query(room, "count")) == sent
     run(work())
 
 

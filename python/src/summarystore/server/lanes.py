@@ -20,6 +20,8 @@ from .mapping import Route
 from .outcomes import STORED, Outcome
 
 SECOND = 10**9
+GATHERS = 0.02
+"""Where readings wait for earlier ones, those of so many seconds are looked at together."""
 
 
 @dataclass(frozen=True, slots=True)
@@ -168,6 +170,8 @@ class Lane:
         self._arrived.clear()
         with suppress(asyncio.TimeoutError):
             await asyncio.wait_for(self._arrived.wait(), max(0.001, self._paused - now, min(moments) - now))
+        if self._lateness:
+            await asyncio.sleep(GATHERS)
 
     def wake(self) -> None:
         """All that waits is due, since the service stops."""
