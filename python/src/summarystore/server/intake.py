@@ -169,9 +169,13 @@ class Intake:
         while self._tasks:
             await asyncio.wait(self._tasks)
 
-    def forget(self, name: str) -> None:
-        """A stream was dropped, or has another name."""
-        self._recent.forget(name)
+    def moved(self, name: str) -> None:
+        """A stream was dropped, has another name, or another takes its readings: what waits goes anew."""
+        if not self.streams.stands(name):
+            self._recent.forget(name)
+        lane = self._lanes.get(name)
+        for pending in () if lane is None else lane.take_all():
+            self._take(pending, clock.time_ns())
 
     def remap(self, mappings: Mappings) -> None:
         """The mapping was read anew. What is under way goes by the old one."""
@@ -280,7 +284,11 @@ class Intake:
                 settled.append((pending, TOO_MANY))
             else:
                 again.append(pending)
-        lane.put_back(again)
+        if again and self._current(lane.route) is not lane.route:
+            for pending in again:       # another stream takes the readings since they were taken out
+                self._take(pending, clock.time_ns())
+        else:
+            lane.put_back(again)
         if again and not all(outcome.final or outcome is TOO_FAR for outcome in found):
             lane.failed(*AGAIN_AFTER)
         self._settle(settled)
@@ -336,10 +344,9 @@ class Intake:
 
     def _wait_for_the_clock(self, lane: Lane, nanoseconds: int) -> None:
         """The stream lies ahead of the clock: what has no time of its own waits."""
-        if not lane.ahead:
-            log.warning("stream ahead of the clock: stream=%r: what has no time of its own waits; with a "
-                        "finer `time` it needn't", lane.route.stream)
-        lane.lies_ahead(nanoseconds / SECOND)
+        if lane.lies_ahead(nanoseconds / SECOND):
+            log.warning("stream ahead of the clock: stream=%r seconds=%d: what has no time of its own waits; "
+                        "a finer `time` or a restart mends it", lane.route.stream, nanoseconds // SECOND)
 
     def _tell(self, stream: str, meaning: Meaning, rows: Sequence[Row], found: Sequence[Outcome]
               ) -> None:

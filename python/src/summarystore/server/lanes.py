@@ -134,9 +134,20 @@ class Lane:
         """The store has answered."""
         self._pause = 0.0
 
-    def lies_ahead(self, seconds: float) -> None:
-        """The next free step comes near enough to the clock in so many seconds."""
+    def lies_ahead(self, seconds: float) -> bool:
+        """The next free step comes near enough to the clock in so many seconds. Whether that is new."""
+        first = not self._ours_from
         self._ours_from = clock.monotonic() + seconds
+        return first
+
+    def take_all(self) -> list[Pending]:
+        """All that waits, for which the stream may be another one now."""
+        taken = [*self._given, *self._ours]
+        self._given.clear()
+        self._ours.clear()
+        self._ours_from = 0.0
+        self._arrived.set()
+        return taken
 
     def due(self, most: int, at_once: bool) -> list[Pending]:
         """Those that go to the store now, so many at most."""
