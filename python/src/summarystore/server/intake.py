@@ -58,6 +58,8 @@ ANSWERS = 30.0
 """So many seconds a reading may wait whose sender waits for the answer, unless that says otherwise."""
 AGAIN_AFTER = (0.1, 1.0)
 """Seconds until readings whose fate isn't known are tried again, first and at most."""
+TOLD_AGAIN = 3600.0
+"""After so many seconds it is told again that a stream lies ahead of the clock."""
 UNPRINTED = ("Cc", "Cs", "Zl", "Zp")
 """The kinds of characters that no name has: those that end a line, and halves of surrogates."""
 
@@ -106,6 +108,7 @@ class Intake:
         self._released = asyncio.Event()
         self._closed = False
         self._ours = 0
+        self._told: dict[str, float] = {}
         self.queued = 0
         """How many readings are under way."""
 
@@ -344,9 +347,12 @@ class Intake:
 
     def _wait_for_the_clock(self, lane: Lane, nanoseconds: int) -> None:
         """The stream lies ahead of the clock: what has no time of its own waits."""
-        if lane.lies_ahead(nanoseconds / SECOND):
+        lane.lies_ahead(nanoseconds / SECOND)
+        now, stream = clock.monotonic(), lane.route.stream
+        if now >= self._told.get(stream, now):
+            self._told[stream] = now + TOLD_AGAIN
             log.warning("stream ahead of the clock: stream=%r seconds=%d: what has no time of its own waits; "
-                        "a finer `time` or a restart mends it", lane.route.stream, nanoseconds // SECOND)
+                        "a finer `time` or a restart mends it", stream, nanoseconds // SECOND)
 
     def _tell(self, stream: str, meaning: Meaning, rows: Sequence[Row], found: Sequence[Outcome]
               ) -> None:

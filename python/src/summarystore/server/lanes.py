@@ -134,11 +134,9 @@ class Lane:
         """The store has answered."""
         self._pause = 0.0
 
-    def lies_ahead(self, seconds: float) -> bool:
-        """The next free step comes near enough to the clock in so many seconds. Whether that is new."""
-        first = not self._ours_from
+    def lies_ahead(self, seconds: float) -> None:
+        """The next free step comes near enough to the clock in so many seconds."""
         self._ours_from = clock.monotonic() + seconds
-        return first
 
     def take_all(self) -> list[Pending]:
         """All that waits, for which the stream may be another one now."""
