@@ -53,7 +53,7 @@ from ..errors import SummaryStoreError
 from ..wire import NO_TARGET
 from .errors import ConfigurationError
 from .globs import Glob, GlobError
-from .settings import SOURCES, Description, Mapping, described
+from .settings import IGNORE, SOURCES, Description, Mapping, described
 from .tables import Address, Table, rows_of
 
 LOOPBACK = "127.0.0.1"
@@ -355,7 +355,7 @@ def _words(table: Table) -> Words[str, str]:
         raise table.wrong("words", "a table is to stand here, such as { ON = 1, OFF = 0 }")
     found = {}
     for word, number in given.items():
-        if isinstance(number, bool) or not isinstance(number, (int, Decimal)):
-            raise table.wrong("words", f"a number is to stand at {word!r}")
+        if number != IGNORE and (isinstance(number, bool) or not isinstance(number, (int, Decimal))):
+            raise table.wrong("words", f"a number, or {IGNORE!r}, is to stand at {word!r}")
         found[word] = str(number)
     return found

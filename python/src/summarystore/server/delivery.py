@@ -18,8 +18,9 @@ from .. import aio
 from ..errors import LateError, ProcessEndedError, SummaryStoreError, UnknownStreamError
 from ..interval import Presence
 from .meaning import Meaning
-from .outcomes import AGAIN, STORED, THERE, TOO_FAR, Outcome, Result, refused
+from .outcomes import AGAIN, IGNORED, STORED, THERE, TOO_FAR, Outcome, Result, refused
 from .recent import Recent
+from .settings import IGNORE
 
 Row = tuple[int, object]
 AHEAD = 60 * 10**9
@@ -37,7 +38,7 @@ class Given(NamedTuple):
 
 
 class Delivery:
-    """Readings of one stream, in the order in which they go. `words` are numbers for words.
+    """Readings of one stream, in the order in which they go. `words` are numbers for words, or `IGNORE`.
 
     `newest` is the last time of the stream before, as a count, and later the one after. `values` says how
     many values it has had before, and later after, where that is known. `now` is in nanoseconds.
@@ -67,8 +68,11 @@ class Delivery:
     def _row(self, at: int, given: Given) -> Row:
         """The row of a reading, which is refused here where it is none of the stream."""
         value = given.value
-        if isinstance(value, str):
-            value = self._words.get(value, value)
+        if isinstance(value, str) and value in self._words:
+            value = self._words[value]
+            if value == IGNORE:
+                self._found[at] = IGNORED
+                return 0, value
         row = (0, value)
         try:
             value = self._meaning.value(value)

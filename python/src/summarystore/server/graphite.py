@@ -14,6 +14,7 @@ import asyncio
 import logging
 import socket
 from collections.abc import Iterator, Mapping, Sequence
+from contextlib import suppress
 from decimal import Decimal
 from functools import partial
 
@@ -212,7 +213,8 @@ class GraphiteListener:
                 await self._store(found[at:at + self._most], under_way)
         if lines.rest:
             self._refuse("unterminated", f"a line without its end: {_shown(lines.rest)}")
-        await under_way.at_most(0)
+        with suppress(asyncio.TimeoutError):
+            await asyncio.wait_for(under_way.at_most(0), self._limits.idle_seconds)
 
     async def _store(self, lines: Sequence[bytes], under_way: UnderWay) -> None:
         """Hands the lines over, when not too many of this client are under way."""

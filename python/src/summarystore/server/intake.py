@@ -59,6 +59,8 @@ ANSWERS = 30.0
 """So many seconds a reading may wait whose sender waits for the answer, unless that says otherwise."""
 AGAIN_AFTER = (0.1, 1.0)
 """Seconds until readings whose fate isn't known are tried again, first and at most."""
+TOLD_AGAIN = 3600.0
+"""After so many seconds it is told again that a stream lies ahead of the clock."""
 UNPRINTED = re.compile("[\\x00-\\x1f\\x7f-\\x9f\\u2028\\u2029"
                        "\\u061c\\u200e\\u200f\\u202a-\\u202e\\u2066-\\u2069\\ud800-\\udfff]")
 """What no name has: characters that end a line or control it, those that turn the direction of a text, and
@@ -108,6 +110,8 @@ class Intake:
         self._tasks: set[asyncio.Task[None]] = set()
         self._released = asyncio.Event()
         self._closed = False
+        self._ours = 0
+        self._told: dict[str, float] = {}
         self.queued = 0
         """How many readings are under way."""
 
@@ -156,6 +160,7 @@ class Intake:
                until: float | None) -> None:
         batch = Batch(len(readings), done)
         self.queued += len(readings)
+        self._ours += sum(reading.time is None for reading in readings)
         now, came = clock.time_ns(), clock.monotonic()
         for at, reading in enumerate(readings):
             time = now if reading.time is None else reading.time
@@ -171,9 +176,13 @@ class Intake:
             await asyncio.wait(self._tasks)
         self._recent.close()
 
-    def forget(self, name: str) -> None:
-        """A stream was dropped, or has another name."""
-        self._recent.forget(name)
+    def moved(self, name: str) -> None:
+        """A stream was dropped, has another name, or another takes its readings: what waits goes anew."""
+        if not self.streams.stands(name):
+            self._recent.forget(name)
+        lane = self._lanes.get(name)
+        for pending in () if lane is None else lane.take_all():
+            self._take(pending, clock.time_ns())
 
     def remap(self, mappings: Mappings) -> None:
         """The mapping was read anew. What is under way goes by the old one."""
@@ -217,7 +226,7 @@ class Intake:
             task.add_done_callback(self._tasks.discard)
         if pending.is_ours and lane.is_too_long(pending.until):
             self._settle([(pending, TOO_FAR)])
-        elif pending.is_ours and lane.ahead >= self._most // 4:
+        elif pending.is_ours and lane.ahead and self._ours > self._most // 2:
             self._settle([(pending, TOO_MANY)])
         else:
             lane.put(pending)
@@ -277,12 +286,19 @@ class Intake:
         """Tells those that have their fate, and puts the others back."""
         settled: list[tuple[Pending, Outcome]] = []
         again: list[Pending] = []
+        room = max(1, self._most // 2 - self._ours + len(taken))
         for pending, outcome in zip(taken, found):
             if outcome is STORED or self._closed or not self._is_tried_again(lane, pending, outcome):
                 settled.append((pending, outcome))
+            elif outcome is TOO_FAR and len(again) >= room:
+                settled.append((pending, TOO_MANY))
             else:
                 again.append(pending)
-        lane.put_back(again)
+        if again and self._current(lane.route) is not lane.route:
+            for pending in again:       # another stream takes the readings since they were taken out
+                self._take(pending, clock.time_ns())
+        else:
+            lane.put_back(again)
         if again and not all(outcome.final or outcome is TOO_FAR for outcome in found):
             lane.failed(*AGAIN_AFTER)
         self._settle(settled)
@@ -341,10 +357,12 @@ class Intake:
 
     def _wait_for_the_clock(self, lane: Lane, nanoseconds: int) -> None:
         """The stream lies ahead of the clock: what has no time of its own waits."""
-        if not lane.ahead:
-            log.warning("stream ahead of the clock: stream=%r: what has no time of its own waits; with a "
-                        "finer `time` it needn't", lane.route.stream)
         lane.lies_ahead(nanoseconds / SECOND)
+        now, stream = clock.monotonic(), lane.route.stream
+        if now >= self._told.get(stream, now):
+            self._told[stream] = now + TOLD_AGAIN
+            log.warning("stream ahead of the clock: stream=%r seconds=%d: what has no time of its own waits; "
+                        "a finer `time` or a restart mends it", stream, nanoseconds // SECOND)
 
     def _tell(self, stream: str, meaning: Meaning, rows: Sequence[Row], found: Sequence[Outcome]
               ) -> None:
@@ -360,6 +378,7 @@ class Intake:
         """Readings have their fate: those who wait for it are told, and for room."""
         counted: Counter[tuple[str, str, str]] = Counter()
         for pending, outcome in settled:
+            self._ours -= pending.is_ours
             pending.batch.settle(pending.at, outcome)
             counted[pending.reading.source, outcome.result.value, outcome.code] += 1
         for (source, result, code), count in counted.items():
