@@ -30,7 +30,7 @@ from .keeping import Keeping
 from .names import Names
 from .pipeline import Commands, Request
 from .program import StorePath
-from .records import Estimate, EstimateRow, Last, Reading, Soundness, Stored, Stream, Window
+from .records import Estimate, EstimateRow, Last, Reading, Soundness, Stored, Stream, Time, Window
 from .sending import OnRefused, Sending
 from .series import Series
 from .wire import MOST_ROWS, NOTHING
@@ -379,6 +379,15 @@ class Store(Base):
                 more = len(rows) == MOST_ROWS
                 for window in rows:
                     yield window
+        finally:
+            await self._give_cursor(session, connection)
+
+    async def first(self, name: str) -> Time | None:
+        """When the oldest window begins. None where none stands."""
+        codec = self._translator.codec(name)
+        session, connection = await self._take_cursor()
+        try:
+            return await self._do(calls.cursor_first(codec), session, connection)
         finally:
             await self._give_cursor(session, connection)
 

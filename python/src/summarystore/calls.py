@@ -12,7 +12,7 @@ from .codec import Codec, Translator, streams_of
 from .combining import KINDS, Part
 from .errors import CertificateError, refusal_of
 from .interval import Interval, Presence, mean_of
-from .records import Estimate, EstimateRow, Last, Reading, Row, Stored, Stream, Window
+from .records import Estimate, EstimateRow, Last, Reading, Row, Stored, Stream, Time, Window
 from .series import Series
 from .wire import Reply
 
@@ -230,6 +230,14 @@ def cursor_next(codec: Codec, count: int) -> Call[Sequence[Window]]:
 def _window(codec: Codec, row: Sequence[int]) -> Window:
     return Window(row[0], row[1], row[2], codec.value_back(row[3]), codec.value_back(row[4]),
                   codec.value_back(row[5]), codec.time_back(row[6]), codec.time_back(row[7]))
+
+
+def cursor_first(codec: Codec) -> Call[Time | None]:
+    """The time at which the oldest window begins, by lines that go together."""
+    def result(replies: Sequence[Reply]) -> Time | None:
+        rows = wire.rows_of(replies[1], "rows")
+        return _window(codec, wire.numbers(rows[0], 8)).start if rows else None
+    return Call([wire.cursor_open(codec.short), wire.cursor_next(1), wire.CURSOR_CLOSE], result)
 
 
 def cursor_close() -> Call[None]:

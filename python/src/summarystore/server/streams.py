@@ -35,6 +35,7 @@ class Streams:
         self._newest: dict[str, int] = {}
         self._restarts: dict[str, str] | None = None
         self._values: dict[str, int | None] = {}
+        self._first: dict[str, int] = {}
         self._locks: WeakValueDictionary[str, asyncio.Lock] = WeakValueDictionary()
 
     def alone(self, name: str) -> asyncio.Lock:
@@ -51,6 +52,19 @@ class Streams:
             last = await store.last(name)
             found = -1 if last is None else self.meaning(store, name).count_of(last.time)
             self._newest[name] = found
+        return found
+
+    async def first(self, store: aio.Store, name: str) -> int | None:
+        """The first time of a stream as a count, which stays while it stands. None where it has no value."""
+        found = self._first.get(name)
+        if found is None:
+            oldest = await store.first(name)
+            kept = [] if oldest is not None else await store.values(name)
+            if oldest is None and not kept:
+                return None
+            found = self.meaning(store, name).count_of(kept[0].time if oldest is None else oldest)
+            if oldest is not None:
+                self._first[name] = found
         return found
 
     def values(self, name: str) -> int | None:
@@ -71,6 +85,7 @@ class Streams:
         self._meanings.clear()
         self._failed.clear()
         self._newest.clear()
+        self._first.clear()
         self._values = {stream.name: stream.values + stream.landmark_values for stream in streams}
         self._standing = set(self._values)
         self._restarts = None
@@ -108,6 +123,7 @@ class Streams:
         """A stream was dropped, or its description changed."""
         self._meanings.pop(name, None)
         self._newest.pop(name, None)
+        self._first.pop(name, None)
         self._values.pop(name, None)
         self._standing.discard(name)
         self._restarts = None
