@@ -54,3 +54,17 @@ def test_a_zone_by_the_word_that_a_command_has(path: Path, folder: Path) -> None
                           text=True, check=False,
                           env={**os.environ, "PYTHONPATH": str(HOME / "src")})
     assert done.returncode != 0 and "--zone" in done.stderr and "zone=" not in done.stderr, done
+
+
+def test_a_damaged_store_names_its_file_and_the_next_step(path: Path) -> None:
+    with summarystore.open(path) as store:
+        store.create("a", "exp 2 100 1")
+        store.append_many("a", [(at, at) for at in range(300)])
+    summarystore.open(path).close()     # all is in its place by then
+    with open(path, "r+b") as file:
+        file.seek(36864 + 128 * 5 + 20)
+        file.write(b"\xff")
+    for look in (summarystore.open, summarystore.check):
+        with pytest.raises(errors.DamagedStoreError, match="damaged slot 5") as error:
+            look(path)
+        assert str(path) in str(error.value) and f"tools/scrub {path}" in str(error.value)
