@@ -96,7 +96,7 @@ def test_health_shows_nothing_of_this_machine(folder: Path, program: str) -> Non
 def test_names_that_look_like_others(path: Path, character: str) -> None:
     async def work() -> None:
         async with over_http(ANY, path) as client:
-            told = await client.post("/api/append", {"stream": f"home/a{character}b", "value": 1}, 422)
+            told = await client.post("/api/append", {"stream": f"home/a{character}b", "value": 1}, 400)
             assert told["refused"][0]["code"] == "name"
             await client.post("/api/append", {"stream": "home/👩\u200d🔧/Größe שלום", "value": 1})
     run(work())
