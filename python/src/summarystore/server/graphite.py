@@ -35,6 +35,8 @@ NOW = ("-1", "-1.0")
 CHUNK = 1 << 16
 MOST = 4000
 """So many lines go to the store together, at most."""
+ENDS = 300.0
+"""A connection that the client has ended is closed when all is stored, or after so many seconds."""
 KEEPALIVE = ((socket.TCP_KEEPIDLE, 60), (socket.TCP_KEEPINTVL, 15), (socket.TCP_KEEPCNT, 4))
 
 log = logging.getLogger("summarystored")
@@ -214,7 +216,7 @@ class GraphiteListener:
         if lines.rest:
             self._refuse("unterminated", f"a line without its end: {_shown(lines.rest)}")
         with suppress(asyncio.TimeoutError):
-            await asyncio.wait_for(under_way.at_most(0), self._limits.idle_seconds)
+            await asyncio.wait_for(under_way.at_most(0), ENDS)
 
     async def _store(self, lines: Sequence[bytes], under_way: UnderWay) -> None:
         """Hands the lines over, when not too many of this client are under way."""
