@@ -13,31 +13,31 @@ import warnings
 from collections.abc import AsyncIterator, Mapping, Sequence
 from contextlib import asynccontextmanager
 from types import TracebackType
-from typing import Self, TypeVar
+from typing import Self, TypeVar, cast
 
 from . import calls
+from .aio_questions import Questions
 from .base import Base
 from .calls import Call
-from .certificate import Certificate
 from .codec import Codec, Translator
-from .combining import Part
 from .connection import RENEW_AT, Connection
-from .description import Description, changed, description_of
+from .description import Description, brought_to, changed, description_of
 from .errors import (CursorBusyError, LateError, RefusedError, ReopenedWarning, StoreClosedError,
-                     SummaryStoreError, tell)
-from .interval import Interval, Presence
+                     StreamExistsError, SummaryStoreError, tell)
+from .aio_handle import Handle
+from .frames import columns_of, frame_of, names_left, rows_of
 from .names import Names
 from .pipeline import Commands, Request
 from .program import StorePath
-from .records import Estimate, EstimateRow, Last, Reading, Soundness, Stored, Stream, Window
+from .present import UNSAID, next_free, reading_of
+from .records import Soundness, Stored, Window
 from .sending import OnRefused, Sending
-from .series import Series
 from .wire import MOST_ROWS, NOTHING
 
 T = TypeVar("T")
 
 
-class Store(Base):
+class Store(Base, Questions):
     """A store for one event loop. `aio.open` makes it."""
 
     def __init__(self, path: StorePath, *, program: str | os.PathLike[str] | None = None,
@@ -185,12 +185,22 @@ class Store(Base):
                         trace: TracebackType | None) -> None:
         await self.close()
 
+    def __getitem__(self, name: str) -> Handle:
+        """One stream. Whether it stands is seen at the first call."""
+        return Handle(self, name)
+
+    async def __aiter__(self) -> AsyncIterator[str]:
+        """The names of the streams, in the order in which they were made."""
+        for stream in await self.list():
+            yield stream.name
+
     # ---- events -------------------------------------------------------------------------
 
     async def create(self, name: str, target: str | Sequence[object], within: int | None = None, *,
                      scale: object | None = None, time: str | None = None,
                      since: datetime.date | str | None = None, unit: str | None = None,
-                     labels: Mapping[str, str] | None = None, rounding: str | None = None) -> Stored:
+                     labels: Mapping[str, str] | None = None, rounding: str | None = None,
+                     exist_ok: bool = False) -> Stored:
         """Makes a stream, as `Store.create` does."""
         description = description_of(scale=scale, time=time, since=since, unit=unit, labels=labels,
                                      rounding=rounding)
@@ -198,9 +208,15 @@ class Store(Base):
         codec = self._translator.declare(name, description)
         try:
             made = await self._do(calls.create(codec, target, within))
-        except (RefusedError, TypeError, ValueError):
+        except (RefusedError, TypeError, ValueError) as error:
             self._translator.unmade(name, codec)
-            raise
+            if not exist_ok or not isinstance(error, StreamExistsError):
+                raise
+            changes = brought_to(self.description(name), description, name)
+            stands = await self._do(calls.standing(self._translator, name, target, within))
+            if changes is not None:
+                self._translator.describe(name, changes)
+            return stands
         self._translator.made(name, codec)
         return made
 
@@ -218,9 +234,26 @@ class Store(Base):
             raise StoreClosedError(f"{self.path} is closed, or its program has ended")
         self._translator.rename(name, new)
 
-    async def append(self, name: str, time: object, value: object) -> Stored:
-        """Takes a value at a time later than all before. It is on the disk when this returns."""
+    async def append(self, name: str, time: object = UNSAID, value: object = UNSAID) -> Stored:
+        """Takes a value at a time later than all before, or without a time now. It is on the disk when
+        this returns.
+
+        Where a reading stands at the present step, one without a time goes to the next free step, at most
+        a second ahead of the clock. Raises LateError, with the newest time, where the time isn't later.
+        """
+        time, value = reading_of(time, value)
         codec = self._translator.codec(name)
+        if time is not UNSAID:
+            return await self._append(codec, time, value)
+        count = codec.now()
+        while True:
+            try:
+                return await self._append(codec, count, value)
+            except LateError as error:      # a reading stands there, or another one came first
+                count, wait = next_free(codec, error)
+            await asyncio.sleep(wait)
+
+    async def _append(self, codec: Codec, time: object, value: object) -> Stored:
         try:
             return await self._do(calls.append(codec, time, value))
         except LateError as error:
@@ -236,10 +269,26 @@ class Store(Base):
             for error in late:
                 error.newest = codec.time_back(found[0]) if found else None
 
-    async def append_many(self, name: str, rows: object, *, refused: OnRefused | None = None,
+    async def append_many(self, name: object, rows: object = None, *, refused: OnRefused | None = None,
                           lateness: object | None = None) -> int:
         """Takes rows of a time and a value, as `Store.append_many` does."""
-        codec = self._translator.codec(name)
+        frame = frame_of(name)
+        if frame is None:
+            codec = self._translator.codec(cast(str, name))
+            return await self.append_rows(codec, rows_of(rows), refused, lateness)
+        stored, columns = 0, columns_of(frame)
+        codecs = [self._translator.codec(column) for column, _ in columns]
+        for at, (codec, (_, readings)) in enumerate(zip(codecs, columns)):
+            try:
+                stored += await self.append_rows(codec, readings, refused, lateness)
+            except BaseException as error:
+                names_left(error, [column for column, _ in columns], at)
+                raise
+        return stored
+
+    async def append_rows(self, codec: Codec, rows: object, refused: OnRefused | None = None,
+                          lateness: object | None = None) -> int:
+        """`append_many` for whoever has made the codec of the stream."""
         sending = Sending(codec, rows, refused, lateness)
         try:
             await self._send_all(sending)
@@ -297,60 +346,7 @@ class Store(Base):
         await self._do(calls.drop(self._translator.codec(name)))
         self._translator.removed(name)
 
-    # ---- questions ----------------------------------------------------------------------
-
-    async def query(self, name: str, kind: str, t1: object | None = None, t2: object | None = None
-                    ) -> Interval:
-        """`count`, `sum`, `min`, `max` or `mean` of the values from t1 to t2, both included."""
-        return await self._do(calls.query(self._translator.codec(name), kind, t1, t2))
-
-    async def mean(self, name: str, t1: object | None = None, t2: object | None = None) -> Interval:
-        """The mean of the values from t1 to t2."""
-        return await self._do(calls.mean(self._translator.codec(name), t1, t2))
-
-    async def has(self, name: str, value: object, t1: object | None = None, t2: object | None = None
-                  ) -> Presence:
-        """Whether one of the values from t1 to t2 is this one."""
-        return await self._do(calls.has(self._translator.codec(name), value, t1, t2))
-
-    async def series(self, name: str, kind: str, t1: object | None, t2: object | None, step: object
-                     ) -> Series:
-        """The answers to `query` for each step from t1 to t2: at most 100,000 rows."""
-        return await self._do(calls.series(name, self._translator.codec(name), kind, t1, t2, step))
-
-    async def estimate(self, name: str, kind: str, t1: object | None = None, t2: object | None = None
-                       ) -> Estimate:
-        """`count` or `sum` of the values from t1 to t2, and the likeliest number in its interval."""
-        return await self._do(calls.estimate(self._translator.codec(name), kind, t1, t2))
-
-    async def estimates(self, name: str, kind: str, t1: object | None, t2: object | None, step: object
-                        ) -> Sequence[EstimateRow]:
-        """The answers to `estimate` for each step from t1 to t2: at most 100,000 rows."""
-        return await self._do(calls.estimates(self._translator.codec(name), kind, t1, t2, step))
-
-    async def figures(self, name: str, kinds: Sequence[str], t1: object | None = None,
-                      t2: object | None = None, step: object | None = None) -> Sequence[Part]:
-        """The answers to `query` of several kinds, all of one moment; with a step, one for each row."""
-        return await self._do(calls.figures(self._translator.codec(name), kinds, t1, t2, step))
-
-    async def last(self, name: str) -> Last | None:
-        """The last time and the newest value. None where the stream took nothing yet."""
-        return await self._do(calls.last(self._translator.codec(name)))
-
-    async def values(self, name: str, t1: object | None = None, t2: object | None = None
-                     ) -> Sequence[Reading]:
-        """The values of landmarks from t1 to t2, which are kept one by one."""
-        return await self._do(calls.values(self._translator.codec(name), t1, t2))
-
-    async def certify(self, name: str, kind: str, end: str, t1: object | None = None,
-                      t2: object | None = None,
-                      landmarks: Sequence[tuple[object, object]] = ()) -> Certificate:
-        """Why the end `lo` or `hi` of a count or a sum can't be narrower, as `Store.certify`."""
-        return await self._do(calls.certify(self._translator.codec(name), kind, end, t1, t2, landmarks))
-
-    async def list(self) -> Sequence[Stream]:
-        """All streams, in the order in which they were made."""
-        return await self._do(calls.listed(self._translator))
+    # ---- what it keeps --------------------------------------------------------------------
 
     async def windows(self, name: str) -> AsyncIterator[Window]:
         """The windows of a stream as they are at the first of them, the oldest first, in pieces.

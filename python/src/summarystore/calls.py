@@ -12,6 +12,7 @@ from .codec import Codec, Translator, streams_of
 from .combining import KINDS, Part
 from .errors import CertificateError, refusal_of
 from .interval import Interval, Presence, mean_of
+from .kinds import ENDS, ESTIMATED, KINDS as ASKED, one_of
 from .records import Estimate, EstimateRow, Last, Reading, Row, Stored, Stream, Window
 from .series import Series
 from .wire import Reply
@@ -46,6 +47,22 @@ def create(codec: Codec, target: str | Sequence[object], within: int | None) -> 
 def append(codec: Codec, time: object, value: object) -> Call[Stored]:
     """Takes a value."""
     return Call([wire.append(codec.short, codec.time(time), codec.value(value))], _stored)
+
+
+def standing(translator: Translator, name: str, target: str | Sequence[object], within: int | None
+             ) -> Call[Stored]:
+    """What stands in a stream that stands already. Raises where it isn't kept as is asked for."""
+    words = target.split() if isinstance(target, str) else [str(word) for word in target]
+    wanted = " ".join(words if within is None else [*words, f"within {within}"])
+
+    def result(replies: Sequence[Reply]) -> Stored:
+        rows = streams_of(wire.rows_of(replies[0], "list"))
+        row = next(row for row in rows if translator.name_of(row.short_name) == name)
+        kept = row.target if row.within is None else f"{row.target} within {row.within}"
+        if kept != wanted:
+            raise refusal_of("EXISTS", f"create {name} {wanted}; it has the target {kept}")
+        return Stored(row.values, row.windows)
+    return Call([wire.LIST], result)
 
 
 def landmark_span(codec: Codec, start: object | None, end: object | None) -> tuple[int, int | None]:
@@ -100,9 +117,9 @@ def last(codec: Codec) -> Call[Last | None]:
 
 def query(codec: Codec, kind: str, first: object, last_time: object) -> Call[Interval]:
     """The interval of one kind, or of the mean."""
-    if kind == "mean":
+    if one_of(kind, ASKED) == "mean":
         return mean(codec, first, last_time)
-    line = wire.query(codec.short, wire.name_word(kind), codec.begin(first), codec.end(last_time))
+    line = wire.query(codec.short, kind, codec.begin(first), codec.end(last_time))
     return Call([line], lambda replies: _interval(codec, kind, replies[0]))
 
 
@@ -151,7 +168,7 @@ def has(codec: Codec, value: object, first: object, last_time: object) -> Call[P
 def series(name: str, codec: Codec, kind: str, first: object, last_time: object, step: object
            ) -> Call[Series]:
     """The rows of one kind, or of the mean."""
-    kinds = KINDS if kind == "mean" else (wire.name_word(kind),)
+    kinds = KINDS if one_of(kind, ASKED) == "mean" else (kind,)
     here = codec.begin(first), codec.end(last_time), codec.step(step)
     lines = [wire.series(codec.short, each, *here) for each in kinds]
 
@@ -176,7 +193,7 @@ def _row(codec: Codec, kind: str, row: str) -> tuple[int, Interval]:
 
 def estimate(codec: Codec, kind: str, first: object, last_time: object) -> Call[Estimate]:
     """The interval of a count or a sum, and the likeliest number in it."""
-    line = wire.estimate(codec.short, wire.name_word(kind), codec.begin(first), codec.end(last_time))
+    line = wire.estimate(codec.short, one_of(kind, ESTIMATED), codec.begin(first), codec.end(last_time))
     return Call([line], lambda replies: _estimate(codec, kind, wire.after(replies[0].head, "estimate")))
 
 
@@ -194,7 +211,7 @@ def estimates(codec: Codec, kind: str, first: object, last_time: object, step: o
         rows = [row.partition(" ") for row in wire.rows_of(replies[0], "estimates")]
         return [EstimateRow(codec.time_back(wire.numbers(start, 1)[0]), *_estimate(codec, kind, text))
                 for start, _, text in rows]
-    return Call([wire.estimates(codec.short, wire.name_word(kind), *here)], result)
+    return Call([wire.estimates(codec.short, one_of(kind, ESTIMATED), *here)], result)
 
 
 def values(codec: Codec, first: object, last_time: object) -> Call[Sequence[Reading]]:
@@ -244,7 +261,7 @@ def certify(codec: Codec, kind: str, end: str, first: object, last_time: object,
     marks = [(codec.time(start), wire.LAST_TIME if stop is None else codec.time(stop))
              for start, stop in landmarks]
     parts = certificate.parts_within(marks, begin, finish)
-    lines = [wire.certify(codec.short, wire.name_word(kind), wire.name_word(end), begin, finish),
+    lines = [wire.certify(codec.short, one_of(kind, ESTIMATED), one_of(end, ENDS, "end"), begin, finish),
              wire.LIST, wire.windows(codec.short), wire.query(codec.short, kind, begin, finish),
              *(wire.query(codec.short, kind, *part) for part in parts)]
 

@@ -69,6 +69,27 @@ def changed(known: Description, unit: str | None, labels: Mapping[str, str] | No
                           rounding=known.rounding if rounding is None else rounding)
 
 
+def brought_to(known: Description | None, wanted: Description | None, name: str) -> Description | None:
+    """The description of a stream that stands, with what is wanted of it that may change.
+
+    None where there is nothing to change. Raises DescriptionError where its numbers mean something else.
+    """
+    if wanted is None:
+        wanted = Description()
+        if known is None:
+            return None
+    if known is None or known[:3] != wanted[:3]:
+        raise DescriptionError(f"{name} stands with another scale or other times: {_meaning(known)}")
+    found = changed(known, wanted.unit, wanted.labels or None, wanted.rounding)
+    return None if found == known else found
+
+
+def _meaning(known: Description | None) -> str:
+    if known is None:
+        return "it takes whole numbers"
+    return f"scale {known.scale}, time {known.time}, since {known.since}"
+
+
 def _day(since: datetime.date | str | None) -> datetime.date:
     if since is None:
         return EPOCH

@@ -60,6 +60,16 @@ class CommandError(RefusedError, word="SYNTAX"):
     """
 
 
+class KindError(CommandError, ValueError):
+    """There is no such kind of answer.
+
+    What there is stands in the message.
+    """
+
+    def __str__(self) -> str:
+        return f"{self.reason}, and not {self.line}"
+
+
 class NumberError(RefusedError, ValueError, word="NUMBER"):
     """A number is out of range, or there would be more than 100,000 rows.
 
@@ -358,6 +368,10 @@ class SourceError(SummaryStoreError):
 
 class CertificateError(SummaryStoreError):
     """A certificate shows nothing, or it can't be told whether it does."""
+
+
+class RoundedTimeWarning(UserWarning):
+    """A time was rounded down to the steps of its stream. It is told once for each stream."""
 
 
 class ReopenedWarning(UserWarning):

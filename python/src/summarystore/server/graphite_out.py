@@ -20,6 +20,7 @@ from .. import aio
 from ..clock import UTC, zone_of
 from ..errors import TimeError
 from ..interval import Interval, outward
+from ..kinds import KINDS, one_of
 from .app import Service
 from .bodies import body_of, text_of
 from .endpoints import Access, ApiError, Endpoint
@@ -191,7 +192,8 @@ class _Streams:
             found.append(await self._store.query(stream, kind, whole, next_ - 1))
             whole = next_
         if whole <= end:
-            found += [row.interval for row in await self._store.series(stream, kind, whole, end, counts)]
+            answers = await self._store.series(stream, one_of(kind, KINDS), whole, end, counts)
+            found += [row.interval for row in answers]
         return [*[nothing] * before, *found, *[nothing] * (count - before - len(found))]
 
 

@@ -9,13 +9,14 @@ from aiohttp import web
 
 from .. import aio
 from ..interval import Presence
+from ..kinds import KINDS, one_of
 from ..records import Stream, Window
 from . import asked, exactjson, many
 from .answers import CSV, JSON, csv_line, ends_of, table_answer, wants_csv
 from .app import Service
 from .endpoints import Access, ApiError, Endpoint
 from .globs import LONGEST, matches
-from .many import KINDS, ROWS
+from .many import ROWS
 from .meaning import Meaning
 
 TOGETHER = 200
@@ -81,7 +82,9 @@ class HttpOut:
                 lambda store: store.has(name, meaning.value(value), first, last))
             told.update(value=value, answer=presence.value)
         elif kind in KINDS:
-            told.update(ends_of(await self._service.ask(lambda store: store.query(name, kind, first, last))))
+            asked_kind = one_of(kind, KINDS)
+            told.update(ends_of(await self._service.ask(
+                lambda store: store.query(name, asked_kind, first, last))))
         else:
             raise asked.bad(f"`kind` is one of {', '.join(KINDS)} and has, and not {kind[:20]!r}")
         return table_answer(request, told, [told])
@@ -100,7 +103,8 @@ class HttpOut:
         if first is None or last is None:
             return table_answer(request, {**told, "step": None, "rows": []}, [])
         step = self._step(words, meaning, last - first + 1)
-        found = await self._service.ask(lambda store: store.series(name, kind, first, last, step))
+        found = await self._service.ask(
+            lambda store: store.series(name, one_of(kind, KINDS), first, last, step))
         rows: list[dict[str, object]] = [{"time": meaning.shown_time(row.start), **ends_of(row.interval)}
                                          for row in found]
         told.update(step=meaning.length(step), rows=rows)
