@@ -10,8 +10,10 @@ import asyncio
 import datetime
 import os
 import warnings
+from collections import defaultdict
 from collections.abc import AsyncIterator, Mapping, Sequence
 from contextlib import asynccontextmanager
+from functools import partial
 from types import TracebackType
 from typing import Self, TypeVar, cast
 
@@ -26,6 +28,7 @@ from .errors import (CursorBusyError, LateError, RefusedError, ReopenedWarning, 
                      StreamExistsError, SummaryStoreError, tell)
 from .aio_handle import Handle
 from .frames import columns_of, frame_of, names_left, rows_of
+from .meters import counting, meter_of
 from .names import Names
 from .pipeline import Commands, Request
 from .program import StorePath
@@ -48,6 +51,7 @@ class Store(Base, Questions):
         self._opening = asyncio.Lock()
         self._changed = asyncio.Condition()
         self._opened = self._flushing = False
+        self._alone: defaultdict[str, asyncio.Lock] = defaultdict(asyncio.Lock)
 
     # ---- the process --------------------------------------------------------------------
 
@@ -200,10 +204,11 @@ class Store(Base, Questions):
                      scale: object | None = None, time: str | None = None,
                      since: datetime.date | str | None = None, unit: str | None = None,
                      labels: Mapping[str, str] | None = None, rounding: str | None = None,
-                     exist_ok: bool = False) -> Stored:
+                     exist_ok: bool = False,
+                     kind: str | None = None, overflow: object | None = None) -> Stored:
         """Makes a stream, as `Store.create` does."""
         description = description_of(scale=scale, time=time, since=since, unit=unit, labels=labels,
-                                     rounding=rounding)
+                                     rounding=rounding, kind=kind, overflow=overflow)
         await self._up()
         codec = self._translator.declare(name, description)
         try:
@@ -244,18 +249,19 @@ class Store(Base, Questions):
         time, value = reading_of(time, value)
         codec = self._translator.codec(name)
         if time is not UNSAID:
-            return await self._append(codec, time, value)
+            return await self._append(name, codec, time, value)
         count = codec.now()
         while True:
             try:
-                return await self._append(codec, count, value)
+                return await self._append(name, codec, count, value)
             except LateError as error:      # a reading stands there, or another one came first
                 count, wait = next_free(codec, error)
             await asyncio.sleep(wait)
 
-    async def _append(self, codec: Codec, time: object, value: object) -> Stored:
+    async def _append(self, name: str, codec: Codec, time: object, value: object) -> Stored:
         try:
-            return await self._do(calls.append(codec, time, value))
+            async with self._taking(codec, name) as taking:
+                return await self._do(calls.append(taking, time, value))
         except LateError as error:
             await self._tell_newest(codec, [error])
             raise
@@ -275,16 +281,37 @@ class Store(Base, Questions):
         frame = frame_of(name)
         if frame is None:
             codec = self._translator.codec(cast(str, name))
-            return await self.append_rows(codec, rows_of(rows), refused, lateness)
+            async with self._taking(codec, cast(str, name)) as taking:
+                return await self.append_rows(taking, rows_of(rows), refused, lateness)
         stored, columns = 0, columns_of(frame)
         codecs = [self._translator.codec(column) for column, _ in columns]
-        for at, (codec, (_, readings)) in enumerate(zip(codecs, columns)):
+        for at, (codec, (column, readings)) in enumerate(zip(codecs, columns)):
             try:
-                stored += await self.append_rows(codec, readings, refused, lateness)
+                async with self._taking(codec, column) as taking:
+                    stored += await self.append_rows(taking, readings, refused, lateness)
             except BaseException as error:
                 names_left(error, [column for column, _ in columns], at)
                 raise
         return stored
+
+    @asynccontextmanager
+    async def _taking(self, codec: Codec, name: str) -> AsyncIterator[Codec]:
+        """The codec of a stream that takes readings: that of a counter knows what stands, and is alone."""
+        if meter_of(codec, "counter") is None:
+            yield codec
+            return
+        async with self._alone[name]:
+            standing = await self._do(calls.standing_of_counter(codec))
+            yield counting(self._translator.codec(name), name, standing,
+                           partial(self._translator.keep_joins, name))
+
+    async def kept(self, name: str, rows: Sequence[tuple[object, object]]) -> Sequence[tuple[object, object]]:
+        """What is kept of readings that were stored: of a counter they are joined."""
+        codec = self._translator.codec(name)
+        if meter_of(codec, "counter") is None:
+            return rows
+        async with self._taking(codec, name) as taking:
+            return [(time, codec.value_back(value)) for time, value in taking.rows(rows)]
 
     async def append_rows(self, codec: Codec, rows: object, refused: OnRefused | None = None,
                           lateness: object | None = None) -> int:

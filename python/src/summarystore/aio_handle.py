@@ -66,6 +66,14 @@ class Handle:
         """As `Store.query`."""
         return await self.store.query(self.name, kind, t1, t2)
 
+    async def increase(self, t1: object | None = None, t2: object | None = None) -> Interval:
+        """As `Store.increase`."""
+        return await self.store.increase(self.name, t1, t2)
+
+    async def value_at(self, time: object) -> Interval:
+        """As `Store.value_at`."""
+        return await self.store.value_at(self.name, time)
+
     async def mean(self, t1: object | None = None, t2: object | None = None) -> Interval:
         """As `Store.mean`."""
         return await self.store.mean(self.name, t1, t2)

@@ -32,6 +32,14 @@ class Questions:
         """`count`, `sum`, `min`, `max` or `mean` of the values from t1 to t2, both included."""
         return await self._do(calls.query(self._translator.codec(name), kind, t1, t2))
 
+    async def increase(self, name: str, t1: object | None = None, t2: object | None = None) -> Interval:
+        """By how much a counter rose from t1 until t2."""
+        return await self._do(calls.increase(self._translator.codec(name), t1, t2))
+
+    async def value_at(self, name: str, time: object) -> Interval:
+        """What a counter has at a time, with its resets and overflows joined."""
+        return await self._do(calls.value_at(self._translator.codec(name), time))
+
     async def mean(self, name: str, t1: object | None = None, t2: object | None = None) -> Interval:
         """The mean of the values from t1 to t2."""
         return await self._do(calls.mean(self._translator.codec(name), t1, t2))

@@ -13,11 +13,14 @@ from .combining import KINDS, Part
 from .errors import CertificateError, refusal_of
 from .interval import Interval, Presence, mean_of
 from .kinds import ENDS, ESTIMATED, KINDS as ASKED, one_of
+from .meters import Standing, increase_of, must_be_counter
 from .records import Estimate, EstimateRow, Last, Reading, Row, Stored, Stream, Window
 from .series import Series
 from .wire import Reply
 
 T = TypeVar("T")
+MOST_ROWS = 100_000
+"""Rows of a series that the program doesn't make itself."""
 
 
 @dataclass(frozen=True)
@@ -46,7 +49,7 @@ def create(codec: Codec, target: str | Sequence[object], within: int | None) -> 
 
 def append(codec: Codec, time: object, value: object) -> Call[Stored]:
     """Takes a value."""
-    return Call([wire.append(codec.short, codec.time(time), codec.value(value))], _stored)
+    return Call([wire.append(codec.short, *codec.rows([(time, value)])[0])], _stored)
 
 
 def standing(translator: Translator, name: str, target: str | Sequence[object], within: int | None
@@ -115,10 +118,71 @@ def last(codec: Codec) -> Call[Last | None]:
     return Call(inner.lines, result)
 
 
+def standing_of_counter(codec: Codec) -> Call[Standing]:
+    """The newest time and the greatest value, of one moment, as whole numbers."""
+    inner = last_numbers(codec)
+
+    def result(replies: Sequence[Reply]) -> Standing:
+        found, greatest = inner.result(replies), _whole("max", replies[1])
+        return Standing(found[0] if found else -1, None if greatest.none else int(greatest.hi))
+    return Call([*inner.lines, _until(codec, wire.LAST_TIME)], result)
+
+
+def _until(codec: Codec, time: int) -> str:
+    """The greatest value until a time: of a counter the one that it has then."""
+    return wire.query(codec.short, "max", 0, time)
+
+
+def _whole(kind: str, reply: Reply) -> Interval:
+    return wire.interval_of(wire.after(reply.head, kind))
+
+
+def value_at(codec: Codec, time: object) -> Call[Interval]:
+    """What a counter has at a time."""
+    must_be_counter(codec)
+    return Call([_until(codec, codec.end(time))], lambda replies: _interval(codec, "max", replies[0]))
+
+
+def _increases(codec: Codec, times: Sequence[int]) -> Call[Sequence[Interval]]:
+    """By how much a counter rose from each of some times until the next."""
+    must_be_counter(codec)
+    lines = [wire.query(codec.short, "min", 0, wire.LAST_TIME), *(_until(codec, time) for time in times)]
+
+    def result(replies: Sequence[Reply]) -> Sequence[Interval]:
+        least, values = _whole("min", replies[0]), [_whole("max", reply) for reply in replies[1:]]
+        return [codec.interval_back("max", increase_of(before, end, least))
+                for before, end in zip(values, values[1:])]
+    return Call(lines, result)
+
+
+def increase(codec: Codec, first: object, last_time: object) -> Call[Interval]:
+    """By how much a counter rose from one time until another."""
+    times = codec.begin(first), codec.end(last_time)
+    if times[1] < times[0]:
+        raise refusal_of("RANGE", f"increase {codec.short} {times[0]} {times[1]}")
+    inner = _increases(codec, times)
+    return Call(inner.lines, lambda replies: inner.result(replies)[0])
+
+
+def increase_rows(codec: Codec, first: object, last_time: object, step: object
+                  ) -> Call[Sequence[tuple[int, Interval]]]:
+    """The same in rows: from each step until the next."""
+    begin, end, each = codec.begin(first), codec.end(last_time), codec.step(step)
+    if each < 1 or end < begin:
+        raise refusal_of("RANGE", f"series {codec.short} increase {begin} {end} {each}")
+    if (end - begin) // each >= MOST_ROWS:
+        raise refusal_of("NUMBER", f"series {codec.short} increase {begin} {end} {each}")
+    starts = range(begin, max(end, begin + 1), each)
+    inner = _increases(codec, [*starts, max(end, begin)])
+    return Call(inner.lines, lambda replies: list(zip(starts, inner.result(replies))))
+
+
 def query(codec: Codec, kind: str, first: object, last_time: object) -> Call[Interval]:
     """The interval of one kind, or of the mean."""
     if one_of(kind, ASKED) == "mean":
         return mean(codec, first, last_time)
+    if kind == "increase":
+        return increase(codec, first, last_time)
     line = wire.query(codec.short, kind, codec.begin(first), codec.end(last_time))
     return Call([line], lambda replies: _interval(codec, kind, replies[0]))
 
@@ -168,6 +232,9 @@ def has(codec: Codec, value: object, first: object, last_time: object) -> Call[P
 def series(name: str, codec: Codec, kind: str, first: object, last_time: object, step: object
            ) -> Call[Series]:
     """The rows of one kind, or of the mean."""
+    if kind == "increase":
+        asked = increase_rows(codec, first, last_time, step)
+        return Call(asked.lines, lambda replies: _series(name, codec, kind, asked.result(replies)))
     kinds = KINDS if one_of(kind, ASKED) == "mean" else (kind,)
     here = codec.begin(first), codec.end(last_time), codec.step(step)
     lines = [wire.series(codec.short, each, *here) for each in kinds]
@@ -180,10 +247,13 @@ def series(name: str, codec: Codec, kind: str, first: object, last_time: object,
                     for c, s, least, greatest in zip(*columns)]
         else:
             rows = columns[0]
-        shown = [Row(codec.time_back(start), interval) for start, interval in rows]
-        unit = codec.description.unit if codec.description and kind != "count" else None
-        return Series(name, kind, unit, shown)
+        return _series(name, codec, kind, rows)
     return Call(lines, result)
+
+
+def _series(name: str, codec: Codec, kind: str, rows: Sequence[tuple[int, Interval]]) -> Series:
+    unit = codec.description.unit if codec.description and kind != "count" else None
+    return Series(name, kind, unit, [Row(codec.time_back(start), interval) for start, interval in rows])
 
 
 def _row(codec: Codec, kind: str, row: str) -> tuple[int, Interval]:

@@ -354,6 +354,10 @@ class TimeError(SummaryStoreError, ValueError):
     """What was given as a time doesn't say one time of the stream."""
 
 
+class MeterError(SummaryStoreError, ValueError):
+    """A value is no reading of its counter."""
+
+
 class DescriptionError(SummaryStoreError, ValueError):
     """A stream can't be described like this, or isn't described."""
 

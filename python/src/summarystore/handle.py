@@ -68,6 +68,14 @@ class Handle:
         """As `Store.query`."""
         return self.store.query(self.name, kind, t1, t2)
 
+    def increase(self, t1: object | None = None, t2: object | None = None) -> Interval:
+        """As `Store.increase`."""
+        return self.store.increase(self.name, t1, t2)
+
+    def value_at(self, time: object) -> Interval:
+        """As `Store.value_at`."""
+        return self.store.value_at(self.name, time)
+
     def mean(self, t1: object | None = None, t2: object | None = None) -> Interval:
         """As `Store.mean`."""
         return self.store.mean(self.name, t1, t2)

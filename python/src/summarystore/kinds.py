@@ -7,7 +7,7 @@ from typing import Literal, TypeVar, cast, get_args
 
 from .errors import KindError
 
-Kind = Literal["count", "sum", "min", "max", "mean"]
+Kind = Literal["count", "sum", "min", "max", "mean", "increase"]
 """What `query` and `series` answer."""
 Estimated = Literal["count", "sum"]
 """What has a likeliest number, and certificates."""

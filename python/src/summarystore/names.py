@@ -249,6 +249,14 @@ class Names:
         with self._lock:
             return self._standing.get(short, short)
 
+    def keep_joins(self, name: str, joins: Sequence[tuple[int, int]]) -> None:
+        """Brings the joins of a counter to the disk."""
+        with self._lock:
+            description = self._described[name][1]
+            assert description.meter is not None
+            meter = description.meter._replace(joins=tuple(joins))
+            self.describe(name, description._replace(meter=meter))
+
     def describe(self, name: str, description: Description) -> None:
         """Changes the unit, the labels or the rounding of a stream. Its numbers keep their meaning."""
         with self._lock:

@@ -7,7 +7,7 @@ import os
 import stat
 from collections.abc import Mapping
 
-from .description import Description, description_of
+from .description import Description, Meter, description_of
 from .errors import NamesFileError, SummaryStoreError
 
 FORMAT = 1
@@ -43,9 +43,26 @@ def _entry(entry: Mapping[str, object]) -> tuple[str, Description]:
     if not isinstance(short, str) or not isinstance(scale, str) or not isinstance(labels, Mapping):
         raise TypeError(f"the entry {dict(entry)!r} lacks a name, a scale or labels")
     found = description_of(scale=scale, time=_text(time), since=_text(since), unit=_text(unit),
-                           labels=labels, rounding=_text(rounding))
+                           labels=labels, rounding=_text(rounding), **_meter(entry.get("meter")))
     assert found is not None
-    return short, found
+    return short, found if found.meter is None else found._replace(
+        meter=found.meter._replace(joins=_joins(entry.get("meter"))))
+
+
+def _meter(entry: object) -> dict[str, str | None]:
+    """What an entry says of a meter."""
+    if entry is None:
+        return {}
+    if not isinstance(entry, Mapping):
+        raise TypeError(f"{entry!r} isn't a meter")
+    return {"kind": _text(entry["kind"]), "overflow": _text(entry.get("overflow"))}
+
+
+def _joins(entry: object) -> tuple[tuple[int, int], ...]:
+    joins = entry.get("joins", []) if isinstance(entry, Mapping) else []
+    if not all(len(join) == 2 and all(type(number) is int for number in join) for join in joins):
+        raise TypeError(f"{joins!r} aren't joins of a counter")
+    return tuple((after, offset) for after, offset in joins)
 
 
 def _text(value: object) -> str | None:
@@ -83,4 +100,11 @@ def _shown(short: str, description: Description) -> dict[str, object]:
     return {"name": short, "scale": f"{description.scale:f}" if not isinstance(description.scale, int)
             else str(description.scale), "time": description.time, "since": str(description.since),
             "unit": description.unit, "labels": dict(description.labels),
-            "rounding": description.rounding}
+            "rounding": description.rounding, **_shown_meter(description.meter)}
+
+
+def _shown_meter(meter: Meter | None) -> dict[str, object]:
+    if meter is None:
+        return {}
+    overflow = None if meter.overflow is None else str(meter.overflow)
+    return {"meter": {"kind": meter.kind, "overflow": overflow, "joins": [[*join] for join in meter.joins]}}

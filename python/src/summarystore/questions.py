@@ -45,6 +45,14 @@ class Questions:
         """`query` for whoever has made the codec of the stream, by whole numbers."""
         return self._do(calls.query(codec, kind, first, last))
 
+    def increase(self, name: str, t1: object | None = None, t2: object | None = None) -> Interval:
+        """By how much a counter rose from t1 until t2."""
+        return self._do(calls.increase(self._translator.codec(name), t1, t2))
+
+    def value_at(self, name: str, time: object) -> Interval:
+        """What a counter has at a time, with its resets and overflows joined."""
+        return self._do(calls.value_at(self._translator.codec(name), time))
+
     def mean(self, name: str, t1: object | None = None, t2: object | None = None) -> Interval:
         """The mean of the values from t1 to t2."""
         return self._do(calls.mean(self._translator.codec(name), t1, t2))

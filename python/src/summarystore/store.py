@@ -6,6 +6,7 @@ import threading
 from collections.abc import Iterator, Mapping, Sequence
 from contextlib import contextmanager
 from datetime import date
+from functools import partial
 from itertools import islice
 from time import sleep
 from types import TracebackType
@@ -21,6 +22,7 @@ from .errors import (CursorBusyError, LateError, RefusedError, StreamExistsError
 from .frames import columns_of, frame_of, names_left, rows_of
 from .handle import Handle
 from .late import MOST_HELD
+from .meters import counting, meter_of
 from .present import UNSAID, next_free, reading_of
 from .questions import Questions
 from .records import Soundness, Stored
@@ -69,15 +71,17 @@ class Store(Channel, Questions):
     def create(self, name: str, target: str | Sequence[object], within: int | None = None, *,
                scale: object | None = None, time: str | None = None, since: date | str | None = None,
                unit: str | None = None, labels: Mapping[str, str] | None = None,
-               rounding: str | None = None, exist_ok: bool = False) -> Stored:
+               rounding: str | None = None, exist_ok: bool = False,
+               kind: str | None = None, overflow: object | None = None) -> Stored:
         """Makes a stream with a target such as `power 1 1 4 1` or ("exp", 2, 60, 1). No window of it crosses
         a multiple of `within`, in the unit of its times: of seconds, 86400 keeps to whole days in UTC.
 
         With `exist_ok` one that stands may be the same one: its target, its scale and its times have to
-        be those. Its unit, labels and rounding are changed to what is given.
+        be those. Its unit, labels and rounding are changed to what is given. Readings of the kind
+        `counter` are joined over resets, and over what it overflows at, so that what is kept rises.
         """
         description = description_of(scale=scale, time=time, since=since, unit=unit, labels=labels,
-                                     rounding=rounding)
+                                     rounding=rounding, kind=kind, overflow=overflow)
         self._ready()
         codec = self._translator.declare(name, description)
         try:
@@ -116,18 +120,19 @@ class Store(Channel, Questions):
         time, value = reading_of(time, value)
         codec = self._translator.codec(name)
         if time is not UNSAID:
-            return self._append(codec, time, value)
+            return self._append(name, codec, time, value)
         count = codec.now()
         while True:
             try:
-                return self._append(codec, count, value)
+                return self._append(name, codec, count, value)
             except LateError as error:      # a reading stands there, or another one came first
                 count, wait = next_free(codec, error)
             sleep(wait)
 
-    def _append(self, codec: Codec, time: object, value: object) -> Stored:
+    def _append(self, name: str, codec: Codec, time: object, value: object) -> Stored:
         try:
-            return self._do(calls.append(codec, time, value))
+            with self._taking(codec, name) as taking:
+                return self._do(calls.append(taking, time, value))
         except LateError as error:
             self._tell_newest(codec, [error])
             raise
@@ -156,16 +161,29 @@ class Store(Channel, Questions):
         frame = frame_of(name)
         if frame is None:
             codec = self._translator.codec(cast(str, name))
-            return self.append_rows(codec, rows_of(rows), refused, lateness)
+            with self._taking(codec, cast(str, name)) as taking:
+                return self.append_rows(taking, rows_of(rows), refused, lateness)
         stored, columns = 0, columns_of(frame)
         codecs = [self._translator.codec(column) for column, _ in columns]
-        for at, (codec, (_, readings)) in enumerate(zip(codecs, columns)):
+        for at, (codec, (column, readings)) in enumerate(zip(codecs, columns)):
             try:
-                stored += self.append_rows(codec, readings, refused, lateness)
+                with self._taking(codec, column) as taking:
+                    stored += self.append_rows(taking, readings, refused, lateness)
             except BaseException as error:
                 names_left(error, [name for name, _ in columns], at)
                 raise
         return stored
+
+    @contextmanager
+    def _taking(self, codec: Codec, name: str) -> Iterator[Codec]:
+        """The codec of a stream that takes readings: that of a counter knows what stands, and is alone."""
+        if meter_of(codec, "counter") is None:
+            yield codec
+            return
+        with self._alone[name]:
+            standing = self._do(calls.standing_of_counter(codec))
+            yield counting(self._translator.codec(name), name, standing,
+                           partial(self._translator.keep_joins, name))
 
     def append_rows(self, codec: Codec, rows: object, refused: OnRefused | None = None,
                     lateness: object | None = None) -> int:

@@ -13,7 +13,7 @@ from .graphite_targets import Arguments, Bare, Call, TargetError, read
 from .graphite_times import span_of
 
 KINDS: Mapping[str, str] = {"average": "mean", "avg": "mean", "mean": "mean", "sum": "sum", "total": "sum",
-                            "min": "min", "max": "max"}
+                            "min": "min", "max": "max", "increase": "increase"}
 """What `consolidateBy` may say, and what is asked of the store then."""
 SUMMARIES: Mapping[str, str] = {**KINDS, "count": "count", "last": "last"}
 MOST_WINDOW = 10_000

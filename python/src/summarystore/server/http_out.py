@@ -58,6 +58,7 @@ class HttpOut:
         if last is not None and last.value is not None and last.newest is not None:
             newest = {"time": meaning.shown_time(last.newest), "lo": last.value.lo, "hi": last.value.hi}
         return {"name": stream.name, "unit": told.unit if told else None,
+                "kind": told.meter.kind if told and told.meter else None,
                 "labels": dict(told.labels) if told else {}, "target": stream.target, "within": stream.within,
                 "values": stream.values, "windows": stream.windows, "landmarks": stream.landmarks,
                 "open_landmark": self._service.landmarks.is_open(stream),
@@ -81,12 +82,15 @@ class HttpOut:
             presence: Presence = await self._service.ask(
                 lambda store: store.has(name, meaning.value(value), first, last))
             told.update(value=value, answer=presence.value)
+        elif kind == "value_at":
+            at = meaning.last(asked.nanoseconds("now", "to")) if last is None else last
+            told.update(ends_of(await self._service.ask(lambda store: store.value_at(name, at))))
         elif kind in KINDS:
             asked_kind = one_of(kind, KINDS)
             told.update(ends_of(await self._service.ask(
                 lambda store: store.query(name, asked_kind, first, last))))
         else:
-            raise asked.bad(f"`kind` is one of {', '.join(KINDS)} and has, and not {kind[:20]!r}")
+            raise asked.bad(f"`kind` is one of {', '.join(KINDS)}, value_at and has, and not {kind[:20]!r}")
         return table_answer(request, told, [told])
 
     async def series(self, request: web.Request) -> web.StreamResponse:
