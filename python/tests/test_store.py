@@ -164,7 +164,7 @@ def test_refusals_of_calls(seven: Store) -> None:
         seven.append("a", "80", 1)
     with pytest.raises(errors.RangeError):
         seven.query("a", "sum", 5, 4)
-    with pytest.raises(errors.KindError, match="one of count, sum, min, max, mean, and not 'median'"):
+    with pytest.raises(errors.KindError, match="one of count, sum, min, max, mean, .* and not 'median'"):
         seven.query("a", cast(Kind, "median"), 1, 2)
     with pytest.raises(errors.KindError, match="one of count, sum, and not"):
         seven.certify("a", cast(Estimated, "min"), "lo", 1, 2)

@@ -18,12 +18,13 @@ from .series import Series
 
 if TYPE_CHECKING:
     from .aio import Store
+    from .aio_connecting import RemoteStore
 
 
 class Handle:
     """A stream of a store, as `store["home/hall"]`: the calls of `summarystore.handle.Handle`."""
 
-    def __init__(self, store: Store, name: str) -> None:
+    def __init__(self, store: Store | RemoteStore, name: str) -> None:
         self.store = store
         self.name = name
 
@@ -39,8 +40,8 @@ class Handle:
         """The present time of it."""
         return self.store.now(self.name)
 
-    async def append(self, time: object = UNSAID, value: object = UNSAID) -> Stored:
-        """As `Store.append`."""
+    async def append(self, time: object = UNSAID, value: object = UNSAID) -> Stored | None:
+        """As `Store.append`. Over a service nothing is answered."""
         return await self.store.append(self.name, time, value)
 
     async def append_many(self, rows: object, *, refused: OnRefused | None = None,
@@ -53,10 +54,12 @@ class Handle:
         """As `Store.landmark`."""
         return self.store.landmark(self.name, start, end)
 
-    def describe(self, *, unit: str | None = None, labels: Mapping[str, str] | None = None,
-                 rounding: str | None = None) -> None:
+    async def describe(self, *, unit: str | None = None, labels: Mapping[str, str] | None = None,
+                       rounding: str | None = None) -> None:
         """As `Store.describe`."""
-        self.store.describe(self.name, unit=unit, labels=labels, rounding=rounding)
+        done = self.store.describe(self.name, unit=unit, labels=labels, rounding=rounding)
+        if done is not None:
+            await done
 
     async def drop(self) -> None:
         """As `Store.drop`."""

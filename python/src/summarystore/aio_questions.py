@@ -14,6 +14,7 @@ from .interval import Interval, Presence
 from .kinds import End, Estimated, Kind
 from .records import Estimate, EstimateRow, Last, Reading, Stream
 from .series import Series
+from .wire import Reply
 
 T = TypeVar("T")
 
@@ -31,6 +32,10 @@ class Questions:
                     ) -> Interval:
         """`count`, `sum`, `min`, `max` or `mean` of the values from t1 to t2, both included."""
         return await self._do(calls.query(self._translator.codec(name), kind, t1, t2))
+
+    async def replies(self, lines: Sequence[str]) -> Sequence[Reply]:
+        """What the program replies to lines, refusals too."""
+        return await self._do(calls.Lines(lines, list))
 
     async def increase(self, name: str, t1: object | None = None, t2: object | None = None) -> Interval:
         """By how much a counter rose from t1 until t2."""

@@ -38,6 +38,14 @@ class Call(Generic[T]):
         return self.result(replies)
 
 
+class Lines(Call[Sequence[Reply]]):
+    """Lines whose replies are given as they are, refusals too."""
+
+    def answer(self, replies: Sequence[Reply]) -> Sequence[Reply]:
+        """The replies."""
+        return replies
+
+
 def _stored(replies: Sequence[Reply]) -> Stored:
     return wire.stored_of(replies[0])
 

@@ -5,7 +5,8 @@ from __future__ import annotations
 import select
 
 from .codec import Translator
-from .errors import ProcessEndedError, ProtocolError, ending_of
+from .errors import LockedError, ProcessEndedError, ProtocolError, ending_of
+from .held import how_to_connect
 from .pipeline import Commands, Pipeline, Request
 from .program import Process
 from .wire import CURSOR_CLOSE, LIST
@@ -112,6 +113,8 @@ def connect(program: str, path: str, translator: Translator, existing: bool, che
             if not connection.fill():
                 connection.end()
         if request.error is not None:
+            if isinstance(request.error, LockedError):
+                request.error.text += how_to_connect(path)
             if isinstance(request.error, ProcessEndedError):
                 request.error.unknown = request.error.not_stored = ()    # nothing of anybody's
             raise request.error

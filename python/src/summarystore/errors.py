@@ -366,6 +366,24 @@ class NamesFileError(SummaryStoreError):
     """The file of the descriptions can't be understood. It is left as it is."""
 
 
+class ServiceError(SummaryStoreError):
+    """The service couldn't be reached, or didn't take a request.
+
+    `status` is that of its answer, or None where there was none, `code` its word for the reason, and
+    `retry_after` says after how many seconds it may be asked again.
+    """
+
+    def __init__(self, status: int | None, code: str, reason: str, retry_after: int | None = None) -> None:
+        super().__init__(status, code, reason)
+        self.status = status
+        self.code = code
+        self.reason = reason
+        self.retry_after = retry_after
+
+    def __str__(self) -> str:
+        return f"{self.code}: {self.reason}"
+
+
 class SourceError(SummaryStoreError):
     """A table can't be read, or may be read in two ways."""
 

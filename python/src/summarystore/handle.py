@@ -7,16 +7,16 @@ from collections.abc import Iterator, Mapping, Sequence
 from contextlib import AbstractContextManager
 from typing import TYPE_CHECKING
 
-from .cursor import Windows
 from .description import Description
 from .interval import Interval, Presence
 from .kinds import Estimated, Kind
 from .present import UNSAID
-from .records import Estimate, Last, Reading, Stored, Time
+from .records import Estimate, Last, Reading, Stored, Time, Window
 from .sending import OnRefused
 from .series import Series
 
 if TYPE_CHECKING:
+    from .connecting import RemoteStore
     from .store import Store
 
 LOOK = 0.5
@@ -25,7 +25,7 @@ LOOK = 0.5
 class Handle:
     """A stream of a store, as `store["home/hall"]`."""
 
-    def __init__(self, store: Store, name: str) -> None:
+    def __init__(self, store: Store | RemoteStore, name: str) -> None:
         self.store = store
         self.name = name
 
@@ -41,8 +41,8 @@ class Handle:
         """The present time of it."""
         return self.store.now(self.name)
 
-    def append(self, time: object = UNSAID, value: object = UNSAID) -> Stored:
-        """As `Store.append`."""
+    def append(self, time: object = UNSAID, value: object = UNSAID) -> Stored | None:
+        """As `Store.append`. Over a service nothing is answered."""
         return self.store.append(self.name, time, value)
 
     def append_many(self, rows: object, *, refused: OnRefused | None = None, lateness: object | None = None
@@ -100,7 +100,7 @@ class Handle:
         """As `Store.values`."""
         return self.store.values(self.name, t1, t2)
 
-    def windows(self) -> Windows:
+    def windows(self) -> Iterator[Window]:
         """As `Store.windows`."""
         return self.store.windows(self.name)
 

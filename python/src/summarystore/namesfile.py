@@ -26,14 +26,15 @@ def read_names(file: str) -> Described:
     try:
         if found["summarystore"] != FORMAT:
             raise NamesFileError(f"{file} is of a later version: {found['summarystore']}")
-        return {name: _entry(entry) for name, entry in found["streams"].items()}
+        return {name: entry_of(entry) for name, entry in found["streams"].items()}
     except (KeyError, TypeError, AttributeError, SummaryStoreError) as error:
         if isinstance(error, NamesFileError):
             raise
         raise NamesFileError(f"{file} doesn't hold descriptions: {error!r}") from None
 
 
-def _entry(entry: Mapping[str, object]) -> tuple[str, Description]:
+def entry_of(entry: Mapping[str, object]) -> tuple[str, Description]:
+    """The short name and the description of a stream, from its entry."""
     short, unit, labels = entry["name"], entry.get("unit"), entry.get("labels", {})
     scale, time, since = entry["scale"], entry["time"], entry.get("since")
     rounding = entry.get("rounding")
@@ -74,7 +75,7 @@ def write_names(file: str, described: Described, store: str) -> None:
 
     Whoever may read or write the store may do the same with it.
     """
-    streams = {name: _shown(short, description) for name, (short, description) in described.items()}
+    streams = {name: shown(short, description) for name, (short, description) in described.items()}
     text = json.dumps({"summarystore": FORMAT, "streams": streams}, ensure_ascii=False, indent=1)
     beside = f"{file}.new"
     try:
@@ -96,7 +97,8 @@ def write_names(file: str, described: Described, store: str) -> None:
         os.close(there)
 
 
-def _shown(short: str, description: Description) -> dict[str, object]:
+def shown(short: str, description: Description) -> dict[str, object]:
+    """The entry of a stream."""
     return {"name": short, "scale": f"{description.scale:f}" if not isinstance(description.scale, int)
             else str(description.scale), "time": description.time, "since": str(description.since),
             "unit": description.unit, "labels": dict(description.labels),
