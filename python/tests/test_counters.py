@@ -118,6 +118,8 @@ def test_a_meter(path: Path) -> None:
             meter.increase(day.format(2), day.format(1))
         with pytest.raises(errors.NumberError):
             store.series(METER, "increase", None, None, 1)
+        with pytest.raises(errors.DescriptionError, match="lateness"):
+            store.reordered(METER, "1h")
         store.create("plain", "exp 2 60 1", scale="0.1")
         with pytest.raises(errors.DescriptionError, match="kind='counter'"):
             store.increase("plain")

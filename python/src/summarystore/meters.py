@@ -120,6 +120,12 @@ def must_be_counter(codec: Codec) -> None:
         raise DescriptionError(f"{codec.short} isn't a counter: create it with kind='counter'")
 
 
+def must_not_count(codec: Codec, instead: str) -> None:
+    """Refuses what brings readings to the store in a way that joins none."""
+    if meter_of(codec, "counter") is not None:
+        raise DescriptionError(f"{codec.short} is a counter, whose readings aren't joined here: {instead}")
+
+
 def counting(codec: Codec, name: str, standing: Standing, keep: Callable[[Joins], None]) -> CounterCodec:
     """The codec of a counter, by what stands."""
     meter = meter_of(codec, "counter")

@@ -22,7 +22,7 @@ from .errors import (CursorBusyError, LateError, RefusedError, StreamExistsError
 from .frames import columns_of, frame_of, names_left, rows_of
 from .handle import Handle
 from .late import MOST_HELD
-from .meters import counting, meter_of
+from .meters import counting, meter_of, must_not_count
 from .present import UNSAID, next_free, reading_of
 from .questions import Questions
 from .records import Soundness, Stored
@@ -268,7 +268,9 @@ class Store(Channel, Questions):
     def reordered(self, name: str, lateness: object, most: int = MOST_HELD) -> Reordered:
         """A bounded buffer that holds readings back and sorts them: a context manager."""
         from .reordered import Reordered
-        return Reordered(self, self._translator.codec(name), lateness, most)
+        codec = self._translator.codec(name)
+        must_not_count(codec, "give `lateness` to append_many")
+        return Reordered(self, codec, lateness, most)
 
     # ---- what it keeps --------------------------------------------------------------------
 
