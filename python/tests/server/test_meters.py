@@ -34,7 +34,8 @@ def test_asked_by_http_and_graphite(path: Path) -> None:
             assert (await client.post("/api/append", {"readings": rows}))["stored"] == 5
             assert [event.data["value"] for event in await listens.take(5)] == [990, 995, 1005, 1020, 1023]
             assert (await client.post("/api/append", {"readings": rows}))["there"] == 5
-            refused = await client.post("/api/append", {**rows[0], "time": START + 600, "value": 1000}, 400)
+            over = {"stream": "home/energy", "time": START + 600, "value": 1000}
+            refused = await client.post("/api/append", over, 400)
             assert refused["refused"][0]["code"] == "counter"
             told = {"stream": "home/energy", "from": str(START), "to": str(START + 240)}
             assert (await client.get("/api/query", kind="increase", **told))["lo"] == 33

@@ -189,7 +189,7 @@ class _Streams:
         whole = meaning.first((begin + before * step) * SECOND)
         if meaning.nanoseconds(whole) > (begin + before * step) * SECOND:     # a row begins before its stream
             next_ = min(meaning.first((begin + (before + 1) * step) * SECOND), end + 1)
-            found.append(await self._store.query(stream, kind, whole, next_ - 1))
+            found.append(await self._store.query(stream, one_of(kind, KINDS), whole, next_ - 1))
             whole = next_
         if whole <= end:
             answers = await self._store.series(stream, one_of(kind, KINDS), whole, end, counts)
