@@ -17,7 +17,7 @@ from typing import TYPE_CHECKING, Self, TypeVar, cast
 
 from . import calls
 from .aio_questions import Questions
-from .codec import Codec
+from .codec import Change, Codec
 from .connection import Connection
 from .description import Description, brought_to, changed, description_of
 from .errors import (CursorBusyError, LateError, RefusedError, StoreClosedError, StreamExistsError,
@@ -71,7 +71,7 @@ class Store(Channel, Questions):
         description = description_of(scale=scale, time=time, since=since, unit=unit, labels=labels,
                                      rounding=rounding, kind=kind, overflow=overflow)
         await self._up()
-        codec = self._translator.declare(name, description)
+        codec = await self._names.keep(Change(name, description))
         try:
             made = await self._do(calls.create(codec, target, within))
         except (RefusedError, TypeError, ValueError) as error:
@@ -89,10 +89,18 @@ class Store(Channel, Questions):
     def describe(self, name: str, *, unit: str | None = None, labels: Mapping[str, str] | None = None,
                  rounding: str | None = None) -> None:
         """Changes what is given of a described stream. Its scale and its times can't be changed."""
+        self._translator.describe(name, self._described(name, unit, labels, rounding))
+
+    async def describe_soon(self, name: str, *, unit: str | None = None,
+                            labels: Mapping[str, str] | None = None, rounding: str | None = None) -> None:
+        """The same, by a thread: what several tasks change together is written once."""
+        await self._names.keep(Change(name, self._described(name, unit, labels, rounding), stands=True))
+
+    def _described(self, name: str, unit: str | None, labels: Mapping[str, str] | None, rounding: str | None
+                   ) -> Description:
         if self._connection is None:
             raise StoreClosedError(f"{self.path} is closed, or its program has ended")
-        known = self.description(name) or Description()
-        self._translator.describe(name, changed(known, unit, labels, rounding))
+        return changed(self.description(name) or Description(), unit, labels, rounding)
 
     def rename(self, name: str, new: str) -> None:
         """Gives a described stream another long name, as `Store.rename` does."""

@@ -13,6 +13,7 @@ from .calls import Call
 from .codec import Translator
 from .connection import RENEW_AT, Connection
 from .errors import ReopenedWarning, StoreClosedError
+from .keeping import Keeping
 from .pipeline import Commands, Request
 from .program import StorePath
 from .wire import NOTHING
@@ -31,6 +32,7 @@ class Channel(Base):
         self._opening = asyncio.Lock()
         self._changed = asyncio.Condition()
         self._opened = self._flushing = False
+        self._names = Keeping(self._translator)
         self._alone: defaultdict[str, asyncio.Lock] = defaultdict(asyncio.Lock)
 
     # ---- the process --------------------------------------------------------------------
@@ -128,7 +130,8 @@ class Channel(Base):
                 request.finish(request.interrupted(only.failure()))
                 return only
             connection = await self._running()
-            self._hand_over(connection, request)
+            if not connection.refuses(request):
+                self._hand_over(connection, request)
             return connection
 
     def _hand_over(self, connection: Connection, request: Request) -> None:

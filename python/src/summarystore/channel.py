@@ -111,6 +111,8 @@ class Channel(Base):
                 request.finish(request.interrupted(only.failure()))
                 return only
             connection = self._up()
+            if connection.refuses(request):
+                return connection
             try:
                 connection.add(request)
             except BaseException:

@@ -27,6 +27,9 @@ _NUMPY = re.compile(r"(?:datetime|timedelta)64\[([0-9]*)(ns|us|ms|s|m|h|D|W)\]")
 _NAT = -2**63
 NOW = re.compile(r"now(?: ?([+-]) ?([0-9]{1,9}) ?([a-z]{1,7}))?")
 # Fractions of a second beyond what a datetime holds.
+OPEN = "open with zone="
+"""How it is said in the package that a zone may be told. Commands have `--zone`."""
+DOTTED = re.compile(r"([0-9]{1,2})\.([0-9]{1,2})\.([0-9]{4})\b")
 FINE = re.compile(r"([^.,]*[:T ](?:[0-9]{2}:[0-9]{2}:[0-9]{2}|[0-9]{6}))[.,]([0-9]+)([^.,]*)")
 
 
@@ -46,7 +49,7 @@ def nanoseconds(moment: datetime.datetime, zone: datetime.tzinfo | None) -> int:
             moment = plain(warn=False)
     if moment.tzinfo is None or moment.utcoffset() is None:
         if zone is None:
-            raise TimeError(f"{moment.isoformat(' ')} has no zone: give it one, or open with zone=")
+            raise TimeError(f"{moment.isoformat(' ')} has no zone: give it one, or {OPEN}")
         moment = _in_zone(moment.replace(tzinfo=None), zone)
     elif not isinstance(moment.tzinfo, datetime.timezone) and not _is_shown(moment):
         raise TimeError(f"{moment.isoformat(' ')}: the clock never shows it there")
@@ -79,7 +82,7 @@ def moment_of(text: str, zone: datetime.tzinfo | None) -> int:
     fine = FINE.fullmatch(text) if "." in text or "," in text else None
     extra = 0
     if ("." in text or "," in text) and not fine:
-        raise TimeError(f"a fraction of something else than a second: {text[:60]!r}")
+        raise TimeError(f"{_why_not(text)}: {text[:60]!r}")
     if fine and len(fine[2]) > 9:
         raise TimeError(f"finer than a nanosecond: {text[:60]!r}")
     if fine and len(fine[2]) > 6:
@@ -91,6 +94,20 @@ def moment_of(text: str, zone: datetime.tzinfo | None) -> int:
         raise
     except ValueError:
         raise TimeError(f"not a time: {text[:60]!r}") from None
+
+
+def for_commands(error: Exception) -> str:
+    """What is said of an error by a command, which has options in the place of calls."""
+    return str(error).replace(OPEN, "say --zone")
+
+
+def _why_not(text: str) -> str:
+    """Why a text with a point or a comma is no time, and how it would be one."""
+    found = DOTTED.match(text)
+    if not found:
+        return "not a time, which is written as 2026-03-29T10:00:00+02:00"
+    day, month = found[1].zfill(2), found[2].zfill(2)
+    return f"a date is written as {found[3]}-{month}-{day}, if the day stands first here"
 
 
 def digits_of(text: str) -> int:
@@ -306,7 +323,7 @@ class Clock:
         """The first moment of a day, or of one so many days later."""
         zone = UTC if self.resolution == "day" else self._zone
         if zone is None:
-            raise TimeError(f"{day} has no zone: give a time with one, or open with zone=")
+            raise TimeError(f"{day} has no zone: give a time with one, or {OPEN}")
         try:
             later = day + datetime.timedelta(days=days)
         except OverflowError:

@@ -123,6 +123,14 @@ def meter_words(description: Description) -> MeterWords:
     return {} if meter is None else {"kind": meter.kind, "overflow": meter.overflow}
 
 
+def with_joins(description: Description, known: Description) -> Description:
+    """A description with the joins that came last: those of a counter may come while it is described."""
+    if description.meter is None or known.meter is None:
+        return description
+    newest = max(description.meter.joins, known.meter.joins, key=lambda joins: joins[-1:])
+    return description._replace(meter=description.meter._replace(joins=newest))
+
+
 def _told(meter: Meter | None) -> Meter | None:
     """What was told of a meter, without its joins."""
     return None if meter is None else meter._replace(joins=())

@@ -3,6 +3,7 @@
 from __future__ import annotations
 
 import errno
+import shlex
 from collections.abc import Sequence
 from typing import NamedTuple
 
@@ -234,6 +235,8 @@ class ProcessEndedError(SummaryStoreError):
         super().__init__(status, text)
         self.status = status
         self.text = text
+        self.path: str | None = None
+        """The file of the store."""
         self.acknowledged = 0
         self.not_stored: Sequence[object] = ()
         self.unknown: Sequence[object] = ()
@@ -259,6 +262,12 @@ class DamagedStoreError(ProcessEndedError, status=3):
 
     Nothing was written to it.
     """
+
+    def __str__(self) -> str:
+        if self.path is None:
+            return super().__str__()
+        return (f"{self.path}: {super().__str__()}; `summarystore-scrub {shlex.quote(self.path)}` tells what "
+                "is damaged, and with an older copy of the file what that repairs")
 
 
 class StoreFileError(ProcessEndedError, status=4):
@@ -313,14 +322,20 @@ class UnexpectedEndError(ProcessEndedError):
     """The program ended, and not with one of its statuses, or unasked."""
 
 
-def ending_of(status: int | None, text: str) -> ProcessEndedError:
-    """The exception for a status of the program and what it said, on either of its streams."""
+def ending_of(status: int | None, text: str, path: str | None = None) -> ProcessEndedError:
+    """The exception for a status of the program and what it said, on either of its streams, of a store."""
+    found = _kind_of(status, text)(status, text)
+    found.path = path
+    return found
+
+
+def _kind_of(status: int | None, text: str) -> type[ProcessEndedError]:
     if status is not None and status < 0:
-        return KilledError(status, text)
+        return KilledError
     kinds = STATUSES.get(-1 if status is None else status, [UnexpectedEndError])
     # What the program said last is the reason, perhaps with the system's own words in brackets.
     said = text.rpartition(" [")[0] if text.endswith("]") else text
-    return [kind for kind in kinds if said.endswith(kind.said)][-1](status, text)
+    return [kind for kind in kinds if said.endswith(kind.said)][-1]
 
 
 # ---- told by this package ---------------------------------------------------------------
@@ -398,3 +413,7 @@ class RoundedTimeWarning(UserWarning):
 
 class ReopenedWarning(UserWarning):
     """The program had ended, and the store was opened again."""
+
+
+class ReadsOnlyWarning(ReopenedWarning):
+    """The disk is full: questions are answered from a copy, and what would change the store is refused."""

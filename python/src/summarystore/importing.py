@@ -357,7 +357,7 @@ class Import:
         into.refused += 1
         self._shown += 1
         if self._shown <= SHOWN:
-            print(f"line {line}: {into.name}: {error}", file=sys.stderr)
+            print(f"line {line}: {into.name}: {clock.for_commands(error)}", file=sys.stderr)
         elif self._shown == SHOWN + 1:
             print("further rows that are refused are only counted", file=sys.stderr)
 
@@ -478,7 +478,7 @@ def main(given: Sequence[str] | None = None) -> int:
                    existing=words.dry_run, checked=words.checked) as store:
             return 0 if work.run(store) else 1
     except (SummaryStoreError, OSError, UnicodeError, csv.Error, sqlite3.Error) as error:
-        print(f"summarystore-import: {error}", file=sys.stderr)
+        print(f"summarystore-import: {clock.for_commands(error)}", file=sys.stderr)
         return 3
     except KeyboardInterrupt:
         print("summarystore-import: interrupted; the same command goes on from here", file=sys.stderr)

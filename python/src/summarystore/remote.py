@@ -15,7 +15,7 @@ from urllib.parse import quote, urlsplit
 from . import errors
 from .calls import Call
 from .clock import zone_of
-from .codec import Codec, PlainCodec
+from .codec import Change, Codec, PlainCodec
 from .description import Description
 from .errors import DescriptionError, LateError, ServiceError, StreamNameError, UnknownStreamError
 from .frames import rows_of
@@ -272,6 +272,10 @@ class RemoteNames:
     def declare(self, name: str, description: Description | None) -> Codec:
         """The service declares."""
         return self.codec(name)
+
+    def keep(self, changes: Sequence[Change]) -> Sequence[Codec | Exception]:
+        """The service keeps."""
+        return [self.codec(change.name) for change in changes]
 
     def made(self, name: str, codec: Codec) -> None:
         """The service knows."""

@@ -2,11 +2,12 @@
 
 from __future__ import annotations
 
+import difflib
 import re
-from collections.abc import Mapping
+from collections.abc import Mapping, Sequence
 from decimal import Decimal, InvalidOperation
 
-from ..clock import from_now, moment_of, span_of
+from ..clock import OPEN, from_now, moment_of, span_of
 from ..errors import TimeError
 from .endpoints import ApiError
 
@@ -14,6 +15,9 @@ SECONDS = re.compile(r"[+-]?[0-9]{1,19}(?:\.([0-9]{1,9}))?")
 # A plus sign in an address that wasn't escaped has become a blank.
 LOST_PLUS = re.compile(r"([0-9]{4}-?[0-9]{2}-?[0-9]{2}[T ][0-9:.]+) ([0-9]{2}:?[0-9]{2})")
 LONGEST = 64
+MEANT = {"avg": "mean", "average": "mean", "total": "sum", "minimum": "min", "maximum": "max",
+         "number": "count"}
+"""Words for kinds of answers that others have."""
 
 
 def bad(reason: str, code: str = "bad_request") -> ApiError:
@@ -27,6 +31,13 @@ def one(words: Mapping[str, str], key: str) -> str:
     if not found:
         raise bad(f"`{key}` is missing")
     return found
+
+
+def no_kind(given: str, kinds: Sequence[str]) -> ApiError:
+    """A kind of answer that there isn't, and which one may be meant."""
+    near = MEANT.get(given.lower()) or next(iter(difflib.get_close_matches(given.lower(), kinds, 1)), None)
+    meant = f"; is `{near}` meant?" if near in kinds else ""
+    return bad(f"`kind` is one of {', '.join(kinds)}, and not {given[:20]!r}{meant}")
 
 
 def nanoseconds(given: object, key: str) -> int:
@@ -45,8 +56,9 @@ def nanoseconds(given: object, key: str) -> int:
         lost = LOST_PLUS.fullmatch(text)
         return moment_of(f"{lost[1]}+{lost[2]}" if lost else text[:LONGEST], None)
     except (TimeError, OverflowError) as error:
-        raise bad(f"`{key}`: {error}; seconds since 1970, ISO 8601 with a zone, `now` and `now-1h` are "
-                  "times", "bad_time") from None
+        why = str(error).replace(f", or {OPEN}", "")
+        raise bad(f"`{key}`: {why}; seconds since 1970, ISO 8601 with a zone, `now` and `now-1h` are times",
+                  "bad_time") from None
 
 
 def _plain(given: Decimal, key: str) -> str:

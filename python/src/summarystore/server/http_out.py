@@ -90,7 +90,7 @@ class HttpOut:
             told.update(ends_of(await self._service.ask(
                 lambda store: store.query(name, asked_kind, first, last))))
         else:
-            raise asked.bad(f"`kind` is one of {', '.join(KINDS)}, value_at and has, and not {kind[:20]!r}")
+            raise asked.no_kind(kind, (*KINDS, "value_at", "has"))
         return table_answer(request, told, [told])
 
     async def series(self, request: web.Request) -> web.StreamResponse:
@@ -98,7 +98,7 @@ class HttpOut:
         words = request.query
         name, kind = asked.one(words, "stream"), words.get("kind", "mean")
         if kind not in KINDS:
-            raise asked.bad(f"`kind` is one of {', '.join(KINDS)}, and not {kind[:20]!r}")
+            raise asked.no_kind(kind, KINDS)
         meaning = self._meaning(name)
         first, last = await self._span(name, meaning, *_range(words, meaning))
         told: dict[str, object] = {"stream": name, "kind": kind,

@@ -26,8 +26,9 @@ from .assembly import assemble
 from .commands import FAILED, WRONG_USE, listening, log, log_to_stderr, refuse_strangers
 from .configuration import Configuration, read
 from .errors import ConfigurationError
-from .http import Http, shown
+from .http import Http, is_loopback, shown
 from .notify import Notifier
+from .private import password_in
 
 LATEST = 4.7
 """After so many seconds the service ends, whatever it waits for."""
@@ -55,6 +56,11 @@ def configuration_of(words: argparse.Namespace) -> Configuration:
     if words.program is not None:
         found = replace(found, store=replace(found.store, program=words.program))
     refuse_strangers(found, found.file or "--listen")
+    lines = found.graphite
+    if lines.listen is not None and not is_loopback(lines.listen[0]) and not lines.anyone:
+        raise ConfigurationError(found.file or "", "[graphite]", f"{shown(lines.listen)} can be reached from "
+                                 "elsewhere, and its lines have no tokens: say `anyone = true` here, or take "
+                                 "127.0.0.1")
     return found
 
 
@@ -83,6 +89,7 @@ def main(arguments: Sequence[str] | None = None) -> int:
 def _check(configuration: Configuration) -> int:
     from .tokens import read_tokens
     read_tokens(configuration.tokens.file)
+    password_in(configuration.mqtt.password_file)
     log.info("configuration read: mappings=%d", len(configuration.mappings))
     return 0
 

@@ -2,19 +2,18 @@
 
 from __future__ import annotations
 
-from collections.abc import Mapping, Sequence
+from collections.abc import Sequence
 
 from aiohttp import web
 
+from . import openapi_others
 from .answers import json_answer
 from .endpoints import Access, Endpoint
+from .openapi_words import COUNT, TEXT, Json, operation, reference, word
 
-Json = Mapping[str, object]
 NUMBER: Json = {"type": ["number", "null"]}
 TIME: Json = {"oneOf": [{"type": "number", "description": "seconds since 1970"},
                         {"type": "string", "description": "ISO 8601 with a zone, `now`, or `now-1h`"}]}
-TEXT: Json = {"type": "string"}
-COUNT: Json = {"type": "integer", "minimum": 1}
 KINDS = ("count", "sum", "mean", "min", "max")
 COUNTERS = ("increase", "value_at")
 """What counters alone are asked."""
@@ -22,35 +21,6 @@ TRUTH: Json = {"type": "boolean"}
 ENDS: Json = {"lo": NUMBER, "hi": NUMBER, "mid": NUMBER, "exact": TRUTH, "none": TRUTH, "maybe_none": TRUTH}
 READING: Json = {"type": "object", "required": ["stream", "value"], "additionalProperties": False,
                  "properties": {"stream": TEXT, "time": TIME, "value": {"type": ["number", "string"]}}}
-
-
-def word(name: str, schema: Json, needed: bool = False, told: str = "") -> Json:
-    """A word of the address."""
-    return {"name": name, "in": "query", "required": needed, "schema": schema, "description": told}
-
-
-def reference(name: str) -> Json:
-    """A schema by its name."""
-    return {"$ref": f"#/components/schemas/{name}"}
-
-
-def operation(told: str, words: Sequence[Json] = (), answer: Json | None = None, body: Json | None = None,
-              access: Access = Access.READ, kind: str = "application/json", status: str = "200") -> Json:
-    """What can be asked at an address by one method."""
-    good: dict[str, object] = {"description": "what was asked"}
-    if answer is not None:
-        good["content"] = {kind: {"schema": answer}}
-    found: dict[str, object] = {
-        "summary": told, "parameters": words,
-        "responses": {status: good, "default": {
-            "description": "an error", "content": {"application/json": {"schema": reference("Error")}}}},
-        "security": [] if access is Access.OPEN else [{"bearer": []}],
-    }
-    if body is not None:
-        found["requestBody"] = {"required": True, "content": body}
-    return found
-
-
 STREAM = word("stream", TEXT, True, "the name of a stream")
 NAME: Json = {**STREAM, "name": "name", "in": "path"}
 ONE = word("stream", TEXT, False, "the name of a stream")
@@ -131,6 +101,7 @@ def _paths() -> Json:
         "/healthz": {"get": operation("Whether the service can do its work", (), {"type": "object"}, None,
                                       Access.OPEN)},
         "/openapi.json": {"get": operation("This document", (), {"type": "object"}, None, Access.OPEN)},
+        **openapi_others.paths(),
     }
 
 

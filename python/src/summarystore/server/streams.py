@@ -10,7 +10,8 @@ from weakref import WeakValueDictionary
 
 from .. import aio
 from ..description import meter_words
-from ..errors import RefusedError, StreamExistsError, SummaryStoreError, UnknownStreamError
+from ..errors import (RefusedError, StreamExistsError, SummaryStoreError, TooManyStreamsError,
+                      UnknownStreamError)
 from ..records import Stream
 from .mapping import Route
 from .meaning import Meaning
@@ -19,6 +20,8 @@ from .settings import Mapping
 log = logging.getLogger("summarystored")
 RESTARTS = "restarts"
 """The label of a stream that takes the readings of another, whose name it says."""
+MOST_STREAMS = 4096
+"""So many streams stand in a store at most."""
 AGAIN = 60.0
 """After so many seconds a stream that couldn't be made is tried again."""
 
@@ -32,6 +35,7 @@ class Streams:
         self._failed: dict[str, tuple[float, SummaryStoreError]] = {}
         self._newest: dict[str, int] = {}
         self._restarts: dict[str, str] | None = None
+        self._values: dict[str, int | None] = {}
         self._locks: WeakValueDictionary[str, asyncio.Lock] = WeakValueDictionary()
 
     def alone(self, name: str) -> asyncio.Lock:
@@ -50,9 +54,14 @@ class Streams:
             self._newest[name] = found
         return found
 
-    def came_to(self, name: str, count: int) -> None:
-        """The last time of a stream is this one now."""
+    def values(self, name: str) -> int | None:
+        """How many values a stream has had, also in landmarks. None where it isn't known."""
+        return self._values.get(name)
+
+    def came_to(self, name: str, count: int, values: int | None = None) -> None:
+        """The last time of a stream is this one now, and it has had so many values."""
         self._newest[name] = count
+        self._values[name] = values
 
     def forget_newest(self, name: str) -> None:
         """The last time of a stream is to be asked for again."""
@@ -63,7 +72,8 @@ class Streams:
         self._meanings.clear()
         self._failed.clear()
         self._newest.clear()
-        self._standing = {stream.name for stream in streams}
+        self._values = {stream.name: stream.values + stream.landmark_values for stream in streams}
+        self._standing = set(self._values)
         self._restarts = None
 
     def came(self, name: str) -> None:
@@ -99,6 +109,7 @@ class Streams:
         """A stream was dropped, or its description changed."""
         self._meanings.pop(name, None)
         self._newest.pop(name, None)
+        self._values.pop(name, None)
         self._standing.discard(name)
         self._restarts = None
 
@@ -116,13 +127,15 @@ class Streams:
         if route.stream not in self._standing and route.mapping is not None:
             await self._make(store, route.stream, route.mapping)
         elif route.mapping is not None and route.stream not in self._meanings:
-            self._describe(store, route.stream, route.mapping)
+            await self._describe(store, route.stream, route.mapping)
         return self.meaning(store, route.stream)
 
     async def _make(self, store: aio.Store, name: str, mapping: Mapping) -> None:
         failed = self._failed.get(name)
         if failed is not None and time.monotonic() < failed[0]:
             raise failed[1]
+        if len(self._standing) >= MOST_STREAMS:
+            raise TooManyStreamsError("STREAMS", name)
         told = mapping.description
         try:
             await store.create(name, mapping.target, mapping.within, scale=told.scale, time=told.time,
@@ -138,9 +151,10 @@ class Streams:
             raise found from None
         else:
             log.info("stream made: stream=%r target=%r", name, mapping.target)
+            self._values[name] = 0
         self._standing.add(name)
 
-    def _describe(self, store: aio.Store, name: str, mapping: Mapping) -> None:
+    async def _describe(self, store: aio.Store, name: str, mapping: Mapping) -> None:
         """Brings what a mapping says of a stream that stands to it, as far as it can be changed."""
         known, told = store.description(name), mapping.description
         if known is None:
@@ -153,4 +167,4 @@ class Streams:
         if RESTARTS in known.labels:
             labels[RESTARTS] = known.labels[RESTARTS]
         if (told.unit, labels, told.rounding) != (known.unit, dict(known.labels), known.rounding):
-            store.describe(name, unit=told.unit, labels=labels or None, rounding=told.rounding)
+            await store.describe_soon(name, unit=told.unit, labels=labels or None, rounding=told.rounding)
