@@ -342,7 +342,7 @@ class Intake:
             self._opened.answered()
         if delivery.unknown_stream:
             self.streams.forget(route.stream)
-            self.forget(route.stream)
+            self._recent.forget(route.stream)
         if delivery.too_far:
             self._wait_for_the_clock(lane, delivery.free_at - now)
         if delivery.again:
