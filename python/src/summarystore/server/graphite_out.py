@@ -181,7 +181,7 @@ class _Streams:
         count = (last - begin) // step + 1
         first, end = meaning.first(begin * SECOND), meaning.last(last * SECOND)
         before = max(0, (meaning.nanoseconds(first) // SECOND - begin) // step)
-        nothing = NOTHING if kind in ("mean", "min", "max") else Interval(0)
+        nothing = NOTHING if kind in ("mean", "min", "max", "increase") else Interval(0)
         if end < first:
             return [nothing] * count
         found: list[Interval] = []
