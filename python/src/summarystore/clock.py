@@ -4,11 +4,14 @@ from __future__ import annotations
 
 import datetime
 import re
+import time
+import warnings
 import zoneinfo
 from contextlib import suppress
+from decimal import ROUND_FLOOR, Decimal
 
 from .description import NANOSECONDS
-from .errors import TimeError
+from .errors import RoundedTimeWarning, TimeError
 from .records import Time
 from .wire import LAST_TIME
 
@@ -22,6 +25,7 @@ _SPANS = {"ns": 1, "us": 10**3, "ms": 10**6, "s": 10**9, "m": 60 * 10**9, "h": 3
           "d": 86400 * 10**9, "w": 7 * 86400 * 10**9, "D": 86400 * 10**9, "W": 7 * 86400 * 10**9}
 _NUMPY = re.compile(r"(?:datetime|timedelta)64\[([0-9]*)(ns|us|ms|s|m|h|D|W)\]")
 _NAT = -2**63
+NOW = re.compile(r"now(?: ?([+-]) ?([0-9]{1,9}) ?([a-z]{1,7}))?")
 # Fractions of a second beyond what a datetime holds.
 OPEN = "open with zone="
 """How it is said in the package that a zone may be told. Commands have `--zone`."""
@@ -166,6 +170,30 @@ def _numpy_count(given: object) -> int:
     return int(count * int(unit[1] or 1) * _SPANS[unit[2]])
 
 
+def from_now(given: object) -> int | None:
+    """Nanoseconds since 1970 of what is told from the present: `now`, `now-1h`, or a timedelta from now."""
+    if isinstance(given, datetime.timedelta):
+        return time.time_ns() + span_of(given)
+    if isinstance(given, str) and (found := NOW.fullmatch(given)):
+        unit = "min" if found[3] == "m" else found[3]
+        span = span_of(f"{found[2]}{unit}") if found[1] else 0
+        return time.time_ns() + (-span if found[1] == "-" else span)
+    return None
+
+
+def is_float(given: object) -> bool:
+    """Whether this is a float, also numpy's: then it counts seconds since 1970, as `time.time()` does."""
+    return isinstance(given, float) or getattr(getattr(given, "dtype", None), "kind", "") == "f"
+
+
+def _of_float(given: object) -> int:
+    """Nanoseconds since 1970 of seconds, by the shortest decimal of a float."""
+    seconds = Decimal(str(given))
+    if not seconds.is_finite() or abs(seconds.adjusted()) > 20:
+        raise TimeError(f"not a time: {given}")
+    return int(seconds.scaleb(9).to_integral_value(ROUND_FLOOR))
+
+
 class Clock:
     """The times of one stream: its resolution, the day from which it counts, and a zone."""
 
@@ -174,11 +202,15 @@ class Clock:
         self._step = NANOSECONDS[resolution]
         self._zone = zone
         self._origin = self.day(since)
+        self._told = False
 
     def time(self, given: object) -> int:
-        """The count of a time. One between two counts, or before the first, is refused."""
+        """The count of a time. One before the first is refused, and so is one between two counts.
+
+        But what a clock of Python says, a datetime or a float, is rounded down, which is told once.
+        """
         if isinstance(given, str):
-            if len(given) > 11 and not COUNT.fullmatch(given):
+            if len(given) > 11 and not COUNT.fullmatch(given) and not given.startswith("now"):
                 return self.of(moment_of(given, self._zone), given)
         count = self._count(given)
         if count is not None:
@@ -188,10 +220,18 @@ class Clock:
     def of(self, passed: int, given: object) -> int:
         """The count of nanoseconds since 1970."""
         whole, rest = divmod(passed - self._origin, self._step)
-        if rest:
+        if rest and (isinstance(given, datetime.datetime) or is_float(given)):
+            self._tell(given)
+        elif rest and from_now(given) is None:
             raise TimeError(f"{given} lies between two times of the stream, which counts in "
                             f"{self.resolution}")
         return _checked(whole, given)
+
+    def _tell(self, given: object) -> None:
+        if not self._told:
+            self._told = True
+            warnings.warn(RoundedTimeWarning(f"{given} is rounded down, since the stream counts in "
+                                             f"{self.resolution}: so are all times of a clock"), stacklevel=6)
 
     def day(self, day: datetime.date) -> int:
         """Nanoseconds from 1970 to a day in UTC."""
@@ -263,6 +303,11 @@ class Clock:
             if given != given:      # pandas NaT
                 raise TimeError("not a time: NaT")
             return nanoseconds(given, self._zone)
+        present = from_now(given)
+        if present is not None:
+            return present
+        if is_float(given):
+            return _of_float(given)
         day = day_of(given)
         if day is not None:
             if self.resolution != "day":

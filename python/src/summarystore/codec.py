@@ -92,6 +92,9 @@ class Translator(Protocol):
     def rename(self, name: str, new: str) -> None:
         """Gives a described stream another name."""
 
+    def keep_joins(self, name: str, joins: Sequence[tuple[int, int]]) -> None:
+        """Brings the joins of a counter to the disk."""
+
     def name_of(self, short: str) -> str:
         """The name that people use for one of the program's."""
 
@@ -193,6 +196,9 @@ class Plain:
     def rename(self, name: str, new: str) -> None:
         """Names are those of the program."""
         raise DescriptionError("a store of whole numbers keeps its names: summarystore.open has others")
+
+    def keep_joins(self, name: str, joins: Sequence[tuple[int, int]]) -> None:
+        """Has no counters."""
 
     def name_of(self, short: str) -> str:
         """The name."""

@@ -6,7 +6,8 @@ import select
 import time
 
 from .codec import Translator
-from .errors import DiskFullError, ProcessEndedError, ProtocolError, ending_of
+from .errors import DiskFullError, LockedError, ProcessEndedError, ProtocolError, ending_of
+from .held import how_to_connect
 from .pipeline import Commands, Pipeline, Request
 from .program import Process
 from .reading import copied
@@ -125,6 +126,8 @@ def connect(program: str, path: str, translator: Translator, existing: bool, che
             if not connection.fill():
                 connection.end()
         if request.error is not None:
+            if isinstance(request.error, LockedError):
+                request.error.text += how_to_connect(path)
             if isinstance(request.error, ProcessEndedError):
                 request.error.unknown = request.error.not_stored = ()    # nothing of anybody's
             raise request.error

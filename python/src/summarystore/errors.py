@@ -61,6 +61,16 @@ class CommandError(RefusedError, word="SYNTAX"):
     """
 
 
+class KindError(CommandError, ValueError):
+    """There is no such kind of answer.
+
+    What there is stands in the message.
+    """
+
+    def __str__(self) -> str:
+        return f"{self.reason}, and not {self.line}"
+
+
 class NumberError(RefusedError, ValueError, word="NUMBER"):
     """A number is out of range, or there would be more than 100,000 rows.
 
@@ -359,6 +369,10 @@ class TimeError(SummaryStoreError, ValueError):
     """What was given as a time doesn't say one time of the stream."""
 
 
+class MeterError(SummaryStoreError, ValueError):
+    """A value is no reading of its counter."""
+
+
 class DescriptionError(SummaryStoreError, ValueError):
     """A stream can't be described like this, or isn't described."""
 
@@ -367,12 +381,34 @@ class NamesFileError(SummaryStoreError):
     """The file of the descriptions can't be understood. It is left as it is."""
 
 
+class ServiceError(SummaryStoreError):
+    """The service couldn't be reached, or didn't take a request.
+
+    `status` is that of its answer, or None where there was none, `code` its word for the reason, and
+    `retry_after` says after how many seconds it may be asked again.
+    """
+
+    def __init__(self, status: int | None, code: str, reason: str, retry_after: int | None = None) -> None:
+        super().__init__(status, code, reason)
+        self.status = status
+        self.code = code
+        self.reason = reason
+        self.retry_after = retry_after
+
+    def __str__(self) -> str:
+        return f"{self.code}: {self.reason}"
+
+
 class SourceError(SummaryStoreError):
     """A table can't be read, or may be read in two ways."""
 
 
 class CertificateError(SummaryStoreError):
     """A certificate shows nothing, or it can't be told whether it does."""
+
+
+class RoundedTimeWarning(UserWarning):
+    """A time was rounded down to the steps of its stream. It is told once for each stream."""
 
 
 class ReopenedWarning(UserWarning):

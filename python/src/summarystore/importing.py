@@ -22,6 +22,7 @@ from .codec import Codec, PlainCodec
 from .description import NANOSECONDS, ROUNDINGS, Description, description_of
 from .errors import LateError, NotANumberError, SourceError, SummaryStoreError, TimeError
 from .late import ReorderBuffer
+from .meters import must_not_count
 from .names import DescribedCodec, Names, short_name
 from .progress import Progress
 from .records import Record
@@ -278,7 +279,9 @@ class Import:
     def _codec(self, name: str, column: int) -> Codec:
         words = self._words
         if self._store is not None and name in self._standing:
-            return self._store.codec(name)
+            codec = self._store.codec(name)
+            must_not_count(codec, "its table goes by append_many")
+            return codec
         description = self._description(column)
         if self._store is None or words.dry_run:
             return DescribedCodec(short_name(name, description), description, self._zone)

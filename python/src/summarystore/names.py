@@ -20,7 +20,7 @@ from decimal import Decimal
 from .clock import Clock, zone_of
 from .codec import Change, Codec, PlainCodec, each_of, streams_of
 from .decimals import EXACT, Number
-from .description import EPOCH, Description, is_text
+from .description import EPOCH, Description, is_text, with_joins
 from .errors import (DescriptionError, NamesFileError, StreamExistsError, StreamNameError,
                      UnknownStreamError)
 from .interval import Interval
@@ -240,6 +240,7 @@ class Names:
             raise DescriptionError(f"{name} isn't described")
         if description[:3] != found.description[:3]:
             raise DescriptionError(f"the scale and the times of {name} can't be changed")
+        description = with_joins(description, found.description)
         described[name] = found.short, description
         return DescribedCodec(found.short, description, self._zone)
 
@@ -302,3 +303,10 @@ class Names:
         """The name that people use."""
         with self._lock:
             return self._standing.get(short, short)
+
+    def keep_joins(self, name: str, joins: Sequence[tuple[int, int]]) -> None:
+        """Brings the joins of a counter to the disk."""
+        description = self.codec(name).description
+        assert description is not None and description.meter is not None
+        meter = description.meter._replace(joins=tuple(joins))
+        self.describe(name, description._replace(meter=meter))

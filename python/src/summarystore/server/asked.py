@@ -4,16 +4,14 @@ from __future__ import annotations
 
 import difflib
 import re
-import time as clock
 from collections.abc import Mapping, Sequence
 from decimal import Decimal, InvalidOperation
 
-from ..clock import OPEN, moment_of, span_of
+from ..clock import OPEN, from_now, moment_of, span_of
 from ..errors import TimeError
 from .endpoints import ApiError
 
 SECONDS = re.compile(r"[+-]?[0-9]{1,19}(?:\.([0-9]{1,9}))?")
-NOW = re.compile(r"now(?:([+-])([0-9]{1,9}) ?([a-z]{1,7}))?")
 # A plus sign in an address that wasn't escaped has become a blank.
 LOST_PLUS = re.compile(r"([0-9]{4}-?[0-9]{2}-?[0-9]{2}[T ][0-9:.]+) ([0-9]{2}:?[0-9]{2})")
 LONGEST = 64
@@ -51,10 +49,10 @@ def nanoseconds(given: object, key: str) -> int:
     text = given.strip()
     if SECONDS.fullmatch(text):
         return _of_seconds(text, key)
-    found = NOW.fullmatch(text)
     try:
-        if found:
-            return clock.time_ns() + _offset(found)
+        found = from_now(text)
+        if found is not None:
+            return found
         lost = LOST_PLUS.fullmatch(text)
         return moment_of(f"{lost[1]}+{lost[2]}" if lost else text[:LONGEST], None)
     except (TimeError, OverflowError) as error:
@@ -74,14 +72,6 @@ def _of_seconds(text: str, key: str) -> int:
         raise bad(f"`{key}`: not a time: {text[:LONGEST]}; seconds have at most 19 digits, and 9 behind the "
                   "point", "bad_time")
     return int(Decimal(text).scaleb(9))
-
-
-def _offset(found: re.Match[str]) -> int:
-    if not found[1]:
-        return 0
-    unit = "min" if found[3] == "m" else found[3]
-    span = span_of(f"{found[2]}{unit}")
-    return span if found[1] == "+" else -span
 
 
 def span(given: str, key: str) -> int:

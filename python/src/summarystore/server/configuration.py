@@ -339,10 +339,11 @@ def _timed(mapping: Mapping, is_told: bool) -> Mapping:
 def _description(table: Table) -> Description:
     scale, time, since = table.decimal("scale"), table.text("time"), table.take("since")
     unit, labels, rounding = table.text("unit"), table.words("labels"), table.text("rounding")
+    kind, overflow = table.text("kind"), table.decimal("overflow")
     try:
-        return described(scale, time, since, unit, labels, rounding)
+        return described(scale, time, since, unit, labels, rounding, kind, overflow)
     except SummaryStoreError as error:
-        raise table.wrong("scale, time, since or rounding", str(error)) from None
+        raise table.wrong("scale, time, since, rounding, kind or overflow", str(error)) from None
 
 
 def _words(table: Table) -> Words[str, str]:

@@ -207,4 +207,5 @@ class Delivery:
         known = self._recent.value(self._stream, count)
         if known is not None:
             return Presence(("absent", "present")[self._meaning.shown(known) == self._meaning.shown(value)])
-        return await store.has(self._stream, value, count, count)
+        ((_, kept),) = await store.kept(self._stream, [(count, value)])
+        return await store.has(self._stream, kept, count, count)

@@ -9,13 +9,14 @@ from collections.abc import AsyncIterator, Mapping, Sequence
 from aiohttp import web
 
 from ..interval import Presence
+from ..kinds import KINDS, one_of
 from ..records import Stream, Window
 from . import asked, exactjson, many
 from .answers import CSV, JSON, csv_line, ends_of, table_answer, wants_csv
 from .app import Service
 from .endpoints import Access, ApiError, Endpoint
 from .globs import LONGEST, matches
-from .many import KINDS, ROWS
+from .many import ROWS
 from .meaning import Meaning
 
 TOGETHER = 200
@@ -60,6 +61,7 @@ class HttpOut:
         if last is not None and last.value is not None and last.newest is not None:
             newest = {"time": meaning.shown_time(last.newest), "lo": last.value.lo, "hi": last.value.hi}
         return {"name": stream.name, "unit": told.unit if told else None,
+                "kind": told.meter.kind if told and told.meter else None,
                 "labels": dict(told.labels) if told else {}, "target": stream.target, "within": stream.within,
                 "values": stream.values, "windows": stream.windows, "landmarks": stream.landmarks,
                 "open_landmark": self._service.landmarks.is_open(stream),
@@ -83,10 +85,15 @@ class HttpOut:
             presence: Presence = await self._service.ask(
                 lambda store: store.has(name, meaning.value(value), first, last))
             told.update(value=value, answer=presence.value)
+        elif kind == "value_at":
+            at = meaning.last(asked.nanoseconds("now", "to")) if last is None else last
+            told.update(ends_of(await self._service.ask(lambda store: store.value_at(name, at))))
         elif kind in KINDS:
-            told.update(ends_of(await self._service.ask(lambda store: store.query(name, kind, first, last))))
+            asked_kind = one_of(kind, KINDS)
+            told.update(ends_of(await self._service.ask(
+                lambda store: store.query(name, asked_kind, first, last))))
         else:
-            raise asked.no_kind(kind, (*KINDS, "has"))
+            raise asked.no_kind(kind, (*KINDS, "value_at", "has"))
         return table_answer(request, told, [told])
 
     async def series(self, request: web.Request) -> web.StreamResponse:
@@ -103,7 +110,8 @@ class HttpOut:
         if first is None or last is None:
             return table_answer(request, {**told, "step": None, "rows": []}, [])
         step = self._step(words, meaning, last - first + 1)
-        found = await self._service.ask(lambda store: store.series(name, kind, first, last, step))
+        found = await self._service.ask(
+            lambda store: store.series(name, one_of(kind, KINDS), first, last, step))
         rows: list[dict[str, object]] = [{"time": meaning.shown_time(row.start), **ends_of(row.interval)}
                                          for row in found]
         told.update(step=meaning.length(step), rows=rows)

@@ -32,7 +32,7 @@ import re
 import time as clock
 from collections import Counter
 from collections.abc import Callable, Sequence
-from typing import Protocol
+from typing import Protocol, cast
 
 from .. import aio, errors
 from ..decimals import decimal_of
@@ -352,7 +352,8 @@ class Intake:
         if delivery.ended is not None or delivery.again:
             _keep_steps(taken, delivery.rows, found)
         self.counters.add("batches")
-        self._tell(route.stream, meaning, delivery.rows, found)
+        if self._hub.listens(route.stream):
+            await self._tell(store, route.stream, meaning, delivery.rows, found)
         return found
 
     def _wait_for_the_clock(self, lane: Lane, nanoseconds: int) -> None:
@@ -364,15 +365,17 @@ class Intake:
             log.warning("stream ahead of the clock: stream=%r seconds=%d: what has no time of its own waits; "
                         "a finer `time` or a restart mends it", stream, nanoseconds // SECOND)
 
-    def _tell(self, stream: str, meaning: Meaning, rows: Sequence[Row], found: Sequence[Outcome]
-              ) -> None:
+    async def _tell(self, store: aio.Store, stream: str, meaning: Meaning, rows: Sequence[Row],
+                    found: Sequence[Outcome]) -> None:
         """Tells those who listen what was stored."""
-        if not self._hub.listens(stream):
-            return
-        for row, outcome in zip(rows, found):
-            if outcome is STORED:
-                self._hub.tell("reading", {"stream": stream, "time": meaning.seconds(row[0]),
-                                           "value": meaning.shown(row[1])})
+        stored = [row for row, outcome in zip(rows, found) if outcome is STORED]
+        try:
+            kept = await store.kept(stream, stored)
+        except (SummaryStoreError, OSError):
+            return      # the program has ended meanwhile: they see it in the store
+        for time, value in kept:
+            self._hub.tell("reading", {"stream": stream, "time": meaning.seconds(cast(int, time)),
+                                       "value": meaning.shown(value)})
 
     def _settle(self, settled: Sequence[tuple[Pending, Outcome]]) -> None:
         """Readings have their fate: those who wait for it are told, and for room."""

@@ -18,6 +18,7 @@ from contextlib import suppress
 from dataclasses import replace
 from pathlib import Path
 
+from .. import held
 from ..errors import ProgramMissingError, ReopenedWarning
 from ..program import find_program
 from .app import Service
@@ -138,6 +139,8 @@ class _Running:
         place = "" if http.address is None else f"http://{shown(http.address)}/"
         log.info("ready: address=%s pid=%d", place, os.getpid())
         self._notifier.ready(f"serving {place}")
+        with suppress(OSError):     # a help for others, and nothing that it needs itself
+            held.tell(self._path, place)
         alive = asyncio.get_running_loop().create_task(self._notifier.keep_alive())
         await self._end.wait()
         log.info("stopping")
@@ -146,6 +149,7 @@ class _Running:
         last.daemon = True
         last.start()
         await service.stop()
+        held.let_go(self._path)
         last.cancel()
         alive.cancel()
         with suppress(asyncio.CancelledError):

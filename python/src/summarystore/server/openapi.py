@@ -15,6 +15,8 @@ NUMBER: Json = {"type": ["number", "null"]}
 TIME: Json = {"oneOf": [{"type": "number", "description": "seconds since 1970"},
                         {"type": "string", "description": "ISO 8601 with a zone, `now`, or `now-1h`"}]}
 KINDS = ("count", "sum", "mean", "min", "max")
+COUNTERS = ("increase", "value_at")
+"""What counters alone are asked."""
 TRUTH: Json = {"type": "boolean"}
 ENDS: Json = {"lo": NUMBER, "hi": NUMBER, "mid": NUMBER, "exact": TRUTH, "none": TRUTH, "maybe_none": TRUTH}
 READING: Json = {"type": "object", "required": ["stream", "value"], "additionalProperties": False,
@@ -52,11 +54,11 @@ def _paths() -> Json:
         "/api/query": {"get": operation(
             "One answer about a range of times, both ends included. Over several streams it has `matched`, "
             "and of a mean its parts.",
-            (ONE, SEVERAL, word("kind", {"enum": [*KINDS, "has"]}, True), *RANGE,
+            (ONE, SEVERAL, word("kind", {"enum": [*KINDS, *COUNTERS, "has"]}, True), *RANGE,
              word("value", NUMBER, False, "of `has`")), reference("Answer"))},
         "/api/series": {"get": operation(
             "Answers about one span of time after another. Over several streams `from` has to be given.",
-            (ONE, SEVERAL, word("kind", {"enum": KINDS}), *RANGE,
+            (ONE, SEVERAL, word("kind", {"enum": [*KINDS, COUNTERS[0]]}), *RANGE,
              word("step", TEXT, False, "seconds, or a text such as 15min"),
              word("rows", COUNT, False, "about so many rows, in the place of a step")), reference("Series"))},
         "/api/access": {"get": operation(
@@ -121,7 +123,8 @@ def document() -> Json:
         "Error": _object({"error": {"type": "string", "description": "a word for the reason"},
                           "reason": TEXT}),
         "Stream": _object({
-            "name": TEXT, "unit": {"type": ["string", "null"]}, "labels": {"type": "object"}, "target": TEXT,
+            "name": TEXT, "unit": {"type": ["string", "null"]}, "kind": {"enum": ["counter", None]},
+            "labels": {"type": "object"}, "target": TEXT,
             "within": {"type": ["integer", "null"]}, "values": COUNT, "windows": COUNT, "landmarks": COUNT,
             "open_landmark": {"type": ["boolean", "null"]}, "last": NUMBER,
             "newest": {"oneOf": [{"type": "null"}, newest]}}),

@@ -66,7 +66,7 @@ class Word(str):
 
 CODES: Sequence[tuple[type[Exception], str]] = (
     (errors.LateError, "late"), (errors.NotANumberError, "not_a_number"), (errors.ScaleError, "scale"),
-    (errors.TimeError, "time"), (errors.UnknownStreamError, "unknown_stream"),
+    (errors.MeterError, "counter"), (errors.TimeError, "time"), (errors.UnknownStreamError, "unknown_stream"),
     (errors.StreamNameError, "name"), (errors.NumberError, "range"), (errors.StreamFullError, "full"),
     (errors.StoreFullError, "full"), (errors.TooManyStreamsError, "full"))
 """The word for the reason of a refusal. What else is refused is refused for its mapping."""

@@ -15,7 +15,7 @@ from contextlib import AsyncExitStack, asynccontextmanager
 from aiohttp import web
 
 from .. import aio
-from ..description import Description
+from ..description import Description, meter_words
 from ..errors import UnknownStreamError
 from ..records import Stream
 from . import asked, exactjson
@@ -95,7 +95,7 @@ class Repair:
         told = meaning.description or Description()
         await store.create(new, stream.target, stream.within, scale=told.scale, time=told.time,
                            since=told.since, unit=told.unit, labels={**told.labels, RESTARTS: name},
-                           rounding=told.rounding)
+                           rounding=told.rounding, **meter_words(told))
         self._streams.came(new)
 
 

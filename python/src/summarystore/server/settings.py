@@ -49,11 +49,12 @@ class Mapping:
 
 
 def described(scale: object | None, time: str | None, since: object | None, unit: str | None,
-              labels: Words[str, str], rounding: str | None) -> Description:
+              labels: Words[str, str], rounding: str | None, kind: str | None = None,
+              overflow: object | None = None) -> Description:
     """The description of the streams of a mapping. A network has clock times, so there is always one."""
     if since is not None and not isinstance(since, (str, datetime.date)):
         raise DescriptionError(f"a day is written as 1958-01-01: {since}")
     found = description_of(scale=scale, time=time or "s", since=since, unit=unit, labels=labels or None,
-                           rounding=rounding)
+                           rounding=rounding, kind=kind, overflow=overflow)
     assert found is not None
     return found

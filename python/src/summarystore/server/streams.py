@@ -9,6 +9,7 @@ from collections.abc import Sequence
 from weakref import WeakValueDictionary
 
 from .. import aio
+from ..description import meter_words
 from ..errors import (RefusedError, StreamExistsError, SummaryStoreError, TooManyStreamsError,
                       UnknownStreamError)
 from ..records import Stream
@@ -155,7 +156,7 @@ class Streams:
         try:
             await store.create(name, mapping.target, mapping.within, scale=told.scale, time=told.time,
                                since=told.since, unit=told.unit, labels=told.labels,
-                               rounding=told.rounding)
+                               rounding=told.rounding, **meter_words(told))
         except StreamExistsError:
             pass    # it was made by another call
         except (RefusedError, ValueError) as error:
@@ -175,8 +176,8 @@ class Streams:
         if known is None:
             return
         is_same = known[:3] == (told.scale, told.time if mapping.time_told else known.time, told.since)
-        if not is_same:
-            log.warning("stream stands with another scale or time than its mapping has: stream=%r "
+        if not is_same or meter_words(known) != meter_words(told):
+            log.warning("stream stands with another scale, time or kind than its mapping has: stream=%r "
                         "scale=%s time=%s", name, known.scale, known.time)
         labels = dict(told.labels)
         if RESTARTS in known.labels:
