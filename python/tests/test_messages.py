@@ -5,6 +5,7 @@ from __future__ import annotations
 import os
 import subprocess
 import sys
+from collections.abc import Callable
 from pathlib import Path
 
 import pytest
@@ -64,7 +65,8 @@ def test_a_damaged_store_names_its_file_and_the_next_step(path: Path) -> None:
     with open(path, "r+b") as file:
         file.seek(36864 + 128 * 5 + 20)
         file.write(b"\xff")
-    for look in (summarystore.open, summarystore.check):
+    looks: tuple[Callable[[Path], object], ...] = (summarystore.open, summarystore.check)
+    for look in looks:
         with pytest.raises(errors.DamagedStoreError, match="damaged slot 5") as error:
             look(path)
         assert str(path) in str(error.value) and f"tools/scrub {path}" in str(error.value)
