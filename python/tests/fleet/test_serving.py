@@ -20,6 +20,8 @@ from summarystore.fleet.following import Follower  # noqa: E402
 from summarystore.fleet.frames import event_of  # noqa: E402
 from summarystore.fleet.serving import AS_OF, COPIED, serving  # noqa: E402
 
+from ..waiting import soon  # noqa: E402
+
 RANGE = {"from": "0", "to": "30"}
 NOWHERE = ["amqp://127.0.0.1:1"]
 
@@ -54,6 +56,7 @@ def test_answers_come_from_a_copy(folder: Path, program: str) -> None:
         async with serving("127.0.0.1:0", 0.0, None)(follower) as http, aiohttp.ClientSession() as session:
             assert http.address is not None
             asking = Asking(session, f"http://127.0.0.1:{http.address[1]}")
+            await soon(lambda: follower.store.pid is not None)      # it has the store by then
             await follower.store.take(frames(["create a exp 2 60 1", "append a 10 5", "append a 20 7"], 1))
             follower.version += 1
             answer = await asking.get("/api/query", 200, stream="a", kind="sum", **RANGE)
