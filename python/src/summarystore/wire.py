@@ -71,7 +71,8 @@ def whole(value: object) -> int:
 def create(name: str, target: str | Sequence[object], within: int | None = None) -> str:
     """`create NAME TARGET within E`, with TARGET such as `exp 2 60 1` or ("power", 1, 1, 4, 1)."""
     words = target.split() if isinstance(target, str) else [str(word) for word in target]
-    if not words or len(words) != FORMS.get(words[0]) or not all(WORD.fullmatch(word) for word in words):
+    form = words[:-2] if within is None and words[-2:-1] == ["within"] else words
+    if not form or len(form) != FORMS.get(form[0]) or not all(WORD.fullmatch(word) for word in words):
         raise CommandError("SYNTAX", f"create {name} {target}", NO_TARGET)
     end = "" if within is None else f" within {whole(within)}"
     return f"create {name_word(name)} {' '.join(words)}{end}"
