@@ -49,8 +49,12 @@ class DescribedCodec:
 
     def rows(self, given: Sequence[tuple[object, object]]) -> Sequence[tuple[int, int]]:
         """Times and values together."""
-        time, value = self.time, self.value
-        return [(time(t), value(v)) for t, v in given]
+        times, values = [t for t, _ in given], [v for _, v in given]
+        texts = [v for v in values if type(v) is str]
+        counts = [t for t in times if type(t) is int]
+        if len(texts) == len(counts) == len(given):     # read together
+            return list(zip(counts, self.scale.numbers(texts)))
+        return list(zip(map(self.time, times), map(self.value, values)))
 
     def interval_back(self, kind: str, interval: Interval) -> Interval:
         """A count as it is, and what is made of values in their unit."""

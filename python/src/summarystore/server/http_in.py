@@ -8,20 +8,20 @@ from collections.abc import Mapping, Sequence
 
 from aiohttp import web
 
-from . import asked, exactjson, lineprotocol
+from . import asked, exactjson, linebody
 from .answers import error_answer, json_answer
 from .app import Service
 from .bodies import body_of, text_of
 from .endpoints import Access, ApiError, Endpoint
 from .intake import Incoming, Outcome, Result
+from .linebody import Body
 from .lineprotocol import PRECISIONS, Mistake
+from .outcomes import STORED
 from .meaning import seconds_of
 from .outcomes import TOO_FAR, Word
 
 READINGS = '{"stream": NAME, "time": TIME, "value": NUMBER}, or {"readings": [..]} with a list of these'
 LANDMARK = '{"stream": NAME, "action": "open" or "close"}, and "time" where it isn\'t now'
-SLICE = 500
-"""After so many lines others have their turn."""
 SHOWN = 20
 """So many refusals are told one by one."""
 VERSION = "1.8-summarystore"
@@ -43,27 +43,25 @@ class HttpIn:
         if precision not in PRECISIONS:
             raise asked.bad(f"`precision`: {precision[:20]!r} isn't one of {', '.join(PRECISIONS)}")
         text = text_of(await body_of(request, limits))
-        readings: list[Incoming] = []
-        lines: list[int] = []
-        mistakes: list[Mistake] = []
-        for count, found in enumerate(lineprotocol.parse(text, PRECISIONS[precision], limits.line)):
-            if isinstance(found, Mistake):
-                mistakes.append(found)
-            else:
-                readings += found[1]
-                lines += [found[0]] * len(found[1])
-            if len(readings) + len(mistakes) > limits.lines:
-                raise ApiError(413, "too_many", f"a body has at most {limits.lines} readings")
-            if count % SLICE == SLICE - 1:
+        body = Body((), ())
+        for found in linebody.read(text, PRECISIONS[precision], limits.line, limits.lines):
+            if found is None:
                 await asyncio.sleep(0)
-        outcomes = await self._service.intake.append_many(readings)
+            else:
+                body = found
+        if len(body.lines) + len(body.mistakes) > limits.lines:
+            raise ApiError(413, "too_many", f"a body has at most {limits.lines} readings")
+        columns = await self._service.intake.append_columns(body.columns)
+        if not body.mistakes and all(each.count(STORED) == len(each) for each in columns):
+            return web.Response(status=204, headers={"X-Influxdb-Version": VERSION})
+        lines, outcomes = body.lines, body.in_order(columns)
         words = 0
         if not self._service.configuration.http.strict:
-            told = [(line, outcome) for line, reading, outcome in zip(lines, readings, outcomes)
+            told = [(line, outcome) for line, reading, outcome in zip(lines, body.readings(), outcomes)
                     if not _is_word(reading, outcome)]
-            words = len(readings) - len(told)
+            words = len(outcomes) - len(told)
             lines, outcomes = [line for line, _ in told], [outcome for _, outcome in told]
-        answer = _written(lines, mistakes, outcomes)
+        answer = _written(lines, body.mistakes, outcomes)
         if words:
             answer.headers[WORDS] = str(words)
         return answer

@@ -31,18 +31,20 @@ import logging
 import re
 import time as clock
 from collections import Counter
-from collections.abc import Callable, Sequence
+from collections.abc import Callable, Mapping, Sequence
 from typing import Protocol, cast
 
 from .. import aio, errors
 from ..decimals import decimal_of
 from ..errors import NotANumberError, ProcessEndedError, SummaryStoreError
+from .column import Column
+from .column_delivery import delivery_of
 from .counters import Counters
 from .delivery import Delivery, Given, Row
 from .errors import BusyError, UnavailableError
 from .events import Hub
 from .lanes import SECOND, Batch, Incoming, Lane, Pending
-from .mapping import Mappings, Route, UnmatchedNames, full_name
+from .mapping import MOST_KEPT, Mappings, Route, UnmatchedNames, full_name
 from .meaning import Meaning, seconds_of
 from .outcomes import IGNORED, STORED, TOO_FAR, TOO_MANY, Outcome, Result, Word, refused
 from .recent import Recent
@@ -107,8 +109,9 @@ class Intake:
         self._future = future
         self._answers = answers
         self._lanes: dict[str, Lane] = {}
-        self._tasks: set[asyncio.Task[None]] = set()
+        self._tasks: set[asyncio.Task[None] | asyncio.Task[Sequence[Outcome]]] = set()
         self._released = asyncio.Event()
+        self._known: dict[tuple[str, tuple[tuple[str, str], ...], str], Route] = {}
         self._closed = False
         self._ours = 0
         self._told: dict[str, float] = {}
@@ -149,6 +152,67 @@ class Intake:
                     None if wait else clock.monotonic() + self._answers)
         return await done
 
+    async def append_columns(self, columns: Sequence[Column]) -> Sequence[Sequence[Outcome]]:
+        """Takes columns, and says what became of the readings of each. A stream that has one column, and
+        nothing else under way, gets it as a whole."""
+        self._must_have_room(sum(map(len, columns)))
+        latest = clock.time_ns() + self._future
+        routes = [self._known_route(column) for column in columns]
+        streams = Counter(route.stream for route in routes if route is not None)
+        works: dict[int, asyncio.Task[Sequence[Outcome]]] = {}
+        for at, (column, route) in enumerate(zip(columns, routes)):
+            if (route is not None and streams[route.stream] == 1 and route.stream not in self._lanes
+                    and column.is_plain(route, latest)):
+                works[at] = task = asyncio.get_running_loop().create_task(self._whole(column, route))
+                self._tasks.add(task)
+                task.add_done_callback(self._tasks.discard)
+                self.queued += len(column)
+        others = [at for at in range(len(columns)) if at not in works]
+        singly = await self._one_by_one([columns[at] for at in others])
+        if works:
+            await asyncio.wait(works.values())
+        found = dict(zip(others, singly))
+        return [found[at] if at in found else works[at].result() for at in range(len(columns))]
+
+    async def _one_by_one(self, columns: Sequence[Column]) -> Sequence[Sequence[Outcome]]:
+        """Takes the readings of columns in the order in which they came."""
+        placed = sorted(((place, at, reading) for at, column in enumerate(columns)
+                         for place, reading in column.readings()), key=lambda each: each[0])
+        outcomes = await self.append_many([reading for _, _, reading in placed])
+        found: list[list[Outcome]] = [[] for _ in columns]
+        for (_, at, _), outcome in zip(placed, outcomes):
+            found[at].append(outcome)
+        return found
+
+    def _known_route(self, column: Column) -> Route | None:
+        """Where the readings of a column go. None where each of them has to be told that they don't."""
+        key = column.name, tuple(sorted(column.tags.items())), column.source
+        route = self._known.get(key)
+        if route is None:
+            name = full_name(column.name, column.tags)
+            if self.mistake_of(name) is not None:
+                return None
+            route = self.mappings.route(column.name, column.tags, column.source)
+            if route is None:
+                return self._current(Route(name)) if self.streams.stands(name) else None
+            if route.mapping is not None and route.mapping.ignore:
+                return None
+            if len(self._known) >= MOST_KEPT:
+                self._known.clear()
+            self._known[key] = route
+        return self._current(route)
+
+    async def _whole(self, column: Column, route: Route) -> Sequence[Outcome]:
+        """Brings a column to the store."""
+        came, lane = clock.monotonic(), Lane(route)
+        found: list[Outcome] = []
+        async with self.streams.alone(route.stream):
+            for at in range(0, len(column), BATCH):
+                found += await self._outcomes(lane, column.part(at, at + BATCH))
+        self.counters.took("append", clock.monotonic() - came)
+        self._settle_column(column.source, found)
+        return found
+
     async def hand_over(self, readings: Sequence[Incoming], done: Callable[[Sequence[Outcome]], None]
                         ) -> None:
         """Takes readings as soon as there is room for them. `done` is told what became of them."""
@@ -187,6 +251,7 @@ class Intake:
     def remap(self, mappings: Mappings) -> None:
         """The mapping was read anew. What is under way goes by the old one."""
         self.mappings = mappings
+        self._known.clear()
         self.streams.try_again()
         self.unmatched.clear()
 
@@ -308,7 +373,7 @@ class Intake:
             return not lane.is_too_long(pending.until)
         return pending.until is None and not outcome.final
 
-    async def _outcomes(self, lane: Lane, taken: Sequence[Pending]) -> Sequence[Outcome]:
+    async def _outcomes(self, lane: Lane, taken: Sequence[Pending] | Column) -> Sequence[Outcome]:
         """What becomes of readings of one stream. What fails here fails none of the service."""
         try:
             return await self._stored(lane, taken)
@@ -316,7 +381,7 @@ class Intake:
             log.exception("append failed: stream=%r", lane.route.stream)
             return [Outcome(Result.UNKNOWN, "failed", f"{type(error).__name__}: {error}")] * len(taken)
 
-    async def _stored(self, lane: Lane, taken: Sequence[Pending]) -> Sequence[Outcome]:
+    async def _stored(self, lane: Lane, taken: Sequence[Pending] | Column) -> Sequence[Outcome]:
         store, route = self._opened.taking, lane.route
         if store is None:
             return [Outcome(Result.NOT_STORED, "store_unavailable", self._opened.why)] * len(taken)
@@ -328,12 +393,10 @@ class Intake:
             return [Outcome(Result.NOT_STORED, "interrupted", str(error))] * len(taken)
         except SummaryStoreError as error:
             return [refused(error)] * len(taken)
-        words = {} if route.mapping is None else route.mapping.words
-        given = [Given(each.time, each.reading.value, each.is_ours, each.step) for each in taken]
         now = clock.time_ns()
         values = self.streams.values(route.stream)
         self._recent.settle(route.stream, values, newest)
-        delivery = Delivery(route.stream, meaning, words, given, newest, self._recent, now, values)
+        delivery = self._delivery(route, meaning, taken, newest, now, values)
         found = await delivery.send(store)
         self.streams.came_to(route.stream, delivery.newest, delivery.values)
         if delivery.ended is not None:
@@ -349,12 +412,20 @@ class Intake:
             self.streams.forget_newest(route.stream)
         if delivery.ended is None:
             lane.went()
-        if delivery.ended is not None or delivery.again:
+        if not isinstance(taken, Column) and (delivery.ended is not None or delivery.again):
             _keep_steps(taken, delivery.rows, found)
         self.counters.add("batches")
         if self._hub.listens(route.stream):
             await self._tell(store, route.stream, meaning, delivery.rows, found)
         return found
+
+    def _delivery(self, route: Route, meaning: Meaning, taken: Sequence[Pending] | Column, newest: int,
+                  now: int, values: int | None) -> Delivery:
+        if isinstance(taken, Column):
+            return delivery_of(taken, route.stream, meaning, newest, self._recent, now, values)
+        words = {} if route.mapping is None else route.mapping.words
+        given = [Given(each.time, each.reading.value, each.is_ours, each.step) for each in taken]
+        return Delivery(route.stream, meaning, words, given, newest, self._recent, now, values)
 
     def _wait_for_the_clock(self, lane: Lane, nanoseconds: int) -> None:
         """The stream lies ahead of the clock: what has no time of its own waits."""
@@ -379,16 +450,29 @@ class Intake:
 
     def _settle(self, settled: Sequence[tuple[Pending, Outcome]]) -> None:
         """Readings have their fate: those who wait for it are told, and for room."""
-        counted: Counter[tuple[str, str, str]] = Counter()
+        counted: Counter[tuple[str, Result, str]] = Counter()
         for pending, outcome in settled:
             self._ours -= pending.is_ours
             pending.batch.settle(pending.at, outcome)
-            counted[pending.reading.source, outcome.result.value, outcome.code] += 1
+            counted[pending.reading.source, outcome.result, outcome.code] += 1
+        self._count(counted)
+
+    def _settle_column(self, source: str, found: Sequence[Outcome]) -> None:
+        """The readings of a column have their fate."""
+        stored = found.count(STORED)
+        counted: Counter[tuple[str, Result, str]] = Counter()
+        if stored == len(found):
+            counted[source, Result.STORED, ""] = stored
+        else:
+            counted.update((source, outcome.result, outcome.code) for outcome in found)
+        self._count(counted)
+
+    def _count(self, counted: Mapping[tuple[str, Result, str], int]) -> None:
         for (source, result, code), count in counted.items():
-            self.counters.add("readings", source, result, count=count)
-            if result == Result.REFUSED.value:
+            self.counters.add("readings", source, result.value, count=count)
+            if result is Result.REFUSED:
                 self.counters.add("refused", source, code, count=count)
-        self.queued -= len(settled)
+            self.queued -= count
         self._released.set()
 
 
