@@ -43,10 +43,8 @@ def read(text: str, most: int = MOST) -> Body:
 
 
 def one_by_one(body: Body) -> tuple[list[tuple[int, Incoming]], Sequence[Mistake]]:
-    placed = sorted(((place, reading) for column in body.columns for place, reading in column.readings()),
-                    key=lambda each: each[0])
-    assert [place for place, _ in placed] == list(range(len(body.lines)))
-    return [(line, reading) for line, (_, reading) in zip(body.lines, placed)], list(body.mistakes)
+    assert sorted(place for column in body.columns for place in column.places) == list(range(len(body.lines)))
+    return list(zip(body.lines, body.readings())), list(body.mistakes)
 
 
 @settings(max_examples=EXAMPLES)

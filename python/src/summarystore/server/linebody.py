@@ -12,6 +12,7 @@ from dataclasses import dataclass
 
 from . import lineprotocol
 from .column import Column
+from .lanes import Incoming
 from .lineprotocol import Mistake
 from .outcomes import Outcome
 
@@ -32,6 +33,12 @@ class Body:
     columns: Sequence[Column]
     lines: Sequence[int]
     mistakes: Sequence[Mistake] = ()
+
+    def readings(self) -> Sequence[Incoming]:
+        """Its readings one by one, in order."""
+        placed = [each for column in self.columns for each in column.readings()]
+        placed.sort(key=lambda each: each[0])
+        return [reading for _, reading in placed]
 
     def in_order(self, found: Sequence[Sequence[Outcome]]) -> Sequence[Outcome]:
         """What became of each reading, from what became of those of each column."""
