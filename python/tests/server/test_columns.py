@@ -12,7 +12,7 @@ import pytest
 from hypothesis import given, settings
 from hypothesis import strategies as st
 
-from summarystore.server import intake, linebody, lineprotocol
+from summarystore.server import column_intake, linebody, lineprotocol
 from summarystore.server.intake import Incoming
 from summarystore.server.linebody import Body
 from summarystore.server.lineprotocol import Mistake
@@ -101,7 +101,7 @@ T = 1764406800
 
 
 def test_what_becomes_of_columns(path: Path, monkeypatch: pytest.MonkeyPatch) -> None:
-    monkeypatch.setattr(intake, "BATCH", 700)
+    monkeypatch.setattr(column_intake, "BATCH", 700)
 
     async def work() -> None:
         async with over_http(MAPPING, path) as client:
