@@ -12,6 +12,9 @@ from dataclasses import dataclass, field
 from .lanes import Incoming
 from .mapping import Route
 
+FEW = 4
+"""So many readings of one name are worth to be taken together."""
+
 
 @dataclass(slots=True)
 class Column:
@@ -44,9 +47,9 @@ class Column:
                       self.places[begin:end])
 
     def is_plain(self, route: Route, latest: int) -> bool:
-        """Whether they needn't be looked at one by one: texts, each with a time that isn't later than this
-        nor earlier than the one before, of a stream without words and lateness."""
+        """Whether they needn't be looked at one by one: enough texts, each with a time that isn't later than
+        this nor earlier than the one before, of a stream without words and lateness."""
         times = [time for time in self.times if time is not None]
         mapping = route.mapping
-        return (len(times) == len(self) and (mapping is None or not (mapping.words or mapping.lateness))
-                and times == sorted(times) and times[-1] <= latest and set(map(type, self.values)) == {str})
+        return (FEW <= len(times) == len(self)
+                and (mapping is None or not (mapping.words or mapping.lateness)) and times == sorted(times) and times[-1] <= latest and set(map(type, self.values)) == {str})

@@ -11,7 +11,7 @@ from collections.abc import Callable, Iterator, Mapping, Sequence
 from dataclasses import dataclass
 
 from . import lineprotocol
-from .column import Column
+from .column import FEW, Column
 from .lanes import Incoming
 from .lineprotocol import Mistake
 from .outcomes import Outcome
@@ -115,6 +115,8 @@ def _plain(text: str, precision: int, longest: int, most: int) -> Body:
             texts = _line(row, number, heads, lines)
             if texts is not None:
                 alone[begin] = texts[0].append, texts[1].append, texts[2].append
+    if len(heads) > SLICE and len(lines) < FEW * len(heads):
+        raise _OtherwiseError       # so many names take long
     return Body(_columns(heads, precision), lines)
 
 
