@@ -52,4 +52,5 @@ class Column:
         times = [time for time in self.times if time is not None]
         mapping = route.mapping
         return (FEW <= len(times) == len(self)
-                and (mapping is None or not (mapping.words or mapping.lateness)) and times == sorted(times) and times[-1] <= latest and set(map(type, self.values)) == {str})
+                and (mapping is None or not (mapping.words or mapping.lateness))
+                and times == sorted(times) and times[-1] <= latest and set(map(type, self.values)) == {str})
