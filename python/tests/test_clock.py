@@ -3,6 +3,7 @@
 from __future__ import annotations
 
 import datetime
+import warnings
 import zoneinfo
 
 import numpy
@@ -12,7 +13,7 @@ from hypothesis import example, given
 from hypothesis import strategies as st
 
 import summarystore
-from summarystore import TimeError
+from summarystore import RoundedTimeWarning, TimeError
 from summarystore.clock import Clock, span_of, zone_of
 from summarystore.description import EPOCH, NANOSECONDS
 
@@ -37,9 +38,11 @@ def test_one_time_in_many_forms(given_time: object) -> None:
 
 @pytest.mark.parametrize("given_time", [
     "2025-11-29 10:00", "2025-11-29", datetime.datetime(2025, 11, 29, 9), datetime.date(2025, 11, 29),
-    pandas.Timestamp("2025-11-29 10:00"), pandas.NaT, numpy.datetime64("NaT"), "now", "", "yesterday",
-    "2025-13-01T00:00Z", 1.5, True, None, "2025-11-29T09:00:00.5Z", "1969-12-31T23:59:59Z", b"5", "-5",
-    "٣", numpy.float64(5.0), "2025-11-29T09:00:00.000000001Z",
+    pandas.Timestamp("2025-11-29 10:00"), pandas.NaT, numpy.datetime64("NaT"), "now-", "", "yesterday",
+    "2025-13-01T00:00Z",
+    "now-1x", "nowadays 12:00", float("nan"), 1e300, True, None,
+    "2025-11-29T09:00:00.5Z", "1969-12-31T23:59:59Z", b"5", "-5",
+    "٣", numpy.float64("inf"), "2025-11-29T09:00:00.000000001Z",
     "20251129T090000.0000001Z", "2025-11-29T09:00:00,0000001Z", "2025-11-29T09:00:00.0000000001Z",
 ])
 def test_what_does_not_say_one_time(given_time: object) -> None:
@@ -190,6 +193,29 @@ def test_zones() -> None:
     assert zone_of("Europe/Berlin") is not None and zone_of(None) is None
     with pytest.raises(TimeError):
         zone_of("Europe/Nowhere")
+
+
+@pytest.mark.parametrize("given_time", [
+    TEN + 0.75, numpy.float64(TEN + 0.25), datetime.datetime.fromtimestamp(TEN + 0.5, UTC),
+    pandas.Timestamp("2025-11-29T10:00:00.25", tz="Europe/Berlin"),
+])
+def test_what_a_clock_says_is_rounded_down_and_told_once(given_time: object) -> None:
+    clock = Clock("s", EPOCH, None)
+    with pytest.warns(RoundedTimeWarning, match="counts in s"):
+        assert clock.time(given_time) == TEN
+    with warnings.catch_warnings():
+        warnings.simplefilter("error")
+        assert clock.time(given_time) == TEN and clock.time(float(TEN)) == TEN
+        assert (clock.begin(given_time), clock.end(given_time)) == (TEN + 1, TEN)
+        assert Clock("us", EPOCH, None).time(given_time) > TEN * 10**6
+
+
+def test_times_told_from_now() -> None:
+    clock = Clock("s", EPOCH, None)
+    for ago, span in (("now-1h", 3600), ("now - 5 min", 300), ("now-5m", 300), ("now", 0), ("now+1d", -86400),
+                      (datetime.timedelta(hours=-1), 3600), (pandas.Timedelta("1h"), -3600)):
+        for found in (clock.time(ago), clock.begin(ago) - 1, clock.end(ago)):
+            assert abs(clock.now() - span - found) <= 2
 
 
 def test_now() -> None:

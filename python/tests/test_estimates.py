@@ -10,6 +10,7 @@ import pytest
 
 import summarystore
 from summarystore import Estimate, EstimateRow, Interval, aio, errors, wire
+from summarystore.kinds import Estimated
 from summarystore.store import Store
 
 SEVEN = list(zip(range(10, 80, 10), (5, -3, 8, 1, 9, 2, 7)))
@@ -25,9 +26,10 @@ def seven(plain: Store) -> Store:
 
 
 def test_estimates_of_the_guide(seven: Store) -> None:
-    table = {("count", 10, 25): ("1 .. 3", 2), ("sum", 10, 25): ("-5 .. 16", 6),
-             ("sum", 25, 55): ("-3 .. 25", 11), ("sum", 45, 55): ("2 .. 9", 6),
-             ("sum", None, None): ("29", 29), ("count", 71, 80): ("0", 0)}
+    table: dict[tuple[Estimated, int | None, int | None], tuple[str, int]] = {
+        ("count", 10, 25): ("1 .. 3", 2), ("sum", 10, 25): ("-5 .. 16", 6),
+        ("sum", 25, 55): ("-3 .. 25", 11), ("sum", 45, 55): ("2 .. 9", 6),
+        ("sum", None, None): ("29", 29), ("count", 71, 80): ("0", 0)}
     found = {key: seven.estimate("a", *key) for key in table}
     assert {key: (str(estimate.interval), estimate.guess) for key, estimate in found.items()} == table
     assert all(estimate.guess in estimate.interval and estimate.interval == seven.query("a", *key)
@@ -44,7 +46,8 @@ def test_rows(seven: Store) -> None:
 @pytest.mark.parametrize("ask, error", [
     (("a", "max", 0, 9), errors.CommandError), (("a", "mean", 0, 9), errors.CommandError),
     (("x", "sum", 0, 9), errors.UnknownStreamError), (("a", "sum", 9, 4), errors.RangeError)])
-def test_refused(seven: Store, ask: tuple[str, str, int, int], error: type[errors.RefusedError]) -> None:
+def test_refused(seven: Store, ask: tuple[str, Estimated, int, int], error: type[errors.RefusedError]
+                 ) -> None:
     with pytest.raises(error):
         seven.estimate(*ask)
     with pytest.raises(error):

@@ -6,6 +6,7 @@ import pickle
 from decimal import Decimal
 from fractions import Fraction
 
+import numpy
 import pytest
 from hypothesis import given
 from hypothesis import strategies as st
@@ -107,12 +108,56 @@ def test_floats_are_equal_as_to_a_decimal() -> None:
     assert Interval(1, maybe_none=True) != 1.0 and Interval.nothing() != 0.0
 
 
-def test_what_is_not_exact_is_refused() -> None:
-    for wrong in (0.1, True, "x", None, float("nan"), Decimal("nan"), "inf"):
+def test_floats_stand_for_their_shortest_decimal() -> None:
+    tenth = Interval("0.1")
+    assert Interval(0.1) == tenth and 0.1 in tenth and Interval(numpy.float32(0.1)) == tenth
+    assert Interval(1) + 0.1 == 0.1 + Interval(1) == Interval("1.1") and 0.3 - tenth == Interval("0.2")
+    assert 3 * tenth * 0.1 == Interval("0.03") and tenth / 0.5 == Interval("0.2")
+    with pytest.raises(ValueError):
+        Interval(1) + float("nan")
+    with pytest.raises(TypeError):
+        Interval(1) + True
+
+
+def test_as_a_float_where_it_is_known() -> None:
+    assert float(Interval("21.5")) == 21.5
+    for other in (Interval(1, 2), Interval(1, maybe_none=True), Interval.nothing()):
+        with pytest.raises(NoValueError):
+            float(other)
+
+
+def test_taken_apart() -> None:
+    low, high = Interval(1, 4)
+    assert (low, high) == (1, 4)
+    with pytest.raises(NoValueError):
+        list(Interval.nothing())
+
+
+@given(held(), st.integers(-3, 8))
+def test_rounded_it_holds_the_truth(one: tuple[Interval, Fraction], digits: int) -> None:
+    interval, truth = one
+    found = round(interval, digits)
+    assert holds(found, truth)
+    assert Fraction(found.width) <= Fraction(interval.width) + 2 * Fraction(10) ** -digits
+    low, _, high = f"{interval:.{abs(digits)}f}".partition(" .. ")
+    assert Fraction(low) <= truth <= Fraction(high or low)
+
+
+def test_forms() -> None:
+    assert f"{Interval('21.44', '21.61'):.1f}" == "21.4 .. 21.7" and f"{Interval('21.5'):.2f}" == "21.50"
+    assert f"{Interval(1, 2, maybe_none=True):+.1f}" == "+1.0 .. +2.0, or none"
+    assert f"{Interval(5):>6}|{Interval(5):^7.1f}|{Interval.nothing():6.1f}" == "     5|  5.0  |  none"
+    assert f"{Interval(10**6) / 3:,.1f}" == "333,333.3 .. 333,333.4" and f"{Interval(1, 2)}" == "1 .. 2"
+    assert round(Interval(155, 166), -1) == Interval(150, 170) and round(Interval("1.5")) == Interval(1, 2)
+    assert round(Interval.nothing(), 1).none
+    with pytest.raises(ValueError):
+        f"{Interval(1):.1q}"
+
+
+def test_what_is_no_number_is_refused() -> None:
+    for wrong in (True, "x", None, float("nan"), Decimal("nan"), "inf"):
         with pytest.raises((TypeError, ValueError)):
             Interval(wrong)
-    with pytest.raises(TypeError):
-        Interval(1) + 0.5
     with pytest.raises(ZeroDivisionError):
         Interval(1) / Interval(-1, 1)
     with pytest.raises(ValueError):

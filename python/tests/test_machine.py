@@ -7,7 +7,7 @@ import shutil
 import signal
 import tempfile
 import warnings
-from collections.abc import Iterator
+from collections.abc import Callable, Iterator, Sequence
 from dataclasses import dataclass, field
 from pathlib import Path
 
@@ -17,6 +17,7 @@ from hypothesis import strategies as st
 from hypothesis.stateful import RuleBasedStateMachine, invariant, precondition, rule
 
 from summarystore import Presence, errors
+from summarystore.kinds import Kind
 from summarystore.store import Store
 
 RUNS = int(os.environ.get("SUMMARYSTORE_TEST_RUNS", "20"))
@@ -204,7 +205,8 @@ class Machine(RuleBasedStateMachine):
         true = stream.within(first, last)
         assert len(true) in self.store.query(name, "count", first, last)
         assert sum(true) in self.store.query(name, "sum", first, last)
-        for kind, truth in (("min", min), ("max", max)):
+        extremes: dict[Kind, Callable[[Sequence[int]], int]] = {"min": min, "max": max}
+        for kind, truth in extremes.items():
             found = self.store.query(name, kind, first, last)
             assert truth(true) in found if true else found.none or found.maybe_none
         mean = self.store.mean(name, first, last)

@@ -11,6 +11,8 @@ from pathlib import Path
 
 import pytest
 
+import summarystore
+
 from .conftest import HOME
 
 TEXT = (HOME / "README.md").read_text(encoding="utf-8")
@@ -24,6 +26,16 @@ def test_python(folder: Path, program: str, monkeypatch: pytest.MonkeyPatch) -> 
     assert len(PYTHON) > 5
     for block in PYTHON:
         exec(compile(block, "README.md", "exec"), names)
+
+
+def test_the_first_example_runs_twice(folder: Path, program: str, monkeypatch: pytest.MonkeyPatch) -> None:
+    monkeypatch.chdir(folder)
+    for _ in range(2):
+        names: dict[str, object] = {}
+        exec(compile(PYTHON[0], "README.md", "exec"), names)
+        store = names["store"]
+        assert isinstance(store, summarystore.Store)
+        store.close()
 
 
 def test_shell(folder: Path, program: str) -> None:

@@ -13,6 +13,7 @@ import pytest
 
 import summarystore
 from summarystore import Interval, Presence, errors
+from summarystore.kinds import ENDS, ESTIMATED, KINDS, Estimated, Kind
 from summarystore.series import index_of
 from summarystore.store import Store
 
@@ -28,10 +29,11 @@ def seven(plain: Store) -> Store:
 
 
 def test_answers_of_the_guide(seven: Store) -> None:
-    table = {("count", 10, 40): "4", ("sum", 10, 40): "11", ("max", 45, 65): "9", ("count", 10, 25): "1 .. 3",
-             ("sum", 10, 25): "-5 .. 16", ("min", 10, 25): "-3 .. 8", ("count", 15, 25): "0 .. 2",
-             ("min", 15, 25): "-3 .. 8, or none", ("min", 71, 80): "none", ("count", 25, 55): "2 .. 4",
-             ("sum", 25, 55): "-3 .. 25", ("sum", None, None): "29"}
+    table: dict[tuple[Kind, int | None, int | None], str] = {
+        ("count", 10, 40): "4", ("sum", 10, 40): "11", ("max", 45, 65): "9", ("count", 10, 25): "1 .. 3",
+        ("sum", 10, 25): "-5 .. 16", ("min", 10, 25): "-3 .. 8", ("count", 15, 25): "0 .. 2",
+        ("min", 15, 25): "-3 .. 8, or none", ("min", 71, 80): "none", ("count", 25, 55): "2 .. 4",
+        ("sum", 25, 55): "-3 .. 25", ("sum", None, None): "29"}
     assert {key: str(seven.query("a", *key)) for key in table} == table
     mean = seven.mean("a", 10, 40)
     assert mean.exact and mean == Interval("2.75") and seven.query("a", "mean", 10, 40) == mean
@@ -107,8 +109,8 @@ def test_landmarks(seven: Store) -> None:
 
 
 def test_certificates(seven: Store) -> None:
-    for kind in ("count", "sum"):
-        for end in ("lo", "hi"):
+    for kind in ESTIMATED:
+        for end in ENDS:
             for first in (0, 15, 25, 45):
                 for last in (45, 55, 100):
                     found = seven.certify("a", kind, end, first, last)
@@ -162,10 +164,10 @@ def test_refusals_of_calls(seven: Store) -> None:
         seven.append("a", "80", 1)
     with pytest.raises(errors.RangeError):
         seven.query("a", "sum", 5, 4)
-    with pytest.raises(errors.CommandError):
-        seven.query("a", "median", 1, 2)
-    with pytest.raises(errors.CommandError):
-        seven.certify("a", "min", "lo", 1, 2)
+    with pytest.raises(errors.KindError, match="one of count, sum, min, max, mean, .* and not 'median'"):
+        seven.query("a", cast(Kind, "median"), 1, 2)
+    with pytest.raises(errors.KindError, match="one of count, sum, and not"):
+        seven.certify("a", cast(Estimated, "min"), "lo", 1, 2)
     assert seven.query("a", "count") == 7
 
 
@@ -176,7 +178,7 @@ def test_within(plain: Store) -> None:
         plain.append_many(name, [(minute, minute % 7) for minute in range(30, 3000, 4)])
     assert [(stream.name, stream.target, stream.within) for stream in plain.list()] == [
         ("hours", "exp 2 1 1", 60), ("all", "exp 2 1 1", None)]
-    for kind in ("count", "sum", "min", "max"):
+    for kind in KINDS[:4]:
         assert all(row.interval.exact for row in plain.series("hours", kind, 0, 2999, 60))
     assert plain.query("hours", "sum", 60, 119) == sum(minute % 7 for minute in range(62, 120, 4))
     assert not plain.query("all", "sum", 60, 119).exact

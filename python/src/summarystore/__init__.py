@@ -7,18 +7,18 @@ import os
 
 from .certificate import Certificate
 from .clock import Clock
+from .connecting import RemoteStore, connect
 from .description import EPOCH, Description
-from .errors import (CertificateError, CommandError, CursorBusyError, DamagedStoreError,
-                     DescriptionError, DiskFullError, InputFaultError, InputTooLongError,
-                     KilledError, LandmarkNotOpenError, LandmarkOpenError, LateError,
-                     LineTooLongError, LockedError, NamesFileError, NoCursorError, NoStoreError,
-                     NotANumberError, NoValueError, NumberError, Outcome, OutOfMemoryError,
-                     OutputFaultError, ProcessEndedError, ProgramMissingError, ProtocolError,
-                     RangeError, RecordChangedError, RefusedError, ReopenedWarning,
-                     RowsRefusedError, ScaleError, SourceError, StoreClosedError, StoreFileError,
-                     StoreFullError, StreamExistsError, StreamFullError, StreamNameError,
-                     SummaryStoreError, TargetError, TimeError, TooManyStreamsError,
-                     UnexpectedEndError, UnknownStreamError, UsageError, outcome_of)
+from .errors import (CertificateError, CommandError, CursorBusyError, DamagedStoreError, DescriptionError,
+                     DiskFullError, InputFaultError, InputTooLongError, KilledError, KindError,
+                     LandmarkNotOpenError, LandmarkOpenError, LateError, LineTooLongError, LockedError,
+                     MeterError, NamesFileError, NoCursorError, NoStoreError, NotANumberError, NoValueError,
+                     NumberError, Outcome, outcome_of, OutOfMemoryError, OutputFaultError, ProcessEndedError,
+                     ProgramMissingError, ProtocolError, RangeError, RecordChangedError, RefusedError,
+                     ReopenedWarning, RoundedTimeWarning, RowsRefusedError, ScaleError, ServiceError,
+                     SourceError, StoreClosedError, StoreFileError, StoreFullError, StreamExistsError,
+                     StreamFullError, StreamNameError, SummaryStoreError, TargetError, TimeError,
+                     TooManyStreamsError, UnexpectedEndError, UnknownStreamError, UsageError)
 from .interval import Interval, Presence, mean_of
 from .names import Names
 from .program import StorePath, check
@@ -54,17 +54,16 @@ def now(resolution: str = "s") -> datetime.datetime:
 
 
 __all__ = [
-    "Certificate", "CertificateError", "CommandError", "CursorBusyError", "DamagedStoreError",
-    "Description", "DescriptionError", "DiskFullError", "Estimate", "EstimateRow", "InputFaultError",
-    "InputTooLongError",
-    "Interval", "KilledError", "LandmarkNotOpenError", "LandmarkOpenError", "Last", "LateError",
-    "LineTooLongError", "LockedError", "NamesFileError", "NoCursorError", "NoStoreError",
-    "NotANumberError", "NoValueError", "NumberError", "Outcome", "OutOfMemoryError",
-    "OutputFaultError", "Presence", "ProcessEndedError", "ProgramMissingError", "ProtocolError",
-    "RangeError", "Reading", "RecordChangedError", "RefusedError", "ReopenedWarning", "Row",
-    "RowsRefusedError", "ScaleError", "Series", "Soundness", "SourceError", "Store",
+    "Certificate", "CertificateError", "CommandError", "CursorBusyError", "DamagedStoreError", "Description",
+    "DescriptionError", "DiskFullError", "Estimate", "EstimateRow", "InputFaultError", "InputTooLongError",
+    "Interval", "KilledError", "KindError", "LandmarkNotOpenError", "LandmarkOpenError", "Last", "LateError",
+    "LineTooLongError", "LockedError", "MeterError", "NamesFileError", "NoCursorError", "NoStoreError",
+    "NotANumberError", "NoValueError", "NumberError", "Outcome", "OutOfMemoryError", "OutputFaultError",
+    "Presence", "ProcessEndedError", "ProgramMissingError", "ProtocolError", "RangeError", "Reading",
+    "RecordChangedError", "RefusedError", "RemoteStore", "ReopenedWarning", "RoundedTimeWarning", "Row",
+    "RowsRefusedError", "ScaleError", "Series", "ServiceError", "Soundness", "SourceError", "Store",
     "StoreClosedError", "Stored", "StoreFileError", "StoreFullError", "Stream", "StreamExistsError",
     "StreamFullError", "StreamNameError", "SummaryStoreError", "TargetError", "TimeError",
-    "TooManyStreamsError", "UnexpectedEndError", "UnknownStreamError", "UsageError", "Window",
-    "check", "mean_of", "now", "open", "outcome_of",
+    "TooManyStreamsError", "UnexpectedEndError", "UnknownStreamError", "UsageError", "Window", "check",
+    "connect", "mean_of", "now", "open", "outcome_of",
 ]

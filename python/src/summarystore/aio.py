@@ -9,174 +9,39 @@ from __future__ import annotations
 import asyncio
 import datetime
 import os
-import warnings
 from collections.abc import AsyncIterator, Mapping, Sequence
 from contextlib import asynccontextmanager
+from functools import partial
 from types import TracebackType
-from typing import Self, TypeVar
+from typing import TYPE_CHECKING, Self, TypeVar, cast
 
 from . import calls
-from .base import Base
-from .calls import Call
-from .certificate import Certificate
-from .codec import Codec, Translator
-from .combining import Part
-from .connection import RENEW_AT, Connection
-from .description import Description, changed, description_of
-from .errors import (CursorBusyError, LateError, RefusedError, ReopenedWarning, StoreClosedError,
+from .aio_questions import Questions
+from .codec import Change, Codec
+from .connection import Connection
+from .description import Description, brought_to, changed, description_of
+from .errors import (CursorBusyError, LateError, RefusedError, StoreClosedError, StreamExistsError,
                      SummaryStoreError, tell)
-from .interval import Interval, Presence
+from .aio_channel import Channel
+from .aio_handle import Handle
+from .frames import columns_of, frame_of, names_left, rows_of
+from .meters import counting, meter_of
 from .names import Names
-from .pipeline import Commands, Request
 from .program import StorePath
-from .records import Estimate, EstimateRow, Last, Reading, Soundness, Stored, Stream, Window
+from .present import UNSAID, next_free, reading_of
+from .records import Soundness, Stored, Time, Window
+from .remote import SECONDS
 from .sending import OnRefused, Sending
-from .series import Series
-from .wire import MOST_ROWS, NOTHING
+from .wire import MOST_ROWS
+
+if TYPE_CHECKING:
+    from .aio_connecting import RemoteStore
 
 T = TypeVar("T")
 
 
-class Store(Base):
+class Store(Channel, Questions):
     """A store for one event loop. `aio.open` makes it."""
-
-    def __init__(self, path: StorePath, *, program: str | os.PathLike[str] | None = None,
-                 translator: Translator | None = None, existing: bool = False,
-                 checked: bool | None = None, renew_at: int = RENEW_AT) -> None:
-        super().__init__(path, program=program, translator=translator, existing=existing, checked=checked,
-                         renew_at=renew_at)
-        self._opening = asyncio.Lock()
-        self._changed = asyncio.Condition()
-        self._opened = self._flushing = False
-
-    # ---- the process --------------------------------------------------------------------
-
-    async def _up(self) -> Connection:
-        """The process that is up. One that has ended is started again, once, and that is said."""
-        async with self._opening:
-            return await self._running()
-
-    async def _running(self) -> Connection:
-        """`_up` for whoever holds the lock."""
-        if self._closed:
-            raise StoreClosedError(f"{self.path} is closed")
-        await self._renew()
-        if self._connection is None:
-            self._connection = await self._begin()
-            if self._opened:
-                warnings.warn(ReopenedWarning(f"{self.path}: the program had ended; opened again"),
-                              stacklevel=5)
-            self._opened = True
-        return self._connection
-
-    async def _renew(self) -> None:
-        """Lets another process take the place of one that has taken much. What is under way is answered
-        before, and whoever wants to send more meanwhile waits for the lock."""
-        old = self._outlived()
-        if old is not None:
-            await self._answered(old)
-            if self._outlived() is old:     # no cursor was opened meanwhile
-                await self._put_down()
-                self._connection = old.successor = await self._begin()
-
-    async def _begin(self) -> Connection:
-        connection = await asyncio.to_thread(self._start)
-        asyncio.get_running_loop().add_reader(connection.process.output, self._readable, connection)
-        return connection
-
-    async def _answered(self, connection: Connection) -> None:
-        """Waits for all that is under way: replies come in order, so for that to one more line."""
-        last = Commands(0, [NOTHING])
-        self._hand_over(connection, last)
-        await self._wait(last)
-
-    async def _put_down(self) -> None:
-        """Lets the process end in order. Nothing may be under way."""
-        connection, self._connection = self._connection, None
-        if connection is not None:
-            self._unwatch(connection)
-            await asyncio.to_thread(connection.close)
-
-    def _unwatch(self, connection: Connection) -> None:
-        loop = asyncio.get_running_loop()
-        loop.remove_reader(connection.process.output)
-        loop.remove_writer(connection.process.input)
-
-    def _readable(self, connection: Connection) -> None:
-        try:
-            more = connection.fill()
-        except BaseException:
-            self._give_up(connection)
-            raise
-        if not more:
-            self._unwatch(connection)
-            self._connection = None
-            connection.end()
-
-    def _give_up(self, connection: Connection) -> None:
-        """Gives a process up: what it has been told, or what it says, isn't known any more."""
-        self._unwatch(connection)
-        self._connection = None
-        connection.abandon()
-
-    def _flush(self) -> None:
-        """Writes what the pipe takes. Where it is full the loop tells when it takes more."""
-        self._flushing = False
-        connection = self._connection
-        if connection is None:
-            return
-        try:
-            connection.flush()
-        except BaseException:
-            self._give_up(connection)
-            raise
-        loop = asyncio.get_running_loop()
-        if connection.pipeline.unwritten:
-            loop.add_writer(connection.process.input, self._flush)
-        else:
-            loop.remove_writer(connection.process.input)
-
-    async def _submit(self, request: Request, only: Connection | None = None) -> Connection:
-        """Sends a request: where a process is named, to that one or its successor, or to none."""
-        async with self._opening:
-            await self._renew()
-            if only is not None and only.newest() is not self._connection:
-                request.finish(request.interrupted(only.failure()))
-                return only
-            connection = await self._running()
-            self._hand_over(connection, request)
-            return connection
-
-    def _hand_over(self, connection: Connection, request: Request) -> None:
-        """Queues a request. What is queued in one turn of the loop is written together."""
-        connection.pipeline.add(request)
-        if not self._flushing:
-            self._flushing = True
-            asyncio.get_running_loop().call_soon(self._flush)
-
-    async def _wait(self, request: Request) -> None:
-        """Waits for the replies."""
-        if request.done:
-            return
-        future: asyncio.Future[None] = asyncio.get_running_loop().create_future()
-        request.when_done = lambda: None if future.done() else future.set_result(None)
-        await future
-
-    async def _do(self, call: Call[T], session: int = 0, only: Connection | None = None) -> T:
-        request = Commands(session, call.lines)
-        await self._submit(request, only)
-        await self._wait(request)
-        if request.error is not None:
-            raise request.error
-        return call.answer(request.replies)
-
-    async def close(self) -> None:
-        """Lets the program end in order, after all that is under way. Twice does no harm."""
-        async with self._opening:
-            if self._connection is not None:
-                await self._answered(self._connection)
-            self._closed = True
-            await self._put_down()
 
     async def __aenter__(self) -> Self:
         return self
@@ -185,32 +50,57 @@ class Store(Base):
                         trace: TracebackType | None) -> None:
         await self.close()
 
+    def __getitem__(self, name: str) -> Handle:
+        """One stream. Whether it stands is seen at the first call."""
+        return Handle(self, name)
+
+    async def __aiter__(self) -> AsyncIterator[str]:
+        """The names of the streams, in the order in which they were made."""
+        for stream in await self.list():
+            yield stream.name
+
     # ---- events -------------------------------------------------------------------------
 
     async def create(self, name: str, target: str | Sequence[object], within: int | None = None, *,
                      scale: object | None = None, time: str | None = None,
                      since: datetime.date | str | None = None, unit: str | None = None,
-                     labels: Mapping[str, str] | None = None, rounding: str | None = None) -> Stored:
+                     labels: Mapping[str, str] | None = None, rounding: str | None = None,
+                     exist_ok: bool = False,
+                     kind: str | None = None, overflow: object | None = None) -> Stored:
         """Makes a stream, as `Store.create` does."""
         description = description_of(scale=scale, time=time, since=since, unit=unit, labels=labels,
-                                     rounding=rounding)
+                                     rounding=rounding, kind=kind, overflow=overflow)
         await self._up()
-        codec = self._translator.declare(name, description)
+        codec = await self._names.keep(Change(name, description))
         try:
             made = await self._do(calls.create(codec, target, within))
-        except (RefusedError, TypeError, ValueError):
+        except (RefusedError, TypeError, ValueError) as error:
             self._translator.unmade(name, codec)
-            raise
+            if not exist_ok or not isinstance(error, StreamExistsError):
+                raise
+            changes = brought_to(self.description(name), description, name)
+            stands = await self._do(calls.standing(self._translator, name, target, within))
+            if changes is not None:
+                self._translator.describe(name, changes)
+            return stands
         self._translator.made(name, codec)
         return made
 
     def describe(self, name: str, *, unit: str | None = None, labels: Mapping[str, str] | None = None,
                  rounding: str | None = None) -> None:
         """Changes what is given of a described stream. Its scale and its times can't be changed."""
+        self._translator.describe(name, self._described(name, unit, labels, rounding))
+
+    async def describe_soon(self, name: str, *, unit: str | None = None,
+                            labels: Mapping[str, str] | None = None, rounding: str | None = None) -> None:
+        """The same, by a thread: what several tasks change together is written once."""
+        await self._names.keep(Change(name, self._described(name, unit, labels, rounding), stands=True))
+
+    def _described(self, name: str, unit: str | None, labels: Mapping[str, str] | None, rounding: str | None
+                   ) -> Description:
         if self._connection is None:
             raise StoreClosedError(f"{self.path} is closed, or its program has ended")
-        known = self.description(name) or Description()
-        self._translator.describe(name, changed(known, unit, labels, rounding))
+        return changed(self.description(name) or Description(), unit, labels, rounding)
 
     def rename(self, name: str, new: str) -> None:
         """Gives a described stream another long name, as `Store.rename` does."""
@@ -218,11 +108,29 @@ class Store(Base):
             raise StoreClosedError(f"{self.path} is closed, or its program has ended")
         self._translator.rename(name, new)
 
-    async def append(self, name: str, time: object, value: object) -> Stored:
-        """Takes a value at a time later than all before. It is on the disk when this returns."""
+    async def append(self, name: str, time: object = UNSAID, value: object = UNSAID) -> Stored:
+        """Takes a value at a time later than all before, or without a time now. It is on the disk when
+        this returns.
+
+        Where a reading stands at the present step, one without a time goes to the next free step, at most
+        a second ahead of the clock. Raises LateError, with the newest time, where the time isn't later.
+        """
+        time, value = reading_of(time, value)
         codec = self._translator.codec(name)
+        if time is not UNSAID:
+            return await self._append(name, codec, time, value)
+        count = codec.now()
+        while True:
+            try:
+                return await self._append(name, codec, count, value)
+            except LateError as error:      # a reading stands there, or another one came first
+                count, wait = next_free(codec, error)
+            await asyncio.sleep(wait)
+
+    async def _append(self, name: str, codec: Codec, time: object, value: object) -> Stored:
         try:
-            return await self._do(calls.append(codec, time, value))
+            async with self._taking(codec, name) as taking:
+                return await self._do(calls.append(taking, time, value))
         except LateError as error:
             await self._tell_newest(codec, [error])
             raise
@@ -236,10 +144,47 @@ class Store(Base):
             for error in late:
                 error.newest = codec.time_back(found[0]) if found else None
 
-    async def append_many(self, name: str, rows: object, *, refused: OnRefused | None = None,
+    async def append_many(self, name: object, rows: object = None, *, refused: OnRefused | None = None,
                           lateness: object | None = None) -> int:
         """Takes rows of a time and a value, as `Store.append_many` does."""
+        frame = frame_of(name)
+        if frame is None:
+            codec = self._translator.codec(cast(str, name))
+            async with self._taking(codec, cast(str, name)) as taking:
+                return await self.append_rows(taking, rows_of(rows), refused, lateness)
+        stored, columns = 0, columns_of(frame)
+        codecs = [self._translator.codec(column) for column, _ in columns]
+        for at, (codec, (column, readings)) in enumerate(zip(codecs, columns)):
+            try:
+                async with self._taking(codec, column) as taking:
+                    stored += await self.append_rows(taking, readings, refused, lateness)
+            except BaseException as error:
+                names_left(error, [column for column, _ in columns], at)
+                raise
+        return stored
+
+    @asynccontextmanager
+    async def _taking(self, codec: Codec, name: str) -> AsyncIterator[Codec]:
+        """The codec of a stream that takes readings: that of a counter knows what stands, and is alone."""
+        if meter_of(codec, "counter") is None:
+            yield codec
+            return
+        async with self._alone[name]:
+            standing = await self._do(calls.standing_of_counter(codec))
+            yield counting(self._translator.codec(name), name, standing,
+                           partial(self._translator.keep_joins, name))
+
+    async def kept(self, name: str, rows: Sequence[tuple[object, object]]) -> Sequence[tuple[object, object]]:
+        """What is kept of readings that were stored: of a counter they are joined."""
         codec = self._translator.codec(name)
+        if meter_of(codec, "counter") is None:
+            return rows
+        async with self._taking(codec, name) as taking:
+            return [(time, codec.value_back(value)) for time, value in taking.rows(rows)]
+
+    async def append_rows(self, codec: Codec, rows: object, refused: OnRefused | None = None,
+                          lateness: object | None = None) -> int:
+        """`append_many` for whoever has made the codec of the stream."""
         sending = Sending(codec, rows, refused, lateness)
         try:
             await self._send_all(sending)
@@ -297,60 +242,7 @@ class Store(Base):
         await self._do(calls.drop(self._translator.codec(name)))
         self._translator.removed(name)
 
-    # ---- questions ----------------------------------------------------------------------
-
-    async def query(self, name: str, kind: str, t1: object | None = None, t2: object | None = None
-                    ) -> Interval:
-        """`count`, `sum`, `min`, `max` or `mean` of the values from t1 to t2, both included."""
-        return await self._do(calls.query(self._translator.codec(name), kind, t1, t2))
-
-    async def mean(self, name: str, t1: object | None = None, t2: object | None = None) -> Interval:
-        """The mean of the values from t1 to t2."""
-        return await self._do(calls.mean(self._translator.codec(name), t1, t2))
-
-    async def has(self, name: str, value: object, t1: object | None = None, t2: object | None = None
-                  ) -> Presence:
-        """Whether one of the values from t1 to t2 is this one."""
-        return await self._do(calls.has(self._translator.codec(name), value, t1, t2))
-
-    async def series(self, name: str, kind: str, t1: object | None, t2: object | None, step: object
-                     ) -> Series:
-        """The answers to `query` for each step from t1 to t2: at most 100,000 rows."""
-        return await self._do(calls.series(name, self._translator.codec(name), kind, t1, t2, step))
-
-    async def estimate(self, name: str, kind: str, t1: object | None = None, t2: object | None = None
-                       ) -> Estimate:
-        """`count` or `sum` of the values from t1 to t2, and the likeliest number in its interval."""
-        return await self._do(calls.estimate(self._translator.codec(name), kind, t1, t2))
-
-    async def estimates(self, name: str, kind: str, t1: object | None, t2: object | None, step: object
-                        ) -> Sequence[EstimateRow]:
-        """The answers to `estimate` for each step from t1 to t2: at most 100,000 rows."""
-        return await self._do(calls.estimates(self._translator.codec(name), kind, t1, t2, step))
-
-    async def figures(self, name: str, kinds: Sequence[str], t1: object | None = None,
-                      t2: object | None = None, step: object | None = None) -> Sequence[Part]:
-        """The answers to `query` of several kinds, all of one moment; with a step, one for each row."""
-        return await self._do(calls.figures(self._translator.codec(name), kinds, t1, t2, step))
-
-    async def last(self, name: str) -> Last | None:
-        """The last time and the newest value. None where the stream took nothing yet."""
-        return await self._do(calls.last(self._translator.codec(name)))
-
-    async def values(self, name: str, t1: object | None = None, t2: object | None = None
-                     ) -> Sequence[Reading]:
-        """The values of landmarks from t1 to t2, which are kept one by one."""
-        return await self._do(calls.values(self._translator.codec(name), t1, t2))
-
-    async def certify(self, name: str, kind: str, end: str, t1: object | None = None,
-                      t2: object | None = None,
-                      landmarks: Sequence[tuple[object, object]] = ()) -> Certificate:
-        """Why the end `lo` or `hi` of a count or a sum can't be narrower, as `Store.certify`."""
-        return await self._do(calls.certify(self._translator.codec(name), kind, end, t1, t2, landmarks))
-
-    async def list(self) -> Sequence[Stream]:
-        """All streams, in the order in which they were made."""
-        return await self._do(calls.listed(self._translator))
+    # ---- what it keeps --------------------------------------------------------------------
 
     async def windows(self, name: str) -> AsyncIterator[Window]:
         """The windows of a stream as they are at the first of them, the oldest first, in pieces.
@@ -368,6 +260,15 @@ class Store(Base):
                 more = len(rows) == MOST_ROWS
                 for window in rows:
                     yield window
+        finally:
+            await self._give_cursor(session, connection)
+
+    async def first(self, name: str) -> Time | None:
+        """When the oldest window begins. None where none stands."""
+        codec = self._translator.codec(name)
+        session, connection = await self._take_cursor()
+        try:
+            return await self._do(calls.cursor_first(codec), session, connection)
         finally:
             await self._give_cursor(session, connection)
 
@@ -418,3 +319,10 @@ async def open(path: StorePath, *, zone: str | datetime.tzinfo | None = None, ex
                   checked=checked)
     await store._up()
     return store
+
+
+async def connect(address: str, *, token: str | None = None, zone: str | datetime.tzinfo | None = None,
+                  seconds: float = SECONDS) -> RemoteStore:
+    """The store that a service at this address holds, as `summarystore.connect`. It needs aiohttp."""
+    from . import aio_connecting
+    return await aio_connecting.connect(address, token=token, zone=zone, seconds=seconds)

@@ -3,16 +3,22 @@
 from __future__ import annotations
 
 import os
+import time
+import warnings
 from collections.abc import Sequence
 
 from . import program as programs
 from .codec import Codec, Plain, Translator
-from .connection import RENEW_AT, Connection, connect
+from .connection import RENEW_AT, Connection, connect, connect_to_copy
 from .description import Description
+from .errors import DiskFullError, ReadsOnlyWarning
 from .pipeline import Request
 from .program import StorePath
 from .records import Soundness, Time
 from .sessions import Sessions
+
+AGAIN = 10.0
+"""A store whose disk was full is tried again after so many seconds."""
 
 
 class Base:
@@ -38,19 +44,30 @@ class Base:
     def _start(self) -> Connection:
         """A new process. A store that is gone by then isn't made anew."""
         self._sessions.forget_cursors()
-        connection = connect(self._program, self.path, self._translator, self._existing, self._checked)
+        try:
+            connection = connect(self._program, self.path, self._translator, self._existing, self._checked)
+        except DiskFullError as full:
+            connection = connect_to_copy(self._program, self.path, self._translator, full)
+            told = ReadsOnlyWarning(f"{self.path}: the disk is full, and a copy is read")
+            warnings.warn(told, stacklevel=5)
         self._existing = True
         return connection
+
+    @property
+    def full(self) -> DiskFullError | None:
+        """Why the store is only read: its disk was full at its opening. It is tried again after a while."""
+        return None if self._connection is None else self._connection.full
 
     def _outlived(self) -> Connection | None:
         """The process that is up, where it has taken so much that another is to take its place.
 
-        A cursor keeps it.
+        A copy is looked after, too: there may be room for the store again. A cursor keeps either.
         """
         connection = self._connection
-        if connection is None or connection.pipeline.sent <= self._renew_at or self._sessions.cursors:
+        if connection is None or self._sessions.cursors:
             return None
-        return connection
+        long = connection.full is not None and time.monotonic() > connection.begun + AGAIN
+        return connection if long or connection.pipeline.sent > self._renew_at else None
 
     def _call_off(self, requests: Sequence[Request]) -> None:
         """Takes back what isn't written yet of requests that aren't done."""

@@ -12,11 +12,15 @@ from .codec import Codec, Translator, streams_of
 from .combining import KINDS, Part
 from .errors import CertificateError, refusal_of
 from .interval import Interval, Presence, mean_of
-from .records import Estimate, EstimateRow, Last, Reading, Row, Stored, Stream, Window
+from .kinds import ENDS, ESTIMATED, KINDS as ASKED, one_of
+from .meters import Standing, increase_of, must_be_counter
+from .records import Estimate, EstimateRow, Last, Reading, Row, Stored, Stream, Time, Window
 from .series import Series
 from .wire import Reply
 
 T = TypeVar("T")
+MOST_ROWS = 100_000
+"""Rows of a series that the program doesn't make itself."""
 
 
 @dataclass(frozen=True)
@@ -34,6 +38,14 @@ class Call(Generic[T]):
         return self.result(replies)
 
 
+class Lines(Call[Sequence[Reply]]):
+    """Lines whose replies are given as they are, refusals too."""
+
+    def answer(self, replies: Sequence[Reply]) -> Sequence[Reply]:
+        """The replies."""
+        return replies
+
+
 def _stored(replies: Sequence[Reply]) -> Stored:
     return wire.stored_of(replies[0])
 
@@ -45,7 +57,23 @@ def create(codec: Codec, target: str | Sequence[object], within: int | None) -> 
 
 def append(codec: Codec, time: object, value: object) -> Call[Stored]:
     """Takes a value."""
-    return Call([wire.append(codec.short, codec.time(time), codec.value(value))], _stored)
+    return Call([wire.append(codec.short, *codec.rows([(time, value)])[0])], _stored)
+
+
+def standing(translator: Translator, name: str, target: str | Sequence[object], within: int | None
+             ) -> Call[Stored]:
+    """What stands in a stream that stands already. Raises where it isn't kept as is asked for."""
+    words = target.split() if isinstance(target, str) else [str(word) for word in target]
+    wanted = " ".join(words if within is None else [*words, f"within {within}"])
+
+    def result(replies: Sequence[Reply]) -> Stored:
+        rows = streams_of(wire.rows_of(replies[0], "list"))
+        row = next(row for row in rows if translator.name_of(row.short_name) == name)
+        kept = row.target if row.within is None else f"{row.target} within {row.within}"
+        if kept != wanted:
+            raise refusal_of("EXISTS", f"create {name} {wanted}; it has the target {kept}")
+        return Stored(row.values, row.windows)
+    return Call([wire.LIST], result)
 
 
 def landmark_span(codec: Codec, start: object | None, end: object | None) -> tuple[int, int | None]:
@@ -98,11 +126,72 @@ def last(codec: Codec) -> Call[Last | None]:
     return Call(inner.lines, result)
 
 
+def standing_of_counter(codec: Codec) -> Call[Standing]:
+    """The newest time and the greatest value, of one moment, as whole numbers."""
+    inner = last_numbers(codec)
+
+    def result(replies: Sequence[Reply]) -> Standing:
+        found, greatest = inner.result(replies), _whole("max", replies[1])
+        return Standing(found[0] if found else -1, None if greatest.none else int(greatest.hi))
+    return Call([*inner.lines, _until(codec, wire.LAST_TIME)], result)
+
+
+def _until(codec: Codec, time: int) -> str:
+    """The greatest value until a time: of a counter the one that it has then."""
+    return wire.query(codec.short, "max", 0, time)
+
+
+def _whole(kind: str, reply: Reply) -> Interval:
+    return wire.interval_of(wire.after(reply.head, kind))
+
+
+def value_at(codec: Codec, time: object) -> Call[Interval]:
+    """What a counter has at a time."""
+    must_be_counter(codec)
+    return Call([_until(codec, codec.end(time))], lambda replies: _interval(codec, "max", replies[0]))
+
+
+def _increases(codec: Codec, times: Sequence[int]) -> Call[Sequence[Interval]]:
+    """By how much a counter rose from each of some times until the next."""
+    must_be_counter(codec)
+    lines = [wire.query(codec.short, "min", 0, wire.LAST_TIME), *(_until(codec, time) for time in times)]
+
+    def result(replies: Sequence[Reply]) -> Sequence[Interval]:
+        least, values = _whole("min", replies[0]), [_whole("max", reply) for reply in replies[1:]]
+        return [codec.interval_back("max", increase_of(before, end, least))
+                for before, end in zip(values, values[1:])]
+    return Call(lines, result)
+
+
+def increase(codec: Codec, first: object, last_time: object) -> Call[Interval]:
+    """By how much a counter rose from one time until another."""
+    times = codec.begin(first), codec.end(last_time)
+    if times[1] < times[0]:
+        raise refusal_of("RANGE", f"increase {codec.short} {times[0]} {times[1]}")
+    inner = _increases(codec, times)
+    return Call(inner.lines, lambda replies: inner.result(replies)[0])
+
+
+def increase_rows(codec: Codec, first: object, last_time: object, step: object
+                  ) -> Call[Sequence[tuple[int, Interval]]]:
+    """The same in rows: from each step until the next."""
+    begin, end, each = codec.begin(first), codec.end(last_time), codec.step(step)
+    if each < 1 or end < begin:
+        raise refusal_of("RANGE", f"series {codec.short} increase {begin} {end} {each}")
+    if (end - begin) // each >= MOST_ROWS:
+        raise refusal_of("NUMBER", f"series {codec.short} increase {begin} {end} {each}")
+    starts = range(begin, max(end, begin + 1), each)
+    inner = _increases(codec, [*starts, max(end, begin)])
+    return Call(inner.lines, lambda replies: list(zip(starts, inner.result(replies))))
+
+
 def query(codec: Codec, kind: str, first: object, last_time: object) -> Call[Interval]:
     """The interval of one kind, or of the mean."""
-    if kind == "mean":
+    if one_of(kind, ASKED) == "mean":
         return mean(codec, first, last_time)
-    line = wire.query(codec.short, wire.name_word(kind), codec.begin(first), codec.end(last_time))
+    if kind == "increase":
+        return increase(codec, first, last_time)
+    line = wire.query(codec.short, kind, codec.begin(first), codec.end(last_time))
     return Call([line], lambda replies: _interval(codec, kind, replies[0]))
 
 
@@ -151,7 +240,10 @@ def has(codec: Codec, value: object, first: object, last_time: object) -> Call[P
 def series(name: str, codec: Codec, kind: str, first: object, last_time: object, step: object
            ) -> Call[Series]:
     """The rows of one kind, or of the mean."""
-    kinds = KINDS if kind == "mean" else (wire.name_word(kind),)
+    if kind == "increase":
+        asked = increase_rows(codec, first, last_time, step)
+        return Call(asked.lines, lambda replies: _series(name, codec, kind, asked.result(replies)))
+    kinds = KINDS if one_of(kind, ASKED) == "mean" else (kind,)
     here = codec.begin(first), codec.end(last_time), codec.step(step)
     lines = [wire.series(codec.short, each, *here) for each in kinds]
 
@@ -163,10 +255,13 @@ def series(name: str, codec: Codec, kind: str, first: object, last_time: object,
                     for c, s, least, greatest in zip(*columns)]
         else:
             rows = columns[0]
-        shown = [Row(codec.time_back(start), interval) for start, interval in rows]
-        unit = codec.description.unit if codec.description and kind != "count" else None
-        return Series(name, kind, unit, shown)
+        return _series(name, codec, kind, rows)
     return Call(lines, result)
+
+
+def _series(name: str, codec: Codec, kind: str, rows: Sequence[tuple[int, Interval]]) -> Series:
+    unit = codec.description.unit if codec.description and kind != "count" else None
+    return Series(name, kind, unit, [Row(codec.time_back(start), interval) for start, interval in rows])
 
 
 def _row(codec: Codec, kind: str, row: str) -> tuple[int, Interval]:
@@ -176,7 +271,7 @@ def _row(codec: Codec, kind: str, row: str) -> tuple[int, Interval]:
 
 def estimate(codec: Codec, kind: str, first: object, last_time: object) -> Call[Estimate]:
     """The interval of a count or a sum, and the likeliest number in it."""
-    line = wire.estimate(codec.short, wire.name_word(kind), codec.begin(first), codec.end(last_time))
+    line = wire.estimate(codec.short, one_of(kind, ESTIMATED), codec.begin(first), codec.end(last_time))
     return Call([line], lambda replies: _estimate(codec, kind, wire.after(replies[0].head, "estimate")))
 
 
@@ -194,7 +289,7 @@ def estimates(codec: Codec, kind: str, first: object, last_time: object, step: o
         rows = [row.partition(" ") for row in wire.rows_of(replies[0], "estimates")]
         return [EstimateRow(codec.time_back(wire.numbers(start, 1)[0]), *_estimate(codec, kind, text))
                 for start, _, text in rows]
-    return Call([wire.estimates(codec.short, wire.name_word(kind), *here)], result)
+    return Call([wire.estimates(codec.short, one_of(kind, ESTIMATED), *here)], result)
 
 
 def values(codec: Codec, first: object, last_time: object) -> Call[Sequence[Reading]]:
@@ -232,6 +327,14 @@ def _window(codec: Codec, row: Sequence[int]) -> Window:
                   codec.value_back(row[5]), codec.time_back(row[6]), codec.time_back(row[7]))
 
 
+def cursor_first(codec: Codec) -> Call[Time | None]:
+    """The time at which the oldest window begins, by lines that go together."""
+    def result(replies: Sequence[Reply]) -> Time | None:
+        rows = wire.rows_of(replies[1], "rows")
+        return _window(codec, wire.numbers(rows[0], 8)).start if rows else None
+    return Call([wire.cursor_open(codec.short), wire.cursor_next(1), wire.CURSOR_CLOSE], result)
+
+
 def cursor_close() -> Call[None]:
     """Ends the cursor of a session."""
     return Call([wire.CURSOR_CLOSE], lambda replies: None)
@@ -244,7 +347,7 @@ def certify(codec: Codec, kind: str, end: str, first: object, last_time: object,
     marks = [(codec.time(start), wire.LAST_TIME if stop is None else codec.time(stop))
              for start, stop in landmarks]
     parts = certificate.parts_within(marks, begin, finish)
-    lines = [wire.certify(codec.short, wire.name_word(kind), wire.name_word(end), begin, finish),
+    lines = [wire.certify(codec.short, one_of(kind, ESTIMATED), one_of(end, ENDS, "end"), begin, finish),
              wire.LIST, wire.windows(codec.short), wire.query(codec.short, kind, begin, finish),
              *(wire.query(codec.short, kind, *part) for part in parts)]
 

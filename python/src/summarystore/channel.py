@@ -5,7 +5,7 @@ from __future__ import annotations
 import os
 import threading
 import warnings
-from collections import deque
+from collections import defaultdict, deque
 from collections.abc import Iterator, Sequence
 from contextlib import contextmanager, suppress
 from typing import TypeVar
@@ -37,6 +37,7 @@ class Channel(Base):
         self._mine = threading.local()
         self._let_go: deque[tuple[int, Connection]] = deque()
         self._pumping = False
+        self._alone: defaultdict[str, threading.RLock] = defaultdict(threading.RLock)
         self._owner = os.getpid()
         self._connection = self._start()
 
@@ -110,6 +111,8 @@ class Channel(Base):
                 request.finish(request.interrupted(only.failure()))
                 return only
             connection = self._up()
+            if connection.refuses(request):
+                return connection
             try:
                 connection.add(request)
             except BaseException:

@@ -4,11 +4,14 @@ from __future__ import annotations
 
 import datetime
 import re
+import time
+import warnings
 import zoneinfo
 from contextlib import suppress
+from decimal import ROUND_FLOOR, Decimal
 
 from .description import NANOSECONDS
-from .errors import TimeError
+from .errors import RoundedTimeWarning, TimeError
 from .records import Time
 from .wire import LAST_TIME
 
@@ -22,7 +25,11 @@ _SPANS = {"ns": 1, "us": 10**3, "ms": 10**6, "s": 10**9, "m": 60 * 10**9, "h": 3
           "d": 86400 * 10**9, "w": 7 * 86400 * 10**9, "D": 86400 * 10**9, "W": 7 * 86400 * 10**9}
 _NUMPY = re.compile(r"(?:datetime|timedelta)64\[([0-9]*)(ns|us|ms|s|m|h|D|W)\]")
 _NAT = -2**63
+NOW = re.compile(r"now(?: ?([+-]) ?([0-9]{1,9}) ?([a-z]{1,7}))?")
 # Fractions of a second beyond what a datetime holds.
+OPEN = "open with zone="
+"""How it is said in the package that a zone may be told. Commands have `--zone`."""
+DOTTED = re.compile(r"([0-9]{1,2})\.([0-9]{1,2})\.([0-9]{4})\b")
 FINE = re.compile(r"([^.,]*[:T ](?:[0-9]{2}:[0-9]{2}:[0-9]{2}|[0-9]{6}))[.,]([0-9]+)([^.,]*)")
 
 
@@ -42,7 +49,7 @@ def nanoseconds(moment: datetime.datetime, zone: datetime.tzinfo | None) -> int:
             moment = plain(warn=False)
     if moment.tzinfo is None or moment.utcoffset() is None:
         if zone is None:
-            raise TimeError(f"{moment.isoformat(' ')} has no zone: give it one, or open with zone=")
+            raise TimeError(f"{moment.isoformat(' ')} has no zone: give it one, or {OPEN}")
         moment = _in_zone(moment.replace(tzinfo=None), zone)
     elif not isinstance(moment.tzinfo, datetime.timezone) and not _is_shown(moment):
         raise TimeError(f"{moment.isoformat(' ')}: the clock never shows it there")
@@ -75,7 +82,7 @@ def moment_of(text: str, zone: datetime.tzinfo | None) -> int:
     fine = FINE.fullmatch(text) if "." in text or "," in text else None
     extra = 0
     if ("." in text or "," in text) and not fine:
-        raise TimeError(f"a fraction of something else than a second: {text[:60]!r}")
+        raise TimeError(f"{_why_not(text)}: {text[:60]!r}")
     if fine and len(fine[2]) > 9:
         raise TimeError(f"finer than a nanosecond: {text[:60]!r}")
     if fine and len(fine[2]) > 6:
@@ -87,6 +94,20 @@ def moment_of(text: str, zone: datetime.tzinfo | None) -> int:
         raise
     except ValueError:
         raise TimeError(f"not a time: {text[:60]!r}") from None
+
+
+def for_commands(error: Exception) -> str:
+    """What is said of an error by a command, which has options in the place of calls."""
+    return str(error).replace(OPEN, "say --zone")
+
+
+def _why_not(text: str) -> str:
+    """Why a text with a point or a comma is no time, and how it would be one."""
+    found = DOTTED.match(text)
+    if not found:
+        return "not a time, which is written as 2026-03-29T10:00:00+02:00"
+    day, month = found[1].zfill(2), found[2].zfill(2)
+    return f"a date is written as {found[3]}-{month}-{day}, if the day stands first here"
 
 
 def digits_of(text: str) -> int:
@@ -149,6 +170,30 @@ def _numpy_count(given: object) -> int:
     return int(count * int(unit[1] or 1) * _SPANS[unit[2]])
 
 
+def from_now(given: object) -> int | None:
+    """Nanoseconds since 1970 of what is told from the present: `now`, `now-1h`, or a timedelta from now."""
+    if isinstance(given, datetime.timedelta):
+        return time.time_ns() + span_of(given)
+    if isinstance(given, str) and (found := NOW.fullmatch(given)):
+        unit = "min" if found[3] == "m" else found[3]
+        span = span_of(f"{found[2]}{unit}") if found[1] else 0
+        return time.time_ns() + (-span if found[1] == "-" else span)
+    return None
+
+
+def is_float(given: object) -> bool:
+    """Whether this is a float, also numpy's: then it counts seconds since 1970, as `time.time()` does."""
+    return isinstance(given, float) or getattr(getattr(given, "dtype", None), "kind", "") == "f"
+
+
+def _of_float(given: object) -> int:
+    """Nanoseconds since 1970 of seconds, by the shortest decimal of a float."""
+    seconds = Decimal(str(given))
+    if not seconds.is_finite() or abs(seconds.adjusted()) > 20:
+        raise TimeError(f"not a time: {given}")
+    return int(seconds.scaleb(9).to_integral_value(ROUND_FLOOR))
+
+
 class Clock:
     """The times of one stream: its resolution, the day from which it counts, and a zone."""
 
@@ -157,11 +202,15 @@ class Clock:
         self._step = NANOSECONDS[resolution]
         self._zone = zone
         self._origin = self.day(since)
+        self._told = False
 
     def time(self, given: object) -> int:
-        """The count of a time. One between two counts, or before the first, is refused."""
+        """The count of a time. One before the first is refused, and so is one between two counts.
+
+        But what a clock of Python says, a datetime or a float, is rounded down, which is told once.
+        """
         if isinstance(given, str):
-            if len(given) > 11 and not COUNT.fullmatch(given):
+            if len(given) > 11 and not COUNT.fullmatch(given) and not given.startswith("now"):
                 return self.of(moment_of(given, self._zone), given)
         count = self._count(given)
         if count is not None:
@@ -171,10 +220,18 @@ class Clock:
     def of(self, passed: int, given: object) -> int:
         """The count of nanoseconds since 1970."""
         whole, rest = divmod(passed - self._origin, self._step)
-        if rest:
+        if rest and (isinstance(given, datetime.datetime) or is_float(given)):
+            self._tell(given)
+        elif rest and from_now(given) is None:
             raise TimeError(f"{given} lies between two times of the stream, which counts in "
                             f"{self.resolution}")
         return _checked(whole, given)
+
+    def _tell(self, given: object) -> None:
+        if not self._told:
+            self._told = True
+            warnings.warn(RoundedTimeWarning(f"{given} is rounded down, since the stream counts in "
+                                             f"{self.resolution}: so are all times of a clock"), stacklevel=6)
 
     def day(self, day: datetime.date) -> int:
         """Nanoseconds from 1970 to a day in UTC."""
@@ -246,6 +303,11 @@ class Clock:
             if given != given:      # pandas NaT
                 raise TimeError("not a time: NaT")
             return nanoseconds(given, self._zone)
+        present = from_now(given)
+        if present is not None:
+            return present
+        if is_float(given):
+            return _of_float(given)
         day = day_of(given)
         if day is not None:
             if self.resolution != "day":
@@ -261,7 +323,7 @@ class Clock:
         """The first moment of a day, or of one so many days later."""
         zone = UTC if self.resolution == "day" else self._zone
         if zone is None:
-            raise TimeError(f"{day} has no zone: give a time with one, or open with zone=")
+            raise TimeError(f"{day} has no zone: give a time with one, or {OPEN}")
         try:
             later = day + datetime.timedelta(days=days)
         except OverflowError:

@@ -3,12 +3,12 @@ plain form of it, which gives and takes whole numbers as they are."""
 
 from __future__ import annotations
 
-from collections.abc import Iterable, Sequence
-from typing import Protocol, cast
+from collections.abc import Callable, Container, Iterable, Sequence
+from typing import NamedTuple, Protocol, cast
 
 from .decimals import Number
 from .description import Description
-from .errors import DescriptionError
+from .errors import DescriptionError, NumberError, SummaryStoreError, UnknownStreamError
 from .interval import Interval
 from .records import Stream, Time
 from .wire import LAST_TIME, stream_of, whole
@@ -51,6 +51,14 @@ class Codec(Protocol):
         """An answer as it is shown."""
 
 
+class Change(NamedTuple):
+    """How a stream is to be read: one that is to be made, or one that stands."""
+
+    name: str
+    description: Description | None
+    stands: bool = False
+
+
 class Translator(Protocol):
     """The streams of a store by the names that people use."""
 
@@ -65,6 +73,9 @@ class Translator(Protocol):
 
     def declare(self, name: str, description: Description | None) -> Codec:
         """Keeps how a stream is to be read, before it is made."""
+
+    def keep(self, changes: Sequence[Change]) -> Sequence[Codec | Exception]:
+        """Keeps how some are to be read, by one write. What is refused is told in its place."""
 
     def made(self, name: str, codec: Codec) -> None:
         """The stream was made."""
@@ -81,6 +92,9 @@ class Translator(Protocol):
     def rename(self, name: str, new: str) -> None:
         """Gives a described stream another name."""
 
+    def keep_joins(self, name: str, joins: Sequence[tuple[int, int]]) -> None:
+        """Brings the joins of a counter to the disk."""
+
     def name_of(self, short: str) -> str:
         """The name that people use for one of the program's."""
 
@@ -90,28 +104,38 @@ class PlainCodec:
 
     description: Description | None = None
 
-    def __init__(self, short: str) -> None:
+    def __init__(self, short: str, standing: Container[str] | None = None) -> None:
         self.short = short
+        self._standing = standing
+
+    def whole(self, given: object) -> int:
+        """A whole number. Where it is none, and no such stream stands, that is said instead."""
+        try:
+            return whole(given)
+        except NumberError:
+            if self._standing is not None and self.short not in self._standing:
+                raise UnknownStreamError("UNKNOWN", self.short) from None
+            raise
 
     def time(self, given: object) -> int:
         """A whole number."""
-        return whole(given)
+        return self.whole(given)
 
     def begin(self, given: object) -> int:
         """A whole number, or 0."""
-        return 0 if given is None else whole(given)
+        return 0 if given is None else self.whole(given)
 
     def end(self, given: object) -> int:
         """A whole number, or 2^62."""
-        return LAST_TIME if given is None else whole(given)
+        return LAST_TIME if given is None else self.whole(given)
 
     def step(self, given: object) -> int:
         """A whole number."""
-        return whole(given)
+        return self.whole(given)
 
     def value(self, given: object) -> int:
         """A whole number."""
-        return whole(given)
+        return self.whole(given)
 
     def rows(self, given: Sequence[tuple[object, object]]) -> Sequence[tuple[int, int]]:
         """As they are: whoever writes the lines sees whether they are whole numbers."""
@@ -152,6 +176,10 @@ class Plain:
             raise DescriptionError("a store of whole numbers keeps no descriptions: summarystore.open does")
         return PlainCodec(name)
 
+    def keep(self, changes: Sequence[Change]) -> Sequence[Codec | Exception]:
+        """Takes no description."""
+        return each_of(lambda change: self.declare(change.name, change.description), changes)
+
     def made(self, name: str, codec: Codec) -> None:
         """Needs nothing."""
 
@@ -169,9 +197,22 @@ class Plain:
         """Names are those of the program."""
         raise DescriptionError("a store of whole numbers keeps its names: summarystore.open has others")
 
+    def keep_joins(self, name: str, joins: Sequence[tuple[int, int]]) -> None:
+        """Has no counters."""
+
     def name_of(self, short: str) -> str:
         """The name."""
         return short
+
+
+def each_of(judge: Callable[[Change], Codec], changes: Sequence[Change]) -> Sequence[Codec | Exception]:
+    """What comes of each change, or why it is refused."""
+    def of(change: Change) -> Codec | Exception:
+        try:
+            return judge(change)
+        except (SummaryStoreError, ValueError) as error:
+            return error
+    return [of(change) for change in changes]
 
 
 def pairs(rows: object) -> Iterable[tuple[object, object]]:

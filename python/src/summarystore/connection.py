@@ -3,11 +3,14 @@
 from __future__ import annotations
 
 import select
+import time
 
 from .codec import Translator
-from .errors import ProcessEndedError, ProtocolError, ending_of
+from .errors import DiskFullError, LockedError, ProcessEndedError, ProtocolError, ending_of
+from .held import how_to_connect
 from .pipeline import Commands, Pipeline, Request
 from .program import Process
+from .reading import copied
 from .wire import CURSOR_CLOSE, LIST
 
 # A process takes at most 2^36 bytes of input. Long before that another takes its place.
@@ -19,9 +22,13 @@ class Connection:
 
     def __init__(self, program: str, path: str, existing: bool, checked: bool | None) -> None:
         self.process = Process(program, path, existing, checked)
+        self._path = path
         self.pipeline = Pipeline()
         self.successor: Connection | None = None
         """The process that took its place, in order: who speaks with this one goes on with that."""
+        self.full: DiskFullError | None = None
+        """Why it has a copy of the store, which is only read."""
+        self.begun = time.monotonic()
         self._ended = False
         self._status = 0
         self._text = ""
@@ -40,6 +47,13 @@ class Connection:
         """Queues a request, and writes what the pipe takes."""
         self.pipeline.add(request)
         self.flush()
+
+    def refuses(self, request: Request) -> bool:
+        """Whether a request would change a copy. Then it is done, and nothing of it was sent."""
+        if self.full is None or not request.changes:
+            return False
+        request.finish(request.interrupted(DiskFullError(self.full.status, self.full.text)))
+        return True
 
     def flush(self) -> None:
         """Writes what the pipe takes."""
@@ -80,7 +94,7 @@ class Connection:
 
     def failure(self) -> ProcessEndedError:
         """The exception for how the process ended."""
-        return ending_of(self._status, self._text)
+        return ending_of(self._status, self._text, self._path)
 
     def abandon(self) -> None:
         """Ends the process at once, since it can't be told any more what it says."""
@@ -112,6 +126,8 @@ def connect(program: str, path: str, translator: Translator, existing: bool, che
             if not connection.fill():
                 connection.end()
         if request.error is not None:
+            if isinstance(request.error, LockedError):
+                request.error.text += how_to_connect(path)
             if isinstance(request.error, ProcessEndedError):
                 request.error.unknown = request.error.not_stored = ()    # nothing of anybody's
             raise request.error
@@ -123,4 +139,12 @@ def connect(program: str, path: str, translator: Translator, existing: bool, che
     except BaseException:
         connection.abandon()
         raise
+    return connection
+
+
+def connect_to_copy(program: str, path: str, translator: Translator, full: DiskFullError) -> Connection:
+    """The same over a copy of a store whose disk is full."""
+    with copied(path, full) as copy:
+        connection = connect(program, copy, translator, True, None)
+    connection.full = full
     return connection

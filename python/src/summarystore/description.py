@@ -5,7 +5,7 @@ from __future__ import annotations
 import datetime
 from collections.abc import Mapping
 from decimal import ROUND_CEILING, ROUND_FLOOR, ROUND_HALF_EVEN, ROUND_HALF_UP
-from typing import NamedTuple
+from typing import NamedTuple, TypedDict
 
 from .decimals import Number, exact
 from .errors import DescriptionError
@@ -16,7 +16,17 @@ NANOSECONDS = {"ns": 1, "us": 10**3, "ms": 10**6, "s": 10**9, "minute": 60 * 10*
 
 ROUNDINGS = {"half-even": ROUND_HALF_EVEN, "half-up": ROUND_HALF_UP, "floor": ROUND_FLOOR,
              "ceiling": ROUND_CEILING}
+METERS = ("counter",)
+"""What the readings of a stream may be of."""
 EPOCH = datetime.date(1970, 1, 1)
+
+
+class Meter(NamedTuple):
+    """What the readings of a stream are of: a counter with what is told of it, and the joins so far."""
+
+    kind: str
+    overflow: Number | None = None
+    joins: tuple[tuple[int, int], ...] = ()
 
 
 class Description(NamedTuple):
@@ -28,14 +38,15 @@ class Description(NamedTuple):
     unit: str | None = None
     labels: Mapping[str, str] = {}
     rounding: str | None = None
+    meter: Meter | None = None
 
 
 def description_of(*, scale: object | None = None, time: str | None = None,
                    since: datetime.date | str | None = None, unit: str | None = None,
-                   labels: Mapping[str, str] | None = None, rounding: str | None = None
-                   ) -> Description | None:
+                   labels: Mapping[str, str] | None = None, rounding: str | None = None,
+                   kind: str | None = None, overflow: object | None = None) -> Description | None:
     """A description of what was given, or None where nothing was."""
-    given = (scale, time, since, unit, labels, rounding)
+    given = (scale, time, since, unit, labels, rounding, kind, overflow)
     if all(word is None for word in given):
         return None
     found = 1 if scale is None else exact(scale)
@@ -48,7 +59,20 @@ def description_of(*, scale: object | None = None, time: str | None = None,
     texts = [unit or "", *(text for label in (labels or {}).items() for text in label)]
     if not all(isinstance(text, str) and is_text(text) for text in texts):
         raise DescriptionError(f"a unit and labels are text: {unit!r}, {labels!r}")
-    return Description(found, time or "s", _day(since), unit, dict(labels or {}), rounding)
+    return Description(found, time or "s", _day(since), unit, dict(labels or {}), rounding,
+                       _meter(kind, overflow))
+
+
+def _meter(kind: str | None, overflow: object | None) -> Meter | None:
+    if kind is not None and kind not in METERS:
+        raise DescriptionError(f"no kind of readings: {kind!r}; there are {', '.join(METERS)}")
+    if overflow is None:
+        return None if kind is None else Meter(kind)
+    if kind != "counter":
+        raise DescriptionError("what overflows is a counter: kind='counter'")
+    if exact(overflow) <= 0:
+        raise DescriptionError(f"a counter overflows at more than 0: {overflow}")
+    return Meter(kind, exact(overflow))
 
 
 def is_text(text: str) -> bool:
@@ -67,6 +91,55 @@ def changed(known: Description, unit: str | None, labels: Mapping[str, str] | No
     return known._replace(unit=known.unit if unit is None else unit,
                           labels=known.labels if labels is None else found.labels,
                           rounding=known.rounding if rounding is None else rounding)
+
+
+def brought_to(known: Description | None, wanted: Description | None, name: str) -> Description | None:
+    """The description of a stream that stands, with what is wanted of it that may change.
+
+    None where there is nothing to change. Raises DescriptionError where its numbers mean something else.
+    """
+    if wanted is None:
+        wanted = Description()
+        if known is None:
+            return None
+    if known is None or known[:3] != wanted[:3]:
+        raise DescriptionError(f"{name} stands with another scale or other times: {_meaning(known)}")
+    if _told(known.meter) != _told(wanted.meter):
+        raise DescriptionError(f"{name} stands with another kind of readings: {known.meter}")
+    found = changed(known, wanted.unit, wanted.labels or None, wanted.rounding)
+    return None if found == known else found
+
+
+class MeterWords(TypedDict, total=False):
+    """What `create` is told of a meter."""
+
+    kind: str
+    overflow: Number | None
+
+
+def meter_words(description: Description) -> MeterWords:
+    """What a description says of a meter, as `create` takes it."""
+    meter = description.meter
+    return {} if meter is None else {"kind": meter.kind, "overflow": meter.overflow}
+
+
+def with_joins(description: Description, known: Description) -> Description:
+    """A description with the joins that came last: those of a counter may come while it is described."""
+    if description.meter is None or known.meter is None:
+        return description
+    newest = max(description.meter.joins, known.meter.joins, key=lambda joins: joins[-1:])
+    return description._replace(meter=description.meter._replace(joins=newest))
+
+
+def _told(meter: Meter | None) -> Meter | None:
+    """What was told of a meter, without its joins."""
+    return None if meter is None else meter._replace(joins=())
+
+
+def _meaning(known: Description | None) -> str:
+    if known is None:
+        return "it takes whole numbers"
+    return f"scale {known.scale}, time {known.time}, since {known.since}"
 
 
 def _day(since: datetime.date | str | None) -> datetime.date:

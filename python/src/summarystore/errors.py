@@ -3,6 +3,7 @@
 from __future__ import annotations
 
 import errno
+import shlex
 from collections.abc import Sequence
 from typing import NamedTuple
 
@@ -58,6 +59,16 @@ class CommandError(RefusedError, word="SYNTAX"):
 
     Another version of it may.
     """
+
+
+class KindError(CommandError, ValueError):
+    """There is no such kind of answer.
+
+    What there is stands in the message.
+    """
+
+    def __str__(self) -> str:
+        return f"{self.reason}, and not {self.line}"
 
 
 class NumberError(RefusedError, ValueError, word="NUMBER"):
@@ -224,6 +235,8 @@ class ProcessEndedError(SummaryStoreError):
         super().__init__(status, text)
         self.status = status
         self.text = text
+        self.path: str | None = None
+        """The file of the store."""
         self.acknowledged = 0
         self.not_stored: Sequence[object] = ()
         self.unknown: Sequence[object] = ()
@@ -249,6 +262,12 @@ class DamagedStoreError(ProcessEndedError, status=3):
 
     Nothing was written to it.
     """
+
+    def __str__(self) -> str:
+        if self.path is None:
+            return super().__str__()
+        return (f"{self.path}: {super().__str__()}; `tools/scrub {shlex.quote(self.path)}` of the sources "
+                "tells what is damaged, and with an older copy of the file what that repairs")
 
 
 class StoreFileError(ProcessEndedError, status=4):
@@ -303,14 +322,20 @@ class UnexpectedEndError(ProcessEndedError):
     """The program ended, and not with one of its statuses, or unasked."""
 
 
-def ending_of(status: int | None, text: str) -> ProcessEndedError:
-    """The exception for a status of the program and what it said, on either of its streams."""
+def ending_of(status: int | None, text: str, path: str | None = None) -> ProcessEndedError:
+    """The exception for a status of the program and what it said, on either of its streams, of a store."""
+    found = _kind_of(status, text)(status, text)
+    found.path = path
+    return found
+
+
+def _kind_of(status: int | None, text: str) -> type[ProcessEndedError]:
     if status is not None and status < 0:
-        return KilledError(status, text)
+        return KilledError
     kinds = STATUSES.get(-1 if status is None else status, [UnexpectedEndError])
     # What the program said last is the reason, perhaps with the system's own words in brackets.
     said = text.rpartition(" [")[0] if text.endswith("]") else text
-    return [kind for kind in kinds if said.endswith(kind.said)][-1](status, text)
+    return [kind for kind in kinds if said.endswith(kind.said)][-1]
 
 
 # ---- told by this package ---------------------------------------------------------------
@@ -344,12 +369,34 @@ class TimeError(SummaryStoreError, ValueError):
     """What was given as a time doesn't say one time of the stream."""
 
 
+class MeterError(SummaryStoreError, ValueError):
+    """A value is no reading of its counter."""
+
+
 class DescriptionError(SummaryStoreError, ValueError):
     """A stream can't be described like this, or isn't described."""
 
 
 class NamesFileError(SummaryStoreError):
     """The file of the descriptions can't be understood. It is left as it is."""
+
+
+class ServiceError(SummaryStoreError):
+    """The service couldn't be reached, or didn't take a request.
+
+    `status` is that of its answer, or None where there was none, `code` its word for the reason, and
+    `retry_after` says after how many seconds it may be asked again.
+    """
+
+    def __init__(self, status: int | None, code: str, reason: str, retry_after: int | None = None) -> None:
+        super().__init__(status, code, reason)
+        self.status = status
+        self.code = code
+        self.reason = reason
+        self.retry_after = retry_after
+
+    def __str__(self) -> str:
+        return f"{self.code}: {self.reason}"
 
 
 class SourceError(SummaryStoreError):
@@ -360,5 +407,13 @@ class CertificateError(SummaryStoreError):
     """A certificate shows nothing, or it can't be told whether it does."""
 
 
+class RoundedTimeWarning(UserWarning):
+    """A time was rounded down to the steps of its stream. It is told once for each stream."""
+
+
 class ReopenedWarning(UserWarning):
     """The program had ended, and the store was opened again."""
+
+
+class ReadsOnlyWarning(ReopenedWarning):
+    """The disk is full: questions are answered from a copy, and what would change the store is refused."""

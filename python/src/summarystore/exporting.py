@@ -11,7 +11,7 @@ from collections.abc import Iterable, Iterator, Sequence
 from decimal import Decimal
 from typing import TextIO
 
-from .clock import COUNT
+from .clock import COUNT, for_commands
 from .errors import SummaryStoreError
 from .names import Names
 from .series import Series, index_of
@@ -124,7 +124,7 @@ def main(given: Sequence[str] | None = None) -> int:
     except BrokenPipeError:
         return 3
     except (SummaryStoreError, OSError, ValueError) as error:      # of a kind of picture that isn't known
-        print(f"summarystore-export: {error}", file=sys.stderr)
+        print(f"summarystore-export: {for_commands(error)}", file=sys.stderr)
         return 3
 
 

@@ -22,6 +22,7 @@ from .codec import Codec, PlainCodec
 from .description import NANOSECONDS, ROUNDINGS, Description, description_of
 from .errors import LateError, NotANumberError, SourceError, SummaryStoreError, TimeError
 from .late import ReorderBuffer
+from .meters import must_not_count
 from .names import DescribedCodec, Names, short_name
 from .progress import Progress
 from .records import Record
@@ -278,7 +279,9 @@ class Import:
     def _codec(self, name: str, column: int) -> Codec:
         words = self._words
         if self._store is not None and name in self._standing:
-            return self._store.codec(name)
+            codec = self._store.codec(name)
+            must_not_count(codec, "its table goes by append_many")
+            return codec
         description = self._description(column)
         if self._store is None or words.dry_run:
             return DescribedCodec(short_name(name, description), description, self._zone)
@@ -354,7 +357,7 @@ class Import:
         into.refused += 1
         self._shown += 1
         if self._shown <= SHOWN:
-            print(f"line {line}: {into.name}: {error}", file=sys.stderr)
+            print(f"line {line}: {into.name}: {clock.for_commands(error)}", file=sys.stderr)
         elif self._shown == SHOWN + 1:
             print("further rows that are refused are only counted", file=sys.stderr)
 
@@ -475,7 +478,7 @@ def main(given: Sequence[str] | None = None) -> int:
                    existing=words.dry_run, checked=words.checked) as store:
             return 0 if work.run(store) else 1
     except (SummaryStoreError, OSError, UnicodeError, csv.Error, sqlite3.Error) as error:
-        print(f"summarystore-import: {error}", file=sys.stderr)
+        print(f"summarystore-import: {clock.for_commands(error)}", file=sys.stderr)
         return 3
     except KeyboardInterrupt:
         print("summarystore-import: interrupted; the same command goes on from here", file=sys.stderr)

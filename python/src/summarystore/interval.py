@@ -4,23 +4,20 @@ from __future__ import annotations
 
 import enum
 import math
-from decimal import MAX_EMAX, MIN_EMIN, ROUND_CEILING, ROUND_FLOOR, Context, Decimal
+import re
+from collections.abc import Iterator
+from decimal import (MAX_EMAX, MIN_EMIN, ROUND_CEILING, ROUND_FLOOR, Context, Decimal, InvalidOperation,
+                     localcontext)
 from fractions import Fraction
 
-from .decimals import EXACT, Number, exact
+from .decimals import EXACT, Number, exact, is_truth_value
 from .errors import NoValueError
 
 # Quotients: their ends are rounded outwards, to more digits than a sum of 128 bits has.
 DIGITS = 60
 _DOWN = Context(prec=DIGITS, rounding=ROUND_FLOOR, Emin=MIN_EMIN, Emax=MAX_EMAX)
 _UP = Context(prec=DIGITS, rounding=ROUND_CEILING, Emin=MIN_EMIN, Emax=MAX_EMAX)
-
-
-def number(value: object) -> Number:
-    """An exact number: an int, a Decimal, or the text of a decimal. A float is refused."""
-    if isinstance(value, float) or getattr(getattr(value, "dtype", None), "kind", "") == "f":
-        raise TypeError(f"{value!r} isn't exact: give an int, a Decimal or the text of one")
-    return exact(value)
+_FORM = re.compile(r"(?:(.?)([<>^]))?([-+ ]?)([0-9]*)((?:,|_)?(?:\.[0-9]+)?[eEfFgG%])")
 
 
 def _add(a: Number, b: Number) -> Number:
@@ -50,8 +47,8 @@ class Interval:
     __slots__ = ("_lo", "_hi", "_maybe_none")
 
     def __init__(self, lo: object, hi: object | None = None, *, maybe_none: bool = False) -> None:
-        self._lo: Number | None = number(lo)
-        self._hi: Number | None = self._lo if hi is None else number(hi)
+        self._lo: Number | None = exact(lo)
+        self._hi: Number | None = self._lo if hi is None else exact(hi)
         self._maybe_none = maybe_none
         if self.lo > self.hi:
             raise ValueError(f"an interval from {lo} to {hi} holds nothing")
@@ -104,7 +101,7 @@ class Interval:
         return _add(self.hi, _times(self.lo, -1))
 
     def __contains__(self, value: object) -> bool:
-        return not self.none and self.lo <= number(value) <= self.hi
+        return not self.none and self.lo <= exact(value) <= self.hi
 
     def surely_below(self, other: Interval) -> bool:
         """Whether the one truth is less than the other, for certain."""
@@ -188,6 +185,37 @@ class Interval:
 
     # -- as other things
 
+    def __iter__(self) -> Iterator[Number]:
+        """The two ends, so that `lo, hi = interval` takes it apart."""
+        return iter((self.lo, self.hi))
+
+    def __float__(self) -> float:
+        """The nearest float of a truth that is known. Raises NoValueError where it isn't."""
+        if not self.exact or self.none:
+            raise NoValueError(f"{self} isn't one number: take lo, mid or hi")
+        return float(self.lo)
+
+    def __round__(self, digits: int = 0) -> Interval:
+        """So many digits behind the point. The ends are rounded outwards, and hold the truth."""
+        if self.none:
+            return self
+        lo, hi = _to_digits(self.lo, digits, ROUND_FLOOR), _to_digits(self.hi, digits, ROUND_CEILING)
+        return Interval(lo, hi, maybe_none=self._maybe_none)
+
+    def __format__(self, form: str) -> str:
+        """As text. With a form for numbers, as `.1f`, both ends have it, rounded outwards."""
+        found = _FORM.fullmatch(form)
+        if found is None:
+            return format(str(self), form)
+        fill, side, sign, width, kind = found.groups()
+        place = f"{fill or ''}{side or '>'}{width}"
+        if self.none:
+            return format("none", place)
+        lo = _formatted(self.lo, sign + kind, ROUND_FLOOR)
+        hi = _formatted(self.hi, sign + kind, ROUND_CEILING)
+        text = lo if lo == hi else f"{lo} .. {hi}"
+        return format(f"{text}, or none" if self._maybe_none else text, place)
+
     def scaled(self, factor: Number) -> Interval:
         """The same truth in another unit. Where there is no value there is none then."""
         return self if self.none or factor == 1 else self * factor
@@ -227,11 +255,29 @@ def _text(value: Number) -> str:
     return str(value) if isinstance(value, int) else f"{value:f}"
 
 
+def _to_digits(value: Number, digits: int, rounding: str) -> Number:
+    """A number with so many digits behind the point, whole where there are none."""
+    if isinstance(value, int) and digits >= 0:
+        return value
+    try:
+        found = Decimal(value).quantize(Decimal(1).scaleb(-digits), context=Context(
+            prec=EXACT.prec, rounding=rounding, Emin=MIN_EMIN, Emax=MAX_EMAX))
+    except InvalidOperation:
+        raise ValueError(f"a number can't be rounded to {digits} digits") from None
+    return int(found) if digits <= 0 else found
+
+
+def _formatted(value: Number, form: str, rounding: str) -> str:
+    with localcontext(Context(prec=EXACT.prec, rounding=rounding, Emin=MIN_EMIN, Emax=MAX_EMAX)):
+        return format(Decimal(value), form)
+
+
 def _interval(value: object) -> Interval | None:
-    """An interval, or an exact number as one. None where it is neither, so that Python says so."""
+    """An interval, or a number as one. None where it is neither, so that Python says so."""
     if isinstance(value, Interval):
         return value
-    if isinstance(value, (int, Decimal)) and not isinstance(value, bool):
+    is_float = isinstance(value, float) or getattr(getattr(value, "dtype", None), "kind", "") == "f"
+    if isinstance(value, (int, Decimal)) and not is_truth_value(value) or is_float:
         return Interval(value)
     return None
 

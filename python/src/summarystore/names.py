@@ -18,9 +18,9 @@ from collections.abc import Sequence
 from decimal import Decimal
 
 from .clock import Clock, zone_of
-from .codec import Codec, PlainCodec, streams_of
+from .codec import Change, Codec, PlainCodec, each_of, streams_of
 from .decimals import EXACT, Number
-from .description import EPOCH, Description, is_text
+from .description import EPOCH, Description, is_text, with_joins
 from .errors import (DescriptionError, NamesFileError, StreamExistsError, StreamNameError,
                      UnknownStreamError)
 from .interval import Interval
@@ -49,8 +49,12 @@ class DescribedCodec:
 
     def rows(self, given: Sequence[tuple[object, object]]) -> Sequence[tuple[int, int]]:
         """Times and values together."""
-        time, value = self.time, self.value
-        return [(time(t), value(v)) for t, v in given]
+        times, values = [t for t, _ in given], [v for _, v in given]
+        texts = [v for v in values if type(v) is str]
+        counts = [t for t in times if type(t) is int]
+        if len(texts) == len(counts) == len(given):     # read together
+            return list(zip(counts, self.scale.numbers(texts)))
+        return list(zip(map(self.time, times), map(self.value, values)))
 
     def interval_back(self, kind: str, interval: Interval) -> Interval:
         """A count as it is, and what is made of values in their unit."""
@@ -107,8 +111,10 @@ class Names:
         self._store = os.path.abspath(os.fsdecode(path))
         self._file = f"{self._store}.names.json"
         self._zone = zone_of(zone)
+        self._writing = threading.RLock()
+        """Who changes the file has it. What is asked of one stream never waits for it."""
         self._lock = threading.RLock()
-        self._read = False
+        """Who looks at what is known has it, for a moment, and takes it after the other one."""
         self._described: Described = {}
         self._standing: dict[str, str] = {}
         self._lost: dict[str, str] = {}
@@ -117,7 +123,7 @@ class Names:
     def learn(self, rows: Sequence[str]) -> None:
         """Takes the streams that stand. Those of whom the file knows nothing are known by their short
         names."""
-        with self._lock:
+        with self._writing, self._lock:
             self._described = read_names(self._file)
             for name, (short, description) in self._described.items():
                 meaning = description_in(short)
@@ -139,57 +145,114 @@ class Names:
 
     def codec(self, name: str) -> Codec:
         """That of a stream. One that isn't described takes and gives whole numbers."""
-        with self._lock:
-            found = self._codecs.get(name) or self._known(name)
-            if found is None:
-                raise UnknownStreamError("UNKNOWN", name)
-            self._codecs[name] = found
-            return found
+        found = self._codecs.get(name) if isinstance(name, str) else None
+        if found is None:
+            self._find_again(name)
+            with self._lock:
+                found = self._known(name, self._described)
+                if found is None:
+                    raise UnknownStreamError("UNKNOWN", name)
+                self._codecs[name] = found
+        return found
 
-    def _known(self, name: str) -> Codec | None:
+    def _known(self, name: str, described: Described) -> Codec | None:
         """None where a name that the program doesn't take isn't described."""
         if not isinstance(name, str) or not is_text(name):
             raise StreamNameError("NAME", repr(name), "a name is text")
-        if name not in self._described:
-            found = self._hash_of_lost(name)
-            if found is None:
-                return PlainCodec(name) if NAME.fullmatch(name) else None
-            self._found_again(name, found)
-        short, description = self._described[name]
+        if name not in described:
+            return PlainCodec(name, self._standing) if NAME.fullmatch(name) else None
+        short, description = described[name]
         return DescribedCodec(short, description, self._zone)
+
+    def _find_again(self, name: str) -> None:
+        """The long name of a stream whose description was lost is used again."""
+        if not self._lost or not isinstance(name, str) or not is_text(name) or name in self._described:
+            return
+        with self._writing:
+            lost = self._hash_of_lost(name)
+            if lost is None:
+                return
+            short = self._lost[lost]
+            described = dict(self._described)
+            described[name] = short, described.pop(short)[1]
+            with self._lock:
+                del self._lost[lost]
+                self._standing[short] = name
+                self._codecs.pop(short, None)
+            self._write(described)
 
     def _hash_of_lost(self, name: str) -> str | None:
         """The hash of the stream that had a name last, where what was described of it is lost."""
         found = None
-        for number in range(1, MOST_OF_A_NAME) if self._lost else ():
+        for number in range(1, MOST_OF_A_NAME):
             known = hash_of(name, number)
             if known not in self._lost:
                 break
             found = known
         return found
 
-    def _found_again(self, name: str, lost: str) -> None:
-        """The long name of a stream whose description was lost is used again."""
-        short = self._lost.pop(lost)
-        _, description = self._described.pop(short)
-        self._standing[short] = name
-        self._codecs.pop(short, None)
-        self._keep({**self._described, name: (short, description)})
-
     def declare(self, name: str, description: Description | None) -> Codec:
         """Keeps a description before the stream is made. That of one that stands stays."""
-        with self._lock:
-            known = self._known(name)
-            if known is not None and known.short in self._standing:
-                return known
-            if description is None and NAME.fullmatch(name) and description_in(name) is None:
-                self._forget(name)
-                return PlainCodec(name)
-            described = description or Description()
-            codec = DescribedCodec(self._free_short(name, described), described, self._zone)
-            self._keep({**self._described, name: (codec.short, described)})
-            self._codecs[name] = codec
-            return codec
+        return self._kept(Change(name, description))
+
+    def describe(self, name: str, description: Description) -> None:
+        """Changes the unit, the labels or the rounding of a stream. Its numbers keep their meaning."""
+        self._kept(Change(name, description, stands=True))
+
+    def _kept(self, change: Change) -> Codec:
+        found, = self.keep([change])
+        if isinstance(found, Exception):
+            raise found
+        return found
+
+    def keep(self, changes: Sequence[Change]) -> Sequence[Codec | Exception]:
+        """Keeps how streams are read, by one write. Where nothing is new nothing is written."""
+        for change in changes:
+            self._find_again(change.name)
+        with self._writing:
+            described = dict(self._described)
+            found = each_of(lambda change: (self._changed if change.stands else self._declared)(
+                change, described), changes)
+            self._write(described)
+            with self._lock:
+                for change, codec in zip(changes, found):
+                    if not isinstance(codec, Exception):
+                        self._codecs[change.name] = codec
+            return found
+
+    def _declared(self, change: Change, described: Described) -> Codec:
+        """Puts a stream that is to be made among those that are described."""
+        name, description, _ = change
+        known = self._known(name, described)
+        if known is not None and known.short in self._standing:
+            return known
+        if description is None and NAME.fullmatch(name) and description_in(name) is None:
+            described.pop(name, None)
+            return PlainCodec(name, self._standing)
+        wanted = description or Description()
+        codec = DescribedCodec(self._free_short(name, wanted), wanted, self._zone)
+        described[name] = codec.short, wanted
+        return codec
+
+    def _changed(self, change: Change, described: Described) -> Codec:
+        """Changes how a stream that stands is described."""
+        name, description, _ = change
+        found = self._known(name, described)
+        if found is None:
+            raise UnknownStreamError("UNKNOWN", name)
+        if found.description is None or description is None:
+            raise DescriptionError(f"{name} isn't described")
+        if description[:3] != found.description[:3]:
+            raise DescriptionError(f"the scale and the times of {name} can't be changed")
+        description = with_joins(description, found.description)
+        described[name] = found.short, description
+        return DescribedCodec(found.short, description, self._zone)
+
+    def _write(self, described: Described) -> None:
+        """Writes descriptions, and knows them when they are written."""
+        if described != self._described:
+            write_names(self._file, described, self._store)
+            self._described = described
 
     def _free_short(self, name: str, description: Description) -> str:
         """A short name that no stream has: streams that were renamed keep theirs."""
@@ -201,18 +264,20 @@ class Names:
 
     def rename(self, name: str, new: str) -> None:
         """Gives a described stream another long name. Its short name stays."""
-        with self._lock:
+        self._find_again(new)
+        with self._writing:
             if self.codec(name).description is None:
                 raise DescriptionError(f"{name} isn't described, so its name is that of the program")
-            known = self._known(new)
+            known = self._known(new, self._described)
             if known is not None and known.short in self._standing:
                 raise StreamExistsError("EXISTS", new)
             kept = dict(self._described)
             kept[new] = kept.pop(name)
-            self._keep(kept)
-            self._standing[kept[new][0]] = new
-            self._codecs.pop(name, None)
-            self._codecs.pop(new, None)
+            self._write(kept)
+            with self._lock:
+                self._standing[kept[new][0]] = new
+                self._codecs.pop(name, None)
+                self._codecs.pop(new, None)
 
     def made(self, name: str, codec: Codec) -> None:
         """The stream was made."""
@@ -220,43 +285,32 @@ class Names:
             self._standing[codec.short] = name
 
     def unmade(self, name: str, codec: Codec) -> None:
-        """The stream couldn't be made. One of that name may stand, and stays described then."""
+        """The stream couldn't be made. One of that name may stand, and stays described then.
+
+        The file isn't written for that: a description without its stream does no harm in it.
+        """
         with self._lock:
             if codec.short not in self._standing:
-                self._forget(name)
+                self._codecs.pop(name, None)
+                self._described.pop(name, None)
 
     def removed(self, name: str) -> None:
         """The stream was dropped."""
-        with self._lock:
-            self._forget(name)
-
-    def _forget(self, name: str) -> None:
-        codec = self._codecs.pop(name, None)
-        if codec is not None:
-            self._standing.pop(codec.short, None)
-        if name in self._described:
-            kept = dict(self._described)
-            del kept[name]
-            self._keep(kept)
-
-    def _keep(self, described: Described) -> None:
-        """Writes descriptions, and knows them when they are written."""
-        write_names(self._file, described, self._store)
-        self._described = described
+        with self._writing:
+            with self._lock:
+                codec = self._codecs.pop(name, None)
+                if codec is not None:
+                    self._standing.pop(codec.short, None)
+            self._write({each: found for each, found in self._described.items() if each != name})
 
     def name_of(self, short: str) -> str:
         """The name that people use."""
         with self._lock:
             return self._standing.get(short, short)
 
-    def describe(self, name: str, description: Description) -> None:
-        """Changes the unit, the labels or the rounding of a stream. Its numbers keep their meaning."""
-        with self._lock:
-            known = self.codec(name).description
-            if known is None:
-                raise DescriptionError(f"{name} isn't described")
-            if description[:3] != known[:3]:
-                raise DescriptionError(f"the scale and the times of {name} can't be changed")
-            short, _ = self._described[name]
-            self._keep({**self._described, name: (short, description)})
-            self._codecs.pop(name, None)
+    def keep_joins(self, name: str, joins: Sequence[tuple[int, int]]) -> None:
+        """Brings the joins of a counter to the disk."""
+        description = self.codec(name).description
+        assert description is not None and description.meter is not None
+        meter = description.meter._replace(joins=tuple(joins))
+        self.describe(name, description._replace(meter=meter))

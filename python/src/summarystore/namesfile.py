@@ -7,7 +7,7 @@ import os
 import stat
 from collections.abc import Mapping
 
-from .description import Description, description_of
+from .description import Description, Meter, description_of
 from .errors import NamesFileError, SummaryStoreError
 
 FORMAT = 1
@@ -26,14 +26,15 @@ def read_names(file: str) -> Described:
     try:
         if found["summarystore"] != FORMAT:
             raise NamesFileError(f"{file} is of a later version: {found['summarystore']}")
-        return {name: _entry(entry) for name, entry in found["streams"].items()}
+        return {name: entry_of(entry) for name, entry in found["streams"].items()}
     except (KeyError, TypeError, AttributeError, SummaryStoreError) as error:
         if isinstance(error, NamesFileError):
             raise
         raise NamesFileError(f"{file} doesn't hold descriptions: {error!r}") from None
 
 
-def _entry(entry: Mapping[str, object]) -> tuple[str, Description]:
+def entry_of(entry: Mapping[str, object]) -> tuple[str, Description]:
+    """The short name and the description of a stream, from its entry."""
     short, unit, labels = entry["name"], entry.get("unit"), entry.get("labels", {})
     scale, time, since = entry["scale"], entry["time"], entry.get("since")
     rounding = entry.get("rounding")
@@ -43,9 +44,26 @@ def _entry(entry: Mapping[str, object]) -> tuple[str, Description]:
     if not isinstance(short, str) or not isinstance(scale, str) or not isinstance(labels, Mapping):
         raise TypeError(f"the entry {dict(entry)!r} lacks a name, a scale or labels")
     found = description_of(scale=scale, time=_text(time), since=_text(since), unit=_text(unit),
-                           labels=labels, rounding=_text(rounding))
+                           labels=labels, rounding=_text(rounding), **_meter(entry.get("meter")))
     assert found is not None
-    return short, found
+    return short, found if found.meter is None else found._replace(
+        meter=found.meter._replace(joins=_joins(entry.get("meter"))))
+
+
+def _meter(entry: object) -> dict[str, str | None]:
+    """What an entry says of a meter."""
+    if entry is None:
+        return {}
+    if not isinstance(entry, Mapping):
+        raise TypeError(f"{entry!r} isn't a meter")
+    return {"kind": _text(entry["kind"]), "overflow": _text(entry.get("overflow"))}
+
+
+def _joins(entry: object) -> tuple[tuple[int, int], ...]:
+    joins = entry.get("joins", []) if isinstance(entry, Mapping) else []
+    if not all(len(join) == 2 and all(type(number) is int for number in join) for join in joins):
+        raise TypeError(f"{joins!r} aren't joins of a counter")
+    return tuple((after, offset) for after, offset in joins)
 
 
 def _text(value: object) -> str | None:
@@ -57,7 +75,7 @@ def write_names(file: str, described: Described, store: str) -> None:
 
     Whoever may read or write the store may do the same with it.
     """
-    streams = {name: _shown(short, description) for name, (short, description) in described.items()}
+    streams = {name: shown(short, description) for name, (short, description) in described.items()}
     text = json.dumps({"summarystore": FORMAT, "streams": streams}, ensure_ascii=False, indent=1)
     beside = f"{file}.new"
     try:
@@ -79,8 +97,16 @@ def write_names(file: str, described: Described, store: str) -> None:
         os.close(there)
 
 
-def _shown(short: str, description: Description) -> dict[str, object]:
+def shown(short: str, description: Description) -> dict[str, object]:
+    """The entry of a stream."""
     return {"name": short, "scale": f"{description.scale:f}" if not isinstance(description.scale, int)
             else str(description.scale), "time": description.time, "since": str(description.since),
             "unit": description.unit, "labels": dict(description.labels),
-            "rounding": description.rounding}
+            "rounding": description.rounding, **_shown_meter(description.meter)}
+
+
+def _shown_meter(meter: Meter | None) -> dict[str, object]:
+    if meter is None:
+        return {}
+    overflow = None if meter.overflow is None else str(meter.overflow)
+    return {"meter": {"kind": meter.kind, "overflow": overflow, "joins": [[*join] for join in meter.joins]}}

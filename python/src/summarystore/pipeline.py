@@ -17,11 +17,16 @@ from .wire import COMMAND, LONGEST_LINE, LONGEST_SENT, Reply, rows_after, tagged
 
 ATOMIC = select.PIPE_BUF
 LINE_REFUSED = b"refused LINE\n"
+EVENTS = ("create ", "append ", "landmark ", "drop ")
+"""How the commands begin that change a store."""
 T = TypeVar("T")
 
 
 class Request:
     """Lines that were handed over together, until each has its reply."""
+
+    changes = False
+    """Whether it would change the store."""
 
     def __init__(self, session: int, data: bytes, count: int) -> None:
         self.tag = b"@%d " % session
@@ -68,6 +73,7 @@ class Commands(Request):
             if not COMMAND.fullmatch(line):
                 raise refusal_of("SYNTAX", repr(line))
         super().__init__(session, tagged(session, lines), len(lines))
+        self.changes = any(line.startswith(EVENTS) for line in lines)
         self.lines = lines
         self.replies: list[Reply] = []
         self._head = ""
@@ -109,6 +115,8 @@ class Commands(Request):
 
 class Appends(Request, Generic[T]):
     """Appends of one stream, of whose replies only the refusals are kept."""
+
+    changes = True
 
     def __init__(self, session: int, data: bytes, rows: Sequence[T]) -> None:
         super().__init__(session, data, len(rows))

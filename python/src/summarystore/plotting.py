@@ -12,12 +12,13 @@ from .series import Series
 if TYPE_CHECKING:
     from matplotlib.axes import Axes
 
-    from .store import Store
+    from .kinds import Kind
+    from .questions import Questions
 
 BAND, LINE = "#9ecae1", "#08519c"
 
 
-def plot_store(store: Store, name: str, kind: str, t1: object | None, t2: object | None,
+def plot_store(store: Questions, name: str, kind: Kind, t1: object | None, t2: object | None,
                step: object | None, ax: Axes | None) -> Axes:
     """Draws a series of a stream. What isn't given is that of the whole stream, in about 200 rows."""
     series, last = store.whole_series(name, kind, t1, t2, step)

@@ -157,5 +157,5 @@ def check(path: StorePath, program: str | os.PathLike[str] | None = None, *,
     done = subprocess.run([find_program(program), *options, store_word(path), "check"],
                           stdin=subprocess.DEVNULL, capture_output=True, text=True, check=False)
     if done.returncode != 0:
-        raise ending_of(done.returncode, (done.stderr.strip() or done.stdout.strip()))
+        raise ending_of(done.returncode, done.stderr.strip() or done.stdout.strip(), os.fsdecode(path))
     return soundness_of(done.stdout)

@@ -30,6 +30,8 @@ class Scale:
         self._plain = re.compile(rf"(-?[0-9]{{1,40}}){part}")
         point = rf"\.[0-9]{{{places}}}" if places else ""
         self._column = re.compile(rf"(?:-?[0-9]{{1,40}}{point}\n)+")
+        shorter = rf"(?:\.[0-9]{{1,{places}}})?" if places else ""
+        self._shorter = re.compile(rf"(?:-?[0-9]{{1,40}}{shorter}\n)+")
 
     def number(self, given: object) -> int:
         """The whole number of a value."""
@@ -48,13 +50,17 @@ class Scale:
         return int(whole)
 
     def numbers(self, texts: Sequence[str]) -> Sequence[int]:
-        """The whole numbers of many texts. Those that all have the places of the scale are read at once."""
+        """The whole numbers of many texts. Those that all have the places of the scale, or fewer, are read
+        at once."""
         if self._places is None:
             return list(map(self.number, texts))
         together = "\n".join(texts) + "\n"
-        if not self._column.fullmatch(together):
+        if self._column.fullmatch(together):
+            return list(map(int, together.replace(".", "").split()))
+        if not self._shorter.fullmatch(together):
             return list(map(self.number, texts))
-        return list(map(int, together.replace(".", "").split()))
+        parted = [text.partition(".") for text in texts]
+        return [int(whole + part.ljust(self._places, "0")) for whole, _, part in parted]
 
     def _of_text(self, text: str) -> int | None:
         """The number of plain text: digits, with at most the places of the scale behind a point."""

@@ -73,6 +73,11 @@ class Sending:
             yield self.under_way[0]
             self._answered(self.under_way[0])
 
+    def settle(self) -> None:
+        """Takes what became of all that is under way, which has its answers."""
+        while self.under_way:
+            self._answered(self.under_way[0])
+
     def _draw(self) -> bool:
         drawn: list[Row] = []
         self._drawn = drawn

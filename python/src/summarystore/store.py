@@ -6,33 +6,33 @@ import threading
 from collections.abc import Iterator, Mapping, Sequence
 from contextlib import contextmanager
 from datetime import date
+from functools import partial
 from itertools import islice
+from time import sleep
 from types import TracebackType
-from typing import TYPE_CHECKING, Self
+from typing import TYPE_CHECKING, Self, cast
 
 from . import calls
-from .certificate import Certificate
 from .channel import LOOK_AGAIN, Channel
 from .codec import Codec
-from .combining import Part
 from .cursor import Windows
-from .description import Description, changed, description_of
-from .errors import CursorBusyError, LateError, NoValueError, RefusedError, SummaryStoreError, tell
-from .interval import Interval, Presence
+from .description import Description, brought_to, changed, description_of
+from .errors import (CursorBusyError, LateError, RefusedError, StreamExistsError, StreamNameError,
+                     SummaryStoreError, UnknownStreamError, tell)
+from .frames import columns_of, frame_of, names_left, rows_of
+from .handle import Handle
 from .late import MOST_HELD
-from .records import Estimate, EstimateRow, Last, Reading, Soundness, Stored, Stream, Time
+from .meters import counting, meter_of, must_not_count
+from .present import UNSAID, next_free, reading_of
+from .questions import Questions
+from .records import Soundness, Stored
 from .sending import OnRefused, Sending
-from .series import Series
 
 if TYPE_CHECKING:
-    from matplotlib.axes import Axes
-
     from .reordered import Reordered
 
-ROWS = 200
 
-
-class Store(Channel):
+class Store(Channel, Questions):
     """A store. Threads may share it. `summarystore.open` makes one that knows names and scales.
 
     Alone, this class takes and gives whole numbers and the program's own names.
@@ -49,23 +49,52 @@ class Store(Channel):
         state = "closed" if self._closed else "open"
         return f"<summarystore.Store {self.path}, {state}>"
 
+    def __getitem__(self, name: str) -> Handle:
+        """One stream. Raises UnknownStreamError, a LookupError, where none stands."""
+        if name not in self:
+            raise UnknownStreamError("UNKNOWN", repr(name))
+        return Handle(self, name)
+
+    def __contains__(self, name: object) -> bool:
+        try:
+            self._do(calls.last_numbers(self._translator.codec(cast(str, name))))
+        except (UnknownStreamError, StreamNameError):
+            return False
+        return True
+
+    def __iter__(self) -> Iterator[str]:
+        """The names of the streams, in the order in which they were made."""
+        return iter([stream.name for stream in self.list()])
+
     # ---- events -------------------------------------------------------------------------
 
     def create(self, name: str, target: str | Sequence[object], within: int | None = None, *,
                scale: object | None = None, time: str | None = None, since: date | str | None = None,
                unit: str | None = None, labels: Mapping[str, str] | None = None,
-               rounding: str | None = None) -> Stored:
+               rounding: str | None = None, exist_ok: bool = False,
+               kind: str | None = None, overflow: object | None = None) -> Stored:
         """Makes a stream with a target such as `power 1 1 4 1` or ("exp", 2, 60, 1). No window of it crosses
-        a multiple of `within`, in the unit of its times: of seconds, 86400 keeps to whole days in UTC."""
+        a multiple of `within`, in the unit of its times: of seconds, 86400 keeps to whole days in UTC.
+
+        With `exist_ok` one that stands may be the same one: its target, its scale and its times have to
+        be those. Its unit, labels and rounding are changed to what is given. Readings of the kind
+        `counter` are joined over resets, and over what it overflows at, so that what is kept rises.
+        """
         description = description_of(scale=scale, time=time, since=since, unit=unit, labels=labels,
-                                     rounding=rounding)
+                                     rounding=rounding, kind=kind, overflow=overflow)
         self._ready()
         codec = self._translator.declare(name, description)
         try:
             made = self._do(calls.create(codec, target, within))
-        except (RefusedError, TypeError, ValueError):
+        except (RefusedError, TypeError, ValueError) as error:
             self._translator.unmade(name, codec)
-            raise
+            if not exist_ok or not isinstance(error, StreamExistsError):
+                raise
+            changes = brought_to(self.description(name), description, name)
+            stands = self._do(calls.standing(self._translator, name, target, within))
+            if changes is not None:
+                self._translator.describe(name, changes)
+            return stands
         self._translator.made(name, codec)
         return made
 
@@ -81,14 +110,29 @@ class Store(Channel):
         self._ready()
         self._translator.rename(name, new)
 
-    def append(self, name: str, time: object, value: object) -> Stored:
-        """Takes a value at a time later than all before. It is on the disk when this returns.
+    def append(self, name: str, time: object = UNSAID, value: object = UNSAID) -> Stored:
+        """Takes a value at a time later than all before, or without a time now. It is on the disk when
+        this returns.
 
-        Raises LateError, with the newest time, where the time isn't later.
+        Where a reading stands at the present step, one without a time goes to the next free step, at most
+        a second ahead of the clock. Raises LateError, with the newest time, where the time isn't later.
         """
+        time, value = reading_of(time, value)
         codec = self._translator.codec(name)
+        if time is not UNSAID:
+            return self._append(name, codec, time, value)
+        count = codec.now()
+        while True:
+            try:
+                return self._append(name, codec, count, value)
+            except LateError as error:      # a reading stands there, or another one came first
+                count, wait = next_free(codec, error)
+            sleep(wait)
+
+    def _append(self, name: str, codec: Codec, time: object, value: object) -> Stored:
         try:
-            return self._do(calls.append(codec, time, value))
+            with self._taking(codec, name) as taking:
+                return self._do(calls.append(taking, time, value))
         except LateError as error:
             self._tell_newest(codec, [error])
             raise
@@ -103,17 +147,43 @@ class Store(Channel):
             for error in late:
                 error.newest = codec.time_back(found[0]) if found else None
 
-    def append_many(self, name: str, rows: object, *, refused: OnRefused | None = None,
+    def append_many(self, name: object, rows: object = None, *, refused: OnRefused | None = None,
                     lateness: object | None = None) -> int:
         """Takes rows of a time and a value, without waiting for each. Gives how many were stored.
 
-        Rows are pairs, or a dict, or a pandas Series. All are on the disk when this returns. With
+        Rows are pairs, or a dict, or a pandas Series. A pandas DataFrame stands alone: its index has the
+        times, and each of its columns is the stream of its name. All are on the disk when this returns. With
         `refused` it is called with each row that is refused, and its exception. Without it no more rows
         are sent then, and RowsRefusedError is raised. With `lateness` rows that are late by at most so
         much are sorted. Where something else cuts it off, as an interrupt does, `outcome_of` that
         exception says what became of the rows that were drawn.
         """
-        return self.append_rows(self._translator.codec(name), rows, refused, lateness)
+        frame = frame_of(name)
+        if frame is None:
+            codec = self._translator.codec(cast(str, name))
+            with self._taking(codec, cast(str, name)) as taking:
+                return self.append_rows(taking, rows_of(rows), refused, lateness)
+        stored, columns = 0, columns_of(frame)
+        codecs = [self._translator.codec(column) for column, _ in columns]
+        for at, (codec, (column, readings)) in enumerate(zip(codecs, columns)):
+            try:
+                with self._taking(codec, column) as taking:
+                    stored += self.append_rows(taking, readings, refused, lateness)
+            except BaseException as error:
+                names_left(error, [name for name, _ in columns], at)
+                raise
+        return stored
+
+    @contextmanager
+    def _taking(self, codec: Codec, name: str) -> Iterator[Codec]:
+        """The codec of a stream that takes readings: that of a counter knows what stands, and is alone."""
+        if meter_of(codec, "counter") is None:
+            yield codec
+            return
+        with self._alone[name]:
+            standing = self._do(calls.standing_of_counter(codec))
+            yield counting(self._translator.codec(name), name, standing,
+                           partial(self._translator.keep_joins, name))
 
     def append_rows(self, codec: Codec, rows: object, refused: OnRefused | None = None,
                     lateness: object | None = None) -> int:
@@ -198,66 +268,11 @@ class Store(Channel):
     def reordered(self, name: str, lateness: object, most: int = MOST_HELD) -> Reordered:
         """A bounded buffer that holds readings back and sorts them: a context manager."""
         from .reordered import Reordered
-        return Reordered(self, self._translator.codec(name), lateness, most)
+        codec = self._translator.codec(name)
+        must_not_count(codec, "give `lateness` to append_many")
+        return Reordered(self, codec, lateness, most)
 
-    # ---- questions ----------------------------------------------------------------------
-
-    def query(self, name: str, kind: str, t1: object | None = None, t2: object | None = None
-              ) -> Interval:
-        """`count`, `sum`, `min`, `max` or `mean` of the values from t1 to t2, both included."""
-        return self._do(calls.query(self._translator.codec(name), kind, t1, t2))
-
-    def codec_query(self, codec: Codec, kind: str, first: int, last: int) -> Interval:
-        """`query` for whoever has made the codec of the stream, by whole numbers."""
-        return self._do(calls.query(codec, kind, first, last))
-
-    def mean(self, name: str, t1: object | None = None, t2: object | None = None) -> Interval:
-        """The mean of the values from t1 to t2."""
-        return self._do(calls.mean(self._translator.codec(name), t1, t2))
-
-    def has(self, name: str, value: object, t1: object | None = None, t2: object | None = None
-            ) -> Presence:
-        """Whether one of the values from t1 to t2 is this one."""
-        return self._do(calls.has(self._translator.codec(name), value, t1, t2))
-
-    def series(self, name: str, kind: str, t1: object | None, t2: object | None, step: object
-               ) -> Series:
-        """The answers to `query` for each step from t1 to t2: at most 100,000 rows."""
-        return self._do(calls.series(name, self._translator.codec(name), kind, t1, t2, step))
-
-    def estimate(self, name: str, kind: str, t1: object | None = None, t2: object | None = None
-                 ) -> Estimate:
-        """`count` or `sum` of the values from t1 to t2, and the likeliest number in its interval."""
-        return self._do(calls.estimate(self._translator.codec(name), kind, t1, t2))
-
-    def estimates(self, name: str, kind: str, t1: object | None, t2: object | None, step: object
-                  ) -> Sequence[EstimateRow]:
-        """The answers to `estimate` for each step from t1 to t2: at most 100,000 rows."""
-        return self._do(calls.estimates(self._translator.codec(name), kind, t1, t2, step))
-
-    def figures(self, name: str, kinds: Sequence[str], t1: object | None = None,
-                t2: object | None = None, step: object | None = None) -> Sequence[Part]:
-        """The answers to `query` of several kinds, all of one moment; with a step, one for each row."""
-        return self._do(calls.figures(self._translator.codec(name), kinds, t1, t2, step))
-
-    def last(self, name: str) -> Last | None:
-        """The last time and the newest value. None where the stream took nothing yet."""
-        return self._do(calls.last(self._translator.codec(name)))
-
-    def values(self, name: str, t1: object | None = None, t2: object | None = None
-               ) -> Sequence[Reading]:
-        """The values of landmarks from t1 to t2, which are kept one by one."""
-        return self._do(calls.values(self._translator.codec(name), t1, t2))
-
-    def certify(self, name: str, kind: str, end: str, t1: object | None = None,
-                t2: object | None = None,
-                landmarks: Sequence[tuple[object, object]] = ()) -> Certificate:
-        """Why the end `lo` or `hi` of a count or a sum can't be narrower: `.check()` checks it.
-
-        The check has to be told when the landmarks of the stream began and ended, the oldest first; the
-        end of one that is open is None.
-        """
-        return self._do(calls.certify(self._translator.codec(name), kind, end, t1, t2, landmarks))
+    # ---- what it keeps --------------------------------------------------------------------
 
     def windows(self, name: str) -> Windows:
         """The windows of a stream as they are now, the oldest first, read in pieces.
@@ -265,10 +280,6 @@ class Store(Channel):
         The iterator holds one of the eight cursors until its end, or until it is closed.
         """
         return Windows(self, self._translator.codec(name))
-
-    def list(self) -> Sequence[Stream]:
-        """All streams, in the order in which they were made."""
-        return self._do(calls.listed(self._translator))
 
     def check(self) -> Soundness:
         """Looks the store over. The process is ended for that, and started again."""
@@ -287,38 +298,6 @@ class Store(Channel):
             found = self._look_over()
             self._connection = old.successor = self._start()
             return found
-
-    def plot(self, name: str, kind: str = "mean", t1: object | None = None, t2: object | None = None,
-             step: object | None = None, ax: Axes | None = None) -> Axes:
-        """Draws a series as a band, with its middle line and its exact parts, by matplotlib.
-
-        Without a range it is that of the stream, and without a step there are about 200 rows.
-        """
-        from .plotting import plot_store
-        return plot_store(self, name, kind, t1, t2, step, ax)
-
-    def last_count(self, name: str) -> int | None:
-        """The last time of a stream as a whole number."""
-        found = self._do(calls.last_numbers(self._translator.codec(name)))
-        return found[0] if found else None
-
-    def whole_series(self, name: str, kind: str, t1: object | None = None, t2: object | None = None,
-                     step: object | None = None) -> tuple[Series, object]:
-        """A series, and its last time. What isn't given is that of the stream, in about 200 rows."""
-        codec = self._translator.codec(name)
-        if t1 is None or t2 is None:
-            span = self.span(name)
-            if span is None:
-                raise NoValueError(f"{name} has no values yet")
-            t1, t2 = (span[0] if t1 is None else t1), (span[1] if t2 is None else t2)
-        if step is None:
-            step = max(1, (codec.end(t2) - codec.begin(t1)) // ROWS + 1)
-        return self.series(name, kind, t1, t2, step), t2
-
-    def ends(self, name: str, last: object) -> Time:
-        """A last time, as it is shown."""
-        codec = self._translator.codec(name)
-        return codec.time_back(codec.end(last))
 
     def span(self, name: str) -> tuple[int, int] | None:
         """The first time that a stream shows and its last one, as whole numbers."""

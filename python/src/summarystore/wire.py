@@ -12,7 +12,7 @@ from itertools import chain
 from typing import NamedTuple
 
 from .decimals import is_truth_value
-from .errors import NumberError, ProtocolError, StreamNameError, refusal_of
+from .errors import CommandError, NumberError, ProtocolError, StreamNameError, refusal_of
 from .interval import Interval, Presence
 from .records import Soundness, Stored, Stream
 
@@ -38,6 +38,11 @@ _ROWS = {"series": 1, "values": 1, "windows": 1, "list": 1, "rows": 1, "estimate
 
 
 # ---- commands ---------------------------------------------------------------------------
+
+
+FORMS = {"exp": 4, "power": 5}
+"""How many words each kind of target has."""
+NO_TARGET = "a target is `exp B R S`, as `exp 2 60 1`, or `power P Q R S`, as `power 1 1 4 1`"
 
 
 def name_word(name: str) -> str:
@@ -66,8 +71,9 @@ def whole(value: object) -> int:
 def create(name: str, target: str | Sequence[object], within: int | None = None) -> str:
     """`create NAME TARGET within E`, with TARGET such as `exp 2 60 1` or ("power", 1, 1, 4, 1)."""
     words = target.split() if isinstance(target, str) else [str(word) for word in target]
-    if not words or not all(WORD.fullmatch(word) for word in words):
-        raise refusal_of("SYNTAX", f"create {name} {target}")
+    form = words[:-2] if within is None and words[-2:-1] == ["within"] else words
+    if not form or len(form) != FORMS.get(form[0]) or not all(WORD.fullmatch(word) for word in words):
+        raise CommandError("SYNTAX", f"create {name} {target}", NO_TARGET)
     end = "" if within is None else f" within {whole(within)}"
     return f"create {name_word(name)} {' '.join(words)}{end}"
 

@@ -44,9 +44,14 @@ class MadeUp:
         """As a link does."""
         await Link.declare(cast(Link, self), log)
 
-    async def queue(self, name: str, kind: str, exchange: str) -> int:
+    async def queue(self, name: str, kind: str, exchange: str, bounds: Any = None, stands: bool = False
+                    ) -> int:
         """As a link does."""
-        return await Link.queue(cast(Link, self), name, kind, exchange)
+        return await Link.queue(cast(Link, self), name, kind, exchange, bounds, stands)
+
+    async def declare_dead(self, log: Any) -> None:
+        """As a link does."""
+        await Link.declare_dead(cast(Link, self), log)
 
     def close(self) -> None:
         """Ends it."""

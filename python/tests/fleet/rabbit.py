@@ -101,12 +101,15 @@ class Node:
 
     def is_one_of(self, nodes: int, seconds: float) -> str | None:
         """Waits until its cluster has so many nodes. Where it hasn't it is said why."""
+        done = self.asked("await_online_nodes", str(nodes), "--timeout", str(max(1, int(seconds))))
+        return None if done.returncode == 0 else f"no cluster: {(done.stdout + done.stderr)[-500:]!r}"
+
+    def asked(self, *words: str) -> subprocess.CompletedProcess[str]:
+        """What its control says."""
         found = server()
         assert found is not None
-        done = subprocess.run([str(Path(found).with_name("rabbitmqctl")), "await_online_nodes", str(nodes),
-                               "--timeout", str(max(1, int(seconds)))],
-                              env=self._environment, capture_output=True, text=True, check=False)
-        return None if done.returncode == 0 else f"no cluster: {(done.stdout + done.stderr)[-500:]!r}"
+        return subprocess.run([str(Path(found).with_name("rabbitmqctl")), *words], env=self._environment,
+                              capture_output=True, text=True, check=False)
 
     def kill(self) -> None:
         """Kills it, and all that it started."""

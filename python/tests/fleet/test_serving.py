@@ -18,7 +18,9 @@ import aiohttp  # noqa: E402
 from summarystore.fleet.errors import FleetError  # noqa: E402
 from summarystore.fleet.following import Follower  # noqa: E402
 from summarystore.fleet.frames import event_of  # noqa: E402
-from summarystore.fleet.serving import COPIED, serving  # noqa: E402
+from summarystore.fleet.serving import AS_OF, COPIED, serving  # noqa: E402
+
+from ..waiting import soon  # noqa: E402
 
 RANGE = {"from": "0", "to": "30"}
 NOWHERE = ["amqp://127.0.0.1:1"]
@@ -36,12 +38,14 @@ class Asking:
     def __init__(self, session: aiohttp.ClientSession, base: str) -> None:
         self._session, self._base = session, base
         self.copied: float | None = None
+        self.as_of: float | None = None
 
     async def get(self, path: str, status: int = 200, /, **words: str) -> Any:
         """An answer."""
         async with self._session.get(self._base + path, params=words) as answer:
             assert answer.status == status, await answer.text()
             self.copied = float(answer.headers[COPIED]) if COPIED in answer.headers else None
+            self.as_of = float(answer.headers[AS_OF]) if AS_OF in answer.headers else self.as_of
             return json.loads(await answer.text(), parse_float=Decimal)
 
 
@@ -52,6 +56,7 @@ def test_answers_come_from_a_copy(folder: Path, program: str) -> None:
         async with serving("127.0.0.1:0", 0.0, None)(follower) as http, aiohttp.ClientSession() as session:
             assert http.address is not None
             asking = Asking(session, f"http://127.0.0.1:{http.address[1]}")
+            await soon(lambda: follower.store.pid is not None)      # it has the store by then
             await follower.store.take(frames(["create a exp 2 60 1", "append a 10 5", "append a 20 7"], 1))
             follower.version += 1
             answer = await asking.get("/api/query", 200, stream="a", kind="sum", **RANGE)
@@ -67,9 +72,9 @@ def test_answers_come_from_a_copy(folder: Path, program: str) -> None:
             rows = (await asking.get("/api/series", stream="a", kind="max", step="10"))["rows"]
             assert [row["hi"] for row in rows] == [5, 7, -2]
             assert (await asking.get("/api/query", 404, stream="b", kind="sum"))["error"] == "unknown_stream"
-            health = await asking.get("/healthz")
-            assert health["status"] == "ok" and health["broker"].startswith("not connected")
-            assert health["names_refused"] == {}
+            health = await asking.get("/healthz", 503)
+            assert health["status"] == "no_broker" and health["broker"].startswith("not connected")
+            assert health["names_refused"] == {} and health["as_of"] is None and asking.as_of == 0
             await asking.get("/api/append", 404)
             many = await asyncio.gather(*(asking.get("/api/windows", stream="a") for _ in range(20)))
             assert all(each == many[0] for each in many)

@@ -81,9 +81,30 @@ def _resident() -> int:
     return int(text.partition("VmRSS:")[2].split()[0])
 
 
+def test_fields_that_are_no_numbers(path: Path) -> None:
+    """They are counted, and keep nobody from what is stored. A mapping may say which numbers they are."""
+    async def work() -> None:
+        lamp = '[[mapping]]\nmatch = "lamp/on"\nwords = { true = 1, off = 0 }\n'
+        async with over_http(PLAIN + lamp, path) as client:
+            body = (f'weather t=1,word="on",truth=t {T}\nlamp on=T,model="a b=1" {T}\n'
+                    f'lamp on="off" {T + 1}\nlamp on="dim" {T + 2}\n')
+            await client.post("/write?precision=s", body, 204)
+            assert client.headers["Summarystore-Not-Numbers"] == "4"
+            assert client.service.counters.of("refused") == {("influx", "not_a_number"): 3,
+                                                             ("influx", "unmatched"): 1}
+            assert (await client.get("/api/query", stream="lamp/on", kind="sum"))["lo"] == 1
+            assert [stream["name"] for stream in (await client.get("/api/streams"))["streams"]] == [
+                "weather/t", "lamp/on"]
+            await client.post("/write?precision=s", f'weather a="only",b=f {T}\n', 204)
+            told = await client.post("/write?precision=s", f'weather t=1.55,word="on" {T + 1}\n', 400)
+            assert [each["code"] for each in told["refused"]] == ["scale"] and told["dropped"] == 1
+            assert client.headers["Summarystore-Not-Numbers"] == "1"
+    run(work())
+
+
 def test_lines_that_are_refused(path: Path) -> None:
     async def work() -> None:
-        async with over_http(PLAIN, path) as client:
+        async with over_http('[http]\nlisten = "127.0.0.1:0"\nstrict = true\n' + PLAIN, path) as client:
             body = (f'weather t=1,word="on",truth=t {T}\nweather t=1.55 {T + 1}\nbroken\n'
                     f"other v=1 {T}\nweather t=0 {T}\nweather t=2 {T + 1}\nweather t=1 {T}\n")
             told = await client.post("/write?precision=s", body, 400)
@@ -310,10 +331,8 @@ def test_the_document(path: Path) -> None:
             told = {(path, method) for path, methods in document["paths"].items() for method in methods}
             ours = {(each.path.replace(":.+", ""), each.method.lower())
                     for each in endpoints_of(client.service)}
-            others = {"/ping", "/health", "/query"}     # of InfluxDB
-            mine = {each for each in ours if each[0].startswith(("/api/", "/write", "/healthz", "/openapi"))}
-            parts = {("/api/refused", "get"), ("/api/v1/write", "post")}
-            assert mine | parts == told and not others & {each[0] for each in told}
+            assert told == {each for each in ours if each[0] != "/" and not each[0].startswith("/static/")}
+            assert {"/metrics", "/render", "/query", "/health", "/ping"} <= {each[0] for each in told}
     run(work())
 
 

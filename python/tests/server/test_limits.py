@@ -104,7 +104,33 @@ def test_an_answer_that_nobody_takes(path: Path) -> None:
                 asked = b"GET /api/windows?stream=home/v HTTP/1.1\r\nHost: localhost\r\n\r\n"
                 await loop.sock_sendall(deaf, asked * 20)
                 await soon(lambda: client.service.counters.of("connections") == {("slow",): 1})
-            assert len((await client.get("/api/windows", stream="home/v"))["windows"]) > 4000
+            assert len((await client.get("/api/windows", stream="home/v"))["windows"]) > 2000
+    run(work())
+
+
+def test_slow_readers_hold_nobody_up(path: Path) -> None:
+    """More clients than there are cursors take nothing of their windows, and others are answered."""
+    async def work() -> None:
+        text = ANY.replace("2 60 1", "2 4096 1") + "[limits]\nwrite_seconds = 600\n"
+        async with over_http(text, path) as client:
+            lines = "".join(f"home v={at} {at}\n" for at in range(1, 4097))
+            await client.post("/write?precision=s", lines, 204)
+            loop, asked = asyncio.get_running_loop(), client.service.counters
+            deaf = [socket.socket() for _ in range(9)]
+            for each in deaf:
+                each.setsockopt(socket.SOL_SOCKET, socket.SO_RCVBUF, 4096)
+                each.setblocking(False)
+                await loop.sock_connect(each, ("127.0.0.1", client.port))
+                await loop.sock_sendall(each, b"GET /api/windows?stream=home/v HTTP/1.1\r\nHost: localhost"
+                                              b"\r\n\r\n")
+            for each in deaf:
+                assert (await within(loop.sock_recv(each, 12))).startswith(b"HTTP/1.1 200")
+            found = await within(client.get("/api/series", stream="home/v", kind="sum"))
+            assert found["from"] == 1 and found["to"] == 4096
+            assert len((await within(client.get("/api/windows", stream="home/v")))["windows"]) > 2000
+            assert not asked.of("connections")
+            for each in deaf:
+                each.close()
     run(work())
 
 

@@ -4,14 +4,17 @@ from __future__ import annotations
 
 import asyncio
 import json
+import os
+import signal
 from collections.abc import AsyncIterator, Iterator
-from contextlib import asynccontextmanager
+from contextlib import asynccontextmanager, suppress
 from pathlib import Path
 
 import pytest
 
 pytest.importorskip("paho.mqtt.client", reason="MQTT: python3-paho-mqtt is missing")
 
+from summarystore.server.intake import Incoming  # noqa: E402
 from summarystore.server.mqtt import MqttListener  # noqa: E402
 
 from ..waiting import run, soon  # noqa: E402
@@ -48,10 +51,10 @@ def broker(folder: Path) -> Iterator[Server]:
 
 
 @asynccontextmanager
-async def calling(path: Path, port: int) -> AsyncIterator[tuple[Client, MqttListener]]:
+async def calling(path: Path, port: int, more: str = "") -> AsyncIterator[tuple[Client, MqttListener]]:
     """A service that calls a broker, and a client of it."""
     mqtt = f'[mqtt]\nbroker = "127.0.0.1:{port}"\ntopics = ["home/#"]\n'
-    async with over_http(f'[http]\nlisten = "127.0.0.1:0"\n{mqtt}{MAPPING}', path) as client:
+    async with over_http(f'[http]\nlisten = "127.0.0.1:0"\n{mqtt}{more}{MAPPING}', path) as client:
         listener = next(each for each in client.service.listeners if isinstance(each, MqttListener))
         await soon(lambda: listener.subscriber.connected)
         yield client, listener
@@ -161,4 +164,46 @@ def test_what_has_no_room_in_time_is_told(path: Path) -> None:
             assert told["stored"] + len(told["not_stored"]) == 3 and 2 in told["not_stored"]
             assert not told["refused"] and not told["unknown"] and client.headers["Retry-After"]
             assert json.dumps(told).count("clock") == 1
+    run(work())
+
+
+def test_each_is_stored_once_whatever_ends_the_program(path: Path) -> None:
+    """Where it isn't known whether one is stored it is tried again at the time that it had."""
+    async def work() -> None:
+        async with over_http(MAPPING, path) as client:
+            supervisor, killed, sent = client.service.supervisor, set[int](), 0
+            room = "home/hall/door"
+
+            async def send() -> None:
+                nonlocal sent
+                while len(killed) < 5:
+                    readings = [Incoming(room, "ON", source="mqtt") for _ in range(40)]
+                    found = await client.service.intake.append_many(readings, wait=True)
+                    assert all(outcome.good for outcome in found)
+                    sent += len(found)
+            sending = [asyncio.create_task(send()) for _ in range(3)]
+            while not all(task.done() for task in sending):
+                await asyncio.sleep(0.3)
+                pid = supervisor.pid
+                if pid is not None and pid not in killed:
+                    with suppress(ProcessLookupError):
+                        os.kill(pid, signal.SIGKILL)
+                    killed.add(pid)
+            await asyncio.gather(*sending)
+            assert await client.service.ask(lambda store: store.query(room, "count")) == sent
+    run(work())
+
+
+def test_what_waits_leaves_room_for_others(path: Path, broker: Server) -> None:
+    """A stream that is too coarse takes half of the queue, and what is refused then is told."""
+    async def work() -> None:
+        async with calling(path, broker.port, "[limits]\nqueue = 40\nlines = 20\n") as (client, listener):
+            await publish(broker, "home/yard/rain", *map(str, range(50)))
+            await soon(lambda: count_of(client, "refused") + client.service.intake.ahead[0] >= 48)
+            stored = count_of(client, "stored")
+            lost = (await client.get("/healthz"))["refused_and_acknowledged"]
+            assert set(lost["codes"]) == {"too_many"} and client.service.intake.ahead[0] <= 20
+            await publish(broker, "home/hall/power", "7")
+            await soon(lambda: count_of(client, "stored") == stored + 1)
+            assert listener.subscriber.unacknowledged >= 15
     run(work())

@@ -152,3 +152,30 @@ def test_what_the_page_shows_a_stranger_does_what_it_says(running: Running, brow
     running.start(listen)
     browser.until(lambda: browser.text("#state-text") == "Live")
     assert browser.text("#value") == f"23.5{NBSP}°C"
+
+
+AHEAD = """
+[limits]
+future = "100000000000000d"
+[[mapping]]
+match = "home/*"
+"""
+
+
+def test_a_stream_that_lies_ahead_of_the_clock_is_shown(running: Running, browser: Browser) -> None:
+    """Nanoseconds that were taken for seconds, beyond what a calendar of the browser has."""
+    listen = running.address.removeprefix("http://").rstrip("/")
+    running.stop()
+    running.write(AHEAD)
+    running.start(listen)
+    running.ask("api/append", {"readings": [{"stream": "home/a", "time": at, "value": 21}
+                                            for at in (1764410400, 1764410400000000000)]})
+    running.ask("api/append", {"stream": "home/b", "time": "now", "value": 22})
+    browser.open(running.address)
+    browser.until(lambda: browser.text("#state-text") == "Live")
+    browser.until(lambda: browser.text("#value") == "21")
+    assert browser.text("#name") == "a" and "ahead of the clock" in browser.text("#when")
+    assert "ahead of the clock" in browser.text("#streams")
+    running.append("home/b", 23)
+    browser.until(lambda: "23" in browser.text("#streams"))
+    assert browser.text("#state-text") == "Live" and not browser.seen("#banner")

@@ -61,8 +61,10 @@ def test_write_points(serving: Serving) -> None:
         points = [{"measurement": "weather", "tags": {"room": "living room"}, "time": BASE + at,
                    "fields": {"temperature": 20.5 + at, "humidity": 40 + at, "note": "text", "ok": True}}
                   for at in range(10)]
+        assert client.write_points(points, time_precision="s")      # text and truth values are counted
+        points[0]["time"] = BASE - 1
         with pytest.raises(influxdb.exceptions.InfluxDBClientError, match="partial write"):
-            client.write_points(points, time_precision="s")     # text is no number: the rest is stored
+            client.write_points(points, time_precision="s")     # late is told
         plain = [{"measurement": "weather", "tags": {"room": "attic"},
                   "time": f"2025-11-29T09:{at // 60:02}:{at % 60:02}Z", "fields": {"temperature": at / 4}}
                  for at in range(100)]
@@ -77,6 +79,7 @@ def test_write_points(serving: Serving) -> None:
             assert str(await store.query("weather/living room/temperature", "sum")) == "250.00"
             assert await store.query("weather/living room/humidity", "sum") == 445
             assert await store.query("weather/attic/temperature", "count") == 100
+            assert service.counters.of("refused")["influx", "not_a_number"] == 40
             assert await store.query("weather/attic/temperature", "sum") == Decimal(sum(range(100))) / 4
     run(work())
 

@@ -2,12 +2,15 @@
 
 from __future__ import annotations
 
+import asyncio
 import time
 from pathlib import Path
 
 import pytest
 
-from ..waiting import run
+from summarystore.server.intake import Incoming
+
+from ..waiting import run, soon
 from .serving import Client, over_http
 
 NAME = "home/living room/temperature"
@@ -49,6 +52,28 @@ def test_a_stream_is_gone_on_with(path: Path) -> None:
             listed = {each["name"]: each for each in (await client.get("/api/streams"))["streams"]}
             assert listed[f"{NAME}~2"]["labels"] == {"of": "house", "restarts": NAME}
             assert listed[f"{NAME}~2"]["unit"] == "°C" and listed[NAME]["last"] == now + AHEAD
+    run(work())
+
+
+@pytest.mark.parametrize("way", ["restart", "rename", "drop"])
+def test_what_waits_for_the_clock_is_stored_then(path: Path, way: str) -> None:
+    """Readings without a time wait where their stream is far ahead, and go on when it is mended."""
+    async def work() -> None:
+        await spoil(path)
+        async with over_http(MAPPING, path) as client:
+            readings = [Incoming(NAME, value) for value in ("1", "2")]
+            waiting = asyncio.create_task(client.service.intake.append_many(readings, wait=True))
+            await soon(lambda: client.service.intake.ahead == (2, 1))
+            told = await client.post("/api/append", {"stream": NAME, "value": 3}, 503)
+            assert told["error"] == "ahead" and told["not_stored"] == [0]
+            if way == "drop":
+                await client.text("DELETE", AT)
+            else:
+                await change(client, {way: f"{NAME}~2"})
+            assert all(outcome.good for outcome in await waiting)
+            name = f"{NAME}~2" if way == "restart" else NAME
+            assert (await client.get("/api/query", stream=name, kind="sum"))["lo"] == 3
+            assert client.service.intake.queued == 0
     run(work())
 
 

@@ -4,7 +4,7 @@ from __future__ import annotations
 
 import asyncio
 import logging
-from collections.abc import Awaitable, Callable, Sequence
+from collections.abc import Awaitable, Callable, Mapping, Sequence
 from contextlib import suppress
 from typing import Any, TypeVar
 
@@ -14,7 +14,7 @@ from pika.exceptions import AMQPError
 
 from .errors import BrokerError
 from .deliveries import NAMED
-from .logs import Log
+from .logs import DEAD_KEPT, QUORUM, Log
 
 log = logging.getLogger("summarystore.fleet")
 ANSWERS = 20.0
@@ -119,12 +119,20 @@ class Link:
             if found.shards > 1:
                 await self.ask("exchange_bind", found.shard(number), found.entrance, routing_key="1")
 
-    async def queue(self, name: str, kind: str, exchange: str) -> int:
+    async def queue(self, name: str, kind: str, exchange: str, bounds: Mapping[str, object] | None = None,
+                    stands: bool = False) -> int:
         """A queue behind a shard, with as many replicas as the cluster gives one. Gives how many messages
-        it has that were given to nobody."""
-        found = await self.ask("queue_declare", name, durable=True, arguments={"x-queue-type": kind})
+        it has that were given to nobody. One that stands is taken as it is."""
+        arguments: dict[str, object] = {"x-queue-type": kind, **(bounds or {})}
+        found = await self.ask("queue_declare", name, passive=True) if stands else \
+            await self.ask("queue_declare", name, durable=True, arguments=arguments)
         await self.ask("queue_bind", name, exchange)
         return int(found.method.message_count)
+
+    async def declare_dead(self, found: Log) -> None:
+        """Where what a queue can't be rid of otherwise is kept, in a queue that is bounded."""
+        await self.ask("exchange_declare", found.dead, exchange_type="fanout", durable=True)
+        await self.queue(found.dead, QUORUM, found.dead, {"x-max-length-bytes": DEAD_KEPT})
 
 
 def _shown(url: str) -> str:

@@ -11,6 +11,8 @@ from .frames import SIZE, frames_in, name_of, number_of
 
 NAMED = "named"
 """The header with the long name of a stream."""
+MARK = "mark"
+"""The header of a follower's mark."""
 
 
 class Delivery(NamedTuple):
@@ -26,6 +28,8 @@ class Delivery(NamedTuple):
     frames: bytes
     named: str = ""
     """What says the long name of the stream, where it has one."""
+    mark: str = ""
+    """Of a follower's mark, which is no message of a sender's."""
 
     @property
     def size(self) -> int:
@@ -53,9 +57,11 @@ def delivery_of(method: Any, properties: Any, body: bytes) -> Delivery:
     """A message as it came."""
     frames = frames_in(body)
     tag, offset = int(method.delivery_tag), offset_of(properties.headers)
+    headers = properties.headers or {}
     if frames is None:
-        return Delivery(tag, offset, "", "", 0, b"")
-    named = (properties.headers or {}).get(NAMED)
+        mark = headers.get(MARK)
+        return Delivery(tag, offset, "", "", 0, b"", mark=mark if isinstance(mark, str) else "")
+    named = headers.get(NAMED)
     return Delivery(tag, offset, str(properties.app_id or ""), name_of(frames), number_of(frames), frames,
                     named if isinstance(named, str) else "")
 

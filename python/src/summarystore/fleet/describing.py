@@ -5,7 +5,8 @@ from __future__ import annotations
 from collections.abc import Mapping
 
 from ..server import openapi
-from ..server.openapi import ENDS, NUMBER, TEXT, Json
+from ..server.openapi import ENDS, NUMBER
+from ..server.openapi_words import TEXT, Json
 
 READ = ("/api/streams", "/api/names", "/api/query", "/api/series", "/api/windows", "/api/landmarks",
         "/healthz", "/openapi.json")
@@ -13,7 +14,8 @@ INFO: Json = {"title": "summarystore-gateway", "version": "1", "description":
               "Each answer is an interval: the truth is at least `lo` and at most `hi`. Where a shard "
               "doesn't answer `partial` is true, `lo` and `hi` are null, and `answered` has what the others "
               "say."}
-HEADERS: Json = {"Summarystore-Partial": {"description": "the shards that don't answer", "schema": TEXT}}
+HEADERS: Json = {"Summarystore-Partial": {
+    "description": "the shards that don't answer, or are too far behind", "schema": TEXT}}
 
 
 def document() -> Json:
@@ -23,7 +25,7 @@ def document() -> Json:
     schemas = dict(_mapping(components["schemas"]))
     answered: Json = {"type": "object", "properties": ENDS}
     more: Json = {"partial": {"type": "boolean"}, "missing": {"type": "array", "items": TEXT},
-                  "as_of": NUMBER, "answered": answered}
+                  "behind": {"type": "array", "items": TEXT}, "as_of": NUMBER, "answered": answered}
     for name in ("Answer", "Series"):
         schemas[name] = _with(_mapping(schemas[name]), "properties", more)
     schemas["Stream"] = _with(_mapping(schemas["Stream"]), "properties", {"shard": TEXT})

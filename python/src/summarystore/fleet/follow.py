@@ -14,8 +14,8 @@ from contextlib import nullcontext, suppress
 from typing import TYPE_CHECKING
 
 from .deliveries import Part
-from .logs import QUORUM, STREAM
-from .options import add_broker, brokers_of, log_to_stderr, missing, part_of, status_of
+from .logs import KEPT, QUORUM, STREAM
+from .options import add_broker, brokers_of, log_to_stderr, missing, part_of, size_of, status_of
 
 if TYPE_CHECKING:
     from .following import Follower
@@ -33,6 +33,8 @@ def parser() -> argparse.ArgumentParser:
                       help="only the streams of one part of N; others are dropped from the store")
     made.add_argument("--queue", choices=(STREAM, QUORUM), default=STREAM,
                       help="a log that stays, which many read, or a queue of its own (stream)")
+    made.add_argument("--keep", metavar="SIZE", type=size_of, default=KEPT,
+                      help="so many bytes of its newest messages a new log keeps (16G)")
     made.add_argument("--name", metavar="NAME", help="what it is called; else by its machine and store")
     made.add_argument("--serve", metavar="HOST:PORT", help="where questions are answered by HTTP")
     made.add_argument("--fresh", metavar="SECONDS", type=float, default=1.0,
@@ -70,7 +72,7 @@ def main(arguments: Sequence[str] | None = None) -> int:
     def command() -> int:
         follower = Follower(words.store, brokers_of(words), name=words.log, shards=words.shards,
                             shard=words.shard, part=words.part, kind=words.queue, follower=words.name,
-                            program=words.program, checked=words.checked)
+                            program=words.program, checked=words.checked, kept=words.keep)
         served: Serving = nullcontext if words.serve is None else serving(words.serve, words.fresh,
                                                                           words.tokens)
         asyncio.run(follow(follower, served))

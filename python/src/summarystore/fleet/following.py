@@ -5,14 +5,11 @@ from __future__ import annotations
 import asyncio
 import json
 import logging
-import os
-import socket
 import time
 from collections import deque
 from collections.abc import Mapping, Sequence
 from contextlib import suppress
 from functools import partial
-from hashlib import blake2b
 from pathlib import Path
 
 from pika.exceptions import AMQPError
@@ -24,9 +21,11 @@ from .deliveries import Delivery, Part, delivery_of
 from .errors import BrokerError
 from .frames import SIZE
 from .gaps import Gap, Gaps, Step
-from .logs import STREAM, Log
+from .logs import KEPT, STREAM, Log, own_name
+from .marks import Marks
 from .naming import TakenNames
 from .patience import Patience
+from .position import Position
 from .taking import MOST, Follow
 
 log = logging.getLogger("summarystore.fleet")
@@ -42,6 +41,8 @@ PAUSES = (0.5, 1.0, 2.0, 5.0, 10.0)
 ASK = 20.0
 """Where nothing comes for so many seconds the broker is asked what the queue has."""
 FULL = ("refused STREAMS", "refused STORE_FULL")
+OTHER_BOUNDS = "(406"
+"""How the reason begins where a queue stands that was declared otherwise."""
 
 
 class FullError(SummaryStoreError):
@@ -54,7 +55,7 @@ class Follower:
     def __init__(self, path: StorePath, brokers: Sequence[str], *, name: str = "summarystore",
                  shards: int = 1, shard: int = 0, part: Part = Part(), kind: str = STREAM,
                  follower: str | None = None, program: str | None = None,
-                 checked: bool | None = None) -> None:
+                 checked: bool | None = None, kept: int = KEPT) -> None:
         self.store = Follow(path, program, checked)
         self._brokers = brokers
         self._log = Log(name, shards)
@@ -62,8 +63,11 @@ class Follower:
         self._part = part
         self._stays = kind == STREAM
         self._kind = kind
-        self.follower = follower or _own_name(self.store.path)
-        self._file = Path(f"{self.store.path}.position")
+        self._bounds = self._log.bounds(kind, kept)
+        self._stands = False
+        """Whether its queue stands, and has other bounds."""
+        self.follower = follower or own_name(self.store.path)
+        self._position = Position(self.store.path, self._shard)
         self.names = TakenNames(self.store.path)
         self._gaps = Gaps(self._stays)
         self._deliveries: deque[Delivery] = deque()
@@ -71,7 +75,7 @@ class Follower:
         self._open: set[int] = set()
         self._wake = asyncio.Event()
         self._offset: int | None = None
-        self._kept: int | None = None
+        self.marks = Marks()
         self._places: dict[str, int] = {}
         self.have: dict[str, int] = {}
         self._senders: dict[str, str] = {}
@@ -95,7 +99,7 @@ class Follower:
 
     async def run(self) -> None:
         """Follows until it is cancelled."""
-        self._offset = self._kept = self._read_position()
+        self._offset, self.marks.drained = self._position.read()
         names = await self.store.names()
         if self._part.of > 1:
             await self.store.drop([name for name in names if not self._part.has(name)])
@@ -122,36 +126,42 @@ class Follower:
         """How many streams were given later events than the next."""
         return len(self._gaps)
 
-    async def copy(self, target: Path) -> tuple[int, float]:
-        """Copies the store. Gives its version, and the time of the copy."""
-        return await self.store.copy(target, lambda: (self.version, time.time()))
+    @property
+    def as_of(self) -> float:
+        """The last moment at which the store was known to have all of the log. 0: none is known."""
+        return self.marks.drained
 
-    # ---- the place in the log -----------------------------------------------------------
+    async def look(self) -> None:
+        """Looks whether the store has all of the log, where that isn't known of the last seconds."""
+        if self.following and self.marks.want():
+            self._wake.set()
+            await self.marks.wait()
 
-    def _read_position(self) -> int | None:
-        with suppress(OSError, ValueError, KeyError, TypeError):
-            found = json.loads(self._file.read_text("utf-8"))
-            if found["log"] == self._shard:
-                return int(found["offset"])
-        return None
+    async def copy(self, target: Path) -> tuple[int, float, float]:
+        """Copies the store. Gives its version, the time of the copy, and what it is known to be as of."""
+        return await self.store.copy(target, lambda: (self.version, time.time(), self.as_of))
 
     def _keep_position(self) -> None:
-        """Keeps from where the log is to be read next. It may be too early, and then what comes is `old`."""
+        """Keeps from where the log is to be read next. What is held behind gaps is read again."""
         held = self._gaps.offset
         offset = self._offset if held is None or self._offset is None else min(held, self._offset)
-        if offset is not None and offset != self._kept:
-            new = self._file.with_name(self._file.name + ".new")
-            new.write_text(json.dumps({"log": self._shard, "offset": offset}) + "\n", "utf-8")
-            os.replace(new, self._file)
-            self._kept = offset
+        self._position.keep(offset, self.as_of)
 
     # ---- over one connection ------------------------------------------------------------
 
     async def _work(self, link: Link) -> None:
-        self.following = False
+        try:
+            await self._follow(link)
+        finally:
+            self.following = False
+            self.marks.ended(link.why)
+        self._say(f"not connected: {link.why}")
+
+    async def _follow(self, link: Link) -> None:
+        self.marks.begins()
         await link.declare(self._log)
         queue = self._shard if self._stays else f"{self._shard}.{self.follower}"
-        await link.queue(queue, self._kind, self._shard)
+        await self._declare(link, queue)
         self._asked_at = asyncio.get_running_loop().time()
         self._patience.begins(self._asked_at)
         self._left = 0
@@ -175,8 +185,19 @@ class Follower:
                 raise BrokerError(str(error) or type(error).__name__) from None
             except (SummaryStoreError, OSError) as error:
                 await self._pause(error)
-        self.following = False
-        self._say(f"not connected: {link.why}")
+
+    async def _declare(self, link: Link, queue: str) -> int:
+        """Its queue. One that stands may have other bounds: it is taken as it is, and that is told."""
+        try:
+            if not self._stays:
+                await link.declare_dead(self._log)
+            return await link.queue(queue, self._kind, self._shard, self._bounds, self._stands)
+        except BrokerError as error:
+            if str(error).startswith(OTHER_BOUNDS) and not self._stands:
+                self._stands = True
+                log.warning("the queue %s has other bounds than %s: a policy of the broker may set them",
+                            queue, self._bounds)
+            raise
 
     async def _ask(self, link: Link, queue: str) -> None:
         """Where nothing comes for long: declares all anew, since a node may have lost it, and looks whether
@@ -188,7 +209,7 @@ class Follower:
             return
         self._asked_at = now
         await link.declare(self._log)
-        before, self._left = self._left, await link.queue(queue, self._kind, self._shard)
+        before, self._left = self._left, await self._declare(link, queue)
         if before and self._left and not self._stays:
             raise BrokerError(f"{self._left} messages wait in the queue, and none came")
 
@@ -215,6 +236,7 @@ class Follower:
             self._told_at = now
             self._tell(link)
             self._keep_position()
+        self.marks.look(link, self._shard)
 
     def _arrived(self, link: Link, _channel: object, method: object, properties: object, body: bytes
                  ) -> None:
@@ -244,7 +266,10 @@ class Follower:
         done = []
         for delivery in deliveries:
             said = [replies.popleft() for _ in range(delivery.size)] if self._part.has(delivery.name) else []
-            if not delivery.name:
+            if delivery.mark:
+                self.marks.came(delivery.mark, whole=not self._gaps)
+                done.append(delivery.tag)
+            elif not delivery.name:
                 self._lay_aside(link, delivery, "no message of a sender's")
             elif self._judge(link, delivery, said):
                 done.append(delivery.tag)
@@ -370,9 +395,3 @@ class Follower:
                         "wanted": [name for name in some if name in wanted]}
                 if not link.ended.is_set():
                     link.channel.basic_publish(self._log.told, sender, json.dumps(body).encode())
-
-
-def _own_name(path: str) -> str:
-    """A name for the follower of this store on this machine."""
-    whole = f"{socket.gethostname()}:{os.path.abspath(path)}"
-    return f"{socket.gethostname()}-{blake2b(whole.encode(), digest_size=6).hexdigest()}"

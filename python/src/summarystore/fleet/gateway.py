@@ -7,6 +7,7 @@ import logging
 import time
 from collections.abc import Mapping, Sequence
 from contextlib import suppress
+from decimal import Decimal
 
 import aiohttp
 from aiohttp import web
@@ -14,7 +15,7 @@ from aiohttp import web
 from .. import combining
 from ..decimals import Number
 from ..server import asked
-from ..server.answers import json_answer, table_answer
+from ..server.answers import JSON, json_answer, table_answer
 from ..server.counters import Counters
 from ..server.endpoints import Access, ApiError, Endpoint
 from ..server.globs import matches
@@ -26,11 +27,19 @@ from . import describing, gathering
 from .directory import Directory
 from .gathering import Gathered
 from .layout import Layout, Shard
-from .shards import COPIED, PIECE, NoAnswerError, Shards, Words
+from .shards import (AS_OF, COPIED, PIECE, NoAnswerError, Shards, Words, as_of_of, object_of, whole_of)
 
 log = logging.getLogger("summarystored")
 PASSED = ("stream", "kind", "value", "from", "to", "step", "rows", "limit")
 """The words of a question about one stream."""
+
+
+def _behind(shard: Shard, as_of: Decimal, body: Mapping[str, object]) -> web.Response:
+    """The answer of a shard that is too far behind."""
+    told = {"partial": True, "missing": [], "behind": [shard.name], "as_of": as_of}
+    answer = json_answer({**gathering.without_ends(body), **told})
+    answer.headers.update({gathering.HEADER: shard.name, "Summarystore-Shard": shard.name, AS_OF: str(as_of)})
+    return answer
 
 
 def _text(value: Number) -> str:
@@ -96,10 +105,14 @@ class Gateway:
         async with self.shards.opened(shard, request.path, words, headers) as found:
             if found is None:
                 return None
+            as_of = self.shards.behind(as_of_of(found))
+            if as_of is not None and found.content_type == JSON and found.status < 400:
+                return _behind(shard, as_of, object_of(await whole_of(found)))
             answer = web.StreamResponse(status=found.status, headers={
                 "Content-Type": found.headers.get("Content-Type", "application/json"),
                 "Summarystore-Shard": shard.name,
-                **{key: found.headers[key] for key in (COPIED,) if key in found.headers}})
+                **({} if as_of is None else {gathering.HEADER: shard.name}),
+                **{key: found.headers[key] for key in (COPIED, AS_OF) if key in found.headers}})
             await answer.prepare(request)
             try:
                 async for piece in found.content.iter_chunked(PIECE):

@@ -31,26 +31,30 @@ class Gathered:
 
     bodies: dict[Shard, Body] = field(default_factory=dict)
     missing: dict[str, str] = field(default_factory=dict)
-    copied: list[Decimal] = field(default_factory=list)
-    """The times of the copies that answers are from."""
+    as_of: list[Decimal] = field(default_factory=list)
+    """The moments that answers of followers are as of."""
+    behind: list[str] = field(default_factory=list)
+    """Those whose answer is as of a moment that lies too far back."""
     without: list[Shard] = field(default_factory=list)
     """Those that have no such stream."""
 
     @property
     def partial(self) -> bool:
-        """Whether a shard is missing."""
-        return bool(self.missing)
+        """Whether a shard is missing, or too far behind."""
+        return bool(self.missing or self.behind)
 
     def told(self) -> dict[str, object]:
         """What an answer says of it."""
         found: dict[str, object] = {"partial": self.partial, "missing": sorted(self.missing)}
-        if self.copied:
-            found["as_of"] = min(self.copied)
+        if self.behind:
+            found["behind"] = sorted(self.behind)
+        if self.as_of:
+            found["as_of"] = min(self.as_of)
         return found
 
     def headers(self) -> Mapping[str, str]:
         """The header that says so."""
-        return {HEADER: ", ".join(sorted(self.missing))} if self.partial else {}
+        return {HEADER: ", ".join(sorted([*self.missing, *self.behind]))} if self.partial else {}
 
     def must_have_some(self) -> None:
         """Raises ApiError where no shard answers."""
@@ -81,13 +85,14 @@ async def gather(shards: Shards, path: str, words: Words, seconds: float) -> Gat
         for task in tasks.values():
             task.cancel()
     gathered = Gathered()
-    refused = [error for shard, task in tasks.items() if (error := _take(gathered, shard, task)) is not None]
+    refused = [error for shard, task in tasks.items()
+               if (error := _take(shards, gathered, shard, task)) is not None]
     if refused:
         raise refused[0]
     return gathered
 
 
-def _take(gathered: Gathered, shard: Shard, task: asyncio.Future[Answer]) -> ApiError | None:
+def _take(shards: Shards, gathered: Gathered, shard: Shard, task: asyncio.Future[Answer]) -> ApiError | None:
     """Adds what a shard said, or that it didn't. Gives its refusal, where the question is refused."""
     if not task.done() or task.cancelled():
         gathered.missing[shard.name] = f"{shard.name}: no answer in time"
@@ -100,8 +105,10 @@ def _take(gathered: Gathered, shard: Shard, task: asyncio.Future[Answer]) -> Api
     answer = task.result()
     if answer.status >= 400 and answer.status != 404:
         return refusal(shard, answer)
-    if answer.copied is not None:
-        gathered.copied.append(answer.copied)
+    if answer.as_of is not None:
+        gathered.as_of.append(answer.as_of)
+    if shards.behind(answer.as_of) is not None:
+        gathered.behind.append(shard.name)
     if answer.status < 400:
         gathered.bodies[shard] = answer.body
     else:
@@ -179,10 +186,21 @@ def _drop(gathered: Gathered, shard: Shard, error: MisspeltError) -> None:
     gathered.missing[shard.name] = f"{shard.name}: its answer is misspelt: {error}"
 
 
+NO_ENDS: Body = {"lo": None, "hi": None, "mid": None, "exact": False, "none": False, "maybe_none": False}
+
+
 def ends(kind: str, part: Part, partial: bool) -> dict[str, object]:
     """The answer. Where shards are missing it has no ends: what the others say stands apart."""
     found = ends_of(combining.answer(kind, part))
-    if not partial:
-        return found
-    return {"lo": None, "hi": None, "mid": None, "exact": False, "none": False, "maybe_none": False,
-            "answered": found}
+    return {**NO_ENDS, "answered": found} if partial else found
+
+
+def without_ends(body: Body) -> dict[str, object]:
+    """The answer of a shard that is too far behind: its ends stand apart, as do those of its rows."""
+    told = dict(body)
+    rows = body.get("rows")
+    if isinstance(rows, list):
+        told["rows"] = [without_ends(row) for row in rows if isinstance(row, Mapping)]
+    if "exact" in body:
+        told.update(NO_ENDS, answered={key: body[key] for key in NO_ENDS if key in body})
+    return told

@@ -12,6 +12,7 @@
     together = 64                               # so many questions go to shards at once
     rest_seconds = 10                           # one that didn't answer is asked last for so long
     look_seconds = 10                           # how often the names of the shards are asked for
+    behind_seconds = 60                         # one whose answer is older is asked last, and it is told
     token_file = "/etc/summarystore/shard-token"
 
     [[shard]]
@@ -24,9 +25,7 @@
 
 from __future__ import annotations
 
-import os
 import re
-import stat
 from collections.abc import Sequence
 from dataclasses import dataclass
 
@@ -35,6 +34,7 @@ from ..server.configuration import HttpSettings, Limits, TokenSettings
 from ..server.errors import ConfigurationError
 from ..server.globs import LONGEST
 from ..server.many import MOST_WITHOUT
+from ..server.private import private_text
 from ..server.tables import Table, rows_of, shown
 
 PORT = 8088
@@ -60,6 +60,7 @@ class Asking:
     together: int = 64
     rest_seconds: float = 10
     look_seconds: float = 10
+    behind_seconds: float = 60
     token: str | None = None
 
 
@@ -132,6 +133,7 @@ def _asking(table: Table) -> Asking:
                    table.whole("together", 1, 10_000) or known.together,
                    table.seconds("rest_seconds", 0, 86400) or known.rest_seconds,
                    table.seconds("look_seconds", 1, 86400) or known.look_seconds,
+                   table.seconds("behind_seconds", 1, 86400) or known.behind_seconds,
                    None if file is None else _token(table, file))
     table.end()
     return found
@@ -139,14 +141,7 @@ def _asking(table: Table) -> Asking:
 
 def _token(table: Table, file: str) -> str:
     """The token in a file that others can't read."""
-    try:
-        with open(os.open(file, os.O_RDONLY | os.O_NONBLOCK), "rb") as stream:
-            mode = os.fstat(stream.fileno()).st_mode
-            token = stream.read(4096).decode("utf-8").strip()
-    except (OSError, ValueError) as error:
-        raise table.wrong("token_file", str(getattr(error, "strerror", None) or error)) from None
-    if not stat.S_ISREG(mode) or mode & 0o007:
-        raise table.wrong("token_file", "others can read it: `chmod 600` makes it private")
+    token = private_text(file).strip()
     if not TOKEN.fullmatch(token):
         raise table.wrong("token_file", "one token is to stand in it")
     return token

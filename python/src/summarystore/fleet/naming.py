@@ -53,12 +53,20 @@ class SentNames:
 def _text_of(name: str, short: str, description: Description) -> str:
     """What goes with a stream. Where its long name was lost, or all of it is too long, nothing does."""
     given = {"name": name, "unit": description.unit, "labels": dict(description.labels),
-             "rounding": description.rounding}
+             "rounding": description.rounding, **_meter_of(description)}
     text = json.dumps({key: value for key, value in given.items() if value not in (None, {})})
     if len(text) > LONGEST:
         log.error("name not carried: stream=%s name=%.99s reason=it takes more than %d bytes with its labels",
                   short, name, LONGEST)
     return text if name != short and len(text) <= LONGEST else ""
+
+
+def _meter_of(description: Description) -> dict[str, str | None]:
+    """The kind of the readings. How they were joined is the edge's alone."""
+    meter = description.meter
+    if meter is None:
+        return {}
+    return {"kind": meter.kind, "overflow": None if meter.overflow is None else str(meter.overflow)}
 
 
 class TakenNames:
@@ -128,10 +136,11 @@ def _named_in(short: str, text: str) -> tuple[str, Description]:
     try:
         found = json.loads(text)
         name, unit, labels, rounding = map(found.get, ("name", "unit", "labels", "rounding"))
-        given = description_of(unit=unit, labels=labels, rounding=rounding) or Description()
+        given = description_of(unit=unit, labels=labels, rounding=rounding, kind=found.get("kind"),
+                               overflow=found.get("overflow")) or Description()
     except (ValueError, TypeError, AttributeError, RecursionError, SummaryStoreError) as error:
         raise NameRefusedError(f"no name: {error}") from None
     meaning = description_in(short)
     if not isinstance(name, str) or not is_text(name) or meaning is None or meaning[0] != hash_of(name):
         raise NameRefusedError(f"{short} isn't the short name of {name!r}")
-    return name, Description(*meaning[1][:3], *given[3:])
+    return name, given._replace(scale=meaning[1].scale, time=meaning[1].time, since=meaning[1].since)

@@ -32,6 +32,8 @@ from .following import Follower
 log = logging.getLogger("summarystore.fleet")
 COPIED = "Summarystore-Copied"
 """The header with the time of the copy that an answer is from, in seconds."""
+AS_OF = "Summarystore-As-Of"
+"""The header with the last moment at which the log was known to be drained, in seconds. 0: none is known."""
 Serving: TypeAlias = Callable[[Follower], AbstractAsyncContextManager[Any]]
 """Serves a follower while a context lasts."""
 PATHS = ("/api/streams", "/api/names", "/api/query", "/api/series", "/api/windows", "/api/landmarks")
@@ -40,10 +42,11 @@ PATHS = ("/api/streams", "/api/names", "/api/query", "/api/series", "/api/window
 class Copy:
     """A copy of the store, and a service that answers from it."""
 
-    def __init__(self, service: Service, file: Path, version: int, made: float) -> None:
+    def __init__(self, service: Service, file: Path, version: int, made: float, as_of: float) -> None:
         self.service = service
         self.version = version
         self.made = made
+        self.as_of = as_of
         self.users = 0
         self.old = False
         self._file = file
@@ -72,6 +75,7 @@ class Copies:
     @asynccontextmanager
     async def borrowed(self) -> AsyncIterator[Copy]:
         """A copy that is fresh enough."""
+        await self._follower.look()
         async with self._making:
             copy = await self._current()
             copy.users += 1
@@ -86,7 +90,7 @@ class Copies:
         known, now = self._newest, time.time()
         if known is not None and (known.version == self._follower.version or now < known.made + self._fresh):
             if known.version == self._follower.version:
-                known.made = now    # nothing has come since
+                known.made, known.as_of = now, self._follower.as_of     # nothing has come since
             return known
         made = await self._make()
         self._newest = made
@@ -100,12 +104,12 @@ class Copies:
         self._count += 1
         file = self._folder / f"{self._count}.store"
         try:
-            version, made = await self._follower.copy(file)
+            version, made, as_of = await self._follower.copy(file)
         except FileNotFoundError:
             raise ApiError(503, "store_unavailable", "the follower has no store yet", 1) from None
         service = Service(self._configuration, str(file))
         await service.start()
-        return Copy(service, file, version, made)
+        return Copy(service, file, version, made, as_of)
 
     @property
     def made(self) -> float | None:
@@ -124,16 +128,16 @@ def endpoints(follower: Follower, copies: Copies) -> Sequence[Endpoint]:
     def answering(path: str) -> Handler:
         async def answer(request: web.Request) -> web.StreamResponse:
             async with copies.borrowed() as copy:
-                request["copied"] = copy.made
+                request["copied"], request["as_of"] = copy.made, copy.as_of
                 return await copy.handlers[path](request)
         return answer
 
     async def healthz(_: web.Request) -> web.StreamResponse:
-        well = not follower.trouble
-        return json_answer({"status": "ok" if well else "store_failed", "reason": follower.trouble,
+        status = "store_failed" if follower.trouble else "ok" if follower.following else "no_broker"
+        return json_answer({"status": status, "reason": follower.trouble, "as_of": follower.as_of or None,
                             "broker": follower.state, "gaps": follower.gaps, "needs": dict(follower.needs),
                             "put_aside": follower.put_aside, "names_refused": follower.names.refused,
-                            "copied": copies.made}, 200 if well else 503)
+                            "copied": copies.made}, 200 if status == "ok" else 503)
 
     return [*(Endpoint("GET", path, answering(path), Access.READ) for path in PATHS),
             Endpoint("GET", "/healthz", healthz, Access.OPEN)]
@@ -143,6 +147,7 @@ async def _tell_time(request: web.Request, answer: web.StreamResponse) -> None:
     copied = request.get("copied")
     if copied is not None:
         answer.headers[COPIED] = f"{copied:.3f}"
+        answer.headers[AS_OF] = f"{request['as_of']:.3f}"
 
 
 def serving(listen: str, fresh: float, tokens: str | None) -> Serving:

@@ -22,8 +22,9 @@ log = logging.getLogger("summarystored")
 LARGEST = 64 << 20
 """Bytes of an answer that is taken whole."""
 PIECE = 1 << 16
-COPIED = "Summarystore-Copied"
-"""The header by which a follower tells the time of its copy."""
+COPIED, AS_OF = "Summarystore-Copied", "Summarystore-As-Of"
+"""The headers by which a follower tells the time of its copy, and the last moment of which it surely has
+all."""
 Words = Sequence[tuple[str, str]]
 
 
@@ -53,22 +54,27 @@ class Replica:
     """When it did last, by the clock of the system."""
     reason: str | None = None
     """Why it didn't, where it didn't at last."""
+    behind: Decimal | None = None
+    """The moment of its last answer, where that lay too far back."""
+    behind_until: float = 0.0
+    """Until then it is asked after those that aren't behind."""
 
     def told(self) -> Mapping[str, object]:
         """For `/healthz`."""
         state = "failed" if self.reason else "unknown" if self.answered is None else "answers"
         answered = None if self.answered is None else round(self.answered)
-        return {"address": self.base, "state": state, "reason": self.reason, "answered": answered}
+        return {"address": self.base, "state": state, "reason": self.reason, "answered": answered,
+                "behind": self.behind}
 
 
 @dataclass(frozen=True)
 class Answer:
-    """What a shard says: a status, and an object of JSON; and in seconds the time of its copy, if it
-    answers from one."""
+    """What a shard says: a status, and an object of JSON; and in seconds the moment that it is as of, where
+    a follower says it."""
 
     status: int
     body: Mapping[str, object]
-    copied: Decimal | None = None
+    as_of: Decimal | None = None
 
 
 A = TypeVar("A", Answer, aiohttp.ClientResponse)
@@ -98,8 +104,9 @@ class Shards:
             await self._client.close()
 
     def answers(self, shard: Shard) -> bool:
-        """Whether a replica answered when it was last asked."""
-        return any(each.answered is not None and each.reason is None for each in self.replicas[shard.name])
+        """Whether a replica answered when it was last asked, and wasn't behind."""
+        return any(each.answered is not None and each.reason is None and each.behind is None
+                   for each in self.replicas[shard.name])
 
     def all_answer(self, shard: Shard) -> bool:
         """Whether no replica of it failed when it was last asked."""
@@ -108,7 +115,8 @@ class Shards:
     async def ask(self, shard: Shard, path: str, words: Words) -> Answer:
         """The answer of the first replica that has one. Raises NoAnswerError where none has.
 
-        A replica may be behind, so what it doesn't know the next is asked. It is unknown where all say so.
+        A replica may be behind, so what it doesn't know the next is asked, and where it is far behind, too.
+        It is unknown where all say so.
         """
         return await self._first(shard, lambda replica: self._answer(replica, path, words))
 
@@ -126,6 +134,7 @@ class Shards:
         """What the first replica says that knows what is asked for, or the first of all where none knows.
         Raises NoAnswerError where one of them doesn't answer, and no other knows it."""
         unknown: A | None = None
+        best: A | None = None
         reasons = []
         for replica in self._in_order(shard):
             try:
@@ -135,12 +144,33 @@ class Shards:
                 reasons.append(f"{replica.base}: {error}")
                 continue
             self._did(shard, replica)
-            if found.status != 404:
+            behind = self.behind(as_of_of(found))
+            self._is_behind(shard, replica, behind)
+            if found.status == 404:
+                unknown = unknown or found
+            elif behind is None:
                 return found
-            unknown = unknown or found
+            elif best is None or behind > (as_of_of(best) or 0):
+                best = found
+        if best is not None:
+            return best
         if unknown is None or reasons:
             raise NoAnswerError(shard.name, "; ".join(reasons))
         return unknown
+
+    def behind(self, as_of: Decimal | None) -> Decimal | None:
+        """The moment that an answer is as of, where it lies too far back."""
+        if as_of is None or as_of >= Decimal(time.time()) - Decimal(self._asking.behind_seconds):
+            return None
+        return as_of
+
+    def _is_behind(self, shard: Shard, replica: Replica, behind: Decimal | None) -> None:
+        if behind is not None and replica.behind is None:
+            log.warning("replica is behind: shard=%s address=%s as_of=%s", shard.name, replica.base, behind)
+        if behind is None and replica.behind is not None:
+            log.info("replica isn't behind any more: shard=%s address=%s", shard.name, replica.base)
+        replica.behind = behind
+        replica.behind_until = 0.0 if behind is None else time.monotonic() + self._asking.rest_seconds
 
     async def _begun(self, stack: AsyncExitStack, replica: Replica, path: str, words: Words,
                      headers: Mapping[str, str]) -> aiohttp.ClientResponse:
@@ -154,9 +184,14 @@ class Shards:
         return found
 
     def _in_order(self, shard: Shard) -> Sequence[Replica]:
-        """Those that answered lately as they stand, and then those that didn't."""
+        """Those that answered lately as they stand, then those that were behind, the least far first, and
+        last those that didn't answer."""
         now = time.monotonic()
-        return sorted(self.replicas[shard.name], key=lambda each: each.rests_until > now)
+
+        def rank(each: Replica) -> tuple[bool, Decimal]:
+            behind = each.behind if each.behind_until > now else None
+            return each.rests_until > now, Decimal("-Infinity") if behind is None else -behind
+        return sorted(self.replicas[shard.name], key=rank)
 
     def _did(self, shard: Shard, replica: Replica) -> None:
         if replica.reason is not None:
@@ -185,7 +220,7 @@ class Shards:
             async with self._turns, self._request(replica, path, words, {}, self._asking.seconds) as response:
                 if not _serves(response.status):
                     raise _FailedError(f"status {response.status}")
-                return Answer(response.status, _object(await _whole(response)), _copied(response))
+                return Answer(response.status, object_of(await whole_of(response)), as_of_of(response))
         except (aiohttp.ClientError, asyncio.TimeoutError, OSError, ValueError) as error:
             raise _FailedError(_said(error)) from None
 
@@ -199,12 +234,16 @@ def _serves(status: int) -> bool:
     return status < 500 and status not in (401, 403, 408, 429) and not 300 <= status < 400
 
 
-def _copied(response: aiohttp.ClientResponse) -> Decimal | None:
-    told = response.headers.get(COPIED, "")
+def as_of_of(found: Answer | aiohttp.ClientResponse) -> Decimal | None:
+    """The moment that an answer is as of, where it says one. Earlier followers say the time of their copy."""
+    if isinstance(found, Answer):
+        return found.as_of
+    told = found.headers.get(AS_OF, found.headers.get(COPIED, ""))
     return Decimal(told) if SECONDS.fullmatch(told) else None
 
 
-async def _whole(response: aiohttp.ClientResponse) -> bytes:
+async def whole_of(response: aiohttp.ClientResponse) -> bytes:
+    """An answer, taken whole."""
     pieces, size = [], 0
     async for piece in response.content.iter_chunked(PIECE):
         size += len(piece)
@@ -214,7 +253,8 @@ async def _whole(response: aiohttp.ClientResponse) -> bytes:
     return b"".join(pieces)
 
 
-def _object(data: bytes) -> Mapping[str, object]:
+def object_of(data: bytes) -> Mapping[str, object]:
+    """The object that an answer is."""
     found = exactjson.loads(data)
     if not isinstance(found, dict):
         raise _FailedError("the answer is no object of JSON")

@@ -54,7 +54,7 @@ class Follow:
         done = subprocess.run(command(self.program, self.path, self._checked), input=lines,
                               capture_output=True, text=True, check=False)
         if done.returncode != 0:
-            raise ending_of(done.returncode, done.stderr.strip())
+            raise ending_of(done.returncode, done.stderr.strip(), self.path)
         return done.stdout.splitlines()
 
     async def take(self, frames: bytes) -> list[str]:
@@ -91,7 +91,7 @@ class Follow:
                 said = (await process.stderr.read()).decode("utf-8", "replace").strip()
                 status = await process.wait()
                 self._process = None
-                raise ending_of(status, said)
+                raise ending_of(status, said, self.path)
             *whole, self._rest = (self._rest + more).split(b"\n")
             replies += whole
         if len(replies) > count or self._rest:

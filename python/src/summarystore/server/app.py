@@ -23,13 +23,15 @@ from typing import Protocol, TypeVar
 from .. import aio
 from ..errors import ProcessEndedError
 from ..records import Stream
+from .column_intake import ColumnIntake
 from .configuration import Configuration, read
 from .counters import Counters
 from .errors import ConfigurationError, UnavailableError
 from .events import Hub
-from .intake import Intake
+from .journal import Journal
 from .landmarks import Landmarks
 from .mapping import Mappings, UnmatchedNames
+from .recent import MOST, Recent
 from .settings import Mapping
 from .supervision import State, Supervisor
 from .tokens import read_tokens
@@ -75,9 +77,10 @@ class Service:
         self.hub = Hub(self.counters)
         self.unmatched = UnmatchedNames(limits.unmatched)
         self.supervisor = Supervisor(path, configuration.store, self._learn, self.counters, self._told)
-        self.intake = Intake(self.supervisor, self._mappings(), queue=limits.queue, longest_name=limits.name,
-                             unmatched=self.unmatched, hub=self.hub, counters=self.counters,
-                             future=limits.future, answers=limits.answer_seconds)
+        self.intake = ColumnIntake(self.supervisor, self._mappings(), queue=limits.queue,
+                                   longest_name=limits.name, unmatched=self.unmatched, hub=self.hub,
+                                   counters=self.counters, future=limits.future,
+                                   answers=limits.answer_seconds, recent=Recent(Journal(path, MOST)))
         self.landmarks = Landmarks(path, self, lambda: self.intake.streams)
         self.listeners: list[Listener] = []
         self.started = time.time()

@@ -2,20 +2,22 @@
 
 from __future__ import annotations
 
+import difflib
 import re
-import time as clock
-from collections.abc import Mapping
+from collections.abc import Mapping, Sequence
 from decimal import Decimal, InvalidOperation
 
-from ..clock import moment_of, span_of
+from ..clock import OPEN, from_now, moment_of, span_of
 from ..errors import TimeError
 from .endpoints import ApiError
 
 SECONDS = re.compile(r"[+-]?[0-9]{1,19}(?:\.([0-9]{1,9}))?")
-NOW = re.compile(r"now(?:([+-])([0-9]{1,9}) ?([a-z]{1,7}))?")
 # A plus sign in an address that wasn't escaped has become a blank.
 LOST_PLUS = re.compile(r"([0-9]{4}-?[0-9]{2}-?[0-9]{2}[T ][0-9:.]+) ([0-9]{2}:?[0-9]{2})")
 LONGEST = 64
+MEANT = {"avg": "mean", "average": "mean", "total": "sum", "minimum": "min", "maximum": "max",
+         "number": "count"}
+"""Words for kinds of answers that others have."""
 
 
 def bad(reason: str, code: str = "bad_request") -> ApiError:
@@ -31,6 +33,13 @@ def one(words: Mapping[str, str], key: str) -> str:
     return found
 
 
+def no_kind(given: str, kinds: Sequence[str]) -> ApiError:
+    """A kind of answer that there isn't, and which one may be meant."""
+    near = MEANT.get(given.lower()) or next(iter(difflib.get_close_matches(given.lower(), kinds, 1)), None)
+    meant = f"; is `{near}` meant?" if near in kinds else ""
+    return bad(f"`kind` is one of {', '.join(kinds)}, and not {given[:20]!r}{meant}")
+
+
 def nanoseconds(given: object, key: str) -> int:
     """A time: seconds since 1970, ISO 8601 with a zone, `now`, or `now-1h`."""
     if isinstance(given, (int, Decimal)) and not isinstance(given, bool):
@@ -40,15 +49,16 @@ def nanoseconds(given: object, key: str) -> int:
     text = given.strip()
     if SECONDS.fullmatch(text):
         return _of_seconds(text, key)
-    found = NOW.fullmatch(text)
     try:
-        if found:
-            return clock.time_ns() + _offset(found)
+        found = from_now(text)
+        if found is not None:
+            return found
         lost = LOST_PLUS.fullmatch(text)
         return moment_of(f"{lost[1]}+{lost[2]}" if lost else text[:LONGEST], None)
     except (TimeError, OverflowError) as error:
-        raise bad(f"`{key}`: {error}; seconds since 1970, ISO 8601 with a zone, `now` and `now-1h` are "
-                  "times", "bad_time") from None
+        why = str(error).replace(f", or {OPEN}", "")
+        raise bad(f"`{key}`: {why}; seconds since 1970, ISO 8601 with a zone, `now` and `now-1h` are times",
+                  "bad_time") from None
 
 
 def _plain(given: Decimal, key: str) -> str:
@@ -62,14 +72,6 @@ def _of_seconds(text: str, key: str) -> int:
         raise bad(f"`{key}`: not a time: {text[:LONGEST]}; seconds have at most 19 digits, and 9 behind the "
                   "point", "bad_time")
     return int(Decimal(text).scaleb(9))
-
-
-def _offset(found: re.Match[str]) -> int:
-    if not found[1]:
-        return 0
-    unit = "min" if found[3] == "m" else found[3]
-    span = span_of(f"{found[2]}{unit}")
-    return span if found[1] == "+" else -span
 
 
 def span(given: str, key: str) -> int:

@@ -7,7 +7,7 @@ from collections.abc import Sequence
 from importlib import import_module
 from types import ModuleType
 
-from . import access, health, http_in, http_out, openapi, repair, streaming
+from . import access, health, http_in, http_out, lines, making, openapi, repair, streaming
 from .app import Service
 from .endpoints import Endpoint
 from .errors import ConfigurationError
@@ -37,7 +37,7 @@ def endpoints_of(service: Service) -> Sequence[Endpoint]:
     """All addresses by HTTP."""
     found = [*http_in.endpoints(service), *http_out.endpoints(service), *streaming.endpoints(service),
              *health.endpoints(service), *repair.endpoints(service), *access.endpoints(service),
-             *openapi.endpoints()]
+             *openapi.endpoints(), *lines.endpoints(service), *making.endpoints(service)]
     for name in ("graphite_out", "metrics", "refusals", "prometheus_in"):
         part = _part(name)
         if part is not None:

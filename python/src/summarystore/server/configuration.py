@@ -10,9 +10,11 @@ A file may be `/etc/summarystore/summarystored.toml`, and each of its tables may
     [http]
     listen = "127.0.0.1:8087"
     hosts = ["readings.example"]                # the names under which a proxy serves it
+    strict = false                              # with true fields that are no numbers are an error
 
     [graphite]
     listen = "127.0.0.1:2003"                   # without it nothing listens for Graphite's lines
+    anyone = false                              # true: others may reach it, who need no token there
 
     [mqtt]
     broker = "127.0.0.1:1883"                   # without it no broker is called
@@ -48,9 +50,10 @@ from dataclasses import dataclass, field, replace
 from decimal import Decimal, InvalidOperation
 
 from ..errors import SummaryStoreError
+from ..wire import NO_TARGET
 from .errors import ConfigurationError
 from .globs import Glob, GlobError
-from .settings import SOURCES, Description, Mapping, described
+from .settings import IGNORE, SOURCES, Description, Mapping, described
 from .tables import Address, Table, rows_of
 
 LOOPBACK = "127.0.0.1"
@@ -75,17 +78,21 @@ class StoreSettings:
 
 @dataclass(frozen=True)
 class HttpSettings:
-    """Where HTTP is served, and by which names besides that address."""
+    """Where HTTP is served, and by which names besides that address. `strict` refuses a body of line
+    protocol that has texts or truth values, which else are counted."""
 
     listen: Address = (LOOPBACK, PORT)
     hosts: tuple[str, ...] = ()
+    strict: bool = False
 
 
 @dataclass(frozen=True)
 class GraphiteSettings:
-    """Where Graphite's lines are taken. None: nowhere."""
+    """Where Graphite's lines are taken. None: nowhere. They have no tokens, so where others reach it has to
+    be said: `anyone`."""
 
     listen: Address | None = None
+    anyone: bool = False
 
 
 @dataclass(frozen=True)
@@ -118,6 +125,8 @@ class Limits:
 
     body: int = 4 << 20
     """Bytes of a body, also of one that was packed."""
+    bodies: int = 64 << 20
+    """Bytes of all bodies that are under way."""
     lines: int = 20_000
     """Readings of one body."""
     line: int = 65_536
@@ -139,7 +148,9 @@ class Limits:
     body_seconds: float = 30
     """The time for a body to come."""
     idle_seconds: float = 75
-    """How long a connection may say nothing, between two requests or two lines."""
+    """How long a connection may say nothing: between two requests, or within a line of Graphite's."""
+    silent_seconds: float = 3600
+    """How long a connection may say nothing between two lines of Graphite's."""
     write_seconds: float = 30
     """How long a client may take nothing of its answer."""
     answer_seconds: float = 30
@@ -215,13 +226,14 @@ def _store(table: Table) -> StoreSettings:
 
 
 def _http(table: Table) -> HttpSettings:
-    found = HttpSettings(table.address("listen") or HttpSettings.listen, table.texts("hosts"))
+    found = HttpSettings(table.address("listen") or HttpSettings.listen, table.texts("hosts"),
+                         table.truth("strict"))
     table.end()
     return found
 
 
 def _graphite(table: Table) -> GraphiteSettings:
-    found = GraphiteSettings(table.address("listen"))
+    found = GraphiteSettings(table.address("listen"), table.truth("anyone"))
     table.end()
     return found
 
@@ -244,9 +256,11 @@ def tokens_of(table: Table) -> TokenSettings:
     return found
 
 
-_COUNTS = {"body": 1 << 30, "lines": 1_000_000, "line": 1 << 20, "name": 4096, "queue": 10_000_000,
-           "connections": 60_000, "subscribers": 60_000, "rows": 100_000, "unmatched": 100_000}
-_SECONDS = ("header_seconds", "body_seconds", "idle_seconds", "write_seconds", "answer_seconds")
+_COUNTS = {"body": 1 << 30, "bodies": 1 << 40, "lines": 1_000_000, "line": 1 << 20, "name": 4096,
+           "queue": 10_000_000, "connections": 60_000, "subscribers": 60_000, "rows": 100_000,
+           "unmatched": 100_000}
+_SECONDS = ("header_seconds", "body_seconds", "idle_seconds", "silent_seconds", "write_seconds",
+            "answer_seconds")
 
 
 def limits_of(table: Table) -> Limits:
@@ -262,6 +276,8 @@ def limits_of(table: Table) -> Limits:
             found = replace(found, **{key: seconds})
     found = replace(found, future=table.span("future", found.future))
     table.end()
+    if found.body > found.bodies:
+        raise table.wrong("body", f"{found.body} bytes are more than the {found.bodies} of all bodies")
     if found.lines > found.queue:
         raise table.wrong("lines", f"{found.lines} lines are more than the queue of {found.queue} takes")
     return found
@@ -288,8 +304,7 @@ def mapping_of(table: Table) -> Mapping:
     if found.lateness > HOUR:
         raise table.wrong("lateness", "a reading waits an hour at most")
     if not TARGETS.fullmatch(found.target):
-        raise table.wrong("target", f"`exp B R S` or `power P Q R S` is to stand here, and not "
-                                    f"{found.target!r}")
+        raise table.wrong("target", f"{NO_TARGET}, and not {found.target!r}")
     return found
 
 
@@ -324,10 +339,11 @@ def _timed(mapping: Mapping, is_told: bool) -> Mapping:
 def _description(table: Table) -> Description:
     scale, time, since = table.decimal("scale"), table.text("time"), table.take("since")
     unit, labels, rounding = table.text("unit"), table.words("labels"), table.text("rounding")
+    kind, overflow = table.text("kind"), table.decimal("overflow")
     try:
-        return described(scale, time, since, unit, labels, rounding)
+        return described(scale, time, since, unit, labels, rounding, kind, overflow)
     except SummaryStoreError as error:
-        raise table.wrong("scale, time, since or rounding", str(error)) from None
+        raise table.wrong("scale, time, since, rounding, kind or overflow", str(error)) from None
 
 
 def _words(table: Table) -> Words[str, str]:
@@ -340,7 +356,7 @@ def _words(table: Table) -> Words[str, str]:
         raise table.wrong("words", "a table is to stand here, such as { ON = 1, OFF = 0 }")
     found = {}
     for word, number in given.items():
-        if isinstance(number, bool) or not isinstance(number, (int, Decimal)):
-            raise table.wrong("words", f"a number is to stand at {word!r}")
+        if number != IGNORE and (isinstance(number, bool) or not isinstance(number, (int, Decimal))):
+            raise table.wrong("words", f"a number, or {IGNORE!r}, is to stand at {word!r}")
         found[word] = str(number)
     return found

@@ -18,8 +18,9 @@ from .. import aio
 from ..errors import LateError, ProcessEndedError, SummaryStoreError, UnknownStreamError
 from ..interval import Presence
 from .meaning import Meaning
-from .outcomes import AGAIN, STORED, THERE, TOO_FAR, Outcome, Result, refused
+from .outcomes import AGAIN, IGNORED, STORED, THERE, TOO_FAR, Outcome, Result, refused
 from .recent import Recent
+from .settings import IGNORE
 
 Row = tuple[int, object]
 AHEAD = 60 * 10**9
@@ -37,14 +38,14 @@ class Given(NamedTuple):
 
 
 class Delivery:
-    """Readings of one stream, in the order in which they go. `words` are numbers for words.
+    """Readings of one stream, in the order in which they go. `words` are numbers for words, or `IGNORE`.
 
-    `newest` is the last time of the stream before, as a count, and later the one after. `now` is in
-    nanoseconds.
+    `newest` is the last time of the stream before, as a count, and later the one after. `values` says how
+    many values it has had before, and later after, where that is known. `now` is in nanoseconds.
     """
 
     def __init__(self, stream: str, meaning: Meaning, words: Mapping[str, str], given: Sequence[Given],
-                 newest: int, recent: Recent, now: int) -> None:
+                 newest: int, recent: Recent, now: int, values: int | None = None) -> None:
         self._stream = stream
         self._meaning = meaning
         self._words = words
@@ -53,6 +54,8 @@ class Delivery:
         self.newest = newest
         self._free = newest + 1
         self._limit = meaning.last(now + AHEAD)
+        self.values = values
+        self._stored: list[Row] = []
         self._found: list[Outcome | None] = [None] * len(given)
         self._places: dict[int, int] = {}
         self.unknown_stream = self.too_far = self.again = False
@@ -65,8 +68,11 @@ class Delivery:
     def _row(self, at: int, given: Given) -> Row:
         """The row of a reading, which is refused here where it is none of the stream."""
         value = given.value
-        if isinstance(value, str):
-            value = self._words.get(value, value)
+        if isinstance(value, str) and value in self._words:
+            value = self._words[value]
+            if value == IGNORE:
+                self._found[at] = IGNORED
+                return 0, value
         row = (0, value)
         try:
             value = self._meaning.value(value)
@@ -96,6 +102,7 @@ class Delivery:
     async def send(self, store: aio.Store) -> Sequence[Outcome]:
         """Sends them, and says what became of each."""
         rows = [row for row, found in zip(self.rows, self._found) if found is None]
+        self._recent.begin(self._stream, self.values, self.newest, rows)
         try:
             self._acknowledged = await store.append_many(self._stream, rows, refused=self._refused)
         except ProcessEndedError as error:
@@ -110,6 +117,7 @@ class Delivery:
         self._give_fates()
         if self._open:
             await self._find_out(store)
+        self._tell_stored()
         if self._late:
             await self._look_at_late(store)
         return [STORED if found is None else found for found in self._found]
@@ -148,7 +156,16 @@ class Delivery:
         count, value = self.rows[at]
         self._found[at] = STORED
         self.newest = max(self.newest, count)
-        self._recent.add(self._stream, count, value)
+        self._stored.append((count, value))
+
+    def _tell_stored(self) -> None:
+        """What was stored is known from now on, where the fate of all is."""
+        if any(found is not None and found.result is Result.UNKNOWN for found in self._found):
+            self.values = None
+            return
+        if self.values is not None:
+            self.values += len(self._stored)
+        self._recent.stored(self._stream, self._stored, self.values, self.newest)
 
     async def _find_out(self, store: aio.Store) -> None:
         """Looks in the store, which is opened again, for those of which it isn't known."""
@@ -190,4 +207,5 @@ class Delivery:
         known = self._recent.value(self._stream, count)
         if known is not None:
             return Presence(("absent", "present")[self._meaning.shown(known) == self._meaning.shown(value)])
-        return await store.has(self._stream, value, count, count)
+        ((_, kept),) = await store.kept(self._stream, [(count, value)])
+        return await store.has(self._stream, kept, count, count)

@@ -3,9 +3,9 @@
 The protocol has no reply, so a client learns nothing of its lines: what is refused is counted and
 listed. Where the store is busy the server stops reading, and the client's writes wait.
 
-A connection that says nothing stays open, since who writes each five minutes wouldn't notice that it
-was closed, and would lose the next lines. Dead ones are found by TCP's keepalive. But a line that was
-begun has to end in time. One without its end is refused: its time may be cut off.
+A connection that says nothing stays open for an hour, since who writes each five minutes wouldn't notice
+that it was closed, and would lose the next lines. Dead ones are found by TCP's keepalive. But a line that
+was begun has to end in time. One without its end is refused: its time may be cut off.
 """
 
 from __future__ import annotations
@@ -14,6 +14,7 @@ import asyncio
 import logging
 import socket
 from collections.abc import Iterator, Mapping, Sequence
+from contextlib import suppress
 from decimal import Decimal
 from functools import partial
 
@@ -34,6 +35,8 @@ NOW = ("-1", "-1.0")
 CHUNK = 1 << 16
 MOST = 4000
 """So many lines go to the store together, at most."""
+ENDS = 300.0
+"""A connection that the client has ended is closed when all is stored, or after so many seconds."""
 KEEPALIVE = ((socket.TCP_KEEPIDLE, 60), (socket.TCP_KEEPINTVL, 15), (socket.TCP_KEEPCNT, 4))
 
 log = logging.getLogger("summarystored")
@@ -108,16 +111,17 @@ class Lines:
 
 
 class Patience:
-    """Waits for a client: for ever between two lines, and within a line for so many seconds in all."""
+    """Waits for a client: for long between two lines, and within a line for so many seconds in all."""
 
-    def __init__(self, seconds: float) -> None:
+    def __init__(self, seconds: float, silent: float) -> None:
         self._seconds = self._left = seconds
+        self._silent = silent
         self._rest = b""
 
     async def read(self, reader: asyncio.StreamReader, rest: bytes) -> bytes:
         """What comes next, where this is the beginning of a line that came already."""
         if not rest:
-            return await reader.read(CHUNK)
+            return await asyncio.wait_for(reader.read(CHUNK), self._silent)
         if not self._rest or not rest.startswith(self._rest):
             self._left = self._seconds
         self._rest = rest
@@ -193,7 +197,7 @@ class GraphiteListener:
 
     async def _take_all(self, reader: asyncio.StreamReader) -> None:
         lines = Lines(self._limits.line)
-        patience = Patience(self._limits.idle_seconds)
+        patience = Patience(self._limits.idle_seconds, self._limits.silent_seconds)
         under_way = UnderWay()
         while True:
             try:
@@ -211,7 +215,8 @@ class GraphiteListener:
                 await self._store(found[at:at + self._most], under_way)
         if lines.rest:
             self._refuse("unterminated", f"a line without its end: {_shown(lines.rest)}")
-        await under_way.at_most(0)
+        with suppress(asyncio.TimeoutError):
+            await asyncio.wait_for(under_way.at_most(0), ENDS)
 
     async def _store(self, lines: Sequence[bytes], under_way: UnderWay) -> None:
         """Hands the lines over, when not too many of this client are under way."""

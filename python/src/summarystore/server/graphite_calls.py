@@ -15,6 +15,8 @@ from .graphite_times import span_of
 KINDS: Mapping[str, str] = {"average": "mean", "avg": "mean", "mean": "mean", "sum": "sum", "total": "sum",
                             "min": "min", "max": "max"}
 """What `consolidateBy` may say, and what is asked of the store then."""
+STORED: Mapping[str, str] = {**KINDS, "increase": "increase"}
+"""The same with what a counter is asked."""
 SUMMARIES: Mapping[str, str] = {**KINDS, "count": "count", "last": "last"}
 MOST_WINDOW = 10_000
 """So many points a moving average takes at most."""
@@ -80,12 +82,12 @@ def _by_nodes(nodes: Sequence[int], drawn: Drawn) -> str:
 
 
 def _consolidate_by(_name: str, arguments: Arguments) -> Expression:
-    wanted = f"series and one of {', '.join(KINDS)} in quotes"
+    wanted = f"series and one of {', '.join(STORED)} in quotes"
     of, word = _series(arguments, wanted), arguments.text(wanted)
     arguments.end(wanted)
-    if word not in KINDS:
+    if word not in STORED:
         raise arguments.wrong(wanted)
-    return Consolidated(of, KINDS[word])
+    return Consolidated(of, STORED[word])
 
 
 def _by_number(make: Callable[..., Expression]) -> Function:

@@ -20,6 +20,7 @@ from .. import aio
 from ..clock import UTC, zone_of
 from ..errors import TimeError
 from ..interval import Interval, outward
+from ..kinds import KINDS, one_of
 from .app import Service
 from .bodies import body_of, text_of
 from .endpoints import Access, ApiError, Endpoint
@@ -180,7 +181,7 @@ class _Streams:
         count = (last - begin) // step + 1
         first, end = meaning.first(begin * SECOND), meaning.last(last * SECOND)
         before = max(0, (meaning.nanoseconds(first) // SECOND - begin) // step)
-        nothing = NOTHING if kind in ("mean", "min", "max") else Interval(0)
+        nothing = NOTHING if kind in ("mean", "min", "max", "increase") else Interval(0)
         if end < first:
             return [nothing] * count
         found: list[Interval] = []
@@ -188,10 +189,11 @@ class _Streams:
         whole = meaning.first((begin + before * step) * SECOND)
         if meaning.nanoseconds(whole) > (begin + before * step) * SECOND:     # a row begins before its stream
             next_ = min(meaning.first((begin + (before + 1) * step) * SECOND), end + 1)
-            found.append(await self._store.query(stream, kind, whole, next_ - 1))
+            found.append(await self._store.query(stream, one_of(kind, KINDS), whole, next_ - 1))
             whole = next_
         if whole <= end:
-            found += [row.interval for row in await self._store.series(stream, kind, whole, end, counts)]
+            answers = await self._store.series(stream, one_of(kind, KINDS), whole, end, counts)
+            found += [row.interval for row in answers]
         return [*[nothing] * before, *found, *[nothing] * (count - before - len(found))]
 
 

@@ -16,6 +16,7 @@ from urllib.parse import urlsplit
 from aiohttp import web
 
 from .answers import error_answer, error_of
+from .bodies import HELD, Held, let_go
 from .configuration import HttpSettings, Limits
 from .connections import Guarded
 from .counters import Counters
@@ -98,6 +99,8 @@ class Http:
         self._server: asyncio.Server | None = None
         self._runner: web.AppRunner | None = None
         self._looking: asyncio.Task[None] | None = None
+        self.held = Held(service.configuration.limits.bodies)
+        """What is held of bodies."""
         self.address: Address | None = None
         """Where it listens, with the port that it got."""
 
@@ -113,6 +116,7 @@ class Http:
         """Listens."""
         configuration = self._service.configuration
         app = web.Application(middlewares=[self._around])
+        app[HELD] = self.held
         if self._before is not None:
             app.on_response_prepare.append(self._before)
         for endpoint in self._endpoints:
@@ -179,6 +183,8 @@ class Http:
             answer = error_answer(told)
             if told.status in (401, 408, 413):
                 answer.force_close()
+        finally:
+            let_go(request)
         if not answer.prepared:
             _set_headers(answer)
         self._count(request, answer, monotonic() - began)

@@ -8,22 +8,26 @@ from collections.abc import Mapping, Sequence
 
 from aiohttp import web
 
-from . import asked, exactjson, lineprotocol
+from . import asked, exactjson, linebody
 from .answers import error_answer, json_answer
 from .app import Service
 from .bodies import body_of, text_of
 from .endpoints import Access, ApiError, Endpoint
 from .intake import Incoming, Outcome, Result
+from .linebody import Body
 from .lineprotocol import PRECISIONS, Mistake
+from .outcomes import STORED
 from .meaning import seconds_of
-from .outcomes import TOO_FAR
+from .outcomes import TOO_FAR, Word
 
-SLICE = 500
-"""After so many lines others have their turn."""
+READINGS = '{"stream": NAME, "time": TIME, "value": NUMBER}, or {"readings": [..]} with a list of these'
+LANDMARK = '{"stream": NAME, "action": "open" or "close"}, and "time" where it isn\'t now'
 SHOWN = 20
 """So many refusals are told one by one."""
 VERSION = "1.8-summarystore"
 KEYS = ("stream", "time", "value")
+WORDS = "Summarystore-Not-Numbers"
+"""The header that says how many fields were texts or truth values, and so aren't kept."""
 
 
 class HttpIn:
@@ -39,26 +43,33 @@ class HttpIn:
         if precision not in PRECISIONS:
             raise asked.bad(f"`precision`: {precision[:20]!r} isn't one of {', '.join(PRECISIONS)}")
         text = text_of(await body_of(request, limits))
-        readings: list[Incoming] = []
-        lines: list[int] = []
-        mistakes: list[Mistake] = []
-        for count, found in enumerate(lineprotocol.parse(text, PRECISIONS[precision], limits.line)):
-            if isinstance(found, Mistake):
-                mistakes.append(found)
-            else:
-                readings += found[1]
-                lines += [found[0]] * len(found[1])
-            if len(readings) + len(mistakes) > limits.lines:
-                raise ApiError(413, "too_many", f"a body has at most {limits.lines} readings")
-            if count % SLICE == SLICE - 1:
+        body = Body((), ())
+        for found in linebody.read(text, PRECISIONS[precision], limits.line, limits.lines):
+            if found is None:
                 await asyncio.sleep(0)
-        outcomes = await self._service.intake.append_many(readings)
-        return _written(lines, mistakes, outcomes)
+            else:
+                body = found
+        if len(body.lines) + len(body.mistakes) > limits.lines:
+            raise ApiError(413, "too_many", f"a body has at most {limits.lines} readings")
+        columns = await self._service.intake.append_columns(body.columns)
+        if not body.mistakes and all(each.count(STORED) == len(each) for each in columns):
+            return web.Response(status=204, headers={"X-Influxdb-Version": VERSION})
+        lines, outcomes = body.lines, body.in_order(columns)
+        words = 0
+        if not self._service.configuration.http.strict:
+            told = [(line, outcome) for line, reading, outcome in zip(lines, body.readings(), outcomes)
+                    if not _is_word(reading, outcome)]
+            words = len(outcomes) - len(told)
+            lines, outcomes = [line for line, _ in told], [outcome for _, outcome in told]
+        answer = _written(lines, body.mistakes, outcomes)
+        if words:
+            answer.headers[WORDS] = str(words)
+        return answer
 
     async def append(self, request: web.Request) -> web.StreamResponse:
         """`POST /api/append`: one reading, or a list of them."""
         limits = self._service.configuration.limits
-        given = _object(await body_of(request, limits))
+        given = _object(await body_of(request, limits), READINGS)
         rows = given.get("readings", [given])
         if not isinstance(rows, list):
             raise asked.bad("`readings` is a list")
@@ -71,7 +82,7 @@ class HttpIn:
 
     async def landmark(self, request: web.Request) -> web.StreamResponse:
         """`POST /api/landmark`: opens one, or closes the one that is open."""
-        given = _object(await body_of(request, self._service.configuration.limits))
+        given = _object(await body_of(request, self._service.configuration.limits), LANDMARK)
         stream, action, time = given.get("stream"), given.get("action"), given.get("time")
         if not isinstance(stream, str) or not stream:
             raise asked.bad("`stream` is the name of a stream")
@@ -91,7 +102,9 @@ class HttpIn:
         """`/health`, as InfluxDB 2 has it."""
         store = self._service.supervisor
         good = store.taking is not None
-        told = {"name": "summarystored", "status": "pass" if good else "fail", "message": store.why,
+        # Whoever asks needs no token, so nothing of this machine is told.
+        told = {"name": "summarystored", "status": "pass" if good else "fail",
+                "message": "readings are taken" if good else f"the store is {store.state.value}",
                 "version": VERSION}
         return json_answer(told, 200 if good else 503)
 
@@ -128,13 +141,13 @@ def _form(text: str) -> Sequence[tuple[str, str]]:
         raise asked.bad("the form has too many fields") from None
 
 
-def _object(data: bytes) -> Mapping[str, object]:
+def _object(data: bytes, form: str) -> Mapping[str, object]:
     try:
         given = exactjson.loads(data)
     except ValueError as error:
         raise asked.bad(str(error)) from None
     if not isinstance(given, dict):
-        raise asked.bad("an object is to stand in the body")
+        raise asked.bad(f"an object is to stand in the body: {form}")
     return given
 
 
@@ -198,6 +211,12 @@ def open_of(outcomes: Sequence[Outcome]) -> ApiError | None:
                         f"are to be sent again: {TOO_FAR.reason}", 1)
     return ApiError(503, "interrupted", f"the store's program ended: {good} are stored, {not_stored} surely "
                     f"aren't, and of {len(unknown)} it isn't known. Sent again, each is stored once", 1)
+
+
+def _is_word(reading: Incoming, outcome: Outcome) -> bool:
+    """Whether it is a field that is no number, so that it was never a reading. It is counted as refused."""
+    return (outcome.result is Result.REFUSED and isinstance(reading.value, Word)
+            and outcome.code in ("not_a_number", "unmatched"))
 
 
 def _written(lines: Sequence[int], mistakes: Sequence[Mistake], outcomes: Sequence[Outcome]) -> web.Response:

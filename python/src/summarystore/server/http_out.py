@@ -3,19 +3,20 @@
 from __future__ import annotations
 
 import asyncio
+import tempfile
 from collections.abc import AsyncIterator, Mapping, Sequence
 
 from aiohttp import web
 
-from .. import aio
 from ..interval import Presence
+from ..kinds import KINDS, one_of
 from ..records import Stream, Window
 from . import asked, exactjson, many
 from .answers import CSV, JSON, csv_line, ends_of, table_answer, wants_csv
 from .app import Service
 from .endpoints import Access, ApiError, Endpoint
 from .globs import LONGEST, matches
-from .many import KINDS, ROWS
+from .many import ROWS
 from .meaning import Meaning
 
 TOGETHER = 200
@@ -23,6 +24,9 @@ TOGETHER = 200
 MOST_VALUES = 100_000
 MOST_WINDOWS = 1 << 20
 PIECE = 200
+IN_MEMORY = 1 << 20
+"""Of an answer so many bytes are held in memory, and what is longer in a file."""
+CHUNK = 1 << 16
 WINDOW = ("first", "last", "count", "sum", "min", "max", "from", "to")
 
 
@@ -57,6 +61,7 @@ class HttpOut:
         if last is not None and last.value is not None and last.newest is not None:
             newest = {"time": meaning.shown_time(last.newest), "lo": last.value.lo, "hi": last.value.hi}
         return {"name": stream.name, "unit": told.unit if told else None,
+                "kind": told.meter.kind if told and told.meter else None,
                 "labels": dict(told.labels) if told else {}, "target": stream.target, "within": stream.within,
                 "values": stream.values, "windows": stream.windows, "landmarks": stream.landmarks,
                 "open_landmark": self._service.landmarks.is_open(stream),
@@ -80,10 +85,15 @@ class HttpOut:
             presence: Presence = await self._service.ask(
                 lambda store: store.has(name, meaning.value(value), first, last))
             told.update(value=value, answer=presence.value)
+        elif kind == "value_at":
+            at = meaning.last(asked.nanoseconds("now", "to")) if last is None else last
+            told.update(ends_of(await self._service.ask(lambda store: store.value_at(name, at))))
         elif kind in KINDS:
-            told.update(ends_of(await self._service.ask(lambda store: store.query(name, kind, first, last))))
+            asked_kind = one_of(kind, KINDS)
+            told.update(ends_of(await self._service.ask(
+                lambda store: store.query(name, asked_kind, first, last))))
         else:
-            raise asked.bad(f"`kind` is one of {', '.join(KINDS)} and has, and not {kind[:20]!r}")
+            raise asked.no_kind(kind, (*KINDS, "value_at", "has"))
         return table_answer(request, told, [told])
 
     async def series(self, request: web.Request) -> web.StreamResponse:
@@ -91,7 +101,7 @@ class HttpOut:
         words = request.query
         name, kind = asked.one(words, "stream"), words.get("kind", "mean")
         if kind not in KINDS:
-            raise asked.bad(f"`kind` is one of {', '.join(KINDS)}, and not {kind[:20]!r}")
+            raise asked.no_kind(kind, KINDS)
         meaning = self._meaning(name)
         first, last = await self._span(name, meaning, *_range(words, meaning))
         told: dict[str, object] = {"stream": name, "kind": kind,
@@ -100,7 +110,8 @@ class HttpOut:
         if first is None or last is None:
             return table_answer(request, {**told, "step": None, "rows": []}, [])
         step = self._step(words, meaning, last - first + 1)
-        found = await self._service.ask(lambda store: store.series(name, kind, first, last, step))
+        found = await self._service.ask(
+            lambda store: store.series(name, one_of(kind, KINDS), first, last, step))
         rows: list[dict[str, object]] = [{"time": meaning.shown_time(row.start), **ends_of(row.interval)}
                                          for row in found]
         told.update(step=meaning.length(step), rows=rows)
@@ -129,7 +140,7 @@ class HttpOut:
                 return first, None
             last = meaning.count_of(newest.time)
         if first is None:
-            first = await self._service.ask(lambda store: _begin(store, name, meaning))
+            first = await self._service.ask(lambda store: self._service.intake.streams.first(store, name))
         if first is not None and first > last:
             raise asked.bad("`from` is after `to`, or after the newest time of the stream", "bad_range")
         return first, last
@@ -167,36 +178,30 @@ class HttpOut:
     # ---- windows ------------------------------------------------------------------------
 
     async def windows(self, request: web.Request) -> web.StreamResponse:
-        """`GET /api/windows`: what the store keeps, in pieces, so that no answer is held whole."""
+        """`GET /api/windows`: what the store keeps. It is read at once, and sent as fast as it is taken: a
+        client that is slow holds none of the eight cursors."""
         name = asked.one(request.query, "stream")
         most = asked.whole(request.query, "limit", MOST_WINDOWS) or MOST_WINDOWS
         meaning = self._meaning(name)
         table = wants_csv(request)
         found = self._service.store().windows(name)
-        try:
-            pieces = _pieces(found, meaning, most, table)
-            begin = await anext(pieces)     # what is refused is refused before the head is sent
+        with tempfile.SpooledTemporaryFile(IN_MEMORY) as kept:
+            try:
+                kept.write((csv_line(WINDOW) if table else f'{{"stream":{exactjson.dumps(name)},"windows":['
+                            ).encode())
+                async for piece in _pieces(found, meaning, most, table):
+                    kept.write(piece.encode())
+                kept.write(b"" if table else b"]}")
+            finally:
+                await found.aclose()    # type: ignore[attr-defined]
+            kept.seek(0)
             answer = web.StreamResponse(headers={"Content-Type": f"{CSV if table else JSON}; charset=utf-8"})
             answer.enable_chunked_encoding()
             await answer.prepare(request)
-            head = csv_line(WINDOW) if table else f'{{"stream":{exactjson.dumps(name)},"windows":['
-            await self._send(request, answer, head + begin, pieces)
-            await answer.write_eof(b"" if table else b"]}")
-        finally:
-            await found.aclose()    # type: ignore[attr-defined]
+            while data := kept.read(CHUNK):
+                await answer.write(data)
+            await answer.write_eof()
         return answer
-
-    async def _send(self, request: web.Request, answer: web.StreamResponse, text: str,
-                    pieces: AsyncIterator[str]) -> None:
-        try:
-            await answer.write(text.encode())
-            async for piece in pieces:
-                await answer.write(piece.encode())
-        except BaseException:
-            # The head is out: only an answer without its end says that rows are missing.
-            if request.transport is not None:
-                request.transport.abort()
-            raise
 
 
 def endpoints(service: Service) -> Sequence[Endpoint]:
@@ -228,18 +233,6 @@ def _seconds(meaning: Meaning, count: int | None) -> object:
 
 def _of(meaning: Meaning, nanoseconds: int | None) -> object:
     return None if nanoseconds is None else meaning.seconds(meaning.count(nanoseconds))
-
-
-async def _begin(store: aio.Store, name: str, meaning: Meaning) -> int | None:
-    """The begin of the oldest window. None where a stream has only what is in landmarks."""
-    found = store.windows(name)
-    try:
-        async for window in found:
-            return meaning.count_of(window.start)
-    finally:
-        await found.aclose()    # type: ignore[attr-defined]
-    values = await store.values(name)
-    return meaning.count_of(values[0].time) if values else None
 
 
 async def _pieces(found: AsyncIterator[Window], meaning: Meaning, most: int, table: bool

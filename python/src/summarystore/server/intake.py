@@ -28,14 +28,17 @@ from __future__ import annotations
 
 import asyncio
 import logging
+import re
 import time as clock
-import unicodedata
 from collections import Counter
-from collections.abc import Callable, Sequence
-from typing import Protocol
+from collections.abc import Callable, Mapping, Sequence
+from typing import Protocol, cast
 
 from .. import aio, errors
-from ..errors import ProcessEndedError, SummaryStoreError
+from ..decimals import decimal_of
+from ..errors import NotANumberError, ProcessEndedError, SummaryStoreError
+from .column import Column
+from .column_delivery import delivery_of
 from .counters import Counters
 from .delivery import Delivery, Given, Row
 from .errors import BusyError, UnavailableError
@@ -43,7 +46,7 @@ from .events import Hub
 from .lanes import SECOND, Batch, Incoming, Lane, Pending
 from .mapping import Mappings, Route, UnmatchedNames, full_name
 from .meaning import Meaning, seconds_of
-from .outcomes import IGNORED, STORED, TOO_FAR, TOO_MANY, Outcome, Result, refused
+from .outcomes import IGNORED, STORED, TOO_FAR, TOO_MANY, Outcome, Result, Word, refused
 from .recent import Recent
 from .streams import Streams
 
@@ -58,8 +61,12 @@ ANSWERS = 30.0
 """So many seconds a reading may wait whose sender waits for the answer, unless that says otherwise."""
 AGAIN_AFTER = (0.1, 1.0)
 """Seconds until readings whose fate isn't known are tried again, first and at most."""
-UNPRINTED = ("Cc", "Cs", "Zl", "Zp")
-"""The kinds of characters that no name has: those that end a line, and halves of surrogates."""
+TOLD_AGAIN = 3600.0
+"""After so many seconds it is told again that a stream lies ahead of the clock."""
+UNPRINTED = re.compile("[\\x00-\\x1f\\x7f-\\x9f\\u2028\\u2029"
+                       "\\u061c\\u200e\\u200f\\u202a-\\u202e\\u2066-\\u2069\\ud800-\\udfff]")
+"""What no name has: characters that end a line or control it, those that turn the direction of a text, and
+halves of surrogates."""
 
 
 class Opened(Protocol):
@@ -88,12 +95,12 @@ class Intake:
 
     def __init__(self, opened: Opened, mappings: Mappings, *, queue: int, longest_name: int = 512,
                  unmatched: UnmatchedNames | None = None, hub: Hub | None = None,
-                 counters: Counters | None = None, future: int = FUTURE, answers: float = ANSWERS
-                 ) -> None:
+                 counters: Counters | None = None, future: int = FUTURE, answers: float = ANSWERS,
+                 recent: Recent | None = None) -> None:
         self._opened = opened
         self.mappings = mappings
         self.streams = Streams()
-        self._recent = Recent()
+        self._recent = Recent() if recent is None else recent
         self.unmatched = UnmatchedNames(1000) if unmatched is None else unmatched
         self.counters = Counters() if counters is None else counters
         self._hub = Hub() if hub is None else hub
@@ -102,9 +109,11 @@ class Intake:
         self._future = future
         self._answers = answers
         self._lanes: dict[str, Lane] = {}
-        self._tasks: set[asyncio.Task[None]] = set()
+        self._tasks: set[asyncio.Task[None] | asyncio.Task[Sequence[Outcome]]] = set()
         self._released = asyncio.Event()
         self._closed = False
+        self._ours = 0
+        self._told: dict[str, float] = {}
         self.queued = 0
         """How many readings are under way."""
 
@@ -153,6 +162,7 @@ class Intake:
                until: float | None) -> None:
         batch = Batch(len(readings), done)
         self.queued += len(readings)
+        self._ours += sum(reading.time is None for reading in readings)
         now, came = clock.time_ns(), clock.monotonic()
         for at, reading in enumerate(readings):
             time = now if reading.time is None else reading.time
@@ -166,10 +176,15 @@ class Intake:
             lane.wake()
         while self._tasks:
             await asyncio.wait(self._tasks)
+        self._recent.close()
 
-    def forget(self, name: str) -> None:
-        """A stream was dropped, or has another name."""
-        self._recent.forget(name)
+    def moved(self, name: str) -> None:
+        """A stream was dropped, has another name, or another takes its readings: what waits goes anew."""
+        if not self.streams.stands(name):
+            self._recent.forget(name)
+        lane = self._lanes.get(name)
+        for pending in () if lane is None else lane.take_all():
+            self._take(pending, clock.time_ns())
 
     def remap(self, mappings: Mappings) -> None:
         """The mapping was read anew. What is under way goes by the old one."""
@@ -201,6 +216,9 @@ class Intake:
         if isinstance(route, Outcome):
             self._settle([(pending, route)])
             return
+        if isinstance(pending.reading.value, Word) and (wrong := _no_number(pending.reading.value, route)):
+            self._settle([(pending, wrong)])
+            return
         route = self._current(route)
         lane = self._lanes.get(route.stream)
         if lane is None:
@@ -210,7 +228,7 @@ class Intake:
             task.add_done_callback(self._tasks.discard)
         if pending.is_ours and lane.is_too_long(pending.until):
             self._settle([(pending, TOO_FAR)])
-        elif pending.is_ours and lane.ahead >= self._most // 4:
+        elif pending.is_ours and lane.ahead and self._ours > self._most // 2:
             self._settle([(pending, TOO_MANY)])
         else:
             lane.put(pending)
@@ -224,7 +242,7 @@ class Intake:
         """Why a stream can't have a name. None where it can."""
         if not name or len(name) > self._longest_name:
             return Outcome(Result.REFUSED, "name", f"a name has 1 to {self._longest_name} characters")
-        if any(unicodedata.category(each) in UNPRINTED for each in name):
+        if UNPRINTED.search(name):
             return Outcome(Result.REFUSED, "name", "a name has no control characters")
         return None
 
@@ -270,12 +288,19 @@ class Intake:
         """Tells those that have their fate, and puts the others back."""
         settled: list[tuple[Pending, Outcome]] = []
         again: list[Pending] = []
+        room = max(1, self._most // 2 - self._ours + len(taken))
         for pending, outcome in zip(taken, found):
             if outcome is STORED or self._closed or not self._is_tried_again(lane, pending, outcome):
                 settled.append((pending, outcome))
+            elif outcome is TOO_FAR and len(again) >= room:
+                settled.append((pending, TOO_MANY))
             else:
                 again.append(pending)
-        lane.put_back(again)
+        if again and self._current(lane.route) is not lane.route:
+            for pending in again:       # another stream takes the readings since they were taken out
+                self._take(pending, clock.time_ns())
+        else:
+            lane.put_back(again)
         if again and not all(outcome.final or outcome is TOO_FAR for outcome in found):
             lane.failed(*AGAIN_AFTER)
         self._settle(settled)
@@ -285,7 +310,7 @@ class Intake:
             return not lane.is_too_long(pending.until)
         return pending.until is None and not outcome.final
 
-    async def _outcomes(self, lane: Lane, taken: Sequence[Pending]) -> Sequence[Outcome]:
+    async def _outcomes(self, lane: Lane, taken: Sequence[Pending] | Column) -> Sequence[Outcome]:
         """What becomes of readings of one stream. What fails here fails none of the service."""
         try:
             return await self._stored(lane, taken)
@@ -293,7 +318,7 @@ class Intake:
             log.exception("append failed: stream=%r", lane.route.stream)
             return [Outcome(Result.UNKNOWN, "failed", f"{type(error).__name__}: {error}")] * len(taken)
 
-    async def _stored(self, lane: Lane, taken: Sequence[Pending]) -> Sequence[Outcome]:
+    async def _stored(self, lane: Lane, taken: Sequence[Pending] | Column) -> Sequence[Outcome]:
         store, route = self._opened.taking, lane.route
         if store is None:
             return [Outcome(Result.NOT_STORED, "store_unavailable", self._opened.why)] * len(taken)
@@ -305,58 +330,76 @@ class Intake:
             return [Outcome(Result.NOT_STORED, "interrupted", str(error))] * len(taken)
         except SummaryStoreError as error:
             return [refused(error)] * len(taken)
-        words = {} if route.mapping is None else route.mapping.words
-        given = [Given(each.time, each.reading.value, each.is_ours, each.step) for each in taken]
         now = clock.time_ns()
-        delivery = Delivery(route.stream, meaning, words, given, newest, self._recent, now)
+        values = self.streams.values(route.stream)
+        self._recent.settle(route.stream, values, newest)
+        delivery = self._delivery(route, meaning, taken, newest, now, values)
         found = await delivery.send(store)
-        self.streams.came_to(route.stream, delivery.newest)
+        self.streams.came_to(route.stream, delivery.newest, delivery.values)
         if delivery.ended is not None:
             self._opened.ended(delivery.ended)
         else:
             self._opened.answered()
         if delivery.unknown_stream:
             self.streams.forget(route.stream)
+            self._recent.forget(route.stream)
         if delivery.too_far:
             self._wait_for_the_clock(lane, delivery.free_at - now)
         if delivery.again:
             self.streams.forget_newest(route.stream)
         if delivery.ended is None:
             lane.went()
-        if delivery.ended is not None or delivery.again:
+        if not isinstance(taken, Column) and (delivery.ended is not None or delivery.again):
             _keep_steps(taken, delivery.rows, found)
         self.counters.add("batches")
-        self._tell(route.stream, meaning, delivery.rows, found)
+        if self._hub.listens(route.stream):
+            await self._tell(store, route.stream, meaning, delivery.rows, found)
         return found
+
+    def _delivery(self, route: Route, meaning: Meaning, taken: Sequence[Pending] | Column, newest: int,
+                  now: int, values: int | None) -> Delivery:
+        if isinstance(taken, Column):
+            return delivery_of(taken, route.stream, meaning, newest, self._recent, now, values)
+        words = {} if route.mapping is None else route.mapping.words
+        given = [Given(each.time, each.reading.value, each.is_ours, each.step) for each in taken]
+        return Delivery(route.stream, meaning, words, given, newest, self._recent, now, values)
 
     def _wait_for_the_clock(self, lane: Lane, nanoseconds: int) -> None:
         """The stream lies ahead of the clock: what has no time of its own waits."""
-        if not lane.ahead:
-            log.warning("stream ahead of the clock: stream=%r: what has no time of its own waits; with a "
-                        "finer `time` it needn't", lane.route.stream)
         lane.lies_ahead(nanoseconds / SECOND)
+        now, stream = clock.monotonic(), lane.route.stream
+        if now >= self._told.get(stream, now):
+            self._told[stream] = now + TOLD_AGAIN
+            log.warning("stream ahead of the clock: stream=%r seconds=%d: what has no time of its own waits; "
+                        "a finer `time` or a restart mends it", stream, nanoseconds // SECOND)
 
-    def _tell(self, stream: str, meaning: Meaning, rows: Sequence[Row], found: Sequence[Outcome]
-              ) -> None:
+    async def _tell(self, store: aio.Store, stream: str, meaning: Meaning, rows: Sequence[Row],
+                    found: Sequence[Outcome]) -> None:
         """Tells those who listen what was stored."""
-        if not self._hub.listens(stream):
-            return
-        for row, outcome in zip(rows, found):
-            if outcome is STORED:
-                self._hub.tell("reading", {"stream": stream, "time": meaning.seconds(row[0]),
-                                           "value": meaning.shown(row[1])})
+        stored = [row for row, outcome in zip(rows, found) if outcome is STORED]
+        try:
+            kept = await store.kept(stream, stored)
+        except (SummaryStoreError, OSError):
+            return      # the program has ended meanwhile: they see it in the store
+        for time, value in kept:
+            self._hub.tell("reading", {"stream": stream, "time": meaning.seconds(cast(int, time)),
+                                       "value": meaning.shown(value)})
 
     def _settle(self, settled: Sequence[tuple[Pending, Outcome]]) -> None:
         """Readings have their fate: those who wait for it are told, and for room."""
-        counted: Counter[tuple[str, str, str]] = Counter()
+        counted: Counter[tuple[str, Result, str]] = Counter()
         for pending, outcome in settled:
+            self._ours -= pending.is_ours
             pending.batch.settle(pending.at, outcome)
-            counted[pending.reading.source, outcome.result.value, outcome.code] += 1
+            counted[pending.reading.source, outcome.result, outcome.code] += 1
+        self._count(counted)
+
+    def _count(self, counted: Mapping[tuple[str, Result, str], int]) -> None:
         for (source, result, code), count in counted.items():
-            self.counters.add("readings", source, result, count=count)
-            if result == Result.REFUSED.value:
+            self.counters.add("readings", source, result.value, count=count)
+            if result is Result.REFUSED:
                 self.counters.add("refused", source, code, count=count)
-        self.queued -= len(settled)
+            self.queued -= count
         self._released.set()
 
 
@@ -365,3 +408,14 @@ def _keep_steps(taken: Sequence[Pending], rows: Sequence[Row], found: Sequence[O
     for pending, row, outcome in zip(taken, rows, found):
         if pending.is_ours and (outcome.result is Result.UNKNOWN or outcome.waits):
             pending.step = row[0] if outcome.result is Result.UNKNOWN else None
+
+
+def _no_number(value: Word, route: Route) -> Outcome | None:
+    """Why a text or a truth value is no reading. No stream is made for one that isn't."""
+    if route.mapping is not None and value in route.mapping.words:
+        return None
+    try:
+        decimal_of(value)
+    except NotANumberError as error:
+        return refused(error)
+    return None

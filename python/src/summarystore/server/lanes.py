@@ -20,6 +20,8 @@ from .mapping import Route
 from .outcomes import STORED, Outcome
 
 SECOND = 10**9
+GATHERS = 0.02
+"""Where readings wait for earlier ones, those of so many seconds are looked at together."""
 
 
 @dataclass(frozen=True, slots=True)
@@ -136,6 +138,15 @@ class Lane:
         """The next free step comes near enough to the clock in so many seconds."""
         self._ours_from = clock.monotonic() + seconds
 
+    def take_all(self) -> list[Pending]:
+        """All that waits, for which the stream may be another one now."""
+        taken = [*self._given, *self._ours]
+        self._given.clear()
+        self._ours.clear()
+        self._ours_from = 0.0
+        self._arrived.set()
+        return taken
+
     def due(self, most: int, at_once: bool) -> list[Pending]:
         """Those that go to the store now, so many at most."""
         now = clock.monotonic()
@@ -168,6 +179,8 @@ class Lane:
         self._arrived.clear()
         with suppress(asyncio.TimeoutError):
             await asyncio.wait_for(self._arrived.wait(), max(0.001, self._paused - now, min(moments) - now))
+        if self._lateness:
+            await asyncio.sleep(GATHERS)
 
     def wake(self) -> None:
         """All that waits is due, since the service stops."""

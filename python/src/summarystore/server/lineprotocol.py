@@ -11,6 +11,7 @@ from collections.abc import Iterator
 from dataclasses import dataclass
 
 from .intake import Incoming
+from .outcomes import Word
 
 PRECISIONS = {"n": 1, "ns": 1, "u": 10**3, "us": 10**3, "µ": 10**3, "ms": 10**6, "s": 10**9,
               "m": 60 * 10**9, "h": 3600 * 10**9}
@@ -117,7 +118,7 @@ class _Line:
         found = _STRING.match(self._text, self._at)
         if found:
             self._at = found.end()
-            return key, _ESCAPED_IN_STRING.sub(r"\1", found[1])
+            return key, Word(_ESCAPED_IN_STRING.sub(r"\1", found[1]))
         found = _PLAIN.match(self._text, self._at)
         if not found:
             raise _WrongError(f"the field {key!r} has no value")
@@ -145,5 +146,5 @@ def _value(key: str, word: str) -> str:
     if found:
         return found[1] or found[2] or found[3]
     if word in _TRUTH:
-        return _TRUTH[word]
+        return Word(_TRUTH[word])
     raise _WrongError(f"the field {key!r} has an invalid value {word[:SHOWN]!r}")

@@ -18,6 +18,7 @@ from contextlib import suppress
 from dataclasses import replace
 from pathlib import Path
 
+from .. import held
 from ..errors import ProgramMissingError, ReopenedWarning
 from ..program import find_program
 from .app import Service
@@ -25,8 +26,9 @@ from .assembly import assemble
 from .commands import FAILED, WRONG_USE, listening, log, log_to_stderr, refuse_strangers
 from .configuration import Configuration, read
 from .errors import ConfigurationError
-from .http import Http, shown
+from .http import Http, is_loopback, shown
 from .notify import Notifier
+from .private import password_in
 
 LATEST = 4.7
 """After so many seconds the service ends, whatever it waits for."""
@@ -54,6 +56,11 @@ def configuration_of(words: argparse.Namespace) -> Configuration:
     if words.program is not None:
         found = replace(found, store=replace(found.store, program=words.program))
     refuse_strangers(found, found.file or "--listen")
+    lines = found.graphite
+    if lines.listen is not None and not is_loopback(lines.listen[0]) and not lines.anyone:
+        raise ConfigurationError(found.file or "", "[graphite]", f"{shown(lines.listen)} can be reached from "
+                                 "elsewhere, and its lines have no tokens: say `anyone = true` here, or take "
+                                 "127.0.0.1")
     return found
 
 
@@ -82,6 +89,7 @@ def main(arguments: Sequence[str] | None = None) -> int:
 def _check(configuration: Configuration) -> int:
     from .tokens import read_tokens
     read_tokens(configuration.tokens.file)
+    password_in(configuration.mqtt.password_file)
     log.info("configuration read: mappings=%d", len(configuration.mappings))
     return 0
 
@@ -131,6 +139,8 @@ class _Running:
         place = "" if http.address is None else f"http://{shown(http.address)}/"
         log.info("ready: address=%s pid=%d", place, os.getpid())
         self._notifier.ready(f"serving {place}")
+        with suppress(OSError):     # a help for others, and nothing that it needs itself
+            held.tell(self._path, place)
         alive = asyncio.get_running_loop().create_task(self._notifier.keep_alive())
         await self._end.wait()
         log.info("stopping")
@@ -139,6 +149,7 @@ class _Running:
         last.daemon = True
         last.start()
         await service.stop()
+        held.let_go(self._path)
         last.cancel()
         alive.cancel()
         with suppress(asyncio.CancelledError):

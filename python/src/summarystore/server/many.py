@@ -69,7 +69,7 @@ def kind_of(words: Mapping[str, str]) -> str:
     """A kind of answer that several streams have together."""
     kind = words.get("kind", "mean")
     if kind not in KINDS:
-        raise asked.bad(f"`kind` is one of {', '.join(KINDS)} over several streams, and not {kind[:20]!r}")
+        raise asked.no_kind(kind, KINDS)
     return kind
 
 

@@ -66,6 +66,10 @@ class Meaning:
         """A time as the store shows it as a count."""
         return time if isinstance(time, int) else (nanoseconds(time, None) - self.origin) // self.step
 
+    def count_of_seconds(self, seconds: str) -> int:
+        """A time in seconds since 1970, as it is answered, as a count."""
+        return (int(EXACT.scaleb(Decimal(seconds), 9)) - self.origin) // self.step
+
     def shown_time(self, time: Time) -> Number:
         """A time as the store shows it in seconds since 1970."""
         return self.seconds(time) if isinstance(time, int) else seconds_of(nanoseconds(time, None))

@@ -24,6 +24,7 @@ from .mapping import Mappings, Route
 from .mqtt_client import Message, Subscriber
 from .mqtt_order import PATIENCE, Order, Timed
 from .mqtt_payload import PayloadError, json_of, path_of, text_of, time_in, word_in
+from .private import password_in
 from .refusals import Refusals
 from .underway import UnderWay
 
@@ -83,6 +84,7 @@ class MqttListener:
 
     def __init__(self, service: Service) -> None:
         self._intake = service.intake
+        password_in(service.configuration.mqtt.password_file)   # one that others can read is refused
         self.subscriber = Subscriber(service.configuration.mqtt)
         self.refusals = Refusals(service.counters, service.configuration.limits.unmatched)
         self._under_way = UnderWay()

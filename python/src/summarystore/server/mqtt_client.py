@@ -32,6 +32,8 @@ from paho.mqtt.packettypes import PacketTypes
 from paho.mqtt.properties import Properties
 
 from .configuration import MqttSettings
+from .errors import ConfigurationError
+from .private import password_in
 
 KEEPALIVE = 60
 FIRST_WAIT, LONGEST_WAIT = 1.0, 60.0
@@ -201,7 +203,7 @@ class Subscriber:
             try:
                 await self._connect()
                 await self._stay()
-            except (OSError, ValueError) as error:
+            except (OSError, ValueError, ConfigurationError) as error:
                 self._say(f"{self._host}:{self._port}: {error}")
             finally:
                 self._disconnected()
@@ -251,10 +253,7 @@ class Subscriber:
         return client
 
     def _password(self) -> str | None:
-        if self._settings.password_file is None:
-            return None
-        with open(self._settings.password_file, encoding="utf-8") as stream:
-            return stream.readline().rstrip("\r\n")
+        return password_in(self._settings.password_file)
 
     def _properties(self) -> Properties:
         properties = Properties(PacketTypes.CONNECT)

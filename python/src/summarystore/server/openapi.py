@@ -2,53 +2,25 @@
 
 from __future__ import annotations
 
-from collections.abc import Mapping, Sequence
+from collections.abc import Sequence
 
 from aiohttp import web
 
+from . import openapi_others
 from .answers import json_answer
 from .endpoints import Access, Endpoint
+from .openapi_words import COUNT, TEXT, Json, operation, reference, word
 
-Json = Mapping[str, object]
 NUMBER: Json = {"type": ["number", "null"]}
 TIME: Json = {"oneOf": [{"type": "number", "description": "seconds since 1970"},
                         {"type": "string", "description": "ISO 8601 with a zone, `now`, or `now-1h`"}]}
-TEXT: Json = {"type": "string"}
-COUNT: Json = {"type": "integer", "minimum": 1}
 KINDS = ("count", "sum", "mean", "min", "max")
+COUNTERS = ("increase", "value_at")
+"""What counters alone are asked."""
 TRUTH: Json = {"type": "boolean"}
 ENDS: Json = {"lo": NUMBER, "hi": NUMBER, "mid": NUMBER, "exact": TRUTH, "none": TRUTH, "maybe_none": TRUTH}
 READING: Json = {"type": "object", "required": ["stream", "value"], "additionalProperties": False,
                  "properties": {"stream": TEXT, "time": TIME, "value": {"type": ["number", "string"]}}}
-
-
-def word(name: str, schema: Json, needed: bool = False, told: str = "") -> Json:
-    """A word of the address."""
-    return {"name": name, "in": "query", "required": needed, "schema": schema, "description": told}
-
-
-def reference(name: str) -> Json:
-    """A schema by its name."""
-    return {"$ref": f"#/components/schemas/{name}"}
-
-
-def operation(told: str, words: Sequence[Json] = (), answer: Json | None = None, body: Json | None = None,
-              access: Access = Access.READ, kind: str = "application/json", status: str = "200") -> Json:
-    """What can be asked at an address by one method."""
-    good: dict[str, object] = {"description": "what was asked"}
-    if answer is not None:
-        good["content"] = {kind: {"schema": answer}}
-    found: dict[str, object] = {
-        "summary": told, "parameters": words,
-        "responses": {status: good, "default": {
-            "description": "an error", "content": {"application/json": {"schema": reference("Error")}}}},
-        "security": [] if access is Access.OPEN else [{"bearer": []}],
-    }
-    if body is not None:
-        found["requestBody"] = {"required": True, "content": body}
-    return found
-
-
 STREAM = word("stream", TEXT, True, "the name of a stream")
 NAME: Json = {**STREAM, "name": "name", "in": "path"}
 ONE = word("stream", TEXT, False, "the name of a stream")
@@ -82,11 +54,11 @@ def _paths() -> Json:
         "/api/query": {"get": operation(
             "One answer about a range of times, both ends included. Over several streams it has `matched`, "
             "and of a mean its parts.",
-            (ONE, SEVERAL, word("kind", {"enum": [*KINDS, "has"]}, True), *RANGE,
+            (ONE, SEVERAL, word("kind", {"enum": [*KINDS, *COUNTERS, "has"]}, True), *RANGE,
              word("value", NUMBER, False, "of `has`")), reference("Answer"))},
         "/api/series": {"get": operation(
             "Answers about one span of time after another. Over several streams `from` has to be given.",
-            (ONE, SEVERAL, word("kind", {"enum": KINDS}), *RANGE,
+            (ONE, SEVERAL, word("kind", {"enum": [*KINDS, COUNTERS[0]]}), *RANGE,
              word("step", TEXT, False, "seconds, or a text such as 15min"),
              word("rows", COUNT, False, "about so many rows, in the place of a step")), reference("Series"))},
         "/api/access": {"get": operation(
@@ -129,6 +101,7 @@ def _paths() -> Json:
         "/healthz": {"get": operation("Whether the service can do its work", (), {"type": "object"}, None,
                                       Access.OPEN)},
         "/openapi.json": {"get": operation("This document", (), {"type": "object"}, None, Access.OPEN)},
+        **openapi_others.paths(),
     }
 
 
@@ -150,7 +123,8 @@ def document() -> Json:
         "Error": _object({"error": {"type": "string", "description": "a word for the reason"},
                           "reason": TEXT}),
         "Stream": _object({
-            "name": TEXT, "unit": {"type": ["string", "null"]}, "labels": {"type": "object"}, "target": TEXT,
+            "name": TEXT, "unit": {"type": ["string", "null"]}, "kind": {"enum": ["counter", None]},
+            "labels": {"type": "object"}, "target": TEXT,
             "within": {"type": ["integer", "null"]}, "values": COUNT, "windows": COUNT, "landmarks": COUNT,
             "open_landmark": {"type": ["boolean", "null"]}, "last": NUMBER,
             "newest": {"oneOf": [{"type": "null"}, newest]}}),

@@ -59,9 +59,14 @@ TOO_MANY = Outcome(Result.REFUSED, "too_many", "too many readings without a time
                    "times of the stream: it needs a finer `time`")
 AGAIN = Outcome(Result.NOT_STORED, "again", "its time was taken meanwhile: it gets the next one")
 
+
+class Word(str):
+    """A value that is a text or a truth value where numbers are to be told from these."""
+
+
 CODES: Sequence[tuple[type[Exception], str]] = (
     (errors.LateError, "late"), (errors.NotANumberError, "not_a_number"), (errors.ScaleError, "scale"),
-    (errors.TimeError, "time"), (errors.UnknownStreamError, "unknown_stream"),
+    (errors.MeterError, "counter"), (errors.TimeError, "time"), (errors.UnknownStreamError, "unknown_stream"),
     (errors.StreamNameError, "name"), (errors.NumberError, "range"), (errors.StreamFullError, "full"),
     (errors.StoreFullError, "full"), (errors.TooManyStreamsError, "full"))
 """The word for the reason of a refusal. What else is refused is refused for its mapping."""

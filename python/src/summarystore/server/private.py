@@ -12,9 +12,8 @@ LARGEST = 1 << 20
 """Bytes that are read."""
 
 
-def private_lines(file: str, what: str) -> Sequence[tuple[int, str]]:
-    """The lines of a file with their numbers, without blank ones and those that begin with `#`. Raises
-    ConfigurationError where it can't be used, also where there are none: then no `what` stands in it."""
+def private_text(file: str) -> str:
+    """What stands in a file that nobody else can read. Raises ConfigurationError where it can't be used."""
     try:
         # What isn't a file, such as a pipe, is to be refused, and not waited for.
         with open(os.open(file, os.O_RDONLY | os.O_NONBLOCK), "rb") as stream:
@@ -26,10 +25,20 @@ def private_lines(file: str, what: str) -> Sequence[tuple[int, str]]:
         raise ConfigurationError(file, "", f"its mode is {stat.S_IMODE(mode):04o}: others can read it, or a "
                                            "group can write it; `chmod 600` (or 640) makes it private")
     try:
-        text = data.decode("utf-8")
+        return data.decode("utf-8")
     except UnicodeDecodeError as error:
         raise ConfigurationError(file, "", f"byte {error.start} isn't UTF-8") from None
-    lines = [(number, line.strip()) for number, line in enumerate(text.splitlines(), 1)]
+
+
+def password_in(file: str | None) -> str | None:
+    """The password in the first line of a file, where one is named."""
+    return None if file is None else private_text(file).split("\n", 1)[0].rstrip("\r")
+
+
+def private_lines(file: str, what: str) -> Sequence[tuple[int, str]]:
+    """The lines of a file with their numbers, without blank ones and those that begin with `#`. Raises
+    ConfigurationError where it can't be used, also where there are none: then no `what` stands in it."""
+    lines = [(number, line.strip()) for number, line in enumerate(private_text(file).splitlines(), 1)]
     found = [(number, line) for number, line in lines if line and not line.startswith("#")]
     if not found:
         raise ConfigurationError(file, "", f"no {what} stands in it")

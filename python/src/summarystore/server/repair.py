@@ -15,7 +15,7 @@ from contextlib import AsyncExitStack, asynccontextmanager
 from aiohttp import web
 
 from .. import aio
-from ..description import Description
+from ..description import Description, meter_words
 from ..errors import UnknownStreamError
 from ..records import Stream
 from . import asked, exactjson
@@ -44,7 +44,8 @@ class Repair:
             store = self._service.store()
             stream = await self._stream(store, name)
             await store.drop(name)
-            self._forget(name)
+            self._streams.forget(name)
+            self._service.intake.moved(name)
             await self._service.landmarks.moved(name, None)
         log.warning("stream dropped: stream=%r values=%d by=%s", name, stream.values, request.remote)
         return json_answer({"stream": name, "dropped": True, "values": stream.values})
@@ -62,6 +63,7 @@ class Repair:
             if self._streams.stands(new):
                 raise ApiError(409, "stream_exists", f"a stream {new!r} stands")
             await (self._rename(store, name, new) if key == "rename" else self._restart(store, stream, new))
+            self._service.intake.moved(name)
         log.warning("stream %s: stream=%r new=%r by=%s", DONE[key], name, new, request.remote)
         return json_answer({"stream": name, key: new})
 
@@ -81,7 +83,7 @@ class Repair:
 
     async def _rename(self, store: aio.Store, name: str, new: str) -> None:
         await asyncio.to_thread(store.rename, name, new)
-        self._forget(name)
+        self._streams.forget(name)
         self._streams.came(new)
         await self._service.landmarks.moved(name, new)
 
@@ -93,12 +95,8 @@ class Repair:
         told = meaning.description or Description()
         await store.create(new, stream.target, stream.within, scale=told.scale, time=told.time,
                            since=told.since, unit=told.unit, labels={**told.labels, RESTARTS: name},
-                           rounding=told.rounding)
+                           rounding=told.rounding, **meter_words(told))
         self._streams.came(new)
-
-    def _forget(self, name: str) -> None:
-        self._streams.forget(name)
-        self._service.intake.forget(name)
 
 
 def _change(body: bytes) -> tuple[str, str]:

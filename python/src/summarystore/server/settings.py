@@ -13,7 +13,10 @@ from .globs import Glob
 SOURCES = ("http", "influx", "graphite", "mqtt", "prometheus")
 """Where a reading comes from: JSON, line protocol, Graphite's lines, a broker, or remote_write."""
 
-__all__ = ["SOURCES", "Description", "Mapping", "described"]
+IGNORE = "ignore"
+"""What stands in `words` for a word that isn't kept."""
+
+__all__ = ["IGNORE", "SOURCES", "Description", "Mapping", "described"]
 
 
 @dataclass(frozen=True)
@@ -23,10 +26,11 @@ class Mapping:
     A name is its own where it matches `match`, comes from `source` if one is given, and has the tags
     that `tags` lists. `stream` is the name of the stream, with `{1}`, `{2}`, .. for what the stars
     stood for, `{name}` for all of the name and `{room}` for the tag `room`. Without it the stream has
-    the name that came, with its tags behind it. `words` are numbers for words such as ON. `json` is
-    where the value stands in a message that is JSON, as `sensors.0.temperature`, and `json_time` where
-    its time stands, if it has one. With `ignore` what is its own isn't kept, and that is no refusal.
-    A reading waits `lateness` nanoseconds for earlier ones. `time_told`: the file says how fine times are.
+    the name that came, with its tags behind it. `words` are numbers for words such as ON, and IGNORE
+    for those that aren't kept. `json` is where the value stands in a message that is JSON, as
+    `sensors.0.temperature`, and `json_time` where its time stands, if it has one. With `ignore` what is
+    its own isn't kept, and that is no refusal. A reading waits `lateness` nanoseconds for earlier ones.
+    `time_told`: the file says how fine times are.
     """
 
     match: Glob
@@ -45,11 +49,12 @@ class Mapping:
 
 
 def described(scale: object | None, time: str | None, since: object | None, unit: str | None,
-              labels: Words[str, str], rounding: str | None) -> Description:
+              labels: Words[str, str], rounding: str | None, kind: str | None = None,
+              overflow: object | None = None) -> Description:
     """The description of the streams of a mapping. A network has clock times, so there is always one."""
     if since is not None and not isinstance(since, (str, datetime.date)):
         raise DescriptionError(f"a day is written as 1958-01-01: {since}")
     found = description_of(scale=scale, time=time or "s", since=since, unit=unit, labels=labels or None,
-                           rounding=rounding)
+                           rounding=rounding, kind=kind, overflow=overflow)
     assert found is not None
     return found

@@ -9,7 +9,9 @@ from collections.abc import Sequence
 from weakref import WeakValueDictionary
 
 from .. import aio
-from ..errors import RefusedError, StreamExistsError, SummaryStoreError, UnknownStreamError
+from ..description import meter_words
+from ..errors import (RefusedError, StreamExistsError, SummaryStoreError, TooManyStreamsError,
+                      UnknownStreamError)
 from ..records import Stream
 from .mapping import Route
 from .meaning import Meaning
@@ -18,6 +20,8 @@ from .settings import Mapping
 log = logging.getLogger("summarystored")
 RESTARTS = "restarts"
 """The label of a stream that takes the readings of another, whose name it says."""
+MOST_STREAMS = 4096
+"""So many streams stand in a store at most."""
 AGAIN = 60.0
 """After so many seconds a stream that couldn't be made is tried again."""
 
@@ -31,6 +35,8 @@ class Streams:
         self._failed: dict[str, tuple[float, SummaryStoreError]] = {}
         self._newest: dict[str, int] = {}
         self._restarts: dict[str, str] | None = None
+        self._values: dict[str, int | None] = {}
+        self._first: dict[str, int] = {}
         self._locks: WeakValueDictionary[str, asyncio.Lock] = WeakValueDictionary()
 
     def alone(self, name: str) -> asyncio.Lock:
@@ -49,9 +55,27 @@ class Streams:
             self._newest[name] = found
         return found
 
-    def came_to(self, name: str, count: int) -> None:
-        """The last time of a stream is this one now."""
+    async def first(self, store: aio.Store, name: str) -> int | None:
+        """The first time of a stream as a count, which stays while it stands. None where it has no value."""
+        found = self._first.get(name)
+        if found is None:
+            oldest = await store.first(name)
+            kept = [] if oldest is not None else await store.values(name)
+            if oldest is None and not kept:
+                return None
+            found = self.meaning(store, name).count_of(kept[0].time if oldest is None else oldest)
+            if oldest is not None:
+                self._first[name] = found
+        return found
+
+    def values(self, name: str) -> int | None:
+        """How many values a stream has had, also in landmarks. None where it isn't known."""
+        return self._values.get(name)
+
+    def came_to(self, name: str, count: int, values: int | None = None) -> None:
+        """The last time of a stream is this one now, and it has had so many values."""
         self._newest[name] = count
+        self._values[name] = values
 
     def forget_newest(self, name: str) -> None:
         """The last time of a stream is to be asked for again."""
@@ -62,7 +86,9 @@ class Streams:
         self._meanings.clear()
         self._failed.clear()
         self._newest.clear()
-        self._standing = {stream.name for stream in streams}
+        self._first.clear()
+        self._values = {stream.name: stream.values + stream.landmark_values for stream in streams}
+        self._standing = set(self._values)
         self._restarts = None
 
     def came(self, name: str) -> None:
@@ -98,6 +124,8 @@ class Streams:
         """A stream was dropped, or its description changed."""
         self._meanings.pop(name, None)
         self._newest.pop(name, None)
+        self._first.pop(name, None)
+        self._values.pop(name, None)
         self._standing.discard(name)
         self._restarts = None
 
@@ -115,18 +143,20 @@ class Streams:
         if route.stream not in self._standing and route.mapping is not None:
             await self._make(store, route.stream, route.mapping)
         elif route.mapping is not None and route.stream not in self._meanings:
-            self._describe(store, route.stream, route.mapping)
+            await self._describe(store, route.stream, route.mapping)
         return self.meaning(store, route.stream)
 
     async def _make(self, store: aio.Store, name: str, mapping: Mapping) -> None:
         failed = self._failed.get(name)
         if failed is not None and time.monotonic() < failed[0]:
             raise failed[1]
+        if len(self._standing) >= MOST_STREAMS:
+            raise TooManyStreamsError("STREAMS", name)
         told = mapping.description
         try:
             await store.create(name, mapping.target, mapping.within, scale=told.scale, time=told.time,
                                since=told.since, unit=told.unit, labels=told.labels,
-                               rounding=told.rounding)
+                               rounding=told.rounding, **meter_words(told))
         except StreamExistsError:
             pass    # it was made by another call
         except (RefusedError, ValueError) as error:
@@ -137,19 +167,20 @@ class Streams:
             raise found from None
         else:
             log.info("stream made: stream=%r target=%r", name, mapping.target)
+            self._values[name] = 0
         self._standing.add(name)
 
-    def _describe(self, store: aio.Store, name: str, mapping: Mapping) -> None:
+    async def _describe(self, store: aio.Store, name: str, mapping: Mapping) -> None:
         """Brings what a mapping says of a stream that stands to it, as far as it can be changed."""
         known, told = store.description(name), mapping.description
         if known is None:
             return
         is_same = known[:3] == (told.scale, told.time if mapping.time_told else known.time, told.since)
-        if not is_same:
-            log.warning("stream stands with another scale or time than its mapping has: stream=%r "
+        if not is_same or meter_words(known) != meter_words(told):
+            log.warning("stream stands with another scale, time or kind than its mapping has: stream=%r "
                         "scale=%s time=%s", name, known.scale, known.time)
         labels = dict(told.labels)
         if RESTARTS in known.labels:
             labels[RESTARTS] = known.labels[RESTARTS]
         if (told.unit, labels, told.rounding) != (known.unit, dict(known.labels), known.rounding):
-            store.describe(name, unit=told.unit, labels=labels or None, rounding=told.rounding)
+            await store.describe_soon(name, unit=told.unit, labels=labels or None, rounding=told.rounding)

@@ -27,6 +27,8 @@ ANSWERS = 20.0
 """It is said that it doesn't, where there is no answer for so long."""
 DELAYS = (0.5, 1.0, 2.0, 5.0, 10.0, 30.0)
 """After a failure it is tried again after so many seconds, and later after the last of them."""
+PAUSE = 0.2
+"""So many seconds at least are between two looks whether it takes events again."""
 GOOD_FOR = 1.0
 """Where the program ran for so many seconds before it ended the delays begin anew."""
 QUICKLY = 3
@@ -94,7 +96,8 @@ class Supervisor:
     @property
     def taking(self) -> aio.Store | None:
         """The store for events. None also while it can't take any."""
-        return self._store if time.monotonic() >= self._paused_until else None
+        store = self._store
+        return None if store is None or store.full or time.monotonic() < self._paused_until else store
 
     @property
     def pid(self) -> int | None:
@@ -137,7 +140,7 @@ class Supervisor:
             if store is not None:
                 return store
             if self._store is not None:
-                await asyncio.sleep(max(0.0, self._paused_until - time.monotonic()))
+                await asyncio.sleep(max(PAUSE, self._paused_until - time.monotonic()))
             else:
                 self._opened.clear()
                 await self._opened.wait()
@@ -206,7 +209,10 @@ class Supervisor:
         self._store, self._pid, self._was_open = store, store.pid, True
         self._opened_at = time.monotonic()
         self._counters.add("opened")
-        self._say(State.OPEN, f"program {store.pid} answers")
+        if store.full is None:
+            self._say(State.OPEN, f"program {store.pid} answers")
+        else:
+            self._say(State.FULL, f"{store.full}; questions are answered from a copy")
         self._opened.set()
 
     async def _watch(self) -> None:
@@ -236,7 +242,7 @@ class Supervisor:
         if paused > 0:      # it is open, and takes nothing yet
             self._pid = store.pid
             return paused
-        if store.pid != self._pid or self.state is not State.OPEN:
+        if store.pid != self._pid or self.state is not (State.FULL if store.full else State.OPEN):
             await self._is_open(store)
         return LOOK
 

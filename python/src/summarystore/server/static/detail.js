@@ -133,7 +133,7 @@ export class Detail {
     this.stream = stream;
     this.kind = KINDS.includes(kind) ? kind : this.kind;
     const knownFirst = isOther ? null : this.view.limits.first;
-    this.view.limits = { first: first ?? knownFirst, newest: stream.newest?.time ?? stream.last };
+    this.view.limits = { first: first ?? knownFirst, newest: times.within(stream.newest?.time ?? stream.last) };
     if (Number.isFinite(from) && Number.isFinite(to) && from < to) this.view.set(from, to);
     else if (range || isOther) this.view.choose(range ?? this.view.range ?? "day");
     if (isOther) this.begin();
@@ -187,7 +187,7 @@ export class Detail {
   /** What the service lists of the stream has changed. */
   update(stream) {
     this.stream = stream;
-    this.view.limits.newest = stream.newest?.time ?? stream.last;
+    this.view.limits.newest = times.within(stream.newest?.time ?? stream.last);
     this.head();
     this.offer();
   }
@@ -320,7 +320,7 @@ export class Detail {
       this.over(isSeen ? "" : "No reading has come yet.");
       return;
     }
-    const text = `No reading in these times. The newest is of ${times.moment(newest)}.`;
+    const text = `No reading in these times. The newest is of ${times.moment(this.stream.newest?.time ?? newest)}.`;
     this.over(text, "Go to the newest", () => this.follow());
   }
 
@@ -344,7 +344,7 @@ export class Detail {
 
   /** A reading of this stream came. */
   reading({ time, value }) {
-    this.view.limits.newest = time;
+    this.view.limits.newest = times.within(time);
     showNewest(this.stream);
     this.plot?.draw({ newest: { time, lo: value, hi: value } });
     if (this.view.follows || time < this.view.to) this.fresh();

@@ -27,7 +27,7 @@ export function showNewest({ newest, last, unit, digits }) {
     return;
   }
   const known = newest ? `${ends(newest).exact ? "exactly" : "an interval"} · ` : "";
-  say(byId("when"), `${known}${times.age(time)}`);
+  say(byId("when"), `${known}${times.freshness(time)}`);
   byId("when").title = times.moment(time);
 }
 

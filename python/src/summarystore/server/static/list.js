@@ -3,7 +3,7 @@
 import { ask, isAborted } from "./api.js";
 import { byId, make, say } from "./dom.js";
 import { brief, counted, ends, fractionOf } from "./numbers.js";
-import { DAY, age, now, roundStep, rowStart } from "./times.js";
+import { DAY, freshness, now, roundStep, rowStart } from "./times.js";
 import { sparkline } from "./sparkline.js";
 
 const POINTS = 48;
@@ -63,7 +63,7 @@ class Item {
   tick() {
     const { newest, last } = this.stream;
     const time = newest?.time ?? last;
-    say(this.when, time === null || time === undefined ? "" : age(time));
+    say(this.when, time === null || time === undefined ? "" : freshness(time));
   }
 
   draw(rows) {

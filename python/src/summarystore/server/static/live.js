@@ -41,11 +41,12 @@ export class EventReader {
 
 /**
  * Follows the events of some streams, or of all. Tells its state: `catching up`, `live`, or `offline` with the
- * time of the next try. `onOpen` is awaited before it counts as live: there the page asks what it missed.
+ * time of the next try. `onOpen` is awaited before it counts as live: there the page asks what it missed. A mistake of
+ * the page there is told by `onMistake`, and the connection stands.
  */
 export class Live {
-  constructor({ onEvent, onState, onOpen }) {
-    Object.assign(this, { onEvent, onState, onOpen });
+  constructor({ onEvent, onState, onOpen, onMistake }) {
+    Object.assign(this, { onEvent, onState, onOpen, onMistake });
     this.streams = [];
     this.running = false;
     this.wait = FIRST_WAIT;
@@ -105,7 +106,7 @@ export class Live {
 
   async follow(control) {
     const reply = await this.opened(control);
-    await this.onOpen();
+    await this.catchUp();
     if (control.signal.aborted) return;
     this.wait = FIRST_WAIT;
     this.tell("live");
@@ -114,6 +115,15 @@ export class Live {
     for (let part = await text.read(); !part.done; part = await text.read()) {
       this.watch(control, part.value);
       for (const each of events.read(part.value)) this.pass(each);
+    }
+  }
+
+  async catchUp() {
+    try {
+      await this.onOpen();
+    } catch (error) {
+      if (error instanceof ServiceError || isAborted(error)) throw error;
+      this.onMistake(error);
     }
   }
 

@@ -1,6 +1,6 @@
 // The page: what stands in the address is shown, what happens is followed.
 
-import { ask, isAborted, setToken, token } from "./api.js";
+import { ServiceError, ask, isAborted, setToken, token } from "./api.js";
 import { byId, debounced, say } from "./dom.js";
 import { Detail, RANGES } from "./detail.js";
 import { List, addressOf } from "./list.js";
@@ -39,7 +39,7 @@ class Page {
     this.fresh = new Map();
     this.live = new Live({
       onEvent: (event, said) => this.happened(event, said), onState: (state, detail) => this.state(state, detail),
-      onOpen: () => this.catchUp(),
+      onOpen: () => this.catchUp(), onMistake: (error) => this.failed(error),
     });
     this.reload = debounced(300, () => this.again());
     this.listen();
@@ -260,6 +260,7 @@ class Page {
     } else if (error.isOffline) {
       this.live.retry();
     } else {
+      if (!(error instanceof ServiceError)) console.error(error);
       showTrouble(error, () => this.again());
     }
   }

@@ -17,7 +17,15 @@ function format(options) {
   return formats.get(key);
 }
 
-const date = (seconds) => new Date(seconds * 1000);
+/** The last second that a calendar has here. What lies beyond it is told as that. */
+const LAST = 8.64e12;
+const isBeyond = (seconds) => Math.abs(seconds) > LAST;
+const BEYOND = "a time beyond the calendar";
+
+/** A time, or the end of the calendar where it lies beyond. */
+export const within = (seconds) => (isBeyond(seconds) ? Math.sign(seconds) * LAST : seconds);
+
+const date = (seconds) => new Date(within(seconds) * 1000);
 
 /** The zone that times are shown in, with its offset at a time: `Europe/Berlin, GMT+1`. */
 export function zone(seconds = now()) {
@@ -38,6 +46,7 @@ function dayOf(...all) {
 
 /** A moment with all of its parts. */
 export function moment(seconds) {
+  if (isBeyond(seconds)) return BEYOND;
   return format({ weekday: "short", ...dayOf(seconds), ...CLOCK, second: "2-digit" }).format(date(seconds));
 }
 
@@ -46,6 +55,7 @@ const DATES_ONLY = 60 * DAY;
 
 /** A day and a time of it. */
 export function dayAndTime(seconds) {
+  if (isBeyond(seconds)) return BEYOND;
   return format({ ...dayOf(seconds), ...CLOCK }).format(date(seconds));
 }
 
@@ -83,6 +93,11 @@ export function age(seconds, present = now()) {
   if (Math.abs(passed) < 1.5) return "just now";
   const [size, unit] = unitOf(passed);
   return RELATIVE.format(Math.trunc(passed / size), unit);
+}
+
+/** How long ago the newest reading of a stream is, and whether it lies so far ahead that right ones are late. */
+export function freshness(seconds) {
+  return seconds > now() + HOUR ? `${age(seconds)}, ahead of the clock` : age(seconds);
 }
 
 /** A length in words, as `5 minutes`. */

@@ -27,9 +27,13 @@ export class View {
     return this.follows ? Math.max(this.to, now(), this.limits.newest ?? this.to) : this.to;
   }
 
-  /** Where a view that follows ends: at the present, or where nothing came for long at the newest reading. */
+  /**
+   * Where a view that follows ends: at the present, or where nothing came for long at the newest reading. One that lies
+   * far ahead of the clock is none to go to.
+   */
   edge(span) {
     const { newest } = this.limits;
+    if (newest > now() + YEAR) return now();
     if (newest === null || newest > now() || now() - newest < span) return Math.max(now(), newest ?? 0);
     return newest + span / 100;
   }

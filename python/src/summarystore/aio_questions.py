@@ -1,0 +1,94 @@
+"""Questions to a store, for asyncio: the calls of `Questions` as coroutines."""
+
+from __future__ import annotations
+
+from collections.abc import Sequence
+from typing import TypeVar
+
+from . import calls
+from .calls import Call
+from .certificate import Certificate
+from .codec import Translator
+from .combining import Part
+from .interval import Interval, Presence
+from .kinds import End, Estimated, Kind
+from .records import Estimate, EstimateRow, Last, Reading, Stream
+from .series import Series
+from .wire import Reply
+
+T = TypeVar("T")
+
+
+class Questions:
+    """What can be asked, whatever brings the lines to the program."""
+
+    _translator: Translator
+
+    async def _do(self, call: Call[T]) -> T:
+        """Sends the lines of a call, and gives what their replies mean."""
+        raise NotImplementedError
+
+    async def query(self, name: str, kind: Kind, t1: object | None = None, t2: object | None = None
+                    ) -> Interval:
+        """`count`, `sum`, `min`, `max` or `mean` of the values from t1 to t2, both included."""
+        return await self._do(calls.query(self._translator.codec(name), kind, t1, t2))
+
+    async def replies(self, lines: Sequence[str]) -> Sequence[Reply]:
+        """What the program replies to lines, refusals too."""
+        return await self._do(calls.Lines(lines, list))
+
+    async def increase(self, name: str, t1: object | None = None, t2: object | None = None) -> Interval:
+        """By how much a counter rose from t1 until t2."""
+        return await self._do(calls.increase(self._translator.codec(name), t1, t2))
+
+    async def value_at(self, name: str, time: object) -> Interval:
+        """What a counter has at a time, with its resets and overflows joined."""
+        return await self._do(calls.value_at(self._translator.codec(name), time))
+
+    async def mean(self, name: str, t1: object | None = None, t2: object | None = None) -> Interval:
+        """The mean of the values from t1 to t2."""
+        return await self._do(calls.mean(self._translator.codec(name), t1, t2))
+
+    async def has(self, name: str, value: object, t1: object | None = None, t2: object | None = None
+                  ) -> Presence:
+        """Whether one of the values from t1 to t2 is this one."""
+        return await self._do(calls.has(self._translator.codec(name), value, t1, t2))
+
+    async def series(self, name: str, kind: Kind, t1: object | None, t2: object | None, step: object
+                     ) -> Series:
+        """The answers to `query` for each step from t1 to t2: at most 100,000 rows."""
+        return await self._do(calls.series(name, self._translator.codec(name), kind, t1, t2, step))
+
+    async def estimate(self, name: str, kind: Estimated, t1: object | None = None, t2: object | None = None
+                       ) -> Estimate:
+        """`count` or `sum` of the values from t1 to t2, and the likeliest number in its interval."""
+        return await self._do(calls.estimate(self._translator.codec(name), kind, t1, t2))
+
+    async def estimates(self, name: str, kind: Estimated, t1: object | None, t2: object | None, step: object
+                        ) -> Sequence[EstimateRow]:
+        """The answers to `estimate` for each step from t1 to t2: at most 100,000 rows."""
+        return await self._do(calls.estimates(self._translator.codec(name), kind, t1, t2, step))
+
+    async def figures(self, name: str, kinds: Sequence[str], t1: object | None = None,
+                      t2: object | None = None, step: object | None = None) -> Sequence[Part]:
+        """The answers to `query` of several kinds, all of one moment; with a step, one for each row."""
+        return await self._do(calls.figures(self._translator.codec(name), kinds, t1, t2, step))
+
+    async def last(self, name: str) -> Last | None:
+        """The last time and the newest value. None where the stream took nothing yet."""
+        return await self._do(calls.last(self._translator.codec(name)))
+
+    async def values(self, name: str, t1: object | None = None, t2: object | None = None
+                     ) -> Sequence[Reading]:
+        """The values of landmarks from t1 to t2, which are kept one by one."""
+        return await self._do(calls.values(self._translator.codec(name), t1, t2))
+
+    async def certify(self, name: str, kind: Estimated, end: End, t1: object | None = None,
+                      t2: object | None = None,
+                      landmarks: Sequence[tuple[object, object]] = ()) -> Certificate:
+        """Why the end `lo` or `hi` of a count or a sum can't be narrower, as `Store.certify`."""
+        return await self._do(calls.certify(self._translator.codec(name), kind, end, t1, t2, landmarks))
+
+    async def list(self) -> Sequence[Stream]:
+        """All streams, in the order in which they were made."""
+        return await self._do(calls.listed(self._translator))

@@ -1,0 +1,77 @@
+"""Counters in the service: by mapping, over kills of the service and of its program."""
+
+from __future__ import annotations
+
+import os
+import signal
+from itertools import accumulate
+from pathlib import Path
+
+from ..ports import free_port
+from ..waiting import run
+from .running import Running
+from .serving import over_http
+
+MAPPING = """
+[[mapping]]
+match = "home/energy"
+kind = "counter"
+overflow = 1000
+target = "exp 2 60 1"
+time = "s"
+unit = "kWh"
+"""
+START = 1764406800
+EACH = 20
+
+
+def test_asked_by_http_and_graphite(path: Path) -> None:
+    async def work() -> None:
+        async with over_http(MAPPING, path) as client:
+            listens = client.service.hub.subscribe(frozenset(["home/energy"]))
+            rows = [{"stream": "home/energy", "time": START + 60 * at, "value": value}
+                    for at, value in enumerate((990, 995, 5, 20, 3))]
+            assert (await client.post("/api/append", {"readings": rows}))["stored"] == 5
+            assert [event.data["value"] for event in await listens.take(5)] == [990, 995, 1005, 1020, 1023]
+            assert (await client.post("/api/append", {"readings": rows}))["there"] == 5
+            over = {"stream": "home/energy", "time": START + 600, "value": 1000}
+            refused = await client.post("/api/append", over, 400)
+            assert refused["refused"][0]["code"] == "counter"
+            told = {"stream": "home/energy", "from": str(START), "to": str(START + 240)}
+            assert (await client.get("/api/query", kind="increase", **told))["lo"] == 33
+            assert (await client.get("/api/query", kind="value_at", **told))["hi"] == 1023
+            series = await client.get("/api/series", kind="increase", step="120", **told)
+            assert [row["lo"] for row in series["rows"]] == [15, 18] and series["unit"] == "kWh"
+            assert (await client.get("/api/streams"))["streams"][0]["kind"] == "counter"
+            graphite = await client.get("/render", **{
+                "target": 'consolidateBy(home.energy,"increase")', "format": "json", "from": str(START),
+                "until": str(START + 240)})
+            assert graphite[0]["datapoints"]
+    run(work())
+
+
+def test_kills(folder: Path, program: str) -> None:
+    """Each body is sent again until it is answered. Nothing is lost or counted twice then."""
+    readings = [time * 37 % 210 for time in range(8 * EACH)]
+    truth = list(accumulate(value - last if value >= last else value
+                            for last, value in zip([0, *readings], readings)))
+    config = f'[http]\nlisten = "127.0.0.1:{free_port()}"\n[store]\npath = "{folder}/a.store"\n{MAPPING}'
+    running = Running(folder, config=config.replace("overflow = 1000\n", ""))
+    for part in range(8):
+        rows = [{"stream": "home/energy", "time": START + at, "value": readings[at]}
+                for at in range(part * EACH, (part + 1) * EACH)]
+        if part % 2:    # of the first rows it isn't known whether they are stored
+            running.ask("/api/append", {"readings": rows[:7 + part]})
+            running.process.send_signal(signal.SIGKILL)
+            running.process.wait()
+            running.start_again()
+        elif part:
+            _, health = running.ask("/healthz")
+            os.kill(health["store"]["pid"], signal.SIGKILL)
+        status = 0
+        while status != 200:
+            status, _ = running.ask("/api/append", {"readings": rows})
+        for at in range(part * EACH, (part + 1) * EACH):
+            _, told = running.ask(f"/api/query?stream=home/energy&kind=value_at&to={START + at}")
+            assert (told["lo"], told["hi"]) == (truth[at], truth[at])
+    running.end()
