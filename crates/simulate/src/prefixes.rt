@@ -55,6 +55,11 @@ pub fn shown_on(
     if ended.status != 0 {
         return Ok(None);
     }
+    // What that opening cleared lies in the journal until the next one.
+    let settled = run_on(alloc, "", disk, whole(&[], 4096))?;
+    if settled.status != 0 {
+        return Ok(None);
+    }
     let slots = slots_of(disk.device().content());
     Ok(Some(Shown {
         text: ended.written,
