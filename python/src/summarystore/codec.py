@@ -138,7 +138,9 @@ class PlainCodec:
         return self.whole(given)
 
     def rows(self, given: Sequence[tuple[object, object]]) -> Sequence[tuple[int, int]]:
-        """As they are: whoever writes the lines sees whether they are whole numbers."""
+        """As they are: whoever writes the lines sees whether many are whole numbers. One is read here."""
+        if len(given) == 1:
+            return [(self.time(time), self.value(value)) for time, value in given]
         return cast("Sequence[tuple[int, int]]", given)
 
     def now(self) -> int:
