@@ -391,6 +391,7 @@ def test_who_may_not_is_told_so(serving: Serving, folder: Path) -> None:
         secret = folder / "secret"
         for word, told in (("wrong", "refuses the connection"), ("right", "connected")):
             secret.write_text(f"{word}\n")
+            secret.chmod(0o600)
             more = f'user = "reader"\npassword_file = "{secret}"'
             async with calling(serving, broker.port, more) as (_service, listener):
                 await soon(lambda: told in listener.state)

@@ -6,7 +6,7 @@ from collections.abc import Sequence
 
 from aiohttp import web
 
-from . import openapi_others
+from . import openapi_connect, openapi_others
 from .answers import json_answer
 from .endpoints import Access, Endpoint
 from .openapi_words import COUNT, TEXT, Json, operation, reference, word
@@ -43,7 +43,8 @@ def _paths() -> Json:
         "/api/streams": {"get": operation(
             "The streams, with their newest value",
             (word("match", TEXT, False, "a pattern with `*` and `?`"),),
-            {"type": "object", "properties": {"streams": {"type": "array", "items": reference("Stream")}}})},
+            {"type": "object", "properties": {"streams": {"type": "array", "items": reference("Stream")}}}),
+            "post": openapi_connect.made()},
         "/api/streams/{name}": {
             "delete": operation("Removes a stream with all that it holds", (NAME,), {"type": "object"}, None,
                                 Access.ADMIN),
@@ -101,6 +102,7 @@ def _paths() -> Json:
         "/healthz": {"get": operation("Whether the service can do its work", (), {"type": "object"}, None,
                                       Access.OPEN)},
         "/openapi.json": {"get": operation("This document", (), {"type": "object"}, None, Access.OPEN)},
+        **openapi_connect.paths(),
         **openapi_others.paths(),
     }
 
