@@ -46,7 +46,8 @@ def test_a_second_stream_is_drawn(browser: Browser, service: StandIn) -> None:
     assert browser.share(LIGHT_A) > before + 0.001
     assert model(browser, "model.others.map(({ name, scale }) => [name, scale])") == [[ATTIC, "y"]]
     assert not model(browser, "scales.y2.options.display")
-    top = model(browser, "Math.max(...model.others[0].rows.map((row) => Number(row.hi)))")
+    top = model(browser, "Math.max(...model.others[0].rows.filter((row) => row.time >= model.from && "
+                         "row.time < model.to).map((row) => Number(row.hi)))")
     assert isinstance(top, (int, float)) and float(str(model(browser, "scales.y.max"))) >= top
     assert model(browser, "model.others[0].step === model.step")
     browser.find("#canvas").click()

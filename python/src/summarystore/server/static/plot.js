@@ -117,7 +117,10 @@ export class Plot {
   /** The scale on the right, for streams of another unit. */
   otherAxis() {
     const axis = this.valueAxis();
-    return { ...axis, position: "right", display: false, grid: { ...axis.grid, drawOnChartArea: false } };
+    return {
+      ...axis, position: "right", display: false, grid: { ...axis.grid, drawOnChartArea: false },
+      afterFit: (axis) => { axis.width = this.model.others.some(({ scale }) => scale === "y2") ? Math.max(axis.width, 46) : 0; },
+    };
   }
 
   /** A label that would stand over the right edge is left out: else the chart were narrower at some times than at others. */
