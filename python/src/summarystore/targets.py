@@ -1,7 +1,7 @@
 """Targets: the lengths of their windows by age, and the windows that stand after so many values.
 
 docs/DEFINITIONS.md has the definitions ("Targets", "Boundaries"). What is here by a closed form is
-proved of each target (docs/CONTRACTS.md, ss_measures).
+proved of each target (docs/CONTRACTS.md, ss_laws).
 """
 
 from __future__ import annotations

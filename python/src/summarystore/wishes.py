@@ -1,5 +1,5 @@
 """What is wished of answers, and how wide these are at most: by what is proved (docs/CONTRACTS.md,
-ss_measures), whatever the readings are. All of it is exact.
+ss_laws), whatever the readings are. All of it is exact.
 """
 
 from __future__ import annotations
