@@ -25,6 +25,8 @@ from .errors import (CursorBusyError, LateError, RefusedError, StoreClosedError,
 from .aio_channel import Channel
 from .aio_handle import Handle
 from .frames import columns_of, frame_of, names_left, rows_of
+from .gauges import (BESIDE, GaugeCodec, gauge_of, increments_name, increments_of, must_stand_alone,
+                     standing_of, taking, with_increments)
 from .meters import counting, meter_of
 from .names import Names
 from .program import StorePath
@@ -66,12 +68,14 @@ class Store(Channel, Questions):
                      since: datetime.date | str | None = None, unit: str | None = None,
                      labels: Mapping[str, str] | None = None, rounding: str | None = None,
                      exist_ok: bool = False,
-                     kind: str | None = None, overflow: object | None = None) -> Stored:
+                     kind: str | None = None, overflow: object | None = None,
+                     integrate: str | None = None, rule: str | None = None) -> Stored:
         """Makes a stream, as `Store.create` does."""
         description = description_of(scale=scale, time=time, since=since, unit=unit, labels=labels,
-                                     rounding=rounding, kind=kind, overflow=overflow)
+                                     rounding=rounding, kind=kind, overflow=overflow, integrate=integrate,
+                                     rule=rule)
         await self._up()
-        codec = await self._names.keep(Change(name, description))
+        codec = await self._declared(name, description, target, within)
         try:
             made = await self._do(calls.create(codec, target, within))
         except (RefusedError, TypeError, ValueError) as error:
@@ -85,6 +89,28 @@ class Store(Channel, Questions):
             return stands
         self._translator.made(name, codec)
         return made
+
+    async def _declared(self, name: str, description: Description | None, target: str | Sequence[object],
+                        within: int | None) -> Codec:
+        """How a stream that is to be made is read. That of a gauge's increments is made before it."""
+        if description is None or gauge_of(description) is None:
+            return await self._names.keep(Change(name, description))
+        must_stand_alone(target)
+        other = name + BESIDE
+        beside = await self._names.keep(Change(other, increments_of(description)))
+        wanted = with_increments(description, beside.short)
+        codec = await self._names.keep(Change(name, wanted))
+        if codec.description == wanted:
+            try:
+                await self._do(calls.create(beside, target, within))
+            except StreamExistsError:
+                pass
+            except (RefusedError, TypeError, ValueError):
+                self._translator.unmade(other, beside)
+                self._translator.unmade(name, codec)
+                raise
+            self._translator.made(other, beside)
+        return codec
 
     def describe(self, name: str, *, unit: str | None = None, labels: Mapping[str, str] | None = None,
                  rounding: str | None = None) -> None:
@@ -102,11 +128,18 @@ class Store(Channel, Questions):
             raise StoreClosedError(f"{self.path} is closed, or its program has ended")
         return changed(self.description(name) or Description(), unit, labels, rounding)
 
+    def beside(self, name: str) -> str | None:
+        """The stream of a gauge's increments. None of any other stream."""
+        return increments_name(self._translator, self._translator.codec(name))
+
     def rename(self, name: str, new: str) -> None:
         """Gives a described stream another long name, as `Store.rename` does."""
         if self._connection is None:
             raise StoreClosedError(f"{self.path} is closed, or its program has ended")
+        beside = self.beside(name)
         self._translator.rename(name, new)
+        if beside is not None:
+            self._translator.rename(beside, new + BESIDE)
 
     async def append(self, name: str, time: object = UNSAID, value: object = UNSAID) -> Stored:
         """Takes a value at a time later than all before, or without a time now. It is on the disk when
@@ -130,6 +163,8 @@ class Store(Channel, Questions):
     async def _append(self, name: str, codec: Codec, time: object, value: object) -> Stored:
         try:
             async with self._taking(codec, name) as taking:
+                if isinstance(taking, GaugeCodec):
+                    return await self._do(taking.append(time, value))
                 return await self._do(calls.append(taking, time, value))
         except LateError as error:
             await self._tell_newest(codec, [error])
@@ -165,14 +200,18 @@ class Store(Channel, Questions):
 
     @asynccontextmanager
     async def _taking(self, codec: Codec, name: str) -> AsyncIterator[Codec]:
-        """The codec of a stream that takes readings: that of a counter knows what stands, and is alone."""
-        if meter_of(codec, "counter") is None:
+        """The codec of a stream that takes readings: that of a meter knows what stands, and is alone."""
+        if codec.description is None or codec.description.meter is None:
             yield codec
             return
         async with self._alone[name]:
+            keep = partial(self._translator.keep_joins, name)
+            if gauge_of(codec.description) is not None:
+                stands = await self._do(standing_of(codec))
+                yield taking(self._translator.codec(name), name, stands, keep)
+                return
             standing = await self._do(calls.standing_of_counter(codec))
-            yield counting(self._translator.codec(name), name, standing,
-                           partial(self._translator.keep_joins, name))
+            yield counting(self._translator.codec(name), name, standing, keep)
 
     async def kept(self, name: str, rows: Sequence[tuple[object, object]]) -> Sequence[tuple[object, object]]:
         """What is kept of readings that were stored: of a counter they are joined."""
@@ -239,8 +278,12 @@ class Store(Channel, Questions):
 
     async def drop(self, name: str) -> None:
         """Removes a stream with all that it holds. It can't be undone."""
-        await self._do(calls.drop(self._translator.codec(name)))
+        codec = self._translator.codec(name)
+        await self._do(calls.drop(codec))
         self._translator.removed(name)
+        beside = increments_name(self._translator, codec)
+        if beside is not None:
+            await self.drop(beside)
 
     # ---- what it keeps --------------------------------------------------------------------
 

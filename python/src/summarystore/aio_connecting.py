@@ -115,12 +115,14 @@ class RemoteStore(Questions):
                      scale: object | None = None, time: str | None = None, since: date | str | None = None,
                      unit: str | None = None, labels: Mapping[str, str] | None = None,
                      rounding: str | None = None, exist_ok: bool = False,
-                     kind: str | None = None, overflow: object | None = None) -> Stored:
+                     kind: str | None = None, overflow: object | None = None,
+                     integrate: str | None = None, rule: str | None = None) -> Stored:
         """Makes a stream, as `Store.create` does."""
         made = await self._ask(remote.create({
             "name": name, "target": target if isinstance(target, str) else " ".join(map(str, target)),
             "within": within, "scale": scale, "time": time, "since": since, "unit": unit, "labels": labels,
-            "rounding": rounding, "exist_ok": exist_ok, "kind": kind, "overflow": overflow}))
+            "rounding": rounding, "exist_ok": exist_ok, "kind": kind, "overflow": overflow,
+            "integrate": integrate, "rule": rule}))
         await self.refresh()
         return made
 
@@ -218,6 +220,16 @@ class RemoteStore(Questions):
             await answer.content.readline()
             async for line in answer.content:
                 yield remote.window_of(line.decode("utf-8").strip(), codec)
+
+    async def first(self, name: str) -> Time | None:
+        """When the oldest window begins. None where none stands."""
+        found = self.windows(name)
+        try:
+            async for window in found:
+                return window.start
+            return None
+        finally:
+            await found.aclose()    # type: ignore[attr-defined]
 
 
 async def connect(address: str, *, token: str | None = None, zone: str | tzinfo | None = None,

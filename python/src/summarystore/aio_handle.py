@@ -77,6 +77,14 @@ class Handle:
         """As `Store.value_at`."""
         return await self.store.value_at(self.name, time)
 
+    async def integral(self, t1: object | None = None, t2: object | None = None) -> Interval:
+        """As `Store.integral`."""
+        return await self.store.integral(self.name, t1, t2)
+
+    async def time_mean(self, t1: object | None = None, t2: object | None = None) -> Interval:
+        """As `Store.time_mean`."""
+        return await self.store.time_mean(self.name, t1, t2)
+
     async def mean(self, t1: object | None = None, t2: object | None = None) -> Interval:
         """As `Store.mean`."""
         return await self.store.mean(self.name, t1, t2)

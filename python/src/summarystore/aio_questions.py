@@ -5,14 +5,15 @@ from __future__ import annotations
 from collections.abc import Sequence
 from typing import TypeVar
 
-from . import calls
+from . import calls, integrals
 from .calls import Call
 from .certificate import Certificate
-from .codec import Translator
+from .codec import Codec, Translator
 from .combining import Part
+from .gauges import must_be_gauge
 from .interval import Interval, Presence
 from .kinds import End, Estimated, Kind
-from .records import Estimate, EstimateRow, Last, Reading, Stream
+from .records import Estimate, EstimateRow, Last, Reading, Stream, Time
 from .series import Series
 from .wire import Reply
 
@@ -30,8 +31,29 @@ class Questions:
 
     async def query(self, name: str, kind: Kind, t1: object | None = None, t2: object | None = None
                     ) -> Interval:
-        """`count`, `sum`, `min`, `max` or `mean` of the values from t1 to t2, both included."""
-        return await self._do(calls.query(self._translator.codec(name), kind, t1, t2))
+        """`count`, `sum`, `min`, `max` or `mean` of the values from t1 to t2, both included; of a meter also
+        `increase`, `integral` or `time_mean`."""
+        codec = self._translator.codec(name)
+        return await self._do(integrals.query(codec, kind, t1, t2, await self._begun(codec, kind)))
+
+    async def first(self, name: str) -> Time | None:
+        """When the oldest window begins. None where none stands."""
+        raise NotImplementedError
+
+    async def _begun(self, codec: Codec, kind: str) -> int | None:
+        """When the increments of a gauge begin, where a mean by time is asked."""
+        if kind != "time_mean":
+            return None
+        found = await self.first(self._translator.name_of(must_be_gauge(codec)[2]))
+        return None if found is None else codec.time(found)
+
+    async def integral(self, name: str, t1: object | None = None, t2: object | None = None) -> Interval:
+        """What the readings of a gauge add up to over time, from t1 until t2."""
+        return await self.query(name, "integral", t1, t2)
+
+    async def time_mean(self, name: str, t1: object | None = None, t2: object | None = None) -> Interval:
+        """The mean of a gauge by the time that each value stood, from t1 until t2."""
+        return await self.query(name, "time_mean", t1, t2)
 
     async def replies(self, lines: Sequence[str]) -> Sequence[Reply]:
         """What the program replies to lines, refusals too."""
@@ -57,7 +79,9 @@ class Questions:
     async def series(self, name: str, kind: Kind, t1: object | None, t2: object | None, step: object
                      ) -> Series:
         """The answers to `query` for each step from t1 to t2: at most 100,000 rows."""
-        return await self._do(calls.series(name, self._translator.codec(name), kind, t1, t2, step))
+        codec = self._translator.codec(name)
+        begun = await self._begun(codec, kind)
+        return await self._do(integrals.series(name, codec, kind, t1, t2, step, begun))
 
     async def estimate(self, name: str, kind: Estimated, t1: object | None = None, t2: object | None = None
                        ) -> Estimate:

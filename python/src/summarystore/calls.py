@@ -10,6 +10,7 @@ from . import certificate, wire
 from .certificate import Certificate
 from .codec import Codec, Translator, streams_of
 from .combining import KINDS, Part
+from .description import unit_of
 from .errors import CertificateError, refusal_of
 from .interval import Interval, Presence, mean_of
 from .kinds import ENDS, ESTIMATED, KINDS as ASKED, one_of
@@ -242,7 +243,7 @@ def series(name: str, codec: Codec, kind: str, first: object, last_time: object,
     """The rows of one kind, or of the mean."""
     if kind == "increase":
         asked = increase_rows(codec, first, last_time, step)
-        return Call(asked.lines, lambda replies: _series(name, codec, kind, asked.result(replies)))
+        return Call(asked.lines, lambda replies: series_of(name, codec, kind, asked.result(replies)))
     kinds = KINDS if one_of(kind, ASKED) == "mean" else (kind,)
     here = codec.begin(first), codec.end(last_time), codec.step(step)
     lines = [wire.series(codec.short, each, *here) for each in kinds]
@@ -255,13 +256,14 @@ def series(name: str, codec: Codec, kind: str, first: object, last_time: object,
                     for c, s, least, greatest in zip(*columns)]
         else:
             rows = columns[0]
-        return _series(name, codec, kind, rows)
+        return series_of(name, codec, kind, rows)
     return Call(lines, result)
 
 
-def _series(name: str, codec: Codec, kind: str, rows: Sequence[tuple[int, Interval]]) -> Series:
-    unit = codec.description.unit if codec.description and kind != "count" else None
-    return Series(name, kind, unit, [Row(codec.time_back(start), interval) for start, interval in rows])
+def series_of(name: str, codec: Codec, kind: str, rows: Sequence[tuple[int, Interval]]) -> Series:
+    """Rows as they are shown."""
+    return Series(name, kind, unit_of(codec.description, kind),
+                  [Row(codec.time_back(start), interval) for start, interval in rows])
 
 
 def _row(codec: Codec, kind: str, row: str) -> tuple[int, Interval]:

@@ -124,12 +124,14 @@ class RemoteStore(Questions):
                scale: object | None = None, time: str | None = None, since: date | str | None = None,
                unit: str | None = None, labels: Mapping[str, str] | None = None,
                rounding: str | None = None, exist_ok: bool = False,
-               kind: str | None = None, overflow: object | None = None) -> Stored:
+               kind: str | None = None, overflow: object | None = None,
+               integrate: str | None = None, rule: str | None = None) -> Stored:
         """Makes a stream, as `Store.create` does."""
         made = self._ask(remote.create({
             "name": name, "target": target if isinstance(target, str) else " ".join(map(str, target)),
             "within": within, "scale": scale, "time": time, "since": since, "unit": unit, "labels": labels,
-            "rounding": rounding, "exist_ok": exist_ok, "kind": kind, "overflow": overflow}))
+            "rounding": rounding, "exist_ok": exist_ok, "kind": kind, "overflow": overflow,
+            "integrate": integrate, "rule": rule}))
         self.refresh()
         return made
 

@@ -76,6 +76,14 @@ class Handle:
         """As `Store.value_at`."""
         return self.store.value_at(self.name, time)
 
+    def integral(self, t1: object | None = None, t2: object | None = None) -> Interval:
+        """As `Store.integral`."""
+        return self.store.integral(self.name, t1, t2)
+
+    def time_mean(self, t1: object | None = None, t2: object | None = None) -> Interval:
+        """As `Store.time_mean`."""
+        return self.store.time_mean(self.name, t1, t2)
+
     def mean(self, t1: object | None = None, t2: object | None = None) -> Interval:
         """As `Store.mean`."""
         return self.store.mean(self.name, t1, t2)

@@ -7,7 +7,7 @@ from typing import Literal, TypeVar, cast, get_args
 
 from .errors import KindError
 
-Kind = Literal["count", "sum", "min", "max", "mean", "increase"]
+Kind = Literal["count", "sum", "min", "max", "mean", "increase", "integral", "time_mean"]
 """What `query` and `series` answer."""
 Estimated = Literal["count", "sum"]
 """What has a likeliest number, and certificates."""

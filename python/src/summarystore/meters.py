@@ -122,8 +122,9 @@ def must_be_counter(codec: Codec) -> None:
 
 def must_not_count(codec: Codec, instead: str) -> None:
     """Refuses what brings readings to the store in a way that joins none."""
-    if meter_of(codec, "counter") is not None:
-        raise DescriptionError(f"{codec.short} is a counter, whose readings aren't joined here: {instead}")
+    if codec.description is not None and codec.description.meter is not None:
+        raise DescriptionError(f"{codec.short} is a {codec.description.meter.kind}, whose readings aren't "
+                               f"joined or added up here: {instead}")
 
 
 def counting(codec: Codec, name: str, standing: Standing, keep: Callable[[Joins], None]) -> CounterCodec:

@@ -47,7 +47,11 @@ def entry_of(entry: Mapping[str, object]) -> tuple[str, Description]:
                            labels=labels, rounding=_text(rounding), **_meter(entry.get("meter")))
     assert found is not None
     return short, found if found.meter is None else found._replace(
-        meter=found.meter._replace(joins=_joins(entry.get("meter"))))
+        meter=found.meter._replace(joins=_joins(entry.get("meter")), beside=_beside(entry.get("meter"))))
+
+
+METER = ("overflow", "integrate", "rule")
+"""What an entry says of a meter besides its kind, as text."""
 
 
 def _meter(entry: object) -> dict[str, str | None]:
@@ -56,7 +60,11 @@ def _meter(entry: object) -> dict[str, str | None]:
         return {}
     if not isinstance(entry, Mapping):
         raise TypeError(f"{entry!r} isn't a meter")
-    return {"kind": _text(entry["kind"]), "overflow": _text(entry.get("overflow"))}
+    return {"kind": _text(entry["kind"]), **{key: _text(entry.get(key)) for key in METER}}
+
+
+def _beside(entry: object) -> str | None:
+    return _text(entry.get("beside")) if isinstance(entry, Mapping) else None
 
 
 def _joins(entry: object) -> tuple[tuple[int, int], ...]:
@@ -108,5 +116,10 @@ def shown(short: str, description: Description) -> dict[str, object]:
 def _shown_meter(meter: Meter | None) -> dict[str, object]:
     if meter is None:
         return {}
+    return {"meter": {**told_of(meter), "joins": [[*join] for join in meter.joins], "beside": meter.beside}}
+
+
+def told_of(meter: Meter) -> dict[str, str | None]:
+    """What was told of a meter, as text."""
     overflow = None if meter.overflow is None else str(meter.overflow)
-    return {"meter": {"kind": meter.kind, "overflow": overflow, "joins": [[*join] for join in meter.joins]}}
+    return {"kind": meter.kind, "overflow": overflow, "integrate": meter.integrate, "rule": meter.rule}

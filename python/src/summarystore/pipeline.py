@@ -7,14 +7,16 @@ all: where the sender is killed, the program never reads half of a line.
 
 from __future__ import annotations
 
+import logging
 import select
 from collections import deque
 from collections.abc import Callable, Sequence
 from typing import Generic, TypeVar
 
-from .errors import ProcessEndedError, ProtocolError, SummaryStoreError, refusal_of
+from .errors import LateError, ProcessEndedError, ProtocolError, SummaryStoreError, refusal_of
 from .wire import COMMAND, LONGEST_LINE, LONGEST_SENT, Reply, rows_after, tagged
 
+log = logging.getLogger("summarystore")
 ATOMIC = select.PIPE_BUF
 LINE_REFUSED = b"refused LINE\n"
 EVENTS = ("create ", "append ", "landmark ", "drop ")
@@ -117,9 +119,11 @@ class Appends(Request, Generic[T]):
     """Appends of one stream, of whose replies only the refusals are kept."""
 
     changes = True
+    each = 1
+    """How many lines a row has, of which the last one is its own."""
 
     def __init__(self, session: int, data: bytes, rows: Sequence[T]) -> None:
-        super().__init__(session, data, len(rows))
+        super().__init__(session, data, self.each * len(rows))
         self.rows = rows
         self.refused: list[tuple[T, SummaryStoreError]] = []
         self.last = ""
@@ -152,23 +156,48 @@ class Appends(Request, Generic[T]):
         if head.startswith("ok "):
             self.last = head
         elif head.startswith("refused "):
-            row = self.rows[self.answered]
             line = self.data.splitlines()[self.answered].decode("utf-8", "replace")
-            self.refused.append((row, refusal_of(head[8:], line[3:])))
+            self._refuse(self.answered, refusal_of(head[8:], line[3:]))
         else:
             raise ProtocolError(f"a reply to an append was to come: {head[:200]}")
         self.answered += 1
 
+    def _refuse(self, line: int, error: SummaryStoreError) -> None:
+        self.refused.append((self.rows[line], error))
+
+    @property
+    def known(self) -> int:
+        """Of how many rows it is known what became of them."""
+        return self.answered // self.each
+
+    @property
+    def sent(self) -> int:
+        """How many rows were written whole."""
+        return self.written // self.each
+
     @property
     def stored(self) -> int:
         """How many were acknowledged."""
-        return self.answered - len(self.refused)
+        return self.known - len(self.refused)
 
     def interrupted(self, ended: ProcessEndedError) -> ProcessEndedError:
         ended.acknowledged = self.stored
-        ended.unknown = self.rows[self.answered:self.written]
-        ended.not_stored = self.rows[self.written:]
+        ended.unknown = self.rows[self.known:self.sent]
+        ended.not_stored = self.rows[self.sent:]
         return ended
+
+
+class PairedAppends(Appends[T]):
+    """Appends of one stream, before each of which one goes to another stream."""
+
+    each = 2
+
+    def _refuse(self, line: int, error: SummaryStoreError) -> None:
+        """The other stream refuses what it has already: then its row was sent before."""
+        if line % 2:
+            super()._refuse(line // 2, error)
+        elif not isinstance(error, LateError):
+            log.error("increment not kept: %s", error)
 
 
 class Pipeline:

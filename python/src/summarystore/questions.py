@@ -5,12 +5,13 @@ from __future__ import annotations
 from collections.abc import Sequence
 from typing import TYPE_CHECKING, TypeVar
 
-from . import calls
+from . import calls, integrals
 from .calls import Call
 from .certificate import Certificate
 from .codec import Codec, Translator
 from .combining import Part
 from .errors import NoValueError
+from .gauges import must_be_gauge
 from .interval import Interval, Presence
 from .kinds import End, Estimated, Kind
 from .records import Estimate, EstimateRow, Last, Reading, Stream, Time
@@ -38,8 +39,25 @@ class Questions:
 
     def query(self, name: str, kind: Kind, t1: object | None = None, t2: object | None = None
               ) -> Interval:
-        """`count`, `sum`, `min`, `max` or `mean` of the values from t1 to t2, both included."""
-        return self._do(calls.query(self._translator.codec(name), kind, t1, t2))
+        """`count`, `sum`, `min`, `max` or `mean` of the values from t1 to t2, both included; of a meter also
+        `increase`, `integral` or `time_mean`."""
+        codec = self._translator.codec(name)
+        return self._do(integrals.query(codec, kind, t1, t2, self._begun(codec, kind)))
+
+    def _begun(self, codec: Codec, kind: str) -> int | None:
+        """When the increments of a gauge begin, where a mean by time is asked."""
+        if kind != "time_mean":
+            return None
+        span = self.span(self._translator.name_of(must_be_gauge(codec)[2]))
+        return None if span is None else span[0]
+
+    def integral(self, name: str, t1: object | None = None, t2: object | None = None) -> Interval:
+        """What the readings of a gauge add up to over time, from t1 until t2."""
+        return self.query(name, "integral", t1, t2)
+
+    def time_mean(self, name: str, t1: object | None = None, t2: object | None = None) -> Interval:
+        """The mean of a gauge by the time that each value stood, from t1 until t2."""
+        return self.query(name, "time_mean", t1, t2)
 
     def codec_query(self, codec: Codec, kind: str, first: int, last: int) -> Interval:
         """`query` for whoever has made the codec of the stream, by whole numbers."""
@@ -65,7 +83,8 @@ class Questions:
     def series(self, name: str, kind: Kind, t1: object | None, t2: object | None, step: object
                ) -> Series:
         """The answers to `query` for each step from t1 to t2: at most 100,000 rows."""
-        return self._do(calls.series(name, self._translator.codec(name), kind, t1, t2, step))
+        codec = self._translator.codec(name)
+        return self._do(integrals.series(name, codec, kind, t1, t2, step, self._begun(codec, kind)))
 
     def estimate(self, name: str, kind: Estimated, t1: object | None = None, t2: object | None = None
                  ) -> Estimate:

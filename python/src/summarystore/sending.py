@@ -13,8 +13,9 @@ from . import wire
 from .codec import Codec, pairs
 from .connection import Connection
 from .errors import LateError, Outcome, ProcessEndedError, RowsRefusedError, tell
+from .gauges import GaugeCodec
 from .late import InOrder
-from .pipeline import Appends
+from .pipeline import Appends, PairedAppends
 
 Row = tuple[object, object]
 OnRefused = Callable[[Row, Exception], None]
@@ -61,7 +62,8 @@ class Sending:
         while not self.stopped and self._draw():
             rows, data, rest = self._coded(self._drawn)
             if rows:
-                request = Appends(self._session, data, rows)
+                made = PairedAppends if isinstance(self.codec, GaugeCodec) else Appends
+                request: Appends[Row] = made(self._session, data, rows)
                 self.under_way, self._drawn = [*self.under_way, request], rest
                 yield request
             else:
@@ -105,6 +107,8 @@ class Sending:
     def _lines(self, rows: Sequence[Row]) -> bytes:
         if str in set(map(type, rows)):     # two characters would be taken for a time and a value
             raise TypeError("a row is a time and a value, and not a text")
+        if isinstance(self.codec, GaugeCodec):
+            return self.codec.lines(self._session, rows)
         return wire.appends(self._session, self.codec.short, self.codec.rows(rows))
 
     def _refuse(self, row: Row, error: Exception) -> None:
@@ -147,7 +151,7 @@ class Sending:
 
 def _with(outcome: Outcome, request: Appends[Row]) -> Outcome:
     """What became of some rows, and of those of a request."""
-    rows, answered, written = request.rows, request.answered, request.written
+    rows, answered, written = request.rows, request.known, request.sent
     if answered == len(rows):
         return outcome._replace(acknowledged=outcome.acknowledged + request.stored)
     return Outcome(outcome.acknowledged + request.stored,

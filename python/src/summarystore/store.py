@@ -20,9 +20,11 @@ from .description import Description, brought_to, changed, description_of
 from .errors import (CursorBusyError, LateError, RefusedError, StreamExistsError, StreamNameError,
                      SummaryStoreError, UnknownStreamError, tell)
 from .frames import columns_of, frame_of, names_left, rows_of
+from .gauges import (BESIDE, GaugeCodec, gauge_of, increments_name, increments_of, must_stand_alone,
+                     standing_of, taking, with_increments)
 from .handle import Handle
 from .late import MOST_HELD
-from .meters import counting, meter_of, must_not_count
+from .meters import counting, must_not_count
 from .present import UNSAID, next_free, reading_of
 from .questions import Questions
 from .records import Soundness, Stored
@@ -72,18 +74,21 @@ class Store(Channel, Questions):
                scale: object | None = None, time: str | None = None, since: date | str | None = None,
                unit: str | None = None, labels: Mapping[str, str] | None = None,
                rounding: str | None = None, exist_ok: bool = False,
-               kind: str | None = None, overflow: object | None = None) -> Stored:
+               kind: str | None = None, overflow: object | None = None,
+               integrate: str | None = None, rule: str | None = None) -> Stored:
         """Makes a stream with a target such as `power 1 1 4 1` or ("exp", 2, 60, 1). No window of it crosses
         a multiple of `within`, in the unit of its times: of seconds, 86400 keeps to whole days in UTC.
 
         With `exist_ok` one that stands may be the same one: its target, its scale and its times have to
         be those. Its unit, labels and rounding are changed to what is given. Readings of the kind
-        `counter` are joined over resets, and over what it overflows at, so that what is kept rises.
+        `counter` are joined over resets, and over what it overflows at, so that what is kept rises. Those of
+        a `gauge` are integrated over the span `integrate`, as `h`, by the rule `step` or `trapezoid`.
         """
         description = description_of(scale=scale, time=time, since=since, unit=unit, labels=labels,
-                                     rounding=rounding, kind=kind, overflow=overflow)
+                                     rounding=rounding, kind=kind, overflow=overflow, integrate=integrate,
+                                     rule=rule)
         self._ready()
-        codec = self._translator.declare(name, description)
+        codec = self._declared(name, description, target, within)
         try:
             made = self._do(calls.create(codec, target, within))
         except (RefusedError, TypeError, ValueError) as error:
@@ -98,6 +103,28 @@ class Store(Channel, Questions):
         self._translator.made(name, codec)
         return made
 
+    def _declared(self, name: str, description: Description | None, target: str | Sequence[object],
+                  within: int | None) -> Codec:
+        """How a stream that is to be made is read. That of a gauge's increments is made before it."""
+        if description is None or gauge_of(description) is None:
+            return self._translator.declare(name, description)
+        must_stand_alone(target)
+        other = name + BESIDE
+        beside = self._translator.declare(other, increments_of(description))
+        wanted = with_increments(description, beside.short)
+        codec = self._translator.declare(name, wanted)
+        if codec.description == wanted:
+            try:
+                self._do(calls.create(beside, target, within))
+            except StreamExistsError:
+                pass
+            except (RefusedError, TypeError, ValueError):
+                self._translator.unmade(other, beside)
+                self._translator.unmade(name, codec)
+                raise
+            self._translator.made(other, beside)
+        return codec
+
     def describe(self, name: str, *, unit: str | None = None, labels: Mapping[str, str] | None = None,
                  rounding: str | None = None) -> None:
         """Changes what is given of a described stream. Its scale and its times can't be changed."""
@@ -108,7 +135,10 @@ class Store(Channel, Questions):
     def rename(self, name: str, new: str) -> None:
         """Gives a described stream another long name, for all that it holds and will take."""
         self._ready()
+        beside = increments_name(self._translator, self._translator.codec(name))
         self._translator.rename(name, new)
+        if beside is not None:
+            self._translator.rename(beside, new + BESIDE)
 
     def append(self, name: str, time: object = UNSAID, value: object = UNSAID) -> Stored:
         """Takes a value at a time later than all before, or without a time now. It is on the disk when
@@ -132,6 +162,8 @@ class Store(Channel, Questions):
     def _append(self, name: str, codec: Codec, time: object, value: object) -> Stored:
         try:
             with self._taking(codec, name) as taking:
+                if isinstance(taking, GaugeCodec):
+                    return self._do(taking.append(time, value))
                 return self._do(calls.append(taking, time, value))
         except LateError as error:
             self._tell_newest(codec, [error])
@@ -176,14 +208,18 @@ class Store(Channel, Questions):
 
     @contextmanager
     def _taking(self, codec: Codec, name: str) -> Iterator[Codec]:
-        """The codec of a stream that takes readings: that of a counter knows what stands, and is alone."""
-        if meter_of(codec, "counter") is None:
+        """The codec of a stream that takes readings: that of a meter knows what stands, and is alone."""
+        if codec.description is None or codec.description.meter is None:
             yield codec
             return
         with self._alone[name]:
+            keep = partial(self._translator.keep_joins, name)
+            if gauge_of(codec.description) is not None:
+                stands = self._do(standing_of(codec))
+                yield taking(self._translator.codec(name), name, stands, keep)
+                return
             standing = self._do(calls.standing_of_counter(codec))
-            yield counting(self._translator.codec(name), name, standing,
-                           partial(self._translator.keep_joins, name))
+            yield counting(self._translator.codec(name), name, standing, keep)
 
     def append_rows(self, codec: Codec, rows: object, refused: OnRefused | None = None,
                     lateness: object | None = None) -> int:
@@ -262,8 +298,12 @@ class Store(Channel, Questions):
 
     def drop(self, name: str) -> None:
         """Removes a stream with all that it holds. It can't be undone."""
-        self._do(calls.drop(self._translator.codec(name)))
+        codec = self._translator.codec(name)
+        self._do(calls.drop(codec))
         self._translator.removed(name)
+        beside = increments_name(self._translator, codec)
+        if beside is not None:
+            self.drop(beside)
 
     def reordered(self, name: str, lateness: object, most: int = MOST_HELD) -> Reordered:
         """A bounded buffer that holds readings back and sorts them: a context manager."""

@@ -95,6 +95,14 @@ def appends(session: int, name: str, rows: Sequence[tuple[int, int]]) -> bytes:
     return (form * len(rows) % tuple(numbers)).encode("ascii")
 
 
+def paired(session: int, names: tuple[str, str], rows: Sequence[tuple[int, int, int]]) -> bytes:
+    """The tagged lines of readings of a time, a value and an increment: each behind that of its increment,
+    which goes to a stream of its own."""
+    beside, name = (f"@{session} append {name_word(each)}" for each in names)
+    return "".join([f"{beside} {time} {added}\n{name} {time} {value}\n" for time, value, added in rows]
+                   ).encode("ascii")
+
+
 def _plain(rows: Sequence[tuple[int, int]]) -> Sequence[int] | None:
     """The numbers of rows that surely are pairs of `int` of 64 bits, one after the other."""
     if set(map(type, rows)) - {tuple, list} or set(map(len, rows)) - {2}:

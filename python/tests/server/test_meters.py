@@ -1,11 +1,15 @@
-"""Counters in the service: by mapping, over kills of the service and of its program."""
+"""Counters and gauges in the service: by mapping, over kills of the service and of its program."""
 
 from __future__ import annotations
 
+import asyncio
 import os
 import signal
 from itertools import accumulate
 from pathlib import Path
+
+import summarystore
+from summarystore import aio
 
 from ..ports import free_port
 from ..waiting import run
@@ -74,4 +78,82 @@ def test_kills(folder: Path, program: str) -> None:
         for at in range(part * EACH, (part + 1) * EACH):
             _, told = running.ask(f"/api/query?stream=home/energy&kind=value_at&to={START + at}")
             assert (told["lo"], told["hi"]) == (truth[at], truth[at])
+    running.end()
+
+
+GAUGE = """
+[[mapping]]
+match = "home/*/power"
+kind = "gauge"
+integrate = "h"
+target = "exp 2 60 1"
+time = "s"
+unit = "W"
+"""
+
+
+def test_gauges_by_http(path: Path) -> None:
+    async def work() -> None:
+        async with over_http(GAUGE, path) as client:
+            rows = [{"stream": "home/hall/power", "time": START + 600 * at, "value": value}
+                    for at, value in enumerate((60, 120, 0, 30, 30, 60, 0))]
+            assert (await client.post("/api/append", {"readings": rows[:2]}))["stored"] == 2
+            assert (await client.post("/api/append", {"readings": rows}))["stored"] == 5
+            told = {"stream": "home/hall/power", "from": str(START), "to": str(START + 3600)}
+            assert (await client.get("/api/query", kind="integral", **told))["lo"] == 50
+            assert (await client.get("/api/query", kind="time_mean", **told))["hi"] == 50
+            series = await client.get("/api/series", kind="integral", step="1800", **told)
+            assert [row["lo"] for row in series["rows"]] == [30, 20] and series["unit"] == "W·h"
+            streams = (await client.get("/api/streams", match="*power"))["streams"]
+            assert [(each["kind"], each["integrate"]) for each in streams] == [("gauge", "h")]
+            renamed = await client.text("PATCH", "/api/streams/home/hall/power", data=b'{"rename": "p"}')
+            assert renamed and (await client.get("/api/query", stream="p", kind="integral"))["lo"] == 50
+            assert (await client.get("/api/query", stream="p~integral", kind="count"))["lo"] == 7
+            await client.text("DELETE", "/api/streams/p")
+            assert not (await client.get("/api/streams"))["streams"]
+            assert (await client.post("/api/append", {"readings": rows}))["stored"] == 7
+            made = {"name": "made", "target": "exp 2 60 1", "kind": "gauge", "integrate": "s",
+                    "rule": "trapezoid"}
+            await client.post("/api/streams", made)
+            assert (await client.get("/api/query", stream="made", kind="integral"))["lo"] == 0
+    run(work())
+
+
+def test_gauges_over_a_service(path: Path) -> None:
+    async def work() -> None:
+        async with over_http(GAUGE, path) as client:
+            def asked() -> None:
+                with summarystore.connect(client.base) as store:
+                    store.create("p", "exp 2 60 1", unit="W", kind="gauge", integrate="min")
+                    store.append_many("p", [(START, 5), (START + 60, 7), (START + 180, 1)])
+                    assert store.integral("p") == 19 and store.time_mean("p", START - 60, START + 60) == 5
+                    assert store["p"].integral(START + 60) == 14
+            await asyncio.to_thread(asked)
+            async with await aio.connect(client.base) as store:
+                assert await store.integral("p") == 19 and await store["p"].time_mean(START, START + 60) == 5
+    run(work())
+
+
+def test_kills_of_gauges(folder: Path, program: str) -> None:
+    """Each body is sent again until it is answered. Its increments stand once then."""
+    readings = [time * 37 % 210 for time in range(8 * EACH)]
+    config = f'[http]\nlisten = "127.0.0.1:{free_port()}"\n[store]\npath = "{folder}/a.store"\n{GAUGE}'
+    running = Running(folder, config=config.replace('"h"', '"s"'))
+    for part in range(8):
+        rows = [{"stream": "home/hall/power", "time": START + at, "value": readings[at]}
+                for at in range(part * EACH, (part + 1) * EACH)]
+        if part % 2:    # of the first rows it isn't known whether they are stored
+            running.ask("/api/append", {"readings": rows[:7 + part]})
+            running.process.send_signal(signal.SIGKILL)
+            running.process.wait()
+            running.start_again()
+        elif part:
+            _, health = running.ask("/healthz")
+            os.kill(health["store"]["pid"], signal.SIGKILL)
+        status = 0
+        while status != 200:
+            status, _ = running.ask("/api/append", {"readings": rows})
+        for at in range(part * EACH, (part + 1) * EACH):
+            _, told = running.ask(f"/api/query?stream=home/hall/power&kind=integral&to={START + at}")
+            assert (told["lo"], told["hi"]) == (sum(readings[:at]), sum(readings[:at]))
     running.end()

@@ -16,7 +16,7 @@ from collections.abc import Iterable, Mapping
 from ..description import Description, description_of, is_text
 from ..errors import SummaryStoreError
 from ..names import description_in, hash_of
-from ..namesfile import Described, read_names, write_names
+from ..namesfile import METER, Described, read_names, told_of, write_names
 from ..program import StorePath
 from .errors import NameRefusedError
 
@@ -64,9 +64,7 @@ def _text_of(name: str, short: str, description: Description) -> str:
 def _meter_of(description: Description) -> dict[str, str | None]:
     """The kind of the readings. How they were joined is the edge's alone."""
     meter = description.meter
-    if meter is None:
-        return {}
-    return {"kind": meter.kind, "overflow": None if meter.overflow is None else str(meter.overflow)}
+    return {} if meter is None else {**told_of(meter), "beside": meter.beside}
 
 
 class TakenNames:
@@ -137,7 +135,9 @@ def _named_in(short: str, text: str) -> tuple[str, Description]:
         found = json.loads(text)
         name, unit, labels, rounding = map(found.get, ("name", "unit", "labels", "rounding"))
         given = description_of(unit=unit, labels=labels, rounding=rounding, kind=found.get("kind"),
-                               overflow=found.get("overflow")) or Description()
+                               **{key: found.get(key) for key in METER}) or Description()
+        if isinstance(found.get("beside"), str) and given.meter is not None:
+            given = given._replace(meter=given.meter._replace(beside=found["beside"]))
     except (ValueError, TypeError, AttributeError, RecursionError, SummaryStoreError) as error:
         raise NameRefusedError(f"no name: {error}") from None
     meaning = description_in(short)

@@ -159,7 +159,8 @@ class Service:
         except ConfigurationError as error:
             log.error("tokens kept as they were: reason=%s", error)
         # What the command line says, and where something listens, stays until the next start.
-        self.configuration = replace(self.configuration, mappings=found.mappings, tokens=found.tokens)
+        self.configuration = replace(self.configuration, mappings=found.mappings, tokens=found.tokens,
+                                     thresholds=found.thresholds)
         self.intake.remap(self._mappings())
         for listener in self.listeners:
             listener.reload()

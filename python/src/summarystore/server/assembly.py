@@ -7,7 +7,7 @@ from collections.abc import Sequence
 from importlib import import_module
 from types import ModuleType
 
-from . import access, health, http_in, http_out, lines, making, openapi, repair, streaming
+from . import access, health, http_in, http_out, lines, making, openapi, repair, streaming, thresholds
 from .app import Service
 from .endpoints import Endpoint
 from .errors import ConfigurationError
@@ -37,7 +37,8 @@ def endpoints_of(service: Service) -> Sequence[Endpoint]:
     """All addresses by HTTP."""
     found = [*http_in.endpoints(service), *http_out.endpoints(service), *streaming.endpoints(service),
              *health.endpoints(service), *repair.endpoints(service), *access.endpoints(service),
-             *openapi.endpoints(), *lines.endpoints(service), *making.endpoints(service)]
+             *openapi.endpoints(), *lines.endpoints(service), *making.endpoints(service),
+             *thresholds.endpoints(service)]
     for name in ("graphite_out", "metrics", "refusals", "prometheus_in"):
         part = _part(name)
         if part is not None:
@@ -53,8 +54,13 @@ def assemble(service: Service) -> Http:
     configuration = service.configuration
     if configuration.graphite.listen is not None:
         service.attach(_needed("graphite").GraphiteListener(service, configuration.graphite.listen))
+    publish = None
     if configuration.mqtt.broker is not None:
-        service.attach(_needed("mqtt").MqttListener(service))
+        mqtt = _needed("mqtt").MqttListener(service)
+        publish = mqtt.subscriber.publish
+        service.attach(mqtt)
+    if configuration.thresholds:
+        service.attach(thresholds.Thresholds(service, publish))
     http = Http(service, endpoints_of(service))
     service.attach(http)
     return http

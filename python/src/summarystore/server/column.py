@@ -6,14 +6,18 @@ together, and else one by one, as any others.
 
 from __future__ import annotations
 
-from collections.abc import Iterator, Mapping
+from collections.abc import Iterable, Iterator, Mapping, Sequence
 from dataclasses import dataclass, field
+from decimal import Decimal
 
 from .lanes import Incoming
 from .mapping import Route
+from .outcomes import Outcome
 
 FEW = 4
 """So many readings of one name are worth to be taken together."""
+PLAIN = frozenset((str, int, Decimal))
+"""What the values of a column may be. Of another class is what may be no number."""
 
 
 @dataclass(slots=True)
@@ -47,10 +51,33 @@ class Column:
                       self.places[begin:end])
 
     def is_plain(self, route: Route, latest: int) -> bool:
-        """Whether they needn't be looked at one by one: enough texts, each with a time that isn't later than
-        this nor earlier than the one before, of a stream without words and lateness."""
+        """Whether they needn't be looked at one by one: enough numbers, each with a time that isn't later
+        than this nor earlier than the one before, of a stream without words and lateness."""
         times = [time for time in self.times if time is not None]
         mapping = route.mapping
         return (FEW <= len(times) == len(self)
                 and (mapping is None or not (mapping.words or mapping.lateness))
-                and times == sorted(times) and times[-1] <= latest and set(map(type, self.values)) == {str})
+                and times == sorted(times) and times[-1] <= latest
+                and PLAIN.issuperset(map(type, self.values)))
+
+
+def columns_of(readings: Iterable[Incoming]) -> Sequence[Column]:
+    """Readings as columns."""
+    found: dict[tuple[str, tuple[tuple[str, str], ...], str], Column] = {}
+    for place, reading in enumerate(readings):
+        key = reading.name, tuple(sorted(reading.tags.items())), reading.source
+        column = found.get(key)
+        if column is None:
+            column = found[key] = Column(reading.name, reading.tags, reading.source)
+        column.times.append(reading.time)
+        column.values.append(reading.value)
+        column.places.append(place)
+    return list(found.values())
+
+
+def in_order(columns: Sequence[Column], found: Sequence[Sequence[Outcome]]) -> Sequence[Outcome]:
+    """What became of each reading, from what became of those of each column."""
+    placed = [(place, outcome) for column, outcomes in zip(columns, found)
+              for place, outcome in zip(column.places, outcomes)]
+    placed.sort(key=lambda each: each[0])
+    return [outcome for _, outcome in placed]

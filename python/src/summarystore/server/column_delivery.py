@@ -21,7 +21,8 @@ def delivery_of(column: Column, stream: str, meaning: Meaning, newest: int, rece
     if meaning.description is None or not 0 <= counts[0] <= counts[-1] <= LAST_TIME:
         given = [Given(time, value) for time, value in zip(times, column.values)]
         return Delivery(stream, meaning, {}, given, newest, recent, now, values)
-    return ColumnDelivery(stream, meaning, list(zip(counts, column.values)), newest, recent, now, values)
+    texts = [each if type(each) is str else str(each) for each in column.values]
+    return ColumnDelivery(stream, meaning, list(zip(counts, texts)), newest, recent, now, values)
 
 
 class _Places(dict[int, int]):

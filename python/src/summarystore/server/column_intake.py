@@ -83,7 +83,7 @@ class ColumnIntake(Intake):
         while not found:
             async with self.streams.alone(route.stream):
                 before, route = route, self._current(route)
-                if route.stream == before.stream:       # no other took its place meanwhile
+                if route.stream == before.stream and not await self._moves(route):
                     for at in range(0, len(column), BATCH):
                         found += await self._outcomes(Lane(route), column.part(at, at + BATCH))
         self.counters.took("append", clock.monotonic() - came)

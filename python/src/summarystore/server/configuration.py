@@ -32,6 +32,13 @@ A file may be `/etc/summarystore/summarystored.toml`, and each of its tables may
     queue = 100000
     future = "1h"                               # so far a time may lie ahead of the clock
 
+    [[threshold]]                               # see threshold.py
+    stream = "home/cellar/temperature"
+    kind = "max"
+    over = "10m"
+    above = 25
+    webhook = "http://127.0.0.1:9000/alarm"
+
     [[mapping]]                                 # see mapping.py
     match = "home/*/temperature"
     stream = "home/{1}/temperature"
@@ -42,28 +49,19 @@ A file may be `/etc/summarystore/summarystored.toml`, and each of its tables may
 
 from __future__ import annotations
 
-import re
 import tomllib
-from collections.abc import Mapping as Words
 from collections.abc import Sequence
 from dataclasses import dataclass, field, replace
 from decimal import Decimal, InvalidOperation
 
-from ..errors import SummaryStoreError
-from ..wire import NO_TARGET
 from .errors import ConfigurationError
-from .globs import Glob, GlobError
-from .settings import IGNORE, SOURCES, Description, Mapping, described
+from .mapping_table import HOUR, mapping_of
+from .settings import Mapping
 from .tables import Address, Table, rows_of
+from .threshold import Threshold, threshold_of
 
 LOOPBACK = "127.0.0.1"
 PORT = 8087
-TARGET = "power 1 1 4 1"
-HOUR = 3600 * 10**9
-FINE = "ms"
-"""How finely times are kept that are the service's: messages come in bursts."""
-TARGETS = re.compile(r"exp( [0-9]{1,19}){3}|power( [0-9]{1,19}){4}")
-PLACE = re.compile(r"\{([^{}]*)\}")
 
 
 @dataclass(frozen=True)
@@ -171,6 +169,7 @@ class Configuration:
     tokens: TokenSettings = TokenSettings()
     limits: Limits = Limits()
     mappings: Sequence[Mapping] = field(default=())
+    thresholds: Sequence[Threshold] = field(default=())
 
 
 def read(file: str) -> Configuration:
@@ -208,8 +207,12 @@ def parse(text: str, file: str) -> Configuration:
     found = Configuration(file, _store(section(file, top, "store")), _http(section(file, top, "http")),
                           _graphite(section(file, top, "graphite")), _mqtt(section(file, top, "mqtt")),
                           tokens_of(section(file, top, "tokens")), limits_of(section(file, top, "limits")),
-                          [mapping_of(table) for table in rows_of(file, "mapping", top.take("mapping"))])
+                          [mapping_of(table) for table in rows_of(file, "mapping", top.take("mapping"))],
+                          [threshold_of(each) for each in rows_of(file, "threshold", top.take("threshold"))])
     top.end()
+    for each in found.thresholds:
+        if each.topic is not None and found.mqtt.broker is None:
+            raise ConfigurationError(file, "[[threshold]] topic", "[mqtt] names no broker")
     return found
 
 
@@ -280,83 +283,4 @@ def limits_of(table: Table) -> Limits:
         raise table.wrong("body", f"{found.body} bytes are more than the {found.bodies} of all bodies")
     if found.lines > found.queue:
         raise table.wrong("lines", f"{found.lines} lines are more than the queue of {found.queue} takes")
-    return found
-
-
-def mapping_of(table: Table) -> Mapping:
-    """One entry `[[mapping]]`."""
-    match = table.text("match")
-    if match is None:
-        raise table.wrong("match", "a pattern of names is to stand here")
-    glob = _glob(table, "match", match)
-    source = table.text("source")
-    if source is not None and source not in SOURCES:
-        raise table.wrong("source", f"one of {', '.join(SOURCES)} is to stand here, and not {source!r}")
-    tags = {key: _glob(table, "tags", pattern) for key, pattern in table.words("tags").items()}
-    json, json_time = table.text("json"), table.text("json_time")
-    if json_time is not None and json is None:
-        raise table.wrong("json_time", "there is no time of a message without `json`")
-    found = Mapping(glob, source, tags, _stream(table, glob), table.text("target") or TARGET,
-                    table.whole("within", 1, 2**32 - 1), _description(table), _words(table), json, json_time,
-                    table.truth("ignore"), table.span("lateness", 0))
-    found = _timed(found, "time" in table)
-    table.end()
-    if found.lateness > HOUR:
-        raise table.wrong("lateness", "a reading waits an hour at most")
-    if not TARGETS.fullmatch(found.target):
-        raise table.wrong("target", f"{NO_TARGET}, and not {found.target!r}")
-    return found
-
-
-def _glob(table: Table, key: str, pattern: str) -> Glob:
-    try:
-        return Glob(pattern)
-    except GlobError as error:
-        raise table.wrong(key, str(error)) from None
-
-
-def _stream(table: Table, glob: Glob) -> str | None:
-    """The template of the stream's name, each of whose places is one that the pattern has."""
-    template = table.text("stream")
-    for place in PLACE.findall(template or ""):
-        if place.isdigit() and place not in map(str, range(1, glob.captures + 1)):
-            raise table.wrong("stream", f"{{{place}}}: the pattern has {glob.captures} stars")
-        if not place:
-            raise table.wrong("stream", "{}: a place is {1}, {name} or the name of a tag")
-    if template and re.search(r"[{}]", PLACE.sub("", template)):
-        raise table.wrong("stream", f"a brace has no other: {template!r}")
-    return template
-
-
-def _timed(mapping: Mapping, is_told: bool) -> Mapping:
-    """A mapping whose times are fine enough where none is told and they are the service's."""
-    is_fine = mapping.words or mapping.json_time is None and (mapping.json or mapping.source == "mqtt")
-    if is_told or not is_fine or mapping.within is not None:
-        return replace(mapping, time_told=is_told)
-    return replace(mapping, description=mapping.description._replace(time=FINE))
-
-
-def _description(table: Table) -> Description:
-    scale, time, since = table.decimal("scale"), table.text("time"), table.take("since")
-    unit, labels, rounding = table.text("unit"), table.words("labels"), table.text("rounding")
-    kind, overflow = table.text("kind"), table.decimal("overflow")
-    try:
-        return described(scale, time, since, unit, labels, rounding, kind, overflow)
-    except SummaryStoreError as error:
-        raise table.wrong("scale, time, since, rounding, kind or overflow", str(error)) from None
-
-
-def _words(table: Table) -> Words[str, str]:
-    """The numbers that words such as ON stand for."""
-    given = table.take("words")
-    if given is None:
-        return {}
-    words = Table("", "", given) if isinstance(given, dict) else None
-    if words is None or not isinstance(given, dict):
-        raise table.wrong("words", "a table is to stand here, such as { ON = 1, OFF = 0 }")
-    found = {}
-    for word, number in given.items():
-        if number != IGNORE and (isinstance(number, bool) or not isinstance(number, (int, Decimal))):
-            raise table.wrong("words", f"a number, or {IGNORE!r}, is to stand at {word!r}")
-        found[word] = str(number)
     return found

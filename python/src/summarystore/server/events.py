@@ -17,7 +17,7 @@ MOST_HELD = 1000
 
 @dataclass(frozen=True, slots=True)
 class Event:
-    """One event: `reading`, `landmark`, `health` or `lost`, with what belongs to it."""
+    """One event: `reading`, `landmark`, `threshold`, `health` or `lost`, with what belongs to it."""
 
     kind: str
     data: Mapping[str, object]

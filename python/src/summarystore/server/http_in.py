@@ -12,6 +12,7 @@ from . import asked, exactjson, linebody
 from .answers import error_answer, json_answer
 from .app import Service
 from .bodies import body_of, text_of
+from .column import columns_of, in_order
 from .endpoints import Access, ApiError, Endpoint
 from .intake import Incoming, Outcome, Result
 from .linebody import Body
@@ -54,7 +55,7 @@ class HttpIn:
         columns = await self._service.intake.append_columns(body.columns)
         if not body.mistakes and all(each.count(STORED) == len(each) for each in columns):
             return web.Response(status=204, headers={"X-Influxdb-Version": VERSION})
-        lines, outcomes = body.lines, body.in_order(columns)
+        lines, outcomes = body.lines, in_order(body.columns, columns)
         words = 0
         if not self._service.configuration.http.strict:
             told = [(line, outcome) for line, reading, outcome in zip(lines, body.readings(), outcomes)
@@ -78,7 +79,8 @@ class HttpIn:
         if len(rows) > limits.lines:
             raise ApiError(413, "too_many", f"a body has at most {limits.lines} readings")
         readings = [_reading(row, at) for at, row in enumerate(rows)]
-        return _appended(await self._service.intake.append_many(readings))
+        columns = columns_of(readings)
+        return _appended(in_order(columns, await self._service.intake.append_columns(columns)))
 
     async def landmark(self, request: web.Request) -> web.StreamResponse:
         """`POST /api/landmark`: opens one, or closes the one that is open."""

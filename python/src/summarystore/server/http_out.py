@@ -8,6 +8,7 @@ from collections.abc import AsyncIterator, Mapping, Sequence
 
 from aiohttp import web
 
+from ..description import unit_of
 from ..interval import Presence
 from ..kinds import KINDS, one_of
 from ..records import Stream, Window
@@ -62,6 +63,7 @@ class HttpOut:
             newest = {"time": meaning.shown_time(last.newest), "lo": last.value.lo, "hi": last.value.hi}
         return {"name": stream.name, "unit": told.unit if told else None,
                 "kind": told.meter.kind if told and told.meter else None,
+                "integrate": told.meter.integrate if told and told.meter else None,
                 "labels": dict(told.labels) if told else {}, "target": stream.target, "within": stream.within,
                 "values": stream.values, "windows": stream.windows, "landmarks": stream.landmarks,
                 "open_landmark": self._service.landmarks.is_open(stream),
@@ -105,7 +107,7 @@ class HttpOut:
         meaning = self._meaning(name)
         first, last = await self._span(name, meaning, *_range(words, meaning))
         told: dict[str, object] = {"stream": name, "kind": kind,
-                                   "unit": meaning.description.unit if meaning.description else None,
+                                   "unit": unit_of(meaning.description, kind),
                                    "from": _seconds(meaning, first), "to": _seconds(meaning, last)}
         if first is None or last is None:
             return table_answer(request, {**told, "step": None, "rows": []}, [])

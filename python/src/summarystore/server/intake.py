@@ -32,23 +32,18 @@ import re
 import time as clock
 from collections import Counter
 from collections.abc import Callable, Mapping, Sequence
-from typing import Protocol, cast
 
-from .. import aio, errors
 from ..decimals import decimal_of
-from ..errors import NotANumberError, ProcessEndedError, SummaryStoreError
-from .column import Column
-from .column_delivery import delivery_of
+from ..errors import NotANumberError
 from .counters import Counters
-from .delivery import Delivery, Given, Row
 from .errors import BusyError, UnavailableError
 from .events import Hub
 from .lanes import SECOND, Batch, Incoming, Lane, Pending
 from .mapping import Mappings, Route, UnmatchedNames, full_name
-from .meaning import Meaning, seconds_of
-from .outcomes import IGNORED, STORED, TOO_FAR, TOO_MANY, Outcome, Result, Word, refused
+from .meaning import seconds_of
+from .outcomes import AGAIN, IGNORED, STORED, TOO_FAR, TOO_MANY, Outcome, Result, Word, refused
 from .recent import Recent
-from .streams import Streams
+from .storing import Opened, Storing
 
 __all__ = ["Incoming", "Intake", "Opened", "Outcome", "Result"]
 
@@ -61,59 +56,30 @@ ANSWERS = 30.0
 """So many seconds a reading may wait whose sender waits for the answer, unless that says otherwise."""
 AGAIN_AFTER = (0.1, 1.0)
 """Seconds until readings whose fate isn't known are tried again, first and at most."""
-TOLD_AGAIN = 3600.0
-"""After so many seconds it is told again that a stream lies ahead of the clock."""
 UNPRINTED = re.compile("[\\x00-\\x1f\\x7f-\\x9f\\u2028\\u2029"
                        "\\u061c\\u200e\\u200f\\u202a-\\u202e\\u2066-\\u2069\\ud800-\\udfff]")
 """What no name has: characters that end a line or control it, those that turn the direction of a text, and
 halves of surrogates."""
 
 
-class Opened(Protocol):
-    """The store behind the service, as far as it is open."""
-
-    @property
-    def taking(self) -> aio.Store | None:
-        """The store, while it takes events."""
-
-    @property
-    def why(self) -> str:
-        """Why it doesn't take any."""
-
-    def ended(self, error: Exception) -> None:
-        """Is told that the program of the store ended under a call."""
-
-    def answered(self) -> None:
-        """Is told that the store has answered."""
-
-    async def wait_open(self) -> aio.Store:
-        """Waits until it takes events. Raises UnavailableError where it won't any more."""
-
-
-class Intake:
+class Intake(Storing):
     """Takes readings, and brings them into the store by streams."""
 
     def __init__(self, opened: Opened, mappings: Mappings, *, queue: int, longest_name: int = 512,
                  unmatched: UnmatchedNames | None = None, hub: Hub | None = None,
                  counters: Counters | None = None, future: int = FUTURE, answers: float = ANSWERS,
                  recent: Recent | None = None) -> None:
-        self._opened = opened
+        super().__init__(opened, recent, hub, counters, future)
         self.mappings = mappings
-        self.streams = Streams()
-        self._recent = Recent() if recent is None else recent
         self.unmatched = UnmatchedNames(1000) if unmatched is None else unmatched
-        self.counters = Counters() if counters is None else counters
-        self._hub = Hub() if hub is None else hub
         self._most = queue
         self._longest_name = longest_name
-        self._future = future
         self._answers = answers
         self._lanes: dict[str, Lane] = {}
         self._tasks: set[asyncio.Task[None] | asyncio.Task[Sequence[Outcome]]] = set()
         self._released = asyncio.Event()
         self._closed = False
         self._ours = 0
-        self._told: dict[str, float] = {}
         self.queued = 0
         """How many readings are under way."""
 
@@ -246,12 +212,6 @@ class Intake:
             return Outcome(Result.REFUSED, "name", "a name has no control characters")
         return None
 
-    def _current(self, route: Route) -> Route:
-        """The stream that takes the readings, where another was made in the place of one."""
-        store = self._opened.taking
-        stream = route.stream if store is None else self.streams.current(store, route.stream)
-        return route if stream == route.stream else Route(stream, route.mapping)
-
     def _route(self, reading: Incoming, now: int) -> Route | Outcome:
         """The stream of a reading by the mapping, or else the one that stands with its name."""
         name = full_name(reading.name, reading.tags)
@@ -278,7 +238,8 @@ class Intake:
                     await lane.change()
                     continue
                 async with self.streams.alone(lane.route.stream):
-                    found = await self._outcomes(lane, taken)
+                    moved = await self._moves(lane.route)
+                    found = [AGAIN] * len(taken) if moved else await self._outcomes(lane, taken)
                 self.counters.took("append", clock.monotonic() - taken[0].came)
                 self._end(lane, taken, found)
         finally:
@@ -310,81 +271,6 @@ class Intake:
             return not lane.is_too_long(pending.until)
         return pending.until is None and not outcome.final
 
-    async def _outcomes(self, lane: Lane, taken: Sequence[Pending] | Column) -> Sequence[Outcome]:
-        """What becomes of readings of one stream. What fails here fails none of the service."""
-        try:
-            return await self._stored(lane, taken)
-        except Exception as error:      # of ours: what was sent isn't known
-            log.exception("append failed: stream=%r", lane.route.stream)
-            return [Outcome(Result.UNKNOWN, "failed", f"{type(error).__name__}: {error}")] * len(taken)
-
-    async def _stored(self, lane: Lane, taken: Sequence[Pending] | Column) -> Sequence[Outcome]:
-        store, route = self._opened.taking, lane.route
-        if store is None:
-            return [Outcome(Result.NOT_STORED, "store_unavailable", self._opened.why)] * len(taken)
-        try:
-            meaning = await self.streams.made(store, route)
-            newest = await self.streams.newest(store, route.stream)
-        except (ProcessEndedError, errors.StoreClosedError, errors.ProtocolError, OSError) as error:
-            self._opened.ended(error)
-            return [Outcome(Result.NOT_STORED, "interrupted", str(error))] * len(taken)
-        except SummaryStoreError as error:
-            return [refused(error)] * len(taken)
-        now = clock.time_ns()
-        values = self.streams.values(route.stream)
-        self._recent.settle(route.stream, values, newest)
-        delivery = self._delivery(route, meaning, taken, newest, now, values)
-        found = await delivery.send(store)
-        self.streams.came_to(route.stream, delivery.newest, delivery.values)
-        if delivery.ended is not None:
-            self._opened.ended(delivery.ended)
-        else:
-            self._opened.answered()
-        if delivery.unknown_stream:
-            self.streams.forget(route.stream)
-            self._recent.forget(route.stream)
-        if delivery.too_far:
-            self._wait_for_the_clock(lane, delivery.free_at - now)
-        if delivery.again:
-            self.streams.forget_newest(route.stream)
-        if delivery.ended is None:
-            lane.went()
-        if not isinstance(taken, Column) and (delivery.ended is not None or delivery.again):
-            _keep_steps(taken, delivery.rows, found)
-        self.counters.add("batches")
-        if self._hub.listens(route.stream):
-            await self._tell(store, route.stream, meaning, delivery.rows, found)
-        return found
-
-    def _delivery(self, route: Route, meaning: Meaning, taken: Sequence[Pending] | Column, newest: int,
-                  now: int, values: int | None) -> Delivery:
-        if isinstance(taken, Column):
-            return delivery_of(taken, route.stream, meaning, newest, self._recent, now, values)
-        words = {} if route.mapping is None else route.mapping.words
-        given = [Given(each.time, each.reading.value, each.is_ours, each.step) for each in taken]
-        return Delivery(route.stream, meaning, words, given, newest, self._recent, now, values)
-
-    def _wait_for_the_clock(self, lane: Lane, nanoseconds: int) -> None:
-        """The stream lies ahead of the clock: what has no time of its own waits."""
-        lane.lies_ahead(nanoseconds / SECOND)
-        now, stream = clock.monotonic(), lane.route.stream
-        if now >= self._told.get(stream, now):
-            self._told[stream] = now + TOLD_AGAIN
-            log.warning("stream ahead of the clock: stream=%r seconds=%d: what has no time of its own waits; "
-                        "a finer `time` or a restart mends it", stream, nanoseconds // SECOND)
-
-    async def _tell(self, store: aio.Store, stream: str, meaning: Meaning, rows: Sequence[Row],
-                    found: Sequence[Outcome]) -> None:
-        """Tells those who listen what was stored."""
-        stored = [row for row, outcome in zip(rows, found) if outcome is STORED]
-        try:
-            kept = await store.kept(stream, stored)
-        except (SummaryStoreError, OSError):
-            return      # the program has ended meanwhile: they see it in the store
-        for time, value in kept:
-            self._hub.tell("reading", {"stream": stream, "time": meaning.seconds(cast(int, time)),
-                                       "value": meaning.shown(value)})
-
     def _settle(self, settled: Sequence[tuple[Pending, Outcome]]) -> None:
         """Readings have their fate: those who wait for it are told, and for room."""
         counted: Counter[tuple[str, Result, str]] = Counter()
@@ -401,13 +287,6 @@ class Intake:
                 self.counters.add("refused", source, code, count=count)
             self.queued -= count
         self._released.set()
-
-
-def _keep_steps(taken: Sequence[Pending], rows: Sequence[Row], found: Sequence[Outcome]) -> None:
-    """Where it isn't known whether a reading of ours is stored, it is tried again at the same step."""
-    for pending, row, outcome in zip(taken, rows, found):
-        if pending.is_ours and (outcome.result is Result.UNKNOWN or outcome.waits):
-            pending.step = row[0] if outcome.result is Result.UNKNOWN else None
 
 
 def _no_number(value: Word, route: Route) -> Outcome | None:

@@ -14,7 +14,6 @@ from . import lineprotocol
 from .column import FEW, Column
 from .lanes import Incoming
 from .lineprotocol import Mistake
-from .outcomes import Outcome
 
 SOURCE = "influx"
 SLICE = 500
@@ -39,13 +38,6 @@ class Body:
         placed = [each for column in self.columns for each in column.readings()]
         placed.sort(key=lambda each: each[0])
         return [reading for _, reading in placed]
-
-    def in_order(self, found: Sequence[Sequence[Outcome]]) -> Sequence[Outcome]:
-        """What became of each reading, from what became of those of each column."""
-        placed = [(place, outcome) for column, outcomes in zip(self.columns, found)
-                  for place, outcome in zip(column.places, outcomes)]
-        placed.sort(key=lambda each: each[0])
-        return [outcome for _, outcome in placed]
 
 
 Add = Callable[[str], None]

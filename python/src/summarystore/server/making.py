@@ -6,13 +6,14 @@ from collections.abc import Mapping, Sequence
 
 from aiohttp import web
 
+from ..gauges import BESIDE
 from . import asked, exactjson
 from .answers import json_answer
 from .app import Service
 from .bodies import body_of
 from .endpoints import Access, Endpoint
 
-TEXTS = ("target", "time", "since", "unit", "rounding", "kind")
+TEXTS = ("target", "time", "since", "unit", "rounding", "kind", "integrate", "rule")
 NUMBERS = ("scale", "overflow")
 KEYS = ("name", "within", "labels", "exist_ok", *TEXTS, *NUMBERS)
 Given = Mapping[str, object]
@@ -67,9 +68,12 @@ class Making:
                 name, target, within, exist_ok=exist_ok, scale=given.get("scale"),
                 overflow=given.get("overflow"), labels=_labels(given),
                 time=_text(given, "time"), since=_text(given, "since"), unit=_text(given, "unit"),
-                rounding=_text(given, "rounding"), kind=_text(given, "kind"))
+                rounding=_text(given, "rounding"), kind=_text(given, "kind"),
+                integrate=_text(given, "integrate"), rule=_text(given, "rule"))
             streams.forget(name)
             streams.came(name)
+            if given.get("kind") == "gauge":
+                streams.came(name + BESIDE)
         return json_answer({"stream": name, "values": made.values, "windows": made.windows})
 
     async def describe(self, request: web.Request) -> web.StreamResponse:

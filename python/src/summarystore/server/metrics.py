@@ -120,7 +120,7 @@ def io_of(pid: int | None) -> dict[str, int]:
 
 
 def _is_good(state: str) -> bool:
-    return state.startswith(("listening", "connected"))
+    return state.startswith(("listening", "connected", "watching"))
 
 
 def _gauge(name: str, told: str, value: float) -> Metric:

@@ -152,6 +152,12 @@ class Subscriber:
             if message.mid is not None and message.connection == self._connection:
                 self._acknowledge(message.mid)
 
+    def publish(self, topic: str, payload: bytes) -> bool:
+        """Sends a message of QoS 1. Whether it is on its way."""
+        if self._client is None or not self.connected:
+            return False
+        return bool(self._client.publish(topic, payload, 1).rc == paho.MQTT_ERR_SUCCESS)
+
     def _acknowledge(self, mid: int) -> None:
         if self.connected and self._client is not None:
             self._client.acknowledge(mid)

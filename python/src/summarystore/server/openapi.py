@@ -15,8 +15,8 @@ NUMBER: Json = {"type": ["number", "null"]}
 TIME: Json = {"oneOf": [{"type": "number", "description": "seconds since 1970"},
                         {"type": "string", "description": "ISO 8601 with a zone, `now`, or `now-1h`"}]}
 KINDS = ("count", "sum", "mean", "min", "max")
-COUNTERS = ("increase", "value_at")
-"""What counters alone are asked."""
+METERS = ("increase", "integral", "time_mean")
+"""What counters and gauges alone are asked."""
 TRUTH: Json = {"type": "boolean"}
 ENDS: Json = {"lo": NUMBER, "hi": NUMBER, "mid": NUMBER, "exact": TRUTH, "none": TRUTH, "maybe_none": TRUTH}
 READING: Json = {"type": "object", "required": ["stream", "value"], "additionalProperties": False,
@@ -55,11 +55,11 @@ def _paths() -> Json:
         "/api/query": {"get": operation(
             "One answer about a range of times, both ends included. Over several streams it has `matched`, "
             "and of a mean its parts.",
-            (ONE, SEVERAL, word("kind", {"enum": [*KINDS, *COUNTERS, "has"]}, True), *RANGE,
+            (ONE, SEVERAL, word("kind", {"enum": [*KINDS, *METERS, "value_at", "has"]}, True), *RANGE,
              word("value", NUMBER, False, "of `has`")), reference("Answer"))},
         "/api/series": {"get": operation(
             "Answers about one span of time after another. Over several streams `from` has to be given.",
-            (ONE, SEVERAL, word("kind", {"enum": [*KINDS, COUNTERS[0]]}), *RANGE,
+            (ONE, SEVERAL, word("kind", {"enum": [*KINDS, *METERS]}), *RANGE,
              word("step", TEXT, False, "seconds, or a text such as 15min"),
              word("rows", COUNT, False, "about so many rows, in the place of a step")), reference("Series"))},
         "/api/access": {"get": operation(
@@ -85,12 +85,15 @@ def _paths() -> Json:
             "Takes readings. Answered after they are on the disk.", (), reference("Appended"),
             _in_json({"oneOf": [READING, {"type": "object", "properties": {
                 "readings": {"type": "array", "items": READING}}}]}), Access.WRITE)},
+        "/api/thresholds": {"get": operation(
+            "The thresholds of the file, and whether each is crossed: yes, no, maybe or unknown", (),
+            {"type": "object"})},
         "/api/landmark": {"post": operation(
             "Opens a landmark, or closes the open one", (), {"type": "object"},
             _in_json({"type": "object", "required": ["stream", "action"], "properties": {
                 "stream": TEXT, "action": {"enum": ["open", "close"]}, "time": TIME}}), Access.WRITE)},
         "/api/events": {"get": operation(
-            "What happens, as server-sent events: reading, landmark, health, lost",
+            "What happens, as server-sent events: reading, landmark, threshold, health, lost",
             (word("stream", {"type": "array", "items": TEXT}, False, "those to listen to; none are all"),),
             TEXT, kind="text/event-stream")},
         "/api/v1/write": {"post": operation(
@@ -125,7 +128,7 @@ def document() -> Json:
         "Error": _object({"error": {"type": "string", "description": "a word for the reason"},
                           "reason": TEXT}),
         "Stream": _object({
-            "name": TEXT, "unit": {"type": ["string", "null"]}, "kind": {"enum": ["counter", None]},
+            "name": TEXT, "unit": {"type": ["string", "null"]}, "kind": {"enum": ["counter", "gauge", None]},
             "labels": {"type": "object"}, "target": TEXT,
             "within": {"type": ["integer", "null"]}, "values": COUNT, "windows": COUNT, "landmarks": COUNT,
             "open_landmark": {"type": ["boolean", "null"]}, "last": NUMBER,

@@ -10,7 +10,8 @@ TEXTS: Json = {"type": "object", "additionalProperties": TEXT}
 DESCRIBED: Json = {"name": TEXT, "unit": TEXT, "labels": TEXTS, "rounding": TEXT}
 MADE: Json = {**DESCRIBED, "target": TEXT, "within": {"type": "integer"}, "exist_ok": {"type": "boolean"},
               "scale": {"type": ["string", "number"]}, "overflow": {"type": ["string", "number"]},
-              "time": TEXT, "since": TEXT, "kind": TEXT}
+              "time": TEXT, "since": TEXT, "kind": {"enum": ["counter", "gauge"]},
+              "integrate": {"enum": ["s", "min", "h", "d"]}, "rule": {"enum": ["step", "trapezoid"]}}
 
 
 def _body(properties: Json, *required: str) -> Json:

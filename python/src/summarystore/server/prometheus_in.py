@@ -14,6 +14,7 @@ from . import http_in
 from .answers import error_answer
 from .app import Service
 from .bodies import body_of
+from .column import columns_of, in_order
 from .endpoints import Access, ApiError, Endpoint
 from .intake import Incoming, Outcome, Result
 from .prometheus_message import MessageError, Sample, samples, unpacked
@@ -47,8 +48,8 @@ class PrometheusIn:
         ended = len(found) - len(kept)
         if ended:
             self._service.counters.add("readings", SOURCE, Result.IGNORED.value, count=ended)
-        outcomes = await self._service.intake.append_many([_reading(sample) for sample in kept])
-        return _written(kept, outcomes)
+        columns = columns_of(map(_reading, kept))
+        return _written(kept, in_order(columns, await self._service.intake.append_columns(columns)))
 
 
 def _reading(sample: Sample) -> Incoming:

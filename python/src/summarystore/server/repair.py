@@ -15,15 +15,15 @@ from contextlib import AsyncExitStack, asynccontextmanager
 from aiohttp import web
 
 from .. import aio
-from ..description import Description, meter_words
 from ..errors import UnknownStreamError
+from ..gauges import BESIDE
 from ..records import Stream
 from . import asked, exactjson
 from .answers import json_answer
 from .app import Service
 from .bodies import body_of
 from .endpoints import Access, ApiError, Endpoint
-from .streams import RESTARTS
+from .restarts import restart
 
 log = logging.getLogger("summarystored")
 DONE = {"rename": "renamed", "restart": "restarted"}
@@ -43,8 +43,11 @@ class Repair:
         async with self._alone(name):
             store = self._service.store()
             stream = await self._stream(store, name)
+            beside = store.beside(name)
             await store.drop(name)
             self._streams.forget(name)
+            if beside is not None:
+                self._streams.forget(beside)
             self._service.intake.moved(name)
             await self._service.landmarks.moved(name, None)
         log.warning("stream dropped: stream=%r values=%d by=%s", name, stream.values, request.remote)
@@ -82,9 +85,13 @@ class Repair:
         return found
 
     async def _rename(self, store: aio.Store, name: str, new: str) -> None:
+        beside = store.beside(name)
         await asyncio.to_thread(store.rename, name, new)
         self._streams.forget(name)
         self._streams.came(new)
+        if beside is not None:
+            self._streams.forget(beside)
+            self._streams.came(new + BESIDE)
         await self._service.landmarks.moved(name, new)
 
     async def _restart(self, store: aio.Store, stream: Stream, new: str) -> None:
@@ -92,11 +99,7 @@ class Repair:
         meaning, last = self._streams.meaning(store, name), await store.last(name)
         if last is None or meaning.nanoseconds(meaning.count_of(last.time)) <= clock.time_ns():
             raise ApiError(409, "not_ahead", f"the newest time of {name!r} doesn't lie ahead of the clock")
-        told = meaning.description or Description()
-        await store.create(new, stream.target, stream.within, scale=told.scale, time=told.time,
-                           since=told.since, unit=told.unit, labels={**told.labels, RESTARTS: name},
-                           rounding=told.rounding, **meter_words(told))
-        self._streams.came(new)
+        await restart(self._streams, store, stream, new)
 
 
 def _change(body: bytes) -> tuple[str, str]:

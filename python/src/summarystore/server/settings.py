@@ -30,7 +30,8 @@ class Mapping:
     for those that aren't kept. `json` is where the value stands in a message that is JSON, as
     `sensors.0.temperature`, and `json_time` where its time stands, if it has one. With `ignore` what is
     its own isn't kept, and that is no refusal. A reading waits `lateness` nanoseconds for earlier ones.
-    `time_told`: the file says how fine times are.
+    `time_told`: the file says how fine times are. `restart` is the name of the stream that takes the readings
+    of one whose newest time lies ahead of the clock, with `{stream}` for the name of that one.
     """
 
     match: Glob
@@ -46,15 +47,17 @@ class Mapping:
     ignore: bool = False
     lateness: int = 0
     time_told: bool = True
+    restart: str | None = None
 
 
 def described(scale: object | None, time: str | None, since: object | None, unit: str | None,
               labels: Words[str, str], rounding: str | None, kind: str | None = None,
-              overflow: object | None = None) -> Description:
+              overflow: object | None = None, integrate: str | None = None, rule: str | None = None
+              ) -> Description:
     """The description of the streams of a mapping. A network has clock times, so there is always one."""
     if since is not None and not isinstance(since, (str, datetime.date)):
         raise DescriptionError(f"a day is written as 1958-01-01: {since}")
     found = description_of(scale=scale, time=time or "s", since=since, unit=unit, labels=labels or None,
-                           rounding=rounding, kind=kind, overflow=overflow)
+                           rounding=rounding, kind=kind, overflow=overflow, integrate=integrate, rule=rule)
     assert found is not None
     return found

@@ -12,6 +12,7 @@ from .. import aio
 from ..description import meter_words
 from ..errors import (RefusedError, StreamExistsError, SummaryStoreError, TooManyStreamsError,
                       UnknownStreamError)
+from ..gauges import BESIDE, gauge_of
 from ..records import Stream
 from .mapping import Route
 from .meaning import Meaning
@@ -169,6 +170,8 @@ class Streams:
             log.info("stream made: stream=%r target=%r", name, mapping.target)
             self._values[name] = 0
         self._standing.add(name)
+        if gauge_of(told) is not None:
+            self._standing.add(name + BESIDE)
 
     async def _describe(self, store: aio.Store, name: str, mapping: Mapping) -> None:
         """Brings what a mapping says of a stream that stands to it, as far as it can be changed."""

@@ -1,0 +1,72 @@
+"""What a gauge is asked: its integral over a range, and its mean by time.
+
+An increment stands at the time of the reading that ended it. So those later than t1 and not later than t2 add
+up to the integral from the newest reading until t1 to the newest until t2.
+"""
+
+from __future__ import annotations
+
+from collections.abc import Sequence
+
+from . import calls, wire
+from .calls import Call
+from .codec import Codec
+from .description import SPANS
+from .errors import refusal_of
+from .gauges import increments_of, must_be_gauge, seconds
+from .interval import Interval
+from .scale import Scale
+from .series import Series
+from .wire import Reply
+
+KINDS = ("integral", "time_mean")
+"""What a gauge is asked."""
+Rows = Sequence[tuple[int, Interval]]
+
+
+def query(codec: Codec, kind: str, first: object, last_time: object, begun: int | None) -> Call[Interval]:
+    """`calls.query`, which gauges may be asked more. `begun` is the first time of the increments, where the
+    mean by time is asked."""
+    if kind not in KINDS:
+        return calls.query(codec, kind, first, last_time)
+    begin, end = codec.begin(first), codec.end(last_time)
+    inner = _rows(codec, kind, begin, end, max(1, end - begin), begun)
+    return Call(inner.lines, lambda replies: inner.result(replies)[0][1])
+
+
+def series(name: str, codec: Codec, kind: str, first: object, last_time: object, step: object,
+           begun: int | None) -> Call[Series]:
+    """The same in rows: from each step until the next."""
+    if kind not in KINDS:
+        return calls.series(name, codec, kind, first, last_time, step)
+    inner = _rows(codec, kind, codec.begin(first), codec.end(last_time), codec.step(step), begun)
+    return Call(inner.lines, lambda replies: calls.series_of(name, codec, kind, inner.result(replies)))
+
+
+def _rows(codec: Codec, kind: str, begin: int, end: int, each: int, begun: int | None) -> Call[Rows]:
+    description, meter, beside = must_be_gauge(codec)
+    if each < 1 or end < begin:
+        raise refusal_of("RANGE", f"{kind} {codec.short} {begin} {end} {each}")
+    scale = Scale(increments_of(description).scale, None)
+    last = calls.last_numbers(codec)
+    lines = [*last.lines, wire.series(beside, "sum", begin + 1, end, each)] if end > begin else last.lines
+
+    def shown(start: int, added: Interval, newest: int) -> Interval:
+        if kind == "integral":
+            return scale.interval(added) / SPANS[str(meter.integrate)]
+        length = 0 if begun is None else min(start + each, end, newest) - max(start, begun)
+        return scale.interval(added) / seconds(description, length) if length > 0 else Interval.nothing()
+
+    def result(replies: Sequence[Reply]) -> Rows:
+        found = last.result(replies[:1])
+        newest = found[1] if len(found) == 4 else -1
+        added = [_row(row) for row in wire.rows_of(replies[1], "series")] if end > begin else [
+            (begin, Interval(0))]
+        return [(start, shown(start, interval, newest)) for start, interval in added]
+    return Call(lines, result)
+
+
+def _row(row: str) -> tuple[int, Interval]:
+    """A row of increments, which begins one step behind that of the answer."""
+    start, _, text = row.partition(" ")
+    return wire.numbers(start, 1)[0] - 1, wire.interval_of(text)
