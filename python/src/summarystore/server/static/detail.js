@@ -6,7 +6,7 @@ import { showFacts, showName, showNewest } from "./facts.js";
 import { csvOf, fileName, saveFile } from "./csv.js";
 import { listen } from "./gestures.js";
 import { partsOf } from "./list.js";
-import { KINDS, Loader } from "./loading.js";
+import { Loader, kindsOf } from "./loading.js";
 import { marked } from "./marking.js";
 import { brief, isKnown, words } from "./numbers.js";
 import { Others } from "./others.js";
@@ -15,9 +15,13 @@ import { Reader } from "./reader.js";
 import * as times from "./times.js";
 import { RANGES, View } from "./view.js";
 
-const NAMES = { mean: "Mean", min: "Least", max: "Greatest", sum: "Sum", count: "Readings" };
+const NAMES = {
+  mean: "Mean", min: "Least", max: "Greatest", sum: "Sum", count: "Readings", increase: "Increase",
+  integral: "Integral", time_mean: "Mean by time",
+};
 const CAPTIONS = {
   mean: "Mean of each", min: "Least of each", max: "Greatest of each", sum: "Sum of each", count: "Readings in each",
+  increase: "Increase in each", integral: "Integral over each", time_mean: "Mean by time of each",
 };
 const RANGE_NAMES = { hour: "Hour", day: "Day", week: "Week", month: "Month", year: "Year", all: "All" };
 const LONGEST_TILE = 15;
@@ -67,11 +71,21 @@ export class Detail {
 
   /** The unit and the digits of what is shown. Readings are counted in themselves. */
   get unit() {
-    return this.kind === "count" ? "" : this.stream?.unit ?? "";
+    return this.unitOf(this.kind);
   }
 
   get digits() {
-    return this.kind === "count" ? 0 : this.stream?.digits ?? 0;
+    return this.digitsOf(this.kind);
+  }
+
+  unitOf(kind) {
+    const { unit, integrate } = this.stream ?? {};
+    if (kind === "count" || !unit) return "";
+    return kind === "integral" ? `${unit}·${integrate}` : unit;
+  }
+
+  digitsOf(kind) {
+    return kind === "count" ? 0 : this.stream?.digits ?? 0;
   }
 
   /** How wide the chart is, in pixels. */
@@ -131,7 +145,11 @@ export class Detail {
   show(stream, { kind, range, from, to, first, others = [] }) {
     const isOther = stream.name !== this.stream?.name;
     this.stream = stream;
-    this.kind = KINDS.includes(kind) ? kind : this.kind;
+    const kinds = kindsOf(stream);
+    this.kind = [kind, this.kind, "mean"].find((each) => kinds.includes(each));
+    for (const each of Object.keys(NAMES)) {
+      for (const part of [byId(`kind-${each}`), byId(`kind-${each}`).nextSibling]) part.hidden = !kinds.includes(each);
+    }
     const knownFirst = isOther ? null : this.view.limits.first;
     this.view.limits = { first: first ?? knownFirst, newest: times.within(stream.newest?.time ?? stream.last) };
     if (Number.isFinite(from) && Number.isFinite(to) && from < to) this.view.set(from, to);
@@ -164,7 +182,7 @@ export class Detail {
     this.reader.readAt(-1);
     this.model = { rows: [], outer: [], landmarks: [], values: [], step: 1 };
     this.plot?.draw({ ...this.model, newest: null, from: this.view.from, to: this.view.to, kind: this.kind });
-    for (const kind of KINDS) byId(`answer-${kind}`).textContent = "…";
+    for (const kind of kindsOf(this.stream)) byId(`answer-${kind}`).textContent = "…";
     this.over("");
   }
 
@@ -253,7 +271,7 @@ export class Detail {
     this.plot?.look(this.view.from, this.view.to);
     this.caption();
     this.reader.place();
-    this.loader.show(this.stream.name, this.view, this.kind);
+    this.loader.show(this.stream.name, this.view, this.kind, kindsOf(this.stream));
     if (this.waitsForFirst) this.busy(true, true);
     else this.loader.soon();
     this.changed();
@@ -262,7 +280,7 @@ export class Detail {
   ask() {
     this.plot?.look(this.view.from, this.view.to);
     this.caption();
-    this.loader.show(this.stream.name, this.view, this.kind);
+    this.loader.show(this.stream.name, this.view, this.kind, kindsOf(this.stream));
     this.loadedRoom = this.room;
     if (this.waitsForFirst) this.busy(true, true);
     else this.loader.load();
@@ -302,7 +320,7 @@ export class Detail {
   answers(answers) {
     for (const [kind, answer] of Object.entries(answers)) {
       const place = byId(`answer-${kind}`);
-      const given = [kind === "count" ? "" : this.stream.unit, kind === "count" ? 0 : this.stream.digits];
+      const given = [this.unitOf(kind), this.digitsOf(kind)];
       const text = brief(answer, ...given);
       say(place, text.length > LONGEST_TILE ? brief(answer, "", given[1]) : text);
       place.title = words(answer, ...given);

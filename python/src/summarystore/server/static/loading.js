@@ -10,6 +10,10 @@ const MOST_ROWS = 1200;
 const MARGIN = 0.25;
 const PAUSE = 160;
 export const KINDS = ["mean", "min", "max", "sum", "count"];
+/** What a meter is asked besides, by its kind. */
+export const METERS = { counter: ["increase"], gauge: ["integral", "time_mean"] };
+/** What a stream is asked. */
+export const kindsOf = (stream) => [...KINDS, ...METERS[stream?.kind] ?? []];
 
 /** The length of a row: as the room is, and no shorter than the readings are apart. */
 export function stepFor(view, width, readings) {
@@ -69,8 +73,8 @@ export class Loader {
     this.step = 1;
   }
 
-  show(stream, view, kind) {
-    Object.assign(this, { stream, view, kind });
+  show(stream, view, kind, kinds = KINDS) {
+    Object.assign(this, { stream, view, kind, kinds });
   }
 
   /** Asks anew for all that is seen, once hands have paused. */
@@ -126,7 +130,7 @@ export class Loader {
     const [series, marked, ...answers] = await Promise.all([
       this.series(step, timesFor(view, step), signal),
       this.landmarks(signal),
-      ...KINDS.map((each) => (each === "count" ? count : this.query(each, signal))),
+      ...this.kinds.map((each) => (each === "count" ? count : this.query(each, signal))),
     ]);
     Object.assign(this, series);
     this.onRows({ ...series, kind, landmarks: marked.landmarks, values: marked.values });
@@ -180,10 +184,10 @@ export class Loader {
     this.rows = joined(this.rows, later.rows);
     this.outer = joined(this.outer, later.outer);
     this.onRows({ rows: this.rows, outer: this.outer, step, kind });
-    this.answered(await Promise.all(KINDS.map((each) => this.query(each, signal))));
+    this.answered(await Promise.all(this.kinds.map((each) => this.query(each, signal))));
   }
 
   answered(answers) {
-    this.onAnswers(Object.fromEntries(answers.map((each, at) => [KINDS[at], each])));
+    this.onAnswers(Object.fromEntries(answers.map((each, at) => [this.kinds[at], each])));
   }
 }
