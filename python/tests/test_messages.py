@@ -69,4 +69,4 @@ def test_a_damaged_store_names_its_file_and_the_next_step(path: Path) -> None:
     for look in looks:
         with pytest.raises(errors.DamagedStoreError, match="damaged slot 5") as error:
             look(path)
-        assert str(path) in str(error.value) and f"tools/scrub {path}" in str(error.value)
+        assert str(path) in str(error.value) and f"summarystore-scrub {path}" in str(error.value)
