@@ -46,6 +46,22 @@ def holds(kind: str, found: Interval, values: Values) -> bool:
     return (min(values) if kind == "min" else max(values)) in found
 
 
+@given(st.lists(st.tuples(st.integers(-9, 9), SLACK, SLACK, st.sampled_from(("sure", "maybe", "none")))))
+def test_what_rose_together(given_rises: Sequence[tuple[int, int, int, str]]) -> None:
+    """Of those that may have none each may or may not have its truth."""
+    parts = [{"increase": Interval.nothing() if sure == "none" else
+              Interval(truth - below, truth + above, maybe_none=sure == "maybe")}
+             for truth, below, above, sure in given_rises]
+    found = joined(("increase",), [empty(("increase",)), *parts])["increase"]
+    sure = [truth for truth, _, _, kind in given_rises if kind == "sure"]
+    maybe = [truth for truth, _, _, kind in given_rises if kind == "maybe"]
+    assert found.none == (not sure and not maybe)
+    if not found.none:
+        assert found.maybe_none == (not sure)
+        for more in (maybe, maybe[:1], maybe[1:]) if maybe else ([],):
+            assert sum(sure) + sum(more) in found
+
+
 @given(PARTS)
 def test_the_truth_is_held(given_parts: Sequence[tuple[Values, bool, Mapping[str, tuple[int, int]]]]) -> None:
     parts = [part_of(*each) for each in given_parts]

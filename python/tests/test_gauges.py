@@ -133,10 +133,11 @@ def test_watts_give_watt_hours(path: Path) -> None:
         assert power.time_mean(DAY.format("01:30"), DAY.format("03:00")) == Decimal(100)
         assert power.query("mean") == Decimal("87.5")       # weighted by how often they came
         rows = store.series(POWER, "integral", DAY.format("01:00"), DAY.format("03:00"), "1h")
-        assert [str(row.interval) for row in rows] == ["150", "50"] and rows.unit == "W·h"
+        assert [row.interval for row in rows] == [150, 50] and rows.unit == "W·h"
         assert str(rows[1].start) == "2026-11-29 02:00:00+00:00"
         means = store.series(POWER, "time_mean", DAY.format("00:00"), DAY.format("05:00"), "1h")
-        assert [str(row.interval) for row in means] == ["none", "150", "50", "none", "none"]
+        assert [row.interval.none for row in means] == [True, False, False, True, True]
+        assert [row.interval for row in means][1:3] == [150, 50]
         assert means.unit == "W"
         assert power.integral(DAY.format("02:00"), DAY.format("02:00")) == 0
         assert power.time_mean(DAY.format("04:00"), DAY.format("05:00")).none

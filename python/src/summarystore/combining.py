@@ -14,6 +14,8 @@ from .interval import Interval, mean_of
 Part = Mapping[str, Interval]
 
 KINDS = ("count", "sum", "min", "max")
+METERS = ("increase", "integral")
+"""What meters are asked, which over several of them is the sum."""
 
 
 def needed(kind: str) -> Sequence[str]:
@@ -23,7 +25,7 @@ def needed(kind: str) -> Sequence[str]:
 
 def empty(kinds: Iterable[str]) -> Part:
     """What is known of no streams, and of a stream without a value."""
-    return {kind: Interval.nothing() if kind in ("min", "max") else Interval(0) for kind in kinds}
+    return {kind: Interval.nothing() if kind in ("min", "max", "increase") else Interval(0) for kind in kinds}
 
 
 def joined(kinds: Sequence[str], parts: Iterable[Part]) -> Part:
@@ -44,12 +46,25 @@ def _joined(kind: str, intervals: Sequence[Interval]) -> Interval:
         return least_of(intervals)
     if kind == "max":
         return greatest_of(intervals)
-    return total_of(intervals)
+    return rise_of(intervals) if kind == "increase" else total_of(intervals)
 
 
 def total_of(intervals: Iterable[Interval]) -> Interval:
     """Holds the sum of the truths that the intervals hold."""
     return sum(intervals, Interval(0))
+
+
+def rise_of(intervals: Iterable[Interval]) -> Interval:
+    """Holds the sum of the truths, where some of them may have none: a counter that took nothing rose by nothing.
+
+    There is none where none of them has one.
+    """
+    some = [each for each in intervals if not each.none]
+    if not some:
+        return Interval.nothing()
+    found = sum((Interval(min(0, each.lo), max(0, each.hi)) if each.maybe_none else each for each in some),
+                Interval(0))
+    return Interval(found.lo, found.hi, maybe_none=all(each.maybe_none for each in some))
 
 
 def least_of(intervals: Iterable[Interval]) -> Interval:

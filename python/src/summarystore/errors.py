@@ -266,8 +266,8 @@ class DamagedStoreError(ProcessEndedError, status=3):
     def __str__(self) -> str:
         if self.path is None:
             return super().__str__()
-        return (f"{self.path}: {super().__str__()}; `summarystore-scrub {shlex.quote(self.path)}` tells what is "
-                "damaged, and with an older copy of the file what that repairs")
+        return (f"{self.path}: {super().__str__()}; `summarystore-scrub {shlex.quote(self.path)}` tells what "
+                "is damaged, and with an older copy of the file what that repairs")
 
 
 class StoreFileError(ProcessEndedError, status=4):

@@ -175,19 +175,33 @@ def test_a_long_name_that_is_a_stream(folder: Path, taken: TakenNames, when: str
     assert kept(folder) == described(HALL) and list(again.refused) == [short("room")]
 
 
+def test_a_stream_that_was_renamed(folder: Path, taken: TakenNames, caplog: pytest.LogCaptureFixture) -> None:
+    """It has the name that came last, and its first name is free for another."""
+    taken.keep(taken.news(written(folder / "edge.store", described(HALL)).items()))
+    renamed: Described = {ROOM: (short(HALL), description())}
+    taken.keep(taken.news(written(folder / "edge.store", renamed).items()))
+    assert kept(folder) == renamed and not taken.refused
+    second = short_name(HALL, description(), 2)
+    both = {**renamed, HALL: (second, description())}
+    taken.keep(taken.news(written(folder / "edge.store", both).items()))
+    assert kept(folder) == both and not taken.refused
+    taken.keep(taken.news([(second, "")]))
+    back: Described = {HALL: (short(HALL), description())}
+    (folder / "r.store.names.json").unlink()
+    write_names(f"{folder}/r.store.names.json", renamed, str(folder / "r.store"))
+    again = TakenNames(str(folder / "r.store"))
+    again.keep(again.news(written(folder / "edge.store", back).items()))
+    assert kept(folder) == back and not again.refused and "not taken" not in caplog.text
+
+
 def test_a_name_of_another_stream(folder: Path, taken: TakenNames) -> None:
-    """It isn't the long name of the short one. What comes later may be, and what numbers mean stays."""
-    came = written(folder / "edge.store", {ROOM: (short(HALL), description())})
-    taken.keep(taken.news(came.items()))
+    """It isn't the long name of the short one, nor told to be renamed. What comes later may be, and what
+    numbers mean stays."""
+    taken.keep(taken.news([(short(HALL), json.dumps({"name": ROOM}))]))
     assert list(taken.refused) == [short(HALL)] and not kept(folder)
     came = written(folder / "edge.store", {HALL: (short(HALL), description("0.5"))})
     taken.keep(taken.news(came.items()))
     assert not taken.refused and kept(folder) == described(HALL)
-    (folder / "r.store.names.json").unlink()
-    write_names(f"{folder}/r.store.names.json", {ROOM: (short(HALL), description())}, str(folder / "r.store"))
-    again = TakenNames(str(folder / "r.store"))
-    again.keep(again.news(came.items()))
-    assert list(again.refused) == [short(HALL)] and list(kept(folder)) == [ROOM]
 
 
 @pytest.mark.parametrize("text", [

@@ -8,6 +8,8 @@ from pathlib import Path
 
 import pytest
 
+from summarystore.server.configuration import parse
+from summarystore.server.errors import ConfigurationError
 from summarystore.server.intake import Incoming
 
 from ..waiting import run, soon
@@ -136,3 +138,28 @@ def test_who_may_mend(path: Path, folder: Path) -> None:
                 assert "admin" in await client.text(method, AT, 401, headers=write)
             await client.text("DELETE", AT, headers=admin)
     run(work())
+
+
+@pytest.mark.parametrize("rows", [1, 8])
+def test_a_mapping_restarts(path: Path, rows: int) -> None:
+    """Readings one by one and in columns go into the stream that the mapping names, and the next ones too."""
+    async def work() -> None:
+        now = await spoil(path)
+        text = MAPPING + 'restart = "{stream}~2"\n'
+        lines = [[{"stream": NAME, "time": now - 50 + 10 * part + at, "value": 5} for at in range(rows)]
+                 for part in range(3)]
+        async with over_http(text, path) as client:
+            for part in lines[:2]:
+                assert (await client.post("/api/append", {"readings": part}))["stored"] == rows
+        async with over_http(text, path) as client:
+            assert (await client.post("/api/append", {"readings": lines[2]}))["stored"] == rows
+            for name, count in ((NAME, 2), (f"{NAME}~2", 3 * rows)):
+                assert (await client.get("/api/query", stream=name, kind="count"))["lo"] == count
+            assert len((await client.get("/api/streams"))["streams"]) == 2
+    run(work())
+
+
+@pytest.mark.parametrize("name", ["x", "{stream}", "{stream}{stream}", "{1}~2"])
+def test_what_is_no_name_of_a_restart(name: str) -> None:
+    with pytest.raises(ConfigurationError, match="restart"):
+        parse(f'{MAPPING}restart = "{name}"\n', "a.toml")

@@ -153,8 +153,8 @@ def test_a_broker(path: Path, folder: Path) -> None:
         try:
             mqtt = f'[mqtt]\nbroker = "127.0.0.1:{broker.port}"\ntopics = ["home/#"]\n'
             listens = await asyncio.create_subprocess_exec(
-                str(found("mosquitto_sub")), "-p", str(broker.port), "-q", "1", "-t", "alarm/cellar", "-C", "1",
-                "-W", "90", stdout=asyncio.subprocess.PIPE)
+                str(found("mosquitto_sub")), "-p", str(broker.port), "-q", "1", "-t", "alarm/cellar",
+                "-C", "1", "-W", "90", stdout=asyncio.subprocess.PIPE)
             async with over_http(mqtt + MAPPING + HOT + 'topic = "alarm/cellar"\n', path) as client:
                 await soon(lambda: client.service.listeners[0].state == "connected")
                 await asyncio.sleep(1)

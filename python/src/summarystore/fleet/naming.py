@@ -1,7 +1,7 @@
 """The long names of streams, as they go with frames.
 
 A stream's short name says its scale and its times. What STORE.names.json says besides, the long name, the
-unit, labels and the rounding, goes with each message of its frames. So a name comes with the first frame that
+unit, labels and the rounding, goes with each message of its frames, and whether it was renamed. So a name comes with the first frame that
 uses the short one, and as often as frames do. A follower has it in a names file of its own before it
 acknowledges them.
 """
@@ -52,8 +52,11 @@ class SentNames:
 
 def _text_of(name: str, short: str, description: Description) -> str:
     """What goes with a stream. Where its long name was lost, or all of it is too long, nothing does."""
-    given = {"name": name, "unit": description.unit, "labels": dict(description.labels),
-             "rounding": description.rounding, **_meter_of(description)}
+    given: dict[str, object] = {
+        "name": name, "unit": description.unit, "labels": dict(description.labels),
+        "rounding": description.rounding, **_meter_of(description)}
+    if not _is_made_of(short, name):
+        given["renamed"] = True
     text = json.dumps({key: value for key, value in given.items() if value not in (None, {})})
     if len(text) > LONGEST:
         log.error("name not carried: stream=%s name=%.99s reason=it takes more than %d bytes with its labels",
@@ -114,19 +117,24 @@ class TakenNames:
             log.error("name not taken: stream=%s reason=%s", short, why)
 
     def _put(self, described: Described, short: str, name: str, description: Description) -> None:
-        """Puts a name among those that are known. A name has one stream, and a stream has one name."""
+        """Puts a name among those that are known. A name has one stream, and a stream has one name: the one
+        that came last, since it may be renamed."""
         if name in self._streams or _stream_of(described, name) not in (name, short):
             raise NameRefusedError(f"{name!r} is another stream")
-        known = next((each for each, (told, _) in described.items() if told == short), short)
-        if known not in (name, short):
-            raise NameRefusedError(f"it is {known!r}, and not {name!r}")
-        described.pop(short, None)      # its long name was lost
+        for known in [each for each, (told, _) in described.items() if told == short and each != name]:
+            del described[known]
         described[name] = short, description
 
 
 def _stream_of(described: Described, name: str) -> str:
     """The stream that has this long name, or else the one of this name."""
     return described[name][0] if name in described else name
+
+
+def _is_made_of(short: str, name: str) -> bool:
+    """Whether a short name is made of a long one. That of a stream that was renamed isn't."""
+    meaning = description_in(short)
+    return meaning is not None and meaning[0] == hash_of(name)
 
 
 def _named_in(short: str, text: str) -> tuple[str, Description]:
@@ -140,7 +148,8 @@ def _named_in(short: str, text: str) -> tuple[str, Description]:
             given = given._replace(meter=given.meter._replace(beside=found["beside"]))
     except (ValueError, TypeError, AttributeError, RecursionError, SummaryStoreError) as error:
         raise NameRefusedError(f"no name: {error}") from None
-    meaning = description_in(short)
-    if not isinstance(name, str) or not is_text(name) or meaning is None or meaning[0] != hash_of(name):
+    meaning, renamed = description_in(short), found.get("renamed") is True
+    if not isinstance(name, str) or not is_text(name) or meaning is None or not (
+            renamed or _is_made_of(short, name)):
         raise NameRefusedError(f"{short} isn't the short name of {name!r}")
     return name, given._replace(scale=meaning[1].scale, time=meaning[1].time, since=meaning[1].since)

@@ -16,6 +16,9 @@ from multidict import MultiMapping
 
 from .. import combining
 from ..combining import Part
+from ..description import unit_of
+from ..gauges import BESIDE
+from ..kinds import KINDS as ALL_KINDS, one_of
 from ..wire import LAST_TIME
 from . import asked
 from .answers import ends_of, table_answer
@@ -24,7 +27,9 @@ from .endpoints import Access, ApiError, Endpoint
 from .globs import LONGEST, matches
 from .meaning import Meaning, seconds_of
 
-KINDS = ("count", "sum", "mean", "min", "max")
+KINDS = ("count", "sum", "mean", "min", "max", *combining.METERS)
+METERS = {"increase": "counter", "integral": "gauge"}
+"""What meters are asked, and which of them."""
 ROWS = 200
 TOGETHER = 100
 """So many streams are asked together."""
@@ -128,15 +133,19 @@ class Many:
             raise asked.bad(f"`without` stands at most {MOST_WITHOUT} times, with 1 to {LONGEST} characters")
         streams = await self._service.ask(lambda store: store.list())
         return [stream.name for stream in streams if matches(pattern, stream.name)
+                and (BESIDE in pattern or not stream.name.endswith(BESIDE))
                 and not any(matches(each, stream.name) for each in without)]
 
-    async def _matched(self, words: MultiMapping[str]) -> tuple[str, Sequence[str], dict[str, object]]:
+    async def _matched(self, words: MultiMapping[str], kind: str
+                       ) -> tuple[str, Sequence[str], dict[str, object]]:
         pattern = pattern_of(words, "streams")
         if "stream" in words:
             raise asked.bad("`stream` and `streams` don't go together")
         names = await self._names(words, pattern)
+        if kind in METERS:
+            names = [name for name in names if self._meter(name) == METERS[kind]]
         if not names:
-            raise ApiError(404, "unknown_stream", f"no stream matches {pattern!r}")
+            raise ApiError(404, "unknown_stream", f"no {METERS.get(kind, 'stream')} matches {pattern!r}")
         return pattern, names, {"matched": len(names), "digest": digest_of(names)}
 
     async def query(self, request: web.Request) -> web.StreamResponse:
@@ -144,7 +153,7 @@ class Many:
         words = request.query
         kind = kind_of(words)
         first, last = range_of(words)
-        pattern, names, matched = await self._matched(words)
+        pattern, names, matched = await self._matched(words, kind)
         kinds = combining.needed(kind)
 
         async def of_stream(name: str) -> Part:
@@ -167,6 +176,9 @@ class Many:
         end = None if last is None else meaning.last(last)
         if end is not None and end < (begin or 0):
             return combining.empty(kinds)
+        if kinds[0] in METERS:
+            asked_kind = one_of(kinds[0], ALL_KINDS)
+            return {kinds[0]: await self._service.ask(lambda store: store.query(name, asked_kind, begin, end))}
         return (await self._service.ask(lambda store: store.figures(name, kinds, begin, end)))[0]
 
     async def series(self, request: web.Request) -> web.StreamResponse:
@@ -174,7 +186,7 @@ class Many:
         words = request.query
         kind = kind_of(words)
         rows = rows_of(words, self._service.configuration.limits.rows)
-        pattern, names, matched = await self._matched(words)
+        pattern, names, matched = await self._matched(words, kind)
         kinds = combining.needed(kind)
         if rows.count * len(names) * len(kinds) > MOST_CELLS:
             raise ApiError(400, "too_many_rows", f"{rows.count} rows of {len(names)} streams are too many: "
@@ -207,18 +219,26 @@ class Many:
         if rows.step % meaning.step or not 0 <= begin <= end < LAST_TIME:
             return await asyncio.gather(*(self._part(name, kinds, *rows.span(row))
                                           for row in range(rows.count)))
-        found = await self._service.ask(
-            lambda store: store.figures(name, kinds, begin, end, rows.step // meaning.step))
+        step = rows.step // meaning.step
+        if kinds[0] in METERS:
+            kind = one_of(kinds[0], ALL_KINDS)
+            series = await self._service.ask(lambda store: store.series(name, kind, begin, end, step))
+            found: Sequence[Part] = [{kind: row.interval} for row in series]
+        else:
+            found = await self._service.ask(lambda store: store.figures(name, kinds, begin, end, step))
         return [*found, *[combining.empty(kinds)] * (rows.count - len(found))]
+
+    def _meter(self, name: str) -> str | None:
+        described = self._meaning(name).description
+        return None if described is None or described.meter is None else described.meter.kind
 
     def _meaning(self, name: str) -> Meaning:
         return self._service.intake.streams.meaning(self._service.store(), name)
 
     def _unit(self, kind: str, names: Sequence[str]) -> str | None:
         """The unit that all of them have. A number of values has none."""
-        told = [self._meaning(name).description for name in names]
-        units = {each.unit if each else None for each in told}
-        return units.pop() if len(units) == 1 and kind != "count" else None
+        units = {unit_of(self._meaning(name).description, kind) for name in names}
+        return units.pop() if len(units) == 1 else None
 
 
 def endpoints(service: Service, one: Mapping[str, Callable[[web.Request], Awaitable[web.StreamResponse]]]
