@@ -1,7 +1,8 @@
 """What a gauge is asked: its integral over a range, and its mean by time.
 
 An increment stands at the time of the reading that ended it. So those later than t1 and not later than t2 add
-up to the integral from the newest reading until t1 to the newest until t2.
+up to the integral from the newest reading until t1 to the newest until t2. The increment of the first reading
+is 0. Where t1 is its time, that of the sum from t1 on is known better, since no window is cut.
 """
 
 from __future__ import annotations
@@ -49,7 +50,11 @@ def _rows(codec: Codec, kind: str, begin: int, end: int, each: int, begun: int |
         raise refusal_of("RANGE", f"{kind} {codec.short} {begin} {end} {each}")
     scale = Scale(increments_of(description).scale, None)
     last = calls.last_numbers(codec)
-    lines = [*last.lines, wire.series(beside, "sum", begin + 1, end, each)] if end > begin else last.lines
+    lines = [*last.lines]
+    if end > begin:
+        lines += [wire.series(beside, "sum", begin + 1, end, each),
+                  wire.query(beside, "sum", begin, min(begin + each, end)),
+                  wire.query(beside, "count", 0, max(0, begin - 1))]
 
     def shown(start: int, added: Interval, newest: int) -> Interval:
         if kind == "integral":
@@ -60,10 +65,19 @@ def _rows(codec: Codec, kind: str, begin: int, end: int, each: int, begun: int |
     def result(replies: Sequence[Reply]) -> Rows:
         found = last.result(replies[:1])
         newest = found[1] if len(found) == 4 else -1
-        added = [_row(row) for row in wire.rows_of(replies[1], "series")] if end > begin else [
-            (begin, Interval(0))]
+        added = _added(begin, replies[1:]) if end > begin else [(begin, Interval(0))]
         return [(start, shown(start, interval, newest)) for start, interval in added]
     return Call(lines, result)
+
+
+def _added(begin: int, replies: Sequence[Reply]) -> Rows:
+    """The increments of each row. The first of all is 0, so the first row may begin with it."""
+    rows, first, before = replies
+    found = [_row(row) for row in wire.rows_of(rows, "series")]
+    count = wire.interval_of(wire.after(before.head, "count"))
+    if begin == 0 or count == 0:
+        found[0] = begin, wire.interval_of(wire.after(first.head, "sum"))
+    return found
 
 
 def _row(row: str) -> tuple[int, Interval]:

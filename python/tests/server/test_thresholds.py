@@ -113,19 +113,23 @@ async def until(client: Client, word: str) -> None:
 
 def test_a_webhook(path: Path, caplog: pytest.LogCaptureFixture) -> None:
     async def work() -> None:
-        async with Alarm() as alarm, over_http(text(HOT, alarm), path) as client:
-            assert await crossed(client) == "unknown"
+        now = int(time.time())
+        async with over_http(MAPPING, path) as client:
+            # It falls by one each second. The threshold is crossed in the older half of a window alone.
+            await append(client, *((now - 2000 + at, 2000 - at) for at in range(1990)))
+            windows = (await client.get("/api/windows", stream="home/cellar"))["windows"]
+        window = next(each for each in windows if 200 < each["count"] < 800)
+        middle = int(window["from"] + window["to"]) // 2
+        hot = HOT.replace("700s", f"{now - middle}s").replace("above = 50", f"above = {now - middle + 50}")
+        async with Alarm() as alarm, over_http(text(hot, alarm), path) as client:
             listens = client.service.hub.subscribe(frozenset(["home/cellar"]))
-            now = int(time.time())
-            # In the range lies a part of the window that holds the one that is hot.
-            await append(client, *((now - 2000 + at, 99 if at == 1050 else 20) for at in range(1990)))
             await until(client, "maybe")
             await asyncio.sleep(2.5)
             assert not alarm.calls
-            await append(client, (now, 51))
+            await append(client, (now, 5000))
             await soon(lambda: alarm.told)
             told = alarm.told[0]
-            assert (told["name"], told["crossed"], told["lo"], told["above"]) == ("too hot", "yes", 51, 50)
+            assert (told["name"], told["crossed"], told["lo"]) == ("too hot", "yes", 5000)
             assert "threshold" in [event.kind for event in await listens.take(5)]
             assert (await client.get("/healthz"))["listeners"]["thresholds"].endswith("1 are crossed")
             await asyncio.sleep(2.5)
@@ -139,6 +143,7 @@ def test_it_ends(path: Path) -> None:
     """Who was told that it is crossed is told that it isn't any more."""
     async def work() -> None:
         async with Alarm() as alarm, over_http(text(HOT.replace("700s", "3s"), alarm), path) as client:
+            assert await crossed(client) == "unknown"
             await append(client, (int(time.time()), 77))
             await soon(lambda: len(alarm.told) == 2)
             assert [told["crossed"] for told in alarm.told] == ["yes", "no"]
