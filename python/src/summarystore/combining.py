@@ -55,7 +55,7 @@ def total_of(intervals: Iterable[Interval]) -> Interval:
 
 
 def rise_of(intervals: Iterable[Interval]) -> Interval:
-    """Holds the sum of the truths, where some of them may have none: a counter that took nothing rose by nothing.
+    """Holds the sum of the truths, where some of them may have none: a counter that took nothing didn't rise.
 
     There is none where none of them has one.
     """

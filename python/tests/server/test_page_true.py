@@ -112,6 +112,53 @@ def running(folder: Path, program: str, browser: Browser) -> Iterator[Running]:
     made.stop()
 
 
+METERS = """
+[[mapping]]
+match = "home/*/power"
+kind = "gauge"
+integrate = "h"
+unit = "W"
+[[mapping]]
+match = "home/*/energy"
+kind = "counter"
+unit = "kWh"
+[[mapping]]
+match = "home/*/temperature"
+"""
+
+
+def test_what_meters_are_asked(running: Running, browser: Browser) -> None:
+    """A gauge has its integral and its mean by time, a counter its increase, and others have none of them."""
+    running.write(METERS)
+    running.signal(signal.SIGHUP)
+    now = int(time.time())
+
+    def append(kind: str, *values: int) -> bool:
+        rows = [{"stream": f"home/hall/{kind}", "time": now - 3600 + 1800 * at, "value": value}
+                for at, value in enumerate(values)]
+        try:
+            return bool(running.ask("api/append", {"readings": rows})["stored"] == len(rows))
+        except urllib.error.HTTPError:
+            return False
+    until(lambda: append("temperature", 20, 21, 22))        # the signal is taken soon
+    assert append("power", 100, 200, 0) and append("energy", 5, 7, 2)
+
+    def seen(kind: str) -> bool:
+        return browser.seen(f"label[for=kind-{kind}]")
+    browser.open(f"{running.address}#stream=home/hall/power&kind=integral&range=day")
+    browser.until(lambda: browser.text("#answer-integral") == f"150{NBSP}W·h")
+    browser.until(lambda: browser.text("#answer-time_mean") == f"150{NBSP}W")
+    caption = browser.text("#caption")
+    assert caption.startswith("Integral over each") and caption.endswith("W·h")
+    assert seen("time_mean") and not seen("increase")
+    browser.open(f"{running.address}#stream=home/hall/energy&kind=increase&range=day")
+    browser.until(lambda: browser.text("#answer-increase") == f"4{NBSP}kWh")
+    assert seen("increase") and not seen("integral")
+    browser.open(f"{running.address}#stream=home/hall/temperature&kind=increase&range=day")
+    browser.until(lambda: browser.text("#answer-max") == "22")
+    assert not seen("increase") and not seen("integral")
+
+
 def test_what_the_page_shows_a_stranger_does_what_it_says(running: Running, browser: Browser) -> None:
     browser.open(running.address)
     mapping, line = browser.texts("#notice code")

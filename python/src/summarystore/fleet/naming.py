@@ -1,9 +1,9 @@
 """The long names of streams, as they go with frames.
 
 A stream's short name says its scale and its times. What STORE.names.json says besides, the long name, the
-unit, labels and the rounding, goes with each message of its frames, and whether it was renamed. So a name comes with the first frame that
-uses the short one, and as often as frames do. A follower has it in a names file of its own before it
-acknowledges them.
+unit, labels and the rounding, goes with each message of its frames, and whether it was renamed. So a name
+comes with the first frame that uses the short one, and as often as frames do. A follower has it in a names
+file of its own before it acknowledges them.
 """
 
 from __future__ import annotations

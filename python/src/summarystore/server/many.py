@@ -177,8 +177,8 @@ class Many:
         if end is not None and end < (begin or 0):
             return combining.empty(kinds)
         if kinds[0] in METERS:
-            asked_kind = one_of(kinds[0], ALL_KINDS)
-            return {kinds[0]: await self._service.ask(lambda store: store.query(name, asked_kind, begin, end))}
+            kind = one_of(kinds[0], ALL_KINDS)
+            return {kind: await self._service.ask(lambda store: store.query(name, kind, begin, end))}
         return (await self._service.ask(lambda store: store.figures(name, kinds, begin, end)))[0]
 
     async def series(self, request: web.Request) -> web.StreamResponse:
