@@ -83,6 +83,8 @@ def bit_of(value: int) -> int:
 class Window:
     """The record of a window."""
 
+    first: int
+
     def __init__(self, content: bytes) -> None:
         self.number, self.first, self.count = struct.unpack_from(">IQQ", content, 4)
         self.sum = int.from_bytes(content[24:40], "big", signed=True)
@@ -136,6 +138,8 @@ class Window:
 
 class Landmark:
     """The record of a landmark."""
+
+    own: int
 
     def __init__(self, content: bytes) -> None:
         self.state = content[1]

@@ -35,7 +35,7 @@ A file may be `/etc/summarystore/summarystored.toml`, and each of its tables may
     [[threshold]]                               # see threshold.py
     stream = "home/cellar/temperature"
     kind = "max"
-    over = "10m"
+    over = "10min"
     above = 25
     webhook = "http://127.0.0.1:9000/alarm"
 
@@ -208,7 +208,7 @@ def parse(text: str, file: str) -> Configuration:
                           _graphite(section(file, top, "graphite")), _mqtt(section(file, top, "mqtt")),
                           tokens_of(section(file, top, "tokens")), limits_of(section(file, top, "limits")),
                           [mapping_of(table) for table in rows_of(file, "mapping", top.take("mapping"))],
-                          [threshold_of(each) for each in rows_of(file, "threshold", top.take("threshold"))])
+                          tuple(map(threshold_of, rows_of(file, "threshold", top.take("threshold")))))
     top.end()
     for each in found.thresholds:
         if each.topic is not None and found.mqtt.broker is None:
