@@ -50,23 +50,21 @@ pub use Rattle.ss_parts.specs.Held.{Agrees, all_value_records, AllAgree, AreHeld
 pub use Rattle.ss_parts.specs.Held.{IsRecord, landmark_record, landmark_records, mark_slots, marks_held, occupied, records_held, RiseToLast, slots_held}
 pub use Rattle.ss_parts.specs.Held.{span_held, span_of, stream_record, TileFrom, times_held, times_of, TimesRise, value_records, values_said, window_record}
 pub use Rattle.ss_parts.specs.Held.{window_slots, windows_held}
-pub use Rattle.ss_recover.specs.Marked.{are_marks, has_all_values, has_said, is_closed_before, is_next_landmark, is_next_value, landmarks_in, landmarks_made}
-pub use Rattle.ss_recover.specs.Marked.{Marked, marked_by, marked_on, marked_with, nothing_marked}
+pub use Rattle.ss_recover.specs.Marked.{are_counted, are_in_time, are_marks, are_numbered, free_from, is_counted, is_in_time, landmarks_made, next_from, opens_from}
+pub use Rattle.ss_recover.specs.Marked.{rise_within, values_first}
 pub use Rattle.ss_recover.specs.Order.{found_key, key_of, place_of, Rises, stream_of}
 pub use Rattle.ss_recover.specs.Parts.{bad_slot, bad_stream, Carried, carries, judged, lowest_bad_slot, lowest_bad_stream, lowest_in, records_in}
 pub use Rattle.ss_recover.specs.Parts.{stream_carried, streams_carried}
 pub use Rattle.ss_recover.specs.Rebuilt.{HasParts, Rebuilds, RebuildsAs, verdict_of_rebuild}
 pub use Rattle.ss_recover.specs.Runs.{AreBuilt, AreSlotsOf, doomed_found, has_sound_values_in_order, has_sound_values_within, is_run, is_sound_in_order}
 pub use Rattle.ss_recover.specs.Runs.{IsLowestUnsound, marks_in, may_stand, stream_made, streams_made, WalksAs, windows_in}
-pub use Rattle.ss_recover.specs.Shown.{AddsName, AreMade, AreWindowsOf, all_closed, BuildsAs, EndsWalk, found_by, found_number, Grows, has_said_last}
+pub use Rattle.ss_recover.specs.Shown.{AddsName, AreMade, AreWindowsOf, all_closed, BuildsAs, EndsWalk, found_by, found_number, Grows}
 pub use Rattle.ss_recover.specs.Shown.{HasMarkRoom, HasMore, HasNothing, is_after, is_landmark, is_value, is_window, IsHeldOf, IsInside}
-pub use Rattle.ss_recover.specs.Shown.{marks_shown, MarksShown, may_add, may_open, MayClose, MayCome, names_in, run_len, seen_next, TakesAs, TakesStream}
+pub use Rattle.ss_recover.specs.Shown.{marks_shown, MarksShown, MayClose, MayCome, names_in, run_len, TakesAs, TakesStream}
 pub use Rattle.ss_recover.specs.Shown.{with_closing, with_found}
 pub use Rattle.ss_recover.specs.Usable.{HasValidTimes, with_slot, IsUsable, slots_found, without_slots}
 pub use Rattle.ss_recover.specs.declared.found.Found.{Found}
 pub use Rattle.ss_recover.specs.declared.gathering.Gathered.{Gathered}
-pub use Rattle.ss_recover.specs.declared.marking.Last.{Last}
-pub use Rattle.ss_recover.specs.declared.marking.MarksSeen.{MarksSeen}
 pub use Rattle.ss_recover.specs.declared.parts.Parts.{Parts}
 pub use Rattle.ss_parts.specs.declared.parts.StreamParts.{StreamParts}
 pub use Rattle.ss_recover.specs.declared.recover_error.RecoverError.{RecoverError}

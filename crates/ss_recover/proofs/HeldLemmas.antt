@@ -88,7 +88,7 @@ module _ (streams : List Stream) (records : List Record) (state : IsState stream
   carries_each =
       let Windows : Stream → Type 0 = λ s. windows_carried s.number records ≡ s.windows in
       let Both : Stream → Type 0 = λ s. Windows s × MarksAre s in
-      all_both _ _ _ (λ s both is. (both.0, ap landmarks_made both.1 ∙ landmarks_made-marks_of s.number s.landmarks is.landmarks)) streams
+      all_both _ _ _ (λ s both is. (both.0, ap landmarks_made both.1 ∙ landmarks_made-marks_of s.number s.landmarks)) streams
       (all_both Windows MarksAre Both (λ s windows marks. (windows, marks)) streams windows_are marks_are) each_is
 
   streams_are : streams_carried records ≡ streams

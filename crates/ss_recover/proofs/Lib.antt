@@ -1,7 +1,7 @@
 pub mod Common
 pub mod InOrder
 pub mod Marks
-pub mod MarksSoFar
+pub mod MarkConditions
 pub mod WholeSlots
 pub mod HeldRecords
 pub mod SoundStreams

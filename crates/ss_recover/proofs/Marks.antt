@@ -1,18 +1,16 @@
 -- The records of landmarks in order, each landmark's before those of its values: the landmarks that they make, and the order of places.
 use Rattle.ss_parts.proofs.MarkRecords.{length-value_records}
 use Rattle.ss_recover.proofs.Common.{[], ◌&&◌, ◌*◌, ◌++◌, ◌+◌, ◌<◌, ◌==◌, ◌^◌, ◌||◌, ◌∙◌, ◌∷◌, ◌≡◌, ◌≤◌, All, all_value_records, all_values, AllByRecursion}
-use Rattle.ss_recover.proofs.Common.{AllByRecursion_push, and_from, ap, append-nil, append_assoc, are_marks, AreLandmarks, arith, cases-finish, cond-true}
-use Rattle.ss_recover.proofs.Common.{eq-eqb, false, filter, fold, fold-append, FollowFrom, has_all_values, has_said, IfSome, in_order, inl, inr}
-use Rattle.ss_recover.proofs.Common.{is_closed_before, is_mark_of, is_next_landmark, is_next_value, is_none, is_up_to, IsLandmark, IsPermutation}
+use Rattle.ss_recover.proofs.Common.{and_from, ap, append_assoc, are_counted, are_in_time, are_marks, are_numbered, AreLandmarks, arith, eq-eqb, filter}
+use Rattle.ss_recover.proofs.Common.{FollowFrom, free_from, IfSome, in_order, is_mark_of, is_none, is_up_to, IsLandmark, IsPermutation}
 use Rattle.ss_recover.proofs.Common.{IsPermutation-append_comm, IsPermutation-append_left, IsPermutation-append_right, IsPermutation-cons, IsPermutation-refl}
-use Rattle.ss_recover.proofs.Common.{IsPermutation-trans, Landmark, landmark_record, landmark_records, landmarks_in, landmarks_made, LandmarkValue, later}
-use Rattle.ss_recover.proofs.Common.{LAST_TIME, le-leb, length, length-append, List, lt-ltb, map, Marked, marked_on, MatchOption, nat_lt, None}
-use Rattle.ss_recover.proofs.Common.{nothing_marked, Option, option_map_or, place_of, Record, recursion_from_All, refl, RiseFrom, Some, Stream, stream_record}
-use Rattle.ss_recover.proofs.Common.{subst, sym, true, value_records, values_said, window_record, with_value, ℕ, ℤ}
+use Rattle.ss_recover.proofs.Common.{IsPermutation-trans, Landmark, landmark_record, landmark_records, landmarks_made, LandmarkValue, LAST_TIME, le-leb, length}
+use Rattle.ss_recover.proofs.Common.{length-append, List, map, MatchOption, None, Option, option_map_or, place_of, Record, recursion_from_All, refl, rise_within}
+use Rattle.ss_recover.proofs.Common.{RiseFrom, Some, Stream, stream_record, subst, true, value_records, values_first, values_said, window_record, ℕ, ℤ}
 use Rattle.ss_recover.proofs.InOrder.{in_order-IsPermutation, Rise}
 use Rattle.ss_model.proofs.FoundLemmas.{each-append}
 use Rattle.ss_codec.specs.declared.record.Record.TheVariants as records
-use Rattle.ss_parts.proofs.Lists.{all-each, all_weaker, filter-all, list_all-each}
+use Rattle.ss_parts.proofs.Lists.{all-each, all_weaker, filter-all}
 
 -- the records of landmarks numbered from here on, each followed by those of its values
 abbrev pub marks_of : ℕ → ℕ → List Landmark → List Record
@@ -73,79 +71,42 @@ IsPermutation-walked s =
     IsPermutation-cons (stream_record s) (marks ++ windows) (windows ++ held) (IsPermutation-trans _ _ _ (IsPermutation-append_comm marks windows)
     (IsPermutation-append_right windows marks held (IsPermutation-marks_of s.number 1 s.landmarks)))
 
--- records that may come after those of some landmarks, and the landmarks then, with all their values
-pub record AreMarksFrom (m : Marked) (rs : List Record) (ls : List Landmark) : Type 0 where
-  pub marked : Marked
-  pub by : fold marked_on (Some m) rs ≡ Some marked
-  pub landmarks : landmarks_in marked ≡ ls
-  pub whole : has_all_values marked ≡ true
+-- ---- they make these landmarks, and meet the conditions, also after the records of values of a landmark before them
 
--- the landmarks that records make, with all their values
-abbrev pub AreMarks : List Record → List Landmark → Type 0
-AreMarks rs ls = AreMarksFrom nothing_marked rs ls
+values-first : (number a b n : ℕ) (vs : List LandmarkValue) (ls : List Landmark) → values_first (value_records number a b vs ++ marks_of number n ls) ≡ vs
+values-first number a b n [] [] = refl
+values-first number a b n [] (l ∷ ls) = refl
+values-first number a b n (v ∷ vs) ls = ap (λ us. v ∷ us) (values-first number a (b + 1) n vs ls)
 
--- the values come one by one
-module _ (number said n : ℕ) (before : List Landmark) (here : n ≡ length before + 1) where
-  abbrev last_is : Landmark → Marked
-  last_is l = record { before = before; last = Some l; said = said }
+made-marks : (number a b n : ℕ) (vs : List LandmarkValue) (ls : List Landmark) → landmarks_made (value_records number a b vs ++ marks_of number n ls) ≡ ls
+made-marks number a b n [] [] = refl
+made-marks number a b n [] (l ∷ ls) =
+    let values = values-first number n 1 (n + 1) l.values ls in
+    let rest = made-marks number n 1 (n + 1) l.values ls in
+    λ i. record { start = l.start; finish = l.finish; values = values i } ∷ rest i
+made-marks number a b n (v ∷ vs) ls = made-marks number a (b + 1) n vs ls
 
-  take_value : (l : Landmark) (index : ℕ) (value : LandmarkValue) → index ≡ length l.values + 1 → l.start ≤ value.t →
-      AllByRecursion (λ v. v.t < value.t) l.values → is_up_to value.t l.finish ≡ true →
-      marked_on (Some (last_is l)) (records.Value number n index value.t value.v) ≡ Some (last_is (with_value value l))
-  take_value l index value next low above by =
-      let count : n ≡ length (before ++ l ∷ []) = omega (arith, length-append before (l ∷ []), here) in
-      let a = eq-eqb n (length (before ++ l ∷ [])) count in
-      let b = eq-eqb index (length l.values + 1) next in
-      let c = le-leb l.start value.t low in
-      let each = all_weaker (λ (v : LandmarkValue). v.t < value.t) (λ v. nat_lt v.t value.t ≡ true) (λ v lt. lt-ltb v.t value.t lt) l.values above in
-      let d = list_all-each (λ (v : LandmarkValue). nat_lt v.t value.t) l.values each in
-      let test : is_next_value (last_is l) n index value.t ≡ true = and_from _ _ a (and_from _ _ (and_from _ _ (and_from _ _ b c) d) by) in
-      cond-true _ _ _ test
-
-  below_next : (value : LandmarkValue) (from : ℕ) (vs : List LandmarkValue) → from ≤ value.t → AllByRecursion (λ v. v.t < from) vs →
-      AllByRecursion (λ v. v.t < value.t + 1) (vs ++ value ∷ [])
-  below_next value from vs low below = AllByRecursion_push _ vs value (all_weaker _ _ (λ v lt. omega (arith, lt, low)) vs below) (omega arith)
-
-  take_values : (values : List LandmarkValue) (l : Landmark) (from index : ℕ) → index ≡ length l.values + 1 → l.start ≤ from →
-      AllByRecursion (λ v. v.t < from) l.values → RiseFrom from values → AllByRecursion (λ v. is_up_to v.t l.finish ≡ true) values →
-      fold marked_on (Some (last_is l)) (value_records number n index values)
-      ≡ Some (last_is (record { start = l.start; finish = l.finish; values = l.values ++ values }))
-  take_values [] l from index next low below rise by =
-      ap (λ vs. Some (last_is (record { start = l.start; finish = l.finish; values = vs }))) (sym (append-nil l.values))
-  take_values (value ∷ values) l from index next low below rise by =
-      let first = rise.0 in
-      let above = all_weaker (λ (v : LandmarkValue). v.t < from) (λ v. v.t < value.t) (λ v lt. omega (arith, lt, first)) l.values below in
-      let one = take_value l index value next (omega (arith, low, first)) above by.0 in
-      let long : index + 1 ≡ length (l.values ++ value ∷ []) + 1 = omega (arith, next, length-append l.values (value ∷ [])) in
-      let rest = take_values values (with_value value l) (value.t + 1) (index + 1) long (omega (arith, low, first))
-      (below_next value from l.values first below) rise.3 by.1 in
-      ap (λ o. fold marked_on o (value_records number n (index + 1) values)) one ∙ rest
-      ∙ ap (λ vs. Some (last_is (record { start = l.start; finish = l.finish; values = vs }))) (append_assoc l.values (value ∷ []) values)
+numbered-marks : (number a b : ℕ) (vs : List LandmarkValue) (ls : List Landmark) →
+    are_numbered a b (value_records number a (b + 1) vs ++ marks_of number (a + 1) ls) ≡ true
+numbered-marks number a b [] [] = refl
+numbered-marks number a b [] (l ∷ ls) = and_from _ _ (eq-eqb (a + 1) (a + 1) refl) (numbered-marks number (a + 1) 0 l.values ls)
+numbered-marks number a b (v ∷ vs) ls =
+    and_from _ _ (and_from _ _ (eq-eqb a a refl) (eq-eqb (b + 1) (b + 1) refl)) (numbered-marks number a (b + 1) vs ls)
 
 -- a landmark has as many values as its record says
-has_said-said : (l : Landmark) → has_said (values_said l) l ≡ true
-has_said-said l =
+counted-said : (l : Landmark) → (is_none l.finish || length l.values == values_said l) ≡ true
+counted-said l =
     elim l.finish as (λ f. (is_none f || length l.values == option_map_or (λ finish. length l.values) f 0) ≡ true) [
       | None ↦ refl
       | Some f ↦ eq-eqb (length l.values) (length l.values) refl
     ]
 
--- the last landmark is closed before each time from here on
-abbrev IsOver : ℕ → Marked → Type 0
-IsOver from m = (t : ℕ) → from ≤ t → option_map_or (is_closed_before t) m.last true ≡ true
-
-next-whole : (m : Marked) (t : ℕ) → has_all_values m ≡ true → option_map_or (is_closed_before t) m.last true ≡ true →
-    option_map_or (λ l. has_said m.said l && is_closed_before t l) m.last true ≡ true
-next-whole m t =
-    elim m.last as (λ o. option_map_or (has_said m.said) o true ≡ true → option_map_or (is_closed_before t) o true ≡ true →
-    option_map_or (λ l. has_said m.said l && is_closed_before t l) o true ≡ true) [
-      | None ↦ λ whole over. refl
-      | Some l ↦ λ whole over. and_from _ _ whole over
-    ]
-
--- a landmark comes with its values
-abbrev followed_by : Marked → Landmark → Marked
-followed_by m l = record { before = landmarks_in m; last = Some l; said = values_said l }
+counted-marks : (number a b n : ℕ) (vs : List LandmarkValue) (ls : List Landmark) → are_counted (value_records number a b vs ++ marks_of number n ls) ≡ true
+counted-marks number a b n [] [] = refl
+counted-marks number a b n [] (l ∷ ls) =
+    and_from _ _ (ap (λ us. is_none l.finish || length us == values_said l) (values-first number n 1 (n + 1) l.values ls) ∙ counted-said l)
+    (counted-marks number n 1 (n + 1) l.values ls)
+counted-marks number a b n (v ∷ vs) ls = counted-marks number a (b + 1) n vs ls
 
 ends_by : (l : Landmark) → IsLandmark l → AllByRecursion (λ v. is_up_to v.t l.finish ≡ true) l.values
 ends_by l is =
@@ -155,67 +116,33 @@ ends_by l is =
       | Some f ↦ λ by. all_weaker _ _ (λ v le. le-leb v.t f le) l.values (recursion_from_All (λ (v : LandmarkValue). v.t ≤ f) l.values by.2)
     ] is.finish
 
-take_landmark : (number n : ℕ) (m : Marked) (l : Landmark) → n ≡ length (landmarks_in m) + 1 → has_all_values m ≡ true → IsOver l.start m → IsLandmark l →
-    fold marked_on (Some m) (landmark_record number n l ∷ value_records number n 1 l.values) ≡ Some (followed_by m l)
-take_landmark number n m l next whole over is =
-    let bare : Landmark = record { start = l.start; finish = l.finish; values = [] } in
-    let a = eq-eqb n (length (landmarks_in m) + 1) next in
-    let test : is_next_landmark m n l.start ≡ true = and_from _ _ a (next-whole m l.start whole (over l.start (omega arith))) in
-    let first : marked_on (Some m) (landmark_record number n l) ≡ Some (record { before = landmarks_in m; last = Some bare; said = values_said l }) =
-    cond-true _ _ _ test in
-    ap (λ o. fold marked_on o (value_records number n 1 l.values)) first
-    ∙ take_values number (values_said l) n (landmarks_in m) next l.values bare l.start 1 refl (omega arith) tt is.values (ends_by l is)
+rise-is : (from : ℕ) (finish : Option ℕ) (vs : List LandmarkValue) → RiseFrom from vs → AllByRecursion (λ v. is_up_to v.t finish ≡ true) vs →
+    rise_within from finish vs ≡ true
+rise-is from finish [] rise ends = refl
+rise-is from finish (v ∷ vs) rise ends = and_from _ _ (and_from _ _ (le-leb from v.t rise.0) ends.0) (rise-is (v.t + 1) finish vs rise.3 ends.1)
 
-IsOver-closed : (f said from : ℕ) (before : List Landmark) (l : Landmark) → l.finish ≡ Some f → f + 1 ≤ from →
-    IsOver from (record { before = before; last = Some l; said = said })
-IsOver-closed f said from before l closed past t later =
-    subst (λ o. option_map_or (λ finish. nat_lt finish t) o false ≡ true) (sym closed) (lt-ltb f t (omega (arith, past, later)))
+timed-marks : (from : Option ℕ) (number a b n : ℕ) (vs : List LandmarkValue) (ls : List Landmark) →
+    MatchOption from (ls ≡ []) (λ t. FollowFrom t ls) → are_in_time from (value_records number a b vs ++ marks_of number n ls) ≡ true
+timed-marks from number a b n [] [] follow = refl
+timed-marks None number a b n [] (l ∷ ls) follow = absurd (cc)
+timed-marks (Some from) number a b n [] (l ∷ ls) follow =
+    let rises : rise_within l.start l.finish (values_first (value_records number n 1 l.values ++ marks_of number (n + 1) ls)) ≡ true =
+    ap (rise_within l.start l.finish) (values-first number n 1 (n + 1) l.values ls)
+    ∙ rise-is l.start l.finish l.values follow.1.values (ends_by l follow.1) in
+    and_from _ _ (and_from _ _ (le-leb from l.start follow.0) rises) (timed-marks (free_from l.finish) number n 1 (n + 1) l.values ls (go l.finish follow.2))
+  where
+    go : (o : Option ℕ) → MatchOption o (ls ≡ []) (λ t. FollowFrom (t + 1) ls) → MatchOption (free_from o) (ls ≡ []) (λ t. FollowFrom t ls)
+    go None is = is
+    go (Some f) is = is
+timed-marks from number a b n (v ∷ vs) ls follow = timed-marks from number a (b + 1) n vs ls follow
 
-AreMarks-from : (number n from : ℕ) (ls : List Landmark) (m : Marked) → n ≡ length (landmarks_in m) + 1 → has_all_values m ≡ true → IsOver from m →
-    FollowFrom from ls → AreMarksFrom m (marks_of number n ls) (landmarks_in m ++ ls)
-AreMarks-from number n from [] m next whole over follow = record { marked = m; by = refl; landmarks = sym (append-nil (landmarks_in m)); whole = whole }
-AreMarks-from number n from (l ∷ ls) m next whole over follow =
-    let low = follow.0 in
-    let m' = followed_by m l in
-    let own = landmark_record number n l ∷ value_records number n 1 l.values in
-    let rest = marks_of number (n + 1) ls in
-    let taken : fold marked_on (Some m) (own ++ rest) ≡ fold marked_on (Some m') rest = fold-append marked_on (Some m) own rest
-    ∙ ap (λ o. fold marked_on o rest) (take_landmark number n m l next whole (λ t later. over t (omega (arith, low, later))) follow.1) in
-    let said : has_all_values m' ≡ true = has_said-said l in
-    elim (cases-finish l.finish) [
-      | inl begun ↦
-          let last : ls ≡ [] = subst (λ (f : Option ℕ). MatchOption f (ls ≡ []) (λ t. FollowFrom (t + 1) ls)) begun follow.2 in record {
-            marked = m';
-            by = taken ∙ ap (λ k. fold marked_on (Some m') (marks_of number (n + 1) k)) last;
-            landmarks = ap (λ k. landmarks_in m ++ l ∷ k) (sym last);
-            whole = said;
-          }
-      | inr closed ↦
-          let f = closed.0 in
-          let after = subst (λ (o : Option ℕ). MatchOption o (ls ≡ []) (λ t. FollowFrom (t + 1) ls)) closed.1 follow.2 in
-          let long : n + 1 ≡ length (landmarks_in m') + 1 = omega (arith, next, length-append (landmarks_in m) (l ∷ [])) in
-          let its = AreMarks-from number (n + 1) (f + 1) ls m' long said
-          (IsOver-closed f (values_said l) (f + 1) (landmarks_in m) l closed.1 (omega arith)) after in
-          record {
-            marked = its.marked;
-            by = taken ∙ its.by;
-            landmarks = its.landmarks ∙ append_assoc (landmarks_in m) (l ∷ []) ls;
-            whole = its.whole;
-          }
-    ]
-
-pub AreMarks-marks_of : (number : ℕ) (ls : List Landmark) → AreLandmarks ls → AreMarks (marks_of number 1 ls) ls
-AreMarks-marks_of number ls are = AreMarks-from number 1 0 ls nothing_marked refl refl (λ t later. refl) are
+pub landmarks_made-marks_of : (number : ℕ) (ls : List Landmark) → landmarks_made (marks_of number 1 ls) ≡ ls
+landmarks_made-marks_of number ls = made-marks number 0 0 1 [] ls
 
 pub are_marks-marks_of : (number : ℕ) (ls : List Landmark) → AreLandmarks ls → are_marks (marks_of number 1 ls) ≡ true
 are_marks-marks_of number ls are =
-    let its = AreMarks-marks_of number ls are in
-    ap (λ o. option_map_or has_all_values o false) its.by ∙ its.whole
-
-pub landmarks_made-marks_of : (number : ℕ) (ls : List Landmark) → AreLandmarks ls → landmarks_made (marks_of number 1 ls) ≡ ls
-landmarks_made-marks_of number ls are =
-    let its = AreMarks-marks_of number ls are in
-    ap (λ o. option_map_or landmarks_in o []) its.by ∙ its.landmarks
+    and_from _ _ (and_from _ _ (numbered-marks number 0 0 [] ls) (counted-marks number 0 0 1 [] ls))
+    (timed-marks (Some 0) number 0 0 1 [] ls are)
 
 -- in the order of places
 all-values-from : (number n index low : ℕ) (values : List LandmarkValue) → low ≤ n * 2 ^ 32 + index →

@@ -11,7 +11,7 @@ use Rattle.ss_recover.proofs.Common.{times_rise, true, Window, window_record, wi
 use Rattle.ss_recover.proofs.HeldRecords.{all_walked, walked}
 use Rattle.ss_recover.proofs.InOrder.{increasing-Rise, Rise}
 use Rattle.ss_recover.proofs.Marks.{length-marks_of, marks_of}
-use Rattle.ss_recover.proofs.MarksSoFar.{AreOf, AreOf-are_marks}
+use Rattle.ss_recover.proofs.MarkConditions.{AreOf, AreOf-are_marks}
 use Rattle.ss_recover.proofs.SoundStreams.{IsInStep-keep_step, AreWindows-tile}
 use Rattle.ss_recover.proofs.RunSound.{AreBefore, alone-drops, before-back, dropped-run, IsRun, marks-run, names_created, next-run, own-alone}
 use Rattle.ss_recover.proofs.RunSound.{run-order, sound-run, windows-run}

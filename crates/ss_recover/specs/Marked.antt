@@ -1,88 +1,74 @@
--- The landmarks that records make, which come in order: each landmark's record, and then those of its values.
-use Rattle.std.specs.Prelude.{ℕ, ◌+◌, Bool, true, false, ◌==◌, ◌&&◌, ◌||◌, nat_le, nat_lt, if◌then◌else◌, List, [], ◌++◌, fold, length, is_none}
-use Rattle.std.specs.Prelude.{option_and_then, option_to_list, Option, Some, None}
-use Rattle.std.specs.List.{list_all}
-use Rattle.std.specs.Option.{option_map_or}
+-- The landmarks that records make, which come in order: each landmark's record, and then those of its values. And what they have to
+-- meet, one condition after another: numbers are next, counts are as said, and times are in order.
+use Rattle.std.specs.Prelude.{ℕ, ◌+◌, Bool, true, false, ◌==◌, ◌&&◌, ◌||◌, nat_le, List, [], ◌∷◌, length, is_none, Option, Some, None}
+use Rattle.std.specs.Option.{option_map}
 use Rattle.ss_codec.specs.declared.record.Record.{Record}
-use Rattle.ss_codec.specs.declared.record.Record.TheVariants.{Landmark, Value}
+use Rattle.ss_codec.specs.declared.record.Record.TheVariants as records
 use Rattle.ss_landmarks.specs.Free.{is_up_to}
-use Rattle.ss_landmarks.specs.Landmark as marks
-use Rattle.ss_landmarks.specs.Landmark.{LandmarkValue, with_value}
+use Rattle.ss_landmarks.specs.Landmark.{Landmark, LandmarkValue}
 
--- the landmarks of the records so far: those that have all their values, the last one, whose values may still come, and how many
--- values the record of the last one says that it has
-pub record Marked : Type 0 where
-  pub before : List marks.Landmark
-  pub last : Option marks.Landmark
-  pub said : ℕ
+-- the values whose records come before that of the next landmark
+abbrev pub values_first : List Record → List LandmarkValue
+values_first [] = []
+values_first (records.Landmark id number said start finish ∷ rs) = []
+values_first (records.Value id number index t v ∷ rs) = record { t = t; v = v } ∷ values_first rs
+values_first (_ ∷ rs) = values_first rs
 
--- before any record
-abbrev pub nothing_marked : Marked
-nothing_marked = record { before = []; last = None; said = 0 }
+-- the landmarks that they make, each with the values whose records follow its own
+abbrev pub landmarks_made : List Record → List Landmark
+landmarks_made [] = []
+landmarks_made (records.Landmark id number said start finish ∷ rs) =
+    record { start = start; finish = finish; values = values_first rs } ∷ landmarks_made rs
+landmarks_made (_ ∷ rs) = landmarks_made rs
 
--- the landmarks
-abbrev pub landmarks_in : Marked → List marks.Landmark
-landmarks_in marked = marked.before ++ option_to_list marked.last
+-- After so many landmarks, of which the last has so many values so far: each landmark has the next number, and each value the number
+-- of the last landmark and the next index.
+abbrev pub are_numbered : ℕ → ℕ → List Record → Bool
+are_numbered landmarks values [] = true
+are_numbered landmarks values (records.Landmark id number said start finish ∷ rs) = number == landmarks + 1 && are_numbered number 0 rs
+are_numbered landmarks values (records.Value id number index t v ∷ rs) =
+    number == landmarks && index == values + 1 && are_numbered landmarks index rs
+are_numbered landmarks values (_ ∷ rs) = are_numbered landmarks values rs
 
 -- a landmark that is closed has as many values as its record says
-abbrev pub has_said : ℕ → marks.Landmark → Bool
-has_said said l = is_none l.finish || length l.values == said
+abbrev pub is_counted : Record → List Record → Bool
+is_counted (records.Landmark id number said start finish) rs = is_none finish || length (values_first rs) == said
+is_counted _ rs = true
 
--- a landmark is closed before a time
-abbrev pub is_closed_before : ℕ → marks.Landmark → Bool
-is_closed_before t l = option_map_or (λ finish. nat_lt finish t) l.finish false
+-- each landmark that is closed has
+abbrev pub are_counted : List Record → Bool
+are_counted [] = true
+are_counted (r ∷ rs) = is_counted r rs && are_counted rs
 
--- a landmark may come after those so far: it has the next number, and the last one has its values and is closed before it opens
-abbrev pub is_next_landmark : Marked → ℕ → ℕ → Bool
-is_next_landmark marked number start =
-    number == length (landmarks_in marked) + 1
-    && option_map_or (λ l. has_said marked.said l && is_closed_before start l) marked.last true
+-- values come at rising times, from one on and up to the end, if there is one
+abbrev pub rise_within : ℕ → Option ℕ → List LandmarkValue → Bool
+rise_within from finish [] = true
+rise_within from finish (value ∷ values) = nat_le from value.t && is_up_to value.t finish && rise_within (value.t + 1) finish values
 
--- a value may come after those so far: it is of the last landmark, has the next index there, and lies in it after its other values
-abbrev pub is_next_value : Marked → ℕ → ℕ → ℕ → Bool
-is_next_value marked number index t =
-    number == length (landmarks_in marked)
-    && option_map_or
-    (λ (l : marks.Landmark). index == length l.values + 1 && nat_le l.start t
-    && list_all (λ (value : LandmarkValue). nat_lt value.t t) l.values && is_up_to t l.finish)
-    marked.last false
+-- a landmark opens where others may, which is from a time on; or none may, since the one before is open
+abbrev pub opens_from : Option ℕ → ℕ → Bool
+opens_from None start = false
+opens_from (Some from) start = nat_le from start
 
--- the landmarks with one more record of a landmark or a value, if it may come after those so far. Others change nothing.
-abbrev pub marked_with : Marked → Record → Option Marked
-marked_with marked (Landmark id number values start finish) =
-    if is_next_landmark marked number start
-    then Some (record {
-      before = landmarks_in marked;
-      last = Some (record { start = start; finish = finish; values = [] });
-      said = values;
-    })
-    else None
-marked_with marked (Value id number index t v) =
-    if is_next_value marked number index t
-    then Some (record {
-      before = marked.before;
-      last = option_and_then (λ l. Some (with_value (record { t = t; v = v }) l)) marked.last;
-      said = marked.said;
-    })
-    else None
-marked_with marked _ = Some marked
+-- from when on others may open after a landmark
+abbrev pub free_from : Option ℕ → Option ℕ
+free_from finish = option_map (λ t. t + 1) finish
 
--- the same, unless one before it may not come
-abbrev pub marked_on : Option Marked → Record → Option Marked
-marked_on marked r = option_and_then (λ m. marked_with m r) marked
+-- a landmark opens after the one before it is closed, and its values come between its opening and its closing
+abbrev pub is_in_time : Option ℕ → Record → List Record → Bool
+is_in_time from (records.Landmark id number said start finish) rs = opens_from from start && rise_within start finish (values_first rs)
+is_in_time from _ rs = true
 
--- all of them, if each may come after those before it
-abbrev pub marked_by : List Record → Option Marked
-marked_by records = fold marked_on (Some nothing_marked) records
+-- from when on others may open after a record
+abbrev pub next_from : Option ℕ → Record → Option ℕ
+next_from from (records.Landmark id number said start finish) = free_from finish
+next_from from _ = from
 
--- the last landmark has the values that its record says
-abbrev pub has_all_values : Marked → Bool
-has_all_values marked = option_map_or (has_said marked.said) marked.last true
+-- all of them come in time, where the first may open from this time on
+abbrev pub are_in_time : Option ℕ → List Record → Bool
+are_in_time from [] = true
+are_in_time from (r ∷ rs) = is_in_time from r rs && are_in_time (next_from from r) rs
 
 -- the records are those of landmarks with all their values
 abbrev pub are_marks : List Record → Bool
-are_marks records = option_map_or has_all_values (marked_by records) false
-
--- the landmarks that they make; none where they aren't those of landmarks
-abbrev pub landmarks_made : List Record → List marks.Landmark
-landmarks_made records = option_map_or landmarks_in (marked_by records) []
+are_marks rs = are_numbered 0 0 rs && are_counted rs && are_in_time (Some 0) rs

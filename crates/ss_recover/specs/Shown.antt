@@ -32,44 +32,11 @@ use Rattle.ss_recover.specs.Usable.{slots_found, without_slots}
 use Rattle.ss_recover.specs.declared.found.Found.{Found}
 use Rattle.ss_recover.specs.declared.parts.Parts.{Parts}
 use Rattle.ss_parts.specs.declared.parts.StreamParts.{StreamParts}
-use Rattle.ss_recover.specs.declared.marking.Last.{Last}
 use Rattle.ss_recover.specs.declared.marking.Marks.{Marks}
-use Rattle.ss_recover.specs.declared.marking.MarksSeen.{MarksSeen}
 use Rattle.ss_recover.specs.declared.windows.Windows.{Windows}
 use Rattle.ss_recover.specs.declared.walking.Walk.{Walk}
 use Rattle.ss_recover.specs.declared.recover_error.RecoverError.{RecoverError}
 use Rattle.ss_recover.specs.declared.recover_error.RecoverError.TheVariants.{BadSlot, BadStream, Disk, OutOfMemory}
-
--- ---- what is asked of a landmark's record or a value's, after those that came
-
--- the last landmark has the values that its record says, if it is to close
-abbrev pub has_said_last : Option Last → Bool
-has_said_last last = option_map_or (λ c. is_none c.finish || c.values == c.said) last true
-
--- a landmark of this number may open then
-abbrev pub may_open : MarksSeen → ℕ → ℕ → Bool
-may_open seen number start =
-    number == seen.count + 1
-    && option_map_or (λ c. (is_none c.finish || c.values == c.said) && option_map_or (λ finish. nat_lt finish start) c.finish false) seen.last true
-
--- a value of these numbers may come then, into the last of so many landmarks
-abbrev pub may_add : ℕ → Last → ℕ → ℕ → ℕ → Bool
-may_add count c number index t = number == count && (index == c.values + 1 && nat_le c.from t && is_up_to t c.finish)
-
--- what is known then, if the record may come
-abbrev pub seen_next : MarksSeen → Record → Option MarksSeen
-seen_next seen (records.Landmark id number values start finish) =
-    if may_open seen number start
-    then Some (record { count = number; last = Some (record { finish = finish; said = values; values = 0; from = start }) })
-    else None
-seen_next seen (records.Value id number index t v) =
-    option_and_then
-    (λ c.
-    if may_add seen.count c number index t
-    then Some (record { count = number; last = Some (record { finish = c.finish; said = c.said; values = index; from = t + 1 }) })
-    else None)
-    seen.last
-seen_next seen _ = Some seen
 
 -- ---- what is held
 

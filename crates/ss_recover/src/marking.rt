@@ -1,15 +1,17 @@
 // The landmarks of a stream, among its records in the order of their places.
-ghost use Rattle.std.specs.Prelude.{◌≡◌, ◌<◌, ◌≤◌, All, IsTrue, length, OnOk, IfOk, IfErr};
+ghost use Rattle.std.specs.Prelude.{◌≡◌, ◌<◌, ◌≤◌, All, IsTrue, length, Some, OnOk, IfOk, IfErr};
 ghost use Rattle.ss_landmarks.specs.Landmarks.{AreKnown};
 ghost use Rattle.ss_landmarks.specs.Order.{CanOpen, CanTake};
 ghost use Rattle.ss_base.specs.declared.limits.TheConstants.{LAST_TIME};
 ghost use Rattle.ss_model.specs.Marks.{later};
 ghost use Rattle.ss_model.specs.declared.types.TheConstants.{MOST_RECORDS};
-ghost use Rattle.ss_recover.specs.Marked.{are_marks};
+ghost use Rattle.ss_landmarks.specs.Free.{is_up_to};
+ghost use Rattle.ss_recover.specs.Marked.{are_counted, are_in_time, are_marks, are_numbered, is_counted, is_in_time, next_from};
+ghost use Rattle.ss_recover.specs.Marked.{opens_from, rise_within, values_first};
 ghost use Rattle.ss_recover.specs.Order.{stream_of};
 ghost use Rattle.ss_recover.specs.Runs.{marks_in};
-ghost use Rattle.ss_recover.specs.Shown.{AreMade, HasMarkRoom, MayClose, MayCome, all_closed, has_said_last, marks_shown, may_add};
-ghost use Rattle.ss_recover.specs.Shown.{may_open, seen_next, with_closing, with_found, with_landmark, with_mark_value};
+ghost use Rattle.ss_recover.specs.Shown.{AreMade, HasMarkRoom, MayClose, MayCome, all_closed, marks_shown};
+ghost use Rattle.ss_recover.specs.Shown.{with_closing, with_found, with_landmark, with_mark_value};
 ghost use Rattle.ss_recover.specs.Usable.{IsUsable, without_slots};
 ghost use Rattle.ss_recover.specs.declared.recover_error.RecoverError.TheVariants.{OutOfMemory};
 
@@ -19,129 +21,176 @@ use ss_codec::Record;
 use ss_landmarks::Landmarks;
 use std::alloc::Global;
 
-// What is known of the last landmark while its values come: when it closes and how many values its record says, how many
-// came, and the earliest time that the next one may have.
-#[derive(Clone, Copy)]
-pub struct Last {
-    pub finish: Option<u64>,
-    pub said: u32,
-    pub values: u32,
-    pub from: u64,
-}
-
-// How many landmarks came, and what is known of the last one.
-#[derive(Clone, Copy)]
-pub struct MarksSeen {
-    pub count: u32,
-    pub last: Option<Last>,
-}
-
-impl MarksSeen {
-    // Whether the last landmark has the values that its record says, if it is to close.
-    fn has_said(self) -> bool
-        ensures { result ≡ has_said_last self.last }
-    {
-        match self.last {
-            Some(last) => last.finish.is_none() || last.values == last.said,
-            None => true,
+// Whether each landmark has the number after that of the one before it, and each value the number of the last one and the next index.
+fn are_numbered(found: &[Found]) -> bool
+    ensures { result ≡ are_numbered 0 0 (without_slots found.now) }
+{
+    let mut landmarks = 0;
+    let mut values = 0;
+    for one in found {
+        match one.holds {
+            Record::Free | Record::Stream { .. } | Record::Window { .. } => {}
+            Record::Landmark { number, .. } => {
+                if number == 0 || number - 1 != landmarks {
+                    return false;
+                }
+                landmarks = number;
+                values = 0;
+            }
+            Record::Value { number, index, .. } => {
+                if number != landmarks || index == 0 || index - 1 != values {
+                    return false;
+                }
+                values = index;
+            }
         }
     }
+    true
+}
 
-    // Whether a landmark of this number may open then, once the last one has closed.
-    fn may_open(self, number: u32, start: u64) -> bool
-        ensures { result ≡ may_open self number start }
-    {
-        let is_next = u64::from(number) == u64::from(self.count) + 1;
-        let Some(last) = self.last else {
-            return is_next;
-        };
-        let Some(finish) = last.finish else {
+// How many values come before the next landmark.
+fn count_values(found: &[Found]) -> usize
+    ensures { result ≡ length (values_first (without_slots found.now)) }
+{
+    let mut count = 0;
+    for one in found {
+        match one.holds {
+            Record::Free | Record::Stream { .. } | Record::Window { .. } => {}
+            Record::Landmark { .. } => return count,
+            Record::Value { .. } => count += 1,
+        }
+    }
+    count
+}
+
+// Whether a record, if it is that of a landmark that is closed, says how many values come behind it.
+fn is_counted(holds: &Record, behind: &[Found]) -> bool
+    ensures { result ≡ is_counted holds.now (without_slots behind.now) }
+{
+    match *holds {
+        Record::Landmark {
+            values,
+            finish: Some(_),
+            ..
+        } => count_values(behind) == values as usize,
+        _ => true,
+    }
+}
+
+// Whether each landmark that is closed has as many values as its record says.
+fn are_counted(found: &[Found]) -> bool
+    ensures { result ≡ are_counted (without_slots found.now) }
+{
+    let mut left = found;
+    while let Some((first, tail)) = left.split_first() {
+        if !is_counted(&first.holds, tail) {
             return false;
-        };
-        is_next && last.values == last.said && finish < start
-    }
-
-    // Whether a value of these numbers may come then, into the last landmark.
-    fn may_add(self, last: Last, number: u32, index: u32, t: u64) -> bool
-        ensures { result ≡ may_add self.count last number index t }
-    {
-        let up_to = match last.finish {
-            Some(finish) => t <= finish,
-            None => true,
-        };
-        number == self.count
-            && u64::from(index) == u64::from(last.values) + 1
-            && last.from <= t
-            && up_to
-    }
-
-    // The same after one more record, if it may come. Others than those of landmarks and of values change nothing.
-    fn with(self, holds: &Record) -> Option<MarksSeen>
-        requires { IsUsable holds.now }
-        ensures { result ≡ seen_next self holds.now }
-    {
-        match *holds {
-            Record::Free | Record::Stream { .. } | Record::Window { .. } => Some(self),
-            Record::Landmark {
-                number,
-                values,
-                start,
-                finish,
-                ..
-            } => {
-                if !self.may_open(number, start) {
-                    return None;
-                }
-                Some(MarksSeen {
-                    count: number,
-                    last: Some(Last {
-                        finish,
-                        said: values,
-                        values: 0,
-                        from: start,
-                    }),
-                })
-            }
-            Record::Value {
-                number,
-                index,
-                t,
-                ..
-            } => {
-                let last = self.last?;
-                if !self.may_add(last, number, index, t) {
-                    return None;
-                }
-                Some(MarksSeen {
-                    count: number,
-                    last: Some(Last {
-                        values: index,
-                        from: t + 1,
-                        ..last
-                    }),
-                })
-            }
         }
+        left = tail;
+    }
+    true
+}
+
+// Whether a time isn't after the end, if there is one.
+fn is_up_to(t: u64, finish: Option<u64>) -> bool
+    ensures { result ≡ is_up_to t finish }
+{
+    match finish {
+        Some(finish) => t <= finish,
+        None => true,
     }
 }
 
-// Whether the records are those of landmarks with all their values.
+// Whether the values before the next landmark come at rising times, from one on and up to the end, if there is one.
+fn rise_within(start: u64, finish: Option<u64>, found: &[Found]) -> bool
+    requires { All (λ f. IsUsable f.holds) found.now }
+    ensures { result ≡ rise_within start finish (values_first (without_slots found.now)) }
+{
+    let mut from = start;
+    for one in found {
+        match one.holds {
+            Record::Free | Record::Stream { .. } | Record::Window { .. } => {}
+            Record::Landmark { .. } => return true,
+            Record::Value { t, .. } => {
+                if t < from || !is_up_to(t, finish) {
+                    return false;
+                }
+                from = t + 1;
+            }
+        }
+    }
+    true
+}
+
+// Whether a landmark may open then.
+fn opens_from(from: Option<u64>, start: u64) -> bool
+    ensures { result ≡ opens_from from start }
+{
+    match from {
+        Some(from) => from <= start,
+        None => false,
+    }
+}
+
+// Whether a record, if it is that of a landmark, comes in order of time, with the values behind it.
+fn is_in_time(from: Option<u64>, holds: &Record, behind: &[Found]) -> bool
+    requires { All (λ f. IsUsable f.holds) behind.now }
+    ensures { result ≡ is_in_time from holds.now (without_slots behind.now) }
+{
+    match *holds {
+        Record::Landmark { start, finish, .. } => opens_from(from, start)
+            && rise_within(start, finish, behind),
+        _ => true,
+    }
+}
+
+// From when on a landmark may open after a record.
+fn next_from(from: Option<u64>, holds: &Record) -> Option<u64>
+    requires { IsUsable holds.now }
+    ensures { result ≡ next_from from holds.now }
+{
+    match *holds {
+        Record::Landmark {
+            finish: Some(t),
+            ..
+        } => Some(t + 1),
+        Record::Landmark { finish: None, .. } => None,
+        _ => from,
+    }
+}
+
+// Whether the landmarks and their values come in order of time.
+fn are_in_time(found: &[Found]) -> bool
+    requires { All (λ f. IsUsable f.holds) found.now }
+    ensures { result ≡ are_in_time (Some 0) (without_slots found.now) }
+{
+    let mut from = Some(0);
+    let mut left = found;
+    while let Some((first, tail)) = left.split_first() {
+        if !is_in_time(from, &first.holds, tail) {
+            return false;
+        }
+        from = next_from(from, &first.holds);
+        left = tail;
+    }
+    true
+}
+
+// Whether all conditions hold.
+fn meet_all(found: &[Found]) -> bool
+    requires { All (λ f. IsUsable f.holds) found.now }
+    ensures { result ≡ are_marks (without_slots found.now) }
+{
+    are_numbered(found) && are_counted(found) && are_in_time(found)
+}
+
+// Whether the records, all of one stream, are those of landmarks with all their values.
 pub fn are_marks(id: u32, found: &[Found]) -> bool
     requires usable { All (λ f. IsUsable f.holds) found.now }
     requires own { All (λ f. stream_of f.holds ≡ id) found.now }
     ensures { result ≡ are_marks (marks_in id (without_slots found.now)) }
 {
-    let mut seen = MarksSeen {
-        count: 0,
-        last: None,
-    };
-    for one in found {
-        match seen.with(&one.holds) {
-            Some(next) => seen = next,
-            None => return false,
-        }
-    }
-    seen.has_said()
+    meet_all(found)
 }
 
 // The later of two times, where there are any.
